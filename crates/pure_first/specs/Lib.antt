@@ -1,0 +1,5 @@
+pub mod Token
+pub mod Theory
+pub mod Reading
+pub mod Seen
+pub mod Laws
