@@ -1,10 +1,15 @@
 //! The outside of the program: a library of files, a sink of bytes, and a gate before each proof.
 #![tactic(auto)]
 
+mod failures;
 mod gate;
 mod library;
+mod mem_library;
+mod mem_sink;
 mod sink;
 
 pub use gate::{Gate, OpenGate};
 pub use library::{File, LibFault, Library, ReadFault};
+pub use mem_library::MemLibrary;
+pub use mem_sink::MemSink;
 pub use sink::{Failed, Sink, write_all};
