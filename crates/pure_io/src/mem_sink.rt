@@ -74,7 +74,7 @@ impl MemSink {
 }
 
 impl Sink for MemSink {
-    ghost use Rattle.std.specs.Prelude.{◌≡◌, ◌↔◌, ◌⊎◌, ◌<◌, ◌≤◌, ◌++◌, Some, IsErr, IfOk, OnErr, length, take};
+    ghost use Rattle.std.specs.Prelude.{◌≡◌, ◌↔◌, ◌⊎◌, ◌<◌, ◌≤◌, ◌++◌, Some, IsErr, IfOk, OnOk, OnErr, length, take};
     ghost use Rattle.pure_io.specs.Counts.{next_count};
     ghost use Rattle.pure_io.specs.Memory.{SinkState, WriteFails, KeepsLimits, taken_count};
     ghost use Rattle.pure_io.specs.Outside.{Rose, Appends};
