@@ -1,11 +1,13 @@
 //! The outside of the program: a library of files, a sink of bytes, and a gate before each proof.
 #![tactic(auto)]
 
+mod entries;
 mod failures;
 mod gate;
 mod library;
 mod mem_library;
 mod mem_sink;
+mod reading;
 mod sink;
 
 pub use gate::{Gate, OpenGate};

@@ -2,7 +2,7 @@
 ghost use Rattle.std.specs.Prelude.{◌≡◌, ℕ, ◌+◌, ◌≤◌, List, length, take, map, Option, IfOk, IfSome};
 
 use pure_term::Text;
-use std::alloc::Global;
+use std::alloc::{AllocError, Global};
 use std::rt::Files;
 
 /// A file: its name and its bytes.
@@ -19,12 +19,34 @@ pub enum LibFault {
     Memory,
 }
 
+impl From<AllocError> for LibFault {
+    ghost use Rattle.pure_io.specs.declared.library.LibFault.TheVariants.{Memory};
+    ghost use Rattle.std.specs.Prelude.{◌≡◌};
+
+    ghost from_gives = { λ _ fault. fault ≡ Memory };
+
+    fn from(_: AllocError) -> LibFault {
+        LibFault::Memory
+    }
+}
+
 /// Why the bytes of a file aren't given.
 #[derive(Clone, Copy, Debug, PartialEq, Eq)]
 pub enum ReadFault {
     Missing,
     Failed,
     Memory,
+}
+
+impl From<AllocError> for ReadFault {
+    ghost use Rattle.pure_io.specs.declared.library.ReadFault.TheVariants.{Memory};
+    ghost use Rattle.std.specs.Prelude.{◌≡◌};
+
+    ghost from_gives = { λ _ fault. fault ≡ Memory };
+
+    fn from(_: AllocError) -> ReadFault {
+        ReadFault::Memory
+    }
 }
 
 /// Files that can be listed and read. A library may tell its files; it then answers by them.
