@@ -1,5 +1,5 @@
 -- Reading the first bytes of a file, and what the errors of the system mean.
-use Rattle.std.specs.Prelude.{ℕ, ◌≤◌, List, length, Option}
+use Rattle.std.specs.Prelude.{ℕ, ◌≤◌, List, length, Option, None, Result, Ok, Err}
 use Rattle.std.specs.Io.KnownBytes.{Consumes}
 use Rattle.std.specs.declared.io.ErrorKind.{ErrorKind}
 use Rattle.std.specs.declared.io.ErrorKind.TheVariants.{NotFound, OutOfMemory, InvalidFilename}
@@ -22,3 +22,8 @@ read_fault_of _ = reading.Failed
 abbrev pub list_fault_of : ErrorKind → LibFault
 list_fault_of OutOfMemory = listing.Memory
 list_fault_of _ = listing.Failed
+
+-- an entry whose name isn't UTF-8 has no name here; all else is told as for the listing
+abbrev pub unnamed_entry_of : ErrorKind → Result (Option (List ℕ)) LibFault
+unnamed_entry_of InvalidFilename = Ok None
+unnamed_entry_of kind = Err (list_fault_of kind)
