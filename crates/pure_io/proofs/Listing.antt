@@ -1,0 +1,51 @@
+-- What one more entry adds to a listing.
+use Rattle.std.proofs.Common.{◌≡◌, List, [], ◌∷◌, ◌++◌, ℕ, Option, Some, None, Ok, Err, ◌<◌, ◌≤◌, ◌+◌, ◌⊎◌, inl, inr, length, subst, ap, ◌∙◌, refl, arith}
+use Rattle.std.specs.Option.{option_map}
+use Rattle.std.specs.Iterator.{Yields}
+use Rattle.std.proofs.iter.Next.{Yields-more}
+use Rattle.std.proofs.lemmas.List.{length_push}
+use Rattle.std.proofs.lemmas.List.Elements.{Contains-push}
+use Rattle.pure_io.specs.declared.library.LibFault.TheVariants.{Failed}
+use Rattle.pure_io.specs.Entries.{Entry, ListsPast, names_in}
+
+-- a list that begins with a name has others behind it
+option_map-cons : (name : List ℕ) (o : Option (List (List ℕ))) (names : List (List ℕ))
+    → option_map (λ ns. name ∷ ns) o ≡ Some names → (rest : List (List ℕ)) × (o ≡ Some rest) × (name ∷ rest ≡ names)
+option_map-cons name None names h = cc
+option_map-cons name (Some rest) names h = (rest, refl, cc)
+
+-- one more entry whose name isn't UTF-8
+pub names_in-unnamed : (entries : List Entry) (names : List (List ℕ))
+    → names_in entries ≡ Some names → names_in (entries ++ (Ok None ∷ [])) ≡ Some names
+names_in-unnamed [] names h = h
+names_in-unnamed (Ok None ∷ entries) names h = names_in-unnamed entries names h
+names_in-unnamed (Ok (Some name) ∷ entries) names h =
+    let parts = option_map-cons name (names_in entries) names h in
+    ap (option_map (λ ns. name ∷ ns)) (names_in-unnamed entries parts.0 parts.1) ∙ ap Some parts.2
+names_in-unnamed (Err fault ∷ entries) names h = cc
+
+-- one more entry with a name
+pub names_in-named : (entries : List Entry) (names : List (List ℕ)) (last : List ℕ)
+    → names_in entries ≡ Some names → names_in (entries ++ (Ok (Some last) ∷ [])) ≡ Some (names ++ (last ∷ []))
+names_in-named [] names last h = let empty : [] ≡ names = cc in ap (λ ns. Some (ns ++ (last ∷ []))) empty
+names_in-named (Ok None ∷ entries) names last h = names_in-named entries names last h
+names_in-named (Ok (Some name) ∷ entries) names last h =
+    let parts = option_map-cons name (names_in entries) names h in
+    ap (option_map (λ ns. name ∷ ns)) (names_in-named entries parts.0 last parts.1) ∙ ap (λ ns. Some (ns ++ (last ∷ []))) parts.2
+names_in-named (Err fault ∷ entries) names last h = cc
+
+-- one more entry that is past the limit, or failed
+pub ListsPast-more : {S : Type 0} (steps : S → Option Entry → S → Type 0) (start : S) (limit : ℕ) (given : List Entry) (middle : S) (last : Entry) (rest : S)
+    → Yields steps start given middle → steps middle (Some last) rest → (limit ≤ length given) ⊎ (last ≡ Err Failed) → ListsPast steps start limit
+ListsPast-more steps start limit given middle last rest before step (inl many) = record {
+  entries = given ++ (last ∷ []);
+  rest = rest;
+  given = Yields-more steps start given middle last rest before step;
+  cause = inl (omega (arith, length_push given last));
+}
+ListsPast-more steps start limit given middle last rest before step (inr failed) = record {
+  entries = given ++ (last ∷ []);
+  rest = rest;
+  given = Yields-more steps start given middle last rest before step;
+  cause = inr (rw (← failed) (Contains-push given last));
+}

@@ -1,0 +1,5 @@
+pub mod Counts
+pub mod Entries
+pub mod Memory
+pub mod Outside
+pub mod Reading

@@ -1,0 +1,29 @@
+-- Reading the first bytes of a file, and what the errors of the system mean.
+use Rattle.std.specs.Prelude.{ℕ, ◌≤◌, List, length, Option, None, Result, Ok, Err}
+use Rattle.std.specs.Io.KnownBytes.{Consumes}
+use Rattle.std.specs.declared.io.ErrorKind.{ErrorKind}
+use Rattle.std.specs.declared.io.ErrorKind.TheVariants.{NotFound, OutOfMemory, InvalidFilename}
+use Rattle.pure_io.specs.declared.library.LibFault.{LibFault}
+use Rattle.pure_io.specs.declared.library.LibFault.TheVariants as listing
+use Rattle.pure_io.specs.declared.library.ReadFault.{ReadFault}
+use Rattle.pure_io.specs.declared.library.ReadFault.TheVariants as reading
+
+-- at most so many bytes were taken off the front of those that were left, where these are known
+abbrev pub ConsumesAtMost : Option (List ℕ) → Option (List ℕ) → ℕ → Type 0
+ConsumesAtMost old new most = (bytes : List ℕ) × (length bytes ≤ most) × Consumes old new bytes
+
+-- a file that isn't found is missing, want of memory is told as such, and all else is a fault
+abbrev pub read_fault_of : ErrorKind → ReadFault
+read_fault_of NotFound = reading.Missing
+read_fault_of OutOfMemory = reading.Memory
+read_fault_of _ = reading.Failed
+
+-- want of memory is told as such, and all else is a fault
+abbrev pub list_fault_of : ErrorKind → LibFault
+list_fault_of OutOfMemory = listing.Memory
+list_fault_of _ = listing.Failed
+
+-- an entry whose name isn't UTF-8 has no name here; all else is told as for the listing
+abbrev pub unnamed_entry_of : ErrorKind → Result (Option (List ℕ)) LibFault
+unnamed_entry_of InvalidFilename = Ok None
+unnamed_entry_of kind = Err (list_fault_of kind)

@@ -1,0 +1,166 @@
+//! The current directory as a library.
+ghost use Rattle.std.specs.Prelude.{◌≡◌, ◌≤◌, ◌+◌, length, IfOk, IfErr};
+ghost use Rattle.std.specs.Iterator.{at_most};
+ghost use Rattle.std.specs.Io.Iter.{read_dir_left};
+ghost use Rattle.std.specs.Fs.{dir_entry_name};
+ghost use Rattle.std.specs.IoError.{error_kind};
+ghost use Rattle.pure_io.specs.Reading.{list_fault_of, unnamed_entry_of};
+
+use crate::entries::names_within;
+use crate::library::{LibFault, Library, ReadFault};
+use crate::reading::{read_fault, read_start};
+use pure_term::Text;
+use std::alloc::Global;
+use std::fs::{DirEntry, ReadDir};
+use std::io::ErrorKind;
+use std::marker::Model;
+use std::rt::Files;
+use std::{fs, io};
+
+/// How many entries a directory may have.
+const MAX_ENTRIES: usize = 100_000;
+
+/// The files of the current directory. Tells none of them. Contracts see it as its count of faults.
+#[derive(Debug, Drop)]
+pub struct DirLibrary {
+    faults: u64,
+}
+
+impl Model for DirLibrary {
+    ghost use Rattle.std.specs.Prelude.{ℕ};
+
+    ghost Value = { ℕ };
+
+    ghost view = { λ d. d.faults };
+}
+
+impl DirLibrary {
+    ghost use Rattle.std.specs.Prelude.{◌≡◌, None};
+
+    /// The current directory, with no fault so far.
+    pub fn make() -> DirLibrary
+        ensures faults { result ≡ 0 }
+        ensures told { ⟦<DirLibrary as Library>⟧.files result ≡ None }
+        ensures count { ⟦<DirLibrary as Library>⟧.faults result ≡ 0 }
+    {
+        DirLibrary { faults: 0 }
+    }
+}
+
+impl Library for DirLibrary {
+    ghost use Rattle.std.specs.Prelude.{◌≡◌, ◌≢◌, ◌≤◌, ◌+◌, None, IfOk, length};
+    ghost use Rattle.pure_io.specs.Counts.{next_count};
+
+    ghost files = { λ _. None };
+
+    ghost faults = { λ d. d };
+
+    fn names<R: Files + Print + AllocGlobal>(
+        &mut self,
+        rt: &R,
+        alloc: Global,
+    ) -> Result<Vec<Text>, LibFault>
+        ensures failed { result ≡ Err LibFault.Failed → self.new ≡ next_count self.old }
+        ensures others { result ≢ Err LibFault.Failed → self.new ≡ self.old }
+        ensures later { self.old ≤ self.new }
+    {
+        let answer = directory_names(rt, alloc);
+        if let Err(LibFault::Failed) = &answer {
+            self.faults = self.faults.saturating_add(1);
+        }
+        answer
+    }
+
+    fn read<R: Files + Print + AllocGlobal>(
+        &mut self,
+        rt: &R,
+        alloc: Global,
+        name: &Text,
+        limit: u32,
+    ) -> Result<Text, ReadFault>
+        ensures short { IfOk result (λ t. length t ≤ limit + 1) }
+        ensures failed { result ≡ Err ReadFault.Failed → self.new ≡ next_count self.old }
+        ensures others { result ≢ Err ReadFault.Failed → self.new ≡ self.old }
+        ensures later { self.old ≤ self.new }
+    {
+        let answer = read_named(rt, alloc, name, limit);
+        if let Err(ReadFault::Failed) = &answer {
+            self.faults = self.faults.saturating_add(1);
+        }
+        answer
+    }
+}
+
+/// The names of the current directory's entries.
+fn directory_names<R: Files + AllocGlobal>(rt: &R, alloc: Global) -> Result<Vec<Text>, LibFault> {
+    let entries = match fs::read_dir(&rt, ".") {
+        Ok(entries) => entries,
+        Err(error) => return Err(list_fault(&error)),
+    };
+    names_within(alloc, NamedEntries { entries, alloc }, MAX_ENTRIES)
+}
+
+/// The entries of a directory, each with its name as a text.
+#[derive(Drop)]
+struct NamedEntries<R: Files> {
+    entries: ReadDir<R, Global>,
+    alloc: Global,
+}
+
+impl<R: Files + Clone + Drop> Iterator for NamedEntries<R> {
+    type Item = Result<Option<Text>, LibFault>;
+
+    ghost remaining = { λ s. at_most (read_dir_left s.entries) };
+
+    fn next(&mut self) -> Option<Result<Option<Text>, LibFault>> {
+        let entry = self.entries.next()?;
+        Some(entry_name(self.alloc, entry))
+    }
+}
+
+/// The name of an entry, or none where it isn't UTF-8.
+fn entry_name<R: Files + Drop>(
+    alloc: Global,
+    entry: io::Result<DirEntry<R, Global>>,
+) -> Result<Option<Text>, LibFault>
+    ensures named { IfOk entry (λ e. IfOk result (λ name. name ≡ Some (dir_entry_name e))) }
+    ensures unnamed { IfErr entry (λ e. result ≡ unnamed_entry_of (error_kind e)) }
+{
+    match entry {
+        Ok(entry) => Ok(Some(Text::make(alloc, entry.file_name().as_bytes())?)),
+        Err(error) => unnamed_entry(&error),
+    }
+}
+
+/// What an error says of an entry.
+fn unnamed_entry(error: &io::Error) -> Result<Option<Text>, LibFault>
+    ensures { result ≡ unnamed_entry_of (error_kind error.now) }
+{
+    match error.kind() {
+        ErrorKind::InvalidFilename => Ok(None),
+        _ => Err(list_fault(error)),
+    }
+}
+
+/// The first bytes of the file of that name in the current directory.
+fn read_named<R: Files>(rt: &R, alloc: Global, name: &Text, limit: u32) -> Result<Text, ReadFault>
+    ensures short { IfOk result (λ t. length t ≤ limit + 1) }
+{
+    let Ok(path) = std::str::from_utf8(name.bytes()) else {
+        return Err(ReadFault::Missing);
+    };
+    match fs::open(rt, path) {
+        Ok(mut file) => read_start(alloc, &mut file, limit),
+        Err(error) => Err(read_fault(&error)),
+    }
+}
+
+/// What an error of the system means for a listing.
+fn list_fault(error: &io::Error) -> LibFault
+    ensures { result ≡ list_fault_of (error_kind error.now) }
+{
+    match error.kind() {
+        ErrorKind::OutOfMemory => LibFault::Memory,
+        _ => LibFault::Failed,
+    }
+}

@@ -1,0 +1,62 @@
+//! Standard output as a sink.
+ghost use Rattle.std.specs.Prelude.{◌≡◌, ◌≤◌};
+
+use crate::sink::{Failed, Sink};
+use std::marker::Model;
+use std::rt::Files;
+
+/// Standard output. Tells no bytes. Contracts see it as its count of faults.
+#[derive(Debug, Drop)]
+pub struct StdSink {
+    faults: u64,
+}
+
+impl Model for StdSink {
+    ghost use Rattle.std.specs.Prelude.{ℕ};
+
+    ghost Value = { ℕ };
+
+    ghost view = { λ s. s.faults };
+}
+
+impl StdSink {
+    ghost use Rattle.std.specs.Prelude.{◌≡◌, None};
+
+    /// Standard output, with no fault so far.
+    pub fn make() -> StdSink
+        ensures faults { result ≡ 0 }
+        ensures told { ⟦<StdSink as Sink>⟧.written result ≡ None }
+        ensures count { ⟦<StdSink as Sink>⟧.faults result ≡ 0 }
+    {
+        StdSink { faults: 0 }
+    }
+}
+
+impl Sink for StdSink {
+    ghost use Rattle.std.specs.Prelude.{◌≡◌, ◌≤◌, ◌<◌, None, IfOk, OnOk, OnErr, length};
+    ghost use Rattle.pure_io.specs.Counts.{next_count};
+
+    ghost written = { λ _. None };
+
+    ghost faults = { λ s. s };
+
+    fn write<R: Files + Print + AllocGlobal>(
+        &mut self,
+        rt: &R,
+        piece: &[u8],
+    ) -> Result<usize, Failed>
+        ensures within { IfOk result (λ n. n ≤ length piece.now) }
+        ensures some { IfOk result (λ n. 0 < length piece.now → 1 ≤ n) }
+        ensures ok { OnOk result (self.new ≡ self.old) }
+        ensures failed { OnErr result (self.new ≡ next_count self.old) }
+        ensures later { self.old ≤ self.new }
+    {
+        match rt.write_some(piece) {
+            Ok(count) if count > 0 || piece.is_empty() => Ok(count),
+            _ => {
+                self.faults = self.faults.saturating_add(1);
+                Err(Failed)
+            }
+        }
+    }
+}
