@@ -1,7 +1,5 @@
-use Rattle.std.proofs.Common.{◌≡◌, [], ◌∷◌, ◌++◌, Err, Ok, None, Some, Option, List, ℕ, true, inl, inr, arith, rules, ◌∙◌, ap}
+use Rattle.std.proofs.Common.{◌≡◌, Ok, None, Some, inl, inr, arith, rules}
 use Rattle.std.proofs.lemmas.List.{length_push}
-use Rattle.std.specs.Result.{is_ok}
-use Rattle.pure_io.specs.Entries.{Entry, names_in}
 use Rattle.pure_io.proofs.Listing.{ListsPast-more, names_in-named, names_in-unnamed}
 use Rattle.pure_io.proofs.entries.names_within.Goals as goal
 
