@@ -5,7 +5,7 @@ ghost use Rattle.pure_io.specs.Entries.{ListsWithin, ListsPast};
 
 use crate::library::LibFault;
 use pure_term::Text;
-use std::alloc::{AllocError, Global};
+use std::alloc::Global;
 
 /// The names of all entries, those that aren't UTF-8 passed over. Fails past `limit` entries.
 pub(crate) fn names_within<I: Iterator<Item = Result<Option<Text>, LibFault>> + Drop>(
@@ -26,7 +26,11 @@ pub(crate) fn names_within<I: Iterator<Item = Result<Option<Text>, LibFault>> + 
         }
         count += 1;
         match entry {
-            Ok(Some(name)) => names.push(name).map_err(AllocError::from)?,
+            Ok(Some(name)) => {
+                if names.push(name).is_err() {
+                    return Err(LibFault::Memory);
+                }
+            }
             Ok(None) => {}
             Err(fault) => return Err(fault),
         }

@@ -88,7 +88,8 @@ impl Library for MemLibrary {
         ensures text { IfOk result (λ t.
             (bytes : List ℕ) × (text_named name.now self.old.files ≡ Some bytes) × (t ≡ take (limit + 1) bytes)) }
         ensures short { IfOk result (λ t. length t ≤ limit + 1) }
-        ensures missing { result ≡ Err ReadFault.Missing → text_named name.now self.old.files ≡ None }
+        ensures missing { (result ≡ Err ReadFault.Missing)
+            ↔ ((¬ NextFails self.old) × (text_named name.now self.old.files ≡ None)) }
         ensures failed { (result ≡ Err ReadFault.Failed) ↔ NextFails self.old }
         ensures rose { result ≡ Err ReadFault.Failed → Rose self.old.faults self.new.faults }
         ensures after { CountsCall self.old self.new }

@@ -1,7 +1,6 @@
-use Rattle.std.proofs.Common.{◌≡◌, [], ◌∷◌, ◌++◌, Err, Ok, None, Some, Option, List, ℕ, true, inl, inr, arith, rules, ◌∙◌, ap}
+use Rattle.std.proofs.Common.{[], ◌∷◌, ◌++◌, ◌≡◌, Ok, None, Some, inl, inr, arith, rules}
 use Rattle.std.proofs.lemmas.List.{length_push}
-use Rattle.std.specs.Result.{is_ok}
-use Rattle.pure_io.specs.Entries.{Entry, names_in}
+use Rattle.std.proofs.lemmas.Grind.{common_steps}
 use Rattle.pure_io.proofs.Listing.{ListsPast-more, names_in-named, names_in-unnamed}
 use Rattle.pure_io.proofs.entries.names_within.Goals as goal
 
@@ -19,15 +18,15 @@ returns-in-Err-clause-failed g c = λ failed.
     (ListsPast-more g.I.Iterator.next_gives _ c.args.limit c.loop-entry.yielded _ c.in-Some.entry _
     c.loop-entry.yielded_by step.steps (inr (cc c.in-Err.is)))
 
-pub loop-entry-preserved-in-Continue-1 : goal.loop-entry-preserved-in-Continue-1
-loop-entry-preserved-in-Continue-1 g c = record {
+pub loop-entry-preserved-else-is_err : goal.loop-entry-preserved-else-is_err
+loop-entry-preserved-else-is_err g c = record {
   can = search rules;
   ends = search rules;
   counted = omega (arith, length_push c.loop-entry.yielded c.in-Some.entry);
   within = omega arith;
   named =
       let named : c.in-Some.entry ≡ Ok (Some c.in-Ok-Some.name) = cc in
-      let kept = rw (← c.in_ok-map_err-in-Ok-Some.ensures.variant) at c.push.ensures.items in
+      let kept : c.push.new.self.items ≡ c.loop-entry.names.items ++ (c.in-Ok-Some.name ∷ []) = grind (arith, common_steps) in
       rw (named, kept) (names_in-named c.loop-entry.yielded c.loop-entry.names.items c.in-Ok-Some.name c.loop-entry.invariant.named);
 }
 

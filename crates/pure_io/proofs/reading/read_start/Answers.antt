@@ -1,4 +1,4 @@
-use Rattle.std.proofs.Common.{◌++◌, take, arith, length-append}
+use Rattle.std.proofs.Common.{◌++◌, take, arith}
 use Rattle.std.proofs.lemmas.Grind.{common_steps}
 use Rattle.pure_io.proofs.Growth.{Consumes-append}
 use Rattle.pure_io.proofs.reading.read_start.Goals as goal

@@ -14,3 +14,7 @@ returns-then-count_call-clause-after g c = rw (← c.self.view_is)
       fault = λ _. c.if-count_call.ensures.faults;
       no_fault = λ passes. absurd (passes (c.if-count_call.ensures.fails.0 refl));
     }
+
+pub returns-then-count_call-clause-missing : goal.returns-then-count_call-clause-missing
+returns-then-count_call-clause-missing g c = rw (← c.self.view_is)
+    (λ missing. cc, λ passes. absurd (passes.0 (c.if-count_call.ensures.fails.0 refl)))
