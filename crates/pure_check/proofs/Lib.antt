@@ -1,2 +1,4 @@
+pub mod AnswerLemmas
+pub mod LawsLemmas
 pub mod RowLemmas
 pub mod TheoriesLemmas

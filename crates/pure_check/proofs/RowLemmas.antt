@@ -1,5 +1,5 @@
 -- How the pieces of a line join, and what rows count.
-use Rattle.std.proofs.Common.{◌≡◌, ℕ, ◌+◌, Bool, cond, ◌&&◌, List, [], ◌∷◌, ◌++◌, map, drop, take, length, refl, sym, ◌∙◌, ap, append_assoc}
+use Rattle.std.proofs.Common.{◌≡◌, ℕ, ◌+◌, Bool, cond, ◌&&◌, List, [], ◌∷◌, ◌++◌, map, refl, ap, append_assoc}
 use Rattle.std.specs.List.{count_by, fold, list_all}
 
 -- one text after another was written behind the old ones

@@ -20,26 +20,44 @@ abbrev pub IsTableOf : Option (List File) → List (List ℕ) → List Row → T
 IsTableOf None theories rows = Unit {0}
 IsTableOf (Some files) theories rows = IsTable files theories rows
 
--- The whole text of the files' table was written, and every row is proved, or some row isn't.
-pub record Printed (files : Option (List File)) (clean : Bool) (old new : Option (List ℕ)) : Type 0 where
+-- The whole text of such a table was written, and every row is declared or proved, or some row is neither.
+pub record Printed (is_table : List (List ℕ) → List Row → Type 0) (clean : Bool) (old new : Option (List ℕ)) : Type 0 where
   pub theories : List (List ℕ)
   pub rows : List Row
-  pub table : IsTableOf files theories rows
-  pub clean_is : clean ≡ list_all is_proved rows
+  pub table : is_table theories rows
+  pub clean_is : list_all is_proved rows ≡ clean
   pub written : Appends old new (table_text (length theories) rows)
 
--- A proper part of that text was written, from its beginning.
-pub record CutShort (files : Option (List File)) (old new : Option (List ℕ)) : Type 0 where
+-- A proper part of such a text was written, from its beginning.
+pub record CutShort (is_table : List (List ℕ) → List Row → Type 0) (old new : Option (List ℕ)) : Type 0 where
   pub theories : List (List ℕ)
   pub rows : List Row
-  pub table : IsTableOf files theories rows
+  pub table : is_table theories rows
   pub written : AppendsProperPrefix old new (table_text (length theories) rows)
 
 -- what was written, by the status
-abbrev pub Wrote : Status → Option (List File) → Option (List ℕ) → Option (List ℕ) → Type 0
-Wrote Clean files old new = Printed files true old new
-Wrote Rows files old new = Printed files false old new
-Wrote WriteFault files old new = CutShort files old new
-Wrote Usage files old new = new ≡ old
-Wrote ReadFault files old new = new ≡ old
-Wrote Memory files old new = new ≡ old
+abbrev pub Wrote : Status → (List (List ℕ) → List Row → Type 0) → Option (List ℕ) → Option (List ℕ) → Type 0
+Wrote Clean is_table old new = Printed is_table true old new
+Wrote Rows is_table old new = Printed is_table false old new
+Wrote WriteFault is_table old new = CutShort is_table old new
+Wrote Usage is_table old new = new ≡ old
+Wrote ReadFault is_table old new = new ≡ old
+Wrote Memory is_table old new = new ≡ old
+
+-- the work was done to its end, or memory ran out
+abbrev pub IsComplete : Status → Type 0
+IsComplete Clean = Unit {0}
+IsComplete Rows = Unit {0}
+IsComplete Memory = Unit {0}
+IsComplete Usage = ⊥
+IsComplete ReadFault = ⊥
+IsComplete WriteFault = ⊥
+
+-- no fault of reading and none of the words is left once the table is to be printed
+abbrev pub IsPrinted : Status → Type 0
+IsPrinted Clean = Unit {0}
+IsPrinted Rows = Unit {0}
+IsPrinted WriteFault = Unit {0}
+IsPrinted Memory = Unit {0}
+IsPrinted Usage = ⊥
+IsPrinted ReadFault = ⊥

@@ -1,5 +1,5 @@
 -- The rows of the table, and the text of the table to the byte.
-use Rattle.std.specs.Prelude.{◌≡◌, ℕ, Bool, true, false, List, [], ◌∷◌, ◌++◌, length, map, codes, if◌then◌else◌}
+use Rattle.std.specs.Prelude.{ℕ, Bool, true, false, List, [], ◌∷◌, ◌++◌, codes, if◌then◌else◌}
 use Rattle.std.specs.List.{flat_map, count_by}
 use Rattle.std.specs.Fmt.{decimal}
 use Rattle.pure_first.specs.Theory.{Lemma, is_by_assumption}

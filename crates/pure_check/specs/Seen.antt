@@ -1,8 +1,8 @@
 -- The rows that the program holds, as contracts see them.
-use Rattle.std.specs.Prelude.{◌≡◌, ℕ, List, [], ◌∷◌, ◌++◌, map, Option, Some, None}
+use Rattle.std.specs.Prelude.{ℕ, List, ◌++◌, map}
 use Rattle.pure_first.specs.Seen.{seen}
 use Rattle.pure_check.specs.Row as spec
-use Rattle.pure_check.specs.Table.{FileRows, form_text, no_file_text}
+use Rattle.pure_check.specs.Table.{form_text, no_file_text}
 use Rattle.pure_check.specs.declared.row.Row.{Row}
 use Rattle.pure_check.specs.declared.row.Row.TheVariants.{Refused, Proved, Failed}
 use Rattle.pure_check.specs.declared.row.Reason.{Reason}

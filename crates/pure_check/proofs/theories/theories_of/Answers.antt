@@ -1,6 +1,6 @@
 use Rattle.std.proofs.Common.{◌≡◌, sym, ◌∙◌, ap, refl, append_assoc, ◌++◌, ◌∷◌, []}
 use Rattle.std.proofs.lemmas.List.{append-nil}
-use Rattle.pure_check.proofs.TheoriesLemmas.{HasTheories, HasTheories-none, HasTheories-step, HasTheories-all, HasTheories-other, HasTheories-more, AreTheories-from_set}
+use Rattle.pure_check.proofs.TheoriesLemmas.{HasTheories-none, HasTheories-step, HasTheories-all, HasTheories-other, HasTheories-more, AreTheories-from_set}
 use Rattle.pure_check.proofs.theories.theories_of.Goals.{in-Some+in_ok-make+in_ok-insert, in_default}
 use Rattle.pure_check.proofs.theories.theories_of.Goals as goal
 

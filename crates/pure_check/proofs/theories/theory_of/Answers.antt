@@ -1,6 +1,6 @@
 use Rattle.std.proofs.lemmas.Slice.Eq.{strip_suffix_is}
 use Rattle.std.proofs.lemmas.Bool.Decides.{Decides-eqb}
-use Rattle.std.proofs.Common.{◌≡◌, sym, ◌∙◌, Some, None}
+use Rattle.std.proofs.Common.{sym, ◌∙◌, Some, None}
 use Rattle.std.specs.Prelude.{codes}
 use Rattle.pure_check.proofs.TheoriesLemmas.{no_stem, other_stem}
 use Rattle.pure_check.proofs.theories.theory_of.Goals as goal

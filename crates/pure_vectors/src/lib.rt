@@ -1,0 +1,5 @@
+//! Worked examples as tests: the top call on libraries in memory.
+#![tactic(auto)]
+
+#[cfg(test)]
+mod top_call;
