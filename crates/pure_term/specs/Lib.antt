@@ -10,3 +10,8 @@ pub mod Decl
 pub mod Certified
 pub mod Beta
 pub mod Eta
+pub mod LawsExamples
+pub mod LawsTyping
+pub mod LawsOrder
+pub mod LawsSubst
+pub mod LawsNormal

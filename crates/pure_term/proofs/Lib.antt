@@ -1,0 +1,9 @@
+pub mod ListLaws
+pub mod EqualityLaws
+pub mod TypingLaws
+pub mod OrderLaws
+pub mod SubstLaws
+pub mod OrderExamples
+pub mod BetaLaws
+pub mod LiftLaws
+pub mod EtaLaws

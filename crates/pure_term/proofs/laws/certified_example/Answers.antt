@@ -1,0 +1,8 @@
+use Rattle.pure_term.proofs.OrderExamples.{certified_example, not_certified_example}
+use Rattle.pure_term.proofs.laws.certified_example.Goals as goal
+
+pub returns-clause-certified : goal.returns-clause-certified
+returns-clause-certified c = certified_example
+
+pub returns-clause-refused : goal.returns-clause-refused
+returns-clause-refused c = not_certified_example

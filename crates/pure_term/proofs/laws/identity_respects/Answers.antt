@@ -1,0 +1,5 @@
+use Rattle.pure_term.proofs.SubstLaws.{identity-respects_sorts}
+use Rattle.pure_term.proofs.laws.identity_respects.Goals as goal
+
+pub returns-clause-sorts : goal.returns-clause-sorts
+returns-clause-sorts c = identity-respects_sorts

@@ -1,0 +1,141 @@
+//! What the definitions mean: laws and computed examples, each carried by the contract of a function that does nothing.
+ghost use Rattle.pure_term.specs.LawsTyping.{TypTestIsEquality, TermTestIsEquality, SizeExample, TypedTermHasOneType, TypedTermIsClosed, TypingExample, NoTypeExample, LiftExample, LiftOfClosedTerm, SubstBoundExample, AbstractionExample, OccursExample};
+ghost use Rattle.pure_term.specs.LawsOrder.{BelowExample, SortBelowExample, OfSortExample, JoinedForkIsCoregular, CrossingIsNotCoregular, OpenForkIsNotCoregular, FallingIsNotCoregular, CertifiedExample, NotCertifiedExample};
+ghost use Rattle.pure_term.specs.LawsSubst.{IdentityIsSortRespecting, IdentityIsTypeRespecting, IdentityChangesNoType, IdentityChangesNoTerm, EntriesRespectSorts, EntriesRespectTypes, InstanceExample, TypInstanceExample, AllAtOnceExample, KeyedOnOwnTypeExample, SortRespectExample, TypeRespectExample};
+ghost use Rattle.pure_term.specs.LawsNormal.{NoStepExactlyWhereNormal, OneBetaSequence, OneBetaSequenceToNormal, OneBetaAnswer, BetaStepsExample, BetaAnswerExample, BetaNormalExample, EndlessExample, EtaExample, LongFormExample, OneLongForm};
+
+/// The tests of types and of terms are equality.
+pub fn tests_are_equality()
+    ensures types { TypTestIsEquality }
+    ensures terms { TermTestIsEquality }
+{}
+
+/// Size and depth count the nodes of types too.
+pub fn size_example()
+    ensures { SizeExample }
+{}
+
+/// A typed term has one type, and no loose bound variable where it is typed under no binders.
+pub fn typed_term_has_one_type()
+    ensures one { TypedTermHasOneType }
+    ensures closed { TypedTermIsClosed }
+{}
+
+/// Terms that have a type, and terms that have none.
+pub fn typing_example()
+    ensures typed { TypingExample }
+    ensures untyped { NoTypeExample }
+{}
+
+/// Lifting, and that it changes no closed term.
+pub fn lift_example()
+    ensures lifted { LiftExample }
+    ensures closed { LiftOfClosedTerm }
+{}
+
+/// An argument in place of bound variable 0 is captured by no binder.
+pub fn subst_bound_example()
+    ensures { SubstBoundExample }
+{}
+
+/// Abstraction over a variable, and whether it occurs.
+pub fn abstraction_example()
+    ensures abstraction { AbstractionExample }
+    ensures occurs { OccursExample }
+{}
+
+/// Classes and sorts below others, and not.
+pub fn below_example()
+    ensures classes { BelowExample }
+    ensures sorts { SortBelowExample }
+    ensures types { OfSortExample }
+{}
+
+/// Algebras that are coregular.
+pub fn coregular_example()
+    ensures { JoinedForkIsCoregular }
+{}
+
+/// Algebras that are not.
+pub fn not_coregular_example()
+    ensures crossing { CrossingIsNotCoregular }
+    ensures open_fork { OpenForkIsNotCoregular }
+    ensures falling { FallingIsNotCoregular }
+{}
+
+/// Terms that are certified, and not.
+pub fn certified_example()
+    ensures certified { CertifiedExample }
+    ensures refused { NotCertifiedExample }
+{}
+
+/// The identity maps respect sorts and types.
+pub fn identity_respects()
+    ensures sorts { IdentityIsSortRespecting }
+    ensures types { IdentityIsTypeRespecting }
+{}
+
+/// The identity maps change nothing.
+pub fn identity_changes_nothing()
+    ensures types { IdentityChangesNoType }
+    ensures terms { IdentityChangesNoTerm }
+{}
+
+/// A finite map respects sorts, or types, where each of its entries does.
+pub fn entries_respect()
+    ensures sorts { EntriesRespectSorts }
+    ensures types { EntriesRespectTypes }
+{}
+
+/// Instances by finite maps.
+pub fn instance_example()
+    ensures term { InstanceExample }
+    ensures typ { TypInstanceExample }
+{}
+
+/// Maps are taken all at once, and keyed on a variable with its own type.
+pub fn all_at_once_example()
+    ensures at_once { AllAtOnceExample }
+    ensures own_type { KeyedOnOwnTypeExample }
+{}
+
+/// Maps that respect sorts or types, and maps that do not.
+pub fn respecting_example()
+    ensures sorts { SortRespectExample }
+    ensures types { TypeRespectExample }
+{}
+
+/// Exactly the normal terms have no beta step.
+pub fn no_step_exactly_where_normal()
+    ensures { NoStepExactlyWhereNormal }
+{}
+
+/// A term has one beta sequence.
+pub fn one_beta_sequence()
+    ensures as_long { OneBetaSequence }
+    ensures to_normal { OneBetaSequenceToNormal }
+{}
+
+/// A term has one answer of the normaliser.
+pub fn one_beta_answer()
+    ensures { OneBetaAnswer }
+{}
+
+/// Beta steps, and the answers that they decide.
+pub fn beta_example()
+    ensures steps { BetaStepsExample }
+    ensures answer { BetaAnswerExample }
+    ensures normal { BetaNormalExample }
+    ensures endless { EndlessExample }
+{}
+
+/// Eta-normal forms and long forms.
+pub fn eta_example()
+    ensures eta { EtaExample }
+    ensures long { LongFormExample }
+{}
+
+/// A term has one long form.
+pub fn one_long_form()
+    ensures { OneLongForm }
+{}
