@@ -1,9 +1,10 @@
 -- Beta steps: where there is none, and that a term has one sequence and one answer.
-use Rattle.std.proofs.Common.{◌≡◌, ℕ, zero, suc, ◌+◌, ◌<◌, ◌≤◌, List, [], ◌∷◌, length, replicate, refl, sym, ◌∙◌, ap, ◌↔◌, arith}
+use Rattle.std.proofs.Common.{◌≡◌, ◌⊎◌, inl, inr, ℕ, zero, suc, ◌+◌, ◌<◌, ◌≤◌, List, [], ◌∷◌, length, replicate, refl, sym, ◌∙◌, ap, ◌↔◌, arith}
+use Rattle.std.proofs.lemmas.Bool.{cases_lt}
 use Rattle.std.proofs.lemmas.List.{length-replicate}
 use Rattle.std.specs.Prelude.{Option, Some, None, option_map}
 use Rattle.pure_term.specs.Lists.{Each}
-use Rattle.pure_term.specs.Term.{Term, Abs, App, IsWithin}
+use Rattle.pure_term.specs.Term.{Term, Abs, App, IsWithin, term_size, term_depth, max_size, max_depth}
 use Rattle.pure_term.specs.Beta.{IsBetaNormal, app_step, beta_step, IsBetaSequence, BetaAnswer, TooLarge, NormalForm, TooManySteps, max_steps, Decides, IsBetaAnswer}
 use Rattle.pure_term.specs.LawsExamples.{endless, doubled_at_a, identity_at_a, pair, a}
 use Rattle.pure_term.specs.LawsNormal.{BetaAnswerExample, EndlessExample}
@@ -92,6 +93,70 @@ answers_once (x ∷ xs) (y ∷ ys) n m l t s u v one other e h k p q mn ln mm lm
 pub one_beta_answer : (t : Term) (one other : BetaAnswer) → IsBetaAnswer t one → IsBetaAnswer t other → one ≡ other
 one_beta_answer t one other h k =
     answers_once h.before k.before 0 (length h.before) (length k.before) t t h.last k.last one other refl h.sequence k.sequence h.undecided k.undecided (omega arith) (omega arith) h.in_time k.in_time h.decided k.decided
+
+within_or_not : (t : Term) → IsWithin t ⊎ (¬ IsWithin t)
+within_or_not t = elim (cases_lt max_size (term_size t)) [
+  | inl large ↦ inr (λ h. let size = h.size in omega arith)
+  | inr small ↦ elim (cases_lt max_depth (term_depth t)) [ inl deep ↦ inr (λ h. let depth = h.depth in omega arith) | inr flat ↦ inl (record { size = small; depth = flat }) ]
+]
+
+normal_or_step : (t : Term) → IsBetaNormal t ⊎ ((u : Term) × (beta_step t ≡ Some u))
+normal_or_step t = by (beta_step t) refl
+  where
+    by : (o : Option Term) → beta_step t ≡ o → IsBetaNormal t ⊎ ((u : Term) × (beta_step t ≡ Some u))
+    by None e = inl (no_step-normal t e)
+    by (Some u) e = inr (u, e)
+
+step-not_normal : (t u : Term) → beta_step t ≡ Some u → ¬ IsBetaNormal t
+step-not_normal t u e n = let none = normal-no_step t n in cc
+
+-- the terms of the sequence from the term after n steps on, up to the first that decides an answer
+record AnswersFrom (n : ℕ) (t : Term) : Type 0 where
+  answer : BetaAnswer
+  before : List Term
+  last : Term
+  steps : ℕ
+  counted : steps ≡ n + length before
+  in_time : steps ≤ max_steps
+  sequence : IsBetaSequence t before last
+  undecided : Each (λ u. IsWithin u × (¬ IsBetaNormal u)) before
+  decided : Decides steps last answer
+
+decided_at_once : (n : ℕ) (t : Term) (answer : BetaAnswer) → n ≤ max_steps → Decides n t answer → AnswersFrom n t
+decided_at_once n t answer h d = record { answer = answer; before = []; last = t; steps = n; counted = omega arith; in_time = h; sequence = refl; undecided = tt; decided = d }
+
+answers_from : (left n : ℕ) → n + left ≡ max_steps → (t : Term) → AnswersFrom n t
+answers_from zero n e t = elim (within_or_not t) [
+  | inr large ↦ decided_at_once n t TooLarge (omega arith) large
+  | inl small ↦ elim (normal_or_step t) [
+    | inl normal ↦ decided_at_once n t (NormalForm t) (omega arith) (small, normal, refl)
+    | inr step ↦ (let last : n ≡ max_steps = omega arith in decided_at_once n t TooManySteps (omega arith) (small, step-not_normal t step.0 step.1, last))
+  ]
+]
+answers_from (suc left) n e t = elim (within_or_not t) [
+  | inr large ↦ decided_at_once n t TooLarge (omega arith) large
+  | inl small ↦ elim (normal_or_step t) [
+    | inl normal ↦ decided_at_once n t (NormalForm t) (omega arith) (small, normal, refl)
+    | inr step ↦ (let r = answers_from left (suc n) (omega arith) step.0 in
+        record {
+          answer = r.answer;
+          before = t ∷ r.before;
+          last = r.last;
+          steps = r.steps;
+          counted = omega arith;
+          in_time = r.in_time;
+          sequence = (refl, (step.0, step.1, r.sequence));
+          undecided = ((small, step-not_normal t step.0 step.1), r.undecided);
+          decided = r.decided;
+        })
+  ]
+]
+
+pub some_beta_answer : (t : Term) → (answer : BetaAnswer) × IsBetaAnswer t answer
+some_beta_answer t =
+    let r = answers_from max_steps 0 (omega arith) t in
+    let counted : r.steps ≡ length r.before = omega arith in
+    (r.answer, record { before = r.before; last = r.last; sequence = r.sequence; undecided = r.undecided; in_time = rw counted at r.in_time; decided = rw counted at r.decided })
 
 pub beta_answer_example : BetaAnswerExample
 beta_answer_example = record {

@@ -7,3 +7,4 @@ pub mod OrderExamples
 pub mod BetaLaws
 pub mod LiftLaws
 pub mod EtaLaws
+pub mod FaultLaws

@@ -1,5 +1,5 @@
 -- Membership in lists.
-use Rattle.std.proofs.Common.{◌≡◌, ℕ, List, [], ◌∷◌, ◌++◌, inl, inr, Bool, true, false, ◌||◌, refl, nat_eq}
+use Rattle.std.proofs.Common.{map, ap, ◌≡◌, ℕ, List, [], ◌∷◌, ◌++◌, inl, inr, Bool, true, false, ◌||◌, refl, nat_eq}
 use Rattle.std.proofs.lemmas.Bool.{eq-eqb, eqb-true}
 use Rattle.pure_term.specs.Lists.{IsIn, Each, AnyOf}
 
@@ -18,6 +18,10 @@ in-append_left x (z ∷ xs) ys m = elim m [ inl e ↦ inl e | inr n ↦ inr (in-
 pub in-append_right : {A : Type 0} (x : A) (xs ys : List A) → IsIn x ys → IsIn x (xs ++ ys)
 in-append_right x [] ys m = m
 in-append_right x (z ∷ xs) ys m = inr (in-append_right x xs ys m)
+
+pub in-map : {A B : Type 0} (f : A → B) (x : A) (xs : List A) → IsIn x xs → IsIn (f x) (map f xs)
+in-map f x [] m = m
+in-map f x (y ∷ ys) m = elim m [ inl e ↦ inl (ap f e) | inr n ↦ inr (in-map f x ys n) ]
 
 -- whether a number is in a list
 abbrev pub is_in : ℕ → List ℕ → Bool

@@ -1,14 +1,15 @@
 -- The examples of the class order, of coregular algebras, of respecting maps and of certified terms.
 use Rattle.std.proofs.Common.{◌≡◌, ℕ, [], ◌∷◌, ◌⊎◌, inl, inr, refl, arith}
+use Rattle.std.specs.List.Sorted.{IsStrictlyIncreasing}
 use Rattle.pure_term.specs.Lists.{IsIn}
 use Rattle.pure_term.specs.Typ.{Typ, TVar, Con, none, also}
 use Rattle.pure_term.specs.Term.{Free}
 use Rattle.pure_term.specs.Order.{Arity, Algebra, IsInclusion, IsClassBelow, itself, along, IsOfSort, IsJoin, AreDomainsBelow}
 use Rattle.pure_term.specs.Subst.{IsSortRespecting, IsTypeRespecting, typ_image, term_image, AreSortRespecting}
-use Rattle.pure_term.specs.Decl.{ConDecl, ConstDecl, algebra_of}
-use Rattle.pure_term.specs.Certified.{IsInstance}
+use Rattle.pure_term.specs.Decl.{ConDecl, ConstDecl, algebra_of, IsDeclaredClass}
+use Rattle.pure_term.specs.Certified.{IsInstance, IsCertifiedSort, AreImagesCertified}
 use Rattle.pure_term.specs.LawsExamples.{i, j, k, c, d, e, g, sort_of, arity, class_above, ladder, crossing, fork, joined_fork, open_fork, falling}
-use Rattle.pure_term.specs.LawsOrder.{BelowExample, SortBelowExample, OfSortExample, CrossingIsNotCoregular, JoinedForkIsCoregular, OpenForkIsNotCoregular, FallingIsNotCoregular, declarations, CertifiedExample, NotCertifiedExample}
+use Rattle.pure_term.specs.LawsOrder.{BelowExample, SortBelowExample, OfSortExample, CrossingIsNotCoregular, JoinedForkIsCoregular, OpenForkIsNotCoregular, FallingIsNotCoregular, declarations, CertifiedExample, NotCertifiedExample, CertifiedImagesExample}
 use Rattle.pure_term.specs.LawsSubst.{SortRespectExample, TypeRespectExample, for_a, for_x}
 use Rattle.pure_term.proofs.OrderLaws.{not-below, upward-below}
 use Rattle.pure_term.proofs.SubstLaws.{entries-respect_sorts}
@@ -39,7 +40,7 @@ pub below_example : BelowExample
 below_example = (c-below_g, not-below ladder (g ∷ []) g c refl refl refl, not-below ladder (d ∷ []) d e refl refl refl)
 
 pub sort_below_example : SortBelowExample
-sort_below_example = ((inr (inl c-below_g), tt), tt, (λ h. d-not_below_g (one h.0)), (λ h. h.0))
+sort_below_example = ((inl c-below_g, tt), tt, (λ h. d-not_below_g (one h.0)), (λ h. h.0))
 
 pub of_sort_example : OfSortExample
 of_sort_example = (((arity c e, inl refl, refl, e-below_g, ((inl itself, tt), tt)), tt), not_of_c, not_of_g)
@@ -55,7 +56,7 @@ of_sort_example = (((arity c e, inl refl, refl, e-below_g, ((inl itself, tt), tt
 
 pub crossing_is_not_coregular : CrossingIsNotCoregular
 crossing_is_not_coregular h =
-    let below = h.monotone (arity c e) (arity d e) (inl refl) (inr (inl refl)) refl itself in
+    let below = (h (arity c e) (arity d e) (inl refl) (inr (inl refl)) refl).forth itself in
     not-below crossing (c ∷ []) c d refl refl refl (one below.0.0)
 
 fork_c : (A : Algebra) → A.classes ≡ fork → IsInclusion A c e
@@ -66,7 +67,7 @@ fork_d A same = (class_above d (e ∷ []), rw same (inr (inr (inl refl))), refl,
 
 pub open_fork_is_not_coregular : OpenForkIsNotCoregular
 open_fork_is_not_coregular h =
-    let joined = h.joined (arity c c) (arity d d) e (inl refl) (inr (inl refl)) refl (along (fork_c open_fork refl) itself) (along (fork_d open_fork refl) itself) in
+    let joined = (h (arity c c) (arity d d) (inl refl) (inr (inl refl)) refl).joined e (along (fork_c open_fork refl) itself) (along (fork_d open_fork refl) itself) in
     no_join joined.0 joined.1
   where
     no_join : (q : Arity) → ¬ IsJoin open_fork (arity c c) (arity d d) e q
@@ -80,7 +81,7 @@ open_fork_is_not_coregular h =
 
 pub falling_is_not_coregular : FallingIsNotCoregular
 falling_is_not_coregular h =
-    let below = h.monotone (arity d g) (arity c e) (inr (inl refl)) (inl refl) refl (along (class_above g (e ∷ []), inr (inl refl), refl, inl refl) itself) in
+    let below = (h (arity d g) (arity c e) (inr (inl refl)) (inl refl) refl).forth (along (class_above g (e ∷ []), inr (inl refl), refl, inl refl) itself) in
     not-below falling (d ∷ []) d c refl refl refl (one below.0.0)
 
 -- Each arity of the fork has its class for its domain.
@@ -121,13 +122,20 @@ joining a b x y top p q (inr (inr is_d)) (inr (inl is_c)) h k =
     join_at a b x y e top p q (inl refl) (to_e x (inr (inr is_d))) (to_e y (inr (inl is_c))) (rw (above_both top (rw is_c at k) (rw is_d at h)) itself)
 
 pub joined_fork_is_coregular : JoinedForkIsCoregular
-joined_fork_is_coregular = record {
-  monotone = λ a b m n same h. let u = square a m in let v = square b n in squares-below a b u.0 v.0 u.1 v.1 (rw (u.1, v.1) at h);
-  joined = λ a b top m n same h k. let u = square a m in let v = square b n in joining a b u.0 v.0 top u.1 v.1 u.2 v.2 (rw u.1 at h) (rw v.1 at k);
+joined_fork_is_coregular a b m n same = record {
+  forth = λ h. squares-below a b u.0 v.0 u.1 v.1 (rw (u.1, v.1) at h);
+  back = λ h. squares-below b a v.0 u.0 v.1 u.1 (rw (u.1, v.1) at h);
+  joined = λ top h k. joining a b u.0 v.0 top u.1 v.1 u.2 v.2 (rw u.1 at h) (rw v.1 at k);
 }
+  where
+    u : (z : ℕ) × (a ≡ arity z z) × ((z ≡ e) ⊎ (z ≡ c) ⊎ (z ≡ d))
+    u = square a m
+
+    v : (z : ℕ) × (b ≡ arity z z) × ((z ≡ e) ⊎ (z ≡ c) ⊎ (z ≡ d))
+    v = square b n
 
 pub sort_respect_example : SortRespectExample
-sort_respect_example = (refused, ((inr (inl itself), tt), tt))
+sort_respect_example = (refused, ((inl itself, tt), tt))
   where
     refused : ¬ IsSortRespecting ladder (typ_image (for_a (TVar 2 0 (sort_of d)) ∷ []))
     refused h = let image = h.schematic 1 0 (sort_of c) in d-not_below_c (one image.0)
@@ -135,7 +143,7 @@ sort_respect_example = (refused, ((inr (inl itself), tt), tt))
 pub type_respect_example : TypeRespectExample
 type_respect_example = (refused, (refl, tt))
   where
-    refused : ¬ IsTypeRespecting (λ T. T) (term_image (for_x (Free 1 j) ∷ []))
+    refused : ¬ IsTypeRespecting (λ v. v) (term_image (for_x (Free 1 j) ∷ []))
     refused h = let image = h.schematic 40 0 i in cc
 
 -- Class d isn't below c.
@@ -174,20 +182,19 @@ certified_example = record {
 
     instance : IsInstance declarations (Con k (also (TVar 1 0 (sort_of c)) none)) (Con k (also i none))
     instance = record {
-      image = typ_image (for_a i ∷ []);
+      typs = typ_image (for_a i ∷ []);
+      matches = record { fixed = λ x s. refl; is = refl };
       respecting = entries-respect_sorts (algebra_of declarations) (for_a i ∷ []) of_class_c;
-      schematic = λ x s. refl;
-      is = refl;
     }
 
 no_sort : ¬ IsInstance declarations (Con k (also (TVar 1 0 (sort_of c)) none)) (Con k (also (TVar 1 0 (sort_of d)) none))
 no_sort h =
-    let is : h.image (TVar 1 0 (sort_of c)) ≡ TVar 1 0 (sort_of d) = cc (h.is) in
+    let is : h.typs (TVar 1 0 (sort_of c)) ≡ TVar 1 0 (sort_of d) = cc (h.matches.is) in
     let respecting = rw is at (h.respecting.schematic 1 0 (sort_of c)) in
     d-apart (one respecting.0)
 
 no_match : ¬ IsInstance declarations (Con k (also (TVar 1 0 (sort_of c)) none)) i
-no_match h = cc (h.is)
+no_match h = cc (h.matches.is)
 
 not_declared : (T : Typ) → ¬ IsIn (ConstDecl 41 T) declarations
 not_declared T m = let same = (only_const 41 T m).0 in omega arith
@@ -208,6 +215,21 @@ not_constructor n count first second m = elim m [
   ]
 ]
 
+not_class : ¬ IsDeclaredClass declarations e
+not_class h = elim h.1 [
+  | inl same ↦ (let named : h.0.name ≡ c = cc in let wanted = h.2 in omega arith)
+  | inr m ↦ elim m [
+    | inl same ↦ (let named : h.0.name ≡ d = cc in let wanted = h.2 in omega arith)
+    | inr m ↦ elim m [ inl same ↦ cc | inr m ↦ elim m [ inl same ↦ cc | inr m ↦ elim m [ inl same ↦ cc | inr m ↦ cc (one m) ] ] ]
+  ]
+]
+
+not_ascending : ¬ IsStrictlyIncreasing (d ∷ c ∷ [])
+not_ascending h = let first = h 0 (omega arith) in omega arith
+
+certified_c : IsCertifiedSort declarations (sort_of c)
+certified_c = ((λ n h. absurd (omega arith)), ((class_above c [], inl refl, refl), tt))
+
 pub not_certified_example : NotCertifiedExample
 not_certified_example = (
   (λ h. no_sort (only_instance h.parts.1.0 (Con k (also (TVar 1 0 (sort_of d)) none)) h.parts.1.1 h.parts.1.2)),
@@ -215,4 +237,12 @@ not_certified_example = (
   (λ h. not_declared h.parts.1.0 h.parts.1.1),
   (λ h. not_constructor 13 0 (λ e. omega arith) (λ e. omega arith) h.parts.0),
   (λ h. not_constructor k 0 (λ e. omega arith) (λ e. omega arith) h.parts.0),
+  (λ h. not_class h.parts.1.0),
+  (λ h. not_ascending h.parts.0),
 )
+
+pub certified_images_example : CertifiedImagesExample
+certified_images_example = (identity, (λ h. not_constructor 13 0 (λ e. omega arith) (λ e. omega arith) (h.schematic_typ 1 0 (sort_of c) certified_c).0))
+  where
+    identity : AreImagesCertified declarations (λ v. v) (λ v. v)
+    identity = record { fixed_typ = λ x s h. h; schematic_typ = λ x i s h. h; fixed = λ x T h. h; schematic = λ x i T h. h }

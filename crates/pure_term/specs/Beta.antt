@@ -4,6 +4,7 @@ use Rattle.pure_term.specs.Lists.{Each}
 use Rattle.pure_term.specs.Term.{Term, Abs, App, IsWithin}
 use Rattle.pure_term.specs.Bounds.{subst_bound}
 
+-- The term is an abstraction.
 abbrev pub IsAbs : Term → Type 0
 IsAbs (Abs T b) = Unit {0}
 IsAbs _ = ⊥
@@ -37,10 +38,11 @@ pub data BetaAnswer : Type 0 where
   NormalForm : Term → BetaAnswer
   TooManySteps : BetaAnswer
 
+-- how many steps there may be
 abbrev pub max_steps : ℕ
 max_steps = 10000
 
--- The term after n steps decides the answer: it isn't within the limits, or it is normal, or the steps have run out.
+-- The term after n steps decides the answer: it isn't within the limits; or it is within them and normal; or it is within them and not normal, and the steps have run out.
 abbrev pub Decides : (n : ℕ) → (u : Term) → BetaAnswer → Type 0
 Decides n u TooLarge = ¬ IsWithin u
 Decides n u (NormalForm v) = IsWithin u × IsBetaNormal u × (u ≡ v)

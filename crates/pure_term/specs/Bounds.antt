@@ -1,4 +1,4 @@
--- Bound variables: which are loose, lifting, instantiation of the outermost, and abstraction over a variable (Isabelle/Isar Implementation manual, section 2.2).
+-- Bound variables: which are loose, lifting, putting a term for bound variable 0, and abstraction over a variable (Isabelle/Isar Implementation manual, section 2.2).
 use Rattle.std.specs.Prelude.{◌≡◌, ◌⊎◌, ℕ, ◌+◌, ◌-◌, ◌<◌, nat_lt, nat_eq, if◌then◌else◌}
 use Rattle.pure_term.specs.Term.{Term, Const, Free, Var, Bound, Abs, App, term_eq}
 
@@ -24,10 +24,11 @@ lift_term by from (Bound p) = if nat_lt p from then Bound p else Bound (p + by)
 lift_term by from (Abs T b) = Abs T (lift_term by (from + 1) b)
 lift_term by from (App f a) = App (lift_term by from f) (lift_term by from a)
 
--- Under n binders of the body: their own bound variables stay, the next becomes the argument, lifted over them, and those above it are lowered by one.
+-- what bound variable p of the body becomes under n binders of the body
 abbrev pub place_at : ℕ → Term → ℕ → Term
 place_at n arg p = if nat_lt p n then Bound p else (if nat_eq p n then lift_term n 0 arg else Bound (p - 1))
 
+-- Under n binders of the body: their own bound variables stay, the next becomes the argument, lifted over them, and those above it are lowered by one.
 abbrev pub subst_under : ℕ → Term → Term → Term
 subst_under n arg (Const c T) = Const c T
 subst_under n arg (Free x T) = Free x T

@@ -1,15 +1,16 @@
 -- Certified sorts, types and terms (Isabelle/Isar Implementation manual, sections 2.1 and 2.2): what may stand in a statement over given declarations.
 use Rattle.std.specs.Prelude.{◌≡◌, ℕ, List, []}
+use Rattle.std.specs.List.Sorted.{IsStrictlyIncreasing}
 use Rattle.pure_term.specs.Lists.{IsIn, Each}
 use Rattle.pure_term.specs.Typ.{Typ, TFree, TVar, Con, Typs, none, also, typs_count}
 use Rattle.pure_term.specs.Term.{Term, Const, Free, Var, Bound, Abs, App}
 use Rattle.pure_term.specs.Typing.{HasType}
-use Rattle.pure_term.specs.Subst.{typ_instance, IsSortRespecting}
+use Rattle.pure_term.specs.Subst.{typ_instance, IsSortRespecting, KeepsFixedTyps}
 use Rattle.pure_term.specs.Decl.{Decl, ConDecl, ConstDecl, algebra_of, IsDeclaredClass}
 
--- Each class of the sort is declared.
+-- The names of the sort ascend, and each class of it is declared.
 abbrev pub IsCertifiedSort : List Decl → List ℕ → Type 0
-IsCertifiedSort ds s = Each (IsDeclaredClass ds) s
+IsCertifiedSort ds s = IsStrictlyIncreasing s × Each (IsDeclaredClass ds) s
 
 -- Each class in the type is declared, and each constructor, with the count of its arguments.
 abbrev mutual
@@ -22,12 +23,16 @@ abbrev mutual
   AreCertifiedTyps ds none = Unit {0}
   AreCertifiedTyps ds (also t ts) = IsCertifiedTyp ds t × AreCertifiedTyps ds ts
 
--- The second type is an instance of the first: a sort-respecting substitution for its schematic type variables makes it.
+-- The type map makes the second type of the first, by its schematic type variables alone.
+pub record IsMatch (typs : Typ → Typ) (declared typ : Typ) : Type 0 where
+  pub fixed : KeepsFixedTyps typs
+  pub is : typ_instance typs declared ≡ typ
+
+-- The second type is an instance of the first: a sort-respecting type map makes it.
 pub record IsInstance (ds : List Decl) (declared typ : Typ) : Type 0 where
-  pub image : Typ → Typ
-  pub respecting : IsSortRespecting (algebra_of ds) image
-  pub schematic : (x : ℕ) (s : List ℕ) → image (TFree x s) ≡ TFree x s
-  pub is : typ_instance image declared ≡ typ
+  pub typs : Typ → Typ
+  pub matches : IsMatch typs declared typ
+  pub respecting : IsSortRespecting (algebra_of ds) typs
 
 -- The constant is declared, and this type is an instance of its declared type.
 abbrev pub IsCertifiedConst : List Decl → ℕ → Typ → Type 0
@@ -47,3 +52,10 @@ pub record IsCertified (ds : List Decl) (t : Term) : Type 0 where
   pub parts : HasCertifiedParts ds t
   pub typ : Typ
   pub typed : HasType [] t typ
+
+-- The images of the maps are certified wherever their variables are.
+pub record AreImagesCertified (ds : List Decl) (typs : Typ → Typ) (terms : Term → Term) : Type 0 where
+  pub fixed_typ : (x : ℕ) (s : List ℕ) → IsCertifiedSort ds s → IsCertifiedTyp ds (typs (TFree x s))
+  pub schematic_typ : (x i : ℕ) (s : List ℕ) → IsCertifiedSort ds s → IsCertifiedTyp ds (typs (TVar x i s))
+  pub fixed : (x : ℕ) (T : Typ) → IsCertifiedTyp ds T → HasCertifiedParts ds (terms (Free x T))
+  pub schematic : (x i : ℕ) (T : Typ) → IsCertifiedTyp ds T → HasCertifiedParts ds (terms (Var x i T))

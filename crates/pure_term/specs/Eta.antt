@@ -32,7 +32,7 @@ abbrev pub abstraction_count : Term → ℕ
 abstraction_count (Abs T b) = 1 + abstraction_count b
 abstraction_count _ = 0
 
--- the count of the type's arrows: of `T1 => .. => Tn => U` it is n, where U is no type of functions
+-- the count of the type's arrows: `A => B => C` has two where C is no type of functions (`Con zero` is the constructor `fun`)
 abbrev pub arrow_count : Typ → ℕ
 arrow_count (Con zero (also T (also U none))) = 1 + arrow_count U
 arrow_count _ = 0

@@ -16,7 +16,10 @@ OneBetaSequence = (t u v : Term) (us vs : List Term) → IsBetaSequence t us u �
 abbrev pub OneBetaSequenceToNormal : Type 0
 OneBetaSequenceToNormal = (t u v : Term) (us vs : List Term) → IsBetaSequence t us u → IsBetaSequence t vs v → IsBetaNormal u → IsBetaNormal v → (us ≡ vs) × (u ≡ v)
 
--- The normaliser has at most one answer for a term.
+-- The normaliser has an answer for each term, and one at most.
+abbrev pub EachTermHasBetaAnswer : Type 0
+EachTermHasBetaAnswer = (t : Term) → (answer : BetaAnswer) × IsBetaAnswer t answer
+
 abbrev pub OneBetaAnswer : Type 0
 OneBetaAnswer = (t : Term) (one other : BetaAnswer) → IsBetaAnswer t one → IsBetaAnswer t other → one ≡ other
 

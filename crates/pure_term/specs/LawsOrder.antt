@@ -4,7 +4,9 @@ use Rattle.pure_term.specs.Typ.{TVar, Con, none, also}
 use Rattle.pure_term.specs.Term.{Const, Var}
 use Rattle.pure_term.specs.Order.{IsClassBelow, IsSortBelow, IsOfSort, IsCoregular}
 use Rattle.pure_term.specs.Decl.{Decl, ClassDecl, ConDecl, ArityDecl, ConstDecl}
-use Rattle.pure_term.specs.Certified.{IsCertified}
+use Rattle.pure_term.specs.Certified.{IsCertified, AreImagesCertified}
+use Rattle.pure_term.specs.Subst.{typ_image}
+use Rattle.pure_term.specs.LawsSubst.{for_a}
 use Rattle.pure_term.specs.LawsExamples.{i, k, c, d, e, g, sort_of, class_above, ladder, crossing, joined_fork, open_fork, falling}
 
 -- With c below e and e below g, c is below g by a path; g isn't below c, nor is d below e.
@@ -13,7 +15,7 @@ BelowExample = IsClassBelow ladder c g × (¬ IsClassBelow ladder g c) × (¬ Is
 
 -- The sort {c, d} is below {g} and below the empty sort, but {d} isn't below {g}, nor the empty sort.
 abbrev pub SortBelowExample : Type 0
-SortBelowExample = IsSortBelow ladder (d ∷ c ∷ []) (sort_of g) × IsSortBelow ladder (sort_of d) [] × (¬ IsSortBelow ladder (sort_of d) (sort_of g)) × (¬ IsSortBelow ladder [] (sort_of g))
+SortBelowExample = IsSortBelow ladder (c ∷ d ∷ []) (sort_of g) × IsSortBelow ladder (sort_of d) [] × (¬ IsSortBelow ladder (sort_of d) (sort_of g)) × (¬ IsSortBelow ladder [] (sort_of g))
 
 -- With `k :: (c) e` and `'a :: c` the type `'a k` is of sort {g}; it isn't of sort {c}, and `'b k` with `'b :: d` isn't of sort {g}.
 abbrev pub OfSortExample : Type 0
@@ -44,7 +46,12 @@ declarations = ClassDecl (class_above c []) ∷ ClassDecl (class_above d []) ∷
 abbrev pub CertifiedExample : Type 0
 CertifiedExample = IsCertified declarations (Const 40 (Con k (also i none)))
 
--- It isn't at `?'b k` with `?'b :: d`, whose sort fails, nor at i, which is no instance. An undeclared constant isn't, nor a variable whose type has an undeclared constructor or a wrong count of arguments.
+-- It isn't at `?'b k` with `?'b :: d`, whose sort fails, nor at i, which is no instance. An undeclared constant isn't, nor a variable whose type has an undeclared constructor, a wrong count of arguments, an undeclared class, or a sort whose names don't ascend.
 abbrev pub NotCertifiedExample : Type 0
 NotCertifiedExample = (¬ IsCertified declarations (Const 40 (Con k (also (TVar 1 0 (sort_of d)) none)))) × (¬ IsCertified declarations (Const 40 i))
     × (¬ IsCertified declarations (Const 41 i)) × (¬ IsCertified declarations (Var 0 0 (Con 13 none))) × (¬ IsCertified declarations (Var 0 0 (Con k none)))
+    × (¬ IsCertified declarations (Var 0 0 (TVar 0 0 (sort_of e)))) × (¬ IsCertified declarations (Var 0 0 (TVar 0 0 (d ∷ c ∷ []))))
+
+-- The images of the identity maps are certified where their variables are; those of a map to an undeclared constructor aren't.
+abbrev pub CertifiedImagesExample : Type 0
+CertifiedImagesExample = AreImagesCertified declarations (λ v. v) (λ v. v) × (¬ AreImagesCertified declarations (typ_image (for_a (Con 13 none) ∷ [])) (λ v. v))

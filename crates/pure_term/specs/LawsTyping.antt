@@ -1,8 +1,8 @@
 -- Laws and examples of equality, size, typing and bound variables.
-use Rattle.std.specs.Prelude.{◌≡◌, ◌↔◌, ℕ, true, List, [], ◌∷◌}
+use Rattle.std.specs.Prelude.{◌≡◌, ◌↔◌, ◌⊎◌, ℕ, true, List, [], ◌∷◌}
 use Rattle.pure_term.specs.Typ.{Typ, arrow, typ_eq}
 use Rattle.pure_term.specs.Term.{Term, Free, Bound, Abs, App, term_eq, term_size, term_depth}
-use Rattle.pure_term.specs.Typing.{HasType}
+use Rattle.pure_term.specs.Typing.{HasType, IsUntypedAt}
 use Rattle.pure_term.specs.Bounds.{IsClosed, lift_term, subst_bound, abstract_over, Occurs}
 use Rattle.pure_term.specs.LawsExamples.{i, j, a, f, p, x, y, any_x}
 
@@ -24,6 +24,20 @@ TypedTermHasOneType = (bs : List Typ) (t : Term) (T U : Typ) → HasType bs t T 
 -- A term that has a type under no binders has no loose bound variable.
 abbrev pub TypedTermIsClosed : Type 0
 TypedTermIsClosed = (t : Term) (T : Typ) → HasType [] t T → IsClosed t
+
+-- A term has a type under given binders, or a place of its first node at fault, and not both; and it has one such place at most.
+abbrev pub TypedOrAtFault : Type 0
+TypedOrAtFault = (bs : List Typ) (t : Term) → ((T : Typ) × HasType bs t T) ⊎ ((place : ℕ) × IsUntypedAt bs t place)
+
+abbrev pub TypedIsNotAtFault : Type 0
+TypedIsNotAtFault = (bs : List Typ) (t : Term) (T : Typ) (place : ℕ) → HasType bs t T → ¬ IsUntypedAt bs t place
+
+abbrev pub OnePlaceOfFault : Type 0
+OnePlaceOfFault = (bs : List Typ) (t : Term) (place other : ℕ) → IsUntypedAt bs t place → IsUntypedAt bs t other → place ≡ other
+
+-- `x y` is at fault at its root, place 0; in `f (x y)` that is place 2, and in `(x y) (Bound 0)` the first fault is at place 1.
+abbrev pub FaultExample : Type 0
+FaultExample = IsUntypedAt [] (App x y) 0 × IsUntypedAt [] (App f (App x y)) 2 × IsUntypedAt [] (App (App x y) (Bound 0)) 1
 
 -- `f x` has the type i, and `%x. p x` the type `i => i => i`.
 abbrev pub TypingExample : Type 0

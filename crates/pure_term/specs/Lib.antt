@@ -12,6 +12,6 @@ pub mod Beta
 pub mod Eta
 pub mod LawsExamples
 pub mod LawsTyping
-pub mod LawsOrder
 pub mod LawsSubst
+pub mod LawsOrder
 pub mod LawsNormal

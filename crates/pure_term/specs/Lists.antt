@@ -23,6 +23,11 @@ EachTwo R [] [] = Unit {0}
 EachTwo R (x ∷ xs) (y ∷ ys) = R x y × EachTwo R xs ys
 EachTwo R _ _ = ⊥
 
+-- No element of the list stands in it twice.
+abbrev pub AreDistinct : {A : Type 0} → List A → Type 0
+AreDistinct [] = Unit {0}
+AreDistinct (x ∷ xs) = (¬ IsIn x xs) × AreDistinct xs
+
 -- whether two sorts are the same list of names
 abbrev pub sort_eq : List ℕ → List ℕ → Bool
 sort_eq = pointwise nat_eq

@@ -65,10 +65,14 @@ pub record IsJoin (A : Algebra) (a b : Arity) (d : ℕ) (q : Arity) : Type 0 whe
   pub first : AreDomainsBelow A a q
   pub second : AreDomainsBelow A b q
 
--- The algebra is coregular. Of two declared arities of one constructor: if the class of the one is below that of the other, so are its domains;
--- and for each class above both of theirs there is a declared arity for a class below it, with domains above the domains of both.
+-- Two arities of one constructor are compatible. Where the class of one is below that of the other, so are its domains;
+-- and for each class above both of theirs there is a declared arity for a class below it, with domains above the domains of both. Otherwise they are in conflict.
 -- The first part is the manual's condition. The second, this project's own, makes unifiers most general.
-pub record IsCoregular (A : Algebra) : Type 0 where
-  pub monotone : (a b : Arity) → IsIn a A.arities → IsIn b A.arities → a.con ≡ b.con → IsClassBelow A a.class b.class → AreDomainsBelow A a b
-  pub joined : (a b : Arity) (d : ℕ) → IsIn a A.arities → IsIn b A.arities → a.con ≡ b.con → IsClassBelow A a.class d → IsClassBelow A b.class d
-      → (q : Arity) × IsJoin A a b d q
+pub record AreCompatible (A : Algebra) (a b : Arity) : Type 0 where
+  pub forth : IsClassBelow A a.class b.class → AreDomainsBelow A a b
+  pub back : IsClassBelow A b.class a.class → AreDomainsBelow A b a
+  pub joined : (d : ℕ) → IsClassBelow A a.class d → IsClassBelow A b.class d → (q : Arity) × IsJoin A a b d q
+
+-- The algebra is coregular: each two declared arities of one constructor are compatible.
+abbrev pub IsCoregular : Algebra → Type 0
+IsCoregular A = (a b : Arity) → IsIn a A.arities → IsIn b A.arities → a.con ≡ b.con → AreCompatible A a b

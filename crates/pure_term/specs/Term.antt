@@ -2,7 +2,7 @@
 use Rattle.std.specs.Prelude.{ℕ, ◌+◌, ◌≤◌, max, Bool, false, ◌&&◌, nat_eq}
 use Rattle.pure_term.specs.Typ.{Typ, typ_size, typ_depth, typ_eq}
 
--- A term is a constant, a fixed variable or a schematic variable with its type, a bound variable, which counts the abstractions between it and its own,
+-- A term is a constant or a fixed variable with its type, a schematic variable with its index and its type, a bound variable, which counts the abstractions between it and its own,
 -- an abstraction over a variable of a type, or a function applied to an argument.
 pub data Term : Type 0 where
   Const : (name : ℕ) → (typ : Typ) → Term
@@ -30,6 +30,7 @@ term_depth (Bound n) = 1
 term_depth (Abs T b) = 1 + max (typ_depth T) (term_depth b)
 term_depth (App f a) = 1 + max (term_depth f) (term_depth a)
 
+-- the limits
 abbrev pub max_size : ℕ
 max_size = 200000
 

@@ -1,4 +1,4 @@
--- Types (Isabelle/Isar Implementation manual, section 2.1). A sort is a list of names of classes: it is their intersection.
+-- Types (Isabelle/Isar Implementation manual, section 2.1). A sort is a list of names of classes, and stands for their intersection; in certified types the names ascend.
 use Rattle.std.specs.Prelude.{ℕ, ◌+◌, max, Bool, true, false, ◌&&◌, nat_eq, List, [], ◌∷◌}
 use Rattle.pure_term.specs.Lists.{sort_eq}
 use Rattle.pure_term.specs.Names.{fun_name, prop_name}
@@ -15,6 +15,7 @@ mutual
     none : Typs
     also : Typ → Typs → Typs
 
+-- the types of a list, and the list of the types
 abbrev pub typs_of : List Typ → Typs
 typs_of [] = none
 typs_of (t ∷ ts) = also t (typs_of ts)
@@ -23,6 +24,7 @@ abbrev pub typ_list : Typs → List Typ
 typ_list none = []
 typ_list (also t ts) = t ∷ typ_list ts
 
+-- how many types there are
 abbrev pub typs_count : Typs → ℕ
 typs_count none = 0
 typs_count (also t ts) = 1 + typs_count ts

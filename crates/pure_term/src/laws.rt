@@ -1,8 +1,8 @@
 //! What the definitions mean: laws and computed examples, each carried by the contract of a function that does nothing.
-ghost use Rattle.pure_term.specs.LawsTyping.{TypTestIsEquality, TermTestIsEquality, SizeExample, TypedTermHasOneType, TypedTermIsClosed, TypingExample, NoTypeExample, LiftExample, LiftOfClosedTerm, SubstBoundExample, AbstractionExample, OccursExample};
-ghost use Rattle.pure_term.specs.LawsOrder.{BelowExample, SortBelowExample, OfSortExample, JoinedForkIsCoregular, CrossingIsNotCoregular, OpenForkIsNotCoregular, FallingIsNotCoregular, CertifiedExample, NotCertifiedExample};
-ghost use Rattle.pure_term.specs.LawsSubst.{IdentityIsSortRespecting, IdentityIsTypeRespecting, IdentityChangesNoType, IdentityChangesNoTerm, EntriesRespectSorts, EntriesRespectTypes, InstanceExample, TypInstanceExample, AllAtOnceExample, KeyedOnOwnTypeExample, SortRespectExample, TypeRespectExample};
-ghost use Rattle.pure_term.specs.LawsNormal.{NoStepExactlyWhereNormal, OneBetaSequence, OneBetaSequenceToNormal, OneBetaAnswer, BetaStepsExample, BetaAnswerExample, BetaNormalExample, EndlessExample, EtaExample, LongFormExample, OneLongForm};
+ghost use Rattle.pure_term.specs.LawsTyping.{TypTestIsEquality, TermTestIsEquality, SizeExample, TypedTermHasOneType, TypedTermIsClosed, TypedOrAtFault, TypedIsNotAtFault, OnePlaceOfFault, FaultExample, TypingExample, NoTypeExample, LiftExample, LiftOfClosedTerm, SubstBoundExample, AbstractionExample, OccursExample};
+ghost use Rattle.pure_term.specs.LawsOrder.{BelowExample, SortBelowExample, OfSortExample, JoinedForkIsCoregular, CrossingIsNotCoregular, OpenForkIsNotCoregular, FallingIsNotCoregular, CertifiedExample, NotCertifiedExample, CertifiedImagesExample};
+ghost use Rattle.pure_term.specs.LawsSubst.{IdentityIsSortRespecting, IdentityIsTypeRespecting, IdentityChangesNoType, IdentityChangesNoTerm, EntriesRespectSorts, EntriesRespectTypes, EntriesKeepFixedTyps, EntriesKeepFixed, TermMapAlone, InstanceExample, TypInstanceExample, AllAtOnceExample, KeyedOnOwnTypeExample, SortRespectExample, TypeRespectExample};
+ghost use Rattle.pure_term.specs.LawsNormal.{NoStepExactlyWhereNormal, OneBetaSequence, OneBetaSequenceToNormal, EachTermHasBetaAnswer, OneBetaAnswer, BetaStepsExample, BetaAnswerExample, BetaNormalExample, EndlessExample, EtaExample, LongFormExample, OneLongForm};
 
 /// The tests of types and of terms are equality.
 pub fn tests_are_equality()
@@ -19,6 +19,14 @@ pub fn size_example()
 pub fn typed_term_has_one_type()
     ensures one { TypedTermHasOneType }
     ensures closed { TypedTermIsClosed }
+{}
+
+/// A term is typed, or one of its nodes is the first at fault.
+pub fn typed_or_at_fault()
+    ensures either { TypedOrAtFault }
+    ensures not_both { TypedIsNotAtFault }
+    ensures one { OnePlaceOfFault }
+    ensures example { FaultExample }
 {}
 
 /// Terms that have a type, and terms that have none.
@@ -67,6 +75,7 @@ pub fn not_coregular_example()
 pub fn certified_example()
     ensures certified { CertifiedExample }
     ensures refused { NotCertifiedExample }
+    ensures images { CertifiedImagesExample }
 {}
 
 /// The identity maps respect sorts and types.
@@ -79,12 +88,15 @@ pub fn identity_respects()
 pub fn identity_changes_nothing()
     ensures types { IdentityChangesNoType }
     ensures terms { IdentityChangesNoTerm }
+    ensures alone { TermMapAlone }
 {}
 
-/// A finite map respects sorts, or types, where each of its entries does.
+/// A finite map respects sorts, or types, exactly where each of its entries does, and it leaves fixed variables as they are.
 pub fn entries_respect()
     ensures sorts { EntriesRespectSorts }
     ensures types { EntriesRespectTypes }
+    ensures fixed_typs { EntriesKeepFixedTyps }
+    ensures fixed { EntriesKeepFixed }
 {}
 
 /// Instances by finite maps.
@@ -118,7 +130,8 @@ pub fn one_beta_sequence()
 
 /// A term has one answer of the normaliser.
 pub fn one_beta_answer()
-    ensures { OneBetaAnswer }
+    ensures some { EachTermHasBetaAnswer }
+    ensures one { OneBetaAnswer }
 {}
 
 /// Beta steps, and the answers that they decide.
