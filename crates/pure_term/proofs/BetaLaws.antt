@@ -6,8 +6,9 @@ use Rattle.std.specs.Prelude.{Option, Some, None, option_map}
 use Rattle.pure_term.specs.Lists.{Each}
 use Rattle.pure_term.specs.Term.{Term, Abs, App, IsWithin, term_size, term_depth, max_size, max_depth}
 use Rattle.pure_term.specs.Beta.{IsBetaNormal, app_step, beta_step, IsBetaSequence, BetaAnswer, TooLarge, NormalForm, TooManySteps, max_steps, Decides, IsBetaAnswer}
-use Rattle.pure_term.specs.LawsExamples.{endless, doubled_at_a, identity_at_a, pair, a}
-use Rattle.pure_term.specs.LawsNormal.{BetaAnswerExample, EndlessExample}
+use Rattle.pure_term.specs.LawsExamples.{doubled, endless, doubled_at_a, identity_at_a, pair, a}
+use Rattle.pure_term.proofs.LimitLaws.{doubled_is_large}
+use Rattle.pure_term.specs.LawsNormal.{BetaAnswerExample, EndlessExample, LargeExample}
 
 app_step-none : (f a : Term) (r s : Option Term) → app_step f a r s ≡ None → (r ≡ None) × (s ≡ None)
 app_step-none f a None None h = (refl, refl)
@@ -188,3 +189,6 @@ endless_answer n e = record {
 
 pub endless_example : EndlessExample
 endless_example = endless_answer 10000 refl
+
+pub large_example : LargeExample
+large_example = record { before = []; last = doubled 17; sequence = refl; undecided = tt; in_time = omega arith; decided = doubled_is_large }

@@ -1,13 +1,21 @@
--- The tests of types and of terms are equality.
-use Rattle.std.proofs.Common.{◌≡◌, ℕ, ◌&&◌, true, List, ap, refl, ◌↔◌}
+-- The mutual list of types stands for a list; the tests of types and of terms are equality.
+use Rattle.std.proofs.Common.{◌≡◌, ℕ, ◌&&◌, true, List, [], ◌∷◌, ap, refl, ◌↔◌}
 use Rattle.std.proofs.lemmas.Bool.{eqb-true, eq-eqb}
 use Rattle.std.specs.Cmp.{first_so, second_so}
 use Rattle.std.specs.Cmp.Derive.{both_true}
 use Rattle.std.specs.Cmp.Lexicographic.{bytes_decides}
 use Rattle.std.specs.Prelude.{nat_eq}
 use Rattle.pure_term.specs.Lists.{sort_eq}
-use Rattle.pure_term.specs.Typ.{Typ, TFree, TVar, Con, Typs, none, also, typ_eq, typs_eq}
+use Rattle.pure_term.specs.Typ.{Typ, TFree, TVar, Con, Typs, none, also, typs_of, typ_list, typ_eq, typs_eq}
 use Rattle.pure_term.specs.Term.{Term, Const, Free, Var, Bound, Abs, App, term_eq}
+
+pub typ_list-typs_of : (ts : List Typ) → typ_list (typs_of ts) ≡ ts
+typ_list-typs_of [] = refl
+typ_list-typs_of (t ∷ ts) = ap (λ us. t ∷ us) (typ_list-typs_of ts)
+
+pub typs_of-typ_list : (ts : Typs) → typs_of (typ_list ts) ≡ ts
+typs_of-typ_list none = refl
+typs_of-typ_list (also t ts) = ap (also t) (typs_of-typ_list ts)
 
 sort_eq-same : (s r : List ℕ) → sort_eq s r ≡ true → s ≡ r
 sort_eq-same s r h = (bytes_decides s r).0 h

@@ -1,6 +1,7 @@
 pub mod ListLaws
 pub mod EqualityLaws
 pub mod TypingLaws
+pub mod LimitLaws
 pub mod OrderLaws
 pub mod SubstLaws
 pub mod OrderExamples

@@ -1,5 +1,5 @@
 -- Types, terms and class orders for the examples of the laws.
-use Rattle.std.specs.Prelude.{ℕ, List, [], ◌∷◌}
+use Rattle.std.specs.Prelude.{ℕ, zero, suc, List, [], ◌∷◌}
 use Rattle.pure_term.specs.Typ.{Typ, Con, none, arrow}
 use Rattle.pure_term.specs.Term.{Term, Const, Free, Var, Bound, Abs, App}
 use Rattle.pure_term.specs.Order.{Class, Arity, Algebra}
@@ -64,6 +64,16 @@ endless = App (Abs i (App (Bound 0) (Bound 0))) (Abs i (App (Bound 0) (Bound 0))
 -- the term p applied to two terms
 abbrev pub pair : Term → Term → Term
 pair t u = App (App p t) u
+
+-- f applied n times to x, of depth n + 3 where n isn't 0
+unfoldable pub tower : ℕ → Term
+tower zero = x
+tower (suc n) = App f (tower n)
+
+-- a full tree of applications, of size 2 ^ (n + 1) - 1 and depth n + 1
+unfoldable pub doubled : ℕ → Term
+doubled zero = Bound 0
+doubled (suc n) = App (doubled n) (doubled n)
 
 -- the sort of one class
 abbrev pub sort_of : ℕ → List ℕ

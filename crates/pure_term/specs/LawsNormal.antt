@@ -1,9 +1,9 @@
 -- Laws and examples of beta and eta reduction and of long forms.
 use Rattle.std.specs.Prelude.{◌≡◌, ◌↔◌, List, [], ◌∷◌, length, None}
 use Rattle.pure_term.specs.Term.{Term, Bound, Abs, App}
-use Rattle.pure_term.specs.Beta.{IsBetaNormal, beta_step, IsBetaSequence, IsBetaAnswer, BetaAnswer, NormalForm, TooManySteps}
+use Rattle.pure_term.specs.Beta.{IsBetaNormal, beta_step, IsBetaSequence, IsBetaAnswer, BetaAnswer, TooLarge, NormalForm, TooManySteps}
 use Rattle.pure_term.specs.Eta.{IsEtaNormal, IsEtaNormalForm, IsLongForm}
-use Rattle.pure_term.specs.LawsExamples.{i, a, f, pair, identity_at_a, doubled_at_a, endless}
+use Rattle.pure_term.specs.LawsExamples.{i, a, f, pair, identity_at_a, doubled_at_a, endless, doubled}
 
 -- No step leads on exactly from the normal terms.
 abbrev pub NoStepExactlyWhereNormal : Type 0
@@ -33,6 +33,10 @@ BetaAnswerExample = IsBetaAnswer doubled_at_a (NormalForm (pair a a))
 -- `p a a` is normal and `p a ((%x. x) a)` isn't, nor is `%x. (%x. x) a`.
 abbrev pub BetaNormalExample : Type 0
 BetaNormalExample = IsBetaNormal (pair a a) × (¬ IsBetaNormal (pair a identity_at_a)) × (¬ IsBetaNormal (Abs i identity_at_a))
+
+-- A term that isn't within the limits has the answer of too large a term, normal or not.
+abbrev pub LargeExample : Type 0
+LargeExample = IsBetaAnswer (doubled 17) TooLarge
 
 -- A term whose steps never end has the answer of too many steps.
 abbrev pub EndlessExample : Type 0

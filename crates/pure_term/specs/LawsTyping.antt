@@ -1,10 +1,17 @@
 -- Laws and examples of equality, size, typing and bound variables.
 use Rattle.std.specs.Prelude.{◌≡◌, ◌↔◌, ◌⊎◌, ℕ, true, List, [], ◌∷◌}
-use Rattle.pure_term.specs.Typ.{Typ, arrow, typ_eq}
-use Rattle.pure_term.specs.Term.{Term, Free, Bound, Abs, App, term_eq, term_size, term_depth}
+use Rattle.pure_term.specs.Typ.{Typ, Typs, typs_of, typ_list, arrow, typ_eq}
+use Rattle.pure_term.specs.Term.{Term, Free, Bound, Abs, App, term_eq, term_size, term_depth, IsWithin}
 use Rattle.pure_term.specs.Typing.{HasType, IsUntypedAt}
 use Rattle.pure_term.specs.Bounds.{IsClosed, lift_term, subst_bound, abstract_over, Occurs}
-use Rattle.pure_term.specs.LawsExamples.{i, j, a, f, p, x, y, any_x}
+use Rattle.pure_term.specs.LawsExamples.{tower, doubled, i, j, a, f, p, x, y, any_x}
+
+-- A list of types is the same as its mutual form, either way round.
+abbrev pub TypsAreLists : Type 0
+TypsAreLists = (ts : List Typ) → typ_list (typs_of ts) ≡ ts
+
+abbrev pub ListsAreTyps : Type 0
+ListsAreTyps = (ts : Typs) → typs_of (typ_list ts) ≡ ts
 
 -- The test of two types, or of two terms, says whether they are the same tree.
 abbrev pub TypTestIsEquality : Type 0
@@ -13,9 +20,14 @@ TypTestIsEquality = (T U : Typ) → (typ_eq T U ≡ true) ↔ (T ≡ U)
 abbrev pub TermTestIsEquality : Type 0
 TermTestIsEquality = (t u : Term) → (term_eq t u ≡ true) ↔ (t ≡ u)
 
--- `f x` has 7 nodes, four of them in types, and depth 4.
+-- `f x` has 7 nodes, four of them in types, and depth 4. The deeper part counts, on either side, and a binder's type too.
 abbrev pub SizeExample : Type 0
-SizeExample = (term_size (App f x) ≡ 7) × (term_depth (App f x) ≡ 4)
+SizeExample = (term_size (App f x) ≡ 7) × (term_depth (App f x) ≡ 4) × (term_depth (App x f) ≡ 4) × (term_size (Abs (arrow i i) (Bound 0)) ≡ 5)
+    × (term_depth (Abs (arrow i i) (Bound 0)) ≡ 3) × (term_depth (Abs i f) ≡ 4) × (term_depth (Abs (arrow i (arrow i i)) (Bound 0)) ≡ 4)
+
+-- The limits: depth 2,000 is within them and depth 2,001 isn't, nor is size 262,143.
+abbrev pub LimitsExample : Type 0
+LimitsExample = IsWithin (tower 1997) × (¬ IsWithin (tower 1998)) × IsWithin (doubled 16) × (¬ IsWithin (doubled 17))
 
 -- A term has at most one type under given binders.
 abbrev pub TypedTermHasOneType : Type 0

@@ -1,8 +1,14 @@
 //! What the definitions mean: laws and computed examples, each carried by the contract of a function that does nothing.
-ghost use Rattle.pure_term.specs.LawsTyping.{TypTestIsEquality, TermTestIsEquality, SizeExample, TypedTermHasOneType, TypedTermIsClosed, TypedOrAtFault, TypedIsNotAtFault, OnePlaceOfFault, FaultExample, TypingExample, NoTypeExample, LiftExample, LiftOfClosedTerm, SubstBoundExample, AbstractionExample, OccursExample};
+ghost use Rattle.pure_term.specs.LawsTyping.{TypsAreLists, ListsAreTyps, TypTestIsEquality, TermTestIsEquality, SizeExample, LimitsExample, TypedTermHasOneType, TypedTermIsClosed, TypedOrAtFault, TypedIsNotAtFault, OnePlaceOfFault, FaultExample, TypingExample, NoTypeExample, LiftExample, LiftOfClosedTerm, SubstBoundExample, AbstractionExample, OccursExample};
 ghost use Rattle.pure_term.specs.LawsOrder.{BelowExample, SortBelowExample, OfSortExample, JoinedForkIsCoregular, CrossingIsNotCoregular, OpenForkIsNotCoregular, FallingIsNotCoregular, CertifiedExample, NotCertifiedExample, CertifiedImagesExample};
 ghost use Rattle.pure_term.specs.LawsSubst.{IdentityIsSortRespecting, IdentityIsTypeRespecting, IdentityChangesNoType, IdentityChangesNoTerm, EntriesRespectSorts, EntriesRespectTypes, EntriesKeepFixedTyps, EntriesKeepFixed, TermMapAlone, InstanceExample, TypInstanceExample, AllAtOnceExample, KeyedOnOwnTypeExample, SortRespectExample, TypeRespectExample};
-ghost use Rattle.pure_term.specs.LawsNormal.{NoStepExactlyWhereNormal, OneBetaSequence, OneBetaSequenceToNormal, EachTermHasBetaAnswer, OneBetaAnswer, BetaStepsExample, BetaAnswerExample, BetaNormalExample, EndlessExample, EtaExample, LongFormExample, OneLongForm};
+ghost use Rattle.pure_term.specs.LawsNormal.{NoStepExactlyWhereNormal, OneBetaSequence, OneBetaSequenceToNormal, EachTermHasBetaAnswer, OneBetaAnswer, BetaStepsExample, BetaAnswerExample, BetaNormalExample, EndlessExample, LargeExample, EtaExample, LongFormExample, OneLongForm};
+
+/// The mutual list of types stands for a list.
+pub fn typs_are_lists()
+    ensures there { TypsAreLists }
+    ensures back { ListsAreTyps }
+{}
 
 /// The tests of types and of terms are equality.
 pub fn tests_are_equality()
@@ -12,7 +18,8 @@ pub fn tests_are_equality()
 
 /// Size and depth count the nodes of types too.
 pub fn size_example()
-    ensures { SizeExample }
+    ensures counted { SizeExample }
+    ensures limits { LimitsExample }
 {}
 
 /// A typed term has one type, and no loose bound variable where it is typed under no binders.
@@ -140,6 +147,7 @@ pub fn beta_example()
     ensures answer { BetaAnswerExample }
     ensures normal { BetaNormalExample }
     ensures endless { EndlessExample }
+    ensures large { LargeExample }
 {}
 
 /// Eta-normal forms and long forms.
