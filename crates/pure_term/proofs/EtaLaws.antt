@@ -8,8 +8,8 @@ use Rattle.pure_term.specs.Bounds.{lift_term}
 use Rattle.pure_term.specs.Typing.{HasType}
 use Rattle.pure_term.specs.Beta.{IsAbs, IsBetaNormal}
 use Rattle.pure_term.specs.Eta.{EtaStep, EtaReduces, IsEtaNormal, abstraction_count, arrow_count, IsSaturated, HasSaturatedParts, IsLongForm}
-use Rattle.pure_term.specs.LawsExamples.{i as typ_i, f as const_f}
-use Rattle.pure_term.specs.LawsNormal.{EtaExample, LongFormExample, OneLongForm}
+use Rattle.pure_term.specs.LawsExamples.{i as typ_i, f as const_f, p as const_p}
+use Rattle.pure_term.specs.LawsNormal.{EtaExample, LongFormExample, OneLongForm, TwoArrowsExample}
 use Rattle.pure_term.proofs.TypingLaws.{typed-once}
 use Rattle.pure_term.proofs.LiftLaws.{lift-lift, lifted, lift_term-bound}
 
@@ -235,4 +235,30 @@ long_form_example = (
     not_long h =
         let same : arrow typ_i typ_i ≡ h.saturated.0 = h.saturated.1 in
         let count : ◌≡◌ {A = ℕ} 0 1 = h.saturated.2 ∙ ap arrow_count (sym same) in
+        absurd (omega arith)
+
+abbrev expanded_p : Term
+expanded_p = Abs typ_i (Abs typ_i (App (App const_p (Bound 1)) (Bound 0)))
+
+typed_p : HasType [] expanded_p (arrow typ_i (arrow typ_i typ_i))
+typed_p = (arrow typ_i typ_i, (typ_i, (typ_i, (typ_i, refl, refl), refl), refl), refl)
+
+pub two_arrows_example : TwoArrowsExample
+two_arrows_example = (
+  record {
+    typ = arrow typ_i (arrow typ_i typ_i);
+    typed = refl;
+    long_typed = typed_p;
+    reduces = EtaReduces.next (EtaStep.body (EtaStep.contract {f = App const_p (Bound 0)} refl)) (EtaReduces.next (EtaStep.contract refl) EtaReduces.done);
+    normal = ((λ x. x), ((λ x. x), tt, tt), tt);
+    saturated = (arrow typ_i (arrow typ_i typ_i), typed_p, refl);
+    parts = ((arrow typ_i typ_i, (typ_i, (typ_i, (typ_i, refl, refl), refl), refl), refl), ((typ_i, (typ_i, (typ_i, refl, refl), refl), refl), ((tt, (typ_i, refl, refl), tt), (typ_i, refl, refl), tt)));
+  },
+  not_long,
+)
+  where
+    not_long : ¬ IsLongForm const_p (Abs typ_i (App const_p (Bound 0)))
+    not_long h =
+        let same : arrow typ_i (arrow typ_i typ_i) ≡ h.saturated.0 = typed-once [] const_p (arrow typ_i (arrow typ_i typ_i)) h.typ refl h.typed ∙ typed-once [] (Abs typ_i (App const_p (Bound 0))) h.typ h.saturated.0 h.long_typed h.saturated.1 in
+        let count : ◌≡◌ {A = ℕ} 1 2 = h.saturated.2 ∙ ap arrow_count (sym same) in
         absurd (omega arith)

@@ -3,6 +3,7 @@ pub mod EqualityLaws
 pub mod TypingLaws
 pub mod LimitLaws
 pub mod OrderLaws
+pub mod DeclLaws
 pub mod SubstLaws
 pub mod OrderExamples
 pub mod BetaLaws

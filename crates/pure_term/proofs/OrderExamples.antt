@@ -7,9 +7,9 @@ use Rattle.pure_term.specs.Term.{Free}
 use Rattle.pure_term.specs.Order.{Arity, Algebra, IsInclusion, IsClassBelow, itself, along, IsOfSort, IsJoin, AreDomainsBelow}
 use Rattle.pure_term.specs.Subst.{IsSortRespecting, IsTypeRespecting, typ_image, term_image, AreSortRespecting}
 use Rattle.pure_term.specs.Decl.{ConDecl, ConstDecl, algebra_of, IsDeclaredClass}
-use Rattle.pure_term.specs.Certified.{IsInstance, IsCertifiedSort, AreImagesCertified}
+use Rattle.pure_term.specs.Certified.{IsInstance, IsCertifiedSort, IsCertifiedTyp, AreImagesCertified}
 use Rattle.pure_term.specs.LawsExamples.{i, j, k, c, d, e, g, sort_of, arity, class_above, ladder, crossing, fork, joined_fork, open_fork, falling}
-use Rattle.pure_term.specs.LawsOrder.{BelowExample, SortBelowExample, OfSortExample, CrossingIsNotCoregular, JoinedForkIsCoregular, OpenForkIsNotCoregular, FallingIsNotCoregular, declarations, CertifiedExample, NotCertifiedExample, CertifiedImagesExample}
+use Rattle.pure_term.specs.LawsOrder.{BelowExample, SortBelowExample, OfSortExample, WrongCountExample, UnevenIsNotCoregular, CertifiedPartsExample, CrossingIsNotCoregular, JoinedForkIsCoregular, OpenForkIsNotCoregular, FallingIsNotCoregular, declarations, CertifiedExample, NotCertifiedExample, CertifiedImagesExample}
 use Rattle.pure_term.specs.LawsSubst.{SortRespectExample, TypeRespectExample, for_a, for_x}
 use Rattle.pure_term.proofs.OrderLaws.{not-below, upward-below}
 use Rattle.pure_term.proofs.SubstLaws.{entries-respect_sorts}
@@ -58,6 +58,15 @@ pub crossing_is_not_coregular : CrossingIsNotCoregular
 crossing_is_not_coregular h =
     let below = (h (arity c e) (arity d e) (inl refl) (inr (inl refl)) refl).forth itself in
     not-below crossing (c ∷ []) c d refl refl refl (one below.0.0)
+
+pub uneven_is_not_coregular : UnevenIsNotCoregular
+uneven_is_not_coregular h = (h (arity c e) (record { con = k; domains = []; class = e }) (inl refl) (inr (inl refl)) refl).forth itself
+
+pub wrong_count_example : WrongCountExample
+wrong_count_example = (refused, tt)
+  where
+    refused : ¬ IsOfSort ladder (Con k none) (sort_of e)
+    refused h = elim h.0.1 [ inl same ↦ (rw same at h.0.4) | inr absent ↦ absent ]
 
 fork_c : (A : Algebra) → A.classes ≡ fork → IsInclusion A c e
 fork_c A same = (class_above c (e ∷ []), rw same (inr (inl refl)), refl, inl refl)
@@ -246,3 +255,15 @@ certified_images_example = (identity, (λ h. not_constructor 13 0 (λ e. omega a
   where
     identity : AreImagesCertified declarations (λ v. v) (λ v. v)
     identity = record { fixed_typ = λ x s h. h; schematic_typ = λ x i s h. h; fixed = λ x T h. h; schematic = λ x i T h. h }
+
+pub certified_parts_example : CertifiedPartsExample
+certified_parts_example = (
+  (certified_i, (tt, certified_i)),
+  (λ h. not_constructor 13 0 (λ e. omega arith) (λ e. omega arith) h.0.0),
+  (λ h. not_declared h.1.1.0 h.1.1.1),
+  (λ h. not_declared h.1.1.0 h.1.1.1),
+  (λ h. not_declared h.0.1.0 h.0.1.1),
+)
+  where
+    certified_i : IsCertifiedTyp declarations i
+    certified_i = (inr (inr (inl refl)), tt)

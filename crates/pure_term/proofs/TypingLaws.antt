@@ -1,11 +1,11 @@
 -- Typing: a term has one type, and what is typed is closed. Lifting changes no closed term.
-use Rattle.std.proofs.Common.{◌≡◌, ℕ, zero, suc, ◌+◌, ◌<◌, ◌≤◌, nat_lt, true, length, List, [], ◌∷◌, ap, refl, arith}
+use Rattle.std.proofs.Common.{inl, ◌≡◌, ℕ, zero, suc, ◌+◌, ◌<◌, ◌≤◌, nat_lt, true, length, List, [], ◌∷◌, ap, refl, arith}
 use Rattle.std.proofs.lemmas.Bool.{lt-ltb}
 use Rattle.std.specs.Prelude.{slice_get, Some}
 use Rattle.pure_term.specs.Typ.{Typ, arrow}
 use Rattle.pure_term.specs.Term.{Term, Const, Free, Var, Bound, Abs, App}
 use Rattle.pure_term.specs.Typing.{HasType}
-use Rattle.pure_term.specs.Bounds.{IsClosedUnder, IsClosed, lift_term}
+use Rattle.pure_term.specs.Bounds.{IsClosedUnder, IsClosed, lift_term, Occurs}
 
 pub typed-once : (bs : List Typ) (t : Term) (T U : Typ) → HasType bs t T → HasType bs t U → T ≡ U
 typed-once bs (Const c V) T U h k = cc
@@ -41,3 +41,11 @@ lift-closed_under by from n (App f a) le h = λ l. App (lift-closed_under by fro
 
 pub lift-closed : (by from : ℕ) (t : Term) → IsClosed t → lift_term by from t ≡ t
 lift-closed by from t h = lift-closed_under by from 0 t (omega arith) h
+
+pub occurs-itself : (t : Term) → Occurs t t
+occurs-itself (Const c T) = refl
+occurs-itself (Free x T) = refl
+occurs-itself (Var x i T) = refl
+occurs-itself (Bound n) = refl
+occurs-itself (Abs T b) = inl refl
+occurs-itself (App f a) = inl refl

@@ -75,6 +75,10 @@ unfoldable pub doubled : ℕ → Term
 doubled zero = Bound 0
 doubled (suc n) = App (doubled n) (doubled n)
 
+-- a term of 199,996 nodes more than the one put into it
+unfoldable pub filled : Term → Term
+filled t = App (doubled 16) (App (doubled 15) (App (doubled 10) (App (doubled 9) (App (doubled 7) (App (doubled 4) (App (doubled 3) (App (doubled 2) (App (doubled 1) t))))))))
+
 -- the sort of one class
 abbrev pub sort_of : ℕ → List ℕ
 sort_of class = class ∷ []
@@ -93,6 +97,10 @@ ladder = record { classes = class_above g [] ∷ class_above e (g ∷ []) ∷ cl
 -- unrelated classes c, d and e, with `k :: (c) e` and `k :: (d) e`
 abbrev pub crossing : Algebra
 crossing = record { classes = class_above c [] ∷ class_above d [] ∷ class_above e [] ∷ []; arities = arity c e ∷ arity d e ∷ [] }
+
+-- the same classes, with the arity `k :: (c) e` and one for e without domains
+abbrev pub uneven : Algebra
+uneven = record { classes = class_above c [] ∷ class_above d [] ∷ class_above e [] ∷ []; arities = arity c e ∷ record { con = k; domains = []; class = e } ∷ [] }
 
 -- unrelated classes c and d, both below e
 abbrev pub fork : List Class

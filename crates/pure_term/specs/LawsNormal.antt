@@ -3,7 +3,7 @@ use Rattle.std.specs.Prelude.{◌≡◌, ◌↔◌, List, [], ◌∷◌, length,
 use Rattle.pure_term.specs.Term.{Term, Bound, Abs, App}
 use Rattle.pure_term.specs.Beta.{IsBetaNormal, beta_step, IsBetaSequence, IsBetaAnswer, BetaAnswer, TooLarge, NormalForm, TooManySteps}
 use Rattle.pure_term.specs.Eta.{IsEtaNormal, IsEtaNormalForm, IsLongForm}
-use Rattle.pure_term.specs.LawsExamples.{i, a, f, pair, identity_at_a, doubled_at_a, endless, doubled}
+use Rattle.pure_term.specs.LawsExamples.{i, a, f, p, pair, identity_at_a, doubled_at_a, endless, doubled}
 
 -- No step leads on exactly from the normal terms.
 abbrev pub NoStepExactlyWhereNormal : Type 0
@@ -49,6 +49,10 @@ EtaExample = IsEtaNormalForm (Abs i (App f (Bound 0))) f × IsEtaNormal (Abs i (
 -- The long form of f is `%x. f x`, and so is its own; f isn't.
 abbrev pub LongFormExample : Type 0
 LongFormExample = IsLongForm f (Abs i (App f (Bound 0))) × IsLongForm (Abs i (App f (Bound 0))) (Abs i (App f (Bound 0))) × (¬ IsLongForm f f)
+
+-- The long form of `p :: i => i => i` is `%x y. p x y`, and `%x. p x` isn't one.
+abbrev pub TwoArrowsExample : Type 0
+TwoArrowsExample = IsLongForm p (Abs i (Abs i (App (App p (Bound 1)) (Bound 0)))) × (¬ IsLongForm p (Abs i (App p (Bound 0))))
 
 -- A term has at most one long form.
 abbrev pub OneLongForm : Type 0

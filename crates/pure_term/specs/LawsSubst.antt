@@ -1,6 +1,6 @@
 -- Laws and examples of substitution by maps.
 use Rattle.std.specs.Prelude.{◌≡◌, ◌↔◌, List, [], ◌∷◌}
-use Rattle.pure_term.specs.Typ.{Typ, TVar}
+use Rattle.pure_term.specs.Typ.{Typ, TFree, TVar, arrow}
 use Rattle.pure_term.specs.Term.{Term, Free, Var, App}
 use Rattle.pure_term.specs.Order.{Algebra}
 use Rattle.pure_term.specs.Subst.{typ_instance, term_instance, inst_typ, inst_term, IsSortRespecting, IsTypeRespecting, KeepsFixedTyps, KeepsFixed, TypBind, TermBind, IsTypMap, IsTermMap, typ_image, term_image, AreSortRespecting, AreTypeRespecting}
@@ -55,6 +55,10 @@ InstanceExample = (inst_term (term_image (for_x a ∷ [])) (App f any_x) ≡ App
 abbrev pub TypInstanceExample : Type 0
 TypInstanceExample = (inst_typ (typ_image (for_a i ∷ [])) (App (Free 1 (TVar 1 0 (sort_of c))) (Var 2 0 (TVar 1 0 (sort_of c)))) ≡ App (Free 1 i) (Var 2 0 i))
     × (inst_typ (typ_image (for_a i ∷ [])) (Free 1 (TVar 1 0 [])) ≡ Free 1 (TVar 1 0 []))
+
+-- A map that also moves a fixed type variable is read at it, also inside a type.
+abbrev pub FixedTypExample : Type 0
+FixedTypExample = typ_instance (λ v. i) (arrow (TFree 1 []) j) ≡ arrow i j
 
 -- The map that exchanges `?x` and `?y` turns `p ?x ?y` into `p ?y ?x`; one entry after the other would give `p ?x ?x`.
 abbrev pub AllAtOnceExample : Type 0

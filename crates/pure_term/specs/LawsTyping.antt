@@ -1,10 +1,10 @@
 -- Laws and examples of equality, size, typing and bound variables.
 use Rattle.std.specs.Prelude.{◌≡◌, ◌↔◌, ◌⊎◌, ℕ, true, List, [], ◌∷◌}
-use Rattle.pure_term.specs.Typ.{Typ, Typs, typs_of, typ_list, arrow, typ_eq}
-use Rattle.pure_term.specs.Term.{Term, Free, Bound, Abs, App, term_eq, term_size, term_depth, IsWithin}
+use Rattle.pure_term.specs.Typ.{Typ, TFree, TVar, Typs, typs_of, typ_list, arrow, typ_eq}
+use Rattle.pure_term.specs.Term.{Term, Free, Var, Bound, Abs, App, term_eq, term_size, term_depth, IsWithin}
 use Rattle.pure_term.specs.Typing.{HasType, IsUntypedAt}
 use Rattle.pure_term.specs.Bounds.{IsClosed, lift_term, subst_bound, abstract_over, Occurs}
-use Rattle.pure_term.specs.LawsExamples.{tower, doubled, i, j, a, f, p, x, y, any_x}
+use Rattle.pure_term.specs.LawsExamples.{tower, filled, i, j, a, f, p, x, y, any_x}
 
 -- A list of types is the same as its mutual form, either way round.
 abbrev pub TypsAreLists : Type 0
@@ -24,10 +24,11 @@ TermTestIsEquality = (t u : Term) → (term_eq t u ≡ true) ↔ (t ≡ u)
 abbrev pub SizeExample : Type 0
 SizeExample = (term_size (App f x) ≡ 7) × (term_depth (App f x) ≡ 4) × (term_depth (App x f) ≡ 4) × (term_size (Abs (arrow i i) (Bound 0)) ≡ 5)
     × (term_depth (Abs (arrow i i) (Bound 0)) ≡ 3) × (term_depth (Abs i f) ≡ 4) × (term_depth (Abs (arrow i (arrow i i)) (Bound 0)) ≡ 4)
+    × (term_size (Var 1 0 (TVar 2 0 [])) ≡ 2) × (term_depth (Free 1 (TFree 2 [])) ≡ 2)
 
--- The limits: depth 2,000 is within them and depth 2,001 isn't, nor is size 262,143.
+-- The limits: depth 2,000 and size 200,000 are within them, depth 2,001 and size 200,001 aren't.
 abbrev pub LimitsExample : Type 0
-LimitsExample = IsWithin (tower 1997) × (¬ IsWithin (tower 1998)) × IsWithin (doubled 16) × (¬ IsWithin (doubled 17))
+LimitsExample = IsWithin (tower 1997) × (¬ IsWithin (tower 1998)) × IsWithin (filled (App (Bound 0) x)) × (¬ IsWithin (filled (App x x)))
 
 -- A term has at most one type under given binders.
 abbrev pub TypedTermHasOneType : Type 0
@@ -79,6 +80,10 @@ abbrev pub AbstractionExample : Type 0
 AbstractionExample = (abstract_over (App f x) x ≡ Abs i (App f (Bound 0))) × (abstract_over (Free 40 j) x ≡ Abs i (Free 40 j))
     × (abstract_over (App (Bound 0) any_x) any_x ≡ Abs i (App (Bound 1) (Bound 0))) × (abstract_over (Abs j (App (Bound 0) x)) x ≡ Abs i (Abs j (App (Bound 0) (Bound 1))))
 
--- x occurs in `f x`; it occurs neither in `f y` nor in f applied to a variable of its name with another type.
+-- A term occurs in itself.
+abbrev pub OccursInItself : Type 0
+OccursInItself = (t : Term) → Occurs t t
+
+-- x occurs in `f x`, and a bound variable under its binder; x occurs neither in `f y` nor in f applied to a variable of its name with another type.
 abbrev pub OccursExample : Type 0
-OccursExample = Occurs x (App f x) × (¬ Occurs x (App f y)) × (¬ Occurs x (App f (Free 40 j)))
+OccursExample = Occurs x (App f x) × Occurs (Bound 0) (Abs i (Bound 0)) × (¬ Occurs x (App f y)) × (¬ Occurs x (App f (Free 40 j)))

@@ -1,8 +1,8 @@
 //! What the definitions mean: laws and computed examples, each carried by the contract of a function that does nothing.
-ghost use Rattle.pure_term.specs.LawsTyping.{TypsAreLists, ListsAreTyps, TypTestIsEquality, TermTestIsEquality, SizeExample, LimitsExample, TypedTermHasOneType, TypedTermIsClosed, TypedOrAtFault, TypedIsNotAtFault, OnePlaceOfFault, FaultExample, TypingExample, NoTypeExample, LiftExample, LiftOfClosedTerm, SubstBoundExample, AbstractionExample, OccursExample};
-ghost use Rattle.pure_term.specs.LawsOrder.{BelowExample, SortBelowExample, OfSortExample, JoinedForkIsCoregular, CrossingIsNotCoregular, OpenForkIsNotCoregular, FallingIsNotCoregular, CertifiedExample, NotCertifiedExample, CertifiedImagesExample};
-ghost use Rattle.pure_term.specs.LawsSubst.{IdentityIsSortRespecting, IdentityIsTypeRespecting, IdentityChangesNoType, IdentityChangesNoTerm, EntriesRespectSorts, EntriesRespectTypes, EntriesKeepFixedTyps, EntriesKeepFixed, TermMapAlone, InstanceExample, TypInstanceExample, AllAtOnceExample, KeyedOnOwnTypeExample, SortRespectExample, TypeRespectExample};
-ghost use Rattle.pure_term.specs.LawsNormal.{NoStepExactlyWhereNormal, OneBetaSequence, OneBetaSequenceToNormal, EachTermHasBetaAnswer, OneBetaAnswer, BetaStepsExample, BetaAnswerExample, BetaNormalExample, EndlessExample, LargeExample, EtaExample, LongFormExample, OneLongForm};
+ghost use Rattle.pure_term.specs.LawsTyping.{TypsAreLists, ListsAreTyps, TypTestIsEquality, TermTestIsEquality, SizeExample, LimitsExample, TypedTermHasOneType, TypedTermIsClosed, TypedOrAtFault, TypedIsNotAtFault, OnePlaceOfFault, FaultExample, TypingExample, NoTypeExample, LiftExample, LiftOfClosedTerm, SubstBoundExample, AbstractionExample, OccursExample, OccursInItself};
+ghost use Rattle.pure_term.specs.LawsOrder.{BelowExample, SortBelowExample, OfSortExample, WrongCountExample, UnevenIsNotCoregular, DeclaredClasses, DeclaredArities, CertifiedPartsExample, JoinedForkIsCoregular, CrossingIsNotCoregular, OpenForkIsNotCoregular, FallingIsNotCoregular, CertifiedExample, NotCertifiedExample, CertifiedImagesExample};
+ghost use Rattle.pure_term.specs.LawsSubst.{IdentityIsSortRespecting, IdentityIsTypeRespecting, IdentityChangesNoType, IdentityChangesNoTerm, EntriesRespectSorts, EntriesRespectTypes, EntriesKeepFixedTyps, EntriesKeepFixed, TermMapAlone, InstanceExample, TypInstanceExample, FixedTypExample, AllAtOnceExample, KeyedOnOwnTypeExample, SortRespectExample, TypeRespectExample};
+ghost use Rattle.pure_term.specs.LawsNormal.{NoStepExactlyWhereNormal, OneBetaSequence, OneBetaSequenceToNormal, EachTermHasBetaAnswer, OneBetaAnswer, BetaStepsExample, BetaAnswerExample, BetaNormalExample, EndlessExample, LargeExample, EtaExample, LongFormExample, TwoArrowsExample, OneLongForm};
 
 /// The mutual list of types stands for a list.
 pub fn typs_are_lists()
@@ -57,6 +57,7 @@ pub fn subst_bound_example()
 pub fn abstraction_example()
     ensures abstraction { AbstractionExample }
     ensures occurs { OccursExample }
+    ensures itself { OccursInItself }
 {}
 
 /// Classes and sorts below others, and not.
@@ -64,6 +65,7 @@ pub fn below_example()
     ensures classes { BelowExample }
     ensures sorts { SortBelowExample }
     ensures types { OfSortExample }
+    ensures wrong_count { WrongCountExample }
 {}
 
 /// Algebras that are coregular.
@@ -74,13 +76,21 @@ pub fn coregular_example()
 /// Algebras that are not.
 pub fn not_coregular_example()
     ensures crossing { CrossingIsNotCoregular }
+    ensures uneven { UnevenIsNotCoregular }
     ensures open_fork { OpenForkIsNotCoregular }
     ensures falling { FallingIsNotCoregular }
+{}
+
+/// The algebra of declarations has exactly their classes and arities.
+pub fn declared_algebra()
+    ensures classes { DeclaredClasses }
+    ensures arities { DeclaredArities }
 {}
 
 /// Terms that are certified, and not.
 pub fn certified_example()
     ensures certified { CertifiedExample }
+    ensures parts { CertifiedPartsExample }
     ensures refused { NotCertifiedExample }
     ensures images { CertifiedImagesExample }
 {}
@@ -110,6 +120,7 @@ pub fn entries_respect()
 pub fn instance_example()
     ensures term { InstanceExample }
     ensures typ { TypInstanceExample }
+    ensures fixed { FixedTypExample }
 {}
 
 /// Maps are taken all at once, and keyed on a variable with its own type.
@@ -154,6 +165,7 @@ pub fn beta_example()
 pub fn eta_example()
     ensures eta { EtaExample }
     ensures long { LongFormExample }
+    ensures two_arrows { TwoArrowsExample }
 {}
 
 /// A term has one long form.
