@@ -14,7 +14,7 @@ use Rattle.pure_term.proofs.TypingLaws.{typed-once}
 use Rattle.pure_term.proofs.LiftLaws.{lift-lift, lifted, lift_term-bound}
 
 -- The first term reduces to the second by eta steps, by recursion on the first: its parts reduce, and then an abstraction may be contracted.
-data Contracts : Term → Term → Type 0 where
+pub data Contracts : Term → Term → Type 0 where
   constant : {c : ℕ} {T : Typ} → Contracts (Const c T) (Const c T)
   fixed : {x : ℕ} {T : Typ} → Contracts (Free x T) (Free x T)
   schematic : {x i : ℕ} {T : Typ} → Contracts (Var x i T) (Var x i T)
@@ -50,7 +50,7 @@ step-contracts (EtaStep.body s) (contracted h e) = contracted (step-contracts s 
 step-contracts (EtaStep.function s) (applied h k) = applied (step-contracts s h) k
 step-contracts (EtaStep.argument s) (applied h k) = applied h (step-contracts s k)
 
-reduces-contracts : {t u : Term} → EtaReduces t u → Contracts t u
+pub reduces-contracts : {t u : Term} → EtaReduces t u → Contracts t u
 reduces-contracts (EtaReduces.done {t = t}) = contracts-itself t
 reduces-contracts (EtaReduces.next s r) = step-contracts s (reduces-contracts r)
 

@@ -10,3 +10,4 @@ pub mod BetaLaws
 pub mod LiftLaws
 pub mod EtaLaws
 pub mod FaultLaws
+pub mod EtaNormalLaws

@@ -46,6 +46,10 @@ EndlessExample = IsBetaAnswer endless TooManySteps
 abbrev pub EtaExample : Type 0
 EtaExample = IsEtaNormalForm (Abs i (App f (Bound 0))) f × IsEtaNormal (Abs i (App (Bound 0) (Bound 0)))
 
+-- A term has at most one eta-normal form.
+abbrev pub OneEtaNormalForm : Type 0
+OneEtaNormalForm = (t u v : Term) → IsEtaNormalForm t u → IsEtaNormalForm t v → u ≡ v
+
 -- The long form of f is `%x. f x`, and so is its own; f isn't.
 abbrev pub LongFormExample : Type 0
 LongFormExample = IsLongForm f (Abs i (App f (Bound 0))) × IsLongForm (Abs i (App f (Bound 0))) (Abs i (App f (Bound 0))) × (¬ IsLongForm f f)

@@ -2,7 +2,7 @@
 ghost use Rattle.pure_term.specs.LawsTyping.{TypsAreLists, ListsAreTyps, TypTestIsEquality, TermTestIsEquality, SizeExample, LimitsExample, TypedTermHasOneType, TypedTermIsClosed, TypedOrAtFault, TypedIsNotAtFault, OnePlaceOfFault, FaultExample, TypingExample, NoTypeExample, LiftExample, LiftOfClosedTerm, SubstBoundExample, AbstractionExample, OccursExample, OccursInItself};
 ghost use Rattle.pure_term.specs.LawsOrder.{BelowExample, SortBelowExample, OfSortExample, WrongCountExample, UnevenIsNotCoregular, DeclaredClasses, DeclaredArities, CertifiedPartsExample, JoinedForkIsCoregular, CrossingIsNotCoregular, OpenForkIsNotCoregular, FallingIsNotCoregular, CertifiedExample, NotCertifiedExample, CertifiedImagesExample};
 ghost use Rattle.pure_term.specs.LawsSubst.{IdentityIsSortRespecting, IdentityIsTypeRespecting, IdentityChangesNoType, IdentityChangesNoTerm, EntriesRespectSorts, EntriesRespectTypes, EntriesKeepFixedTyps, EntriesKeepFixed, TermMapAlone, InstanceExample, TypInstanceExample, FixedTypExample, AllAtOnceExample, KeyedOnOwnTypeExample, SortRespectExample, TypeRespectExample};
-ghost use Rattle.pure_term.specs.LawsNormal.{NoStepExactlyWhereNormal, OneBetaSequence, OneBetaSequenceToNormal, EachTermHasBetaAnswer, OneBetaAnswer, BetaStepsExample, BetaAnswerExample, BetaNormalExample, EndlessExample, LargeExample, EtaExample, LongFormExample, TwoArrowsExample, OneLongForm};
+ghost use Rattle.pure_term.specs.LawsNormal.{NoStepExactlyWhereNormal, OneBetaSequence, OneBetaSequenceToNormal, EachTermHasBetaAnswer, OneBetaAnswer, BetaStepsExample, BetaAnswerExample, BetaNormalExample, EndlessExample, LargeExample, EtaExample, LongFormExample, TwoArrowsExample, OneLongForm, OneEtaNormalForm};
 
 /// The mutual list of types stands for a list.
 pub fn typs_are_lists()
@@ -166,6 +166,11 @@ pub fn eta_example()
     ensures eta { EtaExample }
     ensures long { LongFormExample }
     ensures two_arrows { TwoArrowsExample }
+{}
+
+/// A term has one eta-normal form.
+pub fn one_eta_normal_form()
+    ensures { OneEtaNormalForm }
 {}
 
 /// A term has one long form.
