@@ -1,0 +1,17 @@
+pub mod Lists
+pub mod Names
+pub mod Typ
+pub mod Term
+pub mod Order
+pub mod Typing
+pub mod Bounds
+pub mod Subst
+pub mod Decl
+pub mod Certified
+pub mod Beta
+pub mod Eta
+pub mod LawsExamples
+pub mod LawsTyping
+pub mod LawsSubst
+pub mod LawsOrder
+pub mod LawsNormal

@@ -1,0 +1,13 @@
+pub mod ListLaws
+pub mod EqualityLaws
+pub mod TypingLaws
+pub mod LimitLaws
+pub mod OrderLaws
+pub mod DeclLaws
+pub mod SubstLaws
+pub mod OrderExamples
+pub mod BetaLaws
+pub mod LiftLaws
+pub mod EtaLaws
+pub mod FaultLaws
+pub mod EtaNormalLaws
