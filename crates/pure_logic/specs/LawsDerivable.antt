@@ -15,9 +15,9 @@ PureIsContent = IsContent pure_content
 abbrev pub VariableIsProposition : Type 0
 VariableIsProposition = (name : ℕ) → IsProposition pure_content (proposition_variable name)
 
--- A chain of propositions whose conclusion is among its premises is derivable, over Pure's content and each above it.
+-- A chain of propositions whose conclusion is among its premises is derivable, over any content.
 abbrev pub ChainIsDerivable : Type 0
-ChainIsDerivable = (Q : Content) → IsBelow pure_content Q → (premises : List Term) (conclusion : Term) → Each (IsProposition Q) premises → IsIn conclusion premises
+ChainIsDerivable = (Q : Content) (premises : List Term) (conclusion : Term) → Each (IsProposition Q) premises → IsIn conclusion premises
     → IsDerivableAlone Q (chain premises conclusion)
 
 -- Pure's content is below itself.
@@ -26,7 +26,7 @@ PureIsBelowItself = IsBelow pure_content pure_content
 
 -- `A ==> A` and `A ==> B ==> A` are derivable.
 abbrev pub TrivialIsDerivable : Type 0
-TrivialIsDerivable = (Q : Content) → IsBelow pure_content Q → (A : Term) → IsProposition Q A → IsDerivableAlone Q (imp A A)
+TrivialIsDerivable = (Q : Content) (A : Term) → IsProposition Q A → IsDerivableAlone Q (imp A A)
 
 abbrev pub WeakenedIsDerivable : Type 0
-WeakenedIsDerivable = (Q : Content) → IsBelow pure_content Q → (A B : Term) → IsProposition Q A → IsProposition Q B → IsDerivableAlone Q (imp A (imp B A))
+WeakenedIsDerivable = (Q : Content) (A B : Term) → IsProposition Q A → IsProposition Q B → IsDerivableAlone Q (imp A (imp B A))
