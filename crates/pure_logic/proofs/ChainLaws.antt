@@ -1,0 +1,61 @@
+-- A chain of propositions whose conclusion is among its premises.
+use Rattle.std.proofs.Common.{◌≡◌, List, [], ◌∷◌, inl, inr, refl, cond, Bool, true, false}
+use Rattle.pure_term.specs.Lists.{IsIn, Each}
+use Rattle.pure_term.specs.Term.{Term, term_eq}
+use Rattle.pure_term.proofs.EqualityLaws.{term_eq-itself}
+use Rattle.pure_logic.specs.Connectives.{chain}
+use Rattle.pure_logic.specs.Content.{Content, IsProposition}
+use Rattle.pure_logic.specs.Tree.{Tree, Assume, ImpliesIntro, without, hyps_of, rests_of}
+use Rattle.pure_logic.specs.Concludes.{Concludes}
+use Rattle.pure_logic.specs.Derivable.{IsDerivableAlone}
+
+pub each-at : {A : Type 0} (P : A → Type 0) (x : A) (xs : List A) → Each P xs → IsIn x xs → P x
+each-at P x [] h m = absurd m
+each-at P x (y ∷ ys) h m = elim m [ inl e ↦ rw e h.0 | inr n ↦ each-at P x ys h.1 n ]
+
+pub each-without : (P : Term → Type 0) (A : Term) (hyps : List Term) → Each P hyps → Each P (without A hyps)
+each-without P A [] h = tt
+each-without P A (B ∷ Bs) h = by (term_eq A B) (each-without P A Bs h.1)
+  where
+    by : (b : Bool) → Each P (without A Bs) → Each P (cond b (without A Bs) (B ∷ without A Bs))
+    by true rest = rest
+    by false rest = (h.0, rest)
+
+-- Where all hypotheses are A, none is left without it.
+pub without-all : (A : Term) (hyps : List Term) → Each (λ B. B ≡ A) hyps → without A hyps ≡ []
+without-all A [] h = refl
+without-all A (B ∷ Bs) h = rw (h.0, term_eq-itself A) (without-all A Bs h.1)
+
+-- the tree that assumes the conclusion and introduces the premises, the last first
+abbrev pub chain_tree : List Term → Term → Tree
+chain_tree [] C = Assume C
+chain_tree (A ∷ As) C = ImpliesIntro A (chain_tree As C)
+
+pub chain_tree-concludes : (Q : Content) (As : List Term) (C : Term) → Each (IsProposition Q) As → IsProposition Q C → Concludes Q (chain_tree As C) (chain As C)
+chain_tree-concludes Q [] C h k = (k, refl)
+chain_tree-concludes Q (A ∷ As) C h k = (chain As C, chain_tree-concludes Q As C h.1 k, h.0, refl)
+
+chain_tree-assumes : (As : List Term) (C : Term) → Each (λ B. B ≡ C) (hyps_of (chain_tree As C))
+chain_tree-assumes [] C = (refl, tt)
+chain_tree-assumes (A ∷ As) C = each-without (λ B. B ≡ C) A (hyps_of (chain_tree As C)) (chain_tree-assumes As C)
+
+chain_tree-hyps : (As : List Term) (C : Term) → IsIn C As → hyps_of (chain_tree As C) ≡ []
+chain_tree-hyps [] C m = absurd m
+chain_tree-hyps (A ∷ As) C m = elim m [
+  | inl e ↦ rw (← e) (without-all C (hyps_of (chain_tree As C)) (chain_tree-assumes As C))
+  | inr n ↦ rw (chain_tree-hyps As C n) refl
+]
+
+chain_tree-rests : (As : List Term) (C : Term) → rests_of (chain_tree As C) ≡ []
+chain_tree-rests [] C = refl
+chain_tree-rests (A ∷ As) C = chain_tree-rests As C
+
+pub chain_is_derivable : (Q : Content) (As : List Term) (C : Term) → Each (IsProposition Q) As → IsIn C As → IsDerivableAlone Q (chain As C)
+chain_is_derivable Q As C h m = record {
+  tree = chain_tree As C;
+  conclusion = chain As C;
+  concludes = chain_tree-concludes Q As C h (each-at (IsProposition Q) C As h m);
+  under_pairs = refl;
+  hyps = rw (chain_tree-hyps As C m) tt;
+  rests = rw (chain_tree-rests As C) tt;
+}

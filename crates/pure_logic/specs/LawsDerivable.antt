@@ -1,0 +1,32 @@
+-- Laws of derivability from a content's axioms alone.
+use Rattle.std.specs.Prelude.{ℕ, List}
+use Rattle.pure_term.specs.Lists.{IsIn, Each}
+use Rattle.pure_term.specs.Term.{Term}
+use Rattle.pure_logic.specs.Connectives.{imp, chain}
+use Rattle.pure_logic.specs.Content.{Content, IsContent, IsBelow, IsProposition}
+use Rattle.pure_logic.specs.PureContent.{pure_content, proposition_variable}
+use Rattle.pure_logic.specs.Derivable.{IsDerivableAlone}
+
+-- Pure's own content is a content.
+abbrev pub PureIsContent : Type 0
+PureIsContent = IsContent pure_content
+
+-- A schematic variable of type prop is a proposition of Pure's content, whatever its name.
+abbrev pub VariableIsProposition : Type 0
+VariableIsProposition = (name : ℕ) → IsProposition pure_content (proposition_variable name)
+
+-- A chain of propositions whose conclusion is among its premises is derivable, over any content.
+abbrev pub ChainIsDerivable : Type 0
+ChainIsDerivable = (Q : Content) (premises : List Term) (conclusion : Term) → Each (IsProposition Q) premises → IsIn conclusion premises
+    → IsDerivableAlone Q (chain premises conclusion)
+
+-- Pure's content is below itself.
+abbrev pub PureIsBelowItself : Type 0
+PureIsBelowItself = IsBelow pure_content pure_content
+
+-- `A ==> A` and `A ==> B ==> A` are derivable.
+abbrev pub TrivialIsDerivable : Type 0
+TrivialIsDerivable = (Q : Content) (A : Term) → IsProposition Q A → IsDerivableAlone Q (imp A A)
+
+abbrev pub WeakenedIsDerivable : Type 0
+WeakenedIsDerivable = (Q : Content) (A B : Term) → IsProposition Q A → IsProposition Q B → IsDerivableAlone Q (imp A (imp B A))

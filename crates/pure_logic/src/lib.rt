@@ -1,0 +1,4 @@
+//! The logic: contents, derivation trees, and what is derivable.
+#![tactic(auto)]
+
+pub mod laws;
