@@ -11,6 +11,7 @@ use Rattle.pure_check.specs.declared.status.Status.TheVariants.{Clean, Rows, Usa
 use Rattle.pure_check.specs.Row.{Row, is_proved, table_text}
 use Rattle.pure_check.specs.Table.{FileRows, TableRows}
 use Rattle.pure_check.specs.Loaded.{IsRead, IsSource, IsLoaded, RowsOf, IsReadTable}
+use Rattle.pure_check.proofs.DerivedLemmas.{table_derived}
 use Rattle.pure_check.specs.Answer.{IsTableOf, Printed, CutShort, Wrote}
 
 pub printed_by : (loaded : List (List ℕ)) (source : Option (List ℕ)) (rows : List Row) (n : ℕ) (bytes : List ℕ) (clean : Bool) (old new : Option (List ℕ))
@@ -21,6 +22,7 @@ printed_by loaded source rows n bytes clean old new are count text clean_is appe
   rows = rows;
   table = (refl, are);
   clean_is = clean_is;
+  derived = table_derived source loaded rows are;
   written = subst (Appends old new) (text ∙ ap (λ k. table_text k rows) count) appended;
 }
 
@@ -36,8 +38,10 @@ cut_short_by loaded source rows n bytes old new are count text appended = record
 
 pub Wrote-weaker : (status : Status) (P Q : List (List ℕ) → List Row → Type 0) (old new : Option (List ℕ)) → ((theories : List (List ℕ)) (rows : List Row) → P theories rows → Q theories rows)
     → Wrote status P old new → Wrote status Q old new
-Wrote-weaker Clean P Q old new weaker w = record { theories = w.theories; rows = w.rows; table = weaker w.theories w.rows w.table; clean_is = w.clean_is; written = w.written }
-Wrote-weaker Rows P Q old new weaker w = record { theories = w.theories; rows = w.rows; table = weaker w.theories w.rows w.table; clean_is = w.clean_is; written = w.written }
+Wrote-weaker Clean P Q old new weaker w = record { theories = w.theories; rows = w.rows; table = weaker w.theories w.rows w.table; clean_is = w.clean_is;
+  derived = w.derived; written = w.written }
+Wrote-weaker Rows P Q old new weaker w = record { theories = w.theories; rows = w.rows; table = weaker w.theories w.rows w.table; clean_is = w.clean_is;
+  derived = w.derived; written = w.written }
 Wrote-weaker WriteFault P Q old new weaker w = record { theories = w.theories; rows = w.rows; table = weaker w.theories w.rows w.table; written = w.written }
 Wrote-weaker Usage P Q old new weaker w = w
 Wrote-weaker ReadFault P Q old new weaker w = w

@@ -1,11 +1,12 @@
 -- What the program answers, in its words, its files and what it writes.
 use Rattle.std.specs.Prelude.{◌≡◌, ℕ, Bool, true, false, List, [], ◌∷◌, length, codes, Option, Some, None}
-use Rattle.std.specs.List.{list_all}
+use Rattle.std.specs.List.{list_all, AllByRecursion}
 use Rattle.pure_first.specs.Token.{same}
 use Rattle.pure_io.specs.declared.library.File.{File}
 use Rattle.pure_io.specs.Outside.{Appends, AppendsProperPrefix}
 use Rattle.pure_check.specs.Row.{Row, is_proved, table_text}
 use Rattle.pure_check.specs.Table.{IsTable}
+use Rattle.pure_check.specs.Derived.{IsDerived}
 use Rattle.pure_check.specs.declared.status.Status.{Status}
 use Rattle.pure_check.specs.declared.status.Status.TheVariants.{Clean, Rows, Usage, ReadFault, WriteFault, Memory}
 
@@ -20,12 +21,14 @@ abbrev pub IsTableOf : Option (List File) → List (List ℕ) → List Row → T
 IsTableOf None theories rows = Unit {0}
 IsTableOf (Some files) theories rows = IsTable files theories rows
 
--- The whole text of such a table was written, and every row is declared or proved, or some row is neither.
+-- The whole text of such a table was written, and every row is declared or proved, or some row is neither. Each row that
+-- is proved is a theorem.
 pub record Printed (is_table : List (List ℕ) → List Row → Type 0) (clean : Bool) (old new : Option (List ℕ)) : Type 0 where
   pub theories : List (List ℕ)
   pub rows : List Row
   pub table : is_table theories rows
   pub clean_is : list_all is_proved rows ≡ clean
+  pub derived : AllByRecursion IsDerived rows
   pub written : Appends old new (table_text (length theories) rows)
 
 -- A proper part of such a text was written, from its beginning.
