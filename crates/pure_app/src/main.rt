@@ -90,5 +90,5 @@ fn main(rt: HostRuntime) -> ExitCode {
         // Where standard error can't be written to, the status still tells.
         let _ = eprintln!(rt; "{line}");
     }
-    ExitCode::from(status as u8)
+    ExitCode::from(status.number())
 }

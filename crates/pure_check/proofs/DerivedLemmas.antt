@@ -10,8 +10,7 @@ use Rattle.pure_logic.proofs.ChainLaws.{chain_is_derivable}
 use Rattle.pure_first.specs.Token.{same}
 use Rattle.pure_first.specs.Theory.{Lemma, IsFirstForm, is_by_assumption}
 use Rattle.pure_check.specs.Row.{Row, RefusedTheory, ProvedLemma, FailedLemma, lemma_row}
-use Rattle.pure_check.specs.Table.{FileRows, form_text}
-use Rattle.pure_check.specs.Loaded.{RowsOf}
+use Rattle.pure_check.specs.Table.{FileRows, RowsOf, form_text}
 use Rattle.pure_check.specs.Derived.{statement, IsDerived}
 
 among_or : (c p : List ℕ) (number : List ℕ → ℕ) (others : List Term) (b rest : Bool) → b ≡ same c p → (b || rest) ≡ true → (rest ≡ true → IsIn (proposition_variable (number c)) others)

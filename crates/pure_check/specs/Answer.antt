@@ -5,7 +5,7 @@ use Rattle.pure_first.specs.Token.{same}
 use Rattle.pure_io.specs.declared.library.File.{File}
 use Rattle.pure_io.specs.Outside.{Appends, AppendsProperPrefix}
 use Rattle.pure_check.specs.Row.{Row, is_proved, table_text}
-use Rattle.pure_check.specs.Table.{IsTable}
+use Rattle.pure_check.specs.Table.{IsTable, IsSomeTable}
 use Rattle.pure_check.specs.Derived.{IsDerived}
 use Rattle.pure_check.specs.declared.status.Status.{Status}
 use Rattle.pure_check.specs.declared.status.Status.TheVariants.{Clean, Rows, Usage, ReadFault, WriteFault, Memory}
@@ -16,9 +16,9 @@ takes_words [] = true
 takes_words (word ∷ []) = same word (codes "check")
 takes_words (word ∷ other ∷ words) = false
 
--- where the files are told, these are their theories and rows
+-- Where the files are told, these are their theories and rows; else they are those of what was answered and read.
 abbrev pub IsTableOf : Option (List File) → List (List ℕ) → List Row → Type 0
-IsTableOf None theories rows = Unit {0}
+IsTableOf None theories rows = IsSomeTable theories rows
 IsTableOf (Some files) theories rows = IsTable files theories rows
 
 -- The whole text of such a table was written, and every row is declared or proved, or some row is neither. Each row that
@@ -64,3 +64,21 @@ IsPrinted WriteFault = Unit {0}
 IsPrinted Memory = Unit {0}
 IsPrinted Usage = ⊥
 IsPrinted ReadFault = ⊥
+
+-- a fact for the statuses with which nothing was written
+abbrev pub OnSilent : Status → Type 0 → Type 0
+OnSilent Clean P = Unit {0}
+OnSilent Rows P = Unit {0}
+OnSilent WriteFault P = Unit {0}
+OnSilent Usage P = P
+OnSilent ReadFault P = P
+OnSilent Memory P = P
+
+-- the status as the program's exit status
+abbrev pub exit_number : Status → ℕ
+exit_number Clean = 0
+exit_number Rows = 1
+exit_number Usage = 2
+exit_number ReadFault = 3
+exit_number WriteFault = 4
+exit_number Memory = 5
