@@ -69,7 +69,7 @@ ascending_once (x ∷ xs) (y ∷ ys) a b have =
 
 file_rows_once : (theory : List ℕ) (told : Option (List ℕ)) (rows others : List Row) → FileRows theory told rows → FileRows theory told others → rows ≡ others
 file_rows_once theory None rows others a b = a ∙ sym b
-file_rows_once theory (Some bytes) rows others (inl (ls, form, is)) (inl (ms, form', is')) = is ∙ ap (map (lemma_row theory)) (theory_once theory bytes ls ms form form') ∙ sym is'
+file_rows_once theory (Some bytes) rows others (inl (ls, form, is)) (inl (ms, form', is')) = is ∙ ap (map (lemma_row theory)) (theory_once theory theory bytes ls ms form form').1 ∙ sym is'
 file_rows_once theory (Some bytes) rows others (inl (ls, form, is)) (inr (none, is')) = absurd (none ls form)
 file_rows_once theory (Some bytes) rows others (inr (none, is)) (inl (ms, form', is')) = absurd (none ms form')
 file_rows_once theory (Some bytes) rows others (inr (none, is)) (inr (none', is')) = is ∙ sym is'
