@@ -1,3 +1,5 @@
 pub mod ChainLaws
 pub mod ConnectiveLaws
 pub mod ContentLaws
+pub mod ConclusionLaws
+pub mod AboveLaws
