@@ -1,12 +1,12 @@
 -- What is certified over a content is certified over each content above it.
-use Rattle.std.proofs.Common.{◌≡◌, ℕ, List, [], ◌∷◌, inl, inr}
+use Rattle.std.proofs.Common.{ℕ, List, [], ◌∷◌, inl, inr}
 use Rattle.pure_term.specs.Lists.{IsIn, Each, AnyOf}
 use Rattle.pure_term.specs.Typ.{Typ, TFree, TVar, Con, Typs, none, also, typs_count}
 use Rattle.pure_term.specs.Term.{Term, Const, Free, Var, Bound, Abs, App}
-use Rattle.pure_term.specs.Order.{Class, Arity, Algebra, IsInclusion, IsClassBelow, itself, along, HasClassBelow, IsOfClass, AreOfSorts, IsOfSort}
+use Rattle.pure_term.specs.Order.{IsInclusion, IsClassBelow, itself, along, HasClassBelow, IsOfClass, AreOfSorts, IsOfSort}
 use Rattle.pure_term.specs.Subst.{IsSortRespecting}
-use Rattle.pure_term.specs.Decl.{Decl, ClassDecl, ConDecl, ArityDecl, ConstDecl, algebra_of, classes_of, arities_of, IsDeclaredClass}
-use Rattle.pure_term.specs.Certified.{IsCertifiedSort, IsCertifiedTyp, AreCertifiedTyps, IsInstance, IsCertifiedConst, HasCertifiedParts, IsCertified}
+use Rattle.pure_term.specs.Decl.{Decl, ClassDecl, ConDecl, ArityDecl, ConstDecl, algebra_of, IsDeclaredClass}
+use Rattle.pure_term.specs.Certified.{IsCertifiedSort, IsCertifiedTyp, AreCertifiedTyps, IsInstance, HasCertifiedParts}
 use Rattle.pure_term.proofs.DeclLaws.{declared_classes, declared_arities}
 use Rattle.pure_logic.specs.Content.{Content, IsBelow, IsCertifiedOf}
 

@@ -1,5 +1,5 @@
 -- A tree concludes one proposition at most.
-use Rattle.std.proofs.Common.{◌≡◌, ℕ, [], ap, refl, sym, ◌∙◌}
+use Rattle.std.proofs.Common.{◌≡◌, [], ap, refl, sym, ◌∙◌}
 use Rattle.pure_term.specs.Typ.{Typ, arrow}
 use Rattle.pure_term.specs.Term.{Term}
 use Rattle.pure_term.specs.Bounds.{subst_bound, abstract_over}

@@ -3,3 +3,5 @@ pub mod ConnectiveLaws
 pub mod ContentLaws
 pub mod ConclusionLaws
 pub mod AboveLaws
+pub mod KnownLaws
+pub mod WeakeningLaws

@@ -104,8 +104,9 @@ IsMergeAfter before (Q ∷ Qs) merged = (after : List Decl) × IsAdded before Q.
 abbrev pub IsMerge : (parents : List Content) → (merged : List Decl) → Type 0
 IsMerge parents merged = IsMergeAfter [] parents merged
 
--- The content with which a theory begins, over the contents of its parents: their merge. Its ancestors are the parents' theories and the parents' ancestors.
+-- The content with which a theory begins, over the contents of its parents, of which there is one at least: their merge. Its ancestors are the parents' theories and the parents' ancestors.
 pub record IsBeginning (theory : TheoryId) (parents : List Content) (Q : Content) : Type 0 where
+  pub some_parent : ¬ (parents ≡ [])
   pub merge : IsMerge parents Q.declarations
   pub own : Q.own ≡ Some theory
   pub ancestors : (t : TheoryId) → IsIn t Q.ancestors ↔ AnyOf (λ P. (P.own ≡ Some t) ⊎ IsIn t P.ancestors) parents

@@ -24,3 +24,9 @@ pub fn chain_is_derivable()
 pub fn one_conclusion()
     ensures { OneConclusion }
 {}
+
+/// What is concluded or derivable over a content is so over each content above it.
+pub fn weakening()
+    ensures trees { WeakeningOfTrees }
+    ensures derivable { WeakeningOfDerivable }
+{}
