@@ -1,17 +1,15 @@
 -- Which declarations make a content, tested; and Pure's own content.
-use Rattle.std.proofs.Common.{◌≡◌, ℕ, List, [], ◌∷◌, inl, inr, refl, Bool, true, false, not, ◌&&◌, ◌||◌, nat_eq}
+use Rattle.std.proofs.Common.{◌≡◌, List, [], ◌∷◌, inl, inr, refl, Bool, true, false, not, ◌&&◌, ◌||◌, nat_eq}
 use Rattle.std.proofs.lemmas.Bool.{eq-eqb}
 use Rattle.std.specs.Cmp.{first_so, second_so}
 use Rattle.std.specs.List.{list_all}
 use Rattle.pure_term.specs.Lists.{IsIn}
-use Rattle.pure_term.specs.Names.{Label}
 use Rattle.pure_term.specs.Typ.{prop}
-use Rattle.pure_term.specs.Term.{Term}
 use Rattle.pure_term.specs.Decl.{Decl, ClassDecl, ConDecl, ConstDecl, AxiomDecl, PromiseDecl}
 use Rattle.pure_term.specs.Certified.{HasCertifiedParts}
-use Rattle.pure_logic.specs.Connectives.{protect}
-use Rattle.pure_logic.specs.Content.{IsStatement, AreNamedAlike, AreLabelledAlike, IsContent}
-use Rattle.pure_logic.specs.PureContent.{pure_content, pure_declarations, proposition_variable, protect_axiom}
+use Rattle.pure_logic.specs.Connectives.{all_typ, imp_typ, eq_typ, protect_typ, protect}
+use Rattle.pure_logic.specs.Content.{IsSchematicTyp, IsStatement, AreNamedAlike, AreLabelledAlike, IsContent}
+use Rattle.pure_logic.specs.PureContent.{any_typ, pure_content, pure_declarations, proposition_variable, protect_axiom}
 use Rattle.pure_logic.proofs.ConnectiveLaws.{pure-below_itself, certified_of, prop-certified, eq-parts, protect-parts}
 
 -- whether two declarations are of one kind and have one name
@@ -91,31 +89,22 @@ protect_is_statement = record {
     variable : HasCertifiedParts pure_declarations (proposition_variable 0)
     variable = prop-certified pure_content pure-below_itself
 
-only_axiom : (name : ℕ) (A : Term) → IsIn (AxiomDecl name A) pure_declarations → A ≡ protect_axiom
-only_axiom name A (inl e) = absurd (cc)
-only_axiom name A (inr (inl e)) = absurd (cc)
-only_axiom name A (inr (inr (inl e))) = absurd (cc)
-only_axiom name A (inr (inr (inr (inl e)))) = absurd (cc)
-only_axiom name A (inr (inr (inr (inr (inl e))))) = absurd (cc)
-only_axiom name A (inr (inr (inr (inr (inr (inl e)))))) = absurd (cc)
-only_axiom name A (inr (inr (inr (inr (inr (inr (inl e))))))) = cc
-only_axiom name A (inr (inr (inr (inr (inr (inr (inr e))))))) = absurd e
-
 pub pure_is_content : IsContent pure_content
 pure_is_content = record {
   named_once = apart-once AreNamedAlike named_alike named_alike-so pure_declarations refl;
   labelled_once = apart-once AreLabelledAlike both_promises both_promises-so pure_declarations refl;
-  axioms = λ name A m. rw (only_axiom name A m) protect_is_statement;
-  promises = no_promise;
+  well_formed = (tt, (tt, (all_schematic, (imp_schematic, (eq_schematic, (protect_schematic, (protect_is_statement, tt)))))));
   coregular = λ a b m. absurd m;
 }
   where
-    no_promise : (name : ℕ) (label : Label) (A : Term) → IsIn (PromiseDecl name label A) pure_declarations → IsStatement pure_content A
-    no_promise name label A (inl e) = absurd (cc)
-    no_promise name label A (inr (inl e)) = absurd (cc)
-    no_promise name label A (inr (inr (inl e))) = absurd (cc)
-    no_promise name label A (inr (inr (inr (inl e)))) = absurd (cc)
-    no_promise name label A (inr (inr (inr (inr (inl e))))) = absurd (cc)
-    no_promise name label A (inr (inr (inr (inr (inr (inl e)))))) = absurd (cc)
-    no_promise name label A (inr (inr (inr (inr (inr (inr (inl e))))))) = absurd (cc)
-    no_promise name label A (inr (inr (inr (inr (inr (inr (inr e))))))) = absurd e
+    all_schematic : IsSchematicTyp (all_typ any_typ)
+    all_schematic = ((tt, (tt, tt)), (tt, tt))
+
+    imp_schematic : IsSchematicTyp imp_typ
+    imp_schematic = (tt, ((tt, (tt, tt)), tt))
+
+    eq_schematic : IsSchematicTyp (eq_typ any_typ)
+    eq_schematic = (tt, ((tt, (tt, tt)), tt))
+
+    protect_schematic : IsSchematicTyp protect_typ
+    protect_schematic = (tt, (tt, tt))

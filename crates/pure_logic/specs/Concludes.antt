@@ -27,6 +27,10 @@ IsVariable _ = ⊥
 abbrev pub IsFresh : (variable : Term) → (hyps : List Term) → Type 0
 IsFresh x hyps = Each (λ A. ¬ Occurs x A) hyps
 
+-- `(!!x. f x == g x) ==> f == g`, for functions from T to U without loose bound variables, which stand under the binder as they are
+abbrev pub extensionality : (T U : Typ) → (f g : Term) → Term
+extensionality T U f g = imp (all T (eq U (App f (Bound 0)) (App g (Bound 0)))) (eq (arrow T U) f g)
+
 -- The tree concludes the proposition, from its hypotheses. Each term in it is certified over the content. In the figures H and K are the hypotheses of the trees above the line; a tree whose side condition fails concludes nothing.
 abbrev pub Concludes : Content → Tree → Term → Type 0
 -- ------- A an axiom of the content, both maps respecting
@@ -67,11 +71,9 @@ Concludes Q (Refl t) C = (T : Typ) × IsCertifiedOf Q t T × (C ≡ eq T t t)
 Concludes Q (Subst abstraction x y) C =
     (T : Typ) × (B : Term) × (abstraction ≡ Abs T B) × IsCertifiedOf Q abstraction (arrow T prop) × IsCertifiedOf Q x T × IsCertifiedOf Q y T
     × (C ≡ imp (eq T x y) (imp (subst_bound B x) (subst_bound B y)))
--- ------------------------------- f and g of one type of functions; being closed, they stand under the binder as they are
+-- ------------------------------- f and g of one type of functions
 --  |- (!!x. f x == g x) ==> f == g
-Concludes Q (Ext f g) C =
-    (T U : Typ) × IsCertifiedOf Q f (arrow T U) × IsCertifiedOf Q g (arrow T U)
-    × (C ≡ imp (all T (eq U (App f (Bound 0)) (App g (Bound 0)))) (eq (arrow T U) f g))
+Concludes Q (Ext f g) C = (T U : Typ) × IsCertifiedOf Q f (arrow T U) × IsCertifiedOf Q g (arrow T U) × (C ≡ extensionality T U f g)
 -- ---------------------------------------- A and B of type prop
 --  |- (A ==> B) ==> (B ==> A) ==> A == B
 Concludes Q (Iff A B) C = IsProposition Q A × IsProposition Q B × (C ≡ imp (imp A B) (imp (imp B A) (eq prop A B)))

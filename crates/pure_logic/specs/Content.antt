@@ -1,7 +1,6 @@
 -- Contents of theories (Isabelle/Isar Implementation manual, sections 2.1 to 2.3): what is declared, and nothing of how.
 use Rattle.std.specs.Prelude.{◌≡◌, ◌↔◌, ◌⊎◌, ℕ, List, [], ◌∷◌, ◌++◌, Option, Some}
-use Rattle.pure_term.specs.Lists.{IsIn, AnyOf}
-use Rattle.pure_term.specs.Names.{Label}
+use Rattle.pure_term.specs.Lists.{IsIn, Each, AnyOf}
 use Rattle.pure_term.specs.Typ.{Typ, TFree, TVar, Con, Typs, none, also, prop}
 use Rattle.pure_term.specs.Term.{Term, Const, Free, Var, Bound, Abs, App}
 use Rattle.pure_term.specs.Typing.{HasType}
@@ -72,12 +71,19 @@ abbrev pub AreLabelledAlike : Decl → Decl → Type 0
 AreLabelledAlike (PromiseDecl x l A) (PromiseDecl y m B) = l ≡ m
 AreLabelledAlike _ _ = ⊥
 
--- The declarations make a content. Two of one kind with one name are the same, and so are two promises with one label; axioms and promises state propositions without fixed variables and fixed type variables; and the arities are coregular.
+-- What is declared is well formed: a constant's type has no fixed type variable, and an axiom or a promise states a proposition without fixed variables and fixed type variables.
+-- A constant's type may have constructors that aren't declared; no term with such a constant is certified.
+abbrev pub IsWellFormed : Content → Decl → Type 0
+IsWellFormed Q (ConstDecl c T) = IsSchematicTyp T
+IsWellFormed Q (AxiomDecl x A) = IsStatement Q A
+IsWellFormed Q (PromiseDecl x l A) = IsStatement Q A
+IsWellFormed Q _ = Unit {0}
+
+-- The declarations make a content. Two of one kind with one name are the same, and so are two promises with one label; each is well formed; and the arities are coregular.
 pub record IsContent (Q : Content) : Type 0 where
   pub named_once : (d e : Decl) → IsIn d Q.declarations → IsIn e Q.declarations → AreNamedAlike d e → d ≡ e
   pub labelled_once : (d e : Decl) → IsIn d Q.declarations → IsIn e Q.declarations → AreLabelledAlike d e → d ≡ e
-  pub axioms : (name : ℕ) (A : Term) → IsIn (AxiomDecl name A) Q.declarations → IsStatement Q A
-  pub promises : (name : ℕ) (label : Label) (A : Term) → IsIn (PromiseDecl name label A) Q.declarations → IsStatement Q A
+  pub well_formed : Each (IsWellFormed Q) Q.declarations
   pub coregular : IsCoregular (algebra_of Q.declarations)
 
 -- Q is below R: each declaration of Q, with all its data, is one of R.
@@ -98,8 +104,9 @@ IsMergeAfter before (Q ∷ Qs) merged = (after : List Decl) × IsAdded before Q.
 abbrev pub IsMerge : (parents : List Content) → (merged : List Decl) → Type 0
 IsMerge parents merged = IsMergeAfter [] parents merged
 
--- The content with which a theory begins, over the contents of its parents: their merge. Its ancestors are the parents' theories and the parents' ancestors.
+-- The content with which a theory begins, over the contents of its parents, of which there is one at least: their merge. Its ancestors are the parents' theories and the parents' ancestors.
 pub record IsBeginning (theory : TheoryId) (parents : List Content) (Q : Content) : Type 0 where
+  pub some_parent : ¬ (parents ≡ [])
   pub merge : IsMerge parents Q.declarations
   pub own : Q.own ≡ Some theory
   pub ancestors : (t : TheoryId) → IsIn t Q.ancestors ↔ AnyOf (λ P. (P.own ≡ Some t) ⊎ IsIn t P.ancestors) parents

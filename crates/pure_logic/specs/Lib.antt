@@ -5,3 +5,4 @@ pub mod Tree
 pub mod Concludes
 pub mod Derivable
 pub mod LawsDerivable
+pub mod LawsTree
