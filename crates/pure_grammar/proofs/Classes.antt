@@ -172,6 +172,12 @@ kind_of-group Quote p = refl
 kind_of-group Symbol p = refl
 kind_of-group End p = refl
 
+-- the other groups have one kind each
+pub same_kind : (k l : TokenKind) → 0 < group l → group k ≡ group l → k ≡ l
+same_kind k l above groups =
+    let other : 0 < group k = omega (arith, groups) in
+    sym (kind_of-group k other) ∙ (ap kind_of groups ∙ kind_of-group l above)
+
 -- the kind of a text of name bytes by whether it is a keyword, and of another one `Qualified`
 name_kind : List ℕ → TokenKind
 name_kind bs = if is_empty (behind is_name_byte bs) then (if is_keyword bs then Word else Ident) else Qualified

@@ -41,7 +41,7 @@ comment-some text at len within x =
     (omega arith, omega arith)
 
 gap-at : (text : List ℕ) (at : ℕ) → at ≤ length text → Gap (take at text) → IsSettled (drop at text) → IsGap text at
-gap-at text at within gap settled = record { here = take at text; rest = drop at text; cut = cut text at within; blank = gap; settled = settled }
+gap-at text at within gap settled = record { within = within; blank = gap; settled = settled }
 
 pub gap-all : (text : List ℕ) (at : ℕ) → at ≤ length text → length text ≤ at → Gap (take at text) → IsGap text at
 gap-all text at within past gap =

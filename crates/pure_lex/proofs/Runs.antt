@@ -18,7 +18,7 @@ head_is-drop test text i within stops = elim (cases_lt i (length text)) [
 
 pub run : (test : ℕ → Bool) (text : List ℕ) (i : ℕ) → i ≤ length text → list_all test (take i text) ≡ true → (i < length text → test (get_or text i 0) ≡ false) → IsRun test text i
 run test text i within all stops = record {
-  here = take i text; rest = drop i text; cut = cut text i within; all = all; next = head_is-drop test text i within stops
+  within = within; all = all; next = head_is-drop test text i within stops
 }
 
 pub run_all : (test : ℕ → Bool) (text : List ℕ) (i : ℕ) → length text ≤ i → list_all test (take i text) ≡ true → IsRun test text (length text)
@@ -30,6 +30,6 @@ run_all test text i past all =
 
 pub digits : (text : List ℕ) (i : ℕ) → i ≤ length text → i ≤ 9 → list_all is_digit (take i text) ≡ true → (i < 9 → i < length text → is_digit (get_or text i 0) ≡ false) → IsDigits text i
 digits text i within bound all stops = record {
-  here = take i text; rest = drop i text; cut = cut text i within; all = all; bound = bound;
+  within = within; all = all; bound = bound;
   next = λ few. head_is-drop is_digit text i within (stops few)
 }

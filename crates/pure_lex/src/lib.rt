@@ -2,6 +2,8 @@
 #![tactic(auto)]
 
 mod bytes;
+mod front;
 mod gaps;
+mod names;
 
 pub use pure_grammar::{Token, TokenKind};
