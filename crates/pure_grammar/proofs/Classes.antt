@@ -135,7 +135,8 @@ class-blank b p = elim (or_cases (b == 32) ((b == 9) || ((b == 13) || (b == 10))
   ]
 ]
 
-small : (kind : TokenKind) → group kind ≡ 8 → ⊥
+-- the kinds have smaller groups than the bytes that begin no token
+pub small : (kind : TokenKind) → group kind ≡ 8 → ⊥
 small Word e = omega arith
 small Ident e = omega arith
 small Qualified e = omega arith

@@ -31,7 +31,7 @@ no_comment kind [] rest p other = absurd (token-nothing kind p)
 no_comment kind (b ∷ here) rest p other = no_comment-class b (here ++ rest) (λ h. other (sym (class-token kind b here p) ∙ h))
 
 -- a longer token of any kind has the group of the shorter one
-group-longer : (kind other : TokenKind) (here more : List ℕ) → is_token kind here ≡ true → is_token other (here ++ more) ≡ true → group other ≡ group kind
+pub group-longer : (kind other : TokenKind) (here more : List ℕ) → is_token kind here ≡ true → is_token other (here ++ more) ≡ true → group other ≡ group kind
 group-longer kind other [] more p q = absurd (token-nothing kind p)
 group-longer kind other (b ∷ here) more p q = sym (class-token other b (here ++ more) q) ∙ class-token kind b here p
 

@@ -5,3 +5,4 @@ pub mod Longest
 pub mod Firsts
 pub mod NameFronts
 pub mod MarkFronts
+pub mod OtherFronts

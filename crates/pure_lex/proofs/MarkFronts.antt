@@ -27,7 +27,7 @@ digit-zero : is_digit 0 ≡ false
 unfolding is_digit
 digit-zero = refl
 
-head_is-get : (test : ℕ → Bool) (text : List ℕ) → test 0 ≡ false → test (get_or text 0 0) ≡ head_is test text
+pub head_is-get : (test : ℕ → Bool) (text : List ℕ) → test 0 ≡ false → test (get_or text 0 0) ≡ head_is test text
 head_is-get test [] p = p
 head_is-get test (b ∷ text) p = refl
 
@@ -49,7 +49,7 @@ pub first-cons : (text : List ℕ) (b : ℕ) → 0 < b → get_or text 0 0 ≡ b
 first-cons [] b some e = absurd (omega arith)
 first-cons (c ∷ text) b some e = ap (λ x. x ∷ text) e
 
-cut-mark : (mark len : ℕ) (text name here rest : List ℕ) → text ≡ mark ∷ name → IsCut name here rest len → IsCut text (mark ∷ here) rest (len + 1)
+pub cut-mark : (mark len : ℕ) (text name here rest : List ℕ) → text ≡ mark ∷ name → IsCut name here rest len → IsCut text (mark ∷ here) rest (len + 1)
 cut-mark mark len text name here rest e c =
     let parts : text ≡ mark ∷ (here ++ rest) = e ∙ ap (λ bs. mark ∷ bs) c.parts in
     let whole : length text ≡ suc (length name) = ap length e in
@@ -89,7 +89,7 @@ type_variable-fault text len e letter r long =
     })
 
 -- a fault where no token of this kind begins
-no_first-text : (text bytes : List ℕ) → text ≡ bytes → HasNoFirst bytes → IsFault text 0
+pub no_first-text : (text bytes : List ℕ) → text ≡ bytes → HasNoFirst bytes → IsFault text 0
 no_first-text text bytes e none = let h : HasNoFirst text = rw e none in inl (h, refl)
 
 pub type_variable-none : (text : List ℕ) → text ≡ 39 ∷ drop 1 text → head_is is_letter (drop 1 text) ≡ false → IsFault text 0

@@ -1,9 +1,9 @@
 -- What stands at the front of a text.
 use Rattle.std.specs.Prelude.{◌≡◌, ℕ, ◌<◌, ◌≤◌, Bool, true, false, ◌||◌, ◌==◌, List, [], ◌∷◌, ◌++◌, take, drop, length, if◌then◌else◌, None, Result, MatchResult}
 use Rattle.std.specs.List.{list_all}
-use Rattle.pure_grammar.specs.Bytes.{head_is, is_digit, is_empty, marked}
+use Rattle.pure_grammar.specs.Bytes.{head_is, is_letter, is_digit, is_empty, marked}
 use Rattle.pure_grammar.specs.Comment.{Gap, IsSettled, is_comment}
-use Rattle.pure_grammar.specs.Token.{long_identifier, is_number, is_keyword}
+use Rattle.pure_grammar.specs.Token.{is_single, is_pair, is_triple, long_identifier, is_number, is_keyword}
 use Rattle.pure_grammar.specs.Spelling.{IsFirst, IsFault}
 use Rattle.pure_grammar.specs.declared.token.TokenKind.{TokenKind}
 use Rattle.pure_grammar.specs.declared.token.TokenKind.TheVariants.{Word, Ident}
@@ -70,6 +70,14 @@ pub record IsTaken (text : List ℕ) (kind : TokenKind) (len : ℕ) : Type 0 whe
 -- the kind of a spelling
 abbrev pub name_kind : List ℕ → TokenKind
 name_kind name = if is_keyword name then Word else Ident
+
+-- a name, a number or a quoted text may begin with this byte
+abbrev pub begins_other : ℕ → Bool
+begins_other b = is_letter b || (is_digit b || ((b == 39) || ((b == 63) || ((b == 95) || (b == 34)))))
+
+-- how many of these three bytes are the longest symbol, 0 standing for the end of the text
+abbrev pub symbol_length : ℕ → ℕ → ℕ → ℕ
+symbol_length b c d = if is_triple b c d then 3 else (if is_pair b c then 2 else (if is_single b then 1 else 0))
 
 -- the text begins with the mark of a schematic variable, alone or with that of a type variable, and this many marks
 pub data HasMarks : List ℕ → ℕ → Type 0 where

@@ -2,6 +2,7 @@
 #![tactic(auto)]
 
 mod bytes;
+mod first;
 mod front;
 mod gaps;
 mod names;
