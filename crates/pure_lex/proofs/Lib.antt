@@ -6,3 +6,4 @@ pub mod Firsts
 pub mod NameFronts
 pub mod MarkFronts
 pub mod OtherFronts
+pub mod Steps

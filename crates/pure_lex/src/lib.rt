@@ -5,6 +5,10 @@ mod bytes;
 mod first;
 mod front;
 mod gaps;
+mod lines;
 mod names;
+mod reading;
 
+pub use lines::line_col;
 pub use pure_grammar::{Token, TokenKind};
+pub use reading::{LexFault, tokens};
