@@ -1,12 +1,10 @@
 -- Where a comment ends.
-use Rattle.std.proofs.Common.{◌≡◌, ℕ, zero, suc, ◌+◌, ◌-◌, ◌<◌, ◌≤◌, Bool, true, false, cond, List, [], ◌∷◌, ◌++◌, length, get_or, take, drop, refl, sym, ap, ◌∙◌, ◌==◌, ◌⊎◌, inl, inr, arith, drop-cons, Option, Some, None, if◌then◌else◌}
-use Rattle.std.proofs.lemmas.Bool.{cases_Bool, cases_lt, both_ways, and_parts, eqb-true, false_from_ne_true, false≢true}
-use Rattle.std.proofs.lemmas.List.{append-nil, append_cancel_left, length-drop}
-use Rattle.pure_grammar.specs.Bytes.{is_empty, head_is, marked, is_blank}
-use Rattle.pure_grammar.specs.Comment.{is_opening, is_closing, closes, is_comment, opens_comment, Gap}
-use Rattle.pure_grammar.proofs.Fronts.{marked-is}
+use Rattle.std.proofs.Common.{◌≡◌, ℕ, zero, suc, ◌+◌, ◌-◌, ◌<◌, ◌≤◌, true, false, List, [], ◌∷◌, ◌++◌, length, get_or, drop, refl, sym, ap, ◌∙◌, ◌==◌, inl, inr, arith, drop-cons, Option, Some, None, if◌then◌else◌}
+use Rattle.std.proofs.lemmas.Bool.{cases_Bool, and_parts, eqb-true, false_from_ne_true, false≢true}
+use Rattle.std.proofs.lemmas.List.{length-drop}
+use Rattle.pure_grammar.specs.Comment.{is_opening, is_closing, closes, is_comment, opens_comment}
 use Rattle.pure_grammar.proofs.Gaps.{opened, empty_is}
-use Rattle.pure_lex.specs.Fronts.{IsCut, IsComment, HasNoComment}
+use Rattle.pure_lex.specs.Fronts.{IsComment, HasNoComment}
 
 -- the place behind the bytes that close `depth` comments, `bytes` being read from the place `at` on
 abbrev pub comment_end : ℕ → ℕ → List ℕ → Option ℕ
@@ -47,20 +45,23 @@ closed zero at end bs e = let same : end ≡ at = cc in
 closed (suc depth) at end [] e = cc
 closed (suc depth) at end (b ∷ []) e = cc
 closed (suc depth) at end (b ∷ c ∷ bs) e = elim (cases_Bool (is_opening b c)) [
-      inl opening ↦ closed-two (suc depth) (suc (suc depth)) at end b c bs (λ here h. rw opening h)
-        (closed (suc (suc depth)) (at + 2) end bs (rw opening at e))
-    | inr none ↦ elim (cases_Bool (is_closing b c)) [
-        inl closing ↦ closed-two (suc depth) depth at end b c bs (λ here h. rw (none, closing) h)
-          (closed depth (at + 2) end bs (rw (none, closing) at e))
-      | inr other ↦ (let x = closed (suc depth) (at + 1) end (c ∷ bs) (rw (none, other) at e) in
-          let text : c ∷ bs ≡ x.here ++ x.rest = x.text in
-          let ends = x.ends in
-          record {
-            here = b ∷ x.here; rest = x.rest; text = cc; ends = omega arith;
-            closes_all = closes-longer depth b c x.here x.rest bs text none other x.closes_all
-          })
-      ]
-    ]
+  | inl opening ↦ closed-two (suc depth) (suc (suc depth)) at end b c bs (λ here h. rw opening h)
+      (closed (suc (suc depth)) (at + 2) end bs (rw opening at e))
+  | inr none ↦ elim (cases_Bool (is_closing b c)) [
+    | inl closing ↦ closed-two (suc depth) depth at end b c bs (λ here h. rw (none, closing) h)
+        (closed depth (at + 2) end bs (rw (none, closing) at e))
+    | inr other ↦ (let x = closed (suc depth) (at + 1) end (c ∷ bs) (rw (none, other) at e) in
+        let text : c ∷ bs ≡ x.here ++ x.rest = x.text in
+        let ends = x.ends in
+        record {
+          here = b ∷ x.here;
+          rest = x.rest;
+          text = cc;
+          ends = omega arith;
+          closes_all = closes-longer depth b c x.here x.rest bs text none other x.closes_all;
+        })
+  ]
+]
 
 pub comment_end-closes : (depth at : ℕ) (here rest : List ℕ) → closes depth here ≡ true → comment_end depth at (here ++ rest) ≡ Some (at + length here)
 comment_end-closes zero at here rest p =
@@ -70,15 +71,15 @@ comment_end-closes zero at here rest p =
 comment_end-closes (suc depth) at [] rest p = cc
 comment_end-closes (suc depth) at (b ∷ []) rest p = cc
 comment_end-closes (suc depth) at (b ∷ c ∷ here) rest p = elim (cases_Bool (is_opening b c)) [
-      inl opening ↦ (let place : (at + 2) + length here ≡ at + length (b ∷ c ∷ here) = omega arith in
-        rw opening (comment_end-closes (suc (suc depth)) (at + 2) here rest (rw opening at p) ∙ ap Some place))
-    | inr none ↦ elim (cases_Bool (is_closing b c)) [
-        inl closing ↦ (let place : (at + 2) + length here ≡ at + length (b ∷ c ∷ here) = omega arith in
-          rw (none, closing) (comment_end-closes depth (at + 2) here rest (rw (none, closing) at p) ∙ ap Some place))
-      | inr other ↦ (let place : (at + 1) + length (c ∷ here) ≡ at + length (b ∷ c ∷ here) = omega arith in
-          rw (none, other) (comment_end-closes (suc depth) (at + 1) (c ∷ here) rest (rw (none, other) at p) ∙ ap Some place))
-      ]
-    ]
+  | inl opening ↦ (let place : (at + 2) + length here ≡ at + length (b ∷ c ∷ here) = omega arith in
+      rw opening (comment_end-closes (suc (suc depth)) (at + 2) here rest (rw opening at p) ∙ ap Some place))
+  | inr none ↦ elim (cases_Bool (is_closing b c)) [
+    | inl closing ↦ (let place : (at + 2) + length here ≡ at + length (b ∷ c ∷ here) = omega arith in
+        rw (none, closing) (comment_end-closes depth (at + 2) here rest (rw (none, closing) at p) ∙ ap Some place))
+    | inr other ↦ (let place : (at + 1) + length (c ∷ here) ≡ at + length (b ∷ c ∷ here) = omega arith in
+        rw (none, other) (comment_end-closes (suc depth) (at + 1) (c ∷ here) rest (rw (none, other) at p) ∙ ap Some place))
+  ]
+]
 
 -- what is left to read ends the comment where the whole does
 pub record Reading (text : List ℕ) (depth at : ℕ) : Type 0 where
@@ -123,7 +124,9 @@ reading-opening text depth at r below opening =
     let shallow = r.shallow in
     record {
       same = r.same ∙ (ap (λ bs. comment_end depth at bs) (two text at below) ∙ comment_end-opening depth at (get_or text at 0) (get_or text (at + 1) 0) (drop (at + 2) text) r.inside opening);
-      inside = omega arith; shallow = omega arith; within = omega arith
+      inside = omega arith;
+      shallow = omega arith;
+      within = omega arith;
     }
 
 closing-same : (text : List ℕ) (depth at : ℕ) → Reading text depth at → at + 1 < length text → is_opening (get_or text at 0) (get_or text (at + 1) 0) ≡ false → is_closing (get_or text at 0) (get_or text (at + 1) 0) ≡ true → comment_end 1 2 (drop 2 text) ≡ comment_end (depth - 1) (at + 2) (drop (at + 2) text)
@@ -142,10 +145,12 @@ reading-other text depth at r below none other =
     let shallow = r.shallow in
     let second : at + 1 < length text = below in
     let next : get_or text (at + 1) 0 ∷ drop (at + 2) text ≡ drop (at + 1) text =
-      (let more : suc (at + 1) ≡ at + 2 = omega arith in ap (λ k. get_or text (at + 1) 0 ∷ drop k text) (sym more) ∙ sym (drop-cons text (at + 1) 0 second)) in
+    (let more : suc (at + 1) ≡ at + 2 = omega arith in ap (λ k. get_or text (at + 1) 0 ∷ drop k text) (sym more) ∙ sym (drop-cons text (at + 1) 0 second)) in
     record {
       same = r.same ∙ (ap (λ bs. comment_end depth at bs) (two text at below) ∙ (comment_end-other depth at (get_or text at 0) (get_or text (at + 1) 0) (drop (at + 2) text) r.inside none other ∙ ap (λ bs. comment_end depth (at + 1) bs) next));
-      inside = omega arith; shallow = omega arith; within = omega arith
+      inside = omega arith;
+      shallow = omega arith;
+      within = omega arith;
     }
 
 -- the text is `(*` and what follows
@@ -164,8 +169,10 @@ comment-closed text at p r below none closing =
     let ends = x.ends in
     let parts : text ≡ 40 ∷ (42 ∷ (x.here ++ x.rest)) = opened-text text p ∙ ap (λ bs. 40 ∷ (42 ∷ bs)) x.text in
     record {
-      here = 40 ∷ (42 ∷ x.here); rest = x.rest; comment = x.closes_all;
-      cut = record { parts = parts; size = omega arith; within = omega arith }
+      here = 40 ∷ (42 ∷ x.here);
+      rest = x.rest;
+      comment = x.closes_all;
+      cut = record { parts = parts; size = omega arith; within = omega arith };
     }
 
 comment_end-short : (depth at : ℕ) (bs : List ℕ) → 0 < depth → length bs < 2 → comment_end depth at bs ≡ None

@@ -1,18 +1,18 @@
 -- The first token of a text, by its kind.
-use Rattle.std.proofs.Common.{◌≡◌, ℕ, suc, ◌+◌, ◌<◌, ◌≤◌, Bool, true, false, not, ◌&&◌, ◌||◌, ◌==◌, List, [], ◌∷◌, ◌++◌, length, refl, sym, ap, ◌∙◌, ◌⊎◌, inl, inr, if◌then◌else◌, arith, append_assoc, length-append}
+use Rattle.std.proofs.Common.{◌≡◌, ℕ, ◌<◌, true, false, not, ◌==◌, List, [], ◌∷◌, ◌++◌, length, refl, sym, ap, ◌∙◌, inl, inr, arith, append_assoc}
 use Rattle.std.specs.List.{list_all}
-use Rattle.std.proofs.lemmas.Bool.{and_parts, and_from, or_cases, or_left, or_right, both_ways, false_from_ne_true, false≢true, cases_Bool, not_from_false}
+use Rattle.std.proofs.lemmas.Bool.{and_parts, and_from, both_ways, false_from_ne_true, false≢true, cases_Bool, not_from_false}
 use Rattle.std.proofs.lemmas.List.{append-nil}
 use Rattle.pure_grammar.specs.Bytes.{is_letter, is_digit, is_name_byte, is_empty, head_is, marked, behind}
 use Rattle.pure_grammar.specs.Comment.{opens_comment}
-use Rattle.pure_grammar.specs.Token.{is_spelling, is_qualified, is_number, is_indexed, is_schematic, is_quotable, is_quote, is_keyword, is_symbol, is_token}
+use Rattle.pure_grammar.specs.Token.{is_spelling, is_qualified, is_keyword, is_token}
 use Rattle.pure_grammar.specs.Spelling.{IsFirst, HasNoFirst}
 use Rattle.pure_grammar.specs.declared.token.TokenKind.{TokenKind}
 use Rattle.pure_grammar.specs.declared.token.TokenKind.TheVariants.{Word, Ident, Qualified, TypeVar, Schem, BoundName, Number, Quote, Symbol, End}
 use Rattle.pure_grammar.proofs.Fronts.{marked-is}
-use Rattle.pure_grammar.proofs.Classes.{group, class_of, class-token, class-letter, token-nothing, same_kind}
-use Rattle.pure_lex.specs.Fronts.{IsLongest, is_index, name_kind}
-use Rattle.pure_lex.proofs.Longest.{head_is-front, head_is-shorter, behind-run, behind-stop, behind-is, longest-empty, longest-marked, longest-named, named-parts}
+use Rattle.pure_grammar.proofs.Classes.{group, class_of, class-token, token-nothing, same_kind}
+use Rattle.pure_lex.specs.Fronts.{IsLongest, name_kind}
+use Rattle.pure_lex.proofs.Longest.{head_is-front, head_is-shorter, longest-empty, longest-marked, longest-named, named-parts}
 
 -- the byte that a comment begins with begins symbols alone
 class-opening : class_of 40 ≡ 6
@@ -40,10 +40,10 @@ pub first-longest : (kind : TokenKind) (here rest : List ℕ) → 0 < group kind
 first-longest kind here rest alone other l = record {
   token = l.passes;
   longest = λ k more left e p.
-    (let same : k ≡ kind = same_kind k kind alone (group-longer kind k here more l.passes p) in
-    let longer : is_token kind (here ++ more) ≡ true = rw same at p in
-    l.longest more left e longer);
-  no_comment = no_comment kind here rest l.passes other
+      (let same : k ≡ kind = same_kind k kind alone (group-longer kind k here more l.passes p) in
+      let longer : is_token kind (here ++ more) ≡ true = rw same at p in
+      l.longest more left e longer);
+  no_comment = no_comment kind here rest l.passes other;
 }
 
 -- the longer token is a spelling or a qualified name
@@ -66,8 +66,8 @@ first-group_zero : (kind : TokenKind) (here rest : List ℕ) → group kind ≡ 
 first-group_zero kind here rest none p spelled qualified = record {
   token = p;
   longest = λ k more left e q.
-    group_zero k (here ++ more) more (group-longer kind k here more p q ∙ none) q (spelled more left e) (qualified more left e);
-  no_comment = no_comment kind here rest p (λ six. absurd (omega (arith, none, six)))
+      group_zero k (here ++ more) more (group-longer kind k here more p q ∙ none) q (spelled more left e) (qualified more left e);
+  no_comment = no_comment kind here rest p (λ six. absurd (omega (arith, none, six)));
 }
 
 pub spelling-head : (bs : List ℕ) → is_spelling bs ≡ true → head_is is_letter bs ≡ true
@@ -91,10 +91,10 @@ spelling-name name rest letter all stops =
 
 name_kind-token : (name : List ℕ) → is_spelling name ≡ true → is_token (name_kind name) name ≡ true
 name_kind-token name p = elim (cases_Bool (is_keyword name)) [
-      inl keyword ↦ (let kind : name_kind name ≡ Word = rw keyword refl in rw kind (and_from (is_spelling name) (is_keyword name) p keyword))
-    | inr other ↦ (let kind : name_kind name ≡ Ident = rw other refl in
-        rw kind (and_from (is_spelling name) (not (is_keyword name)) p (not_from_false (is_keyword name) other)))
-    ]
+  | inl keyword ↦ (let kind : name_kind name ≡ Word = rw keyword refl in rw kind (and_from (is_spelling name) (is_keyword name) p keyword))
+  | inr other ↦ (let kind : name_kind name ≡ Ident = rw other refl in
+      rw kind (and_from (is_spelling name) (not (is_keyword name)) p (not_from_false (is_keyword name) other)))
+]
 
 name_kind-group : (name : List ℕ) → group (name_kind name) ≡ 0
 name_kind-group name = elim (cases_Bool (is_keyword name)) [ inl keyword ↦ rw keyword refl | inr other ↦ rw other refl ]
@@ -103,7 +103,7 @@ pub first-name : (name rest : List ℕ) → head_is is_letter name ≡ true → 
 first-name name rest letter all stops none =
     let l = spelling-name name rest letter all stops in
     first-group_zero (name_kind name) name rest (name_kind-group name) (name_kind-token name l.passes) l.longest
-      (λ more left e p. absurd (not-qualified name rest more left all stops none e p))
+    (λ more left e p. absurd (not-qualified name rest more left all stops none e p))
 
 not-spelling : (name second rest more : List ℕ) → list_all is_name_byte name ≡ true → head_is is_name_byte (46 ∷ (second ++ more)) ≡ false → is_spelling ((name ++ (46 ∷ second)) ++ more) ≡ true → ⊥
 not-spelling name second rest more all stops p =
@@ -119,9 +119,9 @@ pub first-qualified : (name second rest : List ℕ) → head_is is_letter name �
 first-qualified name second rest letter all letter_two all_two stops =
     let inner = spelling-name second rest letter_two all_two stops in
     let l : IsLongest is_qualified (name ++ (46 ∷ second)) rest =
-      longest-named (marked 46 is_spelling) name (46 ∷ second) rest letter all (dot-stops (second ++ rest)) (longest-marked 46 is_spelling second rest inner) in
+    longest-named (marked 46 is_spelling) name (46 ∷ second) rest letter all (dot-stops (second ++ rest)) (longest-marked 46 is_spelling second rest inner) in
     first-group_zero Qualified (name ++ (46 ∷ second)) rest refl l.passes
-      (λ more left e p. absurd (not-spelling name second rest more all (dot-stops (second ++ more)) p)) l.longest
+    (λ more left e p. absurd (not-spelling name second rest more all (dot-stops (second ++ more)) p)) l.longest
 
 -- No token begins here
 
@@ -133,7 +133,7 @@ pub no_first-opening : (bs : List ℕ) → opens_comment bs ≡ true → HasNoFi
 no_first-opening [] p = cc
 no_first-opening (b ∷ bs) p = record {
   some = omega arith;
-  none = λ kind here rest e first. both_ways _ first.no_comment (sym (ap opens_comment e) ∙ p)
+  none = λ kind here rest e first. both_ways _ first.no_comment (sym (ap opens_comment e) ∙ p);
 }
 
 no_token : (kind other : TokenKind) (b : ℕ) (bs here rest : List ℕ) → class_of b ≡ group kind → 0 < group kind → ((here rest : List ℕ) → bs ≡ here ++ rest → is_token kind (b ∷ here) ≡ true → ⊥) → b ∷ bs ≡ here ++ rest → is_token other here ≡ true → ⊥

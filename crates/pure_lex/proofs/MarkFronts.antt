@@ -1,19 +1,17 @@
 -- What is read where the mark of a variable stands.
-use Rattle.std.proofs.Common.{◌≡◌, ℕ, zero, suc, ◌+◌, ◌-◌, ◌<◌, ◌≤◌, Bool, true, false, ◌&&◌, ◌||◌, ◌==◌, List, [], ◌∷◌, ◌++◌, length, take, drop, get_or, refl, sym, ap, ◌∙◌, ◌⊎◌, inl, inr, if◌then◌else◌, arith, append_assoc, length-append, Some, None, add-one}
-use Rattle.std.specs.List.{list_all}
-use Rattle.std.proofs.lemmas.Bool.{and_parts, and_from, and_right, or_cases, or_left, or_right, both_ways, false_from_ne_true, false≢true, eqb-true, eq-eqb}
-use Rattle.std.proofs.lemmas.List.{append-nil, take-append-drop, length-take-le, length-drop, drop-drop}
-use Rattle.pure_grammar.specs.Bytes.{is_letter, is_digit, is_name_byte, is_empty, head_is, marked, behind}
-use Rattle.pure_grammar.specs.Token.{is_spelling, is_number, is_indexed, is_schematic, is_long, is_token, long_identifier, first_identifier}
-use Rattle.pure_grammar.specs.Spelling.{IsFirst, HasNoFirst, HasLong, IsFault}
-use Rattle.pure_grammar.specs.declared.token.TokenKind.{TokenKind}
+use Rattle.std.proofs.Common.{◌≡◌, ℕ, zero, suc, ◌+◌, ◌-◌, ◌<◌, ◌≤◌, Bool, true, false, ◌||◌, ◌==◌, List, [], ◌∷◌, ◌++◌, length, take, drop, get_or, refl, sym, ap, ◌∙◌, inl, inr, arith, append_assoc, length-append, add-one}
+use Rattle.std.proofs.lemmas.Bool.{and_parts, and_right, or_cases, or_left, or_right, both_ways, false_from_ne_true, eqb-true, eq-eqb}
+use Rattle.std.proofs.lemmas.List.{take-append-drop, length-take-le, length-drop}
+use Rattle.pure_grammar.specs.Bytes.{is_letter, is_digit, is_name_byte, head_is, marked, behind}
+use Rattle.pure_grammar.specs.Token.{is_spelling, is_number, is_indexed, is_schematic, is_long, first_identifier}
+use Rattle.pure_grammar.specs.Spelling.{IsFirst, HasNoFirst, IsFault}
 use Rattle.pure_grammar.specs.declared.token.TokenKind.TheVariants.{TypeVar, Schem}
 use Rattle.pure_grammar.proofs.Fronts.{marked-is}
 use Rattle.pure_grammar.proofs.Classes.{class_of}
 use Rattle.pure_lex.specs.Fronts.{IsCut, IsRun, IsDigits, IsFront, IsLongest, IsTaken, is_index, HasMarks}
 use Rattle.pure_lex.specs.Fronts.HasMarks.{one, two}
 use Rattle.pure_lex.proofs.Runs.{cut}
-use Rattle.pure_lex.proofs.Longest.{head_is-front, head_is-shorter, behind-is, is_long-short, is_long-long, longest-marked, longest-named, longest-index, longest-no_index, longest-number}
+use Rattle.pure_lex.proofs.Longest.{head_is-front, head_is-shorter, is_long-short, is_long-long, longest-marked, longest-named, longest-index, longest-no_index, longest-number}
 use Rattle.pure_lex.proofs.Firsts.{first-longest, no_first-kind, spelling-name, spelling-head}
 use Rattle.pure_lex.proofs.NameFronts.{run-letter, name-size, all-short, all-long, long-none, long-first}
 
@@ -66,16 +64,17 @@ class-type_variable = refl
 type_variable-first : (name : List ℕ) (len : ℕ) → head_is is_letter name ≡ true → IsRun is_name_byte name len → IsFirst TypeVar (39 ∷ take len name) (drop len name)
 type_variable-first name len letter r =
     first-longest TypeVar (39 ∷ take len name) (drop len name) (omega arith) (λ six. omega arith)
-      (longest-marked 39 is_spelling (take len name) (drop len name) (spelling-name (take len name) (drop len name) (run-letter name len letter r) r.all r.next))
+    (longest-marked 39 is_spelling (take len name) (drop len name) (spelling-name (take len name) (drop len name) (run-letter name len letter r) r.all r.next))
 
 pub type_variable-taken : (text : List ℕ) (len : ℕ) → text ≡ 39 ∷ drop 1 text → head_is is_letter (drop 1 text) ≡ true → IsRun is_name_byte (drop 1 text) len → len ≤ 64 → IsTaken text TypeVar (len + 1)
 type_variable-taken text len e letter r short =
     let size : length (take len (drop 1 text)) ≡ len = name-size (drop 1 text) len r in
     record {
-      here = 39 ∷ take len (drop 1 text); rest = drop len (drop 1 text);
+      here = 39 ∷ take len (drop 1 text);
+      rest = drop len (drop 1 text);
       cut = cut-mark 39 len text (drop 1 text) (take len (drop 1 text)) (drop len (drop 1 text)) e (cut (drop 1 text) len r.within);
       first = type_variable-first (drop 1 text) len letter r;
-      short = long-none TypeVar (39 ∷ take len (drop 1 text)) (all-short (take len (drop 1 text)) r.all (omega arith)) refl
+      short = long-none TypeVar (39 ∷ take len (drop 1 text)) (all-short (take len (drop 1 text)) r.all (omega arith)) refl;
     }
 
 pub type_variable-fault : (text : List ℕ) (len : ℕ) → text ≡ 39 ∷ drop 1 text → head_is is_letter (drop 1 text) ≡ true → IsRun is_name_byte (drop 1 text) len → 64 < len → IsFault text 0
@@ -83,9 +82,12 @@ type_variable-fault text len e letter r long =
     let size : length (take len (drop 1 text)) ≡ len = name-size (drop 1 text) len r in
     let c = cut-mark 39 len text (drop 1 text) (take len (drop 1 text)) (drop len (drop 1 text)) e (cut (drop 1 text) len r.within) in
     inr (record {
-      kind = TypeVar; here = 39 ∷ take len (drop 1 text); rest = drop len (drop 1 text); text = c.parts;
+      kind = TypeVar;
+      here = 39 ∷ take len (drop 1 text);
+      rest = drop len (drop 1 text);
+      text = c.parts;
       first = type_variable-first (drop 1 text) len letter r;
-      long = long-first TypeVar (39 ∷ take len (drop 1 text)) (all-long (take len (drop 1 text)) r.all (omega arith))
+      long = long-first TypeVar (39 ∷ take len (drop 1 text)) (all-long (take len (drop 1 text)) r.all (omega arith));
     })
 
 -- a fault where no token of this kind begins
@@ -95,8 +97,8 @@ no_first-text text bytes e none = let h : HasNoFirst text = rw e none in inl (h,
 pub type_variable-none : (text : List ℕ) → text ≡ 39 ∷ drop 1 text → head_is is_letter (drop 1 text) ≡ false → IsFault text 0
 type_variable-none text e none =
     no_first-text text (39 ∷ drop 1 text) e (no_first-kind TypeVar 39 (drop 1 text) class-type_variable (omega arith) (λ here rest cuts p.
-      let letter : head_is is_letter (here ++ rest) ≡ true = head_is-front is_letter here rest (spelling-head here p) in
-      both_ways _ none (ap (λ bs. head_is is_letter bs) cuts ∙ letter)))
+    let letter : head_is is_letter (here ++ rest) ≡ true = head_is-front is_letter here rest (spelling-head here p) in
+    both_ways _ none (ap (λ bs. head_is is_letter bs) cuts ∙ letter)))
 
 -- Indexes
 
@@ -162,18 +164,18 @@ longest-one : (here rest : List ℕ) → IsLongest is_indexed here rest → IsLo
 longest-one here rest l = longest-marked 63 name_or_type here rest (record {
   passes = or_left (is_indexed here) (marked 39 is_indexed here) l.passes;
   longest = λ more left e p. elim (or_cases (is_indexed (here ++ more)) (marked 39 is_indexed (here ++ more)) p) [
-      inl name ↦ l.longest more left e name
+    | inl name ↦ l.longest more left e name
     | inr mark ↦ absurd (not-marked (here ++ more) (head_is-front is_letter here more (indexed-head here l.passes)) mark)
-    ]
+  ];
 })
 
 longest-two : (here rest : List ℕ) → IsLongest is_indexed here rest → IsLongest is_schematic (63 ∷ 39 ∷ here) rest
 longest-two here rest l = longest-marked 63 name_or_type (39 ∷ here) rest (record {
   passes = or_right (is_indexed (39 ∷ here)) (marked 39 is_indexed (39 ∷ here)) l.passes;
   longest = λ more left e p. elim (or_cases (is_indexed (39 ∷ (here ++ more))) (marked 39 is_indexed (39 ∷ (here ++ more))) p) [
-      inl name ↦ absurd (not-indexed (here ++ more) name)
+    | inl name ↦ absurd (not-indexed (here ++ more) name)
     | inr mark ↦ l.longest more left e mark
-    ]
+  ];
 })
 
 -- the name and its index
@@ -193,9 +195,9 @@ indexed-cut name len index r f =
     let within = r.within in
     record {
       parts = sym (append_assoc (take len name) (take index (drop len name)) (drop index (drop len name))
-        ∙ (ap (λ bs. take len name ++ bs) (take-append-drop index (drop len name)) ∙ take-append-drop len name));
+          ∙ (ap (λ bs. take len name ++ bs) (take-append-drop index (drop len name)) ∙ take-append-drop len name));
       size = simp length-append (omega arith);
-      within = omega arith
+      within = omega arith;
     }
 
 indexed-stops : (name : List ℕ) (len index : ℕ) → IsRun is_name_byte name len → head_is is_name_byte (take index (drop len name)) ≡ false
@@ -225,11 +227,11 @@ record IsSchematic (text : List ℕ) (marks : ℕ) (here rest : List ℕ) : Type
 schematic-is : {text : List ℕ} {marks : ℕ} (here rest : List ℕ) → HasMarks text marks → IsLongest is_indexed here rest → IsSchematic text marks here rest
 schematic-is here rest (one name other) l = record {
   first = first-longest Schem (63 ∷ here) rest (omega arith) (λ six. omega arith) (longest-one here rest l);
-  identifier = identifier-one here (indexed-head here l.passes)
+  identifier = identifier-one here (indexed-head here l.passes);
 }
 schematic-is here rest (two name) l = record {
   first = first-longest Schem (63 ∷ 39 ∷ here) rest (omega arith) (λ six. omega arith) (longest-two here rest l);
-  identifier = refl
+  identifier = refl;
 }
 
 pub marks-within : {text : List ℕ} {marks : ℕ} → HasMarks text marks → marks ≤ length text
@@ -247,20 +249,22 @@ schematic-cut text marks len index h r f =
     let whole : take marks text ++ drop marks text ≡ text = take-append-drop marks text in
     record {
       parts = sym (append_assoc (take marks text) (indexed_name (drop marks text) len index) (drop index (drop len (drop marks text)))
-        ∙ (ap (λ bs. take marks text ++ bs) (sym parts) ∙ whole));
+          ∙ (ap (λ bs. take marks text ++ bs) (sym parts) ∙ whole));
       size = rw (length-append (take marks text) (indexed_name (drop marks text) len index)) (omega (arith, second_size, first_size));
-      within = omega arith
+      within = omega arith;
     }
 
 pub schematic-taken : (text : List ℕ) (marks len index : ℕ) → HasMarks text marks → head_is is_letter (drop marks text) ≡ true → IsRun is_name_byte (drop marks text) len → IsFront is_index (drop len (drop marks text)) index → len ≤ 64 → IsTaken text Schem (marks + len + index)
 schematic-taken text marks len index h letter r f short =
     let s = schematic-is (indexed_name (drop marks text) len index) (drop index (drop len (drop marks text))) h (indexed-longest (drop marks text) len index letter r f) in
     let p : is_long (first_identifier Schem (take marks text ++ indexed_name (drop marks text) len index)) ≡ false =
-      ap is_long s.identifier ∙ indexed-short (drop marks text) len index r short in
+    ap is_long s.identifier ∙ indexed-short (drop marks text) len index r short in
     record {
-      here = take marks text ++ indexed_name (drop marks text) len index; rest = drop index (drop len (drop marks text));
-      cut = schematic-cut text marks len index h r f; first = s.first;
-      short = long-none Schem (take marks text ++ indexed_name (drop marks text) len index) p refl
+      here = take marks text ++ indexed_name (drop marks text) len index;
+      rest = drop index (drop len (drop marks text));
+      cut = schematic-cut text marks len index h r f;
+      first = s.first;
+      short = long-none Schem (take marks text ++ indexed_name (drop marks text) len index) p refl;
     }
 
 pub schematic-fault : (text : List ℕ) (marks len index : ℕ) → HasMarks text marks → head_is is_letter (drop marks text) ≡ true → IsRun is_name_byte (drop marks text) len → IsFront is_index (drop len (drop marks text)) index → 64 < len → IsFault text 0
@@ -268,10 +272,14 @@ schematic-fault text marks len index h letter r f long =
     let s = schematic-is (indexed_name (drop marks text) len index) (drop index (drop len (drop marks text))) h (indexed-longest (drop marks text) len index letter r f) in
     let c = schematic-cut text marks len index h r f in
     let p : is_long (first_identifier Schem (take marks text ++ indexed_name (drop marks text) len index)) ≡ true =
-      ap is_long s.identifier ∙ indexed-long (drop marks text) len index r long in
+    ap is_long s.identifier ∙ indexed-long (drop marks text) len index r long in
     inr (record {
-      kind = Schem; here = take marks text ++ indexed_name (drop marks text) len index; rest = drop index (drop len (drop marks text));
-      text = c.parts; first = s.first; long = long-first Schem (take marks text ++ indexed_name (drop marks text) len index) p
+      kind = Schem;
+      here = take marks text ++ indexed_name (drop marks text) len index;
+      rest = drop index (drop len (drop marks text));
+      text = c.parts;
+      first = s.first;
+      long = long-first Schem (take marks text ++ indexed_name (drop marks text) len index) p;
     })
 
 -- what stands behind the marks of a schematic variable is a name
@@ -279,20 +287,20 @@ marks-name : {text : List ℕ} {marks : ℕ} (here rest : List ℕ) → HasMarks
 marks-name here rest (one name other) e p =
     let tail : name ≡ here ++ rest = cc in
     elim (or_cases (is_indexed here) (marked 39 is_indexed here) p) [
-      inl name_here ↦ ap (λ bs. head_is is_letter bs) tail ∙ head_is-front is_letter here rest (indexed-head here name_here)
-    | inr mark ↦ (let m = marked-is 39 is_indexed here mark in
-        let text : name ≡ 39 ∷ (m.rest ++ rest) = tail ∙ ap (λ bs. bs ++ rest) m.is in
-        absurd (both_ways _ other (ap (λ bs. head_is (λ b. b == 39) bs) text)))
+      | inl name_here ↦ ap (λ bs. head_is is_letter bs) tail ∙ head_is-front is_letter here rest (indexed-head here name_here)
+      | inr mark ↦ (let m = marked-is 39 is_indexed here mark in
+          let text : name ≡ 39 ∷ (m.rest ++ rest) = tail ∙ ap (λ bs. bs ++ rest) m.is in
+          absurd (both_ways _ other (ap (λ bs. head_is (λ b. b == 39) bs) text)))
     ]
 marks-name here rest (two name) e p =
     let tail : 39 ∷ name ≡ here ++ rest = cc in
     elim (or_cases (is_indexed here) (marked 39 is_indexed here) p) [
-      inl name_here ↦ (let letter : head_is is_letter (here ++ rest) ≡ true = head_is-front is_letter here rest (indexed-head here name_here) in
-        absurd (both_ways (is_letter 39) letter-not_mark (ap (λ bs. head_is is_letter bs) tail ∙ letter)))
-    | inr mark ↦ (let m = marked-is 39 is_indexed here mark in
-        let text : 39 ∷ name ≡ 39 ∷ (m.rest ++ rest) = tail ∙ ap (λ bs. bs ++ rest) m.is in
-        let same : name ≡ m.rest ++ rest = cc in
-        ap (λ bs. head_is is_letter bs) same ∙ head_is-front is_letter m.rest rest (indexed-head m.rest m.passes))
+      | inl name_here ↦ (let letter : head_is is_letter (here ++ rest) ≡ true = head_is-front is_letter here rest (indexed-head here name_here) in
+          absurd (both_ways (is_letter 39) letter-not_mark (ap (λ bs. head_is is_letter bs) tail ∙ letter)))
+      | inr mark ↦ (let m = marked-is 39 is_indexed here mark in
+          let text : 39 ∷ name ≡ 39 ∷ (m.rest ++ rest) = tail ∙ ap (λ bs. bs ++ rest) m.is in
+          let same : name ≡ m.rest ++ rest = cc in
+          ap (λ bs. head_is is_letter bs) same ∙ head_is-front is_letter m.rest rest (indexed-head m.rest m.passes))
     ]
 
 marks-cons : {text : List ℕ} {marks : ℕ} → HasMarks text marks → text ≡ 63 ∷ drop 1 text
@@ -303,7 +311,7 @@ pub schematic-none : (text : List ℕ) (marks : ℕ) → HasMarks text marks →
 schematic-none text marks h none =
     let e = marks-cons h in
     no_first-text text (63 ∷ drop 1 text) e (no_first-kind Schem 63 (drop 1 text) class-schematic (omega arith) (λ here rest cuts p.
-      both_ways _ none (marks-name here rest h (e ∙ ap (λ bs. 63 ∷ bs) cuts) (and_parts (63 == 63) (name_or_type here) p).1)))
+    both_ways _ none (marks-name here rest h (e ∙ ap (λ bs. 63 ∷ bs) cuts) (and_parts (63 == 63) (name_or_type here) p).1)))
 
 -- the marks that stand here
 pub marks-two : (text : List ℕ) → get_or text 0 0 ≡ 63 → get_or text 1 0 ≡ 39 → HasMarks text 2

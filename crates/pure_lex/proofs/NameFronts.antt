@@ -1,21 +1,18 @@
 -- What is read where a name begins.
-use Rattle.std.proofs.Common.{◌≡◌, ℕ, zero, suc, ◌+◌, ◌-◌, ◌<◌, ◌≤◌, Bool, true, false, ◌&&◌, ◌||◌, ◌==◌, List, [], ◌∷◌, ◌++◌, length, take, drop, get_or, refl, sym, ap, ◌∙◌, ◌⊎◌, inl, inr, if◌then◌else◌, arith, append_assoc, length-append, Some, None, drop-cons}
+use Rattle.std.proofs.Common.{◌≡◌, ℕ, zero, suc, ◌+◌, ◌-◌, ◌<◌, ◌≤◌, true, false, ◌||◌, ◌==◌, List, [], ◌∷◌, ◌++◌, length, take, drop, refl, sym, ap, ◌∙◌, inl, inr, arith, append_assoc, length-append, Some, None}
 use Rattle.std.specs.List.{list_all}
-use Rattle.std.proofs.Math.Seq.{take-add}
-use Rattle.std.proofs.lemmas.Bool.{and_parts, and_from, or_cases, or_left, or_right, both_ways, false_from_ne_true, false≢true, cases_Bool, eqb-true}
+use Rattle.std.proofs.lemmas.Bool.{or_left, both_ways, cases_Bool}
 use Rattle.std.proofs.lemmas.List.{append-nil, take-append-drop, length-take-le, length-drop, drop-drop}
-use Rattle.pure_grammar.specs.Bytes.{is_letter, is_digit, is_name_byte, is_empty, head_is, marked, behind}
-use Rattle.pure_grammar.specs.Token.{is_spelling, is_number, is_indexed, is_schematic, is_keyword, is_long, is_token, long_identifier, first_identifier, second_identifier, tail}
-use Rattle.pure_grammar.specs.Spelling.{IsFirst, HasNoFirst, HasLong, IsFault}
+use Rattle.pure_grammar.specs.Bytes.{is_letter, is_digit, is_name_byte, head_is, marked}
+use Rattle.pure_grammar.specs.Token.{is_keyword, is_long, long_identifier, first_identifier, second_identifier, tail}
+use Rattle.pure_grammar.specs.Spelling.{IsFirst, IsFault}
 use Rattle.pure_grammar.specs.declared.token.TokenKind.{TokenKind}
-use Rattle.pure_grammar.specs.declared.token.TokenKind.TheVariants.{Word, Ident, Qualified, TypeVar, Schem}
+use Rattle.pure_grammar.specs.declared.token.TokenKind.TheVariants.{Qualified}
 use Rattle.pure_grammar.proofs.Fronts.{marked-is}
-use Rattle.pure_grammar.proofs.Classes.{class_of}
-use Rattle.pure_lex.specs.Fronts.{IsCut, name_kind, IsRun, IsDigits, IsFront, IsLongest, IsTaken, is_index, HasMarks}
-use Rattle.pure_lex.specs.Fronts.HasMarks.{one, two}
+use Rattle.pure_lex.specs.Fronts.{IsCut, name_kind, IsRun, IsTaken}
 use Rattle.pure_lex.proofs.Runs.{cut}
-use Rattle.pure_lex.proofs.Longest.{head_is-front, head_is-shorter, behind-is, is_long-short, is_long-long, longest-marked, longest-named, longest-index, longest-no_index, longest-number}
-use Rattle.pure_lex.proofs.Firsts.{first-name, first-qualified, first-longest, no_first-kind, spelling-name, spelling-head, dot-stops}
+use Rattle.pure_lex.proofs.Longest.{behind-is, is_long-short, is_long-long}
+use Rattle.pure_lex.proofs.Firsts.{first-name, first-qualified, dot-stops}
 
 letter-name : (b : ℕ) → is_letter b ≡ true → is_name_byte b ≡ true
 unfolding is_name_byte
@@ -67,8 +64,11 @@ name-taken text len letter r none short =
     let first : is_long (first_identifier (name_kind (take len text)) (take len text)) ≡ false = rw name_kind-identifier (all-short (take len text) r.all (omega arith)) in
     let second : is_long (second_identifier (name_kind (take len text)) (take len text)) ≡ false = rw name_kind-second refl in
     record {
-      here = take len text; rest = drop len text; cut = cut text len r.within;
-      first = name-first text len letter r none; short = long-none (name_kind (take len text)) (take len text) first second
+      here = take len text;
+      rest = drop len text;
+      cut = cut text len r.within;
+      first = name-first text len letter r none;
+      short = long-none (name_kind (take len text)) (take len text) first second;
     }
 
 pub name-fault : (text : List ℕ) (len : ℕ) → head_is is_letter text ≡ true → IsRun is_name_byte text len → marked 46 (head_is is_letter) (drop len text) ≡ false → 64 < len → IsFault text 0
@@ -76,8 +76,12 @@ name-fault text len letter r none long =
     let size : length (take len text) ≡ len = name-size text len r in
     let first : is_long (first_identifier (name_kind (take len text)) (take len text)) ≡ true = rw name_kind-identifier (all-long (take len text) r.all (omega arith)) in
     inr (record {
-      kind = name_kind (take len text); here = take len text; rest = drop len text; text = sym (take-append-drop len text);
-      first = name-first text len letter r none; long = long-first (name_kind (take len text)) (take len text) first
+      kind = name_kind (take len text);
+      here = take len text;
+      rest = drop len text;
+      text = sym (take-append-drop len text);
+      first = name-first text len letter r none;
+      long = long-first (name_kind (take len text)) (take len text) first;
     })
 
 -- Qualified names
@@ -97,7 +101,7 @@ dotted text len p =
     record {
       is = mark.is ∙ ap (λ bs. 46 ∷ bs) (sym behind_mark);
       letter = ap (λ bs. head_is is_letter bs) behind_mark ∙ mark.passes;
-      within = omega arith
+      within = omega arith;
     }
 
 -- the bytes of the qualified name
@@ -113,15 +117,15 @@ qualified-cut text len second r dot s =
     let within = dot.within in
     record {
       parts = sym (append_assoc (take len text) (46 ∷ take second (drop (len + 1) text)) (drop second (drop (len + 1) text))
-        ∙ (ap (λ bs. take len text ++ (46 ∷ bs)) inner ∙ (ap (λ bs. take len text ++ bs) (sym dot.is) ∙ take-append-drop len text)));
+          ∙ (ap (λ bs. take len text ++ (46 ∷ bs)) inner ∙ (ap (λ bs. take len text ++ bs) (sym dot.is) ∙ take-append-drop len text)));
       size = simp length-append (omega arith);
-      within = omega arith
+      within = omega arith;
     }
 
 qualified-first : (text : List ℕ) (len second : ℕ) → head_is is_letter text ≡ true → IsRun is_name_byte text len → IsDotted text len → IsRun is_name_byte (drop (len + 1) text) second → IsFirst Qualified (whole_name text len second) (drop second (drop (len + 1) text))
 qualified-first text len second letter r dot s =
     first-qualified (take len text) (take second (drop (len + 1) text)) (drop second (drop (len + 1) text))
-      (run-letter text len letter r) r.all (run-letter (drop (len + 1) text) second dot.letter s) s.all s.next
+    (run-letter text len letter r) r.all (run-letter (drop (len + 1) text) second dot.letter s) s.all s.next
 
 second-is : (name second : List ℕ) → list_all is_name_byte name ≡ true → second_identifier Qualified (name ++ (46 ∷ second)) ≡ second
 second-is name second all = ap tail (behind-is is_name_byte name (46 ∷ second) all (dot-stops second))
@@ -132,23 +136,30 @@ qualified-taken text len second letter r dot s short also =
     let first_size : length (take len text) ≡ len = name-size text len r in
     let second_size : length (take second (drop (len + 1) text)) ≡ second = name-size (drop (len + 1) text) second s in
     let p : is_long (take len text ++ (46 ∷ take second (drop (len + 1) text))) ≡ false =
-      is_long-short (take len text) (46 ∷ take second (drop (len + 1) text)) r.all (dot-stops (take second (drop (len + 1) text))) (omega arith) in
+    is_long-short (take len text) (46 ∷ take second (drop (len + 1) text)) r.all (dot-stops (take second (drop (len + 1) text))) (omega arith) in
     let q : is_long (second_identifier Qualified (whole_name text len second)) ≡ false =
-      ap is_long (second-is (take len text) (take second (drop (len + 1) text)) r.all) ∙ all-short (take second (drop (len + 1) text)) s.all (omega arith) in
+    ap is_long (second-is (take len text) (take second (drop (len + 1) text)) r.all) ∙ all-short (take second (drop (len + 1) text)) s.all (omega arith) in
     record {
-      here = whole_name text len second; rest = drop second (drop (len + 1) text); cut = qualified-cut text len second r dot s;
-      first = qualified-first text len second letter r dot s; short = long-none Qualified (whole_name text len second) p q
+      here = whole_name text len second;
+      rest = drop second (drop (len + 1) text);
+      cut = qualified-cut text len second r dot s;
+      first = qualified-first text len second letter r dot s;
+      short = long-none Qualified (whole_name text len second) p q;
     }
 
 pub qualified-fault : (text : List ℕ) (len second : ℕ) → head_is is_letter text ≡ true → IsRun is_name_byte text len → IsDotted text len → IsRun is_name_byte (drop (len + 1) text) second → 64 < len → IsFault text 0
 qualified-fault text len second letter r dot s long =
     let first_size : length (take len text) ≡ len = name-size text len r in
     let p : is_long (take len text ++ (46 ∷ take second (drop (len + 1) text))) ≡ true =
-      is_long-long (take len text) (46 ∷ take second (drop (len + 1) text)) r.all (dot-stops (take second (drop (len + 1) text))) (omega arith) in
+    is_long-long (take len text) (46 ∷ take second (drop (len + 1) text)) r.all (dot-stops (take second (drop (len + 1) text))) (omega arith) in
     let c = qualified-cut text len second r dot s in
     inr (record {
-      kind = Qualified; here = whole_name text len second; rest = drop second (drop (len + 1) text); text = c.parts;
-      first = qualified-first text len second letter r dot s; long = long-first Qualified (whole_name text len second) p
+      kind = Qualified;
+      here = whole_name text len second;
+      rest = drop second (drop (len + 1) text);
+      text = c.parts;
+      first = qualified-first text len second letter r dot s;
+      long = long-first Qualified (whole_name text len second) p;
     })
 
 pub qualified-fault_second : (text : List ℕ) (len second : ℕ) → head_is is_letter text ≡ true → IsRun is_name_byte text len → IsDotted text len → IsRun is_name_byte (drop (len + 1) text) second → len ≤ 64 → 64 < second → IsFault text (len + 1)
@@ -156,7 +167,7 @@ qualified-fault_second text len second letter r dot s short long =
     let first_size : length (take len text) ≡ len = name-size text len r in
     let second_size : length (take second (drop (len + 1) text)) ≡ second = name-size (drop (len + 1) text) second s in
     let p : is_long (take len text ++ (46 ∷ take second (drop (len + 1) text))) ≡ false =
-      is_long-short (take len text) (46 ∷ take second (drop (len + 1) text)) r.all (dot-stops (take second (drop (len + 1) text))) (omega arith) in
+    is_long-short (take len text) (46 ∷ take second (drop (len + 1) text)) r.all (dot-stops (take second (drop (len + 1) text))) (omega arith) in
     let is = second-is (take len text) (take second (drop (len + 1) text)) r.all in
     let q : is_long (second_identifier Qualified (whole_name text len second)) ≡ true = ap is_long is ∙ all-long (take second (drop (len + 1) text)) s.all (omega arith) in
     let c = qualified-cut text len second r dot s in
@@ -164,6 +175,10 @@ qualified-fault_second text len second letter r dot s short long =
     let left : length (second_identifier Qualified (whole_name text len second)) ≡ second = ap length is ∙ second_size in
     let skipped : length (whole_name text len second) - length (second_identifier Qualified (whole_name text len second)) ≡ len + 1 = omega (arith, left, size) in
     inr (record {
-      kind = Qualified; here = whole_name text len second; rest = drop second (drop (len + 1) text); text = c.parts;
-      first = qualified-first text len second letter r dot s; long = long-second Qualified (whole_name text len second) p q ∙ ap Some skipped
+      kind = Qualified;
+      here = whole_name text len second;
+      rest = drop second (drop (len + 1) text);
+      text = c.parts;
+      first = qualified-first text len second letter r dot s;
+      long = long-second Qualified (whole_name text len second) p q ∙ ap Some skipped;
     })

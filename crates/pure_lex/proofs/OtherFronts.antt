@@ -1,22 +1,21 @@
 -- What is read where a number, a bound name, a quoted text or a symbol begins.
-use Rattle.std.proofs.Common.{◌≡◌, ℕ, zero, suc, ◌+◌, ◌-◌, ◌<◌, ◌≤◌, Bool, true, false, not, ◌&&◌, ◌||◌, ◌==◌, List, [], ◌∷◌, ◌++◌, length, take, drop, get_or, refl, sym, ap, ◌∙◌, ◌⊎◌, inl, inr, if◌then◌else◌, arith, append_assoc, length-append, Some, None, add-one, drop-cons}
+use Rattle.std.proofs.Common.{◌≡◌, ℕ, suc, ◌+◌, ◌-◌, ◌<◌, Bool, true, false, ◌&&◌, ◌||◌, ◌==◌, List, [], ◌∷◌, ◌++◌, length, take, drop, get_or, refl, sym, ap, ◌∙◌, ◌⊎◌, inl, inr, arith, append_assoc, length-append, drop-cons}
 use Rattle.std.specs.List.{list_all}
-use Rattle.std.proofs.lemmas.Bool.{and_parts, and_from, or_parts, or_cases, or_left, or_right, both_ways, false_from_ne_true, false≢true, eqb-true, eq-eqb, cond_both, cases_lt, cases_Bool}
-use Rattle.std.proofs.lemmas.List.{append-nil, take-append-drop, length-take-le, length-drop, drop-drop, drop_all, get_or_past}
+use Rattle.std.proofs.lemmas.Bool.{and_parts, or_parts, both_ways, false≢true, eqb-true, cond_both, cases_lt, cases_Bool}
+use Rattle.std.proofs.lemmas.List.{take-append-drop, length-take-le, length-drop, get_or_past}
 use Rattle.pure_grammar.specs.Bytes.{is_letter, is_digit, is_empty, head_is, marked, behind}
 use Rattle.pure_grammar.specs.Comment.{opens_comment}
-use Rattle.pure_grammar.specs.Token.{is_number, is_quotable, is_quote, is_single, is_pair, is_triple, is_symbol, is_token, is_long, long_identifier}
-use Rattle.pure_grammar.specs.Spelling.{IsFirst, HasNoFirst, IsFault}
+use Rattle.pure_grammar.specs.Token.{is_number, is_quotable, is_quote, is_single, is_pair, is_triple, is_symbol, is_token}
+use Rattle.pure_grammar.specs.Spelling.{IsFirst, IsFault}
 use Rattle.pure_grammar.specs.declared.token.TokenKind.{TokenKind}
 use Rattle.pure_grammar.specs.declared.token.TokenKind.TheVariants.{BoundName, Number, Quote, Symbol}
 use Rattle.pure_grammar.proofs.Fronts.{marked-is}
 use Rattle.pure_grammar.proofs.Gaps.{empty_is}
-use Rattle.pure_grammar.proofs.Classes.{class_of, class-token, same_kind, group, token-nothing, small}
+use Rattle.pure_grammar.proofs.Classes.{class_of, class-token, same_kind, token-nothing, small}
 use Rattle.pure_lex.specs.Fronts.{IsCut, IsRun, IsDigits, IsLongest, IsTaken, begins_other, symbol_length}
 use Rattle.pure_lex.proofs.Runs.{cut}
-use Rattle.pure_lex.proofs.Longest.{head_is-front, behind-is, behind-run, longest-marked, number-head}
+use Rattle.pure_lex.proofs.Longest.{head_is-front, behind-is, longest-marked, number-head}
 use Rattle.pure_lex.proofs.Firsts.{first-longest, no_first-kind, no_first-opening, no_first, group-longer}
-use Rattle.pure_lex.proofs.NameFronts.{long-none}
 use Rattle.pure_lex.proofs.MarkFronts.{digits-longest, cut-mark, no_first-text, head_is-get}
 
 digit-zero : is_digit 0 ≡ false
@@ -30,8 +29,11 @@ digit-get text = head_is-get is_digit text digit-zero
 
 pub number-taken : (text : List ℕ) (len : ℕ) → head_is is_digit text ≡ true → IsDigits text len → IsTaken text Number len
 number-taken text len p d = record {
-  here = take len text; rest = drop len text; cut = cut text len d.within; short = refl;
-  first = first-longest Number (take len text) (drop len text) (omega arith) (λ six. omega arith) (digits-longest text len p d)
+  here = take len text;
+  rest = drop len text;
+  cut = cut text len d.within;
+  short = refl;
+  first = first-longest Number (take len text) (drop len text) (omega arith) (λ six. omega arith) (digits-longest text len p d);
 }
 
 class-bound_name : class_of 95 ≡ 3
@@ -40,18 +42,19 @@ class-bound_name = refl
 
 pub bound_name-taken : (text : List ℕ) (len : ℕ) → text ≡ 95 ∷ drop 1 text → head_is is_digit (drop 1 text) ≡ true → IsDigits (drop 1 text) len → IsTaken text BoundName (len + 1)
 bound_name-taken text len e p d = record {
-  here = 95 ∷ take len (drop 1 text); rest = drop len (drop 1 text);
+  here = 95 ∷ take len (drop 1 text);
+  rest = drop len (drop 1 text);
   cut = cut-mark 95 len text (drop 1 text) (take len (drop 1 text)) (drop len (drop 1 text)) e (cut (drop 1 text) len d.within);
   short = refl;
   first = first-longest BoundName (95 ∷ take len (drop 1 text)) (drop len (drop 1 text)) (omega arith) (λ six. omega arith)
-    (longest-marked 95 is_number (take len (drop 1 text)) (drop len (drop 1 text)) (digits-longest (drop 1 text) len p d))
+      (longest-marked 95 is_number (take len (drop 1 text)) (drop len (drop 1 text)) (digits-longest (drop 1 text) len p d));
 }
 
 pub bound_name-none : (text : List ℕ) → text ≡ 95 ∷ drop 1 text → head_is is_digit (drop 1 text) ≡ false → IsFault text 0
 bound_name-none text e none =
     no_first-text text (95 ∷ drop 1 text) e (no_first-kind BoundName 95 (drop 1 text) class-bound_name (omega arith) (λ here rest cuts p.
-      let digit : head_is is_digit (here ++ rest) ≡ true = head_is-front is_digit here rest (number-head here p) in
-      both_ways _ none (ap (λ bs. head_is is_digit bs) cuts ∙ digit)))
+    let digit : head_is is_digit (here ++ rest) ≡ true = head_is-front is_digit here rest (number-head here p) in
+    both_ways _ none (ap (λ bs. head_is is_digit bs) cuts ∙ digit)))
 
 -- Quoted texts
 
@@ -71,17 +74,17 @@ longest-quote : (body rest : List ℕ) → list_all is_quotable body ≡ true �
 longest-quote body rest all = longest-marked 34 closed_text (body ++ (34 ∷ [])) rest (record {
   passes = rw (behind-is is_quotable body (34 ∷ []) all (mark-stops [])) refl;
   longest = λ more left e p.
-    (let whole : behind is_quotable ((body ++ (34 ∷ [])) ++ more) ≡ 34 ∷ more =
+      (let whole : behind is_quotable ((body ++ (34 ∷ [])) ++ more) ≡ 34 ∷ more =
       ap (λ bs. behind is_quotable bs) (append_assoc body (34 ∷ []) more) ∙ behind-is is_quotable body (34 ∷ more) all (mark-stops more) in
-    let closed : marked 34 is_empty (34 ∷ more) ≡ true = sym (ap (λ bs. marked 34 is_empty bs) whole) ∙ p in
-    empty_is more closed)
+      let closed : marked 34 is_empty (34 ∷ more) ≡ true = sym (ap (λ bs. marked 34 is_empty bs) whole) ∙ p in
+      empty_is more closed);
 })
 
 get_or-some : (bs : List ℕ) (i b : ℕ) → 0 < b → get_or bs i 0 ≡ b → i < length bs
 get_or-some bs i b some e = elim (cases_lt i (length bs)) [
-      inl below ↦ below
-    | inr past ↦ (let none : get_or bs i 0 ≡ 0 = get_or_past bs i 0 past in absurd (omega arith))
-    ]
+  | inl below ↦ below
+  | inr past ↦ (let none : get_or bs i 0 ≡ 0 = get_or_past bs i 0 past in absurd (omega arith))
+]
 
 pub quote-taken : (text : List ℕ) (len : ℕ) → text ≡ 34 ∷ drop 1 text → IsRun is_quotable (drop 1 text) len → get_or (drop 1 text) len 0 ≡ 34 → IsTaken text Quote (len + 2)
 quote-taken text len e r mark =
@@ -90,20 +93,22 @@ quote-taken text len e r mark =
     let size : length (take len (drop 1 text)) ≡ len = length-take-le len (drop 1 text) r.within in
     let whole : length text ≡ suc (length (drop 1 text)) = ap length e in
     let parts : drop 1 text ≡ (take len (drop 1 text) ++ (34 ∷ [])) ++ drop (suc len) (drop 1 text) =
-      sym (append_assoc (take len (drop 1 text)) (34 ∷ []) (drop (suc len) (drop 1 text)) ∙ (ap (λ bs. take len (drop 1 text) ++ bs) (sym rest) ∙ take-append-drop len (drop 1 text))) in
+    sym (append_assoc (take len (drop 1 text)) (34 ∷ []) (drop (suc len) (drop 1 text)) ∙ (ap (λ bs. take len (drop 1 text) ++ bs) (sym rest) ∙ take-append-drop len (drop 1 text))) in
     record {
-      here = 34 ∷ (take len (drop 1 text) ++ (34 ∷ [])); rest = drop (suc len) (drop 1 text); short = refl;
+      here = 34 ∷ (take len (drop 1 text) ++ (34 ∷ []));
+      rest = drop (suc len) (drop 1 text);
+      short = refl;
       cut = record { parts = e ∙ ap (λ bs. 34 ∷ bs) parts; size = simp length-append (omega arith); within = omega arith };
       first = first-longest Quote (34 ∷ (take len (drop 1 text) ++ (34 ∷ []))) (drop (suc len) (drop 1 text)) (omega arith) (λ six. omega arith)
-        (longest-quote (take len (drop 1 text)) (drop (suc len) (drop 1 text)) r.all)
+          (longest-quote (take len (drop 1 text)) (drop (suc len) (drop 1 text)) r.all);
     }
 
 behind-longer : (test : ℕ → Bool) (here rest more : List ℕ) (c : ℕ) → behind test here ≡ c ∷ more → behind test (here ++ rest) ≡ c ∷ (more ++ rest)
 behind-longer test [] rest more c e = cc
 behind-longer test (b ∷ here) rest more c e = elim (cases_Bool (test b)) [
-      inl passes ↦ rw passes (behind-longer test here rest more c (rw passes at e))
-    | inr stops ↦ (let same : b ∷ here ≡ c ∷ more = rw stops at e in rw stops (ap (λ bs. bs ++ rest) same))
-    ]
+  | inl passes ↦ rw passes (behind-longer test here rest more c (rw passes at e))
+  | inr stops ↦ (let same : b ∷ here ≡ c ∷ more = rw stops at e in rw stops (ap (λ bs. bs ++ rest) same))
+]
 
 behind-drop : (test : ℕ → Bool) (text : List ℕ) (len : ℕ) → IsRun test text len → behind test text ≡ drop len text
 behind-drop test text len r =
@@ -113,7 +118,7 @@ not-closed : (body here rest : List ℕ) (len : ℕ) → IsRun is_quotable body 
 not-closed body here rest len r e p =
     let mark = marked-is 34 is_empty (behind is_quotable here) p in
     let left : drop len body ≡ 34 ∷ (mark.rest ++ rest) =
-      sym (behind-drop is_quotable body len r) ∙ (ap (λ bs. behind is_quotable bs) e ∙ behind-longer is_quotable here rest mark.rest 34 mark.is) in
+    sym (behind-drop is_quotable body len r) ∙ (ap (λ bs. behind is_quotable bs) e ∙ behind-longer is_quotable here rest mark.rest 34 mark.is) in
     let some : length (drop len body) ≡ suc (length (mark.rest ++ rest)) = ap length left in
     let size : length body - len ≡ suc (length (mark.rest ++ rest)) = simp length-drop at some in
     let below : len < length body = omega arith in
@@ -123,7 +128,7 @@ not-closed body here rest len r e p =
 pub quote-none : (text : List ℕ) (len : ℕ) → text ≡ 34 ∷ drop 1 text → IsRun is_quotable (drop 1 text) len → (get_or (drop 1 text) len 0 ≡ 34 → ⊥) → IsFault text 0
 quote-none text len e r none =
     no_first-text text (34 ∷ drop 1 text) e (no_first-kind Quote 34 (drop 1 text) class-quote (omega arith) (λ here rest cuts p.
-      none (not-closed (drop 1 text) here rest len r cuts p)))
+    none (not-closed (drop 1 text) here rest len r cuts p)))
 
 -- Symbols
 
@@ -131,10 +136,10 @@ first-symbol : (here rest : List ℕ) → IsLongest is_symbol here rest → open
 first-symbol here rest l none = record {
   token = l.passes;
   longest = λ k more left e p.
-    (let same : k ≡ Symbol = same_kind k Symbol (omega arith) (group-longer Symbol k here more l.passes p) in
-    let longer : is_token Symbol (here ++ more) ≡ true = rw same at p in
-    l.longest more left e longer);
-  no_comment = none
+      (let same : k ≡ Symbol = same_kind k Symbol (omega arith) (group-longer Symbol k here more l.passes p) in
+      let longer : is_token Symbol (here ++ more) ≡ true = rw same at p in
+      l.longest more left e longer);
+  no_comment = none;
 }
 
 triple-pair : (b c d : ℕ) → is_triple b c d ≡ true → is_pair b c ≡ true
@@ -150,7 +155,7 @@ unfolding is_pair
 pair-zero b =
     let P : Bool → Type 0 = λ v. v ≡ false in
     cond_both (b == 33) _ _ P (λ _. refl) (λ _. cond_both (b == 61) _ _ P (λ _. refl) (λ _. cond_both (b == 58) _ _ P (λ _. refl)
-      (λ _. cond_both (b == 91) _ _ P (λ _. refl) (λ _. cond_both (b == 124) _ _ P (λ _. refl) (λ _. refl)))))
+    (λ _. cond_both (b == 91) _ _ P (λ _. refl) (λ _. cond_both (b == 124) _ _ P (λ _. refl) (λ _. refl)))))
 
 triple-zero : (b c : ℕ) → is_triple b c 0 ≡ true → ⊥
 unfolding is_triple
@@ -192,24 +197,24 @@ symbol-taken [] some none len = absurd (omega arith)
 symbol-taken (b ∷ []) some none len =
     let P : ℕ → Type 0 = λ n. (n ≡ 0 → ⊥) → IsTaken (b ∷ []) Symbol n in
     cond_both (is_triple b 0 0) _ _ P (λ h. absurd (triple-zero b 0 h)) (λ _. cond_both (is_pair b 0) _ _ P
-      (λ h. absurd (both_ways (is_pair b 0) (pair-zero b) h)) (λ _. cond_both (is_single b) _ _ P
-      (λ h _. symbol-at (b ∷ []) [] (record { passes = h; longest = λ more left e q. longest-single b [] more left (pair-zero b) e q }) none)
-      (λ _ n. absurd (n refl)))) len
+    (λ h. absurd (both_ways (is_pair b 0) (pair-zero b) h)) (λ _. cond_both (is_single b) _ _ P
+    (λ h _. symbol-at (b ∷ []) [] (record { passes = h; longest = λ more left e q. longest-single b [] more left (pair-zero b) e q }) none)
+    (λ _ n. absurd (n refl)))) len
 symbol-taken (b ∷ c ∷ []) some none len =
     let P : ℕ → Type 0 = λ n. (n ≡ 0 → ⊥) → IsTaken (b ∷ c ∷ []) Symbol n in
     cond_both (is_triple b c 0) _ _ P (λ h. absurd (triple-zero b c h)) (λ t. cond_both (is_pair b c) _ _ P
-      (λ h _. symbol-at (b ∷ c ∷ []) [] (record { passes = h; longest = λ more left e q. longest-pair b c [] more left t e q }) none)
-      (λ p. cond_both (is_single b) _ _ P
-      (λ h _. symbol-at (b ∷ []) (c ∷ []) (record { passes = h; longest = λ more left e q. longest-single b (c ∷ []) more left p e q }) none)
-      (λ _ n. absurd (n refl)))) len
+    (λ h _. symbol-at (b ∷ c ∷ []) [] (record { passes = h; longest = λ more left e q. longest-pair b c [] more left t e q }) none)
+    (λ p. cond_both (is_single b) _ _ P
+    (λ h _. symbol-at (b ∷ []) (c ∷ []) (record { passes = h; longest = λ more left e q. longest-single b (c ∷ []) more left p e q }) none)
+    (λ _ n. absurd (n refl)))) len
 symbol-taken (b ∷ c ∷ d ∷ text) some none len =
     let P : ℕ → Type 0 = λ n. (n ≡ 0 → ⊥) → IsTaken (b ∷ c ∷ d ∷ text) Symbol n in
     cond_both (is_triple b c d) _ _ P (λ h _. symbol-at (b ∷ c ∷ d ∷ []) text (symbol-triple b c d text h) none)
-      (λ t. cond_both (is_pair b c) _ _ P
-      (λ h _. symbol-at (b ∷ c ∷ []) (d ∷ text) (record { passes = h; longest = λ more left e q. longest-pair b c (d ∷ text) more left t e q }) none)
-      (λ p. cond_both (is_single b) _ _ P
-      (λ h _. symbol-at (b ∷ []) (c ∷ d ∷ text) (record { passes = h; longest = λ more left e q. longest-single b (c ∷ d ∷ text) more left p e q }) none)
-      (λ _ n. absurd (n refl)))) len
+    (λ t. cond_both (is_pair b c) _ _ P
+    (λ h _. symbol-at (b ∷ c ∷ []) (d ∷ text) (record { passes = h; longest = λ more left e q. longest-pair b c (d ∷ text) more left t e q }) none)
+    (λ p. cond_both (is_single b) _ _ P
+    (λ h _. symbol-at (b ∷ []) (c ∷ d ∷ text) (record { passes = h; longest = λ more left e q. longest-single b (c ∷ d ∷ text) more left p e q }) none)
+    (λ _ n. absurd (n refl)))) len
 
 -- the byte begins symbols alone, or nothing
 class-other : (b : ℕ) → begins_other b ≡ false → (class_of b ≡ 6) ⊎ (class_of b ≡ 8)
@@ -241,7 +246,7 @@ no_length : (b c d : ℕ) → symbol_length b c d ≡ 0 → (is_single b ≡ fal
 no_length b c d =
     let P : ℕ → Type 0 = λ n. n ≡ 0 → (is_single b ≡ false) × (is_pair b c ≡ false) in
     cond_both (is_triple b c d) _ _ P (λ _ n. absurd (omega arith)) (λ _. cond_both (is_pair b c) _ _ P (λ _ n. absurd (omega arith))
-      (λ pair. cond_both (is_single b) _ _ P (λ _ n. absurd (omega arith)) (λ single _. (single, pair))))
+    (λ pair. cond_both (is_single b) _ _ P (λ _ n. absurd (omega arith)) (λ single _. (single, pair))))
 
 no_symbol-token : (text here rest : List ℕ) (kind : TokenKind) → begins_other (get_or text 0 0) ≡ false → is_single (get_or text 0 0) ≡ false → is_pair (get_or text 0 0) (get_or text 1 0) ≡ false → text ≡ here ++ rest → is_token kind here ≡ true → ⊥
 no_symbol-token text [] rest kind other single pair e p = token-nothing kind p
@@ -250,9 +255,9 @@ no_symbol-token text (b ∷ here) rest kind other single pair e p =
     let second : 0 < length here → get_or here 0 0 ≡ get_or text 1 0 = λ some. second_byte here rest b text e some in
     let class = class-token kind b here p in
     elim (class-other b (rw first at other)) [
-      inl six ↦ (let same : kind ≡ Symbol = same_kind kind Symbol (omega arith) (sym class ∙ six) in
-        no_symbol b (get_or text 1 0) here (rw first at single) (rw first at pair) second (rw same at p))
-    | inr eight ↦ small kind (sym class ∙ eight)
+      | inl six ↦ (let same : kind ≡ Symbol = same_kind kind Symbol (omega arith) (sym class ∙ six) in
+          no_symbol b (get_or text 1 0) here (rw first at single) (rw first at pair) second (rw same at p))
+      | inr eight ↦ small kind (sym class ∙ eight)
     ]
 
 pub symbol-none : (text : List ℕ) → 0 < length text → begins_other (get_or text 0 0) ≡ false → symbol_length (get_or text 0 0) (get_or text 1 0) (get_or text 2 0) ≡ 0 → IsFault text 0

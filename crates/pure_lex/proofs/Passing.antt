@@ -1,14 +1,13 @@
 -- A gap grows by a blank or a comment behind it, and ends where neither begins.
-use Rattle.std.proofs.Common.{◌≡◌, ℕ, suc, ◌+◌, ◌-◌, ◌<◌, ◌≤◌, Bool, true, false, List, [], ◌∷◌, ◌++◌, length, get_or, take, drop, refl, sym, ap, ◌∙◌, arith, drop-cons, add-one, append_assoc}
+use Rattle.std.proofs.Common.{◌≡◌, ℕ, ◌+◌, ◌-◌, ◌<◌, ◌≤◌, true, false, List, [], ◌∷◌, ◌++◌, length, get_or, take, drop, ap, arith, drop-cons, add-one, append_assoc}
 use Rattle.std.proofs.Math.Seq.{take-suc, take-append_seam, take-add}
 use Rattle.std.proofs.lemmas.Bool.{false_from_ne_true, both_ways}
-use Rattle.std.proofs.lemmas.List.{append-nil, drop_all, take-append-drop, length-drop}
+use Rattle.std.proofs.lemmas.List.{append-nil, drop_all, length-drop}
 use Rattle.pure_grammar.specs.Bytes.{is_blank, head_is}
 use Rattle.pure_grammar.specs.Comment.{is_comment, opens_comment, Gap, IsSettled}
 use Rattle.pure_grammar.specs.Comment.Gap.{nothing, blank, comment}
 use Rattle.pure_grammar.proofs.Gaps.{opens_comment-front, settled-nothing}
-use Rattle.pure_lex.specs.Fronts.{IsCut, IsComment, HasNoComment, IsGap}
-use Rattle.pure_lex.proofs.Runs.{cut}
+use Rattle.pure_lex.specs.Fronts.{IsComment, HasNoComment, IsGap}
 use Rattle.pure_lex.proofs.Comments.{opened-text}
 
 Gap-append : (ys : List ℕ) {xs : List ℕ} → Gap xs → Gap ys → Gap (xs ++ ys)
@@ -61,7 +60,7 @@ pub gap-other : (text : List ℕ) (at : ℕ) → at < length text → Gap (take 
 gap-other text at below gap no_blank no_opening =
     let head : head_is is_blank (drop at text) ≡ false = rw (drop-cons text at 0 below) no_blank in
     let none : HasNoComment (drop at text) = λ here rest e. false_from_ne_true (is_comment here) (λ whole.
-      let opens : opens_comment (drop at text) ≡ true = rw e (opens_comment-front here rest whole) in
-      both_ways _ no_opening opens) in
+    let opens : opens_comment (drop at text) ≡ true = rw e (opens_comment-front here rest whole) in
+    both_ways _ no_opening opens) in
     let settled : IsSettled (drop at text) = record { no_blank = head; no_comment = none } in
     gap-at text at (omega arith) gap settled

@@ -1,8 +1,8 @@
 -- What has been read of a text.
-use Rattle.std.proofs.Common.{◌≡◌, ℕ, true, ◌+◌, ◌-◌, ◌<◌, ◌≤◌, List, [], ◌∷◌, ◌++◌, length, take, drop, refl, sym, ap, ◌∙◌, inl, inr, arith, append_assoc, length-append, Some, None, cond, Option}
+use Rattle.std.proofs.Common.{◌≡◌, ℕ, true, ◌+◌, ◌-◌, ◌<◌, ◌≤◌, List, [], ◌∷◌, ◌++◌, length, take, drop, refl, sym, ap, ◌∙◌, inl, inr, arith, length-append, Some, None, Option}
 use Rattle.std.specs.Prelude.{slice_range}
 use Rattle.std.proofs.lemmas.Bool.{cond_both}
-use Rattle.std.proofs.lemmas.List.{append-nil, take-append-drop, length-take-le, length-drop, drop-drop, take_all}
+use Rattle.std.proofs.lemmas.List.{take-append-drop, length-take-le, length-drop, drop-drop, take_all}
 use Rattle.std.proofs.lemmas.List.Prefix.{front_rest}
 use Rattle.pure_grammar.specs.Comment.{Gap}
 use Rattle.pure_grammar.specs.Token.{is_token, is_long, long_identifier, first_identifier, second_identifier}
@@ -10,7 +10,7 @@ use Rattle.pure_grammar.specs.Spelling.{Begins, Leaves, Spells, HasFault, IsFaul
 use Rattle.pure_grammar.specs.declared.token.Token.{Token}
 use Rattle.pure_grammar.specs.declared.token.TokenKind.{TokenKind}
 use Rattle.pure_grammar.proofs.Classes.{token-nothing}
-use Rattle.pure_lex.specs.Fronts.{IsCut, IsGap, IsTaken}
+use Rattle.pure_lex.specs.Fronts.{IsGap, IsTaken}
 
 -- the tokens so far are the first of the text, and what stands from the place `at` on is left
 pub record Progress (to : ℕ) (text : List ℕ) (found : List Token) (at : ℕ) : Type 0 where
@@ -28,9 +28,9 @@ Leaves-push to t (u ∷ ts) text left rest (behind, begins, leaves) b = (behind,
 pub taken-some : (text : List ℕ) (kind : TokenKind) (len : ℕ) → IsTaken text kind len → 0 < len
 taken-some text kind len x = some x.here x.first.token (x.cut.size)
   where
-  some : (here : List ℕ) → is_token kind here ≡ true → length here ≡ len → 0 < len
-  some [] p size = absurd (token-nothing kind p)
-  some (b ∷ here) p size = omega arith
+    some : (here : List ℕ) → is_token kind here ≡ true → length here ≡ len → 0 < len
+    some [] p size = absurd (token-nothing kind p)
+    some (b ∷ here) p size = omega arith
 
 -- what the gap at the place `at` is
 pub record Passed (text : List ℕ) (at gap : ℕ) : Type 0 where
@@ -42,8 +42,9 @@ pub passed : (text : List ℕ) (at gap : ℕ) → at ≤ length text → IsGap (
 passed text at gap within g =
     let inner : gap ≤ length text - at = simp length-drop at g.within in
     record {
-      within = omega arith; blank = g.blank;
-      left = sym (take-append-drop gap (drop at text)) ∙ ap (λ bs. take gap (drop at text) ++ bs) (drop-drop gap at text)
+      within = omega arith;
+      blank = g.blank;
+      left = sym (take-append-drop gap (drop at text)) ∙ ap (λ bs. take gap (drop at text) ++ bs) (drop-drop gap at text);
     }
 
 -- the text ends at the place `to` and begins `length text` bytes before it
@@ -52,14 +53,19 @@ next-begins to from text at gap len t whole p x begin end =
     let parts = x.cut.parts in
     let size = x.cut.size in
     let behind : drop (at + gap + len) text ≡ x.rest =
-      sym (drop-drop len (at + gap) text) ∙ (ap (λ n. drop n (drop (at + gap) text)) (sym size) ∙ front_rest (drop (at + gap) text) x.here x.rest parts) in
+    sym (drop-drop len (at + gap) text) ∙ (ap (λ n. drop n (drop (at + gap) text)) (sym size) ∙ front_rest (drop (at + gap) text) x.here x.rest parts) in
     let total : length (drop (at + gap) text) ≡ length x.here + length x.rest = ap length parts ∙ length-append x.here x.rest in
     let left : length text - (at + gap) ≡ length x.here + length x.rest = simp length-drop at total in
     let within = p.within in
     let begins : Begins to t (drop at text) x.rest = record {
-      gap = take gap (drop at text); here = x.here; blank = p.blank;
+      gap = take gap (drop at text);
+      here = x.here;
+      blank = p.blank;
       text = p.left ∙ ap (λ bs. take gap (drop at text) ++ bs) parts;
-      first = x.first; short = x.short; from = omega arith; ends = omega arith
+      first = x.first;
+      short = x.short;
+      from = omega arith;
+      ends = omega arith;
     } in
     rw behind begins
 
@@ -70,7 +76,7 @@ progress-push to from text found at gap len t whole r g x begin end =
     let within = p.within in
     record {
       within = omega arith;
-      leaves = Leaves-push to t found text (drop at text) (drop (at + gap + len) text) r.leaves (next-begins to from text at gap len t whole p x begin end)
+      leaves = Leaves-push to t found text (drop at text) (drop (at + gap + len) text) r.leaves (next-begins to from text at gap len t whole p x begin end);
     }
 
 -- nothing is left behind the gap
@@ -87,14 +93,16 @@ long-within : (kind : TokenKind) (bs : List ℕ) (skipped : ℕ) → long_identi
 long-within kind bs skipped =
     let P : Option ℕ → Type 0 = λ o. o ≡ Some skipped → skipped ≤ length bs in
     cond_both (is_long (first_identifier kind bs)) _ _ P (λ _ e. first e)
-      (λ _. cond_both (is_long (second_identifier kind bs)) _ _ P (λ _ e. second e) (λ _ e. none e))
+    (λ _. cond_both (is_long (second_identifier kind bs)) _ _ P (λ _ e. second e) (λ _ e. none e))
   where
-  first : Some 0 ≡ Some skipped → skipped ≤ length bs
-  first e = let same : 0 ≡ skipped = cc in omega arith
-  second : Some (length bs - length (second_identifier kind bs)) ≡ Some skipped → skipped ≤ length bs
-  second e = let same : length bs - length (second_identifier kind bs) ≡ skipped = cc in omega arith
-  none : None ≡ Some skipped → skipped ≤ length bs
-  none e = cc
+    first : Some 0 ≡ Some skipped → skipped ≤ length bs
+    first e = let same : 0 ≡ skipped = cc in omega arith
+
+    second : Some (length bs - length (second_identifier kind bs)) ≡ Some skipped → skipped ≤ length bs
+    second e = let same : length bs - length (second_identifier kind bs) ≡ skipped = cc in omega arith
+
+    none : None ≡ Some skipped → skipped ≤ length bs
+    none e = cc
 
 pub fault-within : (bytes : List ℕ) (skipped : ℕ) → IsFault bytes skipped → skipped ≤ length bytes
 fault-within bytes skipped (inl (no_first, e)) = omega (arith, e)
@@ -109,9 +117,15 @@ progress-fault to from text found at gap skipped whole r g fault =
     let size : length (drop (at + gap) text) ≡ length text - (at + gap) = length-drop (at + gap) text in
     let within = p.within in
     record {
-      tokens = found; gap = take gap (drop at text); rest = drop (at + gap) text; skipped = skipped;
-      before = rw (sym p.left) r.leaves; blank = p.blank; settled = rw (sym (drop-drop gap at text)) g.settled;
-      fault = fault; at_place = omega arith
+      tokens = found;
+      gap = take gap (drop at text);
+      rest = drop (at + gap) text;
+      skipped = skipped;
+      before = rw (sym p.left) r.leaves;
+      blank = p.blank;
+      settled = rw (sym (drop-drop gap at text)) g.settled;
+      fault = fault;
+      at_place = omega arith;
     }
 
 -- the range of the source has so many bytes

@@ -1,7 +1,6 @@
-use Rattle.std.proofs.Common.{◌≡◌, take, true, arith, rules}
+use Rattle.std.proofs.Common.{arith, rules}
 use Rattle.pure_grammar.specs.Bytes.{is_name_byte}
 use Rattle.pure_lex.proofs.Runs.{run, run_all}
-use Rattle.pure_lex.proofs.Firsts.{first-name}
 use Rattle.pure_lex.proofs.bytes.name_length.Goals as goal
 
 pub returns-then-not-is_name_byte : goal.returns-then-not-is_name_byte

@@ -1,4 +1,4 @@
-use Rattle.std.proofs.Common.{◌≡◌, take, true, arith, rules}
+use Rattle.std.proofs.Common.{arith, rules}
 use Rattle.pure_grammar.specs.Token.{is_quotable}
 use Rattle.pure_lex.proofs.Runs.{run, run_all}
 use Rattle.pure_lex.proofs.bytes.quotable_length.Goals as goal

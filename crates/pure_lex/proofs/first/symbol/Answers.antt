@@ -9,11 +9,11 @@ returns-then-opens_comment c = symbol-comment c.args.text.now (sym c.opens_comme
 pub returns-then-len-eq0 : goal.returns-then-len-eq0
 returns-then-len-eq0 c =
     let is : c.symbol_length-len.result ≡ symbol_length (get_or c.args.text.now 0 0) (get_or c.args.text.now 1 0) (get_or c.args.text.now 2 0) =
-      rw (c.byte_at.ensures, c.byte_at-2.ensures) at c.symbol_length-len.ensures in
+    rw (c.byte_at.ensures, c.byte_at-2.ensures) at c.symbol_length-len.ensures in
     symbol-none c.args.text.now c.requires.some c.requires.other (sym is ∙ c.if-len-eq0.true)
 
 pub returns : goal.returns
 returns c =
     let is : c.symbol_length-len.result ≡ symbol_length (get_or c.args.text.now 0 0) (get_or c.args.text.now 1 0) (get_or c.args.text.now 2 0) =
-      rw (c.byte_at.ensures, c.byte_at-2.ensures) at c.symbol_length-len.ensures in
+    rw (c.byte_at.ensures, c.byte_at-2.ensures) at c.symbol_length-len.ensures in
     rw is (symbol-taken c.args.text.now c.requires.some (sym c.opens_comment.ensures ∙ c.if-opens_comment.false) (λ none. c.if-len-eq0.false (is ∙ none)))

@@ -1,5 +1,4 @@
-use Rattle.std.proofs.Common.{◌≡◌, ◌+◌, Bool, true, false, get_or, sym, ◌∙◌, arith}
-use Rattle.pure_grammar.specs.Comment.{is_opening, is_closing}
+use Rattle.std.proofs.Common.{sym, ◌∙◌, arith}
 use Rattle.pure_lex.proofs.Comments.{Reading, reading-start, reading-opening, reading-closing, reading-other, comment-closed, comment-unclosed}
 use Rattle.pure_lex.proofs.gaps.comment_length.Goals as goal
 

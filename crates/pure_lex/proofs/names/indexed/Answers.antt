@@ -17,7 +17,7 @@ returns-then-len-gt-LONGEST c =
     let letter : head_is is_letter (drop c.args.marks c.args.text.now) ≡ true = rw c.rest_from-name.ensures at (sym c.begins_letter.ensures ∙ c.if-not-begins_letter.false) in
     let name : IsRun is_name_byte (drop c.args.marks c.args.text.now) c.name_length-len.result = rw c.rest_from-name.ensures at c.name_length-len.ensures in
     let index : IsFront is_index (drop c.name_length-len.result (drop c.args.marks c.args.text.now)) c.index_length-index.result =
-      rw (c.rest_from.ensures, c.rest_from-name.ensures) at c.index_length-index.ensures in
+    rw (c.rest_from.ensures, c.rest_from-name.ensures) at c.index_length-index.ensures in
     schematic-fault c.args.text.now c.args.marks _ _ c.requires letter name index c.if-len-gt-LONGEST.true
 
 pub returns : goal.returns
@@ -25,5 +25,5 @@ returns c =
     let letter : head_is is_letter (drop c.args.marks c.args.text.now) ≡ true = rw c.rest_from-name.ensures at (sym c.begins_letter.ensures ∙ c.if-not-begins_letter.false) in
     let name : IsRun is_name_byte (drop c.args.marks c.args.text.now) c.name_length-len.result = rw c.rest_from-name.ensures at c.name_length-len.ensures in
     let index : IsFront is_index (drop c.name_length-len.result (drop c.args.marks c.args.text.now)) c.index_length-index.result =
-      rw (c.rest_from.ensures, c.rest_from-name.ensures) at c.index_length-index.ensures in
+    rw (c.rest_from.ensures, c.rest_from-name.ensures) at c.index_length-index.ensures in
     schematic-taken c.args.text.now c.args.marks _ _ c.requires letter name index c.if-len-gt-LONGEST.false
