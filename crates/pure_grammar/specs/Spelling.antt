@@ -1,5 +1,5 @@
 -- Which tokens spell a source, and where its first fault stands.
-use Rattle.std.specs.Prelude.{◌≡◌, ℕ, ◌+◌, ◌<◌, ◌⊎◌, false, List, [], ◌∷◌, ◌++◌, length, IsTrue, Some, None}
+use Rattle.std.specs.Prelude.{◌≡◌, ℕ, ◌+◌, ◌<◌, ◌≤◌, slice_range, ◌⊎◌, false, List, [], ◌∷◌, ◌++◌, length, IsTrue, Some, None}
 use Rattle.pure_grammar.specs.Comment.{Gap, IsSettled, opens_comment}
 use Rattle.pure_grammar.specs.Token.{is_token, long_identifier}
 use Rattle.pure_grammar.specs.declared.token.Token.{Token}
@@ -64,6 +64,22 @@ pub record HasFault (to : ℕ) (bytes : List ℕ) (place : ℕ) : Type 0 where
   pub settled : IsSettled rest
   pub fault : IsFault rest skipped
   pub at_place : place + length rest ≡ to + skipped
+
+-- The token is a slice of the source that is a token of its kind.
+pub record IsSlice (source : List ℕ) (token : Token) : Type 0 where
+  pub some : token.from < token.to
+  pub within : token.to ≤ length source
+  pub spelled : IsTrue (is_token token.kind (slice_range source token.from token.to))
+
+-- The tokens are slices of the source, one behind another, from the place `from` on and at most to the place `to`.
+abbrev pub AreSlices : List ℕ → ℕ → ℕ → List Token → Type 0
+AreSlices source from to [] = from ≤ to
+AreSlices source from to (t ∷ ts) = (from ≤ t.from) × IsSlice source t × AreSlices source t.to to ts
+
+abbrev pub TokensAreSlices : Type 0
+TokensAreSlices =
+    (from to : ℕ) (source : List ℕ) (ts : List Token) → from ≤ to → to ≤ length source
+    → Spells to ts (slice_range source from to) → AreSlices source from to ts
 
 abbrev pub OneList : Type 0
 OneList = (to : ℕ) (bytes : List ℕ) (ts us : List Token) → Spells to ts bytes → Spells to us bytes → ts ≡ us

@@ -1,5 +1,5 @@
 //! Laws of the definitions. Each function has no body: its contract is the law.
-ghost use Rattle.pure_grammar.specs.Spelling.{OneList, ListOrFault, OneFault};
+ghost use Rattle.pure_grammar.specs.Spelling.{OneList, ListOrFault, OneFault, TokensAreSlices};
 
 /// No source is spelled by two lists of tokens.
 pub fn one_list()
@@ -15,3 +15,9 @@ pub fn list_or_fault()
 pub fn one_fault()
     ensures { OneFault }
 {}
+
+/// The tokens that spell a range of a source are slices of it, one behind another.
+pub fn tokens_are_slices()
+    ensures { TokensAreSlices }
+{
+}

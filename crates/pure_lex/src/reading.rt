@@ -1,6 +1,6 @@
 //! The tokens of a source.
 ghost use Rattle.std.specs.Prelude.{◌≡◌, ◌≤◌, ◌<◌, ◌^◌, length, slice_range, IfOk, IfErr};
-ghost use Rattle.pure_grammar.specs.Spelling.{Spells};
+ghost use Rattle.pure_grammar.specs.Spelling.{Spells, AreSlices};
 ghost use Rattle.pure_lex.specs.Faults.{IsFaultOf};
 
 use crate::bytes::rest_from;
@@ -32,6 +32,7 @@ pub fn tokens(alloc: Global, source: &[u8], from: u32, to: u32) -> Result<Vec<To
     requires order { from ≤ to }
     requires within { to ≤ length source.now }
     ensures ok { IfOk result (λ found. Spells to found.items (slice_range source.now from to)) }
+    ensures slices { IfOk result (λ found. AreSlices source.now from to found.items) }
     ensures fault { IfErr result (IsFaultOf to (slice_range source.now from to)) }
 {
     let text = &source[from as usize..to as usize];
