@@ -18,7 +18,7 @@ pub returns-then-is_empty-clause-ok : goal.returns-then-is_empty-clause-ok
 returns-then-is_empty-clause-ok c =
     let gap : IsGap (drop c.loop-text.at (slice_range c.args.source.now c.args.from c.args.to)) c.gap_length-at.result = rw c.rest_from.ensures at c.gap_length-at.ensures in
     let none : length (drop (c.loop-text.at + c.gap_length-at.result) (slice_range c.args.source.now c.args.from c.args.to)) ≡ 0 =
-      rw c.rest_from-rest.ensures at (eqb-true (length c.rest_from-rest.result.now) 0 (sym c.is_empty.ensures ∙ c.if-is_empty.true)) in
+    rw c.rest_from-rest.ensures at (eqb-true (length c.rest_from-rest.result.now) 0 (sym c.is_empty.ensures ∙ c.if-is_empty.true)) in
     progress-end c.args.to (slice_range c.args.source.now c.args.from c.args.to) _ _ _ c.loop-text.invariant gap none
 
 pub returns-then-is_empty-clause-slices : goal.returns-then-is_empty-clause-slices
@@ -30,4 +30,4 @@ returns-in-Err-clause-fault c =
     let gap : IsGap (drop c.loop-text.at (slice_range c.args.source.now c.args.from c.args.to)) c.gap_length-at.result = rw c.rest_from.ensures at c.gap_length-at.ensures in
     let fault : IsFault (drop (c.loop-text.at + c.gap_length-at.result) (slice_range c.args.source.now c.args.from c.args.to)) c.in-Err.skipped = rw c.rest_from-rest.ensures at c.in-Err.ensures in
     progress-fault c.args.to c.args.from (slice_range c.args.source.now c.args.from c.args.to) _ _ _ _
-      (range_ends c.args.source.now c.args.from c.args.to c.requires.order c.requires.within) c.loop-text.invariant gap fault
+    (range_ends c.args.source.now c.args.from c.args.to c.requires.order c.requires.within) c.loop-text.invariant gap fault
