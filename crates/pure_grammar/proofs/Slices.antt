@@ -1,10 +1,10 @@
 -- Tokens are slices of their source.
-use Rattle.std.proofs.Common.{◌≡◌, ℕ, ◌+◌, ◌-◌, ◌<◌, ◌≤◌, List, [], ◌∷◌, ◌++◌, length, take, drop, refl, sym, ap, ◌∙◌, true, arith, append_assoc, length-append}
+use Rattle.std.proofs.Common.{◌≡◌, ℕ, ◌+◌, ◌-◌, ◌<◌, ◌≤◌, List, [], ◌∷◌, ◌++◌, length, take, drop, sym, ap, ◌∙◌, true, arith, append_assoc, length-append}
 use Rattle.std.specs.Prelude.{slice_range}
 use Rattle.std.proofs.Math.Seq.{take-append_seam, drop-append_seam}
-use Rattle.std.proofs.lemmas.List.{append-nil, take-append-drop, length-take-le, length-drop}
+use Rattle.std.proofs.lemmas.List.{take-append-drop, length-take-le, length-drop}
 use Rattle.pure_grammar.specs.Token.{is_token}
-use Rattle.pure_grammar.specs.Spelling.{Begins, Leaves, Spells, IsSlice, AreSlices, TokensAreSlices}
+use Rattle.pure_grammar.specs.Spelling.{Begins, Leaves, IsSlice, AreSlices, TokensAreSlices}
 use Rattle.pure_grammar.specs.declared.token.Token.{Token}
 use Rattle.pure_grammar.specs.declared.token.TokenKind.{TokenKind}
 use Rattle.pure_grammar.proofs.Classes.{token-nothing}
@@ -35,7 +35,7 @@ pub record FirstSlice (source front text rest back : List ℕ) (t : Token) (to :
 first-slice : (source front text rest back : List ℕ) (t : Token) (to : ℕ) → IsPart source front text back to → Begins to t text rest → FirstSlice source front text rest back t to
 first-slice source front text rest back t to p b =
     let whole : source ≡ (front ++ b.gap) ++ (b.here ++ (rest ++ back)) =
-      p.whole ∙ (ap (λ x. front ++ (x ++ back)) b.text ∙ simp append_assoc) in
+    p.whole ∙ (ap (λ x. front ++ (x ++ back)) b.text ∙ simp append_assoc) in
     let size : length text ≡ length b.gap + (length b.here + length rest) = ap length b.text ∙ simp length-append in
     let from = b.from in
     let ends = b.ends in
@@ -50,7 +50,7 @@ first-slice source front text rest back t to p b =
       slice = record { some = omega arith; within = omega arith; spelled = rw bytes b.first.token };
       read = (front ++ b.gap) ++ b.here;
       size = simp length-append (omega arith);
-      part = record { whole = whole ∙ sym (append_assoc (front ++ b.gap) b.here (rest ++ back)); ends = simp length-append (omega arith) }
+      part = record { whole = whole ∙ sym (append_assoc (front ++ b.gap) b.here (rest ++ back)); ends = simp length-append (omega arith) };
     }
 
 slices : (source front text gap back : List ℕ) (to : ℕ) (ts : List Token) → IsPart source front text back to → Leaves to ts text gap → AreSlices source (length front) to ts
@@ -66,7 +66,7 @@ tokens_are_slices from to source ts order within (gap, leaves, _) =
     let middle : length (take (to - from) (drop from source)) ≡ to - from = length-take-le (to - from) (drop from source) left in
     let part : IsPart source (take from source) (slice_range source from to) (drop (to - from) (drop from source)) to = record {
       whole = sym (ap (λ x. take from source ++ x) (take-append-drop (to - from) (drop from source)) ∙ take-append-drop from source);
-      ends = omega arith
+      ends = omega arith;
     } in
     let found : AreSlices source (length (take from source)) to ts = slices source (take from source) (slice_range source from to) gap (drop (to - from) (drop from source)) to ts part leaves in
     rw size at found

@@ -2,6 +2,21 @@
 use Rattle.std.specs.Prelude.{ℕ, ◌==◌, Bool, true, false, ◌||◌, ◌&&◌, List, [], ◌∷◌, if◌then◌else◌}
 use Rattle.std.specs.Char.{is_ascii_alphabetic, is_ascii_digit}
 
+abbrev pub dot : ℕ
+dot = 46
+
+abbrev pub apostrophe : ℕ
+apostrophe = 39
+
+abbrev pub question_mark : ℕ
+question_mark = 63
+
+abbrev pub underscore : ℕ
+underscore = 95
+
+abbrev pub quotation_mark : ℕ
+quotation_mark = 34
+
 -- `A` to `Z` and `a` to `z`
 unfoldable pub is_letter : ℕ → Bool
 is_letter b = is_ascii_alphabetic b
@@ -12,7 +27,7 @@ is_digit b = is_ascii_digit b
 
 -- a letter, a digit, `_` or `'`
 unfoldable pub is_name_byte : ℕ → Bool
-is_name_byte b = is_letter b || (is_digit b || ((b == 95) || (b == 39)))
+is_name_byte b = is_letter b || (is_digit b || ((b == underscore) || (b == apostrophe)))
 
 -- a space, a tab, a carriage return or a line feed
 unfoldable pub is_blank : ℕ → Bool

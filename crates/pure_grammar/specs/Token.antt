@@ -3,7 +3,7 @@ use Rattle.std.specs.Prelude.{ℕ, ◌+◌, ◌-◌, ◌==◌, Bool, false, not,
 use Rattle.std.specs.List.{list_any, list_all}
 use Rattle.std.specs.Cmp.Lexicographic.{pointwise}
 use Rattle.std.specs.Prelude.{codes}
-use Rattle.pure_grammar.specs.Bytes.{is_letter, is_digit, is_name_byte, is_empty, head_is, marked, behind}
+use Rattle.pure_grammar.specs.Bytes.{dot, apostrophe, question_mark, underscore, quotation_mark, is_letter, is_digit, is_name_byte, is_empty, head_is, marked, behind}
 use Rattle.pure_grammar.specs.declared.token.TokenKind.{TokenKind}
 use Rattle.pure_grammar.specs.declared.token.TokenKind.TheVariants.{Word, Ident, Qualified, TypeVar, Schem, BoundName, Number, Quote, Symbol, End}
 
@@ -23,7 +23,7 @@ is_spelling bs = head_is is_letter bs && is_empty (behind is_name_byte bs)
 
 -- two spellings, joined by a dot
 abbrev pub is_qualified : List ℕ → Bool
-is_qualified bs = head_is is_letter bs && marked 46 is_spelling (behind is_name_byte bs)
+is_qualified bs = head_is is_letter bs && marked dot is_spelling (behind is_name_byte bs)
 
 -- one to nine digits
 abbrev pub is_number : List ℕ → Bool
@@ -31,19 +31,19 @@ is_number bs = list_all is_digit bs && (nat_le 1 (length bs) && nat_le (length b
 
 -- a spelling, with or without a dot and an index behind it
 abbrev pub is_indexed : List ℕ → Bool
-is_indexed bs = head_is is_letter bs && (is_empty (behind is_name_byte bs) || marked 46 is_number (behind is_name_byte bs))
+is_indexed bs = head_is is_letter bs && (is_empty (behind is_name_byte bs) || marked dot is_number (behind is_name_byte bs))
 
 -- `?`, then `'` or not, then a spelling with or without an index
 abbrev pub is_schematic : List ℕ → Bool
-is_schematic bs = marked 63 (λ name. is_indexed name || marked 39 is_indexed name) bs
+is_schematic bs = marked question_mark (λ name. is_indexed name || marked apostrophe is_indexed name) bs
 
 -- any ASCII byte but the quotation mark
 unfoldable pub is_quotable : ℕ → Bool
-is_quotable b = nat_lt b 128 && not (b == 34)
+is_quotable b = nat_lt b 128 && not (b == quotation_mark)
 
 -- a quotation mark, quotable bytes, a quotation mark
 abbrev pub is_quote : List ℕ → Bool
-is_quote bs = marked 34 (λ text. marked 34 is_empty (behind is_quotable text)) bs
+is_quote bs = marked quotation_mark (λ text. marked quotation_mark is_empty (behind is_quotable text)) bs
 
 unfoldable pub is_single : ℕ → Bool
 is_single b = list_any (λ s. s == b) (codes "%.,;:()[]{}<|+")
@@ -69,14 +69,16 @@ is_symbol (b ∷ c ∷ []) = is_pair b c
 is_symbol (b ∷ c ∷ d ∷ []) = is_triple b c d
 is_symbol (b ∷ c ∷ d ∷ e ∷ bs) = false
 
--- The bytes are a token of this kind, however long its spellings are. The end of the source has no bytes and is no token.
+-- The bytes are a token of this kind, where spellings may have any length: the limit on them is apart, so that a name
+-- that is too long is a fault and not two tokens. Comments are no tokens. The end of the source has no bytes, so that it
+-- is none either.
 abbrev pub is_token : TokenKind → List ℕ → Bool
 is_token Word bs = is_spelling bs && is_keyword bs
 is_token Ident bs = is_spelling bs && not (is_keyword bs)
 is_token Qualified bs = is_qualified bs
-is_token TypeVar bs = marked 39 is_spelling bs
+is_token TypeVar bs = marked apostrophe is_spelling bs
 is_token Schem bs = is_schematic bs
-is_token BoundName bs = marked 95 is_number bs
+is_token BoundName bs = marked underscore is_number bs
 is_token Number bs = is_number bs
 is_token Quote bs = is_quote bs
 is_token Symbol bs = is_symbol bs
@@ -96,7 +98,7 @@ first_identifier Word bs = bs
 first_identifier Ident bs = bs
 first_identifier Qualified bs = bs
 first_identifier TypeVar bs = tail bs
-first_identifier Schem bs = if head_is (λ b. b == 39) (tail bs) then tail (tail bs) else tail bs
+first_identifier Schem bs = if head_is (λ b. b == apostrophe) (tail bs) then tail (tail bs) else tail bs
 first_identifier _ bs = []
 
 -- a token from its second identifier on

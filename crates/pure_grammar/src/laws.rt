@@ -19,5 +19,4 @@ pub fn one_fault()
 /// The tokens that spell a range of a source are slices of it, one behind another.
 pub fn tokens_are_slices()
     ensures { TokensAreSlices }
-{
-}
+{}

@@ -1,7 +1,7 @@
 -- What stands at the front of a text.
 use Rattle.std.specs.Prelude.{◌≡◌, ℕ, ◌<◌, ◌≤◌, Bool, true, false, ◌||◌, ◌==◌, List, [], ◌∷◌, ◌++◌, take, drop, length, if◌then◌else◌, None, Result, MatchResult}
 use Rattle.std.specs.List.{list_all}
-use Rattle.pure_grammar.specs.Bytes.{head_is, is_letter, is_digit, is_empty, marked}
+use Rattle.pure_grammar.specs.Bytes.{dot, apostrophe, question_mark, underscore, quotation_mark, head_is, is_letter, is_digit, is_empty, marked}
 use Rattle.pure_grammar.specs.Comment.{Gap, IsSettled, is_comment}
 use Rattle.pure_grammar.specs.Token.{is_single, is_pair, is_triple, long_identifier, is_number, is_keyword}
 use Rattle.pure_grammar.specs.Spelling.{IsFirst, IsFault}
@@ -57,7 +57,7 @@ pub record IsFront (test : List ℕ → Bool) (text : List ℕ) (len : ℕ) : Ty
 
 -- nothing, or a dot and an index
 abbrev pub is_index : List ℕ → Bool
-is_index bs = is_empty bs || marked 46 is_number bs
+is_index bs = is_empty bs || marked dot is_number bs
 
 -- the first token has `len` bytes, and its identifiers are short
 pub record IsTaken (text : List ℕ) (kind : TokenKind) (len : ℕ) : Type 0 where
@@ -73,7 +73,7 @@ name_kind name = if is_keyword name then Word else Ident
 
 -- a name, a number or a quoted text may begin with this byte
 abbrev pub begins_other : ℕ → Bool
-begins_other b = is_letter b || (is_digit b || ((b == 39) || ((b == 63) || ((b == 95) || (b == 34)))))
+begins_other b = is_letter b || (is_digit b || ((b == apostrophe) || ((b == question_mark) || ((b == underscore) || (b == quotation_mark)))))
 
 -- how many of these three bytes are the longest symbol, 0 standing for the end of the text
 abbrev pub symbol_length : ℕ → ℕ → ℕ → ℕ
@@ -81,8 +81,8 @@ symbol_length b c d = if is_triple b c d then 3 else (if is_pair b c then 2 else
 
 -- the text begins with the mark of a schematic variable, alone or with that of a type variable, and this many marks
 pub data HasMarks : List ℕ → ℕ → Type 0 where
-  one : (name : List ℕ) → head_is (λ b. b == 39) name ≡ false → HasMarks (63 ∷ name) 1
-  two : (name : List ℕ) → HasMarks (63 ∷ 39 ∷ name) 2
+  one : (name : List ℕ) → head_is (λ b. b == apostrophe) name ≡ false → HasMarks (question_mark ∷ name) 1
+  two : (name : List ℕ) → HasMarks (question_mark ∷ apostrophe ∷ name) 2
 
 -- the first token is this one, or a fault stands so many bytes on
 abbrev pub IsRead : List ℕ → Result Front ℕ → Type 0

@@ -1,6 +1,6 @@
 //! The first token of a text that begins with neither a blank nor a comment.
 ghost use Rattle.std.specs.Prelude.{◌≡◌, ◌<◌, length, slice_index, true, false};
-ghost use Rattle.pure_grammar.specs.Bytes.{head_is, is_digit};
+ghost use Rattle.pure_grammar.specs.Bytes.{underscore, quotation_mark, head_is, is_digit};
 ghost use Rattle.pure_grammar.specs.Token.{is_single, is_pair, is_triple};
 ghost use Rattle.pure_lex.specs.Fronts.{IsRead, begins_other, symbol_length};
 
@@ -29,7 +29,7 @@ fn number(text: &[u8]) -> Result<Front, usize>
 
 /// The bound name whose mark stands here.
 fn bound_name(text: &[u8]) -> Result<Front, usize>
-    requires { slice_index text.now 0 ≡ 95 }
+    requires { slice_index text.now 0 ≡ underscore }
     ensures { IsRead text.now result }
 {
     let digits = rest_from(text, 1);
@@ -44,7 +44,7 @@ fn bound_name(text: &[u8]) -> Result<Front, usize>
 
 /// The quoted text whose first mark stands here.
 fn quote(text: &[u8]) -> Result<Front, usize>
-    requires { slice_index text.now 0 ≡ 34 }
+    requires { slice_index text.now 0 ≡ quotation_mark }
     ensures { IsRead text.now result }
 {
     let body = rest_from(text, 1);

@@ -1,6 +1,6 @@
 //! Tokens that are names: words, identifiers, qualified names, type variables and schematic variables.
 ghost use Rattle.std.specs.Prelude.{◌≡◌, drop, slice_index, true};
-ghost use Rattle.pure_grammar.specs.Bytes.{is_letter, is_digit, is_name_byte, head_is, marked};
+ghost use Rattle.pure_grammar.specs.Bytes.{dot, apostrophe, question_mark, is_letter, is_digit, is_name_byte, head_is, marked};
 ghost use Rattle.pure_grammar.specs.Token.{is_keyword};
 ghost use Rattle.pure_lex.specs.Fronts.{IsFront, IsRead, IsRun, is_index, name_kind, HasMarks};
 
@@ -59,13 +59,13 @@ pub fn begins_letter(text: &[u8]) -> bool
 }
 
 fn begins_dotted_letter(text: &[u8]) -> bool
-    ensures { result ≡ marked 46 (head_is is_letter) text.now }
+    ensures { result ≡ marked dot (head_is is_letter) text.now }
 {
     byte_at(text, 0) == b'.' && is_letter(byte_at(text, 1))
 }
 
 fn begins_dotted_digit(text: &[u8]) -> bool
-    ensures { result ≡ marked 46 (head_is is_digit) text.now }
+    ensures { result ≡ marked dot (head_is is_digit) text.now }
 {
     byte_at(text, 0) == b'.' && is_digit(byte_at(text, 1))
 }
@@ -74,7 +74,7 @@ fn begins_dotted_digit(text: &[u8]) -> bool
 fn qualified(text: &[u8], len: usize) -> Result<Front, usize>
     requires letter { head_is is_letter text.now ≡ true }
     requires first { IsRun is_name_byte text.now len }
-    requires dot { marked 46 (head_is is_letter) (drop len text.now) ≡ true }
+    requires dotted { marked dot (head_is is_letter) (drop len text.now) ≡ true }
     ensures { IsRead text.now result }
 {
     let second = name_length(rest_from(text, len + 1));
@@ -111,7 +111,7 @@ pub fn name(text: &[u8]) -> Result<Front, usize>
 
 /// The type variable whose mark stands here.
 pub fn type_variable(text: &[u8]) -> Result<Front, usize>
-    requires { slice_index text.now 0 ≡ 39 }
+    requires { slice_index text.now 0 ≡ apostrophe }
     ensures { IsRead text.now result }
 {
     let name = rest_from(text, 1);
@@ -161,7 +161,7 @@ fn indexed(text: &[u8], marks: usize) -> Result<Front, usize>
 
 /// The schematic variable whose mark stands here.
 pub fn schematic(text: &[u8]) -> Result<Front, usize>
-    requires { slice_index text.now 0 ≡ 63 }
+    requires { slice_index text.now 0 ≡ question_mark }
     ensures { IsRead text.now result }
 {
     if byte_at(text, 1) == b'\'' {
