@@ -33,6 +33,7 @@ cut_short_by loaded source rows n bytes old new are count text appended = record
   theories = loaded;
   rows = rows;
   table = (refl, are);
+  derived = table_derived source loaded rows are;
   written = subst (AppendsProperPrefix old new) (text ∙ ap (λ k. table_text k rows) count) appended;
 }
 
@@ -54,7 +55,7 @@ Wrote-weaker Rows P Q old new weaker w = record {
   derived = w.derived;
   written = w.written;
 }
-Wrote-weaker WriteFault P Q old new weaker w = record { theories = w.theories; rows = w.rows; table = weaker w.theories w.rows w.table; written = w.written }
+Wrote-weaker WriteFault P Q old new weaker w = record { theories = w.theories; rows = w.rows; table = weaker w.theories w.rows w.table; derived = w.derived; written = w.written }
 Wrote-weaker Usage P Q old new weaker w = w
 Wrote-weaker ReadFault P Q old new weaker w = w
 Wrote-weaker Memory P Q old new weaker w = w

@@ -36,6 +36,7 @@ pub record CutShort (is_table : List (List ℕ) → List Row → Type 0) (old ne
   pub theories : List (List ℕ)
   pub rows : List Row
   pub table : is_table theories rows
+  pub derived : AllByRecursion IsDerived rows
   pub written : AppendsProperPrefix old new (table_text (length theories) rows)
 
 -- what was written, by the status
