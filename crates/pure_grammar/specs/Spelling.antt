@@ -4,6 +4,7 @@ use Rattle.pure_grammar.specs.Comment.{Gap, IsSettled, opens_comment}
 use Rattle.pure_grammar.specs.Token.{is_token, long_identifier}
 use Rattle.pure_grammar.specs.declared.token.Token.{Token}
 use Rattle.pure_grammar.specs.declared.token.TokenKind.{TokenKind}
+use Rattle.pure_grammar.specs.declared.token.TokenKind.TheVariants.{Quote}
 
 -- Of the text `here` and then `rest`, the first token is `here`: no longer front of the text is a token of any kind,
 -- and no comment begins there.
@@ -80,6 +81,9 @@ abbrev pub TokensAreSlices : Type 0
 TokensAreSlices =
     (from to : ℕ) (source : List ℕ) (ts : List Token) → from ≤ to → to ≤ length source
     → Spells to ts (slice_range source from to) → AreSlices source from to ts
+
+abbrev pub QuoteHasMarks : Type 0
+QuoteHasMarks = (source : List ℕ) (token : Token) → IsSlice source token → token.kind ≡ Quote → token.from + 2 ≤ token.to
 
 abbrev pub OneList : Type 0
 OneList = (to : ℕ) (bytes : List ℕ) (ts us : List Token) → Spells to ts bytes → Spells to us bytes → ts ≡ us
