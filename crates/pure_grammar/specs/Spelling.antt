@@ -77,6 +77,12 @@ abbrev pub AreSlices : List ℕ → ℕ → ℕ → List Token → Type 0
 AreSlices source from to [] = from ≤ to
 AreSlices source from to (t ∷ ts) = (from ≤ t.from) × IsSlice source t × AreSlices source t.to to ts
 
+-- Each text that ends at a place has a list of tokens, or a first fault.
+abbrev pub SomeReading : Type 0
+SomeReading =
+    (to : ℕ) (bytes : List ℕ) → length bytes ≤ to
+    → ((ts : List Token) × Spells to ts bytes) ⊎ ((place : ℕ) × HasFault to bytes place)
+
 abbrev pub TokensAreSlices : Type 0
 TokensAreSlices =
     (from to : ℕ) (source : List ℕ) (ts : List Token) → from ≤ to → to ≤ length source

@@ -24,5 +24,4 @@ pub fn tokens_are_slices()
 /// A quoted text has its two marks, so that there is a range between them.
 pub fn quote_has_marks()
     ensures { QuoteHasMarks }
-{
-}
+{}
