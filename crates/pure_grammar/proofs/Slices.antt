@@ -1,13 +1,15 @@
 -- Tokens are slices of their source.
-use Rattle.std.proofs.Common.{◌≡◌, ℕ, ◌+◌, ◌-◌, ◌<◌, ◌≤◌, List, [], ◌∷◌, ◌++◌, length, take, drop, sym, ap, ◌∙◌, true, arith, append_assoc, length-append}
+use Rattle.std.proofs.Common.{◌==◌, false, ◌≡◌, ℕ, ◌+◌, ◌-◌, ◌<◌, ◌≤◌, List, [], ◌∷◌, ◌++◌, length, take, drop, sym, ap, ◌∙◌, true, arith, append_assoc, length-append}
 use Rattle.std.specs.Prelude.{slice_range}
 use Rattle.std.proofs.Math.Seq.{take-append_seam, drop-append_seam}
-use Rattle.std.proofs.lemmas.List.{take-append-drop, length-take-le, length-drop}
+use Rattle.std.proofs.lemmas.List.{take-append-drop, length-take, length-take-le, length-drop}
 use Rattle.pure_grammar.specs.Token.{is_token}
-use Rattle.pure_grammar.specs.Spelling.{Begins, Leaves, IsSlice, AreSlices, TokensAreSlices}
+use Rattle.pure_grammar.specs.Spelling.{Begins, Leaves, IsSlice, AreSlices, QuoteHasMarks, TokensAreSlices}
 use Rattle.pure_grammar.specs.declared.token.Token.{Token}
 use Rattle.pure_grammar.specs.declared.token.TokenKind.{TokenKind}
+use Rattle.pure_grammar.specs.declared.token.TokenKind.TheVariants.{Quote}
 use Rattle.pure_grammar.proofs.Classes.{token-nothing}
+use Rattle.std.proofs.lemmas.Bool.{and_parts, false≢true}
 
 -- the source is cut into what was read, the text and what stands behind it
 pub record IsPart (source front text back : List ℕ) (to : ℕ) : Type 0 where
@@ -70,3 +72,19 @@ tokens_are_slices from to source ts order within (gap, leaves, _) =
     } in
     let found : AreSlices source (length (take from source)) to ts = slices source (take from source) (slice_range source from to) gap (drop (to - from) (drop from source)) to ts part leaves in
     rw size at found
+
+-- a quoted text has two bytes at least
+quote-size : (bs : List ℕ) → is_token Quote bs ≡ true → 2 ≤ length bs
+quote-size [] p = cc
+quote-size (b ∷ []) p = let inner = (and_parts (b == 34) false p).1 in absurd (false≢true inner)
+quote-size (b ∷ c ∷ bs) p = omega arith
+
+quote-range : (source : List ℕ) (kind : TokenKind) (from to : ℕ) → kind ≡ Quote → is_token kind (slice_range source from to) ≡ true → from < to → from + 2 ≤ to
+quote-range source kind from to same p some =
+    let quote : is_token Quote (slice_range source from to) ≡ true = rw same at p in
+    let size = quote-size (slice_range source from to) quote in
+    let whole : length (slice_range source from to) ≤ to - from = simp length-take (omega arith) in
+    omega arith
+
+pub quote_has_marks : QuoteHasMarks
+quote_has_marks source t s same = quote-range source t.kind t.from t.to same s.spelled s.some

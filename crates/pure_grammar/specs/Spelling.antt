@@ -4,6 +4,7 @@ use Rattle.pure_grammar.specs.Comment.{Gap, IsSettled, opens_comment}
 use Rattle.pure_grammar.specs.Token.{is_token, long_identifier}
 use Rattle.pure_grammar.specs.declared.token.Token.{Token}
 use Rattle.pure_grammar.specs.declared.token.TokenKind.{TokenKind}
+use Rattle.pure_grammar.specs.declared.token.TokenKind.TheVariants.{Quote}
 
 -- Of the text `here` and then `rest`, the first token is `here`: no longer front of the text is a token of any kind,
 -- and no comment begins there.
@@ -76,10 +77,19 @@ abbrev pub AreSlices : List ℕ → ℕ → ℕ → List Token → Type 0
 AreSlices source from to [] = from ≤ to
 AreSlices source from to (t ∷ ts) = (from ≤ t.from) × IsSlice source t × AreSlices source t.to to ts
 
+-- Each text that ends at a place has a list of tokens, or a first fault.
+abbrev pub SomeReading : Type 0
+SomeReading =
+    (to : ℕ) (bytes : List ℕ) → length bytes ≤ to
+    → ((ts : List Token) × Spells to ts bytes) ⊎ ((place : ℕ) × HasFault to bytes place)
+
 abbrev pub TokensAreSlices : Type 0
 TokensAreSlices =
     (from to : ℕ) (source : List ℕ) (ts : List Token) → from ≤ to → to ≤ length source
     → Spells to ts (slice_range source from to) → AreSlices source from to ts
+
+abbrev pub QuoteHasMarks : Type 0
+QuoteHasMarks = (source : List ℕ) (token : Token) → IsSlice source token → token.kind ≡ Quote → token.from + 2 ≤ token.to
 
 abbrev pub OneList : Type 0
 OneList = (to : ℕ) (bytes : List ℕ) (ts us : List Token) → Spells to ts bytes → Spells to us bytes → ts ≡ us

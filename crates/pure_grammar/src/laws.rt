@@ -1,5 +1,5 @@
 //! Laws of the definitions. Each function has no body: its contract is the law.
-ghost use Rattle.pure_grammar.specs.Spelling.{OneList, ListOrFault, OneFault, TokensAreSlices};
+ghost use Rattle.pure_grammar.specs.Spelling.{OneList, ListOrFault, OneFault, QuoteHasMarks, TokensAreSlices};
 
 /// No source is spelled by two lists of tokens.
 pub fn one_list()
@@ -19,4 +19,9 @@ pub fn one_fault()
 /// The tokens that spell a range of a source are slices of it, one behind another.
 pub fn tokens_are_slices()
     ensures { TokensAreSlices }
+{}
+
+/// A quoted text has its two marks, so that there is a range between them.
+pub fn quote_has_marks()
+    ensures { QuoteHasMarks }
 {}

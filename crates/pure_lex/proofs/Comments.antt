@@ -1,7 +1,7 @@
 -- Where a comment ends.
 use Rattle.std.proofs.Common.{◌≡◌, ℕ, zero, suc, ◌+◌, ◌-◌, ◌<◌, ◌≤◌, true, false, List, [], ◌∷◌, ◌++◌, length, get_or, drop, refl, sym, ap, ◌∙◌, ◌==◌, inl, inr, arith, drop-cons, Option, Some, None, if◌then◌else◌}
 use Rattle.std.proofs.lemmas.Bool.{cases_Bool, and_parts, eqb-true, false_from_ne_true, false≢true}
-use Rattle.std.proofs.lemmas.List.{length-drop}
+use Rattle.std.proofs.lemmas.List.{length-append, length-drop}
 use Rattle.pure_grammar.specs.Comment.{is_opening, is_closing, closes, is_comment, opens_comment}
 use Rattle.pure_grammar.proofs.Gaps.{opened, empty_is}
 use Rattle.pure_lex.specs.Fronts.{IsComment, HasNoComment}
@@ -162,18 +162,23 @@ opened-text (b ∷ c ∷ bs) p =
     let second = eqb-true c 42 (and_parts (b == 40) (c == 42) p).1 in
     cc
 
--- the last of the comments that are open is closed here
-pub comment-closed : (text : List ℕ) (at : ℕ) → opens_comment text ≡ true → Reading text 1 at → at + 1 < length text → is_opening (get_or text at 0) (get_or text (at + 1) 0) ≡ false → is_closing (get_or text at 0) (get_or text (at + 1) 0) ≡ true → IsComment text (at + 2)
-comment-closed text at p r below none closing =
-    let x = closed 1 2 (at + 2) (drop 2 text) (closing-same text 1 at r below none closing) in
+-- where the comment ends
+pub comment-ends : (text : List ℕ) (end : ℕ) → opens_comment text ≡ true → comment_end 1 2 (drop 2 text) ≡ Some end → IsComment text end
+comment-ends text end p e =
+    let x = closed 1 2 end (drop 2 text) e in
     let ends = x.ends in
     let parts : text ≡ 40 ∷ (42 ∷ (x.here ++ x.rest)) = opened-text text p ∙ ap (λ bs. 40 ∷ (42 ∷ bs)) x.text in
+    let whole : length text ≡ 2 + (length x.here + length x.rest) = ap length parts ∙ simp length-append (omega arith) in
     record {
       here = 40 ∷ (42 ∷ x.here);
       rest = x.rest;
       comment = x.closes_all;
       cut = record { parts = parts; size = omega arith; within = omega arith };
     }
+
+-- the last of the comments that are open is closed here
+pub comment-closed : (text : List ℕ) (at : ℕ) → opens_comment text ≡ true → Reading text 1 at → at + 1 < length text → is_opening (get_or text at 0) (get_or text (at + 1) 0) ≡ false → is_closing (get_or text at 0) (get_or text (at + 1) 0) ≡ true → IsComment text (at + 2)
+comment-closed text at p r below none closing = comment-ends text (at + 2) p (closing-same text 1 at r below none closing)
 
 comment_end-short : (depth at : ℕ) (bs : List ℕ) → 0 < depth → length bs < 2 → comment_end depth at bs ≡ None
 comment_end-short zero at bs inside few = absurd (omega arith)
@@ -182,13 +187,16 @@ comment_end-short (suc depth) at (b ∷ []) inside few = refl
 comment_end-short (suc depth) at (b ∷ c ∷ bs) inside few = absurd (omega arith)
 
 -- no comment of the text is closed
-pub comment-unclosed : (text : List ℕ) (depth at : ℕ) → opens_comment text ≡ true → Reading text depth at → length text ≤ at + 1 → HasNoComment text
-comment-unclosed text depth at p r past here rest e = false_from_ne_true (is_comment here) (λ whole.
-    let within = r.within in
-    let few : length (drop at text) < 2 = simp length-drop (omega arith) in
-    let none : comment_end 1 2 (drop 2 text) ≡ None = r.same ∙ comment_end-short depth at (drop at text) r.inside few in
+pub comment-never : (text : List ℕ) → comment_end 1 2 (drop 2 text) ≡ None → HasNoComment text
+comment-never text none here rest e = false_from_ne_true (is_comment here) (λ whole.
     let inner = opened (closes 1) here whole in
     let front : text ≡ 40 ∷ (42 ∷ (inner.body ++ rest)) = e ∙ ap (λ h. h ++ rest) inner.is in
     let body : drop 2 text ≡ inner.body ++ rest = ap (λ t. drop 2 t) front in
     let found : comment_end 1 2 (drop 2 text) ≡ Some (2 + length inner.body) = ap (λ bs. comment_end 1 2 bs) body ∙ comment_end-closes 1 2 inner.body rest inner.passes in
     cc)
+
+pub comment-unclosed : (text : List ℕ) (depth at : ℕ) → Reading text depth at → length text ≤ at + 1 → HasNoComment text
+comment-unclosed text depth at r past =
+    let within = r.within in
+    let few : length (drop at text) < 2 = simp length-drop (omega arith) in
+    comment-never text (r.same ∙ comment_end-short depth at (drop at text) r.inside few)

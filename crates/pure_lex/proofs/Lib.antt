@@ -7,3 +7,4 @@ pub mod NameFronts
 pub mod MarkFronts
 pub mod OtherFronts
 pub mod Steps
+pub mod Existence

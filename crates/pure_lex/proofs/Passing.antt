@@ -10,7 +10,7 @@ use Rattle.pure_grammar.proofs.Gaps.{opens_comment-front, settled-nothing}
 use Rattle.pure_lex.specs.Fronts.{IsComment, HasNoComment, IsGap}
 use Rattle.pure_lex.proofs.Comments.{opened-text}
 
-Gap-append : (ys : List ℕ) {xs : List ℕ} → Gap xs → Gap ys → Gap (xs ++ ys)
+pub Gap-append : (ys : List ℕ) {xs : List ℕ} → Gap xs → Gap ys → Gap (xs ++ ys)
 Gap-append ys nothing g = g
 Gap-append ys (blank p q) g = blank p (Gap-append ys q g)
 Gap-append ys (comment item bs p q) g = rw append_assoc (comment item (bs ++ ys) p (Gap-append ys q g))
@@ -20,12 +20,17 @@ gap-blank text at below gap p =
     let one : Gap (get_or text at 0 ∷ []) = blank p nothing in
     rw (add-one, take-suc text at 0 below) (Gap-append (get_or text at 0 ∷ []) gap one)
 
-pub gap-comment : (text : List ℕ) (at len : ℕ) → Gap (take at text) → IsComment (drop at text) len → Gap (take (at + len) text)
-gap-comment text at len gap x =
+-- a comment is a gap
+pub comment-gap : (text : List ℕ) (len : ℕ) → IsComment text len → Gap (take len text)
+comment-gap text len x =
     let item : Gap (x.here ++ []) = comment x.here [] x.comment nothing in
     let whole : Gap x.here = rw append-nil at item in
-    let front : take len (drop at text) ≡ x.here = rw (x.cut.parts, ← x.cut.size) (take-append_seam x.here x.rest) in
-    rw (take-add at len text, front) (Gap-append x.here gap whole)
+    let front : take len text ≡ x.here = rw (x.cut.parts, ← x.cut.size) (take-append_seam x.here x.rest) in
+    rw front whole
+
+pub gap-comment : (text : List ℕ) (at len : ℕ) → Gap (take at text) → IsComment (drop at text) len → Gap (take (at + len) text)
+gap-comment text at len gap x =
+    rw (take-add at len text) (Gap-append (take len (drop at text)) gap (comment-gap (drop at text) len x))
 
 comment-bytes : (bs : List ℕ) → is_comment bs ≡ true → 0 < length bs
 comment-bytes [] p = cc

@@ -5,6 +5,7 @@ mod bytes;
 mod first;
 mod front;
 mod gaps;
+pub mod laws;
 mod lines;
 mod names;
 mod reading;

@@ -1,5 +1,5 @@
 //! The tokens of a source.
-ghost use Rattle.std.specs.Prelude.{◌≡◌, ◌≤◌, ◌<◌, ◌^◌, length, slice_range, IfOk, IfErr};
+ghost use Rattle.std.specs.Prelude.{◌≡◌, ◌≤◌, length, slice_range, IfOk, IfErr};
 ghost use Rattle.pure_grammar.specs.Spelling.{Spells, AreSlices};
 ghost use Rattle.pure_lex.specs.Faults.{IsFaultOf};
 

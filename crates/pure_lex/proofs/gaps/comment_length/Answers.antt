@@ -23,4 +23,4 @@ loop-at-preserved c =
     reading-other _ _ _ c.loop-at.invariant c.loop-at-test.true (sym c.is_opening.ensures ∙ c.if-is_opening.false) (sym c.is_closing.ensures ∙ c.if-is_closing.false)
 
 pub returns : goal.returns
-returns c = comment-unclosed c.args.text.now c.loop-at.depth c.loop-at.at c.requires c.loop-at.invariant c.loop-at-test.false
+returns c = comment-unclosed c.args.text.now c.loop-at.depth c.loop-at.at c.loop-at.invariant c.loop-at-test.false
