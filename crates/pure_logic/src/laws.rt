@@ -1,6 +1,7 @@
 //! What the definitions mean: laws and computed examples, each carried by the contract of a function that does nothing.
 ghost use Rattle.pure_logic.specs.LawsDerivable.{PureIsContent, VariableIsProposition, ChainIsDerivable, PureIsBelowItself, TrivialIsDerivable, WeakenedIsDerivable};
-ghost use Rattle.pure_logic.specs.LawsTree.{OneConclusion, WeakeningOfTrees, WeakeningOfDerivable};
+ghost use Rattle.pure_logic.specs.LawsTree.{OneConclusion, WeakeningOfTrees, WeakeningOfDerivable, IdentityRespects, JoinedMapsRespect, JoinedInstance};
+ghost use Rattle.pure_logic.specs.LawsNodes.{ExampleIsContent, AxiomExample, PromiseExample, NoAxiomExample, NoMapExample, AssumeExample, AllIntroExample, NoAllIntroExample, AllElimExample, NoAllElimExample, ImpliesIntroExample, ImpliesElimExample, BetaExample, ReflExample, SubstExample, ExtExample, IffExample, DerivableExample};
 
 /// Pure's content is a content, and below itself.
 pub fn pure_is_content()
@@ -29,4 +30,53 @@ pub fn one_conclusion()
 pub fn weakening()
     ensures trees { WeakeningOfTrees }
     ensures derivable { WeakeningOfDerivable }
+{}
+
+/// Maps that respect a content: the identity, and finite maps of a call, joined.
+pub fn respecting_maps()
+    ensures identity { IdentityRespects }
+    ensures joined { JoinedMapsRespect }
+    ensures instance { JoinedInstance }
+{}
+
+/// The content of the examples is one.
+pub fn example_is_content()
+    ensures { ExampleIsContent }
+{}
+
+/// Axioms and promises at an instance, and where they give nothing.
+pub fn axiom_example()
+    ensures axiom { AxiomExample }
+    ensures promise { PromiseExample }
+    ensures unknown { NoAxiomExample }
+    ensures maps { NoMapExample }
+{}
+
+/// Quantification, and where its side conditions fail.
+pub fn all_example()
+    ensures intro { AllIntroExample }
+    ensures no_intro { NoAllIntroExample }
+    ensures elim { AllElimExample }
+    ensures no_elim { NoAllElimExample }
+{}
+
+/// Assumption and implication, and where their side conditions fail.
+pub fn implies_example()
+    ensures assume { AssumeExample }
+    ensures intro { ImpliesIntroExample }
+    ensures elim { ImpliesElimExample }
+{}
+
+/// The axioms of equality, and where their side conditions fail.
+pub fn equality_example()
+    ensures beta { BetaExample }
+    ensures refl { ReflExample }
+    ensures subst { SubstExample }
+    ensures ext { ExtExample }
+    ensures iff { IffExample }
+{}
+
+/// A theorem with hypotheses, a pair and a promise.
+pub fn derivable_example()
+    ensures { DerivableExample }
 {}
