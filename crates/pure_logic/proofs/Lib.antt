@@ -8,3 +8,5 @@ pub mod WeakeningLaws
 pub mod MapLaws
 pub mod ExampleLaws
 pub mod NodeExamples
+pub mod MergeLaws
+pub mod ContentExamples

@@ -7,4 +7,5 @@ pub mod Derivable
 pub mod ExampleContent
 pub mod LawsDerivable
 pub mod LawsTree
+pub mod LawsContent
 pub mod LawsNodes

@@ -1,6 +1,7 @@
 //! What the definitions mean: laws and computed examples, each carried by the contract of a function that does nothing.
 ghost use Rattle.pure_logic.specs.LawsDerivable.{PureIsContent, VariableIsProposition, ChainIsDerivable, PureIsBelowItself, TrivialIsDerivable, WeakenedIsDerivable};
 ghost use Rattle.pure_logic.specs.LawsTree.{OneConclusion, WeakeningOfTrees, WeakeningOfDerivable, IdentityRespects, JoinedMapsRespect, JoinedInstance};
+ghost use Rattle.pure_logic.specs.LawsContent.{MergeHasDeclarations, MergeHasNoRepeats, OneMerge, BeginningExample, NoMergeExample, NamedTwiceExample, IllFormedExample, BelowExample, DefinitionExample};
 ghost use Rattle.pure_logic.specs.LawsNodes.{ExampleIsContent, AxiomExample, PromiseExample, NoAxiomExample, NoMapExample, AssumeExample, AllIntroExample, NoAllIntroExample, AllElimExample, NoAllElimExample, ImpliesIntroExample, ImpliesElimExample, BetaExample, ReflExample, SubstExample, ExtExample, IffExample, DerivableExample};
 
 /// Pure's content is a content, and below itself.
@@ -37,6 +38,23 @@ pub fn respecting_maps()
     ensures identity { IdentityRespects }
     ensures joined { JoinedMapsRespect }
     ensures instance { JoinedInstance }
+{}
+
+/// A merge has its parents' declarations, each once.
+pub fn merge_has_declarations()
+    ensures has { MergeHasDeclarations }
+    ensures distinct { MergeHasNoRepeats }
+    ensures one { OneMerge }
+    ensures example { BeginningExample }
+    ensures none { NoMergeExample }
+{}
+
+/// Declarations that make no content, contents below others, and what a definition declares.
+pub fn content_example()
+    ensures twice { NamedTwiceExample }
+    ensures ill_formed { IllFormedExample }
+    ensures below { BelowExample }
+    ensures definition { DefinitionExample }
 {}
 
 /// The content of the examples is one.
