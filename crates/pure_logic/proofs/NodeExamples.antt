@@ -10,7 +10,7 @@ use Rattle.pure_term.specs.Certified.{HasCertifiedParts}
 use Rattle.pure_term.specs.LawsExamples.{i, j, c, a, f, x, y, any_x, sort_of}
 use Rattle.pure_term.specs.LawsSubst.{for_a}
 use Rattle.pure_logic.specs.Connectives.{all, imp, eq}
-use Rattle.pure_logic.specs.Content.{IsProposition}
+use Rattle.pure_logic.specs.Content.{IsCertifiedOf, IsProposition}
 use Rattle.pure_logic.specs.Tree.{Assume, ImpliesIntro}
 use Rattle.pure_logic.specs.ExampleContent.{less, holds, any_c, any_z, i_arity, promised, example}
 use Rattle.pure_logic.specs.LawsNodes.{for_z, AxiomExample, PromiseExample, NoAxiomExample, NoMapExample, AssumeExample, AllIntroExample, NoAllIntroExample, AllElimExample, NoAllElimExample, ImpliesIntroExample, ImpliesElimExample, BetaExample, ReflExample, SubstExample, ExtExample, IffExample, DerivableExample}
@@ -44,6 +44,7 @@ no_map_example = (
   λ C d. (let arity = d.2.sorts.schematic 1 0 (sort_of c) in not_of_c arity.0.0 arity.0.1 arity.0.2),
   λ C d. (let typed : arrow i i ≡ i = d.2.types.schematic 2 0 any_c in cc),
   λ C d. undeclared_const (d.2.certified.schematic 2 0 any_c any_c-certified),
+  λ C d. (let typed : arrow i i ≡ i = d.3.types.schematic 40 0 i in cc),
 )
   where
     not_of_c : (b : Arity) → IsIn b (i_arity ∷ []) → b.con ≡ 11 → ⊥
@@ -58,10 +59,14 @@ assume_example = (((less-of x y x-of y-of, refl), refl), λ C d. not_proposition
 pub all_intro_example : AllIntroExample
 all_intro_example = (
   ((i, eq i x x, (i, x-of, refl), tt, x-of, tt, refl), refl),
+  ((i, eq i any_x any_x, (i, any_x-of, refl), tt, any_x-of, tt, refl), refl),
   ((i, imp (less x y) (less x y), (less x y, (less-of x y x-of y-of, refl), less-of x y x-of y-of, refl), tt, x-of, tt, refl), refl),
   ((j, less x y, (less-of x y x-of y-of, refl), tt, certified_of example (Free 40 j) j j-certified refl, (other, tt), refl), refl),
 )
   where
+    any_x-of : IsCertifiedOf example any_x i
+    any_x-of = certified_of example any_x i i-certified refl
+
     other : ¬ Occurs (Free 40 j) (less x y)
     other (inl e) = cc
     other (inr (inl (inl e))) = cc
@@ -94,6 +99,7 @@ pub no_all_elim_example : NoAllElimExample
 no_all_elim_example = (
   λ C d. cc,
   λ C d. cc,
+  λ C d. undeclared_const d.3.certified.parts,
   λ C d. cc,
 )
 

@@ -9,7 +9,7 @@ use Rattle.pure_logic.specs.Connectives.{all_of, all, imp, eq}
 use Rattle.pure_logic.specs.Content.{IsContent}
 use Rattle.pure_logic.specs.Tree.{Tree, Axiom, Promise, Assume, AllIntro, AllElim, ImpliesIntro, ImpliesElim, Beta, Refl, Subst, Ext, Iff, hyps_of, rests_of, joined_terms}
 use Rattle.pure_logic.specs.Concludes.{Concludes}
-use Rattle.pure_logic.specs.Derivable.{IsDerivable}
+use Rattle.pure_logic.specs.Derivable.{IsUnderPairs, IsDerivable}
 use Rattle.pure_logic.specs.ExampleContent.{less, holds, h, q, promised, example}
 
 -- The example's declarations are a content.
@@ -40,20 +40,20 @@ abbrev pub PromiseExample : Type 0
 PromiseExample = Gives (Promise promised (λ T. T) (λ t. t)) [] (less any_x any_x)
     × (rests_of (ImpliesElim (Refl a) (Promise promised (λ T. T) (λ t. t))) ≡ promised ∷ [])
 
--- An axiom or a label that the content doesn't have gives nothing. A map gives nothing that sends `?'b :: c` to j, which isn't of class c; that sends `?z` to f, whose type isn't its own; or whose image of `?z` isn't certified.
+-- An axiom or a label that the content doesn't have gives nothing. A map gives nothing that sends `?'b :: c` to j, which isn't of class c; that sends `?z` to f, whose type isn't its own; or whose image of `?z` isn't certified; nor does a promise with a map of the second kind.
 abbrev pub NoAxiomExample : Type 0
 NoAxiomExample = GivesNothing (Axiom 99 (λ T. T) (λ t. t)) × GivesNothing (Promise (record promised { part = 1 }) (λ T. T) (λ t. t))
 
 abbrev pub NoMapExample : Type 0
-NoMapExample = GivesNothing (axiom_at j (Free 41 j)) × GivesNothing (axiom_at i f) × GivesNothing (axiom_at i (Const 99 i))
+NoMapExample = GivesNothing (axiom_at j (Free 41 j)) × GivesNothing (axiom_at i f) × GivesNothing (axiom_at i (Const 99 i)) × GivesNothing (Promise promised (λ T. T) (λ t. f))
 
 -- `x < y` from itself; nothing from a, which is no proposition.
 abbrev pub AssumeExample : Type 0
 AssumeExample = Gives (Assume (less x y)) (less x y ∷ []) (less x y) × GivesNothing (Assume a)
 
--- `!!x. x == x`. Where the hypothesis with x was discharged x may be bound; and a variable of its name with another type isn't x.
+-- `!!x. x == x`, over a fixed variable or a schematic one. Where the hypothesis with x was discharged x may be bound; and a variable of its name with another type isn't x.
 abbrev pub AllIntroExample : Type 0
-AllIntroExample = Gives (AllIntro x (Refl x)) [] (all i (eq i (Bound 0) (Bound 0)))
+AllIntroExample = Gives (AllIntro x (Refl x)) [] (all i (eq i (Bound 0) (Bound 0))) × Gives (AllIntro any_x (Refl any_x)) [] (all i (eq i (Bound 0) (Bound 0)))
     × Gives (AllIntro x (ImpliesIntro (less x y) (Assume (less x y)))) [] (all i (imp (less (Bound 0) y) (less (Bound 0) y)))
     × Gives (AllIntro (Free 40 j) (Assume (less x y))) (less x y ∷ []) (all j (less x y))
 
@@ -67,9 +67,10 @@ AllElimExample =
     let every = all i (all i (less (Bound 1) (Bound 0))) in
     Gives (AllElim y (Assume every)) (every ∷ []) (all i (less y (Bound 0))) × (¬ Concludes example (AllElim y (Assume every)) (all i (less (Bound 0) (Bound 0))))
 
--- Nothing from a quantified function that is no abstraction, nor with a term of another type, nor where nothing is quantified.
+-- Nothing from a quantified function that is no abstraction, nor with a term of another type or one that isn't certified, nor where nothing is quantified.
 abbrev pub NoAllElimExample : Type 0
-NoAllElimExample = GivesNothing (AllElim y (Assume (all_of i q))) × GivesNothing (AllElim f (Assume (all i (less (Bound 0) y)))) × GivesNothing (AllElim y (Assume (less x y)))
+NoAllElimExample = GivesNothing (AllElim y (Assume (all_of i q))) × GivesNothing (AllElim f (Assume (all i (less (Bound 0) y)))) × GivesNothing (AllElim (Const 99 i) (Assume (all i (less (Bound 0) y))))
+    × GivesNothing (AllElim y (Assume (less x y)))
 
 -- Of `x < y` from itself: `x < y ==> x < y` without hypotheses. Of `x < x`: the hypothesis that differs stays. Nothing of a, which is no proposition.
 abbrev pub ImpliesIntroExample : Type 0
@@ -104,6 +105,10 @@ abbrev pub IffExample : Type 0
 IffExample = Gives (Iff (less x y) (less y x)) [] (imp (imp (less x y) (less y x)) (imp (imp (less y x) (less x y)) (eq prop (less x y) (less y x))))
     × GivesNothing (Iff a (less x y))
 
--- `x < y` under the pair of x and a, from the hypothesis `x < y` and resting on more than is needed: `x == a ==> x < y` is concluded.
+-- Under the pairs of x and a, and of f and h, stands `x == a ==> f == h ==> x < y`.
+abbrev pub PairsExample : Type 0
+PairsExample = IsUnderPairs (record { left = x; right = a } ∷ record { left = f; right = h } ∷ []) (less x y) (imp (eq i x a) (imp (eq (arrow i i) f h) (less x y)))
+
+-- `x < y` under the pair of x and a is derivable from the hypotheses `y < x` and `x < y`, of which it needs the second, and with a promise on which it needn't rest.
 abbrev pub DerivableExample : Type 0
 DerivableExample = IsDerivable example (record { hyps = less y x ∷ less x y ∷ []; pairs = record { left = x; right = a } ∷ []; prop = less x y; rests = promised ∷ [] })

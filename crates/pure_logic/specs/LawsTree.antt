@@ -8,11 +8,15 @@ use Rattle.pure_term.specs.Certified.{IsCertifiedTyp}
 use Rattle.pure_logic.specs.Content.{Content, IsContent, IsBelow, IsCertifiedOf}
 use Rattle.pure_logic.specs.Tree.{Tree, hyps_of, rests_of, joined_terms}
 use Rattle.pure_logic.specs.Concludes.{AreRespecting, Concludes}
-use Rattle.pure_logic.specs.Derivable.{Theorem, IsDerivable}
+use Rattle.pure_logic.specs.Derivable.{Pair, Theorem, IsUnderPairs, IsDerivable}
 
 -- A tree concludes one proposition at most.
 abbrev pub OneConclusion : Type 0
 OneConclusion = (Q : Content) → IsContent Q → (d : Tree) (A B : Term) → Concludes Q d A → Concludes Q d B → A ≡ B
+
+-- A proposition stands under pairs in one way at most.
+abbrev pub OneUnderPairs : Type 0
+OneUnderPairs = (pairs : List Pair) (A q r : Term) → IsUnderPairs pairs A q → IsUnderPairs pairs A r → q ≡ r
 
 -- What a tree over Q concludes, a tree over each content above Q concludes, with the same hypotheses and resting on the same promises.
 -- It is the same tree but for the maps of its axioms and promises, which are read at the variables of Q alone: the content above may have sorts and types at which their images aren't certified.

@@ -1,8 +1,8 @@
 //! What the definitions mean: laws and computed examples, each carried by the contract of a function that does nothing.
 ghost use Rattle.pure_logic.specs.LawsDerivable.{PureIsContent, VariableIsProposition, ChainIsDerivable, PureIsBelowItself, TrivialIsDerivable, WeakenedIsDerivable};
-ghost use Rattle.pure_logic.specs.LawsTree.{OneConclusion, WeakeningOfTrees, WeakeningOfDerivable, IdentityRespects, JoinedMapsRespect, JoinedInstance};
+ghost use Rattle.pure_logic.specs.LawsTree.{OneConclusion, OneUnderPairs, WeakeningOfTrees, WeakeningOfDerivable, IdentityRespects, JoinedMapsRespect, JoinedInstance};
 ghost use Rattle.pure_logic.specs.LawsContent.{MergeHasDeclarations, MergeHasNoRepeats, OneMerge, BeginningExample, NoMergeExample, NamedTwiceExample, IllFormedExample, BelowExample, DefinitionExample};
-ghost use Rattle.pure_logic.specs.LawsNodes.{ExampleIsContent, AxiomExample, PromiseExample, NoAxiomExample, NoMapExample, AssumeExample, AllIntroExample, NoAllIntroExample, AllElimExample, NoAllElimExample, ImpliesIntroExample, ImpliesElimExample, BetaExample, ReflExample, SubstExample, ExtExample, IffExample, DerivableExample};
+ghost use Rattle.pure_logic.specs.LawsNodes.{ExampleIsContent, AxiomExample, PromiseExample, NoAxiomExample, NoMapExample, AssumeExample, AllIntroExample, NoAllIntroExample, AllElimExample, NoAllElimExample, ImpliesIntroExample, ImpliesElimExample, BetaExample, ReflExample, SubstExample, ExtExample, IffExample, PairsExample, DerivableExample};
 
 /// Pure's content is a content, and below itself.
 pub fn pure_is_content()
@@ -24,7 +24,8 @@ pub fn chain_is_derivable()
 
 /// A tree concludes one proposition at most.
 pub fn one_conclusion()
-    ensures { OneConclusion }
+    ensures tree { OneConclusion }
+    ensures pairs { OneUnderPairs }
 {}
 
 /// What is concluded or derivable over a content is so over each content above it.
@@ -96,5 +97,6 @@ pub fn equality_example()
 
 /// A theorem with hypotheses, a pair and a promise.
 pub fn derivable_example()
-    ensures { DerivableExample }
+    ensures pairs { PairsExample }
+    ensures derivable { DerivableExample }
 {}
