@@ -1,19 +1,19 @@
 -- The examples of contents.
-use Rattle.std.proofs.Common.{◌≡◌, ◌⊎◌, ℕ, List, [], ◌∷◌, ◌++◌, inl, inr, refl, sym, arith}
+use Rattle.std.proofs.Common.{◌≡◌, ◌⊎◌, ℕ, List, [], ◌∷◌, ◌++◌, inl, inr, refl, sym, arith, ap}
 use Rattle.std.specs.Prelude.{Some}
 use Rattle.pure_term.specs.Lists.{IsIn, Each, AnyOf}
 use Rattle.pure_term.specs.Typ.{prop}
 use Rattle.pure_term.specs.Term.{Free}
-use Rattle.pure_term.specs.Order.{Arity, Algebra, IsInclusion, IsClassBelow, itself, along, AreCompatible, AreDomainsBelow, IsCoregular}
+use Rattle.pure_term.specs.Order.{Class, Arity, Algebra, IsInclusion, IsClassBelow, itself, along, AreCompatible, AreDomainsBelow, IsCoregular}
 use Rattle.pure_term.specs.Decl.{Decl, ClassDecl, ConDecl, ArityDecl, ConstDecl, AxiomDecl, PromiseDecl, algebra_of}
-use Rattle.pure_term.specs.LawsExamples.{i, j, c, d, e, arity}
+use Rattle.pure_term.specs.LawsExamples.{i, j, c, d, e, arity, class_above}
 use Rattle.pure_term.proofs.DeclLaws.{declared_classes, declared_arities}
 use Rattle.pure_term.proofs.OrderExamples.{crossing_is_not_coregular}
 use Rattle.pure_term.proofs.OrderLaws.{sort_below-itself}
 use Rattle.pure_logic.specs.Content.{TheoryId, IsContent, IsMerge, IsWellFormed, AreNamedAlike, AreLabelledAlike}
 use Rattle.pure_logic.specs.PureContent.{pure_declarations, proposition_variable}
 use Rattle.pure_logic.specs.ExampleContent.{promised, example}
-use Rattle.pure_logic.specs.LawsContent.{content_of, theory, first_parent, second_parent, BeginningExample, classes, with_arity, NoMergeExample, NamedTwiceExample, IllFormedExample, BelowExample}
+use Rattle.pure_logic.specs.LawsContent.{content_of, theory, first_parent, second_parent, BeginningExample, classes, with_arity, NoMergeExample, NamedTwiceExample, IllFormedExample, SchematicExample, BelowExample}
 use Rattle.pure_logic.proofs.ChainLaws.{each-at}
 use Rattle.pure_logic.proofs.ContentLaws.{named_alike, both_promises, named_alike-so, both_promises-so, apart-once}
 use Rattle.pure_logic.proofs.ExampleLaws.{example-above, none_passes, is_con}
@@ -120,6 +120,8 @@ no_merge_example = (one_arity c, one_arity d, no_merge)
 
 pub named_twice_example : NamedTwiceExample
 named_twice_example = (
+  λ q. (let same = q.named_once (ClassDecl (class_above c [])) (ClassDecl (class_above c (d ∷ []))) (inl refl) (inr (inl refl)) refl in let classes : class_above c [] ≡ class_above c (d ∷ []) = cc in let above = ap (λ (b : Class). b.above) classes in cc),
+  λ q. (let same = q.named_once (ConDecl 10 0) (ConDecl 10 1) (inl refl) (inr (inl refl)) refl in cc),
   λ q. (let same = q.named_once (ConstDecl 30 i) (ConstDecl 30 j) (inl refl) (inr (inl refl)) refl in cc),
   λ q. (let same = q.named_once (AxiomDecl 50 (proposition_variable 0)) (PromiseDecl 50 promised (proposition_variable 0)) (inr (inr (inr (inr (inr (inr (inr (inl refl)))))))) (inr (inr (inr (inr (inr (inr (inr (inr (inl refl))))))))) refl in cc),
   λ q. (let same = q.labelled_once (PromiseDecl 50 promised (proposition_variable 0)) (PromiseDecl 51 promised (proposition_variable 0)) (inr (inr (inr (inr (inr (inr (inr (inl refl)))))))) (inr (inr (inr (inr (inr (inr (inr (inr (inl refl))))))))) refl in let names : ◌≡◌ {A = ℕ} 50 51 = cc in absurd (omega arith)),
@@ -129,10 +131,14 @@ pub ill_formed_example : IllFormedExample
 ill_formed_example = (
   λ q. q.well_formed.0,
   λ q. (each-at (IsWellFormed (content_of (pure_declarations ++ AxiomDecl 50 (Free 1 prop) ∷ []))) (AxiomDecl 50 (Free 1 prop)) (pure_declarations ++ AxiomDecl 50 (Free 1 prop) ∷ []) q.well_formed (inr (inr (inr (inr (inr (inr (inr (inl refl))))))))).schematic,
+  λ q. (each-at (IsWellFormed (content_of (pure_declarations ++ PromiseDecl 50 promised (Free 1 prop) ∷ []))) (PromiseDecl 50 promised (Free 1 prop)) (pure_declarations ++ PromiseDecl 50 promised (Free 1 prop) ∷ []) q.well_formed (inr (inr (inr (inr (inr (inr (inr (inl refl))))))))).schematic,
   λ q. (let typed : i ≡ prop = q.well_formed.1.1.0.proposition.typed in cc),
   λ q. none_passes (is_con 1) (ConDecl 1 0) (AxiomDecl 50 (proposition_variable 0) ∷ []) refl refl q.well_formed.0.proposition.certified.parts.0,
   λ q. crossing_is_not_coregular q.coregular,
 )
+
+pub schematic_example : SchematicExample
+schematic_example = (((tt, (tt, tt)), tt), λ k. k, λ k. k.1.0, λ k. k.0, λ k. k.1, λ k. k.1, λ k. k.0)
 
 pub below_example : BelowExample
 below_example = (example-above, not_back, not_other)

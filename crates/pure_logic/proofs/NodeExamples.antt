@@ -145,18 +145,23 @@ subst_example = (
   ((i, less (Bound 0) y, refl, certified_of example (Abs i (less (Bound 0) y)) (arrow i prop) (i-certified, less-parts (Bound 0) y tt i-certified) (prop, (i, (i, refl, refl), refl), refl), x-of, a-of, refl), refl),
   λ d. (let body : d.1 ≡ less (Bound 0) y = cc in let is = rw body at d.6 in cc),
   λ C d. cc,
+  λ C d. (let typ = d.3.typed in let body : i ≡ typ.0 = cc in let range : typ.0 ≡ prop = cc in cc),
+  λ C d. (let domain : i ≡ d.0 = cc in let typ : arrow i i ≡ d.0 = d.4.typed in cc),
+  λ C d. (let domain : i ≡ d.0 = cc in let typ : arrow i i ≡ d.0 = d.5.typed in cc),
 )
 
 pub ext_example : ExtExample
 ext_example = (
   ((i, i, f-of, h-of, refl), refl),
   λ C d. (let left : arrow i i ≡ arrow d.0 d.1 = d.2.typed in let right : arrow i prop ≡ arrow d.0 d.1 = d.3.typed in cc),
+  λ C d. (let typ : i ≡ arrow d.0 d.1 = d.2.typed in cc),
 )
 
 pub iff_example : IffExample
 iff_example = (
   ((less-of x y x-of y-of, less-of y x y-of x-of, refl), refl),
   λ C d. not_proposition d.0,
+  λ C d. not_proposition d.1,
 )
 
 pub derivable_example : DerivableExample

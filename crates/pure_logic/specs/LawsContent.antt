@@ -2,11 +2,11 @@
 use Rattle.std.specs.Prelude.{◌≡◌, ◌↔◌, ℕ, List, [], ◌∷◌, ◌++◌, Some, None}
 use Rattle.pure_term.specs.Lists.{IsIn, AnyOf, AreDistinct}
 use Rattle.pure_term.specs.Typ.{TFree, TVar, arrow, prop}
-use Rattle.pure_term.specs.Term.{Const, Free, Bound, Abs}
+use Rattle.pure_term.specs.Term.{Const, Free, Var, Bound, Abs, App}
 use Rattle.pure_term.specs.Decl.{Decl, ClassDecl, ConDecl, ArityDecl, ConstDecl, AxiomDecl, PromiseDecl}
-use Rattle.pure_term.specs.LawsExamples.{i, j, k, c, d, e, a, class_above, arity}
+use Rattle.pure_term.specs.LawsExamples.{i, j, k, c, d, e, a, f, x, any_x, class_above, arity}
 use Rattle.pure_logic.specs.Connectives.{eq}
-use Rattle.pure_logic.specs.Content.{TheoryId, Content, IsContent, IsBelow, IsMerge, IsBeginning, definition}
+use Rattle.pure_logic.specs.Content.{TheoryId, Content, IsSchematic, IsContent, IsBelow, IsMerge, IsBeginning, definition}
 use Rattle.pure_logic.specs.PureContent.{pure_content, pure_declarations, proposition_variable}
 use Rattle.pure_logic.specs.ExampleContent.{promised, example}
 
@@ -48,17 +48,24 @@ with_arity domain = content_of (classes ++ ArityDecl (arity domain e) ∷ [])
 abbrev pub NoMergeExample : Type 0
 NoMergeExample = IsContent (with_arity c) × IsContent (with_arity d) × ((merged : List Decl) → ¬ IsMerge (with_arity c ∷ with_arity d ∷ []) merged)
 
--- No content has two constants of one name and different types, an axiom and a promise of one name, or two promises with one label;
+-- No content has two classes, type constructors or constants of one name that differ, an axiom and a promise of one name, or two promises with one label;
 abbrev pub NamedTwiceExample : Type 0
-NamedTwiceExample = (¬ IsContent (content_of (ConstDecl 30 i ∷ ConstDecl 30 j ∷ [])))
+NamedTwiceExample = (¬ IsContent (content_of (ClassDecl (class_above c []) ∷ ClassDecl (class_above c (d ∷ [])) ∷ []))) × (¬ IsContent (content_of (ConDecl 10 0 ∷ ConDecl 10 1 ∷ [])))
+    × (¬ IsContent (content_of (ConstDecl 30 i ∷ ConstDecl 30 j ∷ [])))
     × (¬ IsContent (content_of (pure_declarations ++ AxiomDecl 50 (proposition_variable 0) ∷ PromiseDecl 50 promised (proposition_variable 0) ∷ [])))
     × (¬ IsContent (content_of (pure_declarations ++ PromiseDecl 50 promised (proposition_variable 0) ∷ PromiseDecl 51 promised (proposition_variable 0) ∷ [])))
 
--- a constant whose type has a fixed type variable, an axiom with a fixed variable, one that isn't of type prop or one that isn't certified; or arities that aren't coregular.
+-- a constant whose type has a fixed type variable, an axiom or a promise with a fixed variable, an axiom that isn't of type prop or one that isn't certified; or arities that aren't coregular.
 abbrev pub IllFormedExample : Type 0
 IllFormedExample = (¬ IsContent (content_of (ConstDecl 30 (TFree 1 []) ∷ []))) × (¬ IsContent (content_of (pure_declarations ++ AxiomDecl 50 (Free 1 prop) ∷ [])))
+    × (¬ IsContent (content_of (pure_declarations ++ PromiseDecl 50 promised (Free 1 prop) ∷ [])))
     × (¬ IsContent (content_of (ConDecl 10 0 ∷ ConstDecl 30 i ∷ AxiomDecl 50 a ∷ []))) × (¬ IsContent (content_of (AxiomDecl 50 (proposition_variable 0) ∷ [])))
     × (¬ IsContent (content_of (classes ++ ArityDecl (arity c e) ∷ ArityDecl (arity d e) ∷ [])))
+
+-- `f ?x` has no fixed variable and no fixed type variable; a term has one where it is in a constant, a variable, a binder, a function or an argument.
+abbrev pub SchematicExample : Type 0
+SchematicExample = IsSchematic (App f any_x) × (¬ IsSchematic (Const 30 (TFree 1 []))) × (¬ IsSchematic (Var 0 0 (arrow i (TFree 1 [])))) × (¬ IsSchematic (Abs (TFree 1 []) (Bound 0)))
+    × (¬ IsSchematic (Abs i x)) × (¬ IsSchematic (App f x)) × (¬ IsSchematic (App x a))
 
 -- Pure's content is below the example's, and not the other way round. A constant with another type is another declaration.
 abbrev pub BelowExample : Type 0

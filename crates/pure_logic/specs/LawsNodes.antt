@@ -32,13 +32,19 @@ for_z image = record { name = 2; index = 0; typ = i; image = image }
 abbrev pub axiom_at : Typ → Term → Tree
 axiom_at T t = Axiom 50 (typ_image (for_a T ∷ [])) (joined_terms (for_a T ∷ []) (for_z t ∷ []))
 
--- With i for `?'b` and a for `?z` the axiom `p ?z` gives `p a`. The promise gives its statement, and the tree rests on it.
+-- With i for `?'b` and a for `?z` the axiom `p ?z` gives `p a`. The promise gives its statement, and rests on its label.
 abbrev pub AxiomExample : Type 0
 AxiomExample = Gives (axiom_at i a) [] (holds i a)
 
 abbrev pub PromiseExample : Type 0
-PromiseExample = Gives (Promise promised (λ T. T) (λ t. t)) [] (less any_x any_x)
-    × (rests_of (ImpliesElim (Refl a) (Promise promised (λ T. T) (λ t. t))) ≡ promised ∷ [])
+PromiseExample = Gives (Promise promised (λ T. T) (λ t. t)) [] (less any_x any_x) × (rests_of (Promise promised (λ T. T) (λ t. t)) ≡ promised ∷ [])
+
+-- A tree rests on the promises of all its parts.
+abbrev pub RestsExample : Type 0
+RestsExample =
+    let other = record promised { part = 1 } in
+    let both = ImpliesElim (Promise promised (λ T. T) (λ t. t)) (Promise other (λ T. T) (λ t. t)) in
+    (rests_of both ≡ promised ∷ other ∷ []) × (rests_of (AllElim a (AllIntro x (ImpliesIntro (less x y) both))) ≡ promised ∷ other ∷ [])
 
 -- An axiom or a label that the content doesn't have gives nothing. A map gives nothing that sends `?'b :: c` to j, which isn't of class c; that sends `?z` to f, whose type isn't its own; or whose image of `?z` isn't certified; nor does a promise with a map of the second kind.
 abbrev pub NoAxiomExample : Type 0
@@ -89,21 +95,22 @@ BetaExample = Gives (Beta (App (Abs i (App f (Bound 0))) a)) [] (eq i (App (Abs 
 abbrev pub ReflExample : Type 0
 ReflExample = Gives (Refl a) [] (eq i a a) × GivesNothing (Refl (Const 99 i)) × GivesNothing (Refl (Bound 0))
 
--- `x == a ==> x < y ==> a < y`, of `%z. z < y`; and not with a redex `(%z. z < y) x`. Nothing of q, which is no abstraction.
+-- `x == a ==> x < y ==> a < y`, of `%z. z < y`; and not with a redex `(%z. z < y) x`. Nothing of q, which is no abstraction, nor of `%z. z`, whose body is no proposition, nor with f, which hasn't the type of z.
 abbrev pub SubstExample : Type 0
 SubstExample =
     let below_y = Abs i (less (Bound 0) y) in
     Gives (Subst below_y x a) [] (imp (eq i x a) (imp (less x y) (less a y)))
     × (¬ Concludes example (Subst below_y x a) (imp (eq i x a) (imp (App below_y x) (App below_y a)))) × GivesNothing (Subst q x a)
+    × GivesNothing (Subst (Abs i (Bound 0)) x a) × GivesNothing (Subst below_y f a) × GivesNothing (Subst below_y x f)
 
--- `(!!x. f x == h x) ==> f == h`, and nothing of functions of different types.
+-- `(!!x. f x == h x) ==> f == h`, and nothing of functions of different types, nor of what is no function.
 abbrev pub ExtExample : Type 0
-ExtExample = Gives (Ext f h) [] (imp (all i (eq i (App f (Bound 0)) (App h (Bound 0)))) (eq (arrow i i) f h)) × GivesNothing (Ext f q)
+ExtExample = Gives (Ext f h) [] (imp (all i (eq i (App f (Bound 0)) (App h (Bound 0)))) (eq (arrow i i) f h)) × GivesNothing (Ext f q) × GivesNothing (Ext a a)
 
 -- `(x < y ==> y < x) ==> (y < x ==> x < y) ==> x < y == y < x`, and nothing of a, which is no proposition.
 abbrev pub IffExample : Type 0
 IffExample = Gives (Iff (less x y) (less y x)) [] (imp (imp (less x y) (less y x)) (imp (imp (less y x) (less x y)) (eq prop (less x y) (less y x))))
-    × GivesNothing (Iff a (less x y))
+    × GivesNothing (Iff a (less x y)) × GivesNothing (Iff (less x y) a)
 
 -- Under the pairs of x and a, and of f and h, stands `x == a ==> f == h ==> x < y`.
 abbrev pub PairsExample : Type 0

@@ -1,8 +1,8 @@
 //! What the definitions mean: laws and computed examples, each carried by the contract of a function that does nothing.
 ghost use Rattle.pure_logic.specs.LawsDerivable.{PureIsContent, VariableIsProposition, ChainIsDerivable, PureIsBelowItself, TrivialIsDerivable, WeakenedIsDerivable};
 ghost use Rattle.pure_logic.specs.LawsTree.{OneConclusion, OneUnderPairs, WeakeningOfTrees, WeakeningOfDerivable, IdentityRespects, JoinedMapsRespect, JoinedInstance};
-ghost use Rattle.pure_logic.specs.LawsContent.{MergeHasDeclarations, MergeHasNoRepeats, OneMerge, BeginningExample, NoMergeExample, NamedTwiceExample, IllFormedExample, BelowExample, DefinitionExample};
-ghost use Rattle.pure_logic.specs.LawsNodes.{ExampleIsContent, AxiomExample, PromiseExample, NoAxiomExample, NoMapExample, AssumeExample, AllIntroExample, NoAllIntroExample, AllElimExample, NoAllElimExample, ImpliesIntroExample, ImpliesElimExample, BetaExample, ReflExample, SubstExample, ExtExample, IffExample, PairsExample, DerivableExample};
+ghost use Rattle.pure_logic.specs.LawsContent.{MergeHasDeclarations, MergeHasNoRepeats, OneMerge, BeginningExample, NoMergeExample, NamedTwiceExample, IllFormedExample, SchematicExample, BelowExample, DefinitionExample};
+ghost use Rattle.pure_logic.specs.LawsNodes.{ExampleIsContent, AxiomExample, PromiseExample, RestsExample, NoAxiomExample, NoMapExample, AssumeExample, AllIntroExample, NoAllIntroExample, AllElimExample, NoAllElimExample, ImpliesIntroExample, ImpliesElimExample, BetaExample, ReflExample, SubstExample, ExtExample, IffExample, PairsExample, DerivableExample};
 
 /// Pure's content is a content, and below itself.
 pub fn pure_is_content()
@@ -54,6 +54,7 @@ pub fn merge_has_declarations()
 pub fn content_example()
     ensures twice { NamedTwiceExample }
     ensures ill_formed { IllFormedExample }
+    ensures schematic { SchematicExample }
     ensures below { BelowExample }
     ensures definition { DefinitionExample }
 {}
@@ -67,6 +68,7 @@ pub fn example_is_content()
 pub fn axiom_example()
     ensures axiom { AxiomExample }
     ensures promise { PromiseExample }
+    ensures rests { RestsExample }
     ensures unknown { NoAxiomExample }
     ensures maps { NoMapExample }
 {}
