@@ -1,10 +1,15 @@
 -- Merges of contents.
-use Rattle.std.proofs.Common.{◌≡◌, ◌↔◌, ◌⊎◌, List, [], ◌∷◌, ◌++◌, inl, inr, sym, ◌∙◌}
-use Rattle.pure_term.specs.Lists.{IsIn, AnyOf, AreDistinct}
+use Rattle.std.proofs.Common.{◌≡◌, ◌↔◌, ◌⊎◌, List, [], ◌∷◌, ◌++◌, inl, inr, sym, ◌∙◌, refl}
+use Rattle.pure_term.specs.Lists.{IsIn, Each, AnyOf, AreDistinct}
 use Rattle.pure_term.specs.Order.{IsCoregular}
-use Rattle.pure_term.specs.Decl.{Decl, algebra_of}
-use Rattle.pure_term.proofs.ListLaws.{in-append_left, in-append_right}
-use Rattle.pure_logic.specs.Content.{Content, IsAdded, IsMergeAfter, IsMerge}
+use Rattle.pure_term.specs.Typ.{prop}
+use Rattle.pure_term.specs.Term.{Term}
+use Rattle.pure_term.specs.Decl.{Decl, ClassDecl, ConDecl, ArityDecl, ConstDecl, AxiomDecl, PromiseDecl, algebra_of}
+use Rattle.pure_term.proofs.ListLaws.{each_of, in-append_left, in-append_right}
+use Rattle.pure_logic.specs.Content.{TheoryId, Content, IsStatement, IsWellFormed, IsContent, IsBelow, IsBeginning, IsAdded, IsMergeAfter, IsMerge}
+use Rattle.pure_logic.specs.LawsContent.{AreAgreed}
+use Rattle.pure_logic.proofs.ChainLaws.{each-at}
+use Rattle.pure_logic.proofs.AboveLaws.{certified_of-above}
 
 pub in-append : {A : Type 0} (x : A) (xs ys : List A) → IsIn x (xs ++ ys) → IsIn x xs ⊎ IsIn x ys
 in-append x [] ys m = inr m
@@ -87,3 +92,42 @@ one_merge parents merged other h k = one_merge_after [] parents merged other h k
 -- What two parents make is coregular.
 pub merged-coregular : (P Q : Content) (merged : List Decl) → IsMerge (P ∷ Q ∷ []) merged → IsCoregular (algebra_of merged)
 merged-coregular P Q merged h = rw h.3.3 h.3.2
+
+-- After the last parent the list is coregular.
+merge-coregular : (before : List Decl) (P : Content) (Ps : List Content) (merged : List Decl) → IsMergeAfter before (P ∷ Ps) merged → IsCoregular (algebra_of merged)
+merge-coregular before P [] merged h = rw h.3 h.2
+merge-coregular before P (R ∷ Rs) merged h = merge-coregular h.0 R Rs merged h.3
+
+statement-above : (P Q : Content) → IsBelow P Q → (A : Term) → IsStatement P A → IsStatement Q A
+statement-above P Q below A h = record { proposition = certified_of-above P Q below A prop h.proposition; schematic = h.schematic }
+
+well_formed-above : (P Q : Content) → IsBelow P Q → (x : Decl) → IsWellFormed P x → IsWellFormed Q x
+well_formed-above P Q below (ConstDecl c T) h = h
+well_formed-above P Q below (AxiomDecl n A) h = statement-above P Q below A h
+well_formed-above P Q below (PromiseDecl n l A) h = statement-above P Q below A h
+well_formed-above P Q below (ClassDecl k) h = tt
+well_formed-above P Q below (ConDecl k n) h = tt
+well_formed-above P Q below (ArityDecl b) h = tt
+
+some_parent-well_formed : (Q : Content) (x : Decl) (parents : List Content) → Each IsContent parents → Each (λ P. IsBelow P Q) parents → AnyOf (λ P. IsIn x P.declarations) parents → IsWellFormed Q x
+some_parent-well_formed Q x [] h below m = absurd m
+some_parent-well_formed Q x (P ∷ Ps) h below (inl m) = well_formed-above P Q below.0 x (each-at (IsWellFormed P) x P.declarations h.0.well_formed m)
+some_parent-well_formed Q x (P ∷ Ps) h below (inr m) = some_parent-well_formed Q x Ps h.1 below.1 m
+
+below-any : (Q : Content) (parents : List Content) → ((x : Decl) → AnyOf (λ P. IsIn x P.declarations) parents → IsIn x Q.declarations) → Each (λ P. IsBelow P Q) parents
+below-any Q [] h = tt
+below-any Q (P ∷ Ps) h = (λ x m. h x (inl m), below-any Q Ps (λ x m. h x (inr m)))
+
+pub parents_are_below : (id : TheoryId) (parents : List Content) (Q : Content) → IsBeginning id parents Q → Each (λ P. IsBelow P Q) parents
+parents_are_below id parents Q h = below-any Q parents (λ x m. (merge_has_declarations parents Q.declarations h.merge x).1 m)
+
+pub beginning_is_content : (id : TheoryId) (parents : List Content) (Q : Content) → Each IsContent parents → AreAgreed parents → IsBeginning id parents Q → IsContent Q
+beginning_is_content id [] Q h agreed b = absurd (b.some_parent refl)
+beginning_is_content id (P ∷ Ps) Q h agreed b =
+    let has = λ (x : Decl) (m : IsIn x Q.declarations). (merge_has_declarations (P ∷ Ps) Q.declarations b.merge x).0 m in
+    record {
+      named_once = λ x y m n same. agreed.named_once x y (has x m) (has y n) same;
+      labelled_once = λ x y m n same. agreed.labelled_once x y (has x m) (has y n) same;
+      well_formed = each_of (IsWellFormed Q) Q.declarations (λ x m. some_parent-well_formed Q x (P ∷ Ps) h (parents_are_below id (P ∷ Ps) Q b) (has x m));
+      coregular = merge-coregular [] P Ps Q.declarations b.merge;
+    }

@@ -1,12 +1,12 @@
 -- Laws and examples of contents.
 use Rattle.std.specs.Prelude.{◌≡◌, ◌↔◌, ℕ, List, [], ◌∷◌, ◌++◌, Some, None}
-use Rattle.pure_term.specs.Lists.{IsIn, AnyOf, AreDistinct}
+use Rattle.pure_term.specs.Lists.{IsIn, Each, AnyOf, AreDistinct}
 use Rattle.pure_term.specs.Typ.{TFree, TVar, arrow, prop}
 use Rattle.pure_term.specs.Term.{Const, Free, Var, Bound, Abs, App}
 use Rattle.pure_term.specs.Decl.{Decl, ClassDecl, ConDecl, ArityDecl, ConstDecl, AxiomDecl, PromiseDecl}
 use Rattle.pure_term.specs.LawsExamples.{i, j, k, c, d, e, a, f, x, any_x, class_above, arity}
 use Rattle.pure_logic.specs.Connectives.{eq}
-use Rattle.pure_logic.specs.Content.{TheoryId, Content, IsSchematic, IsContent, IsBelow, IsMerge, IsBeginning, definition}
+use Rattle.pure_logic.specs.Content.{TheoryId, Content, IsSchematic, AreNamedAlike, AreLabelledAlike, IsContent, IsBelow, IsMerge, IsBeginning, definition}
 use Rattle.pure_logic.specs.PureContent.{pure_content, pure_declarations, proposition_variable}
 use Rattle.pure_logic.specs.ExampleContent.{promised, example}
 
@@ -19,6 +19,18 @@ MergeHasNoRepeats = (parents : List Content) (merged : List Decl) → IsMerge pa
 
 abbrev pub OneMerge : Type 0
 OneMerge = (parents : List Content) (merged other : List Decl) → IsMerge parents merged → IsMerge parents other → merged ≡ other
+
+-- The parents' declarations of one kind with one name are the same, and so are their promises with one label.
+pub record AreAgreed (parents : List Content) : Type 0 where
+  pub named_once : (x y : Decl) → AnyOf (λ Q. IsIn x Q.declarations) parents → AnyOf (λ Q. IsIn y Q.declarations) parents → AreNamedAlike x y → x ≡ y
+  pub labelled_once : (x y : Decl) → AnyOf (λ Q. IsIn x Q.declarations) parents → AnyOf (λ Q. IsIn y Q.declarations) parents → AreLabelledAlike x y → x ≡ y
+
+-- A theory whose parents are contents and agree begins with a content, and each parent is below it.
+abbrev pub BeginningIsContent : Type 0
+BeginningIsContent = (id : TheoryId) (parents : List Content) (Q : Content) → Each IsContent parents → AreAgreed parents → IsBeginning id parents Q → IsContent Q
+
+abbrev pub ParentsAreBelow : Type 0
+ParentsAreBelow = (id : TheoryId) (parents : List Content) (Q : Content) → IsBeginning id parents Q → Each (λ P. IsBelow P Q) parents
 
 -- a content of these declarations alone, in no theory
 abbrev pub content_of : List Decl → Content

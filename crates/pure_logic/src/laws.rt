@@ -1,7 +1,7 @@
 //! What the definitions mean: laws and computed examples, each carried by the contract of a function that does nothing.
-ghost use Rattle.pure_logic.specs.LawsDerivable.{PureIsContent, VariableIsProposition, ChainIsDerivable, PureIsBelowItself, TrivialIsDerivable, WeakenedIsDerivable};
+ghost use Rattle.pure_logic.specs.LawsDerivable.{PureIsContent, VariableIsProposition, ChainIsDerivable, VariableChainIsDerivable, PureIsBelowItself, TrivialIsDerivable, WeakenedIsDerivable};
 ghost use Rattle.pure_logic.specs.LawsTree.{OneConclusion, OneUnderPairs, WeakeningOfTrees, WeakeningOfDerivable, IdentityRespects, JoinedMapsRespect, JoinedInstance};
-ghost use Rattle.pure_logic.specs.LawsContent.{MergeHasDeclarations, MergeHasNoRepeats, OneMerge, BeginningExample, NoMergeExample, NamedTwiceExample, IllFormedExample, SchematicExample, BelowExample, DefinitionExample};
+ghost use Rattle.pure_logic.specs.LawsContent.{MergeHasDeclarations, MergeHasNoRepeats, OneMerge, BeginningIsContent, ParentsAreBelow, BeginningExample, NoMergeExample, NamedTwiceExample, IllFormedExample, SchematicExample, BelowExample, DefinitionExample};
 ghost use Rattle.pure_logic.specs.LawsNodes.{ExampleIsContent, AxiomExample, PromiseExample, RestsExample, NoAxiomExample, NoMapExample, AssumeExample, AllIntroExample, NoAllIntroExample, AllElimExample, NoAllElimExample, ImpliesIntroExample, ImpliesElimExample, BetaExample, ReflExample, SubstExample, ExtExample, IffExample, PairsExample, DerivableExample};
 
 /// Pure's content is a content, and below itself.
@@ -18,6 +18,7 @@ pub fn variable_is_proposition()
 /// A chain of propositions with its conclusion among its premises is derivable.
 pub fn chain_is_derivable()
     ensures chain { ChainIsDerivable }
+    ensures variables { VariableChainIsDerivable }
     ensures trivial { TrivialIsDerivable }
     ensures weakened { WeakenedIsDerivable }
 {}
@@ -46,6 +47,8 @@ pub fn merge_has_declarations()
     ensures has { MergeHasDeclarations }
     ensures distinct { MergeHasNoRepeats }
     ensures one { OneMerge }
+    ensures content { BeginningIsContent }
+    ensures below { ParentsAreBelow }
     ensures example { BeginningExample }
     ensures none { NoMergeExample }
 {}
