@@ -13,7 +13,7 @@ use Rattle.pure_logic.specs.Connectives.{all, imp, eq}
 use Rattle.pure_logic.specs.Content.{IsCertifiedOf, IsProposition}
 use Rattle.pure_logic.specs.Tree.{Assume, ImpliesIntro}
 use Rattle.pure_logic.specs.ExampleContent.{less, holds, any_c, any_z, i_arity, promised, example}
-use Rattle.pure_logic.specs.LawsNodes.{for_z, AxiomExample, PromiseExample, NoAxiomExample, NoMapExample, AssumeExample, AllIntroExample, NoAllIntroExample, AllElimExample, NoAllElimExample, ImpliesIntroExample, ImpliesElimExample, BetaExample, ReflExample, SubstExample, ExtExample, IffExample, DerivableExample}
+use Rattle.pure_logic.specs.LawsNodes.{for_z, AxiomExample, PromiseExample, NoAxiomExample, NoMapExample, AssumeExample, AllIntroExample, NoAllIntroExample, AllElimExample, NoAllElimExample, ImpliesIntroExample, ImpliesElimExample, BetaExample, ReflExample, SubstExample, SymmetricExample, ExtExample, IffExample, DerivableExample}
 use Rattle.pure_logic.proofs.ConnectiveLaws.{certified_of, imp-parts, all-parts, eq-parts}
 use Rattle.pure_logic.proofs.MapLaws.{identity_respects, joined_respect}
 use Rattle.pure_logic.proofs.ExampleLaws.{example-above, example-has, none_passes, is_const, is_con, is_axiom, is_promised_part, i-certified, j-certified, any_c-certified, i-of_c, x-of, y-of, a-of, f-of, h-of, a-parts, f-parts, less-parts, less-of}
@@ -149,6 +149,18 @@ subst_example = (
   λ C d. (let domain : i ≡ d.0 = cc in let typ : arrow i i ≡ d.0 = d.4.typed in cc),
   λ C d. (let domain : i ≡ d.0 = cc in let typ : arrow i i ≡ d.0 = d.5.typed in cc),
 )
+
+pub symmetric_example : SymmetricExample
+symmetric_example = (
+  (eq i x x, (eq i x y, (i, eq i (Bound 0) x, refl, to_x, x-of, y-of, refl), (x-is_y, refl)), (i, x-of, refl)),
+  refl,
+)
+  where
+    to_x : IsCertifiedOf example (Abs i (eq i (Bound 0) x)) (arrow i prop)
+    to_x = certified_of example (Abs i (eq i (Bound 0) x)) (arrow i prop) (i-certified, eq-parts example example-above i (Bound 0) x i-certified tt i-certified) (prop, (i, (i, refl, refl), refl), refl)
+
+    x-is_y : IsProposition example (eq i x y)
+    x-is_y = certified_of example (eq i x y) prop (eq-parts example example-above i x y i-certified i-certified i-certified) (i, (i, refl, refl), refl)
 
 pub ext_example : ExtExample
 ext_example = (

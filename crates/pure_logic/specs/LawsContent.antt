@@ -60,14 +60,14 @@ with_arity domain = content_of (classes ++ ArityDecl (arity domain e) ∷ [])
 abbrev pub NoMergeExample : Type 0
 NoMergeExample = IsContent (with_arity c) × IsContent (with_arity d) × ((merged : List Decl) → ¬ IsMerge (with_arity c ∷ with_arity d ∷ []) merged)
 
--- No content has two classes, type constructors or constants of one name that differ, an axiom and a promise of one name, or two promises with one label;
+-- No content has two classes, type constructors or constants of one name that differ, an axiom and a promise of one name, or two promises with one label.
 abbrev pub NamedTwiceExample : Type 0
 NamedTwiceExample = (¬ IsContent (content_of (ClassDecl (class_above c []) ∷ ClassDecl (class_above c (d ∷ [])) ∷ []))) × (¬ IsContent (content_of (ConDecl 10 0 ∷ ConDecl 10 1 ∷ [])))
     × (¬ IsContent (content_of (ConstDecl 30 i ∷ ConstDecl 30 j ∷ [])))
     × (¬ IsContent (content_of (pure_declarations ++ AxiomDecl 50 (proposition_variable 0) ∷ PromiseDecl 50 promised (proposition_variable 0) ∷ [])))
     × (¬ IsContent (content_of (pure_declarations ++ PromiseDecl 50 promised (proposition_variable 0) ∷ PromiseDecl 51 promised (proposition_variable 0) ∷ [])))
 
--- a constant whose type has a fixed type variable, an axiom or a promise with a fixed variable, an axiom that isn't of type prop or one that isn't certified; or arities that aren't coregular.
+-- Nor has one a constant whose type has a fixed type variable, an axiom or a promise with a fixed variable, an axiom that isn't of type prop or one that isn't certified, or arities that aren't coregular.
 abbrev pub IllFormedExample : Type 0
 IllFormedExample = (¬ IsContent (content_of (ConstDecl 30 (TFree 1 []) ∷ []))) × (¬ IsContent (content_of (pure_declarations ++ AxiomDecl 50 (Free 1 prop) ∷ [])))
     × (¬ IsContent (content_of (pure_declarations ++ PromiseDecl 50 promised (Free 1 prop) ∷ [])))

@@ -46,10 +46,11 @@ RestsExample =
     let both = ImpliesElim (Promise promised (λ T. T) (λ t. t)) (Promise other (λ T. T) (λ t. t)) in
     (rests_of both ≡ promised ∷ other ∷ []) × (rests_of (AllElim a (AllIntro x (ImpliesIntro (less x y) both))) ≡ promised ∷ other ∷ [])
 
--- An axiom or a label that the content doesn't have gives nothing. A map gives nothing that sends `?'b :: c` to j, which isn't of class c; that sends `?z` to f, whose type isn't its own; or whose image of `?z` isn't certified; nor does a promise with a map of the second kind.
+-- An axiom or a label that the content doesn't have gives nothing.
 abbrev pub NoAxiomExample : Type 0
 NoAxiomExample = GivesNothing (Axiom 99 (λ T. T) (λ t. t)) × GivesNothing (Promise (record promised { part = 1 }) (λ T. T) (λ t. t))
 
+-- Maps give nothing that send `?'b :: c` to j, which isn't of class c, or `?z` to f, which hasn't its type, or to a constant that isn't certified; nor does a promise with a map of the second kind.
 abbrev pub NoMapExample : Type 0
 NoMapExample = GivesNothing (axiom_at j (Free 41 j)) × GivesNothing (axiom_at i f) × GivesNothing (axiom_at i (Const 99 i)) × GivesNothing (Promise promised (λ T. T) (λ t. f))
 
@@ -102,6 +103,10 @@ SubstExample =
     Gives (Subst below_y x a) [] (imp (eq i x a) (imp (less x y) (less a y)))
     × (¬ Concludes example (Subst below_y x a) (imp (eq i x a) (imp (App below_y x) (App below_y a)))) × GivesNothing (Subst q x a)
     × GivesNothing (Subst (Abs i (Bound 0)) x a) × GivesNothing (Subst below_y f a) × GivesNothing (Subst below_y x f)
+
+-- With `%z. z == x` symmetry follows: from `x == y`, `y == x`.
+abbrev pub SymmetricExample : Type 0
+SymmetricExample = Gives (ImpliesElim (ImpliesElim (Subst (Abs i (eq i (Bound 0) x)) x y) (Assume (eq i x y))) (Refl x)) (eq i x y ∷ []) (eq i y x)
 
 -- `(!!x. f x == h x) ==> f == h`, and nothing of functions of different types, nor of what is no function.
 abbrev pub ExtExample : Type 0

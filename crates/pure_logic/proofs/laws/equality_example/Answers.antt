@@ -1,4 +1,4 @@
-use Rattle.pure_logic.proofs.NodeExamples.{beta_example, refl_example, subst_example, ext_example, iff_example}
+use Rattle.pure_logic.proofs.NodeExamples.{beta_example, refl_example, subst_example, symmetric_example, ext_example, iff_example}
 use Rattle.pure_logic.proofs.laws.equality_example.Goals as goal
 
 pub returns-clause-beta : goal.returns-clause-beta
@@ -15,3 +15,6 @@ returns-clause-ext c = ext_example
 
 pub returns-clause-iff : goal.returns-clause-iff
 returns-clause-iff c = iff_example
+
+pub returns-clause-symmetric : goal.returns-clause-symmetric
+returns-clause-symmetric c = symmetric_example
