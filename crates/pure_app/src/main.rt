@@ -1,6 +1,9 @@
 //! The program: the theories of the current directory are checked, and the table goes to standard output.
 #![tactic(auto)]
 
+ghost use Rattle.std.specs.Prelude.{◌≡◌, option_copied};
+ghost use Rattle.pure_app.specs.Message.{message_text};
+
 use pure_check::{Status, pure};
 use pure_io::{DirLibrary, OpenGate, StdSink};
 use pure_term::Text;
@@ -74,7 +77,9 @@ fn status_of(fault: WordsFault) -> Status {
 }
 
 /// The line on standard error, for the statuses that have one.
-fn message(status: Status) -> Option<&'static str> {
+fn message(status: Status) -> Option<&'static str>
+    ensures { option_copied result ≡ message_text status }
+{
     match status {
         Status::Clean | Status::Rows => None,
         Status::Usage => Some("usage"),
@@ -90,5 +95,5 @@ fn main(rt: HostRuntime) -> ExitCode {
         // Where standard error can't be written to, the status still tells.
         let _ = eprintln!(rt; "{line}");
     }
-    ExitCode::from(status as u8)
+    ExitCode::from(status.number())
 }

@@ -9,8 +9,9 @@ use Rattle.pure_io.specs.Outside.{Appends, AppendsProperPrefix}
 use Rattle.pure_check.specs.declared.status.Status.{Status}
 use Rattle.pure_check.specs.declared.status.Status.TheVariants.{Clean, Rows, Usage, ReadFault, WriteFault, Memory}
 use Rattle.pure_check.specs.Row.{Row, is_proved, table_text}
-use Rattle.pure_check.specs.Table.{FileRows, TableRows}
-use Rattle.pure_check.specs.Loaded.{IsRead, IsSource, IsLoaded, RowsOf, IsReadTable}
+use Rattle.pure_check.specs.Table.{FileRows, RowsOf, source_told}
+use Rattle.pure_check.specs.Loaded.{IsRead, IsSource, IsLoaded, AreSomeTheories, IsReadTable}
+use Rattle.pure_check.proofs.DerivedLemmas.{table_derived}
 use Rattle.pure_check.specs.Answer.{IsTableOf, Printed, CutShort, Wrote}
 
 pub printed_by : (loaded : List (List ℕ)) (source : Option (List ℕ)) (rows : List Row) (n : ℕ) (bytes : List ℕ) (clean : Bool) (old new : Option (List ℕ))
@@ -21,6 +22,7 @@ printed_by loaded source rows n bytes clean old new are count text clean_is appe
   rows = rows;
   table = (refl, are);
   clean_is = clean_is;
+  derived = table_derived source loaded rows are;
   written = subst (Appends old new) (text ∙ ap (λ k. table_text k rows) count) appended;
 }
 
@@ -31,14 +33,29 @@ cut_short_by loaded source rows n bytes old new are count text appended = record
   theories = loaded;
   rows = rows;
   table = (refl, are);
+  derived = table_derived source loaded rows are;
   written = subst (AppendsProperPrefix old new) (text ∙ ap (λ k. table_text k rows) count) appended;
 }
 
 pub Wrote-weaker : (status : Status) (P Q : List (List ℕ) → List Row → Type 0) (old new : Option (List ℕ)) → ((theories : List (List ℕ)) (rows : List Row) → P theories rows → Q theories rows)
     → Wrote status P old new → Wrote status Q old new
-Wrote-weaker Clean P Q old new weaker w = record { theories = w.theories; rows = w.rows; table = weaker w.theories w.rows w.table; clean_is = w.clean_is; written = w.written }
-Wrote-weaker Rows P Q old new weaker w = record { theories = w.theories; rows = w.rows; table = weaker w.theories w.rows w.table; clean_is = w.clean_is; written = w.written }
-Wrote-weaker WriteFault P Q old new weaker w = record { theories = w.theories; rows = w.rows; table = weaker w.theories w.rows w.table; written = w.written }
+Wrote-weaker Clean P Q old new weaker w = record {
+  theories = w.theories;
+  rows = w.rows;
+  table = weaker w.theories w.rows w.table;
+  clean_is = w.clean_is;
+  derived = w.derived;
+  written = w.written;
+}
+Wrote-weaker Rows P Q old new weaker w = record {
+  theories = w.theories;
+  rows = w.rows;
+  table = weaker w.theories w.rows w.table;
+  clean_is = w.clean_is;
+  derived = w.derived;
+  written = w.written;
+}
+Wrote-weaker WriteFault P Q old new weaker w = record { theories = w.theories; rows = w.rows; table = weaker w.theories w.rows w.table; derived = w.derived; written = w.written }
 Wrote-weaker Usage P Q old new weaker w = w
 Wrote-weaker ReadFault P Q old new weaker w = w
 Wrote-weaker Memory P Q old new weaker w = w
@@ -57,13 +74,13 @@ rows_of_file theory told (Some text) rows (bytes, told_is, text_is) (inl (ls, fo
 rows_of_file theory told (Some text) rows (bytes, told_is, text_is) (inr (none, is)) =
     rw told_is (inr ((λ ls form. none ls (subst (λ b. IsFirstForm theory b ls) (sym (whole bytes text text_is form.short)) form)), is))
 
-rows_of_files : (files : List File) (theories : List (List ℕ)) (source : Option (List ℕ)) (rows : List Row) → IsSource files theories source → RowsOf source theories rows → TableRows files theories rows
+rows_of_files : (files : List File) (theories : List (List ℕ)) (source : Option (List ℕ)) (rows : List Row) → IsSource files theories source → RowsOf source theories rows → RowsOf (source_told files theories) theories rows
 rows_of_files files [] source rows read are = are
 rows_of_files files (t ∷ []) source rows read are = rows_of_file t _ source rows read are
 rows_of_files files (t ∷ u ∷ ts) source rows read are = are
 
-pub table_of : (files : Option (List File)) (loaded : List (List ℕ)) (source : Option (List ℕ)) → IfSome files (λ fs. IsLoaded fs loaded source)
+pub table_of : (files : Option (List File)) (loaded : List (List ℕ)) (source : Option (List ℕ)) → AreSomeTheories loaded → IfSome files (λ fs. IsLoaded fs loaded source)
     → (theories : List (List ℕ)) (rows : List Row) → IsReadTable loaded source theories rows → IsTableOf files theories rows
-table_of None loaded source is theories rows read = tt
-table_of (Some files) loaded source is theories rows read =
+table_of None loaded source listed is theories rows read = rw read.0 (record { names = listed.0; source = source; named = listed.1; listed = read.1 })
+table_of (Some files) loaded source listed is theories rows read =
     rw read.0 (record { named = is.named; listed = rows_of_files files loaded source rows is.read read.1 })

@@ -1,4 +1,5 @@
 pub mod AnswerLemmas
+pub mod DerivedLemmas
 pub mod LawsLemmas
 pub mod RowLemmas
 pub mod TheoriesLemmas

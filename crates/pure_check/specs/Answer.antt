@@ -1,11 +1,12 @@
 -- What the program answers, in its words, its files and what it writes.
 use Rattle.std.specs.Prelude.{◌≡◌, ℕ, Bool, true, false, List, [], ◌∷◌, length, codes, Option, Some, None}
-use Rattle.std.specs.List.{list_all}
+use Rattle.std.specs.List.{list_all, AllByRecursion}
 use Rattle.pure_first.specs.Token.{same}
 use Rattle.pure_io.specs.declared.library.File.{File}
 use Rattle.pure_io.specs.Outside.{Appends, AppendsProperPrefix}
 use Rattle.pure_check.specs.Row.{Row, is_proved, table_text}
-use Rattle.pure_check.specs.Table.{IsTable}
+use Rattle.pure_check.specs.Table.{IsTable, IsSomeTable}
+use Rattle.pure_check.specs.Derived.{IsDerived}
 use Rattle.pure_check.specs.declared.status.Status.{Status}
 use Rattle.pure_check.specs.declared.status.Status.TheVariants.{Clean, Rows, Usage, ReadFault, WriteFault, Memory}
 
@@ -15,17 +16,19 @@ takes_words [] = true
 takes_words (word ∷ []) = same word (codes "check")
 takes_words (word ∷ other ∷ words) = false
 
--- where the files are told, these are their theories and rows
+-- Where the files are told, these are their theories and rows; else they are those of what was answered and read.
 abbrev pub IsTableOf : Option (List File) → List (List ℕ) → List Row → Type 0
-IsTableOf None theories rows = Unit {0}
+IsTableOf None theories rows = IsSomeTable theories rows
 IsTableOf (Some files) theories rows = IsTable files theories rows
 
--- The whole text of such a table was written, and every row is declared or proved, or some row is neither.
+-- The whole text of such a table was written, and every row is declared or proved, or some row is neither. Each row that
+-- is proved is a theorem.
 pub record Printed (is_table : List (List ℕ) → List Row → Type 0) (clean : Bool) (old new : Option (List ℕ)) : Type 0 where
   pub theories : List (List ℕ)
   pub rows : List Row
   pub table : is_table theories rows
   pub clean_is : list_all is_proved rows ≡ clean
+  pub derived : AllByRecursion IsDerived rows
   pub written : Appends old new (table_text (length theories) rows)
 
 -- A proper part of such a text was written, from its beginning.
@@ -33,6 +36,7 @@ pub record CutShort (is_table : List (List ℕ) → List Row → Type 0) (old ne
   pub theories : List (List ℕ)
   pub rows : List Row
   pub table : is_table theories rows
+  pub derived : AllByRecursion IsDerived rows
   pub written : AppendsProperPrefix old new (table_text (length theories) rows)
 
 -- what was written, by the status
@@ -61,3 +65,21 @@ IsPrinted WriteFault = Unit {0}
 IsPrinted Memory = Unit {0}
 IsPrinted Usage = ⊥
 IsPrinted ReadFault = ⊥
+
+-- a fact for the statuses with which nothing was written
+abbrev pub OnSilent : Status → Type 0 → Type 0
+OnSilent Clean P = Unit {0}
+OnSilent Rows P = Unit {0}
+OnSilent WriteFault P = Unit {0}
+OnSilent Usage P = P
+OnSilent ReadFault P = P
+OnSilent Memory P = P
+
+-- the status as the program's exit status
+abbrev pub exit_number : Status → ℕ
+exit_number Clean = 0
+exit_number Rows = 1
+exit_number Usage = 2
+exit_number ReadFault = 3
+exit_number WriteFault = 4
+exit_number Memory = 5

@@ -4,3 +4,4 @@ pub mod Answer
 pub mod Seen
 pub mod Loaded
 pub mod Laws
+pub mod Derived

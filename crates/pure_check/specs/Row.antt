@@ -29,10 +29,14 @@ is_failed (RefusedTheory t r) = false
 is_failed (ProvedLemma t l) = false
 is_failed (FailedLemma t l) = true
 
--- The statement with each variable schematic: a question mark stands before it.
+-- a schematic variable: a question mark stands before its name
+abbrev pub variable_text : List ℕ → List ℕ
+variable_text name = 63 ∷ name
+
+-- the statement with each variable schematic
 abbrev pub prop_text : List (List ℕ) → List ℕ → List ℕ
-prop_text [] conclusion = 63 ∷ conclusion
-prop_text (p ∷ ps) conclusion = 63 ∷ (p ++ (codes " ==> " ++ prop_text ps conclusion))
+prop_text [] conclusion = variable_text conclusion
+prop_text (p ∷ ps) conclusion = variable_text p ++ (codes " ==> " ++ prop_text ps conclusion)
 
 -- the theory's name, a dot, the lemma's name
 abbrev pub full_name : List ℕ → Lemma → List ℕ

@@ -32,13 +32,26 @@ FileRows theory (Some bytes) rows =
     ((ls : List Lemma) × IsFirstForm theory bytes ls × (rows ≡ map (lemma_row theory) ls))
     ⊎ (((ls : List Lemma) → IsFirstForm theory bytes ls → ⊥) × (rows ≡ RefusedTheory theory form_text ∷ []))
 
--- The rows of the files: several theories are refused, each by itself.
-abbrev pub TableRows : List File → List (List ℕ) → List Row → Type 0
-TableRows files [] rows = rows ≡ []
-TableRows files (t ∷ []) rows = FileRows t (text_named (file_name t) files) rows
-TableRows files (t ∷ u ∷ ts) rows = rows ≡ map (λ x. RefusedTheory x form_text) (t ∷ u ∷ ts)
+-- The rows of theories, where this was read of the one that is alone: several theories are refused, each by itself.
+abbrev pub RowsOf : Option (List ℕ) → List (List ℕ) → List Row → Type 0
+RowsOf source [] rows = rows ≡ []
+RowsOf source (t ∷ []) rows = FileRows t source rows
+RowsOf source (t ∷ u ∷ ts) rows = rows ≡ map (λ x. RefusedTheory x form_text) (t ∷ u ∷ ts)
+
+-- the text of the one theory that is alone
+abbrev pub source_told : List File → List (List ℕ) → Option (List ℕ)
+source_told files [] = None
+source_told files (t ∷ []) = text_named (file_name t) files
+source_told files (t ∷ u ∷ ts) = None
 
 -- these are the theories and the rows of the files
 pub record IsTable (files : List File) (theories : List (List ℕ)) (rows : List Row) : Type 0 where
   pub named : AreTheories (map (λ (f : File). f.name) files) theories
-  pub listed : TableRows files theories rows
+  pub listed : RowsOf (source_told files theories) theories rows
+
+-- these are the theories of some names, and the rows of something that was read
+pub record IsSomeTable (theories : List (List ℕ)) (rows : List Row) : Type 0 where
+  pub names : List (List ℕ)
+  pub source : Option (List ℕ)
+  pub named : AreTheories names theories
+  pub listed : RowsOf source theories rows

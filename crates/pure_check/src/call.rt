@@ -1,7 +1,7 @@
 //! What the words ask for, done with the library's files and written to the sink.
 ghost use Rattle.std.specs.Prelude.{◌≡◌, ◌≢◌, ◌≤◌, true, MatchBool};
 ghost use Rattle.pure_io.specs.Outside.{Rose};
-ghost use Rattle.pure_check.specs.Answer.{takes_words, IsTableOf, Wrote, IsComplete, IsPrinted};
+ghost use Rattle.pure_check.specs.Answer.{takes_words, IsTableOf, Wrote, IsComplete, IsPrinted, OnSilent};
 ghost use Rattle.pure_check.specs.Loaded.{IsReadTable};
 
 use crate::load::{LoadFault, Loaded, load};
@@ -41,6 +41,7 @@ fn print<R: Files + Print + AllocGlobal, S: Sink>(
 ) -> Status
     ensures wrote { Wrote result (IsReadTable loaded.now.theories.items loaded.now.source) (S.written out.old) (S.written out.new) }
     ensures printed { IsPrinted result }
+    ensures unwritten { OnSilent result (out.new ≡ out.old) }
     ensures fault { result ≡ Status.WriteFault → Rose (S.faults out.old) (S.faults out.new) }
     ensures later { S.faults out.old ≤ S.faults out.new }
 {
@@ -69,6 +70,8 @@ fn answer<R: Files + Print + AllocGlobal, L: Library, S: Sink>(
     out: &mut S,
 ) -> Status
     ensures usage { MatchBool (takes_words words.now) (result ≢ Status.Usage) (result ≡ Status.Usage) }
+    ensures unlooked { result ≡ Status.Usage → library.new ≡ library.old }
+    ensures unwritten { OnSilent result (out.new ≡ out.old) }
     ensures wrote { Wrote result (IsTableOf (L.files library.old)) (S.written out.old) (S.written out.new) }
     ensures read_fault { result ≡ Status.ReadFault → Rose (L.faults library.old) (L.faults library.new) }
     ensures write_fault { result ≡ Status.WriteFault → Rose (S.faults out.old) (S.faults out.new) }
@@ -98,11 +101,14 @@ pub fn pure<R: Files + Print + AllocGlobal + Threads + Wait + Sync, L: Library, 
     out: &mut S,
     _gate: &G,
 ) -> Ended
-    // Usage comes exactly where the words aren't those of a command.
+    // Usage comes exactly where the words aren't those of a command, and then the library wasn't looked at.
     ensures usage { MatchBool (takes_words words.now) (result.status ≢ Status.Usage) (result.status ≡ Status.Usage) }
+    ensures unlooked { result.status ≡ Status.Usage → library.new ≡ library.old }
 
-    // With Clean and Rows the whole table of the files was written, and Clean says that every row is declared or
-    // proved; with WriteFault a proper part of it from its beginning; else nothing.
+    // With Clean and Rows the whole table of the files was written, each proved row of it a theorem, and Clean says that
+    // every row is declared or proved; with WriteFault a proper part of a table from its beginning; else nothing, and
+    // the sink wasn't touched.
+    ensures unwritten { OnSilent result.status (out.new ≡ out.old) }
     ensures wrote { Wrote result.status (IsTableOf (L.files library.old)) (S.written out.old) (S.written out.new) }
 
     // A fault comes only where the count of faults rose in this call.

@@ -1,8 +1,8 @@
 //! What is read of the library.
-ghost use Rattle.std.specs.Prelude.{◌≡◌, ◌≤◌, ◌++◌, ℕ, List, Some, None, IfOk, IfSome, codes, map};
+ghost use Rattle.std.specs.Prelude.{◌≡◌, ◌≢◌, ◌≤◌, length, ◌++◌, ℕ, List, Some, None, IfOk, IfSome, codes, map};
 ghost use Rattle.pure_io.specs.Outside.{Rose, text_named};
 ghost use Rattle.pure_check.specs.Table.{file_name};
-ghost use Rattle.pure_check.specs.Loaded.{IsLoaded, IsRead};
+ghost use Rattle.pure_check.specs.Loaded.{IsLoaded, IsRead, IsSource, source_answer, AreSomeTheories};
 
 use crate::theories::theories_of;
 use pure_io::{LibFault, Library, ReadFault};
@@ -63,6 +63,18 @@ fn list<R: Files + Print + AllocGlobal, L: Library>(
     }
 }
 
+/// What a read's answer says of a theory: its text, or that its file is missing.
+fn source_of(answer: Result<Text, ReadFault>) -> Result<Option<Text>, LoadFault>
+    ensures { result ≡ source_answer answer }
+{
+    match answer {
+        Ok(text) => Ok(Some(text)),
+        Err(ReadFault::Missing) => Ok(None),
+        Err(ReadFault::Failed) => Err(LoadFault::ReadFault),
+        Err(ReadFault::Memory) => Err(LoadFault::Memory),
+    }
+}
+
 fn read_source<R: Files + Print + AllocGlobal, L: Library>(
     rt: &R,
     alloc: Global,
@@ -78,12 +90,27 @@ fn read_source<R: Files + Print + AllocGlobal, L: Library>(
         Ok(file) => file,
         Err(_) => return Err(LoadFault::Memory),
     };
-    match library.read(rt, alloc, &file, MOST_BYTES) {
-        Ok(text) => Ok(Some(text)),
-        Err(ReadFault::Missing) => Ok(None),
-        Err(ReadFault::Failed) => Err(LoadFault::ReadFault),
-        Err(ReadFault::Memory) => Err(LoadFault::Memory),
+    let answer = library.read(rt, alloc, &file, MOST_BYTES);
+    source_of(answer)
+}
+
+/// Reads the file of the one theory, where it is alone, and else nothing.
+fn read_if_alone<R: Files + Print + AllocGlobal, L: Library>(
+    rt: &R,
+    alloc: Global,
+    library: &mut L,
+    theories: &[Text],
+) -> Result<Option<Text>, LoadFault>
+    ensures unread { length theories.now ≢ 1 → library.new ≡ library.old }
+    ensures told { IfOk result (λ source. IfSome (L.files library.old) (λ files. IsSource files theories.now source)) }
+    ensures fault { result ≡ Err LoadFault.ReadFault → Rose (L.faults library.old) (L.faults library.new) }
+    ensures files { L.files library.new ≡ L.files library.old }
+    ensures later { L.faults library.old ≤ L.faults library.new }
+{
+    if theories.len() != 1 {
+        return Ok(None);
     }
+    read_source(rt, alloc, library, &theories[0])
 }
 
 /// Lists the library, and reads its file where it has one theory alone.
@@ -92,6 +119,7 @@ pub(crate) fn load<R: Files + Print + AllocGlobal, L: Library>(
     alloc: Global,
     library: &mut L,
 ) -> Result<Loaded, LoadFault>
+    ensures listed { IfOk result (λ loaded. AreSomeTheories loaded.theories.items) }
     ensures told { IfOk result (λ loaded. IfSome (L.files library.old) (λ files. IsLoaded files loaded.theories.items loaded.source)) }
     ensures fault { result ≡ Err LoadFault.ReadFault → Rose (L.faults library.old) (L.faults library.new) }
     ensures files { L.files library.new ≡ L.files library.old }
@@ -99,12 +127,6 @@ pub(crate) fn load<R: Files + Print + AllocGlobal, L: Library>(
 {
     let names = list(rt, alloc, library)?;
     let theories = theories_of(alloc, &names)?;
-    if theories.len() != 1 {
-        return Ok(Loaded {
-            theories,
-            source: None,
-        });
-    }
-    let source = read_source(rt, alloc, library, &theories[0])?;
+    let source = read_if_alone(rt, alloc, library, &theories)?;
     Ok(Loaded { theories, source })
 }

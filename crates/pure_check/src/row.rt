@@ -80,6 +80,14 @@ pub(crate) fn are_proved(rows: &[Row<'_>]) -> bool
     rows.iter().all(|row| is_proved(row))
 }
 
+fn push_variable(text: &mut Vec<u8>, variable: &[u8]) -> Result<(), AllocError>
+    ensures { OnOk result (text.new.items ≡ text.old.items ++ spec.variable_text variable.now) }
+{
+    text.extend_from_slice(b"?")?;
+    text.extend_from_slice(variable)?;
+    Ok(())
+}
+
 fn push_statement(
     text: &mut Vec<u8>,
     premises: &[&[u8]],
@@ -88,12 +96,10 @@ fn push_statement(
     ensures { OnOk result (text.new.items ≡ text.old.items ++ spec.prop_text (map (λ p. p.now) premises.now) conclusion.now) }
 {
     for premise in premises {
-        text.extend_from_slice(b"?")?;
-        text.extend_from_slice(premise)?;
+        push_variable(text, premise)?;
         text.extend_from_slice(b" ==> ")?;
     }
-    text.extend_from_slice(b"?")?;
-    text.extend_from_slice(conclusion)?;
+    push_variable(text, conclusion)?;
     Ok(())
 }
 

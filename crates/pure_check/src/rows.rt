@@ -1,8 +1,7 @@
 //! The rows of what was read.
 ghost use Rattle.std.specs.Prelude.{◌≡◌, List, ◌∷◌, [], IfOk, map, Some};
 ghost use Rattle.pure_check.specs.Row as spec;
-ghost use Rattle.pure_check.specs.Table.{FileRows, form_text};
-ghost use Rattle.pure_check.specs.Loaded.{RowsOf};
+ghost use Rattle.pure_check.specs.Table.{FileRows, RowsOf, form_text};
 ghost use Rattle.pure_check.specs.Seen.{seen_rows, reason_text};
 ghost use Rattle.pure_first.specs.Seen.{seen_all};
 

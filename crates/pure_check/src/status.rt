@@ -1,6 +1,7 @@
 //! How a run of the program ended.
+ghost use Rattle.std.specs.Prelude.{◌≡◌};
 
-/// How a run ended. As a number, the program's exit status.
+/// How a run ended.
 #[derive(Clone, Copy, Debug, PartialEq, Eq)]
 pub enum Status {
     /// The whole table was written, and every row is declared or proved.
@@ -15,4 +16,22 @@ pub enum Status {
     WriteFault,
     /// Memory ran out; nothing was written.
     Memory,
+}
+
+impl Status {
+    ghost use Rattle.pure_check.specs.Answer.{exit_number};
+
+    /// The program's exit status.
+    pub fn number(self) -> u8
+        ensures { result ≡ exit_number self }
+    {
+        match self {
+            Status::Clean => 0,
+            Status::Rows => 1,
+            Status::Usage => 2,
+            Status::ReadFault => 3,
+            Status::WriteFault => 4,
+            Status::Memory => 5,
+        }
+    }
 }

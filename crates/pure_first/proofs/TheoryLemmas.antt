@@ -8,7 +8,7 @@ use Rattle.std.specs.Ordering.{nat_cmp, is_eq}
 use Rattle.std.proofs.lemmas.Map.Keys.{IsDistinct-head, IsDistinct-tail, IsDistinct-push}
 use Rattle.std.specs.List.{AllByRecursion, IsDistinct, list_any}
 use Rattle.pure_first.specs.Token.{Word, Quote, Colon, Spells, same}
-use Rattle.pure_first.specs.Theory.{Lemma, IsLemma, IsStatement, IsFirstForm, statement_tokens, lemma_tokens, lemmas_tokens, header_tokens, theory_word, begin_word, end_word, lemma_word, by_word, assumption_word}
+use Rattle.pure_first.specs.Theory.{Lemma, IsLemma, IsStatement, IsFirstForm, statement_tokens, lemma_tokens, lemmas_tokens, theory_tokens, header_tokens, theory_word, begin_word, end_word, lemma_word, by_word, assumption_word}
 use Rattle.pure_first.specs.Reading.{Takes, TakesNo, TakesOne, TakesHeader, TakesLemma, TakesNoLemma, IsLemmaText}
 use Rattle.pure_first.specs.Seen.{AreLemmas}
 use Rattle.pure_first.proofs.TokenLemmas.{spelled_once}
@@ -270,5 +270,9 @@ lemmas_once (l ∷ ls) (m ∷ ms) a b e =
     let others = lemmas_once ls ms a.1 b.1 tail in
     λ i. one i ∷ others i
 
-pub theory_once : (theory bytes : List ℕ) (ls ms : List Lemma) → IsFirstForm theory bytes ls → IsFirstForm theory bytes ms → ls ≡ ms
-theory_once theory bytes ls ms a b = lemmas_once ls ms a.each b.each (append_cancel_left (header_tokens theory) (lemmas_tokens ls) (lemmas_tokens ms) (spelled_once _ _ bytes a.spelled b.spelled))
+pub theory_once : (t u bytes : List ℕ) (ls ms : List Lemma) → IsFirstForm t bytes ls → IsFirstForm u bytes ms → (t ≡ u) × (ls ≡ ms)
+theory_once t u bytes ls ms a b =
+    let tokens : theory_tokens t ls ≡ theory_tokens u ms = spelled_once _ _ bytes a.spelled b.spelled in
+    let names : t ≡ u = cc in
+    let rest : lemmas_tokens ls ≡ lemmas_tokens ms = cc in
+    (names, lemmas_once ls ms a.each b.each rest)

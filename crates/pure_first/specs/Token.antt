@@ -54,7 +54,7 @@ abbrev pub begins_with : (ℕ → Bool) → List ℕ → Bool
 begins_with test [] = false
 begins_with test (b ∷ bs) = test b
 
--- The longest token is taken: a word ends where no further byte belongs to it.
+-- The longest token is taken. In a file of first form only a word could be cut short, since a quoted text stands behind a colon: a word ends where no further byte belongs to it.
 abbrev pub ends_before : Token → List ℕ → Bool
 ends_before (Word w) rest = not (begins_with is_word_byte rest)
 ends_before (Quote q) rest = true

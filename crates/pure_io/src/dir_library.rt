@@ -1,5 +1,5 @@
 //! The current directory as a library.
-ghost use Rattle.std.specs.Prelude.{◌≡◌, ◌≤◌, ◌+◌, length, IfOk, IfErr};
+ghost use Rattle.std.specs.Prelude.{◌≡◌, ◌≤◌, ◌+◌, length, IfOk, IfErr, MatchResult};
 ghost use Rattle.std.specs.Iterator.{at_most};
 ghost use Rattle.std.specs.Io.Iter.{read_dir_left};
 ghost use Rattle.std.specs.Fs.{dir_entry_name};
@@ -123,7 +123,8 @@ fn entry_name<R: Files + Drop>(
     alloc: Global,
     entry: io::Result<DirEntry<R, Global>>,
 ) -> Result<Option<Text>, LibFault>
-    ensures named { IfOk entry (λ e. IfOk result (λ name. name ≡ Some (dir_entry_name e))) }
+    ensures named { IfOk entry (λ e.
+        MatchResult result (λ name. name ≡ Some (dir_entry_name e)) (λ fault. fault ≡ LibFault.Memory)) }
     ensures unnamed { IfErr entry (λ e. result ≡ unnamed_entry_of (error_kind e)) }
 {
     match entry {

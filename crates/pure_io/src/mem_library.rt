@@ -1,5 +1,6 @@
 //! A library in memory.
-ghost use Rattle.std.specs.Prelude.{◌≡◌, ◌↔◌, ℕ, ◌+◌, ◌≤◌, List, [], length, take, map, Some, None, IfOk, IsOkUnless, option_copied, option_map, alloc_error};
+ghost use Rattle.std.specs.Prelude.{◌≡◌, ◌+◌, take, map, IfOk, option_map};
+ghost use Rattle.pure_io.specs.Outside.{text_named};
 
 use crate::failures::Failures;
 use crate::library::{File, LibFault, Library, ReadFault};
@@ -119,8 +120,6 @@ fn names_of(alloc: Global, files: &[File]) -> Result<Vec<Text>, AllocError>
     }
     Ok(names)
 }
-
-ghost use Rattle.pure_io.specs.Outside.{text_named};
 
 /// The first file of that name.
 fn first_named<'f>(files: &'f [File], name: &Text) -> Option<&'f File>

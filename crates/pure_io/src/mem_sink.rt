@@ -1,5 +1,4 @@
 //! A sink in memory.
-ghost use Rattle.std.specs.Prelude.{◌≡◌, ◌≤◌, ◌<◌, [], Some, IfOk};
 
 use crate::failures::Failures;
 use crate::sink::{Failed, Sink};
@@ -74,10 +73,9 @@ impl MemSink {
 }
 
 impl Sink for MemSink {
-    ghost use Rattle.std.specs.Prelude.{◌≡◌, ◌↔◌, ◌⊎◌, ◌<◌, ◌≤◌, ◌++◌, Some, IsErr, IfOk, OnOk, OnErr, length, take};
+    ghost use Rattle.std.specs.Prelude.{◌≡◌, ◌↔◌, ◌<◌, ◌≤◌, ◌++◌, Some, IsErr, IfOk, OnOk, OnErr, length, take};
     ghost use Rattle.pure_io.specs.Counts.{next_count};
-    ghost use Rattle.pure_io.specs.Memory.{SinkState, WriteFails, KeepsLimits, taken_count};
-    ghost use Rattle.pure_io.specs.Outside.{Rose, Appends};
+    ghost use Rattle.pure_io.specs.Memory.{WriteFails, KeepsLimits, taken_count};
 
     ghost written = { λ s. Some s.bytes };
 

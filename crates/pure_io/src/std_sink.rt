@@ -1,7 +1,8 @@
 //! Standard output as a sink.
-ghost use Rattle.std.specs.Prelude.{◌≡◌, ◌≤◌};
+ghost use Rattle.std.specs.Prelude.{◌≡◌, ◌≤◌, ◌<◌, IfOk, OnErr, length};
 
 use crate::sink::{Failed, Sink};
+use std::io;
 use std::marker::Model;
 use std::rt::Files;
 
@@ -51,12 +52,23 @@ impl Sink for StdSink {
         ensures failed { OnErr result (self.new ≡ next_count self.old) }
         ensures later { self.old ≤ self.new }
     {
-        match rt.write_some(piece) {
-            Ok(count) if count > 0 || piece.is_empty() => Ok(count),
-            _ => {
-                self.faults = self.faults.saturating_add(1);
-                Err(Failed)
-            }
+        let answer = answer_of(rt.write_some(piece), piece);
+        if answer.is_err() {
+            self.faults = self.faults.saturating_add(1);
         }
+        answer
+    }
+}
+
+/// What a write of the system means for a sink: one that takes nothing of a piece that isn't empty
+/// failed, too.
+fn answer_of(written: io::Result<usize>, piece: &[u8]) -> Result<usize, Failed>
+    ensures ok { IfOk result (λ n. written ≡ Ok n) }
+    ensures some { IfOk result (λ n. 0 < length piece.now → 1 ≤ n) }
+    ensures failed { OnErr result (IfOk written (λ n. (n ≡ 0) × (0 < length piece.now))) }
+{
+    match written {
+        Ok(count) if count > 0 || piece.is_empty() => Ok(count),
+        _ => Err(Failed),
     }
 }

@@ -4,7 +4,7 @@ use Rattle.pure_term.specs.Typ.{Typ, TFree, TVar, Con, Typs, none, also, typ_eq}
 use Rattle.pure_term.specs.Term.{Term, Const, Free, Var, Bound, Abs, App, term_eq}
 use Rattle.pure_term.specs.Order.{Algebra, IsOfSort}
 use Rattle.pure_term.specs.Typing.{HasType}
-use Rattle.pure_term.specs.Subst.{typ_instance, typs_instance, term_instance, inst_term, IsSortRespecting, IsTypeRespecting, KeepsFixedTyps, KeepsFixed, TypBind, TermBind, IsTypMap, IsTermMap, typ_variable, term_variable, typ_image, term_image, AreSortRespecting, AreTypeRespecting}
+use Rattle.pure_term.specs.Subst.{typ_instance, typs_instance, term_instance, inst_term, IsSortRespecting, IsTypeRespecting, KeepsFixedTyps, KeepsFixedTerms, TypBind, TermBind, IsTypMap, IsTermMap, typ_variable, term_variable, typ_image, term_image, AreSortRespecting, AreTypeRespecting}
 use Rattle.pure_term.specs.Lists.{IsIn}
 use Rattle.pure_term.proofs.ListLaws.{each_of, in-map}
 use Rattle.pure_term.proofs.EqualityLaws.{typ_eq-same, typ_eq-itself, term_eq-same, term_eq-itself}
@@ -117,5 +117,5 @@ kept_fixed : (binds : List TermBind) (x : ℕ) (T : Typ) → term_image binds (F
 kept_fixed [] x T = refl
 kept_fixed (b ∷ bs) x T = kept_fixed bs x T
 
-pub entries-keep_fixed : (binds : List TermBind) → KeepsFixed (λ v. v) (term_image binds)
+pub entries-keep_fixed : (binds : List TermBind) → KeepsFixedTerms (λ v. v) (term_image binds)
 entries-keep_fixed binds x T = kept_fixed binds x T ∙ ap (Free x) (sym (typ_instance-identity T))

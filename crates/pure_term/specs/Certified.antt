@@ -53,7 +53,7 @@ pub record IsCertified (ds : List Decl) (t : Term) : Type 0 where
   pub typ : Typ
   pub typed : HasType [] t typ
 
--- The images of the maps are certified wherever their variables are.
+-- Wherever a variable's own sort or type is certified, the image of a type variable is certified, and so are the parts of the image of a variable. Beside type-respecting maps, whose images are typed, the images of variables are then certified too.
 pub record AreImagesCertified (ds : List Decl) (typs : Typ → Typ) (terms : Term → Term) : Type 0 where
   pub fixed_typ : (x : ℕ) (s : List ℕ) → IsCertifiedSort ds s → IsCertifiedTyp ds (typs (TFree x s))
   pub schematic_typ : (x i : ℕ) (s : List ℕ) → IsCertifiedSort ds s → IsCertifiedTyp ds (typs (TVar x i s))

@@ -47,7 +47,7 @@ HasSaturatedParts bs (Abs T b) = IsSaturated (T ∷ bs) b × HasSaturatedParts (
 HasSaturatedParts bs (App f a) = HasSaturatedParts bs f × IsSaturated bs a × HasSaturatedParts bs a
 HasSaturatedParts bs _ = Unit {0}
 
--- u is the long form of t: the beta-normal form of t's type that reduces to t by eta steps, and in which every subterm that isn't applied has as many abstractions as its type has arrows.
+-- u is the long form of t: the beta-normal term, of t's type, that reduces to t by eta steps, and in which every subterm that isn't applied has as many abstractions as its type has arrows.
 pub record IsLongForm (t u : Term) : Type 0 where
   pub typ : Typ
   pub typed : HasType [] t typ

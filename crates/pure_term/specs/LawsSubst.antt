@@ -3,7 +3,7 @@ use Rattle.std.specs.Prelude.{◌≡◌, ◌↔◌, List, [], ◌∷◌}
 use Rattle.pure_term.specs.Typ.{Typ, TFree, TVar, arrow}
 use Rattle.pure_term.specs.Term.{Term, Free, Var, App}
 use Rattle.pure_term.specs.Order.{Algebra}
-use Rattle.pure_term.specs.Subst.{typ_instance, term_instance, inst_typ, inst_term, IsSortRespecting, IsTypeRespecting, KeepsFixedTyps, KeepsFixed, TypBind, TermBind, IsTypMap, IsTermMap, typ_image, term_image, AreSortRespecting, AreTypeRespecting}
+use Rattle.pure_term.specs.Subst.{typ_instance, term_instance, inst_typ, inst_term, IsSortRespecting, IsTypeRespecting, KeepsFixedTyps, KeepsFixedTerms, TypBind, TermBind, IsTypMap, IsTermMap, typ_image, term_image, AreSortRespecting, AreTypeRespecting}
 use Rattle.pure_term.specs.LawsExamples.{i, j, a, f, x, any_x, any_y, pair, c, d, sort_of, ladder}
 
 -- The identity maps are sort-respecting and type-respecting, and change nothing.
@@ -34,7 +34,7 @@ abbrev pub EntriesKeepFixedTyps : Type 0
 EntriesKeepFixedTyps = (binds : List TypBind) → KeepsFixedTyps (typ_image binds)
 
 abbrev pub EntriesKeepFixed : Type 0
-EntriesKeepFixed = (binds : List TermBind) → KeepsFixed (λ v. v) (term_image binds)
+EntriesKeepFixed = (binds : List TermBind) → KeepsFixedTerms (λ v. v) (term_image binds)
 
 -- an entry that replaces `?x :: i`, one that replaces `?y :: i`, and one that replaces `?'a :: c`
 abbrev pub for_x : Term → TermBind

@@ -18,7 +18,7 @@ abbrev mutual
   typs_instance image none = none
   typs_instance image (also t ts) = also (typ_instance image t) (typs_instance image ts)
 
--- the term with each type replaced by what a function on whole types gives, and each variable, as it stands with its own type, by what a function on variables gives
+-- the term with the type of each constant and each binder replaced by what a function on whole types gives, and each variable, as it stands with its own type, by what a function on variables gives
 abbrev pub replacement : (on_typ : Typ → Typ) → (on_variable : Term → Term) → Term → Term
 replacement on_typ on_variable (Const c T) = Const c (on_typ T)
 replacement on_typ on_variable (Free x T) = on_variable (Free x T)
@@ -61,8 +61,8 @@ abbrev pub KeepsFixedTyps : (Typ → Typ) → Type 0
 KeepsFixedTyps typs = (x : ℕ) (s : List ℕ) → typs (TFree x s) ≡ TFree x s
 
 -- The term map leaves the fixed variables as they are, but for their types under the type map.
-abbrev pub KeepsFixed : (typs : Typ → Typ) → (terms : Term → Term) → Type 0
-KeepsFixed typs terms = (x : ℕ) (T : Typ) → terms (Free x T) ≡ Free x (typ_instance typs T)
+abbrev pub KeepsFixedTerms : (typs : Typ → Typ) → (terms : Term → Term) → Type 0
+KeepsFixedTerms typs terms = (x : ℕ) (T : Typ) → terms (Free x T) ≡ Free x (typ_instance typs T)
 
 -- an entry of a finite type map, which replaces a schematic type variable
 pub record TypBind : Type 0 where

@@ -152,6 +152,79 @@ fn filled(
     Ok(text)
 }
 
+/// Files named `A.thy` that aren't the theory A in first form.
+const NOT_FIRST_FORM: [&[u8]; 40] = [
+    // a byte above 127 in each kind of place
+    b"\xc3theory A begin lemma id: \"A ==> A\" by assumption end",
+    b"theory A\xc3 begin lemma id: \"A ==> A\" by assumption end",
+    b"theory A \xc3 begin lemma id: \"A ==> A\" by assumption end",
+    b"theory A begin lemma i\xc3d: \"A ==> A\" by assumption end",
+    b"theory A begin lemma id: \"A\xc3 ==> A\" by assumption end",
+    b"theory A begin lemma id: \"A \xc3==> A\" by assumption end",
+    b"theory A begin lemma id: \"A ==> A\" by assumption end\xc3",
+    // two lemmas of one name
+    b"theory A begin lemma a: \"A ==> A\" by assumption lemma a: \"B ==> B\" by assumption end",
+    // another header, and the built-in theory's
+    b"theory B begin lemma id: \"A ==> A\" by assumption end",
+    b"theory Pure begin lemma id: \"A ==> A\" by assumption end",
+    // keywords as names
+    b"theory A begin lemma end: \"A ==> A\" by assumption end",
+    b"theory A begin lemma have: \"A ==> A\" by assumption end",
+    b"theory A begin lemma version: \"A ==> A\" by assumption end",
+    b"theory end begin end",
+    // a comment in each place, inside the quoted text too
+    b"(* c *) theory A begin lemma id: \"A ==> A\" by assumption end",
+    b"theory (* c *) A begin lemma id: \"A ==> A\" by assumption end",
+    b"theory A begin (* c *) lemma id: \"A ==> A\" by assumption end",
+    b"theory A begin lemma id: (* c *) \"A ==> A\" by assumption end",
+    b"theory A begin lemma id: \"A (* c *) ==> A\" by assumption end",
+    b"theory A begin lemma id: \"A ==> A\" by assumption end (* c *)",
+    // statements that are none
+    b"theory A begin lemma id: \"\" by assumption end",
+    b"theory A begin lemma id: \"==> A\" by assumption end",
+    b"theory A begin lemma id: \"A ==>\" by assumption end",
+    b"theory A begin lemma id: \"A B\" by assumption end",
+    b"theory A begin lemma id: \"A ==> ==> B\" by assumption end",
+    b"theory A begin lemma id: \"A == > A\" by assumption end",
+    b"theory A begin lemma id: \"A ===> A\" by assumption end",
+    b"theory A begin lemma id: \"(A ==> A)\" by assumption end",
+    b"theory A begin lemma id: \"?A ==> ?A\" by assumption end",
+    b"theory A begin lemma id: \"A.b ==> A.b\" by assumption end",
+    b"theory A begin lemma id: \"_1 ==> _1\" by assumption end",
+    // commands that are none
+    b"theory A imports Pure begin lemma id: \"A ==> A\" by assumption end",
+    b"theory A begin theorem id: \"A ==> A\" by assumption end",
+    b"theory A begin lemma id:: \"A ==> A\" by assumption end",
+    b"theory A begin lemma id \"A ==> A\" by assumption end",
+    b"theory A begin lemma A.id: \"A ==> A\" by assumption end",
+    b"theory A begin lemma id: \"A ==> A\" by (assumption) end",
+    b"theory A begin lemma id: \"A ==> A\" by Assumption end",
+    b"theory A begin lemma id: \"A ==> A\" by assumption end end",
+    b"theoryA begin end",
+];
+
+/// Files named `A.thy` in first form, with their rows.
+const FIRST_FORM: [(&[u8], &[u8]); 6] = [
+    (b"theory A begin end", b""),
+    (b" \t\r\ntheory\nA begin end\n", b""),
+    (
+        b"theory A begin lemma id:\"end ==> end\"by assumption end",
+        b"proved A.id: ?end ==> ?end\n",
+    ),
+    (
+        b"theory A begin lemma a'_1: \"b' ==> B ==> b'\" by assumption end",
+        b"proved A.a'_1: ?b' ==> ?B ==> ?b'\n",
+    ),
+    (
+        b"theory A begin lemma assumption: \"A==>A\" by assumption lemma b: \"A\" by assumption end",
+        b"proved A.assumption: ?A ==> ?A\nfailed A.b: step 1: no hypothesis\n",
+    ),
+    (
+        b"theory A begin lemma a: \"AB ==> A ==> B\" by assumption end",
+        b"failed A.a: step 1: no hypothesis\n",
+    ),
+];
+
 #[test]
 fn takes_first_form_and_nothing_else(rt: HostRuntime) -> Result<(), Fail> {
     let alloc = rt.alloc();
@@ -159,81 +232,12 @@ fn takes_first_form_and_nothing_else(rt: HostRuntime) -> Result<(), Fail> {
         let cut = run_file(&rt, alloc, b"A.thy", &PROVED[..len])?;
         assert!(rt; cut.bytes.as_slice() == REFUSED, "the first {len} bytes");
     }
-    let refused: [&[u8]; 40] = [
-        // a byte above 127 in each kind of place
-        b"\xc3theory A begin lemma id: \"A ==> A\" by assumption end",
-        b"theory A\xc3 begin lemma id: \"A ==> A\" by assumption end",
-        b"theory A \xc3 begin lemma id: \"A ==> A\" by assumption end",
-        b"theory A begin lemma i\xc3d: \"A ==> A\" by assumption end",
-        b"theory A begin lemma id: \"A\xc3 ==> A\" by assumption end",
-        b"theory A begin lemma id: \"A \xc3==> A\" by assumption end",
-        b"theory A begin lemma id: \"A ==> A\" by assumption end\xc3",
-        // two lemmas of one name
-        b"theory A begin lemma a: \"A ==> A\" by assumption lemma a: \"B ==> B\" by assumption end",
-        // another header, and the built-in theory's
-        b"theory B begin lemma id: \"A ==> A\" by assumption end",
-        b"theory Pure begin lemma id: \"A ==> A\" by assumption end",
-        // keywords as names
-        b"theory A begin lemma end: \"A ==> A\" by assumption end",
-        b"theory A begin lemma have: \"A ==> A\" by assumption end",
-        b"theory A begin lemma version: \"A ==> A\" by assumption end",
-        b"theory end begin end",
-        // a comment in each place, inside the quoted text too
-        b"(* c *) theory A begin lemma id: \"A ==> A\" by assumption end",
-        b"theory (* c *) A begin lemma id: \"A ==> A\" by assumption end",
-        b"theory A begin (* c *) lemma id: \"A ==> A\" by assumption end",
-        b"theory A begin lemma id: (* c *) \"A ==> A\" by assumption end",
-        b"theory A begin lemma id: \"A (* c *) ==> A\" by assumption end",
-        b"theory A begin lemma id: \"A ==> A\" by assumption end (* c *)",
-        // statements that are none
-        b"theory A begin lemma id: \"\" by assumption end",
-        b"theory A begin lemma id: \"==> A\" by assumption end",
-        b"theory A begin lemma id: \"A ==>\" by assumption end",
-        b"theory A begin lemma id: \"A B\" by assumption end",
-        b"theory A begin lemma id: \"A ==> ==> B\" by assumption end",
-        b"theory A begin lemma id: \"A == > A\" by assumption end",
-        b"theory A begin lemma id: \"A ===> A\" by assumption end",
-        b"theory A begin lemma id: \"(A ==> A)\" by assumption end",
-        b"theory A begin lemma id: \"?A ==> ?A\" by assumption end",
-        b"theory A begin lemma id: \"A.b ==> A.b\" by assumption end",
-        b"theory A begin lemma id: \"_1 ==> _1\" by assumption end",
-        // commands that are none
-        b"theory A imports Pure begin lemma id: \"A ==> A\" by assumption end",
-        b"theory A begin theorem id: \"A ==> A\" by assumption end",
-        b"theory A begin lemma id:: \"A ==> A\" by assumption end",
-        b"theory A begin lemma id \"A ==> A\" by assumption end",
-        b"theory A begin lemma A.id: \"A ==> A\" by assumption end",
-        b"theory A begin lemma id: \"A ==> A\" by (assumption) end",
-        b"theory A begin lemma id: \"A ==> A\" by Assumption end",
-        b"theory A begin lemma id: \"A ==> A\" by assumption end end",
-        b"theoryA begin end",
-    ];
-    for text in refused {
+    for text in NOT_FIRST_FORM {
         let answer = run_file(&rt, alloc, b"A.thy", text)?;
         assert_eq!(rt; answer.status, Status::Rows, "{text:?}");
         assert!(rt; answer.bytes.as_slice() == REFUSED, "{text:?}");
     }
-    let taken: [(&[u8], &[u8]); 6] = [
-        (b"theory A begin end", b""),
-        (b" \t\r\ntheory\nA begin end\n", b""),
-        (
-            b"theory A begin lemma id:\"end ==> end\"by assumption end",
-            b"proved A.id: ?end ==> ?end\n",
-        ),
-        (
-            b"theory A begin lemma a'_1: \"b' ==> B ==> b'\" by assumption end",
-            b"proved A.a'_1: ?b' ==> ?B ==> ?b'\n",
-        ),
-        (
-            b"theory A begin lemma assumption: \"A==>A\" by assumption lemma b: \"A\" by assumption end",
-            b"proved A.assumption: ?A ==> ?A\nfailed A.b: step 1: no hypothesis\n",
-        ),
-        (
-            b"theory A begin lemma a: \"AB ==> A ==> B\" by assumption end",
-            b"failed A.a: step 1: no hypothesis\n",
-        ),
-    ];
-    for (text, rows) in taken {
+    for (text, rows) in FIRST_FORM {
         let answer = run_file(&rt, alloc, b"A.thy", text)?;
         assert!(rt;
             answer.bytes.starts_with(rows)
@@ -374,47 +378,58 @@ fn refuses_several_theories_unread(rt: HostRuntime) -> Result<(), Fail> {
     Ok(())
 }
 
+/// A call: its words, which reads and writes fail, the sink's room and width, and what comes of it.
+type Fault = (
+    &'static [&'static [u8]],
+    &'static [u32],
+    &'static [u32],
+    usize,
+    usize,
+    Status,
+    &'static [u8],
+);
+
+const FAULTS: [Fault; 10] = [
+    (
+        &[b"check"],
+        &[],
+        &[],
+        1000,
+        1000,
+        Status::Clean,
+        b"proved A.id: ?A ==> ?A\ntotal: 1 theories, 0 declared, 0 refused, 1 proved, 0 failed, 0 tainted, 0 cancelled, 0 unsettled\n",
+    ),
+    (
+        &[b"check", b"check"],
+        &[],
+        &[],
+        1000,
+        1000,
+        Status::Usage,
+        b"",
+    ),
+    (&[b"chec"], &[], &[], 1000, 1000, Status::Usage, b""),
+    (&[b""], &[0], &[], 1000, 1000, Status::Usage, b""),
+    (&[], &[0], &[], 1000, 1000, Status::ReadFault, b""),
+    (&[], &[1], &[], 1000, 1000, Status::ReadFault, b""),
+    (
+        &[],
+        &[2],
+        &[],
+        1000,
+        1000,
+        Status::Clean,
+        b"proved A.id: ?A ==> ?A\ntotal: 1 theories, 0 declared, 0 refused, 1 proved, 0 failed, 0 tainted, 0 cancelled, 0 unsettled\n",
+    ),
+    (&[], &[], &[1], 1000, 10, Status::WriteFault, b"proved A.i"),
+    (&[], &[], &[0], 1000, 10, Status::WriteFault, b""),
+    (&[], &[], &[], 12, 5, Status::WriteFault, b"proved A.id:"),
+];
+
 #[test]
 fn answers_each_fault_by_its_cause(rt: HostRuntime) -> Result<(), Fail> {
     let alloc = rt.alloc();
-    // which words, which reads and writes fail, the sink's room and width, and what comes of it
-    let cases: [(&[&[u8]], &[u32], &[u32], usize, usize, Status, &[u8]); 10] = [
-        (
-            &[b"check"],
-            &[],
-            &[],
-            1000,
-            1000,
-            Status::Clean,
-            b"proved A.id: ?A ==> ?A\ntotal: 1 theories, 0 declared, 0 refused, 1 proved, 0 failed, 0 tainted, 0 cancelled, 0 unsettled\n",
-        ),
-        (
-            &[b"check", b"check"],
-            &[],
-            &[],
-            1000,
-            1000,
-            Status::Usage,
-            b"",
-        ),
-        (&[b"chec"], &[], &[], 1000, 1000, Status::Usage, b""),
-        (&[b""], &[0], &[], 1000, 1000, Status::Usage, b""),
-        (&[], &[0], &[], 1000, 1000, Status::ReadFault, b""),
-        (&[], &[1], &[], 1000, 1000, Status::ReadFault, b""),
-        (
-            &[],
-            &[2],
-            &[],
-            1000,
-            1000,
-            Status::Clean,
-            b"proved A.id: ?A ==> ?A\ntotal: 1 theories, 0 declared, 0 refused, 1 proved, 0 failed, 0 tainted, 0 cancelled, 0 unsettled\n",
-        ),
-        (&[], &[], &[1], 1000, 10, Status::WriteFault, b"proved A.i"),
-        (&[], &[], &[0], 1000, 10, Status::WriteFault, b""),
-        (&[], &[], &[], 12, 5, Status::WriteFault, b"proved A.id:"),
-    ];
-    for (words, reads, writes, capacity, width, status, bytes) in cases {
+    for (words, reads, writes, capacity, width, status, bytes) in FAULTS {
         let mut one = empty_world(alloc);
         add_file(alloc, &mut one, b"A.thy", PROVED)?;
         assert!(rt; words.len() <= 2);

@@ -1,0 +1,5 @@
+pub mod Fronts
+pub mod Gaps
+pub mod Classes
+pub mod Readings
+pub mod Slices

@@ -1,0 +1,4 @@
+pub mod Bytes
+pub mod Comment
+pub mod Token
+pub mod Spelling

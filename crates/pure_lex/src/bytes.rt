@@ -1,0 +1,95 @@
+//! Classes of bytes, and how many bytes of a class stand at the front of a text.
+ghost use Rattle.std.specs.Prelude.{◌≡◌, ◌≤◌, length, drop, slice_index};
+ghost use Rattle.pure_grammar.specs.Bytes.{is_letter, is_digit, is_name_byte, is_blank};
+ghost use Rattle.pure_grammar.specs.Token.{is_quotable};
+ghost use Rattle.pure_lex.specs.Fronts.{IsRun, IsDigits};
+
+/// The byte at this index, or 0 behind the end.
+pub fn byte_at(text: &[u8], index: usize) -> u8
+    ensures { result ≡ slice_index text.now index }
+{
+    text.get(index).copied().unwrap_or(0)
+}
+
+/// The text from this place on.
+#[inline]
+pub fn rest_from(text: &[u8], at: usize) -> &[u8]
+    requires { at ≤ length text.now }
+    ensures { result.now ≡ drop at text.now }
+{
+    &text[at..]
+}
+
+#[tactic(auto, unfolding(pure_grammar::specs::Bytes::is_letter))]
+pub fn is_letter(b: u8) -> bool
+    ensures { result ≡ is_letter b }
+{
+    b.is_ascii_alphabetic()
+}
+
+#[tactic(auto, unfolding(pure_grammar::specs::Bytes::is_digit))]
+pub fn is_digit(b: u8) -> bool
+    ensures { result ≡ is_digit b }
+{
+    b.is_ascii_digit()
+}
+
+#[tactic(auto, unfolding(pure_grammar::specs::Bytes::is_name_byte))]
+pub fn is_name_byte(b: u8) -> bool
+    ensures { result ≡ is_name_byte b }
+{
+    is_letter(b) || is_digit(b) || b == b'_' || b == b'\''
+}
+
+#[tactic(auto, unfolding(pure_grammar::specs::Bytes::is_blank))]
+pub fn is_blank(b: u8) -> bool
+    ensures { result ≡ is_blank b }
+{
+    b == b' ' || b == b'\t' || b == b'\r' || b == b'\n'
+}
+
+#[tactic(auto, unfolding(pure_grammar::specs::Token::is_quotable))]
+pub fn is_quotable(b: u8) -> bool
+    ensures { result ≡ is_quotable b }
+{
+    b < 128 && b != b'"'
+}
+
+/// How many name bytes stand at the front.
+pub fn name_length(text: &[u8]) -> usize
+    ensures { IsRun is_name_byte text.now result }
+{
+    for (i, b) in text.iter().enumerate() {
+        if !is_name_byte(*b) {
+            return i;
+        }
+    }
+    text.len()
+}
+
+/// How many bytes that may stand in a quoted text stand at the front.
+pub fn quotable_length(text: &[u8]) -> usize
+    ensures { IsRun is_quotable text.now result }
+{
+    for (i, b) in text.iter().enumerate() {
+        if !is_quotable(*b) {
+            return i;
+        }
+    }
+    text.len()
+}
+
+/// How many digits stand at the front, of which nine are counted at most.
+pub fn digit_count(text: &[u8]) -> usize
+    ensures { IsDigits text.now result }
+{
+    for (i, b) in text.iter().enumerate() {
+        if i == 9 {
+            return i;
+        }
+        if !is_digit(*b) {
+            return i;
+        }
+    }
+    text.len()
+}

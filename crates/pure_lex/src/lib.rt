@@ -1,0 +1,17 @@
+//! The tokens of a source, and the lines and columns of its places.
+#![tactic(auto)]
+
+mod bytes;
+mod first;
+mod front;
+mod gaps;
+mod lines;
+mod names;
+mod reading;
+
+pub use lines::line_col;
+pub use pure_grammar::{Token, TokenKind};
+pub use reading::{LexFault, tokens};
+
+#[cfg(test)]
+mod tests;

@@ -1,0 +1,1 @@
+theory A begin end

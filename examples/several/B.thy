@@ -1,0 +1,1 @@
+theory B begin end
