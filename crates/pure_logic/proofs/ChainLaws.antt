@@ -1,9 +1,13 @@
 -- A chain of propositions whose conclusion is among its premises.
-use Rattle.std.proofs.Common.{◌≡◌, List, [], ◌∷◌, inl, inr, refl, cond, Bool, true, false}
+use Rattle.std.proofs.Common.{◌≡◌, ℕ, map, List, [], ◌∷◌, inl, inr, refl, cond, Bool, true, false}
 use Rattle.pure_term.specs.Lists.{IsIn, Each}
 use Rattle.pure_term.specs.Term.{Term, term_eq}
 use Rattle.pure_term.proofs.EqualityLaws.{term_eq-itself}
 use Rattle.pure_logic.specs.Connectives.{chain}
+use Rattle.pure_term.specs.Typ.{prop}
+use Rattle.pure_term.proofs.ListLaws.{in-map}
+use Rattle.pure_logic.specs.PureContent.{pure_content, proposition_variable}
+use Rattle.pure_logic.proofs.ConnectiveLaws.{pure-below_itself, certified_of, prop-certified}
 use Rattle.pure_logic.specs.Content.{Content, IsProposition}
 use Rattle.pure_logic.specs.Tree.{Tree, Assume, ImpliesIntro, without, hyps_of, rests_of}
 use Rattle.pure_logic.specs.Concludes.{Concludes}
@@ -50,6 +54,9 @@ chain_tree-rests : (As : List Term) (C : Term) → rests_of (chain_tree As C) �
 chain_tree-rests [] C = refl
 chain_tree-rests (A ∷ As) C = chain_tree-rests As C
 
+pub variable_is_proposition : (name : ℕ) → IsProposition pure_content (proposition_variable name)
+variable_is_proposition name = certified_of pure_content (proposition_variable name) prop (prop-certified pure_content pure-below_itself) refl
+
 pub chain_is_derivable : (Q : Content) (As : List Term) (C : Term) → Each (IsProposition Q) As → IsIn C As → IsDerivableAlone Q (chain As C)
 chain_is_derivable Q As C h m = record {
   tree = chain_tree As C;
@@ -59,3 +66,12 @@ chain_is_derivable Q As C h m = record {
   hyps = rw (chain_tree-hyps As C m) tt;
   rests = rw (chain_tree-rests As C) tt;
 }
+
+variables-propositions : (names : List ℕ) → Each (IsProposition pure_content) (map proposition_variable names)
+variables-propositions [] = tt
+variables-propositions (n ∷ ns) = (variable_is_proposition n, variables-propositions ns)
+
+pub variable_chain_is_derivable : (premises : List ℕ) (conclusion : ℕ) → IsIn conclusion premises
+    → IsDerivableAlone pure_content (chain (map proposition_variable premises) (proposition_variable conclusion))
+variable_chain_is_derivable ns n m =
+    chain_is_derivable pure_content (map proposition_variable ns) (proposition_variable n) (variables-propositions ns) (in-map proposition_variable n ns m)

@@ -1,5 +1,5 @@
 -- A tree concludes one proposition at most.
-use Rattle.std.proofs.Common.{◌≡◌, [], ap, refl, sym, ◌∙◌}
+use Rattle.std.proofs.Common.{◌≡◌, List, ◌∷◌, [], ap, refl, sym, ◌∙◌}
 use Rattle.pure_term.specs.Typ.{Typ, arrow}
 use Rattle.pure_term.specs.Term.{Term}
 use Rattle.pure_term.specs.Bounds.{subst_bound, abstract_over}
@@ -10,6 +10,7 @@ use Rattle.pure_logic.specs.Connectives.{all_of, all, imp, eq}
 use Rattle.pure_logic.specs.Content.{Content, IsContent, IsCertifiedOf}
 use Rattle.pure_logic.specs.Tree.{Tree, Axiom, Promise, Assume, AllIntro, AllElim, ImpliesIntro, ImpliesElim, Beta, Refl, Subst, Ext, Iff}
 use Rattle.pure_logic.specs.Concludes.{extensionality, Concludes}
+use Rattle.pure_logic.specs.Derivable.{Pair, IsUnderPairs}
 
 -- A certified term has one type.
 pub one_type : (Q : Content) (t : Term) (T U : Typ) → IsCertifiedOf Q t T → IsCertifiedOf Q t U → T ≡ U
@@ -53,3 +54,10 @@ one_conclusion Q q (Ext f g) C D h k =
     let range : h.1 ≡ k.1 = cc in
     h.4 ∙ (λ l. extensionality (domain l) (range l) f g) ∙ sym k.4
 one_conclusion Q q (Iff A B) C D h k = h.2 ∙ sym k.2
+
+pub one_under_pairs : (pairs : List Pair) (A q r : Term) → IsUnderPairs pairs A q → IsUnderPairs pairs A r → q ≡ r
+one_under_pairs [] A q r h k = h ∙ sym k
+one_under_pairs (p ∷ ps) A q r h k =
+    let typ = typed-once [] p.left h.0 k.0 h.2 k.2 in
+    let below = one_under_pairs ps A h.1 k.1 h.3 k.3 in
+    h.4 ∙ (λ l. imp (eq (typ l) p.left p.right) (below l)) ∙ sym k.4

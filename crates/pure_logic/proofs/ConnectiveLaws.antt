@@ -19,7 +19,7 @@ pub certified_of : (Q : Content) (t : Term) (T : Typ) → HasCertifiedParts Q.de
 certified_of Q t T p h = record { certified = record { parts = p; typ = T; typed = h }; typed = h }
 
 -- each type is an instance of itself
-itself-instance : (Q : Content) (T : Typ) → IsInstance Q.declarations T T
+pub itself-instance : (Q : Content) (T : Typ) → IsInstance Q.declarations T T
 itself-instance Q T = record {
   typs = λ v. v;
   matches = record { fixed = λ x s. refl; is = typ_instance-identity T };

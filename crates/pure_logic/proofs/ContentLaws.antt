@@ -28,7 +28,7 @@ abbrev pub both_promises : Decl → Decl → Bool
 both_promises (PromiseDecl x l A) (PromiseDecl y m B) = true
 both_promises _ _ = false
 
-named_alike-so : (d e : Decl) → AreNamedAlike d e → named_alike d e ≡ true
+pub named_alike-so : (d e : Decl) → AreNamedAlike d e → named_alike d e ≡ true
 named_alike-so (ClassDecl c) (ClassDecl d) h = eq-eqb c.name d.name h
 named_alike-so (ConDecl k m) (ConDecl l n) h = eq-eqb k l h
 named_alike-so (ConstDecl c T) (ConstDecl d U) h = eq-eqb c d h
@@ -38,7 +38,7 @@ named_alike-so (PromiseDecl x l A) (AxiomDecl y B) h = eq-eqb x y h
 named_alike-so (PromiseDecl x l A) (PromiseDecl y m B) h = eq-eqb x y h
 named_alike-so _ _ h = absurd h
 
-both_promises-so : (d e : Decl) → AreLabelledAlike d e → both_promises d e ≡ true
+pub both_promises-so : (d e : Decl) → AreLabelledAlike d e → both_promises d e ≡ true
 both_promises-so (PromiseDecl x l A) (PromiseDecl y m B) h = refl
 both_promises-so _ _ h = absurd h
 
@@ -80,7 +80,7 @@ apart-once R test so (x ∷ xs) h d e m n r =
       ]
     ]
 
-protect_is_statement : IsStatement pure_content protect_axiom
+pub protect_is_statement : IsStatement pure_content protect_axiom
 protect_is_statement = record {
   proposition = certified_of pure_content protect_axiom prop (eq-parts pure_content pure-below_itself prop (protect (proposition_variable 0)) (proposition_variable 0) (prop-certified pure_content pure-below_itself) (protect-parts pure_content pure-below_itself (proposition_variable 0) variable) variable) (prop, (prop, refl, (prop, refl, refl)), refl);
   schematic = (((tt, ((tt, (tt, tt)), tt)), ((tt, (tt, tt)), tt)), tt);

@@ -5,3 +5,8 @@ pub mod ConclusionLaws
 pub mod AboveLaws
 pub mod KnownLaws
 pub mod WeakeningLaws
+pub mod MapLaws
+pub mod ExampleLaws
+pub mod NodeExamples
+pub mod MergeLaws
+pub mod ContentExamples

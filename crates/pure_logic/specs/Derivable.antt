@@ -22,7 +22,7 @@ pub record Theorem : Type 0 where
   pub prop : Term
   pub rests : List Label
 
--- q is `t1 == u1 ==> .. ==> tn == un ==> A`, for the pairs in order.
+-- q is A under the equations of the pairs, in order: of the pairs t, u and v, w it is `t == u ==> v == w ==> A`.
 abbrev pub IsUnderPairs : (pairs : List Pair) → (A q : Term) → Type 0
 IsUnderPairs [] A q = q ≡ A
 IsUnderPairs (p ∷ ps) A q = (T : Typ) × (B : Term) × HasType [] p.left T × IsUnderPairs ps A B × (q ≡ imp (eq T p.left p.right) B)

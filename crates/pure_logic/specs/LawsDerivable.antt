@@ -1,5 +1,5 @@
 -- Laws of derivability from a content's axioms alone.
-use Rattle.std.specs.Prelude.{ℕ, List}
+use Rattle.std.specs.Prelude.{ℕ, List, map}
 use Rattle.pure_term.specs.Lists.{IsIn, Each}
 use Rattle.pure_term.specs.Term.{Term}
 use Rattle.pure_logic.specs.Connectives.{imp, chain}
@@ -19,6 +19,11 @@ VariableIsProposition = (name : ℕ) → IsProposition pure_content (proposition
 abbrev pub ChainIsDerivable : Type 0
 ChainIsDerivable = (Q : Content) (premises : List Term) (conclusion : Term) → Each (IsProposition Q) premises → IsIn conclusion premises
     → IsDerivableAlone Q (chain premises conclusion)
+
+-- Over Pure's content a chain of schematic variables of type prop whose conclusion is among its premises is derivable, whatever their names.
+abbrev pub VariableChainIsDerivable : Type 0
+VariableChainIsDerivable = (premises : List ℕ) (conclusion : ℕ) → IsIn conclusion premises
+    → IsDerivableAlone pure_content (chain (map proposition_variable premises) (proposition_variable conclusion))
 
 -- Pure's content is below itself.
 abbrev pub PureIsBelowItself : Type 0

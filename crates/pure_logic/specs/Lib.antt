@@ -4,5 +4,8 @@ pub mod PureContent
 pub mod Tree
 pub mod Concludes
 pub mod Derivable
+pub mod ExampleContent
 pub mod LawsDerivable
 pub mod LawsTree
+pub mod LawsContent
+pub mod LawsNodes

@@ -3,6 +3,7 @@ use Rattle.std.specs.Prelude.{ℕ, List, [], ◌∷◌, ◌++◌, if◌then◌el
 use Rattle.pure_term.specs.Names.{Label}
 use Rattle.pure_term.specs.Typ.{Typ}
 use Rattle.pure_term.specs.Term.{Term, term_eq}
+use Rattle.pure_term.specs.Subst.{TypBind, TermBind, typ_image, term_image, retyped_variable}
 
 -- A node for each inference, with the terms that it speaks of and the trees above it. An axiom or a promise has a type map and a term map, which instantiate it all at once.
 pub data Tree : Type 0 where
@@ -41,3 +42,7 @@ rests_of (AllElim t d) = rests_of d
 rests_of (ImpliesIntro A d) = rests_of d
 rests_of (ImpliesElim d e) = rests_of d ++ rests_of e
 rests_of _ = []
+
+-- The term map that joins two finite maps as the calls have them: the types are put in first, and the terms after them, for variables written with their new types.
+abbrev pub joined_terms : List TypBind → List TermBind → Term → Term
+joined_terms typs terms v = term_image terms (retyped_variable (typ_image typs) v)

@@ -1,6 +1,8 @@
 //! What the definitions mean: laws and computed examples, each carried by the contract of a function that does nothing.
-ghost use Rattle.pure_logic.specs.LawsDerivable.{PureIsContent, VariableIsProposition, ChainIsDerivable, PureIsBelowItself, TrivialIsDerivable, WeakenedIsDerivable};
-ghost use Rattle.pure_logic.specs.LawsTree.{OneConclusion, WeakeningOfTrees, WeakeningOfDerivable};
+ghost use Rattle.pure_logic.specs.LawsDerivable.{PureIsContent, VariableIsProposition, ChainIsDerivable, VariableChainIsDerivable, PureIsBelowItself, TrivialIsDerivable, WeakenedIsDerivable};
+ghost use Rattle.pure_logic.specs.LawsTree.{OneConclusion, OneUnderPairs, WeakeningOfTrees, WeakeningOfDerivable, IdentityRespects, JoinedMapsRespect, JoinedInstance};
+ghost use Rattle.pure_logic.specs.LawsContent.{MergeHasDeclarations, MergeHasNoRepeats, OneMerge, BeginningIsContent, ParentsAreBelow, BeginningExample, NoMergeExample, NamedTwiceExample, IllFormedExample, SchematicExample, BelowExample, DefinitionExample};
+ghost use Rattle.pure_logic.specs.LawsNodes.{ExampleIsContent, AxiomExample, PromiseExample, RestsExample, NoAxiomExample, NoMapExample, AssumeExample, AllIntroExample, NoAllIntroExample, AllElimExample, NoAllElimExample, ImpliesIntroExample, ImpliesElimExample, BetaExample, ReflExample, SubstExample, SymmetricExample, ExtExample, IffExample, PairsExample, DerivableExample};
 
 /// Pure's content is a content, and below itself.
 pub fn pure_is_content()
@@ -16,17 +18,91 @@ pub fn variable_is_proposition()
 /// A chain of propositions with its conclusion among its premises is derivable.
 pub fn chain_is_derivable()
     ensures chain { ChainIsDerivable }
+    ensures variables { VariableChainIsDerivable }
     ensures trivial { TrivialIsDerivable }
     ensures weakened { WeakenedIsDerivable }
 {}
 
 /// A tree concludes one proposition at most.
 pub fn one_conclusion()
-    ensures { OneConclusion }
+    ensures tree { OneConclusion }
+    ensures pairs { OneUnderPairs }
 {}
 
 /// What is concluded or derivable over a content is so over each content above it.
 pub fn weakening()
     ensures trees { WeakeningOfTrees }
     ensures derivable { WeakeningOfDerivable }
+{}
+
+/// Maps that respect a content: the identity, and finite maps of a call, joined.
+pub fn respecting_maps()
+    ensures identity { IdentityRespects }
+    ensures joined { JoinedMapsRespect }
+    ensures instance { JoinedInstance }
+{}
+
+/// A merge has its parents' declarations, each once.
+pub fn merge_has_declarations()
+    ensures has { MergeHasDeclarations }
+    ensures distinct { MergeHasNoRepeats }
+    ensures one { OneMerge }
+    ensures content { BeginningIsContent }
+    ensures below { ParentsAreBelow }
+    ensures example { BeginningExample }
+    ensures none { NoMergeExample }
+{}
+
+/// Declarations that make no content, contents below others, and what a definition declares.
+pub fn content_example()
+    ensures twice { NamedTwiceExample }
+    ensures ill_formed { IllFormedExample }
+    ensures schematic { SchematicExample }
+    ensures below { BelowExample }
+    ensures definition { DefinitionExample }
+{}
+
+/// The content of the examples is one.
+pub fn example_is_content()
+    ensures { ExampleIsContent }
+{}
+
+/// Axioms and promises at an instance, and where they give nothing.
+pub fn axiom_example()
+    ensures axiom { AxiomExample }
+    ensures promise { PromiseExample }
+    ensures rests { RestsExample }
+    ensures unknown { NoAxiomExample }
+    ensures maps { NoMapExample }
+{}
+
+/// Quantification, and where its side conditions fail.
+pub fn all_example()
+    ensures intro { AllIntroExample }
+    ensures no_intro { NoAllIntroExample }
+    ensures elim { AllElimExample }
+    ensures no_elim { NoAllElimExample }
+{}
+
+/// Assumption and implication, and where their side conditions fail.
+pub fn implies_example()
+    ensures assume { AssumeExample }
+    ensures intro { ImpliesIntroExample }
+    ensures elim { ImpliesElimExample }
+{}
+
+/// The axioms of equality, and where their side conditions fail.
+pub fn equality_example()
+    ensures beta { BetaExample }
+    ensures refl { ReflExample }
+    ensures subst { SubstExample }
+    ensures symmetric { SymmetricExample }
+    ensures ext { ExtExample }
+    ensures iff { IffExample }
+{}
+
+/// A theorem with hypotheses, a pair and a promise.
+pub fn derivable_example()
+    ensures pairs { PairsExample }
+    ensures derivable { DerivableExample }
 {}
