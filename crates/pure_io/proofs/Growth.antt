@@ -1,5 +1,5 @@
 -- How bytes that are appended, and bytes that are read, add up over several calls.
-use Rattle.std.proofs.Common.{◌≡◌, ℕ, ◌+◌, List, ◌++◌, take, drop, Option, Some, None, ap, sym, ◌∙◌, append_assoc, take-add}
+use Rattle.std.proofs.Common.{◌≡◌, ℕ, ◌+◌, List, ◌++◌, take, drop, Option, Some, None, Result, Ok, Err, IfOk, IfErr, ap, sym, ◌∙◌, append_assoc, take-add}
 use Rattle.std.specs.Io.KnownBytes.{Consumes}
 use Rattle.pure_io.specs.Outside.{Appends}
 
@@ -24,3 +24,9 @@ Consumes-append None b c x y first second = tt
 Consumes-append (Some a) None c x y first second = absurd first
 Consumes-append (Some a) (Some b) None x y first second = absurd second
 Consumes-append (Some a) (Some b) (Some c) x y first second = first ∙ ap (λ z. x ++ z) second ∙ sym (append_assoc x y c)
+
+-- an answer that is Ok exactly where another is, was made of that
+pub Ok-from : {X E F : Type 0} (given : Result X E) (answer : Result X F) (fault : E → F) (x : X)
+    → IfOk given (λ y. answer ≡ Ok y) → IfErr given (λ e. answer ≡ Err (fault e)) → answer ≡ Ok x → given ≡ Ok x
+Ok-from (Ok y) answer fault x same refused h = cc
+Ok-from (Err e) answer fault x same refused h = cc

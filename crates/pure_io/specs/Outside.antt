@@ -8,7 +8,7 @@ abbrev pub text_named : List ℕ → List File → Option (List ℕ)
 text_named name [] = None
 text_named name (file ∷ files) = if pointwise nat_eq file.name name then Some file.text else text_named name files
 
--- a count of faults rose: it is greater than before, or stands at a counter's last value
+-- a count of faults rose: it is greater than before, or stands at a counter's last value, 2^64 - 1; counts never pass that value
 abbrev pub Rose : ℕ → ℕ → Type 0
 Rose before now = min (before + 1) (2 ^ 64 - 1) ≤ now
 

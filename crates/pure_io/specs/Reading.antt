@@ -1,6 +1,10 @@
 -- Reading the first bytes of a file, and what the errors of the system mean.
-use Rattle.std.specs.Prelude.{ℕ, ◌≤◌, List, length, Option, None, Result, Ok, Err}
+use Rattle.std.specs.Prelude.{◌≡◌, ℕ, ◌≤◌, List, length, Option, Some, None, Result, Ok, Err, MatchResult}
+use Rattle.std.specs.Fs.{dir_entry_name}
 use Rattle.std.specs.Io.KnownBytes.{Consumes}
+use Rattle.std.specs.IoError.{error_kind}
+use Rattle.std.specs.declared.fs.DirEntry.{DirEntry}
+use Rattle.std.specs.declared.io.Error.{Error}
 use Rattle.std.specs.declared.io.ErrorKind.{ErrorKind}
 use Rattle.std.specs.declared.io.ErrorKind.TheVariants.{NotFound, OutOfMemory, InvalidFilename}
 use Rattle.pure_io.specs.declared.library.LibFault.{LibFault}
@@ -27,3 +31,8 @@ list_fault_of _ = listing.Failed
 abbrev pub unnamed_entry_of : ErrorKind → Result (Option (List ℕ)) LibFault
 unnamed_entry_of InvalidFilename = Ok None
 unnamed_entry_of kind = Err (list_fault_of kind)
+
+-- what the system says of an entry gives this: the entry's name, or want of memory for it; and of an error what that says
+abbrev pub NamesEntry : {R A F D : Type 0} → Result (DirEntry R A F D) Error → Result (Option (List ℕ)) LibFault → Type 0
+NamesEntry (Ok entry) answer = MatchResult answer (λ name. name ≡ Some (dir_entry_name entry)) (λ fault. fault ≡ listing.Memory)
+NamesEntry (Err error) answer = answer ≡ unnamed_entry_of (error_kind error)

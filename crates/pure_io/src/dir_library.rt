@@ -1,14 +1,14 @@
 //! The current directory as a library.
-ghost use Rattle.std.specs.Prelude.{◌≡◌, ◌≤◌, ◌+◌, length, IfOk, IfErr, MatchResult};
+ghost use Rattle.std.specs.Prelude.{◌≡◌, ◌≤◌, ◌+◌, length, IfOk, IfErr, IsSomeAnd, MatchOption, MatchResult};
 ghost use Rattle.std.specs.Iterator.{at_most};
 ghost use Rattle.std.specs.Io.Iter.{read_dir_left};
 ghost use Rattle.std.specs.Fs.{dir_entry_name};
 ghost use Rattle.std.specs.IoError.{error_kind};
-ghost use Rattle.pure_io.specs.Reading.{list_fault_of, unnamed_entry_of};
+ghost use Rattle.pure_io.specs.Reading.{list_fault_of, unnamed_entry_of, NamesEntry};
 
 use crate::entries::names_within;
 use crate::library::{LibFault, Library, ReadFault};
-use crate::reading::{read_fault, read_start};
+use crate::reading::read_opened;
 use pure_term::Text;
 use std::alloc::Global;
 use std::fs::{DirEntry, ReadDir};
@@ -93,7 +93,17 @@ impl Library for DirLibrary {
 
 /// The names of the current directory's entries.
 fn directory_names<R: Files + AllocGlobal>(rt: &R, alloc: Global) -> Result<Vec<Text>, LibFault> {
-    let entries = match fs::read_dir(&rt, ".") {
+    names_of_opened(alloc, fs::read_dir(&rt, "."))
+}
+
+/// The names of the entries of a directory that the system opened, or what its error says.
+fn names_of_opened<R: Files + Clone + Drop>(
+    alloc: Global,
+    opened: io::Result<ReadDir<R, Global>>,
+) -> Result<Vec<Text>, LibFault>
+    ensures unopened { IfErr opened (λ error. result ≡ Err (list_fault_of (error_kind error))) }
+{
+    let entries = match opened {
         Ok(entries) => entries,
         Err(error) => return Err(list_fault(&error)),
     };
@@ -113,9 +123,20 @@ impl<R: Files + Clone + Drop> Iterator for NamedEntries<R> {
     ghost remaining = { λ s. at_most (read_dir_left s.entries) };
 
     fn next(&mut self) -> Option<Result<Option<Text>, LibFault>> {
-        let entry = self.entries.next()?;
-        Some(entry_name(self.alloc, entry))
+        next_name(self.alloc, self.entries.next())
     }
+}
+
+/// What the system's next answer on a directory gives: nothing at the end, and else an entry, also where
+/// the answer is an error.
+fn next_name<R: Files + Drop>(
+    alloc: Global,
+    next: Option<io::Result<DirEntry<R, Global>>>,
+) -> Option<Result<Option<Text>, LibFault>>
+    ensures { MatchOption next (result ≡ None) (λ entry. IsSomeAnd result (λ name. NamesEntry entry name)) }
+{
+    let entry = next?;
+    Some(entry_name(alloc, entry))
 }
 
 /// The name of an entry, or none where it isn't UTF-8.
@@ -150,10 +171,7 @@ fn read_named<R: Files>(rt: &R, alloc: Global, name: &Text, limit: u32) -> Resul
     let Ok(path) = std::str::from_utf8(name.bytes()) else {
         return Err(ReadFault::Missing);
     };
-    match fs::open(rt, path) {
-        Ok(mut file) => read_start(alloc, &mut file, limit),
-        Err(error) => Err(read_fault(&error)),
-    }
+    read_opened(alloc, fs::open(rt, path), limit)
 }
 
 /// What an error of the system means for a listing.

@@ -72,6 +72,7 @@ pub trait Library {
         ensures later { faults self.old ≤ faults self.new };
 
     /// The first `limit + 1` bytes of the first file of that name, or all of them where it has fewer.
+    /// A call that is listed to fail answers `Failed`, also where the file is missing.
     fn read<R: Files + Print + AllocGlobal>(
         &mut self,
         rt: &R,

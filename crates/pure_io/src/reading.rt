@@ -1,5 +1,5 @@
 //! Reading the first bytes of a file.
-ghost use Rattle.std.specs.Prelude.{◌≡◌, ℕ, ◌+◌, ◌<◌, ◌≤◌, List, length, IfOk};
+ghost use Rattle.std.specs.Prelude.{◌≡◌, ℕ, ◌+◌, ◌<◌, ◌≤◌, List, length, take, IfOk, IfErr, IfSome};
 ghost use Rattle.std.specs.Io.KnownBytes.{Consumes, IsAtEnd};
 ghost use Rattle.std.specs.IoError.{error_kind};
 ghost use Rattle.pure_io.specs.Reading.{read_fault_of, ConsumesAtMost};
@@ -11,6 +11,24 @@ use std::io;
 use std::io::{ErrorKind, Read};
 
 const CHUNK: usize = 4096;
+
+/// The first `limit + 1` bytes of a file that the system opened, or all of them where it has fewer, or
+/// what its error says.
+pub(crate) fn read_opened<F: Read + Drop>(
+    alloc: Global,
+    opened: io::Result<F>,
+    limit: u32,
+) -> Result<Text, ReadFault>
+    ensures unopened { IfErr opened (λ error. result ≡ Err (read_fault_of (error_kind error))) }
+    ensures text { IfOk opened (λ file. IfOk result (λ t.
+        IfSome (F.remaining file) (λ bytes. t ≡ take (limit + 1) bytes))) }
+    ensures short { IfOk result (λ t. length t ≤ limit + 1) }
+{
+    match opened {
+        Ok(mut file) => read_start(alloc, &mut file, limit),
+        Err(error) => Err(read_fault(&error)),
+    }
+}
 
 /// The first `limit + 1` bytes of the file, or all of them where it has fewer. Reads no others.
 pub(crate) fn read_start<F: Read>(
@@ -28,10 +46,7 @@ pub(crate) fn read_start<F: Read>(
     let mut bytes = Vec::new(alloc);
     while bytes.len() < most {
         let end = CHUNK.min(most - bytes.len());
-        let count = match file.read(&mut chunk[..end]) {
-            Ok(count) => count,
-            Err(error) => return Err(read_fault(&error)),
-        };
+        let count = read_count(file.read(&mut chunk[..end]))?;
         if count == 0 {
             break;
         }
@@ -40,8 +55,19 @@ pub(crate) fn read_start<F: Read>(
     Ok(Text::from(bytes))
 }
 
+/// How many bytes a reading of the system gave, or what its error says.
+fn read_count(read: io::Result<usize>) -> Result<usize, ReadFault>
+    ensures count { IfOk read (λ count. result ≡ Ok count) }
+    ensures fault { IfErr read (λ error. result ≡ Err (read_fault_of (error_kind error))) }
+{
+    match read {
+        Ok(count) => Ok(count),
+        Err(error) => Err(read_fault(&error)),
+    }
+}
+
 /// What an error of the system means for a reading.
-pub(crate) fn read_fault(error: &io::Error) -> ReadFault
+fn read_fault(error: &io::Error) -> ReadFault
     ensures { result ≡ read_fault_of (error_kind error.now) }
 {
     match error.kind() {

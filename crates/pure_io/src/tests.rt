@@ -6,9 +6,9 @@ use crate::{
 use pure_term::Text;
 use std::alloc::{AllocError, Global};
 use std::env::Env;
-use std::fs::Files;
-use std::os::unix::fs::symlink;
-use std::path::PathBuf;
+use std::fs::{Files, Permissions};
+use std::os::unix::fs::{MetadataExt, PermissionsExt, symlink};
+use std::path::{Path, PathBuf};
 use std::test::Fail;
 use std::{env, fs, io, process};
 
@@ -107,6 +107,18 @@ fn enter_folder<R: Files + Env + AllocGlobal>(rt: &R, process: u32) -> io::Resul
     Ok(folder)
 }
 
+/// Whether a file that nobody may read is a fault, and so a folder. (Root may read both.)
+fn is_shut_refused<R: Files + Print + AllocGlobal>(rt: &R, folder: Path<'_>) -> io::Result<bool> {
+    let alloc = rt.alloc();
+    let mut library = DirLibrary::make();
+    fs::set_permissions(rt, "A.thy", Permissions::from_mode(0))?;
+    let text = library.read(rt, alloc, &Text::make(alloc, b"A.thy")?, 9);
+    fs::set_permissions(rt, folder, Permissions::from_mode(0))?;
+    let names = library.names(rt, alloc);
+    fs::set_permissions(rt, folder, Permissions::from_mode(0o700))?;
+    Ok(is_answer(&text, Err(ReadFault::Failed)) && matches!(names, Err(LibFault::Failed)))
+}
+
 #[test]
 fn reads_a_directory(rt: HostRuntime) -> Result<(), Fail> {
     let alloc = rt.alloc();
@@ -132,6 +144,9 @@ fn reads_a_directory(rt: HostRuntime) -> Result<(), Fail> {
         let got = library.read(&rt, alloc, &name, limit);
         assert!(rt; is_answer(&got, wanted), "{name:?} up to {limit}: {got:?}");
     }
+    let is_root = fs::metadata(&rt, "A.thy")?.uid() == 0;
+    let refused = is_root || is_shut_refused(&rt, folder.as_path())?;
+    assert!(rt; refused, "a shut file or a shut folder");
     fs::remove_dir_all(&rt, folder.as_path())?;
     Ok(())
 }
