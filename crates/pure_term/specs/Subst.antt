@@ -1,5 +1,5 @@
 -- Substitution for type variables and for term variables (Isabelle/Isar Implementation manual, section 2.3).
--- A map is a function that is read at variables alone, fixed or schematic, and gives each its image. The maps that instantiate facts leave fixed variables as they are.
+-- A map is a function that is read at variables alone, fixed or schematic, and gives each its image. The finite maps of calls leave fixed variables as they are (KeepsFixedTyps, KeepsFixedTerms).
 use Rattle.std.specs.Prelude.{◌≡◌, ℕ, List, [], ◌∷◌, map, if◌then◌else◌}
 use Rattle.pure_term.specs.Lists.{Each, AreDistinct}
 use Rattle.pure_term.specs.Typ.{Typ, TFree, TVar, Con, Typs, none, also, typ_eq}
