@@ -1,5 +1,4 @@
 pub mod ListLaws
-pub mod EqualityLaws
 pub mod TypingLaws
 pub mod LimitLaws
 pub mod OrderLaws
@@ -11,3 +10,4 @@ pub mod LiftLaws
 pub mod EtaLaws
 pub mod FaultLaws
 pub mod EtaNormalLaws
+pub mod TypsLemmas

@@ -2,7 +2,9 @@ pub mod Lists
 pub mod Names
 pub mod Typ
 pub mod Term
+pub mod Equality
 pub mod Codes
+pub mod Comparison
 pub mod TypView
 pub mod TypFalls
 pub mod TermView

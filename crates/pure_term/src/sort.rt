@@ -1,8 +1,13 @@
-ghost use Rattle.std.specs.Prelude.{◌≡◌, IfOk};
+ghost use Rattle.std.specs.Prelude.{◌≡◌, IfOk, refl, Some};
+ghost use Rattle.std.specs.Ordering.{nat_cmp};
+ghost use Rattle.std.specs.Cmp.Lexicographic.{slice_cmp, nat_list_eq_equiv, nat_list_cmp_total, texts_ties, texts_po};
+ghost use Rattle.std.specs.Cmp.{partial_equiv_from_equiv};
 ghost use Rattle.std.specs.List.Sorted.{IsStrictlyIncreasing};
+ghost use Rattle.pure_term.specs.Lists.{sort_eq};
 
 use crate::name::Name;
 use std::alloc::{AllocError, Global};
+use std::cmp::Ordering;
 use std::marker::Model;
 
 /// A sort, the intersection of its classes, whose names ascend strictly.
@@ -45,5 +50,43 @@ impl Sort {
     {
         let classes = Vec::from_slice(alloc, self.classes())?;
         Ok(Sort { classes })
+    }
+}
+
+impl PartialEq for Sort {
+    ghost eq = { sort_eq };
+
+    ghost laws = { partial_equiv_from_equiv nat_list_eq_equiv };
+
+    fn eq(&self, other: &Sort) -> bool {
+        self.classes() == other.classes()
+    }
+}
+
+impl Eq for Sort {
+    ghost laws = { nat_list_eq_equiv };
+}
+
+impl Ord for Sort {
+    ghost cmp = { slice_cmp nat_cmp };
+
+    ghost total = { nat_list_cmp_total };
+
+    ghost matches_partial_cmp = { λ x y. refl };
+
+    ghost matches_eq = { texts_ties };
+
+    fn cmp(&self, other: &Sort) -> Ordering {
+        self.classes().cmp(other.classes())
+    }
+}
+
+impl PartialOrd for Sort {
+    ghost partial_cmp = { λ x y. Some (slice_cmp nat_cmp x y) };
+
+    ghost laws = { texts_po };
+
+    fn partial_cmp(&self, other: &Sort) -> Option<Ordering> {
+        Some(self.cmp(other))
     }
 }
