@@ -11,3 +11,4 @@ pub mod EtaLaws
 pub mod FaultLaws
 pub mod EtaNormalLaws
 pub mod TypsLemmas
+pub mod TermLemmas

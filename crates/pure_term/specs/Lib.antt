@@ -10,6 +10,7 @@ pub mod TypFalls
 pub mod TermView
 pub mod TermFalls
 pub mod Order
+pub mod Limits
 pub mod Typing
 pub mod Bounds
 pub mod Subst

@@ -1,13 +1,17 @@
 //! Texts, names, types and terms: what every other crate stands on.
 #![tactic(auto)]
 
+mod grow;
 pub mod laws;
+mod measure;
 mod name;
 mod sort;
 mod term;
 mod text;
 mod typ;
 
+pub use grow::Grow;
+pub use measure::{MAX_DEPTH, MAX_SIZE, depth, is_within, size};
 pub use name::{Label, Name};
 pub use sort::Sort;
 pub use term::{Term, TermNode};
