@@ -12,3 +12,6 @@ pub mod FaultLaws
 pub mod EtaNormalLaws
 pub mod TypsLemmas
 pub mod TermLemmas
+pub mod LeavesLemmas
+pub mod ArrowLemmas
+pub mod AnswerLemmas

@@ -12,6 +12,7 @@ pub mod TermFalls
 pub mod Order
 pub mod Limits
 pub mod Typing
+pub mod TypeAnswer
 pub mod Bounds
 pub mod Subst
 pub mod Decl

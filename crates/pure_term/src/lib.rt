@@ -9,11 +9,13 @@ mod sort;
 mod term;
 mod text;
 mod typ;
+mod typing;
 
 pub use grow::Grow;
-pub use measure::{MAX_DEPTH, MAX_SIZE, depth, is_within, size};
+pub use measure::{MAX_DEPTH, MAX_SIZE, depth, is_within, occurs, size};
 pub use name::{Label, Name};
 pub use sort::Sort;
 pub use term::{Term, TermNode};
 pub use text::Text;
 pub use typ::{Typ, TypNode};
+pub use typing::{TypeFault, typ_of};

@@ -2,6 +2,8 @@ ghost use Rattle.std.specs.Prelude.{◌≡◌, ◌↔◌, IsTrue};
 ghost use Rattle.pure_term.specs.Typ.{typ_size, typ_depth};
 ghost use Rattle.pure_term.specs.Term.{term_size, term_depth, IsWithin};
 ghost use Rattle.pure_term.specs.Limits.{cut_off, Leaves};
+ghost use Rattle.pure_term.specs.Typing.{node_count};
+ghost use Rattle.pure_term.specs.Bounds.{Occurs};
 
 use crate::term::{Term, TermNode};
 use crate::typ::{Typ, TypNode};
@@ -71,6 +73,36 @@ pub fn is_within(t: &Term) -> bool
     ensures { IsTrue result ↔ IsWithin t.now }
 {
     size(t) <= MAX_SIZE && depth(t) <= MAX_DEPTH
+}
+
+/// The count of the term's nodes, without those of types, cut off at `u32::MAX`.
+pub fn node_count_of(t: &Term) -> u32
+    ensures { result ≡ cut_off (node_count t.now) }
+{
+    match &t.node {
+        TermNode::Abs { body, .. } => node_count_of(body).saturating_add(1),
+        TermNode::App { fun, arg } => node_count_of(fun)
+            .saturating_add(node_count_of(arg))
+            .saturating_add(1),
+        _ => 1,
+    }
+}
+
+fn are_same(t: &Term, u: &Term) -> bool
+    ensures { IsTrue result ↔ (t.now ≡ u.now) }
+{
+    t == u
+}
+
+/// Whether some subtree of the term equals `v` as it stands.
+pub fn occurs(v: &Term, t: &Term) -> bool
+    ensures { IsTrue result ↔ Occurs v.now t.now }
+{
+    match &t.node {
+        TermNode::Abs { body, .. } => are_same(v, t) || occurs(v, body),
+        TermNode::App { fun, arg } => are_same(v, t) || occurs(v, fun) || occurs(v, arg),
+        _ => are_same(v, t),
+    }
 }
 
 /// What is left of room for `left` nodes, on paths of at most `room`, when the type is put in.

@@ -1,7 +1,7 @@
 ghost use Rattle.std.specs.Prelude.{◌≡◌, ℕ, IfOk, refl};
 ghost use Rattle.std.specs.Cmp.{partial_equiv_from_equiv, po};
 ghost use Rattle.std.specs.Ordering.{as_partial_cmp};
-ghost use Rattle.pure_term.specs.Typ.{typ_eq, typs_of};
+ghost use Rattle.pure_term.specs.Typ.{typ_eq, typs_of, arrow};
 ghost use Rattle.pure_term.specs.Equality.{typ_eq-equiv};
 ghost use Rattle.pure_term.specs.Comparison.{typ_rank, typ_cmp, typs_cmp, typ_cmp-total, typ_cmp-ties};
 
@@ -47,6 +47,19 @@ impl Model for Typ {
 }
 
 impl Typ {
+    /// The type of functions from one type to another.
+    pub fn arrow(alloc: Global, domain: Typ, range: Typ) -> Result<Typ, AllocError>
+        ensures { IfOk result (λ t. t ≡ arrow domain range) }
+    {
+        let mut args = Vec::new(alloc);
+        args.push(domain)?;
+        args.push(range)?;
+        let name = Name(0);
+        Ok(Typ {
+            node: TypNode::Con { name, args },
+        })
+    }
+
     /// An equal type.
     pub fn copy(&self, alloc: Global) -> Result<Typ, AllocError>
         ensures { IfOk result (λ t. t ≡ self.now) }

@@ -1,5 +1,6 @@
-use Rattle.std.proofs.Common.{◌+◌, arith}
-use Rattle.pure_term.proofs.TypsLemmas.{typs_size-take, typs_depth-take, typs_size-take-le, typs_depth-take-le, typ_size-some, typ_depth-some}
+use Rattle.std.proofs.Common.{arith}
+use Rattle.pure_term.proofs.TypsLemmas.{typ_size-some, typ_depth-some}
+use Rattle.pure_term.proofs.LeavesLemmas.{put-stops, put-goes_on}
 use Rattle.pure_term.proofs.measure.+typ_leaves.Goals as goal
 
 pub returns-then-left-eq0 : goal.returns-then-left-eq0
@@ -10,14 +11,9 @@ returns-then-room-eq0 t c = λ h. let some = typ_depth-some c.args.t.now in omeg
 
 pub returns-in_default-typ_leaves : goal.returns-in_default-typ_leaves
 returns-in_default-typ_leaves t c =
-    let size = typs_size-take c.deref-arg-items.result.now c.loop-arg.arg-index c.arg-item.result c.loop-arg-test.true c.arg-item.is in
-    let depth = typs_depth-take c.deref-arg-items.result.now c.loop-arg.arg-index c.arg-item.result c.loop-arg-test.true c.arg-item.is in
-    let within = typs_size-take-le c.deref-arg-items.result.now (c.loop-arg.arg-index + 1) in
-    let below = typs_depth-take-le c.deref-arg-items.result.now (c.loop-arg.arg-index + 1) in
-    ?
+    rw (← c.t.view_is, c.in-Con.is, ← c.deref-arg-items.ensures.value)
+    (put-stops c.deref-arg-items.result.now c.args.left c.args.room c.loop-arg.arg-index c.loop-arg.rest c.arg-item.result c.loop-arg.invariant c.loop-arg-test.true c.arg-item.is c.in_default-typ_leaves.ensures)
 
 pub loop-arg-preserved : goal.loop-arg-preserved
 loop-arg-preserved t c =
-    let size = typs_size-take c.deref-arg-items.result.now c.loop-arg.arg-index c.arg-item.result c.loop-arg-test.true c.arg-item.is in
-    let depth = typs_depth-take c.deref-arg-items.result.now c.loop-arg.arg-index c.arg-item.result c.loop-arg-test.true c.arg-item.is in
-    ?
+    put-goes_on c.deref-arg-items.result.now c.args.left c.args.room c.loop-arg.arg-index c.loop-arg.rest c.in-Some.less c.arg-item.result c.loop-arg.invariant c.loop-arg-test.true c.arg-item.is c.in-Some.ensures
