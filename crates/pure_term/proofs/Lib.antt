@@ -15,3 +15,4 @@ pub mod TermLemmas
 pub mod LeavesLemmas
 pub mod ArrowLemmas
 pub mod AnswerLemmas
+pub mod GrownLemmas

@@ -14,6 +14,7 @@ pub mod Limits
 pub mod Typing
 pub mod TypeAnswer
 pub mod Bounds
+pub mod Conditions
 pub mod Subst
 pub mod Decl
 pub mod Certified

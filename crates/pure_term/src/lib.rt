@@ -1,6 +1,7 @@
 //! Texts, names, types and terms: what every other crate stands on.
 #![tactic(auto)]
 
+mod bounds;
 mod grow;
 pub mod laws;
 mod measure;
@@ -11,6 +12,7 @@ mod text;
 mod typ;
 mod typing;
 
+pub use bounds::{lift, subst_bound};
 pub use grow::Grow;
 pub use measure::{MAX_DEPTH, MAX_SIZE, depth, is_within, occurs, size};
 pub use name::{Label, Name};

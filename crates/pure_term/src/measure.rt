@@ -88,7 +88,7 @@ pub fn node_count_of(t: &Term) -> u32
     }
 }
 
-fn are_same(t: &Term, u: &Term) -> bool
+pub fn are_same(t: &Term, u: &Term) -> bool
     ensures { IsTrue result ↔ (t.now ≡ u.now) }
 {
     t == u
@@ -103,6 +103,19 @@ pub fn occurs(v: &Term, t: &Term) -> bool
         TermNode::App { fun, arg } => are_same(v, t) || occurs(v, fun) || occurs(v, arg),
         _ => are_same(v, t),
     }
+}
+
+/// What is left of room for `left` nodes, on paths of at most `room`, when something of this size and depth is put in.
+pub fn node_leaves(left: u32, room: u32, size: u32, depth: u32) -> Option<u32>
+    ensures { Leaves left room size depth result }
+{
+    if left < size {
+        return None;
+    }
+    if room < depth {
+        return None;
+    }
+    Some(left - size)
 }
 
 /// What is left of room for `left` nodes, on paths of at most `room`, when the type is put in.
