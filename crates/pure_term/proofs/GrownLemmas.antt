@@ -1,5 +1,5 @@
 -- The room that is measured before a term is made, and the limits.
-use Rattle.std.proofs.Common.{◌≡◌, ℕ, ◌+◌, ◌<◌, ◌≤◌, refl, ap, ◌∙◌, arith}
+use Rattle.std.proofs.Common.{◌≡◌, ◌≢◌, ℕ, ◌+◌, ◌-◌, ◌<◌, ◌≤◌, max, refl, ap, sym, subst, ◌∙◌, arith}
 use Rattle.std.proofs.lemmas.Bool.Decides.{nat_tests}
 use Rattle.std.specs.Prelude.{Option, Some, None, nat_eq, nat_lt, true, false}
 use Rattle.pure_term.specs.Term.{Term, Bound, term_size, term_depth, IsWithin}
@@ -40,3 +40,12 @@ leaves-put n p arg t left room s d r e f g k few low h =
 
 pub put-shallow : (n p : ℕ) (arg t : Term) → t ≡ Bound p → p ≡ n → n + term_size (subst_under n arg t) ≤ 200000 → term_depth arg ≤ 200000
 put-shallow n p arg t e f few = omega (arith, term_size-put n p arg t e f, term_depth-le-size arg)
+
+pub leaves-equal : (left room s d size depth : ℕ) (r : Option ℕ) → size ≡ s → depth ≡ d → Leaves left room s d r → Leaves left room size depth r
+leaves-equal left room s d size depth r e f h = subst (λ n. Leaves left room n depth r) (sym e) (subst (λ n. Leaves left room s n r) (sym f) h)
+
+-- What is left after an abstraction's type and its body.
+pub leaves-abs : (left room rest size depth s d : ℕ) (r : Option ℕ) → (left ≢ 0) → (room ≢ 0) → Leaves (left - 1) (room - 1) size depth (Some rest) → Leaves rest (room - 1) s d r
+    → Leaves left room (1 + (size + s)) (1 + max depth d) r
+leaves-abs left room rest size depth s d None a b h k = λ fits. let e = h.0 in let deep : room - 1 < d = k (omega arith) in omega arith
+leaves-abs left room rest size depth s d (Some more) a b h k = let e = h.0 in let f = h.1 in let g = k.0 in let i = k.1 in (omega arith, omega arith)

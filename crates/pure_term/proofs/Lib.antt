@@ -16,3 +16,4 @@ pub mod LeavesLemmas
 pub mod ArrowLemmas
 pub mod AnswerLemmas
 pub mod GrownLemmas
+pub mod BindLemmas

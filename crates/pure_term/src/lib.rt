@@ -12,7 +12,7 @@ mod text;
 mod typ;
 mod typing;
 
-pub use bounds::{lift, subst_bound};
+pub use bounds::{abstract_over, lift, subst_bound};
 pub use grow::Grow;
 pub use measure::{MAX_DEPTH, MAX_SIZE, depth, is_within, occurs, size};
 pub use name::{Label, Name};
