@@ -1,11 +1,12 @@
--- Codes of labels, types and terms, as the trees of numbers by which a proof tells two values apart.
+-- Codes of labels, types, terms and entries of maps, as the trees of numbers by which a proof tells two values apart.
 use Rattle.std.specs.Prelude.{◌≡◌, ℕ, List, [], ◌∷◌, refl}
 use Rattle.std.proofs.Common.{ap}
-use Rattle.std.specs.Coded.{Coded, code_by, coded×, coded_ℕ}
+use Rattle.std.specs.Coded.{Coded, code_by, coded×, coded_ℕ, coded_list}
 use base.Stored.{Gv, gnil, gnum, gcons}
 use Rattle.pure_term.specs.Names.{Label}
 use Rattle.pure_term.specs.Typ.{Typ, TFree, TVar, Con, Typs, none, also}
 use Rattle.pure_term.specs.Term.{Term, Const, Free, Var, Bound, Abs, App}
+use Rattle.pure_term.specs.Subst.{TypBind, TermBind}
 
 abbrev pub coded_label : Coded Label
 coded_label = code_by (ℕ × (ℕ × ℕ)) (coded× coded_ℕ (coded× coded_ℕ coded_ℕ)) (λ l. (l.theory, (l.command, l.part))) (λ p. record { theory = p.0; command = p.1.0; part = p.1.1 }) (λ _. refl)
@@ -95,3 +96,13 @@ coded_typ = record { code = typ_code; inj = typ_code-same }
 
 abbrev pub coded_term : Coded Term
 coded_term = record { code = term_code; inj = term_code-same }
+
+abbrev pub coded_typ_bind : Coded TypBind
+coded_typ_bind =
+    code_by (ℕ × (ℕ × (List ℕ × Typ))) (coded× coded_ℕ (coded× coded_ℕ (coded× (coded_list coded_ℕ) coded_typ))) (λ b. (b.name, (b.index, (b.sort, b.image))))
+    (λ p. record { name = p.0; index = p.1.0; sort = p.1.1.0; image = p.1.1.1 }) (λ _. refl)
+
+abbrev pub coded_term_bind : Coded TermBind
+coded_term_bind =
+    code_by (ℕ × (ℕ × (Typ × Term))) (coded× coded_ℕ (coded× coded_ℕ (coded× coded_typ coded_term))) (λ b. (b.name, (b.index, (b.typ, b.image))))
+    (λ p. record { name = p.0; index = p.1.0; typ = p.1.1.0; image = p.1.1.1 }) (λ _. refl)

@@ -4,6 +4,7 @@
 mod bounds;
 mod grow;
 pub mod laws;
+mod maps;
 mod measure;
 mod name;
 mod sort;
@@ -14,6 +15,7 @@ mod typing;
 
 pub use bounds::{abstract_over, lift, subst_bound};
 pub use grow::Grow;
+pub use maps::{TermBind, TermMap, TypBind, TypMap};
 pub use measure::{MAX_DEPTH, MAX_SIZE, depth, is_within, occurs, size};
 pub use name::{Label, Name};
 pub use sort::Sort;
