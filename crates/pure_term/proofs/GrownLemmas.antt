@@ -49,3 +49,16 @@ pub leaves-abs : (left room rest size depth s d : ℕ) (r : Option ℕ) → (lef
     → Leaves left room (1 + (size + s)) (1 + max depth d) r
 leaves-abs left room rest size depth s d None a b h k = λ fits. let e = h.0 in let deep : room - 1 < d = k (omega arith) in omega arith
 leaves-abs left room rest size depth s d (Some more) a b h k = let e = h.0 in let f = h.1 in let g = k.0 in let i = k.1 in (omega arith, omega arith)
+
+leaves-abs_none : (left room size depth s d : ℕ) → (left ≢ 0) → (room ≢ 0) → Leaves (left - 1) (room - 1) size depth None → Leaves left room (1 + (size + s)) (1 + max depth d) None
+leaves-abs_none left room size depth s d a b h = λ fits. let deep : room - 1 < depth = h (omega arith) in omega arith
+
+-- the same where a part doesn't fit
+pub leaves-part_none : (left room size depth s d all high : ℕ) → all ≡ 1 + (size + s) → high ≡ 1 + max depth d → (left ≢ 0) → (room ≢ 0) → Leaves (left - 1) (room - 1) size depth None
+    → Leaves left room all high None
+leaves-part_none left room size depth s d all high e f a b h = leaves-equal left room _ _ all high None e f (leaves-abs_none left room size depth s d a b h)
+
+-- what is left after a node with one part
+pub leaves-node : (left room s d all high : ℕ) (r : Option ℕ) → all ≡ 1 + s → high ≡ 1 + d → (left ≢ 0) → (room ≢ 0) → Leaves (left - 1) (room - 1) s d r → Leaves left room all high r
+leaves-node left room s d all high None e f a b h = λ fits. let deep : room - 1 < d = h (omega arith) in omega arith
+leaves-node left room s d all high (Some rest) e f a b h = let g = h.0 in let i = h.1 in (omega arith, omega arith)

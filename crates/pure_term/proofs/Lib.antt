@@ -17,3 +17,4 @@ pub mod ArrowLemmas
 pub mod AnswerLemmas
 pub mod GrownLemmas
 pub mod BindLemmas
+pub mod InstanceLemmas

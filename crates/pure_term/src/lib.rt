@@ -3,6 +3,7 @@
 
 mod bounds;
 mod grow;
+mod instance;
 pub mod laws;
 mod maps;
 mod measure;
@@ -15,6 +16,7 @@ mod typing;
 
 pub use bounds::{abstract_over, lift, subst_bound};
 pub use grow::Grow;
+pub use instance::{inst_term, inst_typ};
 pub use maps::{TermBind, TermMap, TypBind, TypMap};
 pub use measure::{MAX_DEPTH, MAX_SIZE, depth, is_within, occurs, size};
 pub use name::{Label, Name};
