@@ -18,3 +18,5 @@ pub mod AnswerLemmas
 pub mod GrownLemmas
 pub mod BindLemmas
 pub mod InstanceLemmas
+pub mod BoundLaws
+pub mod TypingBoundLaws

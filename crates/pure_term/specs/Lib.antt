@@ -25,3 +25,4 @@ pub mod LawsTyping
 pub mod LawsSubst
 pub mod LawsOrder
 pub mod LawsNormal
+pub mod LawsBounds
