@@ -4,7 +4,7 @@ use Rattle.std.specs.Prelude.{Option, Some, None, slice_get}
 use Rattle.pure_term.specs.Typ.{Typ, Con, none, also, arrow, typ_eq}
 use Rattle.pure_term.specs.Term.{Term, Const, Free, Var, Bound, Abs, App}
 use Rattle.pure_term.specs.Typing.{HasType, node_count, Takes, IsUntypedAt}
-use Rattle.pure_term.proofs.EqualityLaws.{typ_eq-same, typ_eq-itself}
+use Rattle.pure_term.specs.Equality.{typ_eq-same, typ_eq-itself}
 use Rattle.pure_term.proofs.TypingLaws.{typed-once}
 
 takes_or_not : (T U : Typ) → Takes T U ⊎ (¬ Takes T U)

@@ -1,5 +1,4 @@
 pub mod ListLaws
-pub mod EqualityLaws
 pub mod TypingLaws
 pub mod LimitLaws
 pub mod OrderLaws
@@ -11,3 +10,13 @@ pub mod LiftLaws
 pub mod EtaLaws
 pub mod FaultLaws
 pub mod EtaNormalLaws
+pub mod TypsLemmas
+pub mod TermLemmas
+pub mod LeavesLemmas
+pub mod ArrowLemmas
+pub mod AnswerLemmas
+pub mod GrownLemmas
+pub mod BindLemmas
+pub mod InstanceLemmas
+pub mod BoundLaws
+pub mod TypingBoundLaws

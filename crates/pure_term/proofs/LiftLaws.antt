@@ -33,7 +33,7 @@ lift-lift by more below from (Abs T b) h =
 lift-lift by more below from (App f a) h = λ l. App (lift-lift by more below from f h l) (lift-lift by more below from a h l)
 
 -- a bound variable that was lifted over one binder, put back
-place_at-lifted : (n : ℕ) (arg : Term) (p : ℕ) → place_at n arg (lifted 1 n p) ≡ Bound p
+pub place_at-lifted : (n : ℕ) (arg : Term) (p : ℕ) → place_at n arg (lifted 1 n p) ≡ Bound p
 place_at-lifted n arg p = by (nat_lt p n) refl
   where
     by : (b : Bool) → nat_lt p n ≡ b → place_at n arg (if nat_lt p n then p else p + 1) ≡ Bound p

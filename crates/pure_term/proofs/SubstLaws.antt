@@ -7,7 +7,7 @@ use Rattle.pure_term.specs.Typing.{HasType}
 use Rattle.pure_term.specs.Subst.{typ_instance, typs_instance, term_instance, inst_term, IsSortRespecting, IsTypeRespecting, KeepsFixedTyps, KeepsFixedTerms, TypBind, TermBind, IsTypMap, IsTermMap, typ_variable, term_variable, typ_image, term_image, AreSortRespecting, AreTypeRespecting}
 use Rattle.pure_term.specs.Lists.{IsIn}
 use Rattle.pure_term.proofs.ListLaws.{each_of, in-map}
-use Rattle.pure_term.proofs.EqualityLaws.{typ_eq-same, typ_eq-itself, term_eq-same, term_eq-itself}
+use Rattle.pure_term.specs.Equality.{typ_eq-same, typ_eq-itself, term_eq-same, term_eq-itself}
 use Rattle.pure_term.proofs.OrderLaws.{sort_below-itself}
 
 pub identity-respects_sorts : (A : Algebra) → IsSortRespecting A (λ v. v)

@@ -2,9 +2,19 @@ pub mod Lists
 pub mod Names
 pub mod Typ
 pub mod Term
+pub mod Equality
+pub mod Codes
+pub mod Comparison
+pub mod TypView
+pub mod TypFalls
+pub mod TermView
+pub mod TermFalls
 pub mod Order
+pub mod Limits
 pub mod Typing
+pub mod TypeAnswer
 pub mod Bounds
+pub mod Conditions
 pub mod Subst
 pub mod Decl
 pub mod Certified
@@ -15,3 +25,4 @@ pub mod LawsTyping
 pub mod LawsSubst
 pub mod LawsOrder
 pub mod LawsNormal
+pub mod LawsBounds

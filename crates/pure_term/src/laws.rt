@@ -3,6 +3,7 @@ ghost use Rattle.pure_term.specs.LawsTyping.{TypsAreLists, ListsAreTyps, TypTest
 ghost use Rattle.pure_term.specs.LawsOrder.{BelowExample, SortBelowExample, OfSortExample, WrongCountExample, UnevenIsNotCoregular, DeclaredClasses, DeclaredArities, CertifiedPartsExample, JoinedForkIsCoregular, CrossingIsNotCoregular, OpenForkIsNotCoregular, FallingIsNotCoregular, CertifiedExample, NotCertifiedExample, CertifiedImagesExample};
 ghost use Rattle.pure_term.specs.LawsSubst.{IdentityIsSortRespecting, IdentityIsTypeRespecting, IdentityChangesNoType, IdentityChangesNoTerm, EntriesRespectSorts, EntriesRespectTypes, EntriesKeepFixedTyps, EntriesKeepFixed, TermMapAlone, InstanceExample, TypInstanceExample, FixedTypExample, AllAtOnceExample, KeyedOnOwnTypeExample, SortRespectExample, TypeRespectExample};
 ghost use Rattle.pure_term.specs.LawsNormal.{NoStepExactlyWhereNormal, OneBetaSequence, OneBetaSequenceToNormal, EachTermHasBetaAnswer, OneBetaAnswer, BetaStepsExample, BetaAnswerExample, BetaNormalExample, EndlessExample, LargeExample, EtaExample, LongFormExample, TwoArrowsExample, OneLongForm, OneEtaNormalForm};
+ghost use Rattle.pure_term.specs.LawsBounds.{LiftZero, LiftAgain, LiftLift, SizeOfLift, DepthOfLift, SubstLift, SubstBind, BindSubst, TypingOfLift, TypingOfSubst, TypingOfInstance};
 
 /// The mutual list of types stands for a list.
 pub fn typs_are_lists()
@@ -176,4 +177,27 @@ pub fn one_eta_normal_form()
 /// A term has one long form.
 pub fn one_long_form()
     ensures { OneLongForm }
+{}
+
+/// Two liftings, and a lifted term's size and depth.
+pub fn lifting()
+    ensures zero { LiftZero }
+    ensures again { LiftAgain }
+    ensures twice { LiftLift }
+    ensures size { SizeOfLift }
+    ensures depth { DepthOfLift }
+{}
+
+/// Instantiation undoes a lifting, and instantiation and abstraction undo each other.
+pub fn instantiation_and_abstraction()
+    ensures lifted { SubstLift }
+    ensures abstracted { SubstBind }
+    ensures back { BindSubst }
+{}
+
+/// Typing is kept by lifting, by instantiation and by maps.
+pub fn typing_is_kept()
+    ensures lifted { TypingOfLift }
+    ensures instantiated { TypingOfSubst }
+    ensures mapped { TypingOfInstance }
 {}

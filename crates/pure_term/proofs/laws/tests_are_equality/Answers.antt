@@ -1,4 +1,4 @@
-use Rattle.pure_term.proofs.EqualityLaws.{typ_eq-is_equality, term_eq-is_equality}
+use Rattle.pure_term.specs.Equality.{typ_eq-is_equality, term_eq-is_equality}
 use Rattle.pure_term.proofs.laws.tests_are_equality.Goals as goal
 
 pub returns-clause-types : goal.returns-clause-types

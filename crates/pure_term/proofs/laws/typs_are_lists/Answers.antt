@@ -1,4 +1,4 @@
-use Rattle.pure_term.proofs.EqualityLaws.{typ_list-typs_of, typs_of-typ_list}
+use Rattle.pure_term.specs.Equality.{typ_list-typs_of, typs_of-typ_list}
 use Rattle.pure_term.proofs.laws.typs_are_lists.Goals as goal
 
 pub returns-clause-there : goal.returns-clause-there

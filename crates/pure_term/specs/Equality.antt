@@ -1,7 +1,7 @@
 -- The mutual list of types stands for a list; the tests of types and of terms are equality.
-use Rattle.std.proofs.Common.{◌≡◌, ℕ, ◌&&◌, true, List, [], ◌∷◌, ap, refl, ◌↔◌}
+use Rattle.std.proofs.Common.{◌≡◌, ℕ, ◌&&◌, Bool, true, List, [], ◌∷◌, ap, refl, sym, ◌↔◌}
 use Rattle.std.proofs.lemmas.Bool.{eqb-true, eq-eqb}
-use Rattle.std.specs.Cmp.{first_so, second_so}
+use Rattle.std.specs.Cmp.{first_so, second_so, IsEquivalence, both_ways}
 use Rattle.std.specs.Cmp.Derive.{both_true}
 use Rattle.std.specs.Cmp.Lexicographic.{bytes_decides}
 use Rattle.std.specs.Prelude.{nat_eq}
@@ -17,10 +17,10 @@ pub typs_of-typ_list : (ts : Typs) → typs_of (typ_list ts) ≡ ts
 typs_of-typ_list none = refl
 typs_of-typ_list (also t ts) = ap (also t) (typs_of-typ_list ts)
 
-sort_eq-same : (s r : List ℕ) → sort_eq s r ≡ true → s ≡ r
+pub sort_eq-same : (s r : List ℕ) → sort_eq s r ≡ true → s ≡ r
 sort_eq-same s r h = (bytes_decides s r).0 h
 
-sort_eq-itself : (s : List ℕ) → sort_eq s s ≡ true
+pub sort_eq-itself : (s : List ℕ) → sort_eq s s ≡ true
 sort_eq-itself s = (bytes_decides s s).1 refl
 
 nat_eq-itself : (n : ℕ) → nat_eq n n ≡ true
@@ -101,3 +101,17 @@ typ_eq-is_equality T U = (typ_eq-same T U, λ e. rw (← e) (typ_eq-itself T))
 
 pub term_eq-is_equality : (t u : Term) → (term_eq t u ≡ true) ↔ (t ≡ u)
 term_eq-is_equality t u = (term_eq-same t u, λ e. rw (← e) (term_eq-itself t))
+
+-- A test that is equality is an equivalence.
+equality_equiv : {K : Type 0} (E : K → K → Bool) → ((x y : K) → (E x y ≡ true) ↔ (x ≡ y)) → IsEquivalence E
+equality_equiv E same = record {
+  refl = λ x. (same x x).1 refl;
+  symm = λ x y. both_ways (E x y) (E y x) (λ h. (same y x).1 (sym ((same x y).0 h))) (λ h. (same x y).1 (sym ((same y x).0 h)));
+  congr = λ x y z h. ap (λ v. E v z) ((same x y).0 h);
+}
+
+pub typ_eq-equiv : IsEquivalence typ_eq
+typ_eq-equiv = equality_equiv typ_eq typ_eq-is_equality
+
+pub term_eq-equiv : IsEquivalence term_eq
+term_eq-equiv = equality_equiv term_eq term_eq-is_equality

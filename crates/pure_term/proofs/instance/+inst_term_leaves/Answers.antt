@@ -1,0 +1,11 @@
+use Rattle.std.proofs.Common.{◌≡◌, ap}
+use Rattle.pure_term.specs.Term.{term_size, term_depth}
+use Rattle.pure_term.specs.Subst.{term_image, inst_term}
+use Rattle.pure_term.proofs.GrownLemmas.{leaves-equal}
+use Rattle.pure_term.proofs.InstanceLemmas.{term_image-fixed}
+use Rattle.pure_term.proofs.instance.+inst_term_leaves.Goals as goal
+
+pub returns-in-Free : goal.returns-in-Free
+returns-in-Free t c =
+    let fixed : inst_term (term_image c.args.binds.now) c.args.t.now ≡ c.args.t.now = rw (← c.t.view_is, c.in-Free.is) (term_image-fixed c.args.binds.now c.in-Free.name c.in-Free.typ) in
+    leaves-equal c.args.left c.args.room (term_size c.args.t.now) (term_depth c.args.t.now) _ _ c.term_leaves-in-Free.result (ap term_size fixed) (ap term_depth fixed) c.term_leaves-in-Free.ensures

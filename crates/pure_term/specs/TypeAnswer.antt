@@ -1,0 +1,25 @@
+-- What the call for a term's type answers.
+use Rattle.std.specs.Prelude.{◌≡◌, ℕ, ◌+◌, List, [], ◌∷◌, Result, Ok, Err}
+use Rattle.pure_term.specs.Typ.{Typ}
+use Rattle.pure_term.specs.Term.{Term}
+use Rattle.pure_term.specs.Typing.{HasType, IsUntypedAt}
+use Rattle.pure_term.specs.Limits.{cut_off}
+use Rattle.pure_term.specs.declared.typing.Scope.{Scope, Empty, Under'}
+use Rattle.pure_term.specs.declared.typing.TypeFault.{TypeFault}
+use Rattle.pure_term.specs.declared.typing.TypeFault.TheVariants.{NotTyped, Memory}
+
+-- the types of the binders that a scope lists
+abbrev pub scope_typs : Scope → List Typ
+scope_typs Empty = []
+scope_typs (Under' t p s) = t.now ∷ scope_typs s
+
+-- the fault, with a place so much further on
+abbrev pub deeper_fault : ℕ → TypeFault → TypeFault
+deeper_fault by (NotTyped place) = NotTyped (cut_off (place + by))
+deeper_fault by Memory = Memory
+
+-- The answer of a call for the type of a term under binders of these types: its type; or, where it has none, the place of its first node at fault; or `Memory`.
+abbrev pub IsTypeAnswer : List Typ → Term → Result Typ TypeFault → Type 0
+IsTypeAnswer bs t (Ok T) = HasType bs t T
+IsTypeAnswer bs t (Err (NotTyped cut)) = (place : ℕ) × IsUntypedAt bs t place × (cut ≡ cut_off place)
+IsTypeAnswer bs t (Err Memory) = Unit {0}

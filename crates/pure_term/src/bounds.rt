@@ -1,0 +1,257 @@
+ghost use Rattle.std.specs.Prelude.{◌≡◌, ◌+◌, ◌<◌, ◌≤◌, ◌^◌, IfOk};
+ghost use Rattle.pure_term.specs.Term.{Abs, term_size, term_depth};
+ghost use Rattle.pure_term.specs.Bounds.{lift_term, subst_under, subst_bound, bind_under, abstract_over};
+ghost use Rattle.pure_term.specs.Conditions.{IsLiftable, IsPuttable, IsVariable, variable_typ};
+ghost use Rattle.pure_term.specs.Limits.{cut_off, Leaves, IsGrown};
+
+use crate::grow::Grow;
+use crate::measure::{MAX_DEPTH, MAX_SIZE, are_same, depth, is_within, node_leaves, size, term_leaves, typ_leaves};
+use crate::term::{Term, TermNode};
+use crate::typ::Typ;
+use std::alloc::{AllocError, Global};
+
+/// The term with `by` added to each loose bound variable at or above `from`.
+pub fn lift(alloc: Global, t: &Term, by: u32, from: u32) -> Result<Term, Grow>
+    requires { IsLiftable by from t.now }
+    ensures { IsGrown (lift_term by from t.now) result }
+{
+    if !is_within(t) {
+        return Err(Grow::Big);
+    }
+    Ok(lift_under(alloc, t, by, u64::from(from))?)
+}
+
+fn lift_under(alloc: Global, t: &Term, by: u32, from: u64) -> Result<Term, AllocError>
+    requires liftable { IsLiftable by from t.now }
+    requires shallow { from + term_depth t.now < 2 ^ 64 }
+    ensures { IfOk result (λ u. u ≡ lift_term by from t.now) }
+{
+    let node = match &t.node {
+        TermNode::Bound { place } => {
+            if u64::from(*place) < from {
+                TermNode::Bound { place: *place }
+            } else {
+                TermNode::Bound { place: *place + by }
+            }
+        }
+        TermNode::Abs { typ, body } => TermNode::Abs {
+            typ: typ.copy(alloc)?,
+            body: Box::new(alloc, lift_under(alloc, body, by, from + 1)?)?,
+        },
+        TermNode::App { fun, arg } => TermNode::App {
+            fun: Box::new(alloc, lift_under(alloc, fun, by, from)?)?,
+            arg: Box::new(alloc, lift_under(alloc, arg, by, from)?)?,
+        },
+        _ => return t.copy(alloc),
+    };
+    Ok(Term { node })
+}
+
+/// The body with the argument in place of bound variable 0, and the other loose bound variables lowered by one.
+pub fn subst_bound(alloc: Global, body: &Term, arg: &Term) -> Result<Term, Grow>
+    requires { IsPuttable 0 arg.now body.now }
+    ensures { IsGrown (subst_bound body.now arg.now) result }
+{
+    let arg_size = size(arg);
+    let arg_depth = depth(arg);
+    let Some(_) = subst_leaves(body, 0, arg, arg_size, arg_depth, MAX_SIZE, MAX_DEPTH) else {
+        return Err(Grow::Big);
+    };
+    Ok(put_under(alloc, body, 0, arg)?)
+}
+
+// What is left of room when the body with the argument put in place of bound variable `place` is put in.
+fn subst_leaves(
+    body: &Term,
+    place: u32,
+    arg: &Term,
+    arg_size: u32,
+    arg_depth: u32,
+    left: u32,
+    room: u32,
+) -> Option<u32>
+    requires arg_size { arg_size ≡ cut_off (term_size arg.now) }
+    requires arg_depth { arg_depth ≡ cut_off (term_depth arg.now) }
+    requires few { place + left ≤ 200000 }
+    requires low { room ≤ 2000 }
+    ensures { Leaves left room (term_size (subst_under place arg.now body.now)) (term_depth (subst_under place arg.now body.now)) result }
+{
+    match &body.node {
+        TermNode::Bound { place: bound } => {
+            if *bound == place {
+                node_leaves(left, room, arg_size, arg_depth)
+            } else {
+                node_leaves(left, room, 1, 1)
+            }
+        }
+        TermNode::Abs { typ, body } => {
+            if left == 0 || room == 0 {
+                return None;
+            }
+            let Some(rest) = typ_leaves(typ, left - 1, room - 1) else {
+                return None;
+            };
+            subst_leaves(body, place + 1, arg, arg_size, arg_depth, rest, room - 1)
+        }
+        TermNode::App { fun, arg: inner } => {
+            if left == 0 || room == 0 {
+                return None;
+            }
+            let Some(rest) = subst_leaves(fun, place, arg, arg_size, arg_depth, left - 1, room - 1) else {
+                return None;
+            };
+            subst_leaves(inner, place, arg, arg_size, arg_depth, rest, room - 1)
+        }
+        _ => term_leaves(body, left, room),
+    }
+}
+
+fn put_under(alloc: Global, body: &Term, place: u32, arg: &Term) -> Result<Term, AllocError>
+    requires puttable { IsPuttable place arg.now body.now }
+    requires few { place + term_size (subst_under place arg.now body.now) ≤ 200000 }
+    ensures { IfOk result (λ u. u ≡ subst_under place arg.now body.now) }
+{
+    let node = match &body.node {
+        TermNode::Bound { place: bound } => {
+            if *bound < place {
+                TermNode::Bound { place: *bound }
+            } else if *bound == place {
+                return lift_under(alloc, arg, place, 0);
+            } else {
+                TermNode::Bound { place: *bound - 1 }
+            }
+        }
+        TermNode::Abs { typ, body } => TermNode::Abs {
+            typ: typ.copy(alloc)?,
+            body: Box::new(alloc, put_under(alloc, body, place + 1, arg)?)?,
+        },
+        TermNode::App { fun, arg: inner } => TermNode::App {
+            fun: Box::new(alloc, put_under(alloc, fun, place, arg)?)?,
+            arg: Box::new(alloc, put_under(alloc, inner, place, arg)?)?,
+        },
+        _ => return body.copy(alloc),
+    };
+    Ok(Term { node })
+}
+
+/// The abstraction of the term over a fixed or schematic variable.
+pub fn abstract_over(alloc: Global, t: &Term, v: &Term) -> Result<Term, Grow>
+    requires variable { IsVariable v.now }
+    requires liftable { IsLiftable 1 0 t.now }
+    ensures { IsGrown (abstract_over t.now v.now) result }
+{
+    let typ = typ_of_variable(v);
+    let Some(rest) = typ_leaves(typ, MAX_SIZE - 1, MAX_DEPTH - 1) else {
+        return Err(Grow::Big);
+    };
+    let Some(_) = bind_leaves(t, v, rest, MAX_DEPTH - 1) else {
+        return Err(Grow::Big);
+    };
+    Ok(abstraction(alloc, t, v, typ)?)
+}
+
+fn abstraction(alloc: Global, t: &Term, v: &Term, typ: &Typ) -> Result<Term, AllocError>
+    requires liftable { IsLiftable 1 0 t.now }
+    requires few { term_size (bind_under 0 v.now t.now) ≤ 200000 }
+    ensures { IfOk result (λ u. u ≡ Abs typ.now (bind_under 0 v.now t.now)) }
+{
+    let typ = typ.copy(alloc)?;
+    let body = Box::new(alloc, bind(alloc, t, 0, v)?)?;
+    Ok(Term {
+        node: TermNode::Abs { typ, body },
+    })
+}
+
+// The type that is written with a variable.
+fn typ_of_variable(v: &Term) -> &Typ
+    requires { IsVariable v.now }
+    ensures { result.now ≡ variable_typ v.now }
+{
+    match &v.node {
+        TermNode::Free { typ, .. } => typ,
+        TermNode::Var { typ, .. } => typ,
+        _ => unreachable!(),
+    }
+}
+
+// What is left of room when the term with the variable bound is put in: a bound variable counts as one node whatever its place.
+fn bind_leaves(t: &Term, v: &Term, left: u32, room: u32) -> Option<u32>
+    ensures { Leaves left room (term_size (bind_under 0 v.now t.now)) (term_depth (bind_under 0 v.now t.now)) result }
+{
+    match &t.node {
+        TermNode::Const { .. } => term_leaves(t, left, room),
+        TermNode::Free { .. } => variable_leaves(t, v, left, room),
+        TermNode::Var { .. } => variable_leaves(t, v, left, room),
+        TermNode::Bound { .. } => node_leaves(left, room, 1, 1),
+        TermNode::Abs { typ, body } => {
+            if left == 0 || room == 0 {
+                return None;
+            }
+            let Some(rest) = typ_leaves(typ, left - 1, room - 1) else {
+                return None;
+            };
+            bind_leaves(body, v, rest, room - 1)
+        }
+        TermNode::App { fun, arg } => {
+            if left == 0 || room == 0 {
+                return None;
+            }
+            let Some(rest) = bind_leaves(fun, v, left - 1, room - 1) else {
+                return None;
+            };
+            bind_leaves(arg, v, rest, room - 1)
+        }
+    }
+}
+
+fn variable_leaves(t: &Term, v: &Term, left: u32, room: u32) -> Option<u32>
+    requires { IsVariable t.now }
+    ensures { Leaves left room (term_size (bind_under 0 v.now t.now)) (term_depth (bind_under 0 v.now t.now)) result }
+{
+    if are_same(v, t) {
+        node_leaves(left, room, 1, 1)
+    } else {
+        term_leaves(t, left, room)
+    }
+}
+
+fn bind_variable(alloc: Global, t: &Term, place: u32, v: &Term) -> Result<Term, AllocError>
+    requires { IsVariable t.now }
+    ensures { IfOk result (λ u. u ≡ bind_under place v.now t.now) }
+{
+    if are_same(v, t) {
+        Ok(Term {
+            node: TermNode::Bound { place },
+        })
+    } else {
+        t.copy(alloc)
+    }
+}
+
+fn bind(alloc: Global, t: &Term, place: u32, v: &Term) -> Result<Term, AllocError>
+    requires liftable { IsLiftable 1 place t.now }
+    requires few { place + term_size (bind_under place v.now t.now) ≤ 200000 }
+    ensures { IfOk result (λ u. u ≡ bind_under place v.now t.now) }
+{
+    let node = match &t.node {
+        TermNode::Const { .. } => return t.copy(alloc),
+        TermNode::Free { .. } => return bind_variable(alloc, t, place, v),
+        TermNode::Var { .. } => return bind_variable(alloc, t, place, v),
+        TermNode::Bound { place: bound } => {
+            if *bound < place {
+                TermNode::Bound { place: *bound }
+            } else {
+                TermNode::Bound { place: *bound + 1 }
+            }
+        }
+        TermNode::Abs { typ, body } => TermNode::Abs {
+            typ: typ.copy(alloc)?,
+            body: Box::new(alloc, bind(alloc, body, place + 1, v)?)?,
+        },
+        TermNode::App { fun, arg } => TermNode::App {
+            fun: Box::new(alloc, bind(alloc, fun, place, v)?)?,
+            arg: Box::new(alloc, bind(alloc, arg, place, v)?)?,
+        },
+    };
+    Ok(Term { node })
+}

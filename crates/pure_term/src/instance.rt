@@ -1,0 +1,213 @@
+ghost use Rattle.std.specs.Prelude.{◌≡◌, IfOk};
+ghost use Rattle.pure_term.specs.Typ.{typ_size, typ_depth};
+ghost use Rattle.pure_term.specs.Term.{term_size, term_depth};
+ghost use Rattle.pure_term.specs.Subst.{typ_image, term_image, typ_instance, inst_typ, inst_term};
+ghost use Rattle.pure_term.specs.Limits.{Leaves, IsGrown};
+
+use crate::grow::Grow;
+use crate::maps::{TermBind, TermMap, TypBind, TypMap, find_term, find_typ};
+use crate::measure::{MAX_DEPTH, MAX_SIZE, node_leaves, term_leaves, typ_leaves};
+use crate::term::{Term, TermNode};
+use crate::typ::{Typ, TypNode};
+use std::alloc::{AllocError, Global};
+
+// What is left of room when the instance of the type is put in.
+fn instance_leaves(t: &Typ, binds: &[TypBind], left: u32, room: u32) -> Option<u32>
+    ensures { Leaves left room (typ_size (typ_instance (typ_image binds.now) t.now)) (typ_depth (typ_instance (typ_image binds.now) t.now)) result }
+{
+    match &t.node {
+        TypNode::TFree { .. } => typ_leaves(t, left, room),
+        TypNode::TVar { name, index, sort } => match find_typ(binds, *name, *index, sort) {
+            Some(image) => typ_leaves(image, left, room),
+            None => typ_leaves(t, left, room),
+        },
+        TypNode::Con { args, .. } => {
+            if left == 0 {
+                return None;
+            }
+            if room == 0 {
+                return None;
+            }
+            let mut rest = left - 1;
+            for arg in args {
+                let Some(less) = instance_leaves(arg, binds, rest, room - 1) else {
+                    return None;
+                };
+                rest = less;
+            }
+            Some(rest)
+        }
+    }
+}
+
+// The instance of the type.
+fn instance_of(alloc: Global, t: &Typ, binds: &[TypBind]) -> Result<Typ, AllocError>
+    ensures { IfOk result (λ u. u ≡ typ_instance (typ_image binds.now) t.now) }
+{
+    match &t.node {
+        TypNode::TFree { .. } => t.copy(alloc),
+        TypNode::TVar { name, index, sort } => match find_typ(binds, *name, *index, sort) {
+            Some(image) => image.copy(alloc),
+            None => t.copy(alloc),
+        },
+        TypNode::Con { name, args } => {
+            let mut images = Vec::new(alloc);
+            for arg in args {
+                images.push(instance_of(alloc, arg, binds)?)?;
+            }
+            Ok(Typ {
+                node: TypNode::Con {
+                    name: *name,
+                    args: images,
+                },
+            })
+        }
+    }
+}
+
+/// The term under a type map: each variable in its types replaced, all at once.
+pub fn inst_typ(alloc: Global, t: &Term, map: &TypMap) -> Result<Term, Grow>
+    ensures { IsGrown (inst_typ (typ_image map.now) t.now) result }
+{
+    let binds = map.binds();
+    let Some(_) = inst_typ_leaves(t, binds, MAX_SIZE, MAX_DEPTH) else {
+        return Err(Grow::Big);
+    };
+    Ok(retyped(alloc, t, binds)?)
+}
+
+fn inst_typ_leaves(t: &Term, binds: &[TypBind], left: u32, room: u32) -> Option<u32>
+    ensures { Leaves left room (term_size (inst_typ (typ_image binds.now) t.now)) (term_depth (inst_typ (typ_image binds.now) t.now)) result }
+{
+    if left == 0 {
+        return None;
+    }
+    if room == 0 {
+        return None;
+    }
+    match &t.node {
+        TermNode::Const { typ, .. } => instance_leaves(typ, binds, left - 1, room - 1),
+        TermNode::Free { typ, .. } => instance_leaves(typ, binds, left - 1, room - 1),
+        TermNode::Var { typ, .. } => instance_leaves(typ, binds, left - 1, room - 1),
+        TermNode::Bound { .. } => Some(left - 1),
+        TermNode::Abs { typ, body } => {
+            let Some(rest) = instance_leaves(typ, binds, left - 1, room - 1) else {
+                return None;
+            };
+            inst_typ_leaves(body, binds, rest, room - 1)
+        }
+        TermNode::App { fun, arg } => {
+            let Some(rest) = inst_typ_leaves(fun, binds, left - 1, room - 1) else {
+                return None;
+            };
+            inst_typ_leaves(arg, binds, rest, room - 1)
+        }
+    }
+}
+
+fn retyped(alloc: Global, t: &Term, binds: &[TypBind]) -> Result<Term, AllocError>
+    ensures { IfOk result (λ u. u ≡ inst_typ (typ_image binds.now) t.now) }
+{
+    match &t.node {
+        TermNode::Const { name, typ } => {
+            let typ = instance_of(alloc, typ, binds)?;
+            let node = TermNode::Const { name: *name, typ };
+            Ok(Term { node })
+        }
+        TermNode::Free { name, typ } => {
+            let typ = instance_of(alloc, typ, binds)?;
+            let node = TermNode::Free { name: *name, typ };
+            Ok(Term { node })
+        }
+        TermNode::Var { name, index, typ } => {
+            let typ = instance_of(alloc, typ, binds)?;
+            let node = TermNode::Var {
+                name: *name,
+                index: *index,
+                typ,
+            };
+            Ok(Term { node })
+        }
+        TermNode::Bound { .. } => t.copy(alloc),
+        TermNode::Abs { typ, body } => {
+            let typ = instance_of(alloc, typ, binds)?;
+            let body = Box::new(alloc, retyped(alloc, body, binds)?)?;
+            let node = TermNode::Abs { typ, body };
+            Ok(Term { node })
+        }
+        TermNode::App { fun, arg } => {
+            let fun = Box::new(alloc, retyped(alloc, fun, binds)?)?;
+            let arg = Box::new(alloc, retyped(alloc, arg, binds)?)?;
+            let node = TermNode::App { fun, arg };
+            Ok(Term { node })
+        }
+    }
+}
+
+/// The term under a term map: each variable replaced by its image, all at once. Images aren't lifted.
+pub fn inst_term(alloc: Global, t: &Term, map: &TermMap) -> Result<Term, Grow>
+    ensures { IsGrown (inst_term (term_image map.now) t.now) result }
+{
+    let binds = map.binds();
+    let Some(_) = inst_term_leaves(t, binds, MAX_SIZE, MAX_DEPTH) else {
+        return Err(Grow::Big);
+    };
+    Ok(replaced(alloc, t, binds)?)
+}
+
+fn inst_term_leaves(t: &Term, binds: &[TermBind], left: u32, room: u32) -> Option<u32>
+    ensures { Leaves left room (term_size (inst_term (term_image binds.now) t.now)) (term_depth (inst_term (term_image binds.now) t.now)) result }
+{
+    match &t.node {
+        TermNode::Const { .. } => term_leaves(t, left, room),
+        TermNode::Free { .. } => term_leaves(t, left, room),
+        TermNode::Var { name, index, typ } => match find_term(binds, *name, *index, typ) {
+            Some(image) => term_leaves(image, left, room),
+            None => term_leaves(t, left, room),
+        },
+        TermNode::Bound { .. } => node_leaves(left, room, 1, 1),
+        TermNode::Abs { typ, body } => {
+            if left == 0 || room == 0 {
+                return None;
+            }
+            let Some(rest) = typ_leaves(typ, left - 1, room - 1) else {
+                return None;
+            };
+            inst_term_leaves(body, binds, rest, room - 1)
+        }
+        TermNode::App { fun, arg } => {
+            if left == 0 || room == 0 {
+                return None;
+            }
+            let Some(rest) = inst_term_leaves(fun, binds, left - 1, room - 1) else {
+                return None;
+            };
+            inst_term_leaves(arg, binds, rest, room - 1)
+        }
+    }
+}
+
+fn replaced(alloc: Global, t: &Term, binds: &[TermBind]) -> Result<Term, AllocError>
+    ensures { IfOk result (λ u. u ≡ inst_term (term_image binds.now) t.now) }
+{
+    let node = match &t.node {
+        TermNode::Const { .. } => return t.copy(alloc),
+        TermNode::Free { .. } => return t.copy(alloc),
+        TermNode::Var { name, index, typ } => {
+            return match find_term(binds, *name, *index, typ) {
+                Some(image) => image.copy(alloc),
+                None => t.copy(alloc),
+            };
+        }
+        TermNode::Bound { place } => TermNode::Bound { place: *place },
+        TermNode::Abs { typ, body } => TermNode::Abs {
+            typ: typ.copy(alloc)?,
+            body: Box::new(alloc, replaced(alloc, body, binds)?)?,
+        },
+        TermNode::App { fun, arg } => TermNode::App {
+            fun: Box::new(alloc, replaced(alloc, fun, binds)?)?,
+            arg: Box::new(alloc, replaced(alloc, arg, binds)?)?,
+        },
+    };
+    Ok(Term { node })
+}
