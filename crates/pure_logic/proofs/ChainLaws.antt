@@ -2,7 +2,7 @@
 use Rattle.std.proofs.Common.{◌≡◌, ℕ, map, List, [], ◌∷◌, inl, inr, refl, cond, Bool, true, false}
 use Rattle.pure_term.specs.Lists.{IsIn, Each}
 use Rattle.pure_term.specs.Term.{Term, term_eq}
-use Rattle.pure_term.proofs.EqualityLaws.{term_eq-itself}
+use Rattle.pure_term.specs.Equality.{term_eq-itself}
 use Rattle.pure_logic.specs.Connectives.{chain}
 use Rattle.pure_term.specs.Typ.{prop}
 use Rattle.pure_term.proofs.ListLaws.{in-map}
