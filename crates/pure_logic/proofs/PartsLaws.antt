@@ -1,11 +1,11 @@
 -- Certified parts under lifting, instantiation and abstraction; typing under abstraction; and the certified type of a certified term.
 use Rattle.std.proofs.Common.{◌≡◌, ℕ, zero, suc, ◌+◌, List, [], ◌∷◌, ◌++◌, length, Bool, true, false, ap, refl, ◌∙◌, arith}
-use Rattle.std.specs.Prelude.{◌-◌, nat_eq, nat_lt, slice_get, Some, None, if◌then◌else◌}
+use Rattle.std.specs.Prelude.{◌-◌, nat_eq, nat_lt, slice_get, Some, if◌then◌else◌}
 use Rattle.pure_term.specs.Lists.{Each}
 use Rattle.pure_term.specs.Typ.{Typ, arrow}
 use Rattle.pure_term.specs.Term.{Term, Const, Free, Var, Bound, Abs, App, term_eq}
 use Rattle.pure_term.specs.Typing.{HasType}
-use Rattle.pure_term.specs.Bounds.{lift_term, place_at, subst_under, bind_under}
+use Rattle.pure_term.specs.Bounds.{lift_term, subst_under, bind_under}
 use Rattle.pure_term.specs.Conditions.{variable_typ}
 use Rattle.pure_term.specs.Decl.{Decl}
 use Rattle.pure_term.specs.Certified.{IsCertifiedTyp, HasCertifiedParts}

@@ -1,5 +1,5 @@
 -- What a tree concludes is a proposition of the content, and so are its hypotheses.
-use Rattle.std.proofs.Common.{◌≡◌, ℕ, List, [], ◌∷◌, ◌++◌, refl}
+use Rattle.std.proofs.Common.{◌≡◌, List, [], ◌∷◌, ◌++◌, refl, arith}
 use Rattle.pure_term.specs.Lists.{Each}
 use Rattle.pure_term.specs.Typ.{Typ, arrow, prop}
 use Rattle.pure_term.specs.Term.{Term, Const, Free, Var, Bound, Abs, App}
@@ -11,10 +11,12 @@ use Rattle.pure_term.specs.Certified.{IsCertifiedTyp, HasCertifiedParts}
 use Rattle.pure_term.proofs.TypingBoundLaws.{typing-subst, typing-weaken, typing-instance}
 use Rattle.pure_logic.specs.Connectives.{all_typ, imp_typ, all_of, all, imp, eq}
 use Rattle.pure_logic.specs.Content.{Content, IsContent, IsBelow, IsWellFormed, IsCertifiedOf, IsProposition}
-use Rattle.pure_logic.specs.PureContent.{pure_content}
+use Rattle.pure_logic.specs.PureContent.{pure_content, any_typ}
 use Rattle.pure_logic.specs.Tree.{Tree, Axiom, Promise, Assume, AllIntro, AllElim, ImpliesIntro, ImpliesElim, Beta, Refl, Subst, Ext, Iff, hyps_of}
 use Rattle.pure_logic.specs.Concludes.{AreRespecting, IsVariable, extensionality, Concludes}
 use Rattle.pure_logic.specs.Derivable.{Pair, Theorem, IsUnderPairs, IsDerivable, IsDerivableAlone}
+use Rattle.pure_logic.specs.LawsContent.{content_of}
+use Rattle.pure_logic.specs.LawsConclusion.{NoPropositionExample}
 use Rattle.pure_logic.proofs.ChainLaws.{each-at, each-without}
 use Rattle.pure_logic.proofs.ConnectiveLaws.{certified_of, imp-parts, eq-parts, all-parts}
 use Rattle.pure_logic.proofs.InstanceLaws.{parts-instance}
@@ -24,7 +26,7 @@ each-append : (P : Term → Type 0) (xs ys : List Term) → Each P xs → Each P
 each-append P [] ys h k = k
 each-append P (x ∷ xs) ys h k = (h.0, each-append P xs ys h.1 k)
 
--- The two sides of an implication, and the body of a quantification, are of type prop.
+-- In what is of type prop, the conclusion of an implication and the body of a quantification are of type prop.
 conclusion-typed : (A B : Term) → HasType [] (imp A B) prop → HasType [] B prop
 conclusion-typed A B h =
     let connective : imp_typ ≡ arrow h.1.0 (arrow h.0 prop) = h.1.1 in
@@ -45,13 +47,13 @@ module _ (Q : Content) (above : IsBelow pure_content Q) where
   conclusion-proposition : (A B : Term) → IsProposition Q (imp A B) → IsProposition Q B
   conclusion-proposition A B h = certified_of Q B prop h.certified.parts.1 (conclusion-typed A B h.typed)
 
-  type-certified : (t : Term) (T : Typ) → IsCertifiedOf Q t T → IsCertifiedTyp Q.declarations T
-  type-certified t T h = typ-certified Q above [] t T tt h.certified.parts h.typed
+  typ-of_certified : (t : Term) (T : Typ) → IsCertifiedOf Q t T → IsCertifiedTyp Q.declarations T
+  typ-of_certified t T h = typ-certified Q above [] t T tt h.certified.parts h.typed
 
   eq-proposition : (T : Typ) (t u : Term) → IsCertifiedOf Q t T → IsCertifiedOf Q u T → IsProposition Q (eq T t u)
-  eq-proposition T t u h k = certified_of Q (eq T t u) prop (eq-parts Q above T t u (type-certified t T h) h.certified.parts k.certified.parts) (T, (T, refl, h.typed), k.typed)
+  eq-proposition T t u h k = certified_of Q (eq T t u) prop (eq-parts Q above T t u (typ-of_certified t T h) h.certified.parts k.certified.parts) (T, (T, refl, h.typed), k.typed)
 
-  -- the body of type prop under one binder makes a quantification
+  -- A body of type prop under one binder makes a quantification.
   all-proposition : (T : Typ) (B : Term) → IsCertifiedTyp Q.declarations T → HasCertifiedParts Q.declarations B → HasType (T ∷ []) B prop → IsProposition Q (all T B)
   all-proposition T B c p h = certified_of Q (all T B) prop (all-parts Q above T B c p) (arrow T prop, refl, (prop, h, refl))
 
@@ -95,7 +97,7 @@ module _ (Q : Content) (above : IsBelow pure_content Q) where
 
   extensionality-proposition : (T U : Typ) (f g : Term) → IsCertifiedOf Q f (arrow T U) → IsCertifiedOf Q g (arrow T U) → IsProposition Q (extensionality T U f g)
   extensionality-proposition T U f g h k =
-      let typ = type-certified f (arrow T U) h in
+      let typ = typ-of_certified f (arrow T U) h in
       let left : HasType (T ∷ []) (App f (Bound 0)) U = (T, typing-weaken [] (T ∷ []) f (arrow T U) h.typed, refl) in
       let right : HasType (T ∷ []) (App g (Bound 0)) U = (T, typing-weaken [] (T ∷ []) g (arrow T U) k.typed, refl) in
       let body = eq-parts Q above U (App f (Bound 0)) (App g (Bound 0)) typ.1.1.0 (h.certified.parts, tt) (k.certified.parts, tt) in
@@ -158,3 +160,9 @@ derivable_is_proposition Q q above th h = under_pairs-proposition Q above th.pai
 
 pub derivable_alone_is_proposition : (Q : Content) → IsContent Q → IsBelow pure_content Q → (A : Term) → IsDerivableAlone Q A → IsProposition Q A
 derivable_alone_is_proposition Q q above A h = derivable_is_proposition Q q above (record { hyps = []; pairs = []; prop = A; rests = [] }) h
+
+pub no_proposition_example : NoPropositionExample
+no_proposition_example = (empty, (any_typ, certified_of (content_of []) (Var 0 0 any_typ) any_typ (λ k h. omega arith, tt) refl, refl), λ h. h.certified.parts.0.0.0.0)
+  where
+    empty : IsContent (content_of [])
+    empty = record { named_once = λ d e m. absurd m; labelled_once = λ d e m. absurd m; well_formed = tt; coregular = λ a b m. absurd m }
