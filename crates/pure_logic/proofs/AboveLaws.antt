@@ -14,7 +14,7 @@ pub each-more : {A : Type 0} (P Q : A → Type 0) → ((x : A) → P x → Q x) 
 each-more P Q more [] h = tt
 each-more P Q more (x ∷ xs) h = (more x h.0, each-more P Q more xs h.1)
 
-any-more : {A : Type 0} (P Q : A → Type 0) → ((x : A) → P x → Q x) → (xs : List A) → AnyOf P xs → AnyOf Q xs
+pub any-more : {A : Type 0} (P Q : A → Type 0) → ((x : A) → P x → Q x) → (xs : List A) → AnyOf P xs → AnyOf Q xs
 any-more P Q more [] h = h
 any-more P Q more (x ∷ xs) h = elim h [ inl p ↦ inl (more x p) | inr q ↦ inr (any-more P Q more xs q) ]
 

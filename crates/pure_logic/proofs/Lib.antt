@@ -5,6 +5,9 @@ pub mod ConclusionLaws
 pub mod AboveLaws
 pub mod KnownLaws
 pub mod WeakeningLaws
+pub mod InstanceLaws
+pub mod PartsLaws
+pub mod PropositionLaws
 pub mod MapLaws
 pub mod ExampleLaws
 pub mod NodeExamples

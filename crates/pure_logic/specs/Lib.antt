@@ -7,5 +7,6 @@ pub mod Derivable
 pub mod ExampleContent
 pub mod LawsDerivable
 pub mod LawsTree
+pub mod LawsConclusion
 pub mod LawsContent
 pub mod LawsNodes

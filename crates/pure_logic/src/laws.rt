@@ -1,6 +1,7 @@
 //! What the definitions mean: laws and computed examples, each carried by the contract of a function that does nothing.
 ghost use Rattle.pure_logic.specs.LawsDerivable.{PureIsContent, VariableIsProposition, ChainIsDerivable, VariableChainIsDerivable, PureIsBelowItself, TrivialIsDerivable, WeakenedIsDerivable};
 ghost use Rattle.pure_logic.specs.LawsTree.{OneConclusion, OneUnderPairs, WeakeningOfTrees, WeakeningOfDerivable, IdentityRespects, JoinedMapsRespect, JoinedInstance};
+ghost use Rattle.pure_logic.specs.LawsConclusion.{ConclusionIsProposition, DerivableIsProposition, DerivableAloneIsProposition, NoPropositionExample};
 ghost use Rattle.pure_logic.specs.LawsContent.{MergeHasDeclarations, MergeHasNoRepeats, OneMerge, BeginningIsContent, ParentsAreBelow, BeginningExample, NoMergeExample, NamedTwiceExample, IllFormedExample, SchematicExample, BelowExample, DefinitionExample};
 ghost use Rattle.pure_logic.specs.LawsNodes.{ExampleIsContent, AxiomExample, PromiseExample, RestsExample, NoAxiomExample, NoMapExample, AssumeExample, AllIntroExample, NoAllIntroExample, AllElimExample, NoAllElimExample, ImpliesIntroExample, ImpliesElimExample, BetaExample, ReflExample, SubstExample, SymmetricExample, ExtExample, IffExample, PairsExample, DerivableExample};
 
@@ -27,6 +28,14 @@ pub fn chain_is_derivable()
 pub fn one_conclusion()
     ensures tree { OneConclusion }
     ensures pairs { OneUnderPairs }
+{}
+
+/// What a tree concludes is a proposition of the content, and so are its hypotheses; what is derivable is one too.
+pub fn conclusion_is_proposition()
+    ensures tree { ConclusionIsProposition }
+    ensures derivable { DerivableIsProposition }
+    ensures alone { DerivableAloneIsProposition }
+    ensures without_pure { NoPropositionExample }
 {}
 
 /// What is concluded or derivable over a content is so over each content above it.

@@ -1,0 +1,14 @@
+use Rattle.pure_logic.proofs.PropositionLaws.{conclusion_is_proposition as propositions, derivable_is_proposition, derivable_alone_is_proposition, no_proposition_example}
+use Rattle.pure_logic.proofs.laws.conclusion_is_proposition.Goals as goal
+
+pub returns-clause-tree : goal.returns-clause-tree
+returns-clause-tree c = propositions
+
+pub returns-clause-derivable : goal.returns-clause-derivable
+returns-clause-derivable c = derivable_is_proposition
+
+pub returns-clause-alone : goal.returns-clause-alone
+returns-clause-alone c = derivable_alone_is_proposition
+
+pub returns-clause-without_pure : goal.returns-clause-without_pure
+returns-clause-without_pure c = no_proposition_example
