@@ -8,12 +8,13 @@ use Rattle.pure_term.specs.Bounds.{subst_bound, abstract_over, bind_under}
 use Rattle.pure_term.specs.Subst.{term_instance}
 use Rattle.pure_term.specs.Decl.{AxiomDecl, PromiseDecl}
 use Rattle.pure_term.specs.Certified.{IsCertifiedTyp, HasCertifiedParts}
+use Rattle.pure_term.specs.Conditions.{IsVariable}
 use Rattle.pure_term.proofs.TypingBoundLaws.{typing-subst, typing-weaken, typing-instance}
 use Rattle.pure_logic.specs.Connectives.{all_typ, imp_typ, all_of, all, imp, eq}
 use Rattle.pure_logic.specs.Content.{Content, IsContent, IsBelow, IsWellFormed, IsCertifiedOf, IsProposition}
 use Rattle.pure_logic.specs.PureContent.{pure_content, any_typ}
 use Rattle.pure_logic.specs.Tree.{Tree, Axiom, Promise, Assume, AllIntro, AllElim, ImpliesIntro, ImpliesElim, Beta, Refl, Subst, Ext, Iff, hyps_of}
-use Rattle.pure_logic.specs.Concludes.{AreRespecting, IsVariable, extensionality, Concludes}
+use Rattle.pure_logic.specs.Concludes.{AreRespecting, extensionality, Concludes}
 use Rattle.pure_logic.specs.Derivable.{Pair, Theorem, IsUnderPairs, IsDerivable, IsDerivableAlone}
 use Rattle.pure_logic.specs.LawsContent.{content_of}
 use Rattle.pure_logic.specs.LawsConclusion.{NoPropositionExample}

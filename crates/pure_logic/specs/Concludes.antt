@@ -2,8 +2,9 @@
 use Rattle.std.specs.Prelude.{◌≡◌, ℕ, List}
 use Rattle.pure_term.specs.Lists.{IsIn, Each}
 use Rattle.pure_term.specs.Typ.{Typ, arrow, prop}
-use Rattle.pure_term.specs.Term.{Term, Free, Var, Bound, Abs, App}
+use Rattle.pure_term.specs.Term.{Term, Bound, Abs, App}
 use Rattle.pure_term.specs.Bounds.{subst_bound, abstract_over, Occurs}
+use Rattle.pure_term.specs.Conditions.{IsVariable}
 use Rattle.pure_term.specs.Subst.{term_instance, IsSortRespecting, IsTypeRespecting}
 use Rattle.pure_term.specs.Decl.{AxiomDecl, PromiseDecl, algebra_of}
 use Rattle.pure_term.specs.Certified.{AreImagesCertified}
@@ -16,12 +17,6 @@ pub record AreRespecting (Q : Content) (typs : Typ → Typ) (terms : Term → Te
   pub sorts : IsSortRespecting (algebra_of Q.declarations) typs
   pub types : IsTypeRespecting typs terms
   pub certified : AreImagesCertified Q.declarations typs terms
-
--- The term is a variable, fixed or schematic.
-abbrev pub IsVariable : Term → Type 0
-IsVariable (Free x T) = Unit {0}
-IsVariable (Var x i T) = Unit {0}
-IsVariable _ = ⊥
 
 -- The variable occurs in none of the hypotheses.
 abbrev pub IsFresh : (variable : Term) → (hyps : List Term) → Type 0
