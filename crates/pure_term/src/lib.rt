@@ -14,6 +14,9 @@ mod text;
 mod typ;
 mod typing;
 
+#[cfg(test)]
+mod tests;
+
 pub use bounds::{abstract_over, lift, subst_bound};
 pub use grow::Grow;
 pub use instance::{inst_term, inst_typ};
