@@ -8,14 +8,14 @@ pub mod laws;
 mod maps;
 mod measure;
 mod name;
+mod names;
 mod sort;
 mod term;
+#[cfg(test)]
+mod tests;
 mod text;
 mod typ;
 mod typing;
-
-#[cfg(test)]
-mod tests;
 
 pub use bounds::{abstract_over, lift, subst_bound};
 pub use grow::Grow;
@@ -23,6 +23,7 @@ pub use instance::{inst_term, inst_typ};
 pub use maps::{TermBind, TermMap, TypBind, TypMap};
 pub use measure::{MAX_DEPTH, MAX_SIZE, depth, is_within, occurs, size};
 pub use name::{Label, Name};
+pub use names::Names;
 pub use sort::Sort;
 pub use term::{Term, TermNode};
 pub use text::Text;

@@ -3,8 +3,10 @@
 ghost use Rattle.std.specs.Prelude.{◌≡◌};
 ghost use Rattle.pure_term.specs.Term as tree;
 
-use crate::{Grow, Name, Term, TermNode, Typ, TypNode, TypeFault};
-use crate::{abstract_over, depth, lift, occurs, size, subst_bound, typ_of};
+use crate::{
+    Grow, Name, Term, TermNode, Typ, TypNode, TypeFault, abstract_over, depth, lift, occurs, size,
+    subst_bound, typ_of,
+};
 use std::alloc::{AllocError, Global};
 use std::test::Fail;
 
