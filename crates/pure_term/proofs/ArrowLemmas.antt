@@ -2,7 +2,7 @@
 use Rattle.std.proofs.Common.{◌≡◌, ◌≢◌, ℕ, List, [], ◌∷◌, ◌++◌, length, get_or, refl, sym, ap, ◌∙◌, ◌↔◌, ◌<◌, lit<, arith}
 use Rattle.std.specs.Prelude.{Option, Some, None, MatchOption, IsSome}
 use Rattle.std.specs.Option.{option_to_list}
-use Rattle.pure_term.specs.Typ.{Typ, Con, Typs, none, also, typs_of, typ_list, arrow}
+use Rattle.pure_term.specs.Typ.{Typ, Con, none, also, typs_of, typ_list, arrow}
 use Rattle.pure_term.specs.Typing.{Takes}
 use Rattle.pure_term.specs.Equality.{typ_list-typs_of}
 

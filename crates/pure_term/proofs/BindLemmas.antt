@@ -1,7 +1,7 @@
 -- A term with a variable bound, by its size and its depth.
 use Rattle.std.proofs.Common.{◌≡◌, ◌≢◌, ℕ, ◌+◌, max, Bool, true, false, refl, ap, sym, ◌∙◌}
 use Rattle.std.specs.Prelude.{nat_lt, if◌then◌else◌}
-use Rattle.pure_term.specs.Typ.{Typ, typ_size, typ_depth}
+use Rattle.pure_term.specs.Typ.{typ_size, typ_depth}
 use Rattle.pure_term.specs.Term.{Term, Const, Free, Var, Bound, Abs, App, term_size, term_depth, term_eq}
 use Rattle.pure_term.specs.Bounds.{bind_under, abstract_over}
 use Rattle.pure_term.specs.Conditions.{IsVariable, variable_typ}

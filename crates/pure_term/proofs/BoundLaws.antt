@@ -1,15 +1,13 @@
 -- Lifting, instantiation and abstraction against one another.
-use Rattle.std.proofs.Common.{◌≡◌, ◌≢◌, ℕ, ◌+◌, ◌<◌, ◌≤◌, Bool, true, false, refl, ap, sym, ◌∙◌, arith, inl, inr}
+use Rattle.std.proofs.Common.{◌≡◌, ℕ, ◌+◌, ◌≤◌, Bool, true, false, refl, ap, ◌∙◌, arith, inl, inr}
 use Rattle.std.proofs.lemmas.Bool.Decides.{nat_tests}
 use Rattle.std.specs.Prelude.{◌-◌, nat_eq, nat_lt, if◌then◌else◌}
-use Rattle.pure_term.specs.Typ.{Typ, typ_size, typ_depth}
-use Rattle.pure_term.specs.Term.{Term, Const, Free, Var, Bound, Abs, App, term_eq, term_size, term_depth}
+use Rattle.pure_term.specs.Term.{Term, Const, Free, Var, Bound, Abs, App, term_eq}
 use Rattle.pure_term.specs.Bounds.{lift_term, place_at, subst_under, bind_under, Occurs}
 use Rattle.pure_term.specs.Conditions.{IsVariable}
 use Rattle.pure_term.specs.Equality.{term_eq-same}
 use Rattle.pure_term.proofs.LiftLaws.{lifted, lift_term-bound, place_at-lifted}
 use Rattle.pure_term.proofs.BindLemmas.{term_eq-other, bind_under-same}
-use Rattle.pure_term.proofs.TermLemmas.{term_size-lift, term_depth-lift, term_size-some, term_depth-some}
 
 -- Lifting by 0 changes nothing.
 pub lift-zero : (from : ℕ) (t : Term) → lift_term 0 from t ≡ t

@@ -1,9 +1,9 @@
 -- Instances of types, and what the finite maps leave as it is.
-use Rattle.std.proofs.Common.{◌≡◌, ℕ, ◌+◌, ◌-◌, ◌<◌, ◌≤◌, List, [], ◌∷◌, ◌++◌, map, take, length, get_or, refl, ap, sym, ◌∙◌, arith}
+use Rattle.std.proofs.Common.{◌≡◌, ℕ, ◌+◌, ◌-◌, ◌<◌, ◌≤◌, List, [], ◌∷◌, ◌++◌, map, take, length, get_or, refl, ap, sym, ◌∙◌}
 use Rattle.std.proofs.lemmas.List.{get_or-map, length-map, take_all, map_more}
-use Rattle.std.specs.Prelude.{Option, Some, None}
-use Rattle.pure_term.specs.Typ.{Typ, TFree, TVar, Con, Typs, also, typs_of, typ_size, typ_depth, typs_size, typs_depth}
-use Rattle.pure_term.specs.Term.{Term, Free}
+use Rattle.std.specs.Prelude.{Some, None}
+use Rattle.pure_term.specs.Typ.{Typ, TFree, also, typs_of, typ_size, typ_depth, typs_size, typs_depth}
+use Rattle.pure_term.specs.Term.{Free}
 use Rattle.pure_term.specs.Subst.{TypBind, TermBind, typ_image, term_image, typ_instance, typs_instance}
 use Rattle.pure_term.specs.Limits.{Leaves}
 use Rattle.pure_term.proofs.LeavesLemmas.{HasPut, put-stops, put-goes_on}
@@ -27,7 +27,7 @@ pub instance-stops : (image : Typ → Typ) (ts : List Typ) (left room i rest : �
 instance-stops image ts left room i rest t h k e none =
     rw typs_instance-of
     (put-stops (map (typ_instance image) ts) left room i rest (typ_instance image t) h (rw length-map k)
-      (ap (typ_instance image) e ∙ sym (get_or-map (typ_instance image) ts i t (typ_instance image t) k)) none)
+    (ap (typ_instance image) e ∙ sym (get_or-map (typ_instance image) ts i t (typ_instance image t) k)) none)
 
 pub instance-goes_on : (image : Typ → Typ) (ts : List Typ) (left room i rest less : ℕ) (t : Typ) → HasPut (map (typ_instance image) ts) left room i rest → i < length ts → t ≡ get_or ts i t
     → Leaves rest (room - 1) (typ_size (typ_instance image t)) (typ_depth (typ_instance image t)) (Some less) → HasPut (map (typ_instance image) ts) left room (i + 1) less

@@ -20,3 +20,4 @@ pub mod BindLemmas
 pub mod InstanceLemmas
 pub mod BoundLaws
 pub mod TypingBoundLaws
+pub mod NamesLemmas

@@ -1,14 +1,12 @@
 -- Typing under lifting, instantiation, abstraction and maps.
-use Rattle.std.proofs.Common.{◌≡◌, ◌≢◌, ℕ, zero, suc, ◌+◌, ◌<◌, ◌≤◌, List, [], ◌∷◌, ◌++◌, length, map, Bool, true, false, refl, ap, sym, ◌∙◌, subst, arith}
+use Rattle.std.proofs.Common.{◌≡◌, ℕ, zero, suc, ◌+◌, ◌<◌, List, [], ◌∷◌, ◌++◌, length, map, Bool, true, false, refl, ap, sym, ◌∙◌, arith}
 use Rattle.std.proofs.lemmas.Bool.Decides.{nat_tests}
-use Rattle.std.specs.Prelude.{◌-◌, nat_eq, nat_lt, slice_get, Option, Some, None, option_map, if◌then◌else◌}
+use Rattle.std.specs.Prelude.{◌-◌, nat_eq, nat_lt, slice_get, Some, if◌then◌else◌}
 use Rattle.pure_term.specs.Typ.{Typ, arrow}
-use Rattle.pure_term.specs.Term.{Term, Const, Free, Var, Bound, Abs, App, term_eq}
+use Rattle.pure_term.specs.Term.{Term, Const, Free, Var, Bound, Abs, App}
 use Rattle.pure_term.specs.Typing.{HasType}
-use Rattle.pure_term.specs.Bounds.{lift_term, place_at, subst_under, bind_under}
-use Rattle.pure_term.specs.Conditions.{IsVariable, variable_typ}
+use Rattle.pure_term.specs.Bounds.{lift_term, place_at, subst_under}
 use Rattle.pure_term.specs.Subst.{typ_instance, term_instance, IsTypeRespecting}
-use Rattle.pure_term.specs.Equality.{term_eq-same}
 use Rattle.pure_term.proofs.LiftLaws.{lifted, lift_term-bound}
 
 -- a place in lists, one after another

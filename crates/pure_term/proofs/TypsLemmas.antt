@@ -1,10 +1,8 @@
 -- Lists of types, gone over one type after another.
-use Rattle.std.proofs.Common.{◌≡◌, ℕ, zero, suc, ◌+◌, ◌<◌, ◌≤◌, List, [], ◌∷◌, length, get_or, take, drop, max, refl, arith, ap, ◌∙◌, add-one, drop-cons, sym}
-use Rattle.std.specs.declared.cmp.Ordering.{Ordering}
-use Rattle.std.specs.declared.cmp.Ordering.TheVariants.{Less, Equal, Greater}
-use Rattle.std.specs.Ordering.{ordering_then}
+use Rattle.std.proofs.Common.{◌≡◌, ℕ, zero, suc, ◌+◌, ◌<◌, ◌≤◌, List, [], ◌∷◌, length, get_or, take, drop, max, refl, arith, ap, add-one, drop-cons, sym}
+use Rattle.std.specs.declared.cmp.Ordering.TheVariants.{Less}
 use Rattle.pure_term.specs.Typ.{Typ, TFree, TVar, Con, none, typ_size, typs_size, typ_depth, typs_depth, typs_of}
-use Rattle.pure_term.specs.Comparison.{typ_cmp, typs_cmp}
+use Rattle.pure_term.specs.Comparison.{typs_cmp}
 
 -- no type of a list is deeper than the list
 pub typ_depth-item : (ts : List Typ) (i : ℕ) (t : Typ) → i < length ts → t ≡ get_or ts i t → typ_depth t ≤ typs_depth (typs_of ts)

@@ -1,10 +1,10 @@
 -- The order of types and of terms: by the rank of the constructor, and then by the parts, from the left. It has no meaning beyond keeping lists of them in one order.
-use Rattle.std.specs.Prelude.{◌≡◌, ◌↔◌, ℕ, Bool, true, false, List, [], ◌∷◌, refl}
+use Rattle.std.specs.Prelude.{◌≡◌, ◌↔◌, ℕ, Bool, true, List, [], ◌∷◌, refl}
 use Rattle.std.proofs.Common.{ap, sym, ◌∙◌}
 use Rattle.std.specs.declared.cmp.Ordering.{Ordering}
 use Rattle.std.specs.declared.cmp.Ordering.TheVariants.{Less, Equal, Greater}
 use Rattle.std.specs.Ordering.{nat_cmp, ordering_then, ordering_reverse, is_eq, eq_by_cmp}
-use Rattle.std.specs.Cmp.{IsTotalOrder, IsPartialOrder, nat_cmp_total, tied_itself, ranks, both_ways, Equal-is, po, on_total}
+use Rattle.std.specs.Cmp.{IsTotalOrder, nat_cmp_total, tied_itself, ranks, both_ways, Equal-is}
 use Rattle.std.specs.Cmp.Lexicographic.{slice_cmp}
 use base.Stored.{Gv, gnil, gnum, gcons}
 use Rattle.pure_term.specs.Typ.{Typ, TFree, TVar, Con, Typs, none, also, typ_eq}

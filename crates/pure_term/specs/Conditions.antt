@@ -1,7 +1,7 @@
 -- What a call asks of the terms that it is given.
 use Rattle.std.specs.Prelude.{◌≡◌, ℕ, ◌+◌, ◌<◌, ◌≤◌}
 use Rattle.pure_term.specs.Typ.{Typ, prop}
-use Rattle.pure_term.specs.Term.{Term, Const, Free, Var, Bound, Abs, App}
+use Rattle.pure_term.specs.Term.{Term, Free, Var, Bound, Abs, App}
 
 -- Each loose bound variable at or above `from` can be raised by `by`: the sum is a number of the program.
 abbrev pub IsLiftable : (by from : ℕ) → Term → Type 0

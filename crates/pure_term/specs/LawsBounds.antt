@@ -4,7 +4,7 @@ use Rattle.pure_term.specs.Typ.{Typ}
 use Rattle.pure_term.specs.Term.{Term, term_size, term_depth}
 use Rattle.pure_term.specs.Typing.{HasType}
 use Rattle.pure_term.specs.Bounds.{lift_term, subst_under, bind_under, Occurs}
-use Rattle.pure_term.specs.Conditions.{IsVariable, variable_typ}
+use Rattle.pure_term.specs.Conditions.{IsVariable}
 use Rattle.pure_term.specs.Subst.{typ_instance, term_instance, IsTypeRespecting}
 
 -- Lifting by 0 changes nothing; lifting again from a place among the new binders is lifting by the sum; and two liftings change places.

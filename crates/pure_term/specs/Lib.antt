@@ -1,5 +1,6 @@
 pub mod Lists
 pub mod Names
+pub mod NameTexts
 pub mod Typ
 pub mod Term
 pub mod Equality

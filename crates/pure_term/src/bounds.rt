@@ -5,7 +5,9 @@ ghost use Rattle.pure_term.specs.Conditions.{IsLiftable, IsPuttable, IsVariable,
 ghost use Rattle.pure_term.specs.Limits.{cut_off, Leaves, IsGrown};
 
 use crate::grow::Grow;
-use crate::measure::{MAX_DEPTH, MAX_SIZE, are_same, depth, is_within, node_leaves, size, term_leaves, typ_leaves};
+use crate::measure::{
+    MAX_DEPTH, MAX_SIZE, are_same, depth, is_within, node_leaves, size, term_leaves, typ_leaves,
+};
 use crate::term::{Term, TermNode};
 use crate::typ::Typ;
 use std::alloc::{AllocError, Global};
@@ -97,7 +99,8 @@ fn subst_leaves(
             if left == 0 || room == 0 {
                 return None;
             }
-            let Some(rest) = subst_leaves(fun, place, arg, arg_size, arg_depth, left - 1, room - 1) else {
+            let Some(rest) = subst_leaves(fun, place, arg, arg_size, arg_depth, left - 1, room - 1)
+            else {
                 return None;
             };
             subst_leaves(inner, place, arg, arg_size, arg_depth, rest, room - 1)

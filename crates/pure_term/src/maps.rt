@@ -145,10 +145,9 @@ fn replaces_term(b: &TermBind, name: Name, index: u32, typ: &Typ) -> bool
 
 /// The image of a schematic type variable, where an entry replaces it.
 pub fn find_typ<'a>(binds: &'a [TypBind], name: Name, index: u32, sort: &Sort) -> Option<&'a Typ>
-    ensures
-        { MatchOption result
-            (typ_image binds.now (typ_tree.TVar name index sort.now) ≡ typ_tree.TVar name index sort.now)
-            (λ t. typ_image binds.now (typ_tree.TVar name index sort.now) ≡ t.now) }
+    ensures { MatchOption result
+        (typ_image binds.now (typ_tree.TVar name index sort.now) ≡ typ_tree.TVar name index sort.now)
+        (λ t. typ_image binds.now (typ_tree.TVar name index sort.now) ≡ t.now) }
 {
     for b in binds {
         if replaces_typ(b, name, index, sort) {
@@ -160,10 +159,9 @@ pub fn find_typ<'a>(binds: &'a [TypBind], name: Name, index: u32, sort: &Sort) -
 
 /// The image of a schematic variable, where an entry replaces it.
 pub fn find_term<'a>(binds: &'a [TermBind], name: Name, index: u32, typ: &Typ) -> Option<&'a Term>
-    ensures
-        { MatchOption result
-            (term_image binds.now (term_tree.Var name index typ.now) ≡ term_tree.Var name index typ.now)
-            (λ t. term_image binds.now (term_tree.Var name index typ.now) ≡ t.now) }
+    ensures { MatchOption result
+        (term_image binds.now (term_tree.Var name index typ.now) ≡ term_tree.Var name index typ.now)
+        (λ t. term_image binds.now (term_tree.Var name index typ.now) ≡ t.now) }
 {
     for b in binds {
         if replaces_term(b, name, index, typ) {

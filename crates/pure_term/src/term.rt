@@ -100,8 +100,12 @@ fn compare_terms(t: &Term, u: &Term) -> Ordering
     ensures { result ≡ term_cmp t.now u.now }
 {
     match (&t.node, &u.node) {
-        (TermNode::Const { name: c, typ: t }, TermNode::Const { name: d, typ: u }) => c.cmp(d).then(t.cmp(u)),
-        (TermNode::Free { name: x, typ: t }, TermNode::Free { name: y, typ: u }) => x.cmp(y).then(t.cmp(u)),
+        (TermNode::Const { name: c, typ: t }, TermNode::Const { name: d, typ: u }) => c
+            .cmp(d)
+            .then(t.cmp(u)),
+        (TermNode::Free { name: x, typ: t }, TermNode::Free { name: y, typ: u }) => x
+            .cmp(y)
+            .then(t.cmp(u)),
         (
             TermNode::Var {
                 name: x,
@@ -120,7 +124,9 @@ fn compare_terms(t: &Term, u: &Term) -> Ordering
             Ordering::Greater => Ordering::Greater,
             Ordering::Equal => compare_terms(b, c),
         },
-        (TermNode::App { fun: f, arg: a }, TermNode::App { fun: g, arg: b }) => match compare_terms(f, g) {
+        (TermNode::App { fun: f, arg: a }, TermNode::App { fun: g, arg: b }) => match compare_terms(
+            f, g,
+        ) {
             Ordering::Less => Ordering::Less,
             Ordering::Greater => Ordering::Greater,
             Ordering::Equal => compare_terms(a, b),

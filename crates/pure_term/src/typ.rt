@@ -105,7 +105,9 @@ fn compare_typs(t: &Typ, u: &Typ) -> Ordering
     ensures { result ≡ typ_cmp t.now u.now }
 {
     match (&t.node, &u.node) {
-        (TypNode::TFree { name: x, sort: s }, TypNode::TFree { name: y, sort: r }) => x.cmp(y).then(s.cmp(r)),
+        (TypNode::TFree { name: x, sort: s }, TypNode::TFree { name: y, sort: r }) => x
+            .cmp(y)
+            .then(s.cmp(r)),
         (
             TypNode::TVar {
                 name: x,
@@ -141,7 +143,11 @@ fn compare_args(ts: &[Typ], us: &[Typ]) -> Ordering
             Ordering::Equal => {}
         }
     }
-    if ts.len() < us.len() { Ordering::Less } else { Ordering::Equal }
+    if ts.len() < us.len() {
+        Ordering::Less
+    } else {
+        Ordering::Equal
+    }
 }
 
 impl Ord for Typ {

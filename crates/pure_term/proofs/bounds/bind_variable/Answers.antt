@@ -1,4 +1,4 @@
-use Rattle.std.proofs.Common.{◌≢◌, sym, ◌∙◌}
+use Rattle.std.proofs.Common.{◌≢◌, sym}
 use Rattle.pure_term.proofs.BindLemmas.{bind_under-same, bind_under-other}
 use Rattle.pure_term.proofs.bounds.bind_variable.Goals as goal
 

@@ -1,4 +1,4 @@
-use Rattle.std.proofs.Common.{◌≡◌, ◌<◌, length, sym, ◌∙◌, arith}
+use Rattle.std.proofs.Common.{◌<◌, length, sym, ◌∙◌, arith}
 use Rattle.pure_term.proofs.TypsLemmas.{typ_depth-item, typs_cmp-shorter}
 use Rattle.pure_term.proofs.typ.+compare_typ.Goals as goal
 

@@ -1,5 +1,4 @@
-use Rattle.std.proofs.Common.{◌≡◌, ◌≢◌, length, arith, sym, ◌∙◌, ap}
-use Rattle.pure_term.specs.Typ.{Con, typs_of}
+use Rattle.std.proofs.Common.{◌≡◌, ◌≢◌, length, sym, ◌∙◌}
 use Rattle.pure_term.specs.Equality.{typ_eq-is_equality}
 use Rattle.pure_term.proofs.ArrowLemmas.{takes-count, takes-domain}
 use Rattle.pure_term.proofs.typing.takes.Goals as goal
