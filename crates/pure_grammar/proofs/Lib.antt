@@ -3,3 +3,5 @@ pub mod Gaps
 pub mod Classes
 pub mod Readings
 pub mod Slices
+pub mod ReaderLemmas
+pub mod OuterLemmas

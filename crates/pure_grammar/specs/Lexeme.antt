@@ -1,5 +1,5 @@
 -- What a token is to the grammar of theories.
-use Rattle.std.specs.Prelude.{ℕ, ◌+◌, ◌-◌, ◌*◌, Bool, List, [], ◌∷◌, nat_eq, slice_range, if◌then◌else◌, codes}
+use Rattle.std.specs.Prelude.{ℕ, ◌+◌, ◌-◌, ◌*◌, ◌==◌, Bool, true, false, Option, Some, None, List, [], ◌∷◌, nat_eq, slice_range, if◌then◌else◌, codes}
 use Rattle.std.specs.Cmp.Lexicographic.{pointwise}
 use Rattle.pure_grammar.specs.declared.token.Token.{Token}
 use Rattle.pure_grammar.specs.declared.token.TokenKind.{TokenKind}
@@ -104,3 +104,85 @@ lexeme source token = lexeme_of token.kind (slice_range source token.from token.
 abbrev pub lexemes : List ℕ → List Token → List Lexeme
 lexemes source [] = Ends ∷ []
 lexemes source (t ∷ ts) = lexeme source t ∷ lexemes source ts
+
+-- a number for each keyword, and for each sign
+abbrev pub keyword_number : Keyword → ℕ
+keyword_number keyword.Theory = 0
+keyword_number keyword.Imports = 1
+keyword_number keyword.Begin = 2
+keyword_number keyword.End = 3
+keyword_number keyword.Class = 4
+keyword_number keyword.Typedecl = 5
+keyword_number keyword.Arities = 6
+keyword_number keyword.Consts = 7
+keyword_number keyword.Axiomatization = 8
+keyword_number keyword.Where = 9
+keyword_number keyword.And = 10
+keyword_number keyword.Definition = 11
+keyword_number keyword.Lemma = 12
+keyword_number keyword.Theorem = 13
+keyword_number keyword.Apply = 14
+keyword_number keyword.Done = 15
+keyword_number keyword.By = 16
+keyword_number keyword.Prefer = 17
+keyword_number keyword.Defer = 18
+keyword_number keyword.Have = 19
+keyword_number keyword.Version = 20
+
+abbrev pub sign_number : Sign → ℕ
+sign_number sign.Less = 0
+sign_number sign.Comma = 1
+sign_number sign.Colon = 2
+sign_number sign.DoubleColon = 3
+sign_number sign.OpenParenthesis = 4
+sign_number sign.CloseParenthesis = 5
+sign_number sign.OpenBrace = 6
+sign_number sign.CloseBrace = 7
+
+-- the lexeme is this keyword
+abbrev pub is_word : Keyword → Lexeme → Bool
+is_word word (Reserved found) = keyword_number found == keyword_number word
+is_word word _ = false
+
+-- the lexeme is this sign
+abbrev pub is_sign : Sign → Lexeme → Bool
+is_sign s (Signed found) = sign_number found == sign_number s
+is_sign s _ = false
+
+-- the lexeme is the identifier with this text
+abbrev pub is_ident : List ℕ → Lexeme → Bool
+is_ident text (Plain found at) = same found text
+is_ident text _ = false
+
+-- the lexeme is the end of the source
+abbrev pub is_end : Lexeme → Bool
+is_end Ends = true
+is_end _ = false
+
+abbrev pub ident_in : Lexeme → Option (List ℕ)
+ident_in (Plain text at) = Some text
+ident_in _ = None
+
+abbrev pub name_in : Lexeme → Option (List ℕ)
+name_in (Plain text at) = Some text
+name_in (Dotted text at) = Some text
+name_in _ = None
+
+abbrev pub variable_in : Lexeme → Option (List ℕ)
+variable_in (Variable text at) = Some text
+variable_in _ = None
+
+abbrev pub number_in : Lexeme → Option ℕ
+number_in (Numeral value) = Some value
+number_in _ = None
+
+abbrev pub quote_in : Lexeme → Option Span
+quote_in (Quoted at) = Some at
+quote_in _ = None
+
+abbrev pub type_in : Lexeme → Option Span
+type_in (Quoted at) = Some at
+type_in (Plain text at) = Some at
+type_in (Dotted text at) = Some at
+type_in (Variable text at) = Some at
+type_in _ = None

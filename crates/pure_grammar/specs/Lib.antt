@@ -8,3 +8,4 @@ pub mod Phrase
 pub mod PhraseText
 pub mod PhraseTree
 pub mod Outer
+pub mod Reader

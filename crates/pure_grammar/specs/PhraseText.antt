@@ -12,8 +12,7 @@ each text (x ∷ xs) r = text x (each text xs r)
 
 -- {"," X}
 abbrev pub each_comma : {A : Type 0} → (A → List Lexeme → List Lexeme) → List A → List Lexeme → List Lexeme
-each_comma text [] r = r
-each_comma text (x ∷ xs) r = Signed sign.Comma ∷ text x (each_comma text xs r)
+each_comma text = each (λ x r. Signed sign.Comma ∷ text x r)
 
 abbrev pub ident_text : Ident → List Lexeme → List Lexeme
 ident_text x r = Plain x.text x.at ∷ r

@@ -1,10 +1,15 @@
 -- What each phrase of the grammar means, as a part of the theory's tree.
-use Rattle.std.specs.Prelude.{ℕ, List, [], ◌∷◌, ◌++◌, map, length, if◌then◌else◌, codes}
-use Rattle.std.specs.List.{list_any, IsDistinct}
+use Rattle.std.specs.Prelude.{◌≡◌, false, ℕ, List, [], ◌∷◌, ◌++◌, map, length, if◌then◌else◌, codes}
+use Rattle.std.specs.List.{list_any}
 use Rattle.pure_grammar.specs.TheoryText.{Span, Step, Command, TheoryText}
 use Rattle.pure_grammar.specs.TheoryText as tree
 use Rattle.pure_grammar.specs.Lexeme.{same}
 use Rattle.pure_grammar.specs.Phrase.{Ident, Name, Simple, Full, TypeVariable, TypePhrase, QuotedType, NamedType, VariableType, SortPhrase, OneClass, NoClass, Classes, BasicPhrase, ByAssumption, ByRule, ByErule, ByDrule, ByUnfold, MethodPhrase, Alone, Together, StepPhrase, ApplyStep, PreferStep, DeferStep, EndPhrase, DoneEnd, ByEnd, ProofPhrase, AbovePhrase, NoneAbove, Above, ParamsPhrase, NoParam, OneParam, Params, DomainsPhrase, NoDomain, Domains, ItemPhrase, AxiomPhrase, CommandPhrase, ClassCommand, TypedeclCommand, AritiesCommand, ConstsCommand, AxiomsCommand, DefinitionCommand, LemmaCommand, ImportsPhrase, NoImport, Imports, FilePhrase}
+
+-- what each item of a list gives, one after another
+abbrev pub all_of : {A B : Type 0} → (A → List B) → List A → List B
+all_of given [] = []
+all_of given (x ∷ xs) = given x ++ all_of given xs
 
 abbrev pub name_of : Name → List ℕ
 name_of (Simple text at) = text
@@ -50,8 +55,7 @@ end_steps DoneEnd = tree.Done ∷ []
 end_steps (ByEnd m) = method_steps m ++ (tree.Close ∷ tree.Done ∷ [])
 
 abbrev pub steps_of : List StepPhrase → List Step
-steps_of [] = []
-steps_of (s ∷ ss) = step_steps s ++ steps_of ss
+steps_of = all_of step_steps
 
 abbrev pub proof_steps : ProofPhrase → List Step
 proof_steps p = steps_of p.steps ++ end_steps p.ending
@@ -86,23 +90,31 @@ phrase_commands (DefinitionCommand i prop) = tree.Definition i.name.text (type_s
 phrase_commands (LemmaCommand word a p) = tree.Lemma a.name.text a.prop (proof_steps p) ∷ []
 
 abbrev pub commands_of : List CommandPhrase → List Command
-commands_of [] = []
-commands_of (c ∷ cs) = phrase_commands c ++ commands_of cs
+commands_of = all_of phrase_commands
 
--- the texts, each once, in the order of their first mention, without those of `known`
-abbrev pub first_mentions : List (List ℕ) → List (List ℕ) → List (List ℕ)
-first_mentions known [] = []
-first_mentions known (x ∷ xs) = if list_any (same x) known then first_mentions known xs else (x ∷ first_mentions (x ∷ known) xs)
+-- the list with one more text, unless it is there
+abbrev pub with_text : List (List ℕ) → List ℕ → List (List ℕ)
+with_text known x = if list_any (same x) known then known else (known ++ x ∷ [])
+
+-- the texts of the list, and then the others, each where it is first mentioned
+abbrev pub mentions : List (List ℕ) → List Ident → List (List ℕ)
+mentions known [] = known
+mentions known (x ∷ xs) = mentions (with_text known x.text) xs
 
 -- a theory without imports imports Pure
 abbrev pub imports_of : ImportsPhrase → List (List ℕ)
 imports_of NoImport = codes "Pure" ∷ []
-imports_of (Imports x xs) = first_mentions [] (x.text ∷ map (λ (y : Ident). y.text) xs)
+imports_of (Imports x xs) = mentions (x.text ∷ []) xs
 
 abbrev pub file_tree : FilePhrase → TheoryText
 file_tree f = record { name = f.name.text; imports = imports_of f.imports; commands = commands_of f.commands }
 
+-- each text is other than those before it, and those of `known`
+abbrev pub AreNew : List (List ℕ) → List (List ℕ) → Type 0
+AreNew known [] = Unit {0}
+AreNew known (x ∷ xs) = (list_any (same x) known ≡ false) × AreNew (known ++ x ∷ []) xs
+
 -- the type variables of a typedecl are distinct
 abbrev pub IsCommandPhrase : CommandPhrase → Type 0
-IsCommandPhrase (TypedeclCommand params x) = IsDistinct same (params_of params)
+IsCommandPhrase (TypedeclCommand params x) = AreNew [] (params_of params)
 IsCommandPhrase _ = Unit {0}
