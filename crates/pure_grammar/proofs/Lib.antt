@@ -5,3 +5,4 @@ pub mod Readings
 pub mod Slices
 pub mod ReaderLemmas
 pub mod OuterLemmas
+pub mod ReadLemmas

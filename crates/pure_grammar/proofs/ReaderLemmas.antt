@@ -166,13 +166,12 @@ run-basic h cs x p script last (ByDrule at n) r e = run-fact h cs x p script las
 run-basic h cs x p script last (ByUnfold at n more) r e = run-unfold h cs x p script last n more r ∙ run-unfold_end h cs x p script last (name_of n ∷ names_of more) r e
 
 -- behind the method
-after : Header → List Command → List ℕ → Span → Bool → List Step → State
+abbrev pub after : Header → List Command → List ℕ → Span → Bool → List Step → State
 after h cs x p true script = InBody h (cs ++ tree.Lemma x p (script ++ (tree.Close ∷ tree.Done ∷ [])) ∷ []) AtCommand
 after h cs x p false script = InBody h cs (InProof x p script AtStep)
 
 run-basics : (h : Header) (cs : List Command) (x : List ℕ) (p : Span) (script : List Step) (last : Bool) (b : BasicPhrase) (bs : List BasicPhrase) (r : List Lexeme)
     → run (InBody h cs (InProof x p script (AtBasic last))) (basic_text b (each_comma basic_text bs (Signed sign.CloseParenthesis ∷ r))) ≡ run (after h cs x p last (script ++ basic_step b ∷ map basic_step bs)) r
-unfolding after
 run-basics h cs x p script true b [] r = run-basic h cs x p script true b (Signed sign.CloseParenthesis ∷ r) (close r)
 run-basics h cs x p script false b [] r = run-basic h cs x p script false b (Signed sign.CloseParenthesis ∷ r) (close r)
 run-basics h cs x p script last b (c ∷ bs) r =
@@ -182,21 +181,18 @@ run-basics h cs x p script last b (c ∷ bs) r =
 
 run-method : (h : Header) (cs : List Command) (x : List ℕ) (p : Span) (script : List Step) (last : Bool) (m : MethodPhrase) (r : List Lexeme)
     → run (InBody h cs (InProof x p script (AtMethod last))) (method_text m r) ≡ run (after h cs x p last (script ++ method_steps m)) r
-unfolding after
 run-method h cs x p script true (Alone at) r = refl
 run-method h cs x p script false (Alone at) r = refl
 run-method h cs x p script last (Together b bs) r = run-basics h cs x p script last b bs r
 
 run-step : (h : Header) (cs : List Command) (x : List ℕ) (p : Span) (script : List Step) (s : StepPhrase) (r : List Lexeme)
     → run (InBody h cs (InProof x p script AtStep)) (step_text s r) ≡ run (InBody h cs (InProof x p (script ++ step_steps s) AtStep)) r
-unfolding after
 run-step h cs x p script (ApplyStep m) r = run-method h cs x p script false m r
 run-step h cs x p script (PreferStep n) r = refl
 run-step h cs x p script DeferStep r = refl
 
 run-ending : (h : Header) (cs : List Command) (x : List ℕ) (p : Span) (script : List Step) (e : EndPhrase) (r : List Lexeme)
     → run (InBody h cs (InProof x p script AtStep)) (end_text e r) ≡ run (InBody h (cs ++ tree.Lemma x p (script ++ end_steps e) ∷ []) AtCommand) r
-unfolding after
 run-ending h cs x p script DoneEnd r = refl
 run-ending h cs x p script (ByEnd m) r =
     run-method h cs x p script true m r

@@ -94,7 +94,7 @@ lexeme_of kind.BoundName bs at = Other kind.BoundName
 lexeme_of kind.Number bs at = Numeral (value_behind 0 bs)
 lexeme_of kind.Quote bs at = Quoted (record { from = at.from + 1; to = at.to - 1 })
 lexeme_of kind.Symbol bs at = symbol_lexeme bs
-lexeme_of kind.End bs at = Ends
+lexeme_of kind.End bs at = Other kind.End
 
 -- what a token of the source is to the grammar
 abbrev pub lexeme : List ℕ → Token → Lexeme
