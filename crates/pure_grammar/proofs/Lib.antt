@@ -6,3 +6,4 @@ pub mod Slices
 pub mod ReaderLemmas
 pub mod OuterLemmas
 pub mod ReadLemmas
+pub mod FaultLemmas

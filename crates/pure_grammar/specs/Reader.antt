@@ -3,6 +3,8 @@ use Rattle.std.specs.Prelude.{ℕ, Bool, true, false, Option, Some, None, List, 
 use Rattle.std.specs.List.{list_any}
 use Rattle.pure_grammar.specs.declared.lexeme.Keyword.TheVariants as keyword
 use Rattle.pure_grammar.specs.declared.lexeme.Sign.TheVariants as sign
+use Rattle.pure_grammar.specs.declared.token.TokenKind.{TokenKind}
+use Rattle.pure_grammar.specs.declared.token.TokenKind.TheVariants as kind
 use Rattle.pure_grammar.specs.TheoryText.{Span, Step, Command, TheoryText}
 use Rattle.pure_grammar.specs.TheoryText as tree
 use Rattle.pure_grammar.specs.Lexeme.{Lexeme, same, is_word, is_sign, is_ident, is_end, ident_in, name_in, variable_in, number_in, quote_in, type_in}
@@ -307,3 +309,69 @@ goes_on (Some state) stuck on = on state
 abbrev pub run : State → List Lexeme → Outcome
 run s [] = Through s
 run s (l ∷ ls) = goes_on (next s l) (Stuck s l ls) (λ t. run t ls)
+
+-- a kind that may stand in a place of a proof
+abbrev pub kind_in_proof : ProofPlace → TokenKind
+kind_in_proof AtStep = kind.Word
+kind_in_proof AtNumber = kind.Number
+kind_in_proof (AtMethod last) = kind.Ident
+kind_in_proof (AtBasic last) = kind.Ident
+kind_in_proof (AfterBasic last) = kind.Symbol
+kind_in_proof (AtFact last method) = kind.Ident
+kind_in_proof (AtUnfolded last) = kind.Ident
+kind_in_proof (AfterUnfolded last facts) = kind.Symbol
+
+-- a kind that may stand in a place
+abbrev pub kind_at : Place → TokenKind
+kind_at AtCommand = kind.Word
+kind_at AfterEnd = kind.End
+kind_at AtClassName = kind.Ident
+kind_at (AfterClassName x) = kind.Word
+kind_at (AtAbove x) = kind.Ident
+kind_at (AfterAbove x cs) = kind.Word
+kind_at AtParams = kind.Ident
+kind_at (AtParam xs) = kind.TypeVar
+kind_at (AfterParam xs) = kind.Symbol
+kind_at (AtTypeName n) = kind.Ident
+kind_at AtConstructor = kind.Ident
+kind_at (AfterConstructor k) = kind.Symbol
+kind_at (AtDomains k) = kind.Ident
+kind_at (AtSort k doms) = kind.Ident
+kind_at (AfterSort k doms) = kind.Symbol
+kind_at (AtFirstClass k doms) = kind.Ident
+kind_at (AtNextClass k doms cs) = kind.Ident
+kind_at (AfterClass k doms cs) = kind.Symbol
+kind_at (AtArityClass k doms) = kind.Ident
+kind_at AtItem = kind.Ident
+kind_at (AfterItem x) = kind.Symbol
+kind_at (AtItemType x) = kind.Quote
+kind_at AfterItemType = kind.Word
+kind_at AtWhere = kind.Word
+kind_at AtAxiom = kind.Ident
+kind_at (AfterAxiom x) = kind.Symbol
+kind_at (AtAxiomText x) = kind.Quote
+kind_at AfterAxiomText = kind.Word
+kind_at AtDefinition = kind.Ident
+kind_at (AfterDefinition x) = kind.Symbol
+kind_at (AtDefinitionType x) = kind.Quote
+kind_at (AfterDefinitionType x t) = kind.Word
+kind_at (AtDefinitionText x t) = kind.Quote
+kind_at AtLemma = kind.Ident
+kind_at (AfterLemma x) = kind.Symbol
+kind_at (AtLemmaText x) = kind.Quote
+kind_at (InProof x p script place) = kind_in_proof place
+
+-- a kind that may stand next; behind the end of the source nothing may
+abbrev pub expected : State → TokenKind
+expected AtStart = kind.Word
+expected AtTheoryName = kind.Ident
+expected (AfterTheoryName x) = kind.Word
+expected (AtImport x) = kind.Ident
+expected (AfterImport h) = kind.Word
+expected (InBody h cs place) = kind_at place
+expected (AtLast t) = kind.End
+
+-- the source has ended
+abbrev pub is_last : State → Bool
+is_last (AtLast t) = true
+is_last _ = false
