@@ -1,11 +1,12 @@
 //! What a token is to the grammar.
-ghost use Rattle.std.specs.Prelude.{◌≡◌, ℕ, ◌<◌, ◌≤◌, length, slice_range};
+ghost use Rattle.std.specs.Prelude.{◌≡◌, IfOk, ℕ, ◌<◌, ◌≤◌, length, slice_range};
 ghost use Rattle.pure_grammar.specs.Lexeme as spec;
 ghost use Rattle.pure_grammar.specs.Spelling.{IsSlice};
 ghost use Rattle.pure_script.specs.Seen.{seen_lexeme, seen_text, seen_span};
 
 use crate::theory::Span;
 use pure_grammar::{Keyword, Sign, Token, TokenKind};
+use std::alloc::AllocError;
 
 /// A token by what the grammar tells apart.
 #[derive(Clone, Copy)]
@@ -149,4 +150,154 @@ pub(crate) fn type_in(lexeme: Lexeme<'_>) -> Option<Span>
         Lexeme::Variable { at, .. } => Some(at),
         _ => None,
     }
+}
+
+/// What a token of the source is to the grammar.
+pub(crate) fn lexeme_of<'s>(source: &'s [u8], token: Token) -> Result<Lexeme<'s>, AllocError>
+    requires slice { IsSlice source.now token }
+    ensures { IfOk result (λ found. seen_lexeme found ≡ spec.lexeme source.now token) }
+{
+    let text = &source[token.from as usize..token.to as usize];
+    let at = Span {
+        from: token.from,
+        to: token.to,
+    };
+    match token.kind {
+        TokenKind::Word => Ok(word_lexeme(text)),
+        TokenKind::Ident => Ok(Lexeme::Plain { text, at }),
+        TokenKind::Qualified => Ok(Lexeme::Dotted { text, at }),
+        TokenKind::TypeVar => Ok(Lexeme::Variable { text, at }),
+        TokenKind::Schem => Ok(Lexeme::Other { kind: TokenKind::Schem }),
+        TokenKind::BoundName => Ok(Lexeme::Other { kind: TokenKind::BoundName }),
+        TokenKind::Number => Ok(Lexeme::Numeral { value: value_of(text)? }),
+        TokenKind::Quote => Ok(Lexeme::Quoted { at: Span { from: token.from + 1, to: token.to - 1 } }),
+        TokenKind::Symbol => Ok(symbol_lexeme(text)),
+        TokenKind::End => Ok(Lexeme::Other { kind: TokenKind::End }),
+    }
+}
+
+/// The value of digits. More than nine of them never come.
+fn value_of(digits: &[u8]) -> Result<u32, AllocError>
+    ensures { IfOk result (λ value. value ≡ spec.value_behind 0 digits.now) }
+{
+    let mut value: u32 = 0;
+    for digit in digits {
+        let Some(tens) = value.checked_mul(10) else {
+            return Err(AllocError);
+        };
+        let Some(next) = tens.checked_add(u32::from(digit.saturating_sub(b'0'))) else {
+            return Err(AllocError);
+        };
+        value = next;
+    }
+    Ok(value)
+}
+
+fn equals(bytes: &[u8], text: &[u8]) -> bool
+    ensures { result ≡ spec.same bytes.now text.now }
+{
+    bytes == text
+}
+
+/// The sign of these bytes.
+#[tactic(auto, unfolding(pure_grammar::specs::Lexeme::symbol_lexeme))]
+fn symbol_lexeme<'s>(text: &'s [u8]) -> Lexeme<'s>
+    ensures { seen_lexeme result ≡ spec.symbol_lexeme text.now }
+{
+    if equals(text, b"<") {
+        return Lexeme::Signed { sign: Sign::Less };
+    }
+    if equals(text, b",") {
+        return Lexeme::Signed { sign: Sign::Comma };
+    }
+    if equals(text, b":") {
+        return Lexeme::Signed { sign: Sign::Colon };
+    }
+    if equals(text, b"::") {
+        return Lexeme::Signed { sign: Sign::DoubleColon };
+    }
+    if equals(text, b"(") {
+        return Lexeme::Signed { sign: Sign::OpenParenthesis };
+    }
+    if equals(text, b")") {
+        return Lexeme::Signed { sign: Sign::CloseParenthesis };
+    }
+    if equals(text, b"{") {
+        return Lexeme::Signed { sign: Sign::OpenBrace };
+    }
+    if equals(text, b"}") {
+        return Lexeme::Signed { sign: Sign::CloseBrace };
+    }
+    Lexeme::Other { kind: TokenKind::Symbol }
+}
+
+/// The keyword of these bytes.
+#[tactic(auto, unfolding(pure_grammar::specs::Lexeme::word_lexeme))]
+fn word_lexeme<'s>(text: &'s [u8]) -> Lexeme<'s>
+    ensures { seen_lexeme result ≡ spec.word_lexeme text.now }
+{
+    if equals(text, b"theory") {
+        return Lexeme::Reserved { word: Keyword::Theory };
+    }
+    if equals(text, b"imports") {
+        return Lexeme::Reserved { word: Keyword::Imports };
+    }
+    if equals(text, b"begin") {
+        return Lexeme::Reserved { word: Keyword::Begin };
+    }
+    if equals(text, b"end") {
+        return Lexeme::Reserved { word: Keyword::End };
+    }
+    if equals(text, b"class") {
+        return Lexeme::Reserved { word: Keyword::Class };
+    }
+    if equals(text, b"typedecl") {
+        return Lexeme::Reserved { word: Keyword::Typedecl };
+    }
+    if equals(text, b"arities") {
+        return Lexeme::Reserved { word: Keyword::Arities };
+    }
+    if equals(text, b"consts") {
+        return Lexeme::Reserved { word: Keyword::Consts };
+    }
+    if equals(text, b"axiomatization") {
+        return Lexeme::Reserved { word: Keyword::Axiomatization };
+    }
+    if equals(text, b"where") {
+        return Lexeme::Reserved { word: Keyword::Where };
+    }
+    if equals(text, b"and") {
+        return Lexeme::Reserved { word: Keyword::And };
+    }
+    if equals(text, b"definition") {
+        return Lexeme::Reserved { word: Keyword::Definition };
+    }
+    if equals(text, b"lemma") {
+        return Lexeme::Reserved { word: Keyword::Lemma };
+    }
+    if equals(text, b"theorem") {
+        return Lexeme::Reserved { word: Keyword::Theorem };
+    }
+    if equals(text, b"apply") {
+        return Lexeme::Reserved { word: Keyword::Apply };
+    }
+    if equals(text, b"done") {
+        return Lexeme::Reserved { word: Keyword::Done };
+    }
+    if equals(text, b"by") {
+        return Lexeme::Reserved { word: Keyword::By };
+    }
+    if equals(text, b"prefer") {
+        return Lexeme::Reserved { word: Keyword::Prefer };
+    }
+    if equals(text, b"defer") {
+        return Lexeme::Reserved { word: Keyword::Defer };
+    }
+    if equals(text, b"have") {
+        return Lexeme::Reserved { word: Keyword::Have };
+    }
+    if equals(text, b"version") {
+        return Lexeme::Reserved { word: Keyword::Version };
+    }
+    Lexeme::Other { kind: TokenKind::Word }
 }
