@@ -1,17 +1,15 @@
 -- Where the reader stops no text goes on, and something may stand in each place.
-use Rattle.std.proofs.Common.{◌≡◌, ℕ, zero, suc, ◌+◌, ◌<◌, List, [], ◌∷◌, ◌++◌, length, refl, sym, ◌∙◌, ap, subst, append_assoc, ◌⊎◌, inl, inr, arith, true≢false}
+use Rattle.std.proofs.Common.{◌≡◌, ℕ, zero, suc, ◌+◌, ◌<◌, List, [], ◌∷◌, ◌++◌, length, refl, sym, ◌∙◌, ap, subst, append_assoc, arith, true≢false}
 use Rattle.std.specs.Prelude.{Bool, true, false, Option, Some, None, codes}
 use Rattle.std.specs.List.{list_any}
 use Rattle.std.specs.Cmp.Lexicographic.{same_text}
 use Rattle.pure_grammar.specs.declared.lexeme.Keyword.TheVariants as keyword
 use Rattle.pure_grammar.specs.declared.lexeme.Sign.TheVariants as sign
-use Rattle.pure_grammar.specs.declared.token.Token.{Token}
-use Rattle.pure_grammar.specs.declared.token.TokenKind.{TokenKind}
 use Rattle.pure_grammar.specs.TheoryText.{Span, Command, TypeDecl, TheoryText}
-use Rattle.pure_grammar.specs.Lexeme.{Lexeme, Reserved, Signed, Plain, Variable, Numeral, Quoted, Ends, same, kind_of, lexemes}
+use Rattle.pure_grammar.specs.Lexeme.{Lexeme, Reserved, Signed, Plain, Variable, Numeral, Quoted, Ends, same, kind_of}
 use Rattle.pure_grammar.specs.PhraseText.{assumption_word}
 use Rattle.pure_grammar.specs.Outer.{IsTheory, BeginsTheory, MayFollow, GoesWrong}
-use Rattle.pure_grammar.specs.Reader.{Header, State, AtStart, AtTheoryName, AfterTheoryName, AtImport, AfterImport, InBody, AtLast, Outcome, Through, Stuck, ProofPlace, AtStep, AtNumber, AtMethod, AtBasic, AfterBasic, AtFact, AtUnfolded, AfterUnfolded, Place, AtCommand, AfterEnd, AtClassName, AfterClassName, AtAbove, AfterAbove, AtParams, AtParam, AfterParam, AtTypeName, AtConstructor, AfterConstructor, AtDomains, AtSort, AfterSort, AtFirstClass, AtNextClass, AfterClass, AtArityClass, AtItem, AfterItem, AtItemType, AfterItemType, AtWhere, AtAxiom, AfterAxiom, AtAxiomText, AfterAxiomText, AtDefinition, AfterDefinition, AtDefinitionType, AfterDefinitionType, AtDefinitionText, AtLemma, AfterLemma, AtLemmaText, InProof, goes_on, next, run, expected, is_last}
+use Rattle.pure_grammar.specs.Reader.{Header, State, AtStart, AtTheoryName, AfterTheoryName, AtImport, AfterImport, InBody, AtLast, Outcome, Through, Stuck, AtStep, AtNumber, AtMethod, AtBasic, AfterBasic, AtFact, AtUnfolded, AfterUnfolded, Place, AtCommand, AfterEnd, AtClassName, AfterClassName, AtAbove, AfterAbove, AtParams, AtParam, AfterParam, AtTypeName, AtConstructor, AfterConstructor, AtDomains, AtSort, AfterSort, AtFirstClass, AtNextClass, AfterClass, AtArityClass, AtItem, AfterItem, AtItemType, AfterItemType, AtWhere, AtAxiom, AfterAxiom, AtAxiomText, AfterAxiomText, AtDefinition, AfterDefinition, AtDefinitionType, AfterDefinitionType, AtDefinitionText, AtLemma, AfterLemma, AtLemmaText, InProof, goes_on, next, run, expected, is_last}
 use Rattle.pure_grammar.proofs.OuterLemmas.{run-IsTheory}
 use Rattle.pure_grammar.proofs.ReadLemmas.{Gets, none, got-file}
 

@@ -1,5 +1,5 @@
 -- What a token is to the grammar of theories.
-use Rattle.std.specs.Prelude.{ℕ, ◌+◌, ◌-◌, ◌*◌, ◌==◌, Bool, true, false, Option, Some, None, List, [], ◌∷◌, nat_eq, slice_range, if◌then◌else◌, codes}
+use Rattle.std.specs.Prelude.{ℕ, ◌+◌, ◌-◌, ◌*◌, ◌==◌, Bool, false, Option, Some, None, List, [], ◌∷◌, nat_eq, slice_range, if◌then◌else◌, codes}
 use Rattle.std.specs.Cmp.Lexicographic.{pointwise}
 use Rattle.pure_grammar.specs.declared.token.Token.{Token}
 use Rattle.pure_grammar.specs.declared.token.TokenKind.{TokenKind}
@@ -153,11 +153,6 @@ is_sign s _ = false
 abbrev pub is_ident : List ℕ → Lexeme → Bool
 is_ident text (Plain found at) = same found text
 is_ident text _ = false
-
--- the lexeme is the end of the source
-abbrev pub is_end : Lexeme → Bool
-is_end Ends = true
-is_end _ = false
 
 abbrev pub ident_in : Lexeme → Option (List ℕ)
 ident_in (Plain text at) = Some text

@@ -7,7 +7,7 @@ use Rattle.pure_grammar.specs.declared.token.TokenKind.{TokenKind}
 use Rattle.pure_grammar.specs.declared.token.TokenKind.TheVariants as kind
 use Rattle.pure_grammar.specs.TheoryText.{Span, Step, Command, TheoryText}
 use Rattle.pure_grammar.specs.TheoryText as tree
-use Rattle.pure_grammar.specs.Lexeme.{Lexeme, same, is_word, is_sign, is_ident, is_end, ident_in, name_in, variable_in, number_in, quote_in, type_in}
+use Rattle.pure_grammar.specs.Lexeme.{Lexeme, Ends, same, is_word, is_sign, is_ident, ident_in, name_in, variable_in, number_in, quote_in, type_in}
 use Rattle.pure_grammar.specs.PhraseTree.{with_text}
 use Rattle.pure_grammar.specs.PhraseText.{assumption_word, rule_word, erule_word, drule_word, unfold_word}
 
@@ -281,8 +281,12 @@ body_state h cs (Adds c place) = Some (InBody h (cs ++ c ∷ []) place)
 body_state h cs Refuses = None
 
 -- behind `end` the source ends
+abbrev pub is_after_end : Place → Bool
+is_after_end AfterEnd = true
+is_after_end _ = false
+
 abbrev pub body_next : Header → List Command → Place → Lexeme → Option State
-body_next h cs AfterEnd l = goes_if (is_end l) (AtLast (record { name = h.name; imports = h.imports; commands = cs }))
+body_next h cs place Ends = goes_if (is_after_end place) (AtLast (record { name = h.name; imports = h.imports; commands = cs }))
 body_next h cs place l = body_state h cs (turn place l)
 
 -- where the text is, behind one more token

@@ -45,8 +45,11 @@ seen_command (Axiom x0 x1) = tree.Axiom x0 (span x1)
 seen_command (Definition x0 x1 x2) = tree.Definition x0 (span x1) (span x2)
 seen_command (Lemma x0 x1 x2) = tree.Lemma x0 (span x1) (seen_steps x2.items)
 
+abbrev pub seen_commands : List Command → List tree.Command
+seen_commands = map seen_command
+
 abbrev pub seen_theory : TheoryText → tree.TheoryText
-seen_theory t = record { name = t.name; imports = t.imports.items; commands = map seen_command t.commands.items }
+seen_theory t = record { name = t.name; imports = t.imports.items; commands = seen_commands t.commands.items }
 
 abbrev pub seen_method : FactMethod → spec.FactMethod
 seen_method method.Rule = spec.OfRule

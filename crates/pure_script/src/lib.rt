@@ -7,7 +7,9 @@ mod item;
 mod lexeme;
 mod place;
 mod proof;
+mod state;
 mod theory;
+mod turn;
 mod typedecl;
 
 pub use theory::{Command, ScriptFault, Span, Step, TheoryText};

@@ -75,7 +75,7 @@ fn in_proof(goal: Goal, place: ProofPlace) -> Turn
 /// The goal with one more step.
 fn step(goal: Goal, step: Step) -> Result<Goal, AllocError>
     ensures name { IfOk result (λ next. next.name ≡ goal.name) }
-    ensures prop { IfOk result (λ next. next.prop ≡ goal.prop) }
+    ensures prop { IfOk result (λ next. span next.prop ≡ span goal.prop) }
     ensures script { IfOk result (λ next. seen_steps next.script.items ≡ seen_steps goal.script.items ++ seen_step step ∷ []) }
 {
     Ok(Goal {
