@@ -1,3 +1,4 @@
 pub mod Seen
 pub mod Places
 pub mod States
+pub mod Faults

@@ -7,9 +7,11 @@ mod item;
 mod lexeme;
 mod place;
 mod proof;
+mod read;
 mod state;
 mod theory;
 mod turn;
 mod typedecl;
 
+pub use read::read_theory;
 pub use theory::{Command, ScriptFault, Span, Step, TheoryText};

@@ -1,7 +1,9 @@
 //! The tree of a theory's text.
+ghost use Rattle.std.specs.Prelude.{◌≡◌};
+
 use pure_grammar::TokenKind;
 use pure_term::Text;
-use std::alloc::{AllocError, AllocFailed};
+use std::alloc::AllocError;
 
 /// A range of the source.
 #[derive(Clone, Copy, Debug, PartialEq, Eq)]
@@ -49,4 +51,14 @@ pub struct TheoryText {
 pub enum ScriptFault {
     Syntax { at: u32, expected: TokenKind },
     Memory,
+}
+
+impl From<AllocError> for ScriptFault {
+    ghost use Rattle.pure_script.specs.declared.theory.ScriptFault.TheVariants.{Memory};
+
+    ghost from_gives = { λ _ fault. fault ≡ Memory };
+
+    fn from(_error: AllocError) -> ScriptFault {
+        ScriptFault::Memory
+    }
 }
