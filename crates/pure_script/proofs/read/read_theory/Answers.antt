@@ -1,7 +1,6 @@
 use Rattle.std.proofs.Common.{◌≡◌, length, refl, sym, ◌∙◌, ap, slice_index_or, None}
-use Rattle.pure_grammar.specs.declared.token.Token.{Token}
 use Rattle.pure_grammar.specs.declared.token.TokenKind.TheVariants.{Word}
-use Rattle.pure_grammar.specs.Lexeme.{Ends, lexeme}
+use Rattle.pure_grammar.specs.Lexeme.{lexeme}
 use Rattle.pure_grammar.specs.Reader.{next}
 use Rattle.pure_script.specs.Places.{seen_theory}
 use Rattle.pure_script.specs.States.{seen_state, seen_next}
