@@ -56,7 +56,7 @@ pub fault-token : (source : List ℕ) (ts : List Token) (i : ℕ) (s : spec.Stat
     → next s (lexeme source t) ≡ None → is_last s ≡ false → HasSyntaxFault source ts t.from (expected s)
 fault-token source ts i s d t below at reads stuck last =
     let g : run AtStart (lexemes source ts) ≡ Stuck s (lexeme source t) (lexemes source (drop (suc i) ts)) =
-      run-drop source ts i s d t below at reads ∙ ap (λ z. goes_on z (Stuck s (lexeme source t) (lexemes source (drop (suc i) ts))) (λ u. run u (lexemes source (drop (suc i) ts)))) stuck in
+    run-drop source ts i s d t below at reads ∙ ap (λ z. goes_on z (Stuck s (lexeme source t) (lexemes source (drop (suc i) ts))) (λ u. run u (lexemes source (drop (suc i) ts)))) stuck in
     let w : Wrong (lexemes source ts) s (lexeme source t) (lexemes source (drop (suc i) ts)) = goes-wrong (lexemes source ts) s (lexeme source t) (lexemes source (drop (suc i) ts)) g last in
     let l = before-length source ts s (lexeme source t) (lexemes source (drop (suc i) ts)) w in
     let m : length (lexemes source (drop (suc i) ts)) ≡ suc (length (drop (suc i) ts)) = length-lexemes source (drop (suc i) ts) in

@@ -2,3 +2,4 @@ pub mod Seen
 pub mod Places
 pub mod States
 pub mod Faults
+pub mod Laws

@@ -39,11 +39,7 @@ pub(crate) fn at_arity_class(
     }
 }
 
-pub(crate) fn at_domains(
-    alloc: Global,
-    con: Text,
-    lexeme: Lexeme<'_>,
-) -> Result<Turn, AllocError>
+pub(crate) fn at_domains(alloc: Global, con: Text, lexeme: Lexeme<'_>) -> Result<Turn, AllocError>
     ensures { IfOk result (λ turn. seen_turn turn ≡ spec.turn (spec.AtDomains con) (seen_lexeme lexeme.entry)) }
 {
     let doms = Vec::new(alloc);

@@ -16,7 +16,9 @@ pub(crate) fn at_class_name(alloc: Global, lexeme: Lexeme<'_>) -> Result<Turn, A
 {
     match ident(alloc, lexeme)? {
         None => Ok(Turn::Refuses),
-        Some(name) => Ok(Turn::Moves { place: Place::AfterClassName { name } }),
+        Some(name) => Ok(Turn::Moves {
+            place: Place::AfterClassName { name },
+        }),
     }
 }
 
@@ -24,7 +26,9 @@ pub(crate) fn after_class_name(alloc: Global, name: Text, lexeme: Lexeme<'_>) ->
     ensures { seen_turn result ≡ spec.turn (spec.AfterClassName name) (seen_lexeme lexeme.entry) }
 {
     if is_sign(Sign::Less, lexeme) {
-        return Turn::Moves { place: Place::AtAbove { name } };
+        return Turn::Moves {
+            place: Place::AtAbove { name },
+        };
     }
     let above = Vec::new(alloc);
     leave_with(Command::Class { name, above }, command_begun(lexeme))
@@ -38,7 +42,9 @@ pub(crate) fn at_above(alloc: Global, class: Text, lexeme: Lexeme<'_>) -> Result
         Some(first) => {
             let mut above = Vec::new(alloc);
             above.push(first)?;
-            Ok(Turn::Moves { place: Place::AfterAbove { name: class, above } })
+            Ok(Turn::Moves {
+                place: Place::AfterAbove { name: class, above },
+            })
         }
     }
 }
@@ -55,7 +61,9 @@ pub(crate) fn after_above(
     match name(alloc, lexeme)? {
         Some(next) => {
             above.push(next)?;
-            Ok(Turn::Moves { place: Place::AfterAbove { name: class, above } })
+            Ok(Turn::Moves {
+                place: Place::AfterAbove { name: class, above },
+            })
         }
         None => Ok(leave_with(Command::Class { name: class, above }, command_begun(lexeme))),
     }

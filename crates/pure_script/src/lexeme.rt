@@ -167,12 +167,25 @@ pub(crate) fn lexeme_of<'s>(source: &'s [u8], token: Token) -> Result<Lexeme<'s>
         TokenKind::Ident => Ok(Lexeme::Plain { text, at }),
         TokenKind::Qualified => Ok(Lexeme::Dotted { text, at }),
         TokenKind::TypeVar => Ok(Lexeme::Variable { text, at }),
-        TokenKind::Schem => Ok(Lexeme::Other { kind: TokenKind::Schem }),
-        TokenKind::BoundName => Ok(Lexeme::Other { kind: TokenKind::BoundName }),
-        TokenKind::Number => Ok(Lexeme::Numeral { value: value_of(text)? }),
-        TokenKind::Quote => Ok(Lexeme::Quoted { at: Span { from: token.from + 1, to: token.to - 1 } }),
+        TokenKind::Schem => Ok(Lexeme::Other {
+            kind: TokenKind::Schem,
+        }),
+        TokenKind::BoundName => Ok(Lexeme::Other {
+            kind: TokenKind::BoundName,
+        }),
+        TokenKind::Number => Ok(Lexeme::Numeral {
+            value: value_of(text)?,
+        }),
+        TokenKind::Quote => Ok(Lexeme::Quoted {
+            at: Span {
+                from: token.from + 1,
+                to: token.to - 1,
+            },
+        }),
         TokenKind::Symbol => Ok(symbol_lexeme(text)),
-        TokenKind::End => Ok(Lexeme::Other { kind: TokenKind::End }),
+        TokenKind::End => Ok(Lexeme::Other {
+            kind: TokenKind::End,
+        }),
     }
 }
 
@@ -214,21 +227,33 @@ fn symbol_lexeme<'s>(text: &'s [u8]) -> Lexeme<'s>
         return Lexeme::Signed { sign: Sign::Colon };
     }
     if equals(text, b"::") {
-        return Lexeme::Signed { sign: Sign::DoubleColon };
+        return Lexeme::Signed {
+            sign: Sign::DoubleColon,
+        };
     }
     if equals(text, b"(") {
-        return Lexeme::Signed { sign: Sign::OpenParenthesis };
+        return Lexeme::Signed {
+            sign: Sign::OpenParenthesis,
+        };
     }
     if equals(text, b")") {
-        return Lexeme::Signed { sign: Sign::CloseParenthesis };
+        return Lexeme::Signed {
+            sign: Sign::CloseParenthesis,
+        };
     }
     if equals(text, b"{") {
-        return Lexeme::Signed { sign: Sign::OpenBrace };
+        return Lexeme::Signed {
+            sign: Sign::OpenBrace,
+        };
     }
     if equals(text, b"}") {
-        return Lexeme::Signed { sign: Sign::CloseBrace };
+        return Lexeme::Signed {
+            sign: Sign::CloseBrace,
+        };
     }
-    Lexeme::Other { kind: TokenKind::Symbol }
+    Lexeme::Other {
+        kind: TokenKind::Symbol,
+    }
 }
 
 /// The keyword of these bytes.
@@ -237,67 +262,105 @@ fn word_lexeme<'s>(text: &'s [u8]) -> Lexeme<'s>
     ensures { seen_lexeme result ≡ spec.word_lexeme text.now }
 {
     if equals(text, b"theory") {
-        return Lexeme::Reserved { word: Keyword::Theory };
+        return Lexeme::Reserved {
+            word: Keyword::Theory,
+        };
     }
     if equals(text, b"imports") {
-        return Lexeme::Reserved { word: Keyword::Imports };
+        return Lexeme::Reserved {
+            word: Keyword::Imports,
+        };
     }
     if equals(text, b"begin") {
-        return Lexeme::Reserved { word: Keyword::Begin };
+        return Lexeme::Reserved {
+            word: Keyword::Begin,
+        };
     }
     if equals(text, b"end") {
         return Lexeme::Reserved { word: Keyword::End };
     }
     if equals(text, b"class") {
-        return Lexeme::Reserved { word: Keyword::Class };
+        return Lexeme::Reserved {
+            word: Keyword::Class,
+        };
     }
     if equals(text, b"typedecl") {
-        return Lexeme::Reserved { word: Keyword::Typedecl };
+        return Lexeme::Reserved {
+            word: Keyword::Typedecl,
+        };
     }
     if equals(text, b"arities") {
-        return Lexeme::Reserved { word: Keyword::Arities };
+        return Lexeme::Reserved {
+            word: Keyword::Arities,
+        };
     }
     if equals(text, b"consts") {
-        return Lexeme::Reserved { word: Keyword::Consts };
+        return Lexeme::Reserved {
+            word: Keyword::Consts,
+        };
     }
     if equals(text, b"axiomatization") {
-        return Lexeme::Reserved { word: Keyword::Axiomatization };
+        return Lexeme::Reserved {
+            word: Keyword::Axiomatization,
+        };
     }
     if equals(text, b"where") {
-        return Lexeme::Reserved { word: Keyword::Where };
+        return Lexeme::Reserved {
+            word: Keyword::Where,
+        };
     }
     if equals(text, b"and") {
         return Lexeme::Reserved { word: Keyword::And };
     }
     if equals(text, b"definition") {
-        return Lexeme::Reserved { word: Keyword::Definition };
+        return Lexeme::Reserved {
+            word: Keyword::Definition,
+        };
     }
     if equals(text, b"lemma") {
-        return Lexeme::Reserved { word: Keyword::Lemma };
+        return Lexeme::Reserved {
+            word: Keyword::Lemma,
+        };
     }
     if equals(text, b"theorem") {
-        return Lexeme::Reserved { word: Keyword::Theorem };
+        return Lexeme::Reserved {
+            word: Keyword::Theorem,
+        };
     }
     if equals(text, b"apply") {
-        return Lexeme::Reserved { word: Keyword::Apply };
+        return Lexeme::Reserved {
+            word: Keyword::Apply,
+        };
     }
     if equals(text, b"done") {
-        return Lexeme::Reserved { word: Keyword::Done };
+        return Lexeme::Reserved {
+            word: Keyword::Done,
+        };
     }
     if equals(text, b"by") {
         return Lexeme::Reserved { word: Keyword::By };
     }
     if equals(text, b"prefer") {
-        return Lexeme::Reserved { word: Keyword::Prefer };
+        return Lexeme::Reserved {
+            word: Keyword::Prefer,
+        };
     }
     if equals(text, b"defer") {
-        return Lexeme::Reserved { word: Keyword::Defer };
+        return Lexeme::Reserved {
+            word: Keyword::Defer,
+        };
     }
     if equals(text, b"have") {
-        return Lexeme::Reserved { word: Keyword::Have };
+        return Lexeme::Reserved {
+            word: Keyword::Have,
+        };
     }
     if equals(text, b"version") {
-        return Lexeme::Reserved { word: Keyword::Version };
+        return Lexeme::Reserved {
+            word: Keyword::Version,
+        };
     }
-    Lexeme::Other { kind: TokenKind::Word }
+    Lexeme::Other {
+        kind: TokenKind::Word,
+    }
 }

@@ -4,6 +4,7 @@
 mod arity;
 mod class;
 mod item;
+pub mod laws;
 mod lexeme;
 mod place;
 mod proof;

@@ -38,40 +38,104 @@ pub(crate) enum Place {
     AtCommand,
     AfterEnd,
     AtClassName,
-    AfterClassName { name: Text },
-    AtAbove { name: Text },
-    AfterAbove { name: Text, above: Vec<Text> },
+    AfterClassName {
+        name: Text,
+    },
+    AtAbove {
+        name: Text,
+    },
+    AfterAbove {
+        name: Text,
+        above: Vec<Text>,
+    },
     AtParams,
-    AtParam { params: Vec<Text> },
-    AfterParam { params: Vec<Text> },
-    AtTypeName { params: u32 },
+    AtParam {
+        params: Vec<Text>,
+    },
+    AfterParam {
+        params: Vec<Text>,
+    },
+    AtTypeName {
+        params: u32,
+    },
     AtConstructor,
-    AfterConstructor { con: Text },
-    AtDomains { con: Text },
-    AtSort { con: Text, doms: Vec<Vec<Text>> },
-    AfterSort { con: Text, doms: Vec<Vec<Text>> },
-    AtFirstClass { con: Text, doms: Vec<Vec<Text>> },
-    AtNextClass { con: Text, doms: Vec<Vec<Text>>, sort: Vec<Text> },
-    AfterClass { con: Text, doms: Vec<Vec<Text>>, sort: Vec<Text> },
-    AtArityClass { con: Text, doms: Vec<Vec<Text>> },
+    AfterConstructor {
+        con: Text,
+    },
+    AtDomains {
+        con: Text,
+    },
+    AtSort {
+        con: Text,
+        doms: Vec<Vec<Text>>,
+    },
+    AfterSort {
+        con: Text,
+        doms: Vec<Vec<Text>>,
+    },
+    AtFirstClass {
+        con: Text,
+        doms: Vec<Vec<Text>>,
+    },
+    AtNextClass {
+        con: Text,
+        doms: Vec<Vec<Text>>,
+        sort: Vec<Text>,
+    },
+    AfterClass {
+        con: Text,
+        doms: Vec<Vec<Text>>,
+        sort: Vec<Text>,
+    },
+    AtArityClass {
+        con: Text,
+        doms: Vec<Vec<Text>>,
+    },
     AtItem,
-    AfterItem { name: Text },
-    AtItemType { name: Text },
+    AfterItem {
+        name: Text,
+    },
+    AtItemType {
+        name: Text,
+    },
     AfterItemType,
     AtWhere,
     AtAxiom,
-    AfterAxiom { name: Text },
-    AtAxiomText { name: Text },
+    AfterAxiom {
+        name: Text,
+    },
+    AtAxiomText {
+        name: Text,
+    },
     AfterAxiomText,
     AtDefinition,
-    AfterDefinition { name: Text },
-    AtDefinitionType { name: Text },
-    AfterDefinitionType { name: Text, typ: Span },
-    AtDefinitionText { name: Text, typ: Span },
+    AfterDefinition {
+        name: Text,
+    },
+    AtDefinitionType {
+        name: Text,
+    },
+    AfterDefinitionType {
+        name: Text,
+        typ: Span,
+    },
+    AtDefinitionText {
+        name: Text,
+        typ: Span,
+    },
     AtLemma,
-    AfterLemma { name: Text },
-    AtLemmaText { name: Text },
-    InProof { name: Text, prop: Span, script: Vec<Step>, place: ProofPlace },
+    AfterLemma {
+        name: Text,
+    },
+    AtLemmaText {
+        name: Text,
+    },
+    InProof {
+        name: Text,
+        prop: Span,
+        script: Vec<Step>,
+        place: ProofPlace,
+    },
 }
 
 /// What a token leads to: another place, or a command that it ends and another place, or nothing.
@@ -86,7 +150,11 @@ pub(crate) enum Turn {
 pub(crate) fn moves_if(so: bool, place: Place) -> Turn
     ensures { seen_turn result ≡ spec.moves_if so (seen_place place) }
 {
-    if so { Turn::Moves { place } } else { Turn::Refuses }
+    if so {
+        Turn::Moves { place }
+    } else {
+        Turn::Refuses
+    }
 }
 
 /// The place that a token begins: a command, or the end.

@@ -137,7 +137,10 @@ fn at_basic(goal: Goal, last: bool, lexeme: Lexeme<'_>) -> Result<Turn, AllocErr
     ensures { IfOk result (λ turn. seen_turn turn ≡ spec.proof_turn goal.name (span goal.prop) (seen_steps goal.script.items) (spec.AtBasic last) (seen_lexeme lexeme.entry)) }
 {
     if is_ident(b"assumption", lexeme) {
-        return Ok(in_proof(step(goal, Step::Assumption)?, ProofPlace::AfterBasic { last }));
+        return Ok(in_proof(
+            step(goal, Step::Assumption)?,
+            ProofPlace::AfterBasic { last },
+        ));
     }
     if is_ident(b"rule", lexeme) {
         let method = FactMethod::Rule;
@@ -271,6 +274,8 @@ pub(crate) fn proof_turn(
         ProofPlace::AfterBasic { last } => after_basic(goal, last, lexeme),
         ProofPlace::AtFact { last, method } => at_fact(alloc, goal, last, method, lexeme),
         ProofPlace::AtUnfolded { last } => at_unfolded(alloc, goal, last, lexeme),
-        ProofPlace::AfterUnfolded { last, facts } => after_unfolded(alloc, goal, last, facts, lexeme),
+        ProofPlace::AfterUnfolded { last, facts } => after_unfolded(
+            alloc, goal, last, facts, lexeme,
+        ),
     }
 }

@@ -28,10 +28,20 @@ pub(crate) struct Header {
 pub(crate) enum State {
     AtStart,
     AtTheoryName,
-    AfterTheoryName { name: Text },
-    AtImport { name: Text },
-    AfterImport { header: Header },
-    InBody { header: Header, commands: Vec<Command>, place: Place },
+    AfterTheoryName {
+        name: Text,
+    },
+    AtImport {
+        name: Text,
+    },
+    AfterImport {
+        header: Header,
+    },
+    InBody {
+        header: Header,
+        commands: Vec<Command>,
+        place: Place,
+    },
 }
 
 fn body_begun(alloc: Global, header: Header) -> State
@@ -196,9 +206,11 @@ pub(crate) fn next(
         State::AfterTheoryName { name } => after_theory_name(alloc, name, lexeme),
         State::AtImport { name } => at_import(alloc, name, lexeme),
         State::AfterImport { header } => after_import(alloc, header, lexeme),
-        State::InBody { header, commands, place } => {
-            in_body(alloc, header, commands, place, lexeme)
-        }
+        State::InBody {
+            header,
+            commands,
+            place,
+        } => { in_body(alloc, header, commands, place, lexeme) }
     }
 }
 
@@ -216,7 +228,11 @@ pub(crate) fn ended(state: State) -> Option<TheoryText>
     ensures { seen_end result ≡ spec.next (seen_state state) Ends }
 {
     match state {
-        State::InBody { header, commands, place } => {
+        State::InBody {
+            header,
+            commands,
+            place,
+        } => {
             if is_after_end(&place) {
                 return Some(TheoryText {
                     name: header.name,

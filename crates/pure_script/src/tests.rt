@@ -16,26 +16,74 @@ static TREES: [(&[u8], &[u8]); 24] = [
     (b"theory A imports B begin end", b"A: B;"),
     (b"theory A imports B C B A B begin end", b"A: B C A;"),
     (b"theory A begin class c end", b"A: Pure; class c <;"),
-    (b"theory A begin class c < d B.e f end", b"A: Pure; class c < d B.e f;"),
+    (
+        b"theory A begin class c < d B.e f end",
+        b"A: Pure; class c < d B.e f;",
+    ),
     (b"theory A begin typedecl t end", b"A: Pure; typedecl t 0;"),
-    (b"theory A begin typedecl 'a t end", b"A: Pure; typedecl t 1;"),
-    (b"theory A begin typedecl ('a) t typedecl ('a, 'b, 'c) u end", b"A: Pure; typedecl t 1; typedecl u 3;"),
+    (
+        b"theory A begin typedecl 'a t end",
+        b"A: Pure; typedecl t 1;",
+    ),
+    (
+        b"theory A begin typedecl ('a) t typedecl ('a, 'b, 'c) u end",
+        b"A: Pure; typedecl t 1; typedecl u 3;",
+    ),
     (b"theory A begin arities t :: c end", b"A: Pure; arity t c;"),
-    (b"theory A begin arities A.t :: (c, {}, {A.d}, {c, d, e}) A.c end", b"A: Pure; arity A.t [c] [] [A.d] [c d e] A.c;"),
+    (
+        b"theory A begin arities A.t :: (c, {}, {A.d}, {c, d, e}) A.c end",
+        b"A: Pure; arity A.t [c] [] [A.d] [c d e] A.c;",
+    ),
     (b"theory A begin consts a :: i end", b"A: Pure; const a i;"),
-    (b"theory A begin consts a :: \"i => j\" b :: 'a c :: A.i consts d :: i end", b"A: Pure; const a i => j; const b 'a; const c A.i; const d i;"),
-    (b"theory A begin axiomatization where x: \"P\" end", b"A: Pure; axiom x P;"),
-    (b"theory A begin axiomatization where x: \"P\" and y: \"\" and z: \"Q\" end", b"A: Pure; axiom x P; axiom y ; axiom z Q;"),
-    (b"theory A begin definition a :: i where \"a == b\" definition b :: \"i\" where \"c\" end", b"A: Pure; definition a i a == b; definition b i c;"),
-    (b"theory A begin lemma x: \"P\" done end", b"A: Pure; lemma x P done;"),
-    (b"theory A begin theorem x: \"P\" by assumption end", b"A: Pure; lemma x P assumption close done;"),
-    (b"theory A begin lemma x: \"P\" apply assumption apply (rule r) apply (erule A.e, drule d) done end", b"A: Pure; lemma x P assumption rule r erule A.e drule d done;"),
-    (b"theory A begin lemma x: \"P\" apply (unfold a) apply (unfold a A.b c, assumption) by (rule rule, unfold unfold) end", b"A: Pure; lemma x P unfold a unfold a A.b c assumption rule rule unfold unfold close done;"),
-    (b"theory A begin lemma x: \"P\" prefer 2 defer prefer 007 defer apply (assumption) done end", b"A: Pure; lemma x P prefer 2 defer prefer 7 defer assumption done;"),
-    (b"theory A begin class assumption lemma rule: \"P\" by (rule assumption) end", b"A: Pure; class assumption <; lemma rule P rule assumption close done;"),
-    (b"theory A begin lemma x: \"P\" done lemma y: \"Q\" done end", b"A: Pure; lemma x P done; lemma y Q done;"),
+    (
+        b"theory A begin consts a :: \"i => j\" b :: 'a c :: A.i consts d :: i end",
+        b"A: Pure; const a i => j; const b 'a; const c A.i; const d i;",
+    ),
+    (
+        b"theory A begin axiomatization where x: \"P\" end",
+        b"A: Pure; axiom x P;",
+    ),
+    (
+        b"theory A begin axiomatization where x: \"P\" and y: \"\" and z: \"Q\" end",
+        b"A: Pure; axiom x P; axiom y ; axiom z Q;",
+    ),
+    (
+        b"theory A begin definition a :: i where \"a == b\" definition b :: \"i\" where \"c\" end",
+        b"A: Pure; definition a i a == b; definition b i c;",
+    ),
+    (
+        b"theory A begin lemma x: \"P\" done end",
+        b"A: Pure; lemma x P done;",
+    ),
+    (
+        b"theory A begin theorem x: \"P\" by assumption end",
+        b"A: Pure; lemma x P assumption close done;",
+    ),
+    (
+        b"theory A begin lemma x: \"P\" apply assumption apply (rule r) apply (erule A.e, drule d) done end",
+        b"A: Pure; lemma x P assumption rule r erule A.e drule d done;",
+    ),
+    (
+        b"theory A begin lemma x: \"P\" apply (unfold a) apply (unfold a A.b c, assumption) by (rule rule, unfold unfold) end",
+        b"A: Pure; lemma x P unfold a unfold a A.b c assumption rule rule unfold unfold close done;",
+    ),
+    (
+        b"theory A begin lemma x: \"P\" prefer 2 defer prefer 007 defer apply (assumption) done end",
+        b"A: Pure; lemma x P prefer 2 defer prefer 7 defer assumption done;",
+    ),
+    (
+        b"theory A begin class assumption lemma rule: \"P\" by (rule assumption) end",
+        b"A: Pure; class assumption <; lemma rule P rule assumption close done;",
+    ),
+    (
+        b"theory A begin lemma x: \"P\" done lemma y: \"Q\" done end",
+        b"A: Pure; lemma x P done; lemma y Q done;",
+    ),
     (b"(* c *) theory (* c *) A begin end (* c *)", b"A: Pure;"),
-    (b"theory A begin lemma x: \"P\" prefer 999999999 done end", b"A: Pure; lemma x P prefer 999999999 done;"),
+    (
+        b"theory A begin lemma x: \"P\" prefer 999999999 done end",
+        b"A: Pure; lemma x P prefer 999999999 done;",
+    ),
 ];
 
 /// Faults of the header, of classes, types and arities.
@@ -64,13 +112,19 @@ static FIRST_FAULTS: [(&[u8], &[u8]); 33] = [
     (b"theory A begin typedecl 'a end", b"at 27 Ident"),
     (b"theory A begin typedecl 'a 'b t end", b"at 27 Ident"),
     (b"theory A begin typedecl () t end", b"at 25 TypeVar"),
-    (b"theory A begin typedecl ('a, 'b, 'a) t end", b"at 33 TypeVar"),
+    (
+        b"theory A begin typedecl ('a, 'b, 'a) t end",
+        b"at 33 TypeVar",
+    ),
     (b"theory A begin typedecl ('a 'b) t end", b"at 28 Symbol"),
     (b"theory A begin typedecl A.t end", b"at 24 Ident"),
     (b"theory A begin arities t : c end", b"at 25 Symbol"),
     (b"theory A begin arities t :: () c end", b"at 29 Ident"),
     (b"theory A begin arities t :: ({c,}) c end", b"at 32 Ident"),
-    (b"theory A begin arities t :: ({c d}) c end", b"at 32 Symbol"),
+    (
+        b"theory A begin arities t :: ({c d}) c end",
+        b"at 32 Symbol",
+    ),
     (b"theory A begin arities t :: (c d) c end", b"at 31 Symbol"),
     (b"theory A begin arities t :: {c} end", b"at 28 Ident"),
 ];
@@ -84,31 +138,77 @@ static LATER_FAULTS: [(&[u8], &[u8]); 28] = [
     (b"theory A begin consts a :: i A.b :: i end", b"at 29 Word"),
     (b"theory A begin axiomatization x: \"P\" end", b"at 30 Word"),
     (b"theory A begin axiomatization where end", b"at 36 Ident"),
-    (b"theory A begin axiomatization where x :: \"P\" end", b"at 38 Symbol"),
-    (b"theory A begin axiomatization where x: P end", b"at 39 Quote"),
-    (b"theory A begin axiomatization where x: \"P\" y: \"Q\" end", b"at 43 Word"),
-    (b"theory A begin axiomatization where x: \"P\" and and y: \"Q\" end", b"at 47 Ident"),
-    (b"theory A begin definition A.a :: i where \"P\" end", b"at 26 Ident"),
-    (b"theory A begin definition a where \"P\" end", b"at 28 Symbol"),
-    (b"theory A begin definition a :: where \"P\" end", b"at 31 Quote"),
+    (
+        b"theory A begin axiomatization where x :: \"P\" end",
+        b"at 38 Symbol",
+    ),
+    (
+        b"theory A begin axiomatization where x: P end",
+        b"at 39 Quote",
+    ),
+    (
+        b"theory A begin axiomatization where x: \"P\" y: \"Q\" end",
+        b"at 43 Word",
+    ),
+    (
+        b"theory A begin axiomatization where x: \"P\" and and y: \"Q\" end",
+        b"at 47 Ident",
+    ),
+    (
+        b"theory A begin definition A.a :: i where \"P\" end",
+        b"at 26 Ident",
+    ),
+    (
+        b"theory A begin definition a where \"P\" end",
+        b"at 28 Symbol",
+    ),
+    (
+        b"theory A begin definition a :: where \"P\" end",
+        b"at 31 Quote",
+    ),
     (b"theory A begin definition a :: i \"P\" end", b"at 33 Word"),
-    (b"theory A begin definition a :: i where P end", b"at 39 Quote"),
+    (
+        b"theory A begin definition a :: i where P end",
+        b"at 39 Quote",
+    ),
     (b"theory A begin lemma \"P\" done end", b"at 21 Ident"),
     (b"theory A begin lemma x \"P\" done end", b"at 23 Symbol"),
     (b"theory A begin lemma x: P done end", b"at 24 Quote"),
     (b"theory A begin lemma x: \"P\" end", b"at 28 Word"),
     (b"theory A begin lemma x: \"P\" have end", b"at 28 Word"),
-    (b"theory A begin lemma x: \"P\" prefer x done end", b"at 35 Number"),
-    (b"theory A begin lemma x: \"P\" apply rule r done end", b"at 34 Ident"),
-    (b"theory A begin lemma x: \"P\" apply () done end", b"at 35 Ident"),
-    (b"theory A begin lemma x: \"P\" apply (rule) done end", b"at 39 Ident"),
-    (b"theory A begin lemma x: \"P\" apply (rule r s) done end", b"at 42 Symbol"),
-    (b"theory A begin lemma x: \"P\" by assumption done end", b"at 42 Word"),
-    (b"theory A begin lemma x: \"P\" done defer end", b"at 33 Word"),
+    (
+        b"theory A begin lemma x: \"P\" prefer x done end",
+        b"at 35 Number",
+    ),
+    (
+        b"theory A begin lemma x: \"P\" apply rule r done end",
+        b"at 34 Ident",
+    ),
+    (
+        b"theory A begin lemma x: \"P\" apply () done end",
+        b"at 35 Ident",
+    ),
+    (
+        b"theory A begin lemma x: \"P\" apply (rule) done end",
+        b"at 39 Ident",
+    ),
+    (
+        b"theory A begin lemma x: \"P\" apply (rule r s) done end",
+        b"at 42 Symbol",
+    ),
+    (
+        b"theory A begin lemma x: \"P\" by assumption done end",
+        b"at 42 Word",
+    ),
+    (
+        b"theory A begin lemma x: \"P\" done defer end",
+        b"at 33 Word",
+    ),
 ];
 
 /// A text that uses every rule.
-const LONG: &[u8] = b"theory A imports B C begin class c < d e typedecl ('a, 'b) t typedecl 'a u typedecl v arities t :: (c, {}, {d, e}) c consts a :: i b :: \"j\" axiomatization where x: \"P\" and y: \"Q\" definition f :: 'a where \"R\" theorem z: \"S\" apply assumption prefer 2 defer apply (rule r, erule s, drule t, unfold u v, assumption) by (rule r) lemma w: \"T\" done end";
+const LONG: &[u8] =
+    b"theory A imports B C begin class c < d e typedecl ('a, 'b) t typedecl 'a u typedecl v arities t :: (c, {}, {d, e}) c consts a :: i b :: \"j\" axiomatization where x: \"P\" and y: \"Q\" definition f :: 'a where \"R\" theorem z: \"S\" apply assumption prefer 2 defer apply (rule r, erule s, drule t, unfold u v, assumption) by (rule r) lemma w: \"T\" done end";
 
 fn say(shown: &mut Vec<u8>, text: &str) -> Result<(), Fail> {
     Ok(shown.extend_from_slice(text.as_bytes())?)
@@ -183,7 +283,12 @@ fn say_sorts(shown: &mut Vec<u8>, sorts: &[Vec<Text>]) -> Result<(), Fail> {
     Ok(())
 }
 
-fn say_command(alloc: Global, shown: &mut Vec<u8>, source: &[u8], command: &Command) -> Result<(), Fail> {
+fn say_command(
+    alloc: Global,
+    shown: &mut Vec<u8>,
+    source: &[u8],
+    command: &Command,
+) -> Result<(), Fail> {
     match command {
         Command::Class { name, above } => {
             say(shown, " class")?;

@@ -29,13 +29,37 @@ pub enum Step {
 /// A command; quoted texts without their marks.
 #[derive(Debug, Drop)]
 pub enum Command {
-    Class { name: Text, above: Vec<Text> },
-    TypeDecl { name: Text, params: u32 },
-    Arity { con: Text, doms: Vec<Vec<Text>>, class: Text },
-    Const { name: Text, typ: Span },
-    Axiom { name: Text, prop: Span },
-    Definition { name: Text, typ: Span, prop: Span },
-    Lemma { name: Text, prop: Span, script: Vec<Step> },
+    Class {
+        name: Text,
+        above: Vec<Text>,
+    },
+    TypeDecl {
+        name: Text,
+        params: u32,
+    },
+    Arity {
+        con: Text,
+        doms: Vec<Vec<Text>>,
+        class: Text,
+    },
+    Const {
+        name: Text,
+        typ: Span,
+    },
+    Axiom {
+        name: Text,
+        prop: Span,
+    },
+    Definition {
+        name: Text,
+        typ: Span,
+        prop: Span,
+    },
+    Lemma {
+        name: Text,
+        prop: Span,
+        script: Vec<Step>,
+    },
 }
 
 /// A theory as it is written.

@@ -70,7 +70,12 @@ pub(crate) fn turn(alloc: Global, place: Place, l: Lexeme<'_>) -> Result<Turn, A
             Ok(moves_if(colon, Place::AtLemmaText { name }))
         }
         Place::AtLemmaText { name } => Ok(proof::at_lemma_text(alloc, name, l)),
-        Place::InProof { name, prop, script, place } => {
+        Place::InProof {
+            name,
+            prop,
+            script,
+            place,
+        } => {
             let goal = Goal { name, prop, script };
             proof::proof_turn(alloc, goal, place, l)
         }
