@@ -15,7 +15,6 @@ use Rattle.pure_grammar.specs.PhraseTree.{all_of, name_of, type_span, sort_of, b
 use Rattle.pure_grammar.proofs.ReaderLemmas.{after}
 use Rattle.pure_grammar.specs.Reader.{Header, State, InBody, AtStart, AfterImport, AtLast, Outcome, Through, Stuck, FactMethod, OfRule, OfErule, OfDrule, fact_step, AtStep, AtMethod, AtBasic, AfterBasic, AtFact, AtUnfolded, AfterUnfolded, Place, AtCommand, AtClassName, AfterAbove, AtParams, AfterParam, AtConstructor, AtDomains, AtSort, AfterSort, AfterClass, AtArityClass, AtItem, AtItemType, AfterItemType, AtWhere, AtAxiom, AfterAxiomText, AtDefinition, AtDefinitionType, AfterDefinitionType, AtLemma, InProof, Moves, Refuses, command_begun, leave, leave_with, goes_on, body_state, run}
 
-
 -- the reader reads all, and the theory is this
 abbrev pub Gets : State → List Lexeme → TheoryText → Type 0
 Gets s r t = run s r ≡ Through (AtLast t)
@@ -130,8 +129,14 @@ got-class h cs t (Plain x at ∷ Signed sign.Less ∷ Plain y at' ∷ r) g = got
 got-class h cs t (Plain x at ∷ Signed sign.Less ∷ Dotted y at' ∷ r) g = got-above h cs x at t (Full y at') r g
 got-class h cs t (Plain x at ∷ Signed sign.Less ∷ l ∷ r) g = absurd (none g refl)
 got-class h cs t (Plain x at ∷ Reserved w ∷ r) g =
-    record { command = ClassCommand (record { text = x; at = at }) NoneAbove; distinct = tt; behind = Reserved w ∷ r; is = refl;
-      gets = leave-gets h cs (tree.Class x []) (command_begun (Reserved w)) _ _ (Reserved w) r t g; less = omega arith }
+    record {
+      command = ClassCommand (record { text = x; at = at }) NoneAbove;
+      distinct = tt;
+      behind = Reserved w ∷ r;
+      is = refl;
+      gets = leave-gets h cs (tree.Class x []) (command_begun (Reserved w)) _ _ (Reserved w) r t g;
+      less = omega arith;
+    }
 got-class h cs t (Plain x at ∷ l ∷ r) g = absurd (none g refl)
 got-class h cs t (l ∷ r) g = absurd (none g refl)
 
@@ -278,8 +283,15 @@ got-params h cs t known (Signed sign.Comma ∷ Variable text at ∷ r) g =
 got-params h cs t known (Signed sign.Comma ∷ l ∷ r) g = absurd (none g refl)
 got-params h cs t known (Signed sign.CloseParenthesis ∷ []) g = absurd (none g refl)
 got-params h cs t known (Signed sign.CloseParenthesis ∷ Plain x at ∷ r) g =
-    record { more = []; name = record { text = x; at = at }; behind = r; is = refl; new = tt;
-      gets = subst (λ z. Gets (InBody h (cs ++ tree.TypeDecl x (length z) ∷ []) AtCommand) r t) (sym (append-nil known)) g; less = omega arith }
+    record {
+      more = [];
+      name = record { text = x; at = at };
+      behind = r;
+      is = refl;
+      new = tt;
+      gets = subst (λ z. Gets (InBody h (cs ++ tree.TypeDecl x (length z) ∷ []) AtCommand) r t) (sym (append-nil known)) g;
+      less = omega arith;
+    }
 got-params h cs t known (Signed sign.CloseParenthesis ∷ l ∷ r) g = absurd (none g refl)
 got-params h cs t known (l ∷ r) g = absurd (none g refl)
 
@@ -482,8 +494,13 @@ got-basic_fact : (h : Header) (cs : List Command) (x : List ℕ) (p : Span) (scr
 unfolding GotBasic
 got-basic_fact h cs x p script last m make word at t r step text g =
     let o = got-fact h cs x p script last m t r g in
-    record { item = make o.item; behind = o.behind; is = ap (λ z. Plain word at ∷ z) o.is ∙ sym (text o.item o.behind);
-      gets = subst (λ z. Gets (InBody h cs (InProof x p (script ++ z ∷ []) (AfterBasic last))) o.behind t) (sym (step o.item)) o.gets; less = omega (arith, o.less) }
+    record {
+      item = make o.item;
+      behind = o.behind;
+      is = ap (λ z. Plain word at ∷ z) o.is ∙ sym (text o.item o.behind);
+      gets = subst (λ z. Gets (InBody h cs (InProof x p (script ++ z ∷ []) (AfterBasic last))) o.behind t) (sym (step o.item)) o.gets;
+      less = omega (arith, o.less);
+    }
 
 got-basic_word : (h : Header) (cs : List Command) (x : List ℕ) (p : Span) (script : List Step) (last : Bool) (t : TheoryText) (w : List ℕ) (at : Span) (r : List Lexeme) → Which w
     → Gets (InBody h cs (InProof x p script (AtBasic last))) (Plain w at ∷ r) t → GotBasic h cs x p script last t (Plain w at ∷ r)
@@ -566,8 +583,13 @@ one-step h cs x p t script (Reserved keyword.Defer ∷ r) g = inl (record { item
 one-step h cs x p t script (Reserved keyword.Done ∷ r) g = inr (record { item = DoneEnd; behind = r; is = refl; gets = g; less = omega arith })
 one-step h cs x p t script (Reserved keyword.By ∷ r) g =
     let m = got-method h cs x p script true t r g in
-    inr (record { item = ByEnd m.item; behind = m.behind; is = ap (λ z. Reserved keyword.By ∷ z) m.is;
-      gets = subst (λ z. Gets (InBody h (cs ++ tree.Lemma x p z ∷ []) AtCommand) m.behind t) (append_assoc script (method_steps m.item) (tree.Close ∷ tree.Done ∷ [])) m.gets; less = omega (arith, m.less) })
+    inr (record {
+      item = ByEnd m.item;
+      behind = m.behind;
+      is = ap (λ z. Reserved keyword.By ∷ z) m.is;
+      gets = subst (λ z. Gets (InBody h (cs ++ tree.Lemma x p z ∷ []) AtCommand) m.behind t) (append_assoc script (method_steps m.item) (tree.Close ∷ tree.Done ∷ [])) m.gets;
+      less = omega (arith, m.less);
+    })
 one-step h cs x p t script (l ∷ r) g = absurd (none g refl)
 
 got-proof : (h : Header) (cs : List Command) (x : List ℕ) (p : Span) (t : TheoryText) (r : List Lexeme) → Gets (InBody h cs (InProof x p [] AtStep)) r t
@@ -594,8 +616,13 @@ got-lemma h cs t (Plain x at ∷ []) g = absurd (none g refl)
 got-lemma h cs t (Plain x at ∷ Signed sign.Colon ∷ []) g = absurd (none g refl)
 got-lemma h cs t (Plain x at ∷ Signed sign.Colon ∷ Quoted p ∷ r) g =
     let o = got-proof h cs x p t r g in
-    record { item = record { statement = record { name = record { text = x; at = at }; prop = p }; proof = o.item }; behind = o.behind;
-      is = ap (λ z. Plain x at ∷ Signed sign.Colon ∷ Quoted p ∷ z) o.is; gets = o.gets; less = omega (arith, o.less) }
+    record {
+      item = record { statement = record { name = record { text = x; at = at }; prop = p }; proof = o.item };
+      behind = o.behind;
+      is = ap (λ z. Plain x at ∷ Signed sign.Colon ∷ Quoted p ∷ z) o.is;
+      gets = o.gets;
+      less = omega (arith, o.less);
+    }
 got-lemma h cs t (Plain x at ∷ Signed sign.Colon ∷ l ∷ r) g = absurd (none g refl)
 got-lemma h cs t (Plain x at ∷ l ∷ r) g = absurd (none g refl)
 got-lemma h cs t (l ∷ r) g = absurd (none g refl)
@@ -681,14 +708,22 @@ got-file t (Reserved keyword.Theory ∷ []) g = absurd (none g refl)
 got-file t (Reserved keyword.Theory ∷ Plain x at ∷ []) g = absurd (none g refl)
 got-file t (Reserved keyword.Theory ∷ Plain x at ∷ Reserved keyword.Begin ∷ r) g =
     let m = got-commands (record { name = x; imports = imports_of NoImport }) t (suc (length r)) [] r (omega arith) g in
-    record { file = record { name = record { text = x; at = at }; imports = NoImport; commands = m.commands }; distinct = m.distinct;
-      is = ap (λ z. Reserved keyword.Theory ∷ Plain x at ∷ Reserved keyword.Begin ∷ z) m.is; theory = m.theory }
+    record {
+      file = record { name = record { text = x; at = at }; imports = NoImport; commands = m.commands };
+      distinct = m.distinct;
+      is = ap (λ z. Reserved keyword.Theory ∷ Plain x at ∷ Reserved keyword.Begin ∷ z) m.is;
+      theory = m.theory;
+    }
 got-file t (Reserved keyword.Theory ∷ Plain x at ∷ Reserved keyword.Imports ∷ []) g = absurd (none g refl)
 got-file t (Reserved keyword.Theory ∷ Plain x at ∷ Reserved keyword.Imports ∷ Plain i at' ∷ r) g =
     let j = got-imports x t (i ∷ []) r g in
     let m = got-commands (record { name = x; imports = mentions (i ∷ []) j.more }) t (suc (length j.behind)) [] j.behind (omega arith) j.gets in
-    record { file = record { name = record { text = x; at = at }; imports = Imports (record { text = i; at = at' }) j.more; commands = m.commands }; distinct = m.distinct;
-      is = ap (λ z. Reserved keyword.Theory ∷ Plain x at ∷ Reserved keyword.Imports ∷ Plain i at' ∷ z) (j.is ∙ ap (λ z. each ident_text j.more (Reserved keyword.Begin ∷ z)) m.is); theory = m.theory }
+    record {
+      file = record { name = record { text = x; at = at }; imports = Imports (record { text = i; at = at' }) j.more; commands = m.commands };
+      distinct = m.distinct;
+      is = ap (λ z. Reserved keyword.Theory ∷ Plain x at ∷ Reserved keyword.Imports ∷ Plain i at' ∷ z) (j.is ∙ ap (λ z. each ident_text j.more (Reserved keyword.Begin ∷ z)) m.is);
+      theory = m.theory;
+    }
 got-file t (Reserved keyword.Theory ∷ Plain x at ∷ Reserved keyword.Imports ∷ l ∷ r) g = absurd (none g refl)
 got-file t (Reserved keyword.Theory ∷ Plain x at ∷ l ∷ r) g = absurd (none g refl)
 got-file t (Reserved keyword.Theory ∷ l ∷ r) g = absurd (none g refl)

@@ -14,7 +14,6 @@ use Rattle.pure_grammar.specs.PhraseText.{each, each_comma, name_text, ident_tex
 use Rattle.pure_grammar.specs.PhraseTree.{all_of, name_of, names_of, type_span, sort_of, basic_step, method_steps, step_steps, end_steps, steps_of, proof_steps, above_of, params_of, domains_of, item_command, axiom_command, phrase_commands, commands_of, with_text, mentions, imports_of, file_tree, AreNew, IsCommandPhrase}
 use Rattle.pure_grammar.specs.Reader.{Header, State, InBody, AtStart, AfterImport, AtLast, Through, FactMethod, OfRule, OfErule, OfDrule, fact_step, AtStep, AtMethod, AtBasic, AfterBasic, AtFact, AtUnfolded, AfterUnfolded, Place, AtCommand, AfterClassName, AtAbove, AfterAbove, AtParams, AtParam, AfterParam, AtConstructor, AtDomains, AtSort, AfterSort, AtFirstClass, AfterClass, AtArityClass, AtItem, AtItemType, AfterItemType, AfterAxiomText, AtDefinitionType, AfterDefinitionType, InProof, command_begun, run}
 
-
 -- ---- lists of phrases
 pub run-each : {A B : Type 0} (text : A → List Lexeme → List Lexeme) (given : A → B) (s : List B → State)
     → ((before : List B) (x : A) (r : List Lexeme) → run (s before) (text x r) ≡ run (s (before ++ given x ∷ [])) r)
@@ -267,7 +266,7 @@ begun (LemmaCommand TheoremWritten a p ∷ cs) = record { word = keyword.Theorem
 
 run-commands : (h : Header) (before : List Command) (cs : List CommandPhrase) → AllByRecursion IsCommandPhrase cs
     → run (InBody h before AtCommand) (each command_text cs (Reserved keyword.End ∷ Ends ∷ []))
-        ≡ Through (AtLast (record { name = h.name; imports = h.imports; commands = before ++ commands_of cs }))
+    ≡ Through (AtLast (record { name = h.name; imports = h.imports; commands = before ++ commands_of cs }))
 run-commands h before [] w = ap (λ z. Through (AtLast (record { name = h.name; imports = h.imports; commands = z }))) (sym (append-nil before))
 run-commands h before (c ∷ cs) w =
     run-command h before c (each command_text cs (Reserved keyword.End ∷ Ends ∷ [])) w.0 (begun cs)
@@ -282,7 +281,7 @@ run-imports x known (y ∷ ys) r = run-imports x (with_text known y.text) ys r
 
 run-file : (x : Ident) (imports : ImportsPhrase) (cs : List CommandPhrase) → AllByRecursion IsCommandPhrase cs
     → run AtStart (file_text (record { name = x; imports = imports; commands = cs }))
-        ≡ Through (AtLast (record { name = x.text; imports = imports_of imports; commands = commands_of cs }))
+    ≡ Through (AtLast (record { name = x.text; imports = imports_of imports; commands = commands_of cs }))
 run-file x NoImport cs w = run-commands (record { name = x.text; imports = imports_of NoImport }) [] cs w
 run-file x (Imports i is) cs w =
     run-imports x.text (i.text ∷ []) is (Reserved keyword.Begin ∷ each command_text cs (Reserved keyword.End ∷ Ends ∷ []))
