@@ -2,3 +2,10 @@ pub mod Bytes
 pub mod Comment
 pub mod Token
 pub mod Spelling
+pub mod TheoryText
+pub mod Lexeme
+pub mod Phrase
+pub mod PhraseText
+pub mod PhraseTree
+pub mod Outer
+pub mod Reader

@@ -1,4 +1,5 @@
 //! Laws of the definitions. Each function has no body: its contract is the law.
+ghost use Rattle.pure_grammar.specs.Outer.{OneTheory};
 ghost use Rattle.pure_grammar.specs.Spelling.{OneList, ListOrFault, OneFault, QuoteHasMarks, TokensAreSlices};
 
 /// No source is spelled by two lists of tokens.
@@ -24,4 +25,9 @@ pub fn tokens_are_slices()
 /// A quoted text has its two marks, so that there is a range between them.
 pub fn quote_has_marks()
     ensures { QuoteHasMarks }
+{}
+
+/// No tokens of a source spell two trees of a theory.
+pub fn one_theory()
+    ensures { OneTheory }
 {}

@@ -2,6 +2,8 @@
 #![tactic(auto)]
 
 pub mod laws;
+mod lexeme;
 mod token;
 
+pub use lexeme::{Keyword, Sign};
 pub use token::{Token, TokenKind};

@@ -1,0 +1,98 @@
+-- What is read so far, and what it says in the end.
+use Rattle.std.proofs.Common.{◌≡◌, ℕ, zero, suc, ◌+◌, ◌-◌, ◌<◌, ◌≤◌, List, [], ◌∷◌, length, drop, get_or, refl, sym, ◌∙◌, ap, subst, arith, drop-cons, length-drop}
+use Rattle.std.proofs.lemmas.List.{length-append, drop_all}
+use Rattle.std.specs.Prelude.{false, Some, None}
+use Rattle.pure_grammar.specs.declared.token.Token.{Token}
+use Rattle.pure_grammar.specs.TheoryText.{TheoryText}
+use Rattle.pure_grammar.specs.Lexeme.{Lexeme, Ends, lexeme, lexemes}
+use Rattle.pure_grammar.specs.Spelling.{IsSlice, AreSlices}
+use Rattle.pure_grammar.specs.Outer.{SpellsTheory, HasSyntaxFault, place_of}
+use Rattle.pure_grammar.specs.Reader as spec
+use Rattle.pure_grammar.specs.Reader.{AtStart, AtLast, Through, Stuck, goes_on, next, run, expected, is_last}
+use Rattle.pure_grammar.proofs.FaultLemmas.{Wrong, goes-wrong, Gets-IsTheory}
+use Rattle.pure_script.specs.States.{seen_state}
+use Rattle.pure_script.specs.declared.state.State.{State}
+use Rattle.pure_script.specs.declared.state.State.TheVariants as state
+
+pub is_last-seen : (s : State) → is_last (seen_state s) ≡ false
+is_last-seen state.AtStart = refl
+is_last-seen state.AtTheoryName = refl
+is_last-seen (state.AfterTheoryName name) = refl
+is_last-seen (state.AtImport name) = refl
+is_last-seen (state.AfterImport header) = refl
+is_last-seen (state.InBody header commands place) = refl
+
+run-drop : (source : List ℕ) (ts : List Token) (i : ℕ) (s : spec.State) (d t : Token) → i < length ts → t ≡ get_or ts i d → run AtStart (lexemes source ts) ≡ run s (lexemes source (drop i ts))
+    → run AtStart (lexemes source ts) ≡ goes_on (next s (lexeme source t)) (Stuck s (lexeme source t) (lexemes source (drop (suc i) ts))) (λ u. run u (lexemes source (drop (suc i) ts)))
+run-drop source ts i s d t below at reads =
+    reads ∙ ap (λ z. run s (lexemes source z)) (drop-cons ts i d below) ∙ ap (λ z. run s (lexemes source (z ∷ drop (suc i) ts))) (sym at)
+
+pub reads-more : (source : List ℕ) (ts : List Token) (i : ℕ) (s u : spec.State) (d t : Token) → i < length ts → t ≡ get_or ts i d → run AtStart (lexemes source ts) ≡ run s (lexemes source (drop i ts))
+    → next s (lexeme source t) ≡ Some u → run AtStart (lexemes source ts) ≡ run u (lexemes source (drop (suc i) ts))
+reads-more source ts i s u d t below at reads on =
+    run-drop source ts i s d t below at reads ∙ ap (λ z. goes_on z (Stuck s (lexeme source t) (lexemes source (drop (suc i) ts))) (λ u. run u (lexemes source (drop (suc i) ts)))) on
+
+length-lexemes : (source : List ℕ) (ts : List Token) → length (lexemes source ts) ≡ suc (length ts)
+length-lexemes source [] = refl
+length-lexemes source (t ∷ ts) = ap suc (length-lexemes source ts)
+
+place_of-token : (ts : List Token) (len i : ℕ) (d t : Token) → i < length ts → t ≡ get_or ts i d → t.from ≡ place_of ts len i
+place_of-token [] len i d t below at = absurd (omega (arith, below))
+place_of-token (u ∷ ts) len zero d t below at = ap (λ (z : Token). z.from) at
+place_of-token (u ∷ ts) len (suc i) d t below at = place_of-token ts len i d t (omega (arith, below)) at
+
+place_of-end : (ts : List Token) (len i : ℕ) → i ≡ length ts → len ≡ place_of ts len i
+place_of-end [] len zero is = refl
+place_of-end [] len (suc i) is = refl
+place_of-end (u ∷ ts) len zero is = absurd (omega (arith, is))
+place_of-end (u ∷ ts) len (suc i) is = place_of-end ts len i (omega (arith, is))
+
+-- the place of what stops the reader, by what is left behind it
+before-length : (source : List ℕ) (ts : List Token) (s : spec.State) (found : Lexeme) (rest : List Lexeme) (w : Wrong (lexemes source ts) s found rest) → length w.before + suc (length rest) ≡ suc (length ts)
+before-length source ts s found rest w =
+    sym (length-append w.before (found ∷ rest)) ∙ sym (ap length w.wrong.parts) ∙ length-lexemes source ts
+
+pub fault-token : (source : List ℕ) (ts : List Token) (i : ℕ) (s : spec.State) (d t : Token) → i < length ts → t ≡ get_or ts i d → run AtStart (lexemes source ts) ≡ run s (lexemes source (drop i ts))
+    → next s (lexeme source t) ≡ None → is_last s ≡ false → HasSyntaxFault source ts t.from (expected s)
+fault-token source ts i s d t below at reads stuck last =
+    let g : run AtStart (lexemes source ts) ≡ Stuck s (lexeme source t) (lexemes source (drop (suc i) ts)) =
+    run-drop source ts i s d t below at reads ∙ ap (λ z. goes_on z (Stuck s (lexeme source t) (lexemes source (drop (suc i) ts))) (λ u. run u (lexemes source (drop (suc i) ts)))) stuck in
+    let w : Wrong (lexemes source ts) s (lexeme source t) (lexemes source (drop (suc i) ts)) = goes-wrong (lexemes source ts) s (lexeme source t) (lexemes source (drop (suc i) ts)) g last in
+    let l = before-length source ts s (lexeme source t) (lexemes source (drop (suc i) ts)) w in
+    let m : length (lexemes source (drop (suc i) ts)) ≡ suc (length (drop (suc i) ts)) = length-lexemes source (drop (suc i) ts) in
+    let e : length (drop (suc i) ts) ≡ length ts - suc i = length-drop (suc i) ts in
+    let k : length (drop (suc i) ts) + suc i ≡ length ts = omega (arith, e, below) in
+    let n : length w.before ≡ i = omega (arith, l, m, k) in
+    record {
+      before = w.before;
+      found = lexeme source t;
+      rest = lexemes source (drop (suc i) ts);
+      wrong = w.wrong;
+      follows = w.follows;
+      at_place = place_of-token ts (length source) i d t below at ∙ ap (place_of ts (length source)) (sym n);
+    }
+
+pub fault-end : (source : List ℕ) (ts : List Token) (i : ℕ) (s : spec.State) → length ts ≤ i → run AtStart (lexemes source ts) ≡ run s (lexemes source (drop i ts))
+    → next s Ends ≡ None → is_last s ≡ false → HasSyntaxFault source ts (length source) (expected s)
+fault-end source ts i s past reads stuck last =
+    let g : run AtStart (lexemes source ts) ≡ Stuck s Ends [] = reads ∙ ap (λ z. run s (lexemes source z)) (drop_all i ts past) ∙ ap (λ z. goes_on z (Stuck s Ends []) (λ u. run u [])) stuck in
+    let w : Wrong (lexemes source ts) s Ends [] = goes-wrong (lexemes source ts) s Ends [] g last in
+    let l = before-length source ts s Ends [] w in
+    let n : length w.before ≡ length ts = omega (arith, l) in
+    record {
+      before = w.before;
+      found = Ends;
+      rest = [];
+      wrong = w.wrong;
+      follows = w.follows;
+      at_place = place_of-end ts (length source) (length w.before) n;
+    }
+
+pub spells-end : (source : List ℕ) (ts : List Token) (i : ℕ) (s : spec.State) (t : TheoryText) → length ts ≤ i → run AtStart (lexemes source ts) ≡ run s (lexemes source (drop i ts))
+    → next s Ends ≡ Some (AtLast t) → SpellsTheory source ts t
+spells-end source ts i s t past reads on = Gets-IsTheory (lexemes source ts) t (reads ∙ ap (λ z. run s (lexemes source z)) (drop_all i ts past) ∙ ap (λ z. goes_on z (Stuck s Ends []) (λ u. run u [])) on)
+
+pub slice-at : (source : List ℕ) (to : ℕ) (ts : List Token) (from i : ℕ) (d t : Token) → AreSlices source from to ts → i < length ts → t ≡ get_or ts i d → IsSlice source t
+slice-at source to [] from i d t are below at = absurd (omega (arith, below))
+slice-at source to (u ∷ ts) from zero d t are below at = subst (IsSlice source) (sym at) are.1
+slice-at source to (u ∷ ts) from (suc i) d t are below at = slice-at source to ts u.to i d t are.2 (omega (arith, below)) at

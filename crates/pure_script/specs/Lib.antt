@@ -1,0 +1,5 @@
+pub mod Seen
+pub mod Places
+pub mod States
+pub mod Faults
+pub mod Laws

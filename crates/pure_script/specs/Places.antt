@@ -1,0 +1,115 @@
+-- The trees, places and turns of the reader, as contracts see them.
+use Rattle.std.specs.Prelude.{ℕ, List, Option, Some, None, map}
+use Rattle.std.specs.Global.{Vec}
+use Rattle.pure_grammar.specs.TheoryText as tree
+use Rattle.pure_grammar.specs.Reader as spec
+use Rattle.pure_script.specs.Seen.{span}
+use Rattle.pure_script.specs.declared.theory.Step.{Step}
+use Rattle.pure_script.specs.declared.theory.Step.TheVariants.{Rule, Erule, Drule, Assumption, Unfold, Prefer, Defer, Close, Done}
+use Rattle.pure_script.specs.declared.theory.Command.{Command}
+use Rattle.pure_script.specs.declared.theory.Command.TheVariants.{Class, TypeDecl, Arity, Const, Axiom, Definition, Lemma}
+use Rattle.pure_script.specs.declared.theory.TheoryText.{TheoryText}
+use Rattle.pure_script.specs.declared.place.FactMethod.{FactMethod}
+use Rattle.pure_script.specs.declared.place.FactMethod.TheVariants as method
+use Rattle.pure_script.specs.declared.place.ProofPlace.{ProofPlace}
+use Rattle.pure_script.specs.declared.place.ProofPlace.TheVariants.{AtStep, AtNumber, AtMethod, AtBasic, AfterBasic, AtFact, AtUnfolded, AfterUnfolded}
+use Rattle.pure_script.specs.declared.place.Place.{Place}
+use Rattle.pure_script.specs.declared.place.Place.TheVariants.{AtCommand, AfterEnd, AtClassName, AfterClassName, AtAbove, AfterAbove, AtParams, AtParam, AfterParam, AtTypeName, AtConstructor, AfterConstructor, AtDomains, AtSort, AfterSort, AtFirstClass, AtNextClass, AfterClass, AtArityClass, AtItem, AfterItem, AtItemType, AfterItemType, AtWhere, AtAxiom, AfterAxiom, AtAxiomText, AfterAxiomText, AtDefinition, AfterDefinition, AtDefinitionType, AfterDefinitionType, AtDefinitionText, AtLemma, AfterLemma, AtLemmaText, InProof}
+use Rattle.pure_script.specs.declared.place.Turn.{Turn}
+use Rattle.pure_script.specs.declared.place.Turn.TheVariants.{Moves, Adds, Refuses}
+
+-- the lists of a list of lists of names
+abbrev pub sorts : List (Vec (List ℕ)) → List (List (List ℕ))
+sorts = map (λ (v : Vec (List ℕ)). v.items)
+
+abbrev pub seen_step : Step → tree.Step
+seen_step (Rule x0) = tree.Rule x0
+seen_step (Erule x0) = tree.Erule x0
+seen_step (Drule x0) = tree.Drule x0
+seen_step Assumption = tree.Assumption
+seen_step (Unfold x0) = tree.Unfold x0.items
+seen_step (Prefer x0) = tree.Prefer x0
+seen_step Defer = tree.Defer
+seen_step Close = tree.Close
+seen_step Done = tree.Done
+
+abbrev pub seen_steps : List Step → List tree.Step
+seen_steps = map seen_step
+
+abbrev pub seen_command : Command → tree.Command
+seen_command (Class x0 x1) = tree.Class x0 x1.items
+seen_command (TypeDecl x0 x1) = tree.TypeDecl x0 x1
+seen_command (Arity x0 x1 x2) = tree.Arity x0 (sorts x1.items) x2
+seen_command (Const x0 x1) = tree.Const x0 (span x1)
+seen_command (Axiom x0 x1) = tree.Axiom x0 (span x1)
+seen_command (Definition x0 x1 x2) = tree.Definition x0 (span x1) (span x2)
+seen_command (Lemma x0 x1 x2) = tree.Lemma x0 (span x1) (seen_steps x2.items)
+
+abbrev pub seen_commands : List Command → List tree.Command
+seen_commands = map seen_command
+
+abbrev pub seen_theory : TheoryText → tree.TheoryText
+seen_theory t = record { name = t.name; imports = t.imports.items; commands = seen_commands t.commands.items }
+
+abbrev pub seen_method : FactMethod → spec.FactMethod
+seen_method method.Rule = spec.OfRule
+seen_method method.Erule = spec.OfErule
+seen_method method.Drule = spec.OfDrule
+
+abbrev pub seen_proof_place : ProofPlace → spec.ProofPlace
+seen_proof_place AtStep = spec.AtStep
+seen_proof_place AtNumber = spec.AtNumber
+seen_proof_place (AtMethod x0) = spec.AtMethod x0
+seen_proof_place (AtBasic x0) = spec.AtBasic x0
+seen_proof_place (AfterBasic x0) = spec.AfterBasic x0
+seen_proof_place (AtFact x0 x1) = spec.AtFact x0 (seen_method x1)
+seen_proof_place (AtUnfolded x0) = spec.AtUnfolded x0
+seen_proof_place (AfterUnfolded x0 x1) = spec.AfterUnfolded x0 x1.items
+
+abbrev pub seen_place : Place → spec.Place
+seen_place AtCommand = spec.AtCommand
+seen_place AfterEnd = spec.AfterEnd
+seen_place AtClassName = spec.AtClassName
+seen_place (AfterClassName x0) = spec.AfterClassName x0
+seen_place (AtAbove x0) = spec.AtAbove x0
+seen_place (AfterAbove x0 x1) = spec.AfterAbove x0 x1.items
+seen_place AtParams = spec.AtParams
+seen_place (AtParam x0) = spec.AtParam x0.items
+seen_place (AfterParam x0) = spec.AfterParam x0.items
+seen_place (AtTypeName x0) = spec.AtTypeName x0
+seen_place AtConstructor = spec.AtConstructor
+seen_place (AfterConstructor x0) = spec.AfterConstructor x0
+seen_place (AtDomains x0) = spec.AtDomains x0
+seen_place (AtSort x0 x1) = spec.AtSort x0 (sorts x1.items)
+seen_place (AfterSort x0 x1) = spec.AfterSort x0 (sorts x1.items)
+seen_place (AtFirstClass x0 x1) = spec.AtFirstClass x0 (sorts x1.items)
+seen_place (AtNextClass x0 x1 x2) = spec.AtNextClass x0 (sorts x1.items) x2.items
+seen_place (AfterClass x0 x1 x2) = spec.AfterClass x0 (sorts x1.items) x2.items
+seen_place (AtArityClass x0 x1) = spec.AtArityClass x0 (sorts x1.items)
+seen_place AtItem = spec.AtItem
+seen_place (AfterItem x0) = spec.AfterItem x0
+seen_place (AtItemType x0) = spec.AtItemType x0
+seen_place AfterItemType = spec.AfterItemType
+seen_place AtWhere = spec.AtWhere
+seen_place AtAxiom = spec.AtAxiom
+seen_place (AfterAxiom x0) = spec.AfterAxiom x0
+seen_place (AtAxiomText x0) = spec.AtAxiomText x0
+seen_place AfterAxiomText = spec.AfterAxiomText
+seen_place AtDefinition = spec.AtDefinition
+seen_place (AfterDefinition x0) = spec.AfterDefinition x0
+seen_place (AtDefinitionType x0) = spec.AtDefinitionType x0
+seen_place (AfterDefinitionType x0 x1) = spec.AfterDefinitionType x0 (span x1)
+seen_place (AtDefinitionText x0 x1) = spec.AtDefinitionText x0 (span x1)
+seen_place AtLemma = spec.AtLemma
+seen_place (AfterLemma x0) = spec.AfterLemma x0
+seen_place (AtLemmaText x0) = spec.AtLemmaText x0
+seen_place (InProof x0 x1 x2 x3) = spec.InProof x0 (span x1) (seen_steps x2.items) (seen_proof_place x3)
+
+abbrev pub seen_begun : Option Place → Option spec.Place
+seen_begun None = None
+seen_begun (Some place) = Some (seen_place place)
+
+abbrev pub seen_turn : Turn → spec.Turn
+seen_turn (Moves place) = spec.Moves (seen_place place)
+seen_turn (Adds command place) = spec.Adds (seen_command command) (seen_place place)
+seen_turn Refuses = spec.Refuses

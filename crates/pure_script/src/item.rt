@@ -1,0 +1,114 @@
+//! Constants, axioms and definitions.
+ghost use Rattle.std.specs.Prelude.{◌≡◌, IfOk};
+ghost use Rattle.pure_grammar.specs.Reader as spec;
+ghost use Rattle.pure_script.specs.Seen.{seen_lexeme, span};
+ghost use Rattle.pure_script.specs.Places.{seen_turn};
+
+use crate::lexeme::{Lexeme, is_word, quote_in, type_in};
+use crate::place::{Place, Turn, command_begun, ident, leave};
+use crate::theory::{Command, Span};
+use pure_grammar::Keyword;
+use pure_term::Text;
+use std::alloc::{AllocError, Global};
+
+pub(crate) fn at_item(alloc: Global, lexeme: Lexeme<'_>) -> Result<Turn, AllocError>
+    ensures { IfOk result (λ turn. seen_turn turn ≡ spec.turn spec.AtItem (seen_lexeme lexeme.entry)) }
+{
+    match ident(alloc, lexeme)? {
+        None => Ok(Turn::Refuses),
+        Some(name) => Ok(Turn::Moves {
+            place: Place::AfterItem { name },
+        }),
+    }
+}
+
+pub(crate) fn at_item_type(name: Text, lexeme: Lexeme<'_>) -> Turn
+    ensures { seen_turn result ≡ spec.turn (spec.AtItemType name) (seen_lexeme lexeme.entry) }
+{
+    match type_in(lexeme) {
+        None => Turn::Refuses,
+        Some(typ) => Turn::Adds {
+            command: Command::Const { name, typ },
+            place: Place::AfterItemType,
+        },
+    }
+}
+
+pub(crate) fn after_item_type(alloc: Global, lexeme: Lexeme<'_>) -> Result<Turn, AllocError>
+    ensures { IfOk result (λ turn. seen_turn turn ≡ spec.turn spec.AfterItemType (seen_lexeme lexeme.entry)) }
+{
+    match ident(alloc, lexeme)? {
+        Some(name) => Ok(Turn::Moves {
+            place: Place::AfterItem { name },
+        }),
+        None => Ok(leave(command_begun(lexeme))),
+    }
+}
+
+pub(crate) fn at_axiom(alloc: Global, lexeme: Lexeme<'_>) -> Result<Turn, AllocError>
+    ensures { IfOk result (λ turn. seen_turn turn ≡ spec.turn spec.AtAxiom (seen_lexeme lexeme.entry)) }
+{
+    match ident(alloc, lexeme)? {
+        None => Ok(Turn::Refuses),
+        Some(name) => Ok(Turn::Moves {
+            place: Place::AfterAxiom { name },
+        }),
+    }
+}
+
+pub(crate) fn at_axiom_text(name: Text, lexeme: Lexeme<'_>) -> Turn
+    ensures { seen_turn result ≡ spec.turn (spec.AtAxiomText name) (seen_lexeme lexeme.entry) }
+{
+    match quote_in(lexeme) {
+        None => Turn::Refuses,
+        Some(prop) => Turn::Adds {
+            command: Command::Axiom { name, prop },
+            place: Place::AfterAxiomText,
+        },
+    }
+}
+
+pub(crate) fn after_axiom_text(lexeme: Lexeme<'_>) -> Turn
+    ensures { seen_turn result ≡ spec.turn spec.AfterAxiomText (seen_lexeme lexeme.entry) }
+{
+    if is_word(Keyword::And, lexeme) {
+        return Turn::Moves {
+            place: Place::AtAxiom,
+        };
+    }
+    leave(command_begun(lexeme))
+}
+
+pub(crate) fn at_definition(alloc: Global, lexeme: Lexeme<'_>) -> Result<Turn, AllocError>
+    ensures { IfOk result (λ turn. seen_turn turn ≡ spec.turn spec.AtDefinition (seen_lexeme lexeme.entry)) }
+{
+    match ident(alloc, lexeme)? {
+        None => Ok(Turn::Refuses),
+        Some(name) => Ok(Turn::Moves {
+            place: Place::AfterDefinition { name },
+        }),
+    }
+}
+
+pub(crate) fn at_definition_type(name: Text, lexeme: Lexeme<'_>) -> Turn
+    ensures { seen_turn result ≡ spec.turn (spec.AtDefinitionType name) (seen_lexeme lexeme.entry) }
+{
+    match type_in(lexeme) {
+        None => Turn::Refuses,
+        Some(typ) => Turn::Moves {
+            place: Place::AfterDefinitionType { name, typ },
+        },
+    }
+}
+
+pub(crate) fn at_definition_text(name: Text, typ: Span, lexeme: Lexeme<'_>) -> Turn
+    ensures { seen_turn result ≡ spec.turn (spec.AtDefinitionText name (span typ)) (seen_lexeme lexeme.entry) }
+{
+    match quote_in(lexeme) {
+        None => Turn::Refuses,
+        Some(prop) => Turn::Adds {
+            command: Command::Definition { name, typ, prop },
+            place: Place::AtCommand,
+        },
+    }
+}

@@ -1,0 +1,366 @@
+//! What a token is to the grammar.
+ghost use Rattle.std.specs.Prelude.{◌≡◌, IfOk, ℕ, ◌<◌, ◌≤◌, length, slice_range};
+ghost use Rattle.pure_grammar.specs.Lexeme as spec;
+ghost use Rattle.pure_grammar.specs.Spelling.{IsSlice};
+ghost use Rattle.pure_script.specs.Seen.{seen_lexeme, seen_text, seen_span};
+
+use crate::theory::Span;
+use pure_grammar::{Keyword, Sign, Token, TokenKind};
+use std::alloc::AllocError;
+
+/// A token by what the grammar tells apart.
+#[derive(Clone, Copy)]
+pub(crate) enum Lexeme<'s> {
+    Reserved { word: Keyword },
+    Signed { sign: Sign },
+    Plain { text: &'s [u8], at: Span },
+    Dotted { text: &'s [u8], at: Span },
+    Variable { text: &'s [u8], at: Span },
+    Numeral { value: u32 },
+    Quoted { at: Span },
+    Other { kind: TokenKind },
+}
+
+fn keyword_number(word: Keyword) -> u8
+    ensures { result ≡ spec.keyword_number word }
+{
+    match word {
+        Keyword::Theory => 0,
+        Keyword::Imports => 1,
+        Keyword::Begin => 2,
+        Keyword::End => 3,
+        Keyword::Class => 4,
+        Keyword::Typedecl => 5,
+        Keyword::Arities => 6,
+        Keyword::Consts => 7,
+        Keyword::Axiomatization => 8,
+        Keyword::Where => 9,
+        Keyword::And => 10,
+        Keyword::Definition => 11,
+        Keyword::Lemma => 12,
+        Keyword::Theorem => 13,
+        Keyword::Apply => 14,
+        Keyword::Done => 15,
+        Keyword::By => 16,
+        Keyword::Prefer => 17,
+        Keyword::Defer => 18,
+        Keyword::Have => 19,
+        Keyword::Version => 20,
+    }
+}
+
+fn sign_number(sign: Sign) -> u8
+    ensures { result ≡ spec.sign_number sign }
+{
+    match sign {
+        Sign::Less => 0,
+        Sign::Comma => 1,
+        Sign::Colon => 2,
+        Sign::DoubleColon => 3,
+        Sign::OpenParenthesis => 4,
+        Sign::CloseParenthesis => 5,
+        Sign::OpenBrace => 6,
+        Sign::CloseBrace => 7,
+    }
+}
+
+/// Whether the token is this keyword.
+pub(crate) fn is_word(word: Keyword, lexeme: Lexeme<'_>) -> bool
+    ensures { result ≡ spec.is_word word (seen_lexeme lexeme.entry) }
+{
+    match lexeme {
+        Lexeme::Reserved { word: found } => keyword_number(found) == keyword_number(word),
+        _ => false,
+    }
+}
+
+/// Whether the token is this sign.
+pub(crate) fn is_sign(sign: Sign, lexeme: Lexeme<'_>) -> bool
+    ensures { result ≡ spec.is_sign sign (seen_lexeme lexeme.entry) }
+{
+    match lexeme {
+        Lexeme::Signed { sign: found } => sign_number(found) == sign_number(sign),
+        _ => false,
+    }
+}
+
+/// Whether the token is the identifier with this text.
+pub(crate) fn is_ident(text: &[u8], lexeme: Lexeme<'_>) -> bool
+    ensures { result ≡ spec.is_ident text.now (seen_lexeme lexeme.entry) }
+{
+    match lexeme {
+        Lexeme::Plain { text: found, .. } => found == text,
+        _ => false,
+    }
+}
+
+pub(crate) fn ident_in<'s>(lexeme: Lexeme<'s>) -> Option<&'s [u8]>
+    ensures { seen_text result ≡ spec.ident_in (seen_lexeme lexeme.entry) }
+{
+    match lexeme {
+        Lexeme::Plain { text, .. } => Some(text),
+        _ => None,
+    }
+}
+
+pub(crate) fn name_in<'s>(lexeme: Lexeme<'s>) -> Option<&'s [u8]>
+    ensures { seen_text result ≡ spec.name_in (seen_lexeme lexeme.entry) }
+{
+    match lexeme {
+        Lexeme::Plain { text, .. } => Some(text),
+        Lexeme::Dotted { text, .. } => Some(text),
+        _ => None,
+    }
+}
+
+pub(crate) fn variable_in<'s>(lexeme: Lexeme<'s>) -> Option<&'s [u8]>
+    ensures { seen_text result ≡ spec.variable_in (seen_lexeme lexeme.entry) }
+{
+    match lexeme {
+        Lexeme::Variable { text, .. } => Some(text),
+        _ => None,
+    }
+}
+
+pub(crate) fn number_in(lexeme: Lexeme<'_>) -> Option<u32>
+    ensures { result ≡ spec.number_in (seen_lexeme lexeme.entry) }
+{
+    match lexeme {
+        Lexeme::Numeral { value } => Some(value),
+        _ => None,
+    }
+}
+
+pub(crate) fn quote_in(lexeme: Lexeme<'_>) -> Option<Span>
+    ensures { seen_span result ≡ spec.quote_in (seen_lexeme lexeme.entry) }
+{
+    match lexeme {
+        Lexeme::Quoted { at } => Some(at),
+        _ => None,
+    }
+}
+
+pub(crate) fn type_in(lexeme: Lexeme<'_>) -> Option<Span>
+    ensures { seen_span result ≡ spec.type_in (seen_lexeme lexeme.entry) }
+{
+    match lexeme {
+        Lexeme::Quoted { at } => Some(at),
+        Lexeme::Plain { at, .. } => Some(at),
+        Lexeme::Dotted { at, .. } => Some(at),
+        Lexeme::Variable { at, .. } => Some(at),
+        _ => None,
+    }
+}
+
+/// What a token of the source is to the grammar.
+pub(crate) fn lexeme_of<'s>(source: &'s [u8], token: Token) -> Result<Lexeme<'s>, AllocError>
+    requires slice { IsSlice source.now token }
+    ensures { IfOk result (λ found. seen_lexeme found ≡ spec.lexeme source.now token) }
+{
+    let text = &source[token.from as usize..token.to as usize];
+    let at = Span {
+        from: token.from,
+        to: token.to,
+    };
+    match token.kind {
+        TokenKind::Word => Ok(word_lexeme(text)),
+        TokenKind::Ident => Ok(Lexeme::Plain { text, at }),
+        TokenKind::Qualified => Ok(Lexeme::Dotted { text, at }),
+        TokenKind::TypeVar => Ok(Lexeme::Variable { text, at }),
+        TokenKind::Schem => Ok(Lexeme::Other {
+            kind: TokenKind::Schem,
+        }),
+        TokenKind::BoundName => Ok(Lexeme::Other {
+            kind: TokenKind::BoundName,
+        }),
+        TokenKind::Number => Ok(Lexeme::Numeral {
+            value: value_of(text)?,
+        }),
+        TokenKind::Quote => Ok(Lexeme::Quoted {
+            at: Span {
+                from: token.from + 1,
+                to: token.to - 1,
+            },
+        }),
+        TokenKind::Symbol => Ok(symbol_lexeme(text)),
+        TokenKind::End => Ok(Lexeme::Other {
+            kind: TokenKind::End,
+        }),
+    }
+}
+
+/// The value of digits. More than nine of them never come.
+fn value_of(digits: &[u8]) -> Result<u32, AllocError>
+    ensures { IfOk result (λ value. value ≡ spec.value_behind 0 digits.now) }
+{
+    let mut value: u32 = 0;
+    for digit in digits {
+        let Some(tens) = value.checked_mul(10) else {
+            return Err(AllocError);
+        };
+        let Some(next) = tens.checked_add(u32::from(digit.saturating_sub(b'0'))) else {
+            return Err(AllocError);
+        };
+        value = next;
+    }
+    Ok(value)
+}
+
+fn equals(bytes: &[u8], text: &[u8]) -> bool
+    ensures { result ≡ spec.same bytes.now text.now }
+{
+    bytes == text
+}
+
+/// The sign of these bytes.
+#[tactic(auto, unfolding(pure_grammar::specs::Lexeme::symbol_lexeme))]
+fn symbol_lexeme<'s>(text: &'s [u8]) -> Lexeme<'s>
+    ensures { seen_lexeme result ≡ spec.symbol_lexeme text.now }
+{
+    if equals(text, b"<") {
+        return Lexeme::Signed { sign: Sign::Less };
+    }
+    if equals(text, b",") {
+        return Lexeme::Signed { sign: Sign::Comma };
+    }
+    if equals(text, b":") {
+        return Lexeme::Signed { sign: Sign::Colon };
+    }
+    if equals(text, b"::") {
+        return Lexeme::Signed {
+            sign: Sign::DoubleColon,
+        };
+    }
+    if equals(text, b"(") {
+        return Lexeme::Signed {
+            sign: Sign::OpenParenthesis,
+        };
+    }
+    if equals(text, b")") {
+        return Lexeme::Signed {
+            sign: Sign::CloseParenthesis,
+        };
+    }
+    if equals(text, b"{") {
+        return Lexeme::Signed {
+            sign: Sign::OpenBrace,
+        };
+    }
+    if equals(text, b"}") {
+        return Lexeme::Signed {
+            sign: Sign::CloseBrace,
+        };
+    }
+    Lexeme::Other {
+        kind: TokenKind::Symbol,
+    }
+}
+
+/// The keyword of these bytes.
+#[tactic(auto, unfolding(pure_grammar::specs::Lexeme::word_lexeme))]
+fn word_lexeme<'s>(text: &'s [u8]) -> Lexeme<'s>
+    ensures { seen_lexeme result ≡ spec.word_lexeme text.now }
+{
+    if equals(text, b"theory") {
+        return Lexeme::Reserved {
+            word: Keyword::Theory,
+        };
+    }
+    if equals(text, b"imports") {
+        return Lexeme::Reserved {
+            word: Keyword::Imports,
+        };
+    }
+    if equals(text, b"begin") {
+        return Lexeme::Reserved {
+            word: Keyword::Begin,
+        };
+    }
+    if equals(text, b"end") {
+        return Lexeme::Reserved { word: Keyword::End };
+    }
+    if equals(text, b"class") {
+        return Lexeme::Reserved {
+            word: Keyword::Class,
+        };
+    }
+    if equals(text, b"typedecl") {
+        return Lexeme::Reserved {
+            word: Keyword::Typedecl,
+        };
+    }
+    if equals(text, b"arities") {
+        return Lexeme::Reserved {
+            word: Keyword::Arities,
+        };
+    }
+    if equals(text, b"consts") {
+        return Lexeme::Reserved {
+            word: Keyword::Consts,
+        };
+    }
+    if equals(text, b"axiomatization") {
+        return Lexeme::Reserved {
+            word: Keyword::Axiomatization,
+        };
+    }
+    if equals(text, b"where") {
+        return Lexeme::Reserved {
+            word: Keyword::Where,
+        };
+    }
+    if equals(text, b"and") {
+        return Lexeme::Reserved { word: Keyword::And };
+    }
+    if equals(text, b"definition") {
+        return Lexeme::Reserved {
+            word: Keyword::Definition,
+        };
+    }
+    if equals(text, b"lemma") {
+        return Lexeme::Reserved {
+            word: Keyword::Lemma,
+        };
+    }
+    if equals(text, b"theorem") {
+        return Lexeme::Reserved {
+            word: Keyword::Theorem,
+        };
+    }
+    if equals(text, b"apply") {
+        return Lexeme::Reserved {
+            word: Keyword::Apply,
+        };
+    }
+    if equals(text, b"done") {
+        return Lexeme::Reserved {
+            word: Keyword::Done,
+        };
+    }
+    if equals(text, b"by") {
+        return Lexeme::Reserved { word: Keyword::By };
+    }
+    if equals(text, b"prefer") {
+        return Lexeme::Reserved {
+            word: Keyword::Prefer,
+        };
+    }
+    if equals(text, b"defer") {
+        return Lexeme::Reserved {
+            word: Keyword::Defer,
+        };
+    }
+    if equals(text, b"have") {
+        return Lexeme::Reserved {
+            word: Keyword::Have,
+        };
+    }
+    if equals(text, b"version") {
+        return Lexeme::Reserved {
+            word: Keyword::Version,
+        };
+    }
+    Lexeme::Other {
+        kind: TokenKind::Word,
+    }
+}

@@ -1,0 +1,242 @@
+//! The places of a theory's text, and where a token leads to.
+ghost use Rattle.std.specs.Prelude.{◌≡◌, IfOk};
+ghost use Rattle.pure_grammar.specs.Lexeme as lexeme;
+ghost use Rattle.pure_grammar.specs.Reader as spec;
+ghost use Rattle.pure_script.specs.Seen.{seen_lexeme};
+ghost use Rattle.pure_script.specs.Places.{seen_place, seen_begun, seen_turn, seen_command};
+
+use crate::lexeme::{Lexeme, ident_in, is_word, name_in, variable_in};
+use crate::theory::{Command, Span, Step};
+use pure_grammar::Keyword;
+use pure_term::Text;
+use std::alloc::{AllocError, Global};
+
+/// The methods that take one fact.
+#[derive(Clone, Copy)]
+pub(crate) enum FactMethod {
+    Rule,
+    Erule,
+    Drule,
+}
+
+/// A place in a proof; `last` says that the method is that of `by`.
+#[derive(Drop)]
+pub(crate) enum ProofPlace {
+    AtStep,
+    AtNumber,
+    AtMethod { last: bool },
+    AtBasic { last: bool },
+    AfterBasic { last: bool },
+    AtFact { last: bool, method: FactMethod },
+    AtUnfolded { last: bool },
+    AfterUnfolded { last: bool, facts: Vec<Text> },
+}
+
+/// A place among the commands, with what was read of the current one.
+#[derive(Drop)]
+pub(crate) enum Place {
+    AtCommand,
+    AfterEnd,
+    AtClassName,
+    AfterClassName {
+        name: Text,
+    },
+    AtAbove {
+        name: Text,
+    },
+    AfterAbove {
+        name: Text,
+        above: Vec<Text>,
+    },
+    AtParams,
+    AtParam {
+        params: Vec<Text>,
+    },
+    AfterParam {
+        params: Vec<Text>,
+    },
+    AtTypeName {
+        params: u32,
+    },
+    AtConstructor,
+    AfterConstructor {
+        con: Text,
+    },
+    AtDomains {
+        con: Text,
+    },
+    AtSort {
+        con: Text,
+        doms: Vec<Vec<Text>>,
+    },
+    AfterSort {
+        con: Text,
+        doms: Vec<Vec<Text>>,
+    },
+    AtFirstClass {
+        con: Text,
+        doms: Vec<Vec<Text>>,
+    },
+    AtNextClass {
+        con: Text,
+        doms: Vec<Vec<Text>>,
+        sort: Vec<Text>,
+    },
+    AfterClass {
+        con: Text,
+        doms: Vec<Vec<Text>>,
+        sort: Vec<Text>,
+    },
+    AtArityClass {
+        con: Text,
+        doms: Vec<Vec<Text>>,
+    },
+    AtItem,
+    AfterItem {
+        name: Text,
+    },
+    AtItemType {
+        name: Text,
+    },
+    AfterItemType,
+    AtWhere,
+    AtAxiom,
+    AfterAxiom {
+        name: Text,
+    },
+    AtAxiomText {
+        name: Text,
+    },
+    AfterAxiomText,
+    AtDefinition,
+    AfterDefinition {
+        name: Text,
+    },
+    AtDefinitionType {
+        name: Text,
+    },
+    AfterDefinitionType {
+        name: Text,
+        typ: Span,
+    },
+    AtDefinitionText {
+        name: Text,
+        typ: Span,
+    },
+    AtLemma,
+    AfterLemma {
+        name: Text,
+    },
+    AtLemmaText {
+        name: Text,
+    },
+    InProof {
+        name: Text,
+        prop: Span,
+        script: Vec<Step>,
+        place: ProofPlace,
+    },
+}
+
+/// What a token leads to: another place, or a command that it ends and another place, or nothing.
+#[derive(Drop)]
+pub(crate) enum Turn {
+    Moves { place: Place },
+    Adds { command: Command, place: Place },
+    Refuses,
+}
+
+/// To the place, if so.
+pub(crate) fn moves_if(so: bool, place: Place) -> Turn
+    ensures { seen_turn result ≡ spec.moves_if so (seen_place place) }
+{
+    if so {
+        Turn::Moves { place }
+    } else {
+        Turn::Refuses
+    }
+}
+
+/// The place that a token begins: a command, or the end.
+pub(crate) fn command_begun(lexeme: Lexeme<'_>) -> Option<Place>
+    ensures { seen_begun result ≡ spec.command_begun (seen_lexeme lexeme.entry) }
+{
+    if is_word(Keyword::Class, lexeme) {
+        return Some(Place::AtClassName);
+    }
+    if is_word(Keyword::Typedecl, lexeme) {
+        return Some(Place::AtParams);
+    }
+    if is_word(Keyword::Arities, lexeme) {
+        return Some(Place::AtConstructor);
+    }
+    if is_word(Keyword::Consts, lexeme) {
+        return Some(Place::AtItem);
+    }
+    if is_word(Keyword::Axiomatization, lexeme) {
+        return Some(Place::AtWhere);
+    }
+    if is_word(Keyword::Definition, lexeme) {
+        return Some(Place::AtDefinition);
+    }
+    if is_word(Keyword::Lemma, lexeme) {
+        return Some(Place::AtLemma);
+    }
+    if is_word(Keyword::Theorem, lexeme) {
+        return Some(Place::AtLemma);
+    }
+    if is_word(Keyword::End, lexeme) {
+        return Some(Place::AfterEnd);
+    }
+    None
+}
+
+/// The next command begins, or the end.
+pub(crate) fn leave(begun: Option<Place>) -> Turn
+    ensures { seen_turn result ≡ spec.leave (seen_begun begun) }
+{
+    match begun {
+        None => Turn::Refuses,
+        Some(place) => Turn::Moves { place },
+    }
+}
+
+/// This command ends, and the next one begins, or the end.
+pub(crate) fn leave_with(command: Command, begun: Option<Place>) -> Turn
+    ensures { seen_turn result ≡ spec.leave_with (seen_command command) (seen_begun begun) }
+{
+    match begun {
+        None => Turn::Refuses,
+        Some(place) => Turn::Adds { command, place },
+    }
+}
+
+/// The text of an identifier.
+pub(crate) fn ident(alloc: Global, found: Lexeme<'_>) -> Result<Option<Text>, AllocError>
+    ensures { IfOk result (λ text. text ≡ lexeme.ident_in (seen_lexeme found.entry)) }
+{
+    match ident_in(found) {
+        None => Ok(None),
+        Some(bytes) => Ok(Some(Text::make(alloc, bytes)?)),
+    }
+}
+
+/// The text of a name, qualified or not.
+pub(crate) fn name(alloc: Global, found: Lexeme<'_>) -> Result<Option<Text>, AllocError>
+    ensures { IfOk result (λ text. text ≡ lexeme.name_in (seen_lexeme found.entry)) }
+{
+    match name_in(found) {
+        None => Ok(None),
+        Some(bytes) => Ok(Some(Text::make(alloc, bytes)?)),
+    }
+}
+
+/// The text of a type variable.
+pub(crate) fn variable(alloc: Global, found: Lexeme<'_>) -> Result<Option<Text>, AllocError>
+    ensures { IfOk result (λ text. text ≡ lexeme.variable_in (seen_lexeme found.entry)) }
+{
+    match variable_in(found) {
+        None => Ok(None),
+        Some(bytes) => Ok(Some(Text::make(alloc, bytes)?)),
+    }
+}

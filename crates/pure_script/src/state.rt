@@ -1,0 +1,320 @@
+//! The places of a whole theory's text, and where each token leads to.
+ghost use Rattle.std.specs.Prelude.{◌≡◌, IfOk, [], ◌∷◌, ◌++◌};
+ghost use Rattle.pure_grammar.specs.Lexeme.{Ends};
+ghost use Rattle.pure_grammar.specs.PhraseTree.{with_text};
+ghost use Rattle.pure_grammar.specs.Reader as spec;
+ghost use Rattle.pure_script.specs.Seen.{seen_lexeme};
+ghost use Rattle.pure_script.specs.Places.{seen_place, seen_proof_place, seen_turn, seen_command, seen_commands};
+ghost use Rattle.pure_script.specs.States.{seen_state, seen_next, seen_header, seen_end};
+
+use crate::lexeme::{Lexeme, is_word};
+use crate::place::{Place, ProofPlace, Turn, ident};
+use crate::theory::{Command, TheoryText};
+use crate::turn::turn;
+use crate::typedecl::is_among;
+use pure_grammar::{Keyword, TokenKind};
+use pure_term::Text;
+use std::alloc::{AllocError, Global};
+
+/// The name and the imports of a theory.
+#[derive(Drop)]
+pub(crate) struct Header {
+    pub(crate) name: Text,
+    pub(crate) imports: Vec<Text>,
+}
+
+/// A place in the text, with what was read before it.
+#[derive(Drop)]
+pub(crate) enum State {
+    AtStart,
+    AtTheoryName,
+    AfterTheoryName {
+        name: Text,
+    },
+    AtImport {
+        name: Text,
+    },
+    AfterImport {
+        header: Header,
+    },
+    InBody {
+        header: Header,
+        commands: Vec<Command>,
+        place: Place,
+    },
+}
+
+fn body_begun(alloc: Global, header: Header) -> State
+    ensures { seen_state result ≡ spec.body_begun (seen_header header) }
+{
+    let commands = Vec::new(alloc);
+    State::InBody {
+        header,
+        commands,
+        place: Place::AtCommand,
+    }
+}
+
+/// The list of one text.
+fn only(alloc: Global, text: Text) -> Result<Vec<Text>, AllocError>
+    ensures { IfOk result (λ texts. texts.items ≡ text ∷ []) }
+{
+    let mut texts = Vec::new(alloc);
+    texts.push(text)?;
+    Ok(texts)
+}
+
+/// The imports with one more, unless it is there.
+fn with_import(imports: Vec<Text>, theory: Text) -> Result<Vec<Text>, AllocError>
+    ensures { IfOk result (λ all. all.items ≡ with_text imports.items theory) }
+{
+    let mut imports = imports;
+    if !is_among(&theory, &imports) {
+        imports.push(theory)?;
+    }
+    Ok(imports)
+}
+
+fn at_theory_name(alloc: Global, lexeme: Lexeme<'_>) -> Result<Option<State>, AllocError>
+    ensures { IfOk result (λ next. seen_next next ≡ spec.next spec.AtTheoryName (seen_lexeme lexeme.entry)) }
+{
+    match ident(alloc, lexeme)? {
+        None => Ok(None),
+        Some(name) => Ok(Some(State::AfterTheoryName { name })),
+    }
+}
+
+fn after_theory_name(
+    alloc: Global,
+    name: Text,
+    lexeme: Lexeme<'_>,
+) -> Result<Option<State>, AllocError>
+    ensures { IfOk result (λ next. seen_next next ≡ spec.next (spec.AfterTheoryName name) (seen_lexeme lexeme.entry)) }
+{
+    if is_word(Keyword::Imports, lexeme) {
+        return Ok(Some(State::AtImport { name }));
+    }
+    if is_word(Keyword::Begin, lexeme) {
+        let imports = only(alloc, Text::make(alloc, b"Pure")?)?;
+        return Ok(Some(body_begun(alloc, Header { name, imports })));
+    }
+    Ok(None)
+}
+
+fn at_import(alloc: Global, name: Text, lexeme: Lexeme<'_>) -> Result<Option<State>, AllocError>
+    ensures { IfOk result (λ next. seen_next next ≡ spec.next (spec.AtImport name) (seen_lexeme lexeme.entry)) }
+{
+    match ident(alloc, lexeme)? {
+        None => Ok(None),
+        Some(theory) => {
+            let imports = only(alloc, theory)?;
+            let header = Header { name, imports };
+            Ok(Some(State::AfterImport { header }))
+        }
+    }
+}
+
+fn after_import(
+    alloc: Global,
+    header: Header,
+    lexeme: Lexeme<'_>,
+) -> Result<Option<State>, AllocError>
+    ensures { IfOk result (λ next. seen_next next ≡ spec.next (spec.AfterImport (seen_header header)) (seen_lexeme lexeme.entry)) }
+{
+    match ident(alloc, lexeme)? {
+        Some(theory) => {
+            let imports = with_import(header.imports, theory)?;
+            let header = Header {
+                name: header.name,
+                imports,
+            };
+            Ok(Some(State::AfterImport { header }))
+        }
+        None => {
+            if is_word(Keyword::Begin, lexeme) {
+                return Ok(Some(body_begun(alloc, header)));
+            }
+            Ok(None)
+        }
+    }
+}
+
+fn with_command(commands: Vec<Command>, command: Command) -> Result<Vec<Command>, AllocError>
+    ensures { IfOk result (λ all. seen_commands all.items ≡ seen_commands commands.items ++ seen_command command ∷ []) }
+{
+    let mut commands = commands;
+    commands.push(command)?;
+    Ok(commands)
+}
+
+/// The state behind a token of the commands.
+fn body_state(
+    header: Header,
+    commands: Vec<Command>,
+    turn: Turn,
+) -> Result<Option<State>, AllocError>
+    ensures { IfOk result (λ next. seen_next next ≡ spec.body_state (seen_header header) (seen_commands commands.items) (seen_turn turn)) }
+{
+    match turn {
+        Turn::Moves { place } => Ok(Some(State::InBody {
+            header,
+            commands,
+            place,
+        })),
+        Turn::Adds { command, place } => {
+            let commands = with_command(commands, command)?;
+            Ok(Some(State::InBody {
+                header,
+                commands,
+                place,
+            }))
+        }
+        Turn::Refuses => Ok(None),
+    }
+}
+
+fn in_body(
+    alloc: Global,
+    header: Header,
+    commands: Vec<Command>,
+    place: Place,
+    lexeme: Lexeme<'_>,
+) -> Result<Option<State>, AllocError>
+    ensures { IfOk result (λ next. seen_next next ≡ spec.body_state (seen_header header) (seen_commands commands.items) (spec.turn (seen_place place) (seen_lexeme lexeme.entry))) }
+{
+    let led = turn(alloc, place, lexeme)?;
+    body_state(header, commands, led)
+}
+
+/// The state behind a token, or None exactly where none goes on.
+#[tactic(auto, using(crate::proofs::Steps::body_next_same))]
+pub(crate) fn next(
+    alloc: Global,
+    state: State,
+    lexeme: Lexeme<'_>,
+) -> Result<Option<State>, AllocError>
+    ensures { IfOk result (λ next. seen_next next ≡ spec.next (seen_state state) (seen_lexeme lexeme.entry)) }
+{
+    match state {
+        State::AtStart => {
+            if is_word(Keyword::Theory, lexeme) {
+                return Ok(Some(State::AtTheoryName));
+            }
+            Ok(None)
+        }
+        State::AtTheoryName => at_theory_name(alloc, lexeme),
+        State::AfterTheoryName { name } => after_theory_name(alloc, name, lexeme),
+        State::AtImport { name } => at_import(alloc, name, lexeme),
+        State::AfterImport { header } => after_import(alloc, header, lexeme),
+        State::InBody {
+            header,
+            commands,
+            place,
+        } => { in_body(alloc, header, commands, place, lexeme) }
+    }
+}
+
+fn is_after_end(place: &Place) -> bool
+    ensures { result ≡ spec.is_after_end (seen_place place.now) }
+{
+    match place {
+        Place::AfterEnd => true,
+        _ => false,
+    }
+}
+
+/// The theory, where its text may end, and else None.
+pub(crate) fn ended(state: State) -> Option<TheoryText>
+    ensures { seen_end result ≡ spec.next (seen_state state) Ends }
+{
+    match state {
+        State::InBody {
+            header,
+            commands,
+            place,
+        } => {
+            if is_after_end(&place) {
+                return Some(TheoryText {
+                    name: header.name,
+                    imports: header.imports,
+                    commands,
+                });
+            }
+            None
+        }
+        _ => None,
+    }
+}
+
+fn kind_in_proof(place: &ProofPlace) -> TokenKind
+    ensures { result ≡ spec.kind_in_proof (seen_proof_place place.now) }
+{
+    match place {
+        ProofPlace::AtStep => TokenKind::Word,
+        ProofPlace::AtNumber => TokenKind::Number,
+        ProofPlace::AtMethod { .. } => TokenKind::Ident,
+        ProofPlace::AtBasic { .. } => TokenKind::Ident,
+        ProofPlace::AfterBasic { .. } => TokenKind::Symbol,
+        ProofPlace::AtFact { .. } => TokenKind::Ident,
+        ProofPlace::AtUnfolded { .. } => TokenKind::Ident,
+        ProofPlace::AfterUnfolded { .. } => TokenKind::Symbol,
+    }
+}
+
+fn kind_at(place: &Place) -> TokenKind
+    ensures { result ≡ spec.kind_at (seen_place place.now) }
+{
+    match place {
+        Place::AtCommand => TokenKind::Word,
+        Place::AfterEnd => TokenKind::End,
+        Place::AtClassName => TokenKind::Ident,
+        Place::AfterClassName { .. } => TokenKind::Word,
+        Place::AtAbove { .. } => TokenKind::Ident,
+        Place::AfterAbove { .. } => TokenKind::Word,
+        Place::AtParams => TokenKind::Ident,
+        Place::AtParam { .. } => TokenKind::TypeVar,
+        Place::AfterParam { .. } => TokenKind::Symbol,
+        Place::AtTypeName { .. } => TokenKind::Ident,
+        Place::AtConstructor => TokenKind::Ident,
+        Place::AfterConstructor { .. } => TokenKind::Symbol,
+        Place::AtDomains { .. } => TokenKind::Ident,
+        Place::AtSort { .. } => TokenKind::Ident,
+        Place::AfterSort { .. } => TokenKind::Symbol,
+        Place::AtFirstClass { .. } => TokenKind::Ident,
+        Place::AtNextClass { .. } => TokenKind::Ident,
+        Place::AfterClass { .. } => TokenKind::Symbol,
+        Place::AtArityClass { .. } => TokenKind::Ident,
+        Place::AtItem => TokenKind::Ident,
+        Place::AfterItem { .. } => TokenKind::Symbol,
+        Place::AtItemType { .. } => TokenKind::Quote,
+        Place::AfterItemType => TokenKind::Word,
+        Place::AtWhere => TokenKind::Word,
+        Place::AtAxiom => TokenKind::Ident,
+        Place::AfterAxiom { .. } => TokenKind::Symbol,
+        Place::AtAxiomText { .. } => TokenKind::Quote,
+        Place::AfterAxiomText => TokenKind::Word,
+        Place::AtDefinition => TokenKind::Ident,
+        Place::AfterDefinition { .. } => TokenKind::Symbol,
+        Place::AtDefinitionType { .. } => TokenKind::Quote,
+        Place::AfterDefinitionType { .. } => TokenKind::Word,
+        Place::AtDefinitionText { .. } => TokenKind::Quote,
+        Place::AtLemma => TokenKind::Ident,
+        Place::AfterLemma { .. } => TokenKind::Symbol,
+        Place::AtLemmaText { .. } => TokenKind::Quote,
+        Place::InProof { place, .. } => kind_in_proof(place),
+    }
+}
+
+/// A kind of token that may stand next, or the end.
+pub(crate) fn expected(state: &State) -> TokenKind
+    ensures { result ≡ spec.expected (seen_state state.now) }
+{
+    match state {
+        State::AtStart => TokenKind::Word,
+        State::AtTheoryName => TokenKind::Ident,
+        State::AfterTheoryName { .. } => TokenKind::Word,
+        State::AtImport { .. } => TokenKind::Ident,
+        State::AfterImport { .. } => TokenKind::Word,
+        State::InBody { place, .. } => kind_at(place),
+    }
+}
