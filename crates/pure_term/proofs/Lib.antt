@@ -1,6 +1,7 @@
 pub mod ListLaws
 pub mod TypingLaws
 pub mod LimitLaws
+pub mod MapLaws
 pub mod OrderLaws
 pub mod DeclLaws
 pub mod SubstLaws

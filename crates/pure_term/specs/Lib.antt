@@ -22,6 +22,7 @@ pub mod Certified
 pub mod Beta
 pub mod Eta
 pub mod LawsExamples
+pub mod LawsMaps
 pub mod LawsTyping
 pub mod LawsSubst
 pub mod LawsOrder

@@ -4,6 +4,7 @@ ghost use Rattle.pure_term.specs.LawsOrder.{BelowExample, SortBelowExample, OfSo
 ghost use Rattle.pure_term.specs.LawsSubst.{IdentityIsSortRespecting, IdentityIsTypeRespecting, IdentityChangesNoType, IdentityChangesNoTerm, EntriesRespectSorts, EntriesRespectTypes, EntriesKeepFixedTyps, EntriesKeepFixed, TermMapAlone, InstanceExample, TypInstanceExample, FixedTypExample, AllAtOnceExample, KeyedOnOwnTypeExample, SortRespectExample, TypeRespectExample};
 ghost use Rattle.pure_term.specs.LawsNormal.{NoStepExactlyWhereNormal, OneBetaSequence, OneBetaSequenceToNormal, EachTermHasBetaAnswer, OneBetaAnswer, BetaStepsExample, BetaAnswerExample, BetaNormalExample, EndlessExample, LargeExample, EtaExample, LongFormExample, TwoArrowsExample, OneLongForm, OneEtaNormalForm};
 ghost use Rattle.pure_term.specs.LawsBounds.{LiftZero, LiftAgain, LiftLift, SizeOfLift, DepthOfLift, SubstLift, SubstBind, BindSubst, TypingOfLift, TypingOfSubst, TypingOfInstance};
+ghost use Rattle.pure_term.specs.LawsMaps.{SubstPastLift, SubstPastSubst, SizeOfSubst, DepthOfSubst, InstanceOfLift, InstanceOfSubst, InstanceOfBind, InstanceOfInstance};
 
 /// The mutual list of types stands for a list.
 pub fn typs_are_lists()
@@ -200,4 +201,20 @@ pub fn typing_is_kept()
     ensures lifted { TypingOfLift }
     ensures instantiated { TypingOfSubst }
     ensures mapped { TypingOfInstance }
+{}
+
+/// Instantiation past a lifting and past an instantiation, and the size and depth of what it gives.
+pub fn instantiation_past()
+    ensures lifted { SubstPastLift }
+    ensures instantiated { SubstPastSubst }
+    ensures size { SizeOfSubst }
+    ensures depth { DepthOfSubst }
+{}
+
+/// Maps past liftings, instantiations and abstractions; and maps one after the other are one map.
+pub fn maps_past()
+    ensures lifted { InstanceOfLift }
+    ensures instantiated { InstanceOfSubst }
+    ensures abstracted { InstanceOfBind }
+    ensures again { InstanceOfInstance }
 {}
