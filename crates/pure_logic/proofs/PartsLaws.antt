@@ -20,7 +20,7 @@ module _ (ds : List Decl) where
   parts-either true t u h k = h
   parts-either false t u h k = k
 
-  parts-lift : (by from : ℕ) (t : Term) → HasCertifiedParts ds t → HasCertifiedParts ds (lift_term by from t)
+  pub parts-lift : (by from : ℕ) (t : Term) → HasCertifiedParts ds t → HasCertifiedParts ds (lift_term by from t)
   parts-lift by from (Const c T) h = h
   parts-lift by from (Free x T) h = h
   parts-lift by from (Var x i T) h = h

@@ -10,3 +10,4 @@ pub mod LawsTree
 pub mod LawsConclusion
 pub mod LawsContent
 pub mod LawsNodes
+pub mod LawsParts
