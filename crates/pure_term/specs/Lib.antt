@@ -2,6 +2,11 @@ pub mod Lists
 pub mod Names
 pub mod Typ
 pub mod Term
+pub mod Codes
+pub mod TypView
+pub mod TypFalls
+pub mod TermView
+pub mod TermFalls
 pub mod Order
 pub mod Typing
 pub mod Bounds
