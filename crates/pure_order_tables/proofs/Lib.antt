@@ -1,0 +1,5 @@
+pub mod ListMore
+pub mod NameLaws
+pub mod MapLaws
+pub mod BelowLaws
+pub mod ClassTableLaws

@@ -1,0 +1,84 @@
+-- Membership in lists that grow by one element.
+use Rattle.std.proofs.Common.{◌≡◌, ℕ, ◌+◌, ◌<◌, ◌≤◌, List, [], ◌∷◌, ◌++◌, length, get_or, take, refl, sym, arith, Result, Ok, Err, OnOk, OnErr, is_ok, true, inl, inr, ◌⊎◌, ◌↔◌}
+use Rattle.std.proofs.lemmas.List.{take_more}
+use Rattle.pure_term.specs.Lists.{IsIn, Each, AnyOf}
+use Rattle.pure_term.proofs.ListLaws.{in-append_left, in-append_right}
+
+pub in_split : {A : Type 0} (x : A) (xs ys : List A) → IsIn x (xs ++ ys) → IsIn x xs ⊎ IsIn x ys
+in_split x [] ys m = inr m
+in_split x (z ∷ xs) ys m = elim m [ inl e ↦ inl (inl e) | inr n ↦ elim (in_split x xs ys n) [ inl a ↦ inl (inr a) | inr b ↦ inr b ] ]
+
+pub any_split : {A : Type 0} (P : A → Type 0) (xs ys : List A) → AnyOf P (xs ++ ys) → AnyOf P xs ⊎ AnyOf P ys
+any_split P [] ys m = inr m
+any_split P (z ∷ xs) ys m = elim m [ inl e ↦ inl (inl e) | inr n ↦ elim (any_split P xs ys n) [ inl a ↦ inl (inr a) | inr b ↦ inr b ] ]
+
+pub any-append_left : {A : Type 0} (P : A → Type 0) (xs ys : List A) → AnyOf P xs → AnyOf P (xs ++ ys)
+any-append_left P [] ys m = absurd m
+any-append_left P (z ∷ xs) ys m = elim m [ inl e ↦ inl e | inr n ↦ inr (any-append_left P xs ys n) ]
+
+pub any-append_right : {A : Type 0} (P : A → Type 0) (xs ys : List A) → AnyOf P ys → AnyOf P (xs ++ ys)
+any-append_right P [] ys m = m
+any-append_right P (z ∷ xs) ys m = inr (any-append_right P xs ys m)
+
+pub each-append : {A : Type 0} (P : A → Type 0) (xs ys : List A) → Each P xs → Each P ys → Each P (xs ++ ys)
+each-append P [] ys a b = b
+each-append P (x ∷ xs) ys a b = (a.0, each-append P xs ys a.1 b)
+
+pub any_some : {A : Type 0} (P : A → Type 0) (xs : List A) → AnyOf P xs → (x : A) × IsIn x xs × P x
+any_some P [] h = absurd h
+any_some P (x ∷ xs) h = elim h [ inl p ↦ (x, inl refl, p) | inr t ↦ (let w = any_some P xs t in (w.0, inr w.1, w.2)) ]
+
+pub any_imply : {A : Type 0} (P Q : A → Type 0) (xs : List A) → ((x : A) → P x → Q x) → AnyOf P xs → AnyOf Q xs
+any_imply P Q [] f h = h
+any_imply P Q (x ∷ xs) f h = elim h [ inl p ↦ inl (f x p) | inr t ↦ inr (any_imply P Q xs f t) ]
+
+pub each_at : {A : Type 0} (P : A → Type 0) (xs : List A) → Each P xs → (x : A) → IsIn x xs → P x
+each_at P [] h x m = absurd m
+each_at P (y ∷ ys) h x m = elim m [ inl e ↦ rw e h.0 | inr n ↦ each_at P ys h.1 x n ]
+
+pub longer_by : {A : Type 0} (xs : List A) (i : ℕ) (r : A) → i < length xs → r ≡ get_or xs i r → take (i + 1) xs ≡ take i xs ++ r ∷ []
+longer_by xs i r within read = rw (take_more xs i r within, ← read) refl
+
+-- one turn of a loop over a list
+pub any_turn : {A : Type 0} (P : A → Type 0) (xs : List A) (i : ℕ) (r : A) → i < length xs → r ≡ get_or xs i r → AnyOf P (take (i + 1) xs) ↔ (AnyOf P (take i xs) ⊎ P r)
+any_turn {A} P xs i r within read = (there, back)
+  where
+    longer : take (i + 1) xs ≡ take i xs ++ r ∷ []
+    longer = longer_by xs i r within read
+    there : AnyOf P (take (i + 1) xs) → AnyOf P (take i xs) ⊎ P r
+    there m = elim (any_split P (take i xs) (r ∷ []) (rw longer at m)) [ inl a ↦ inl a | inr b ↦ elim b [ inl p ↦ inr p | inr none ↦ absurd none ] ]
+    back : AnyOf P (take i xs) ⊎ P r → AnyOf P (take (i + 1) xs)
+    back w = rw longer (elim w [ inl a ↦ any-append_left P (take i xs) (r ∷ []) a | inr p ↦ any-append_right P (take i xs) (r ∷ []) (inl p) ])
+
+pub in_turn : {A : Type 0} (x : A) (xs : List A) (i : ℕ) (r : A) → i < length xs → r ≡ get_or xs i r → IsIn x (take (i + 1) xs) ↔ (IsIn x (take i xs) ⊎ (x ≡ r))
+in_turn {A} x xs i r within read = (there, back)
+  where
+    longer : take (i + 1) xs ≡ take i xs ++ r ∷ []
+    longer = longer_by xs i r within read
+    there : IsIn x (take (i + 1) xs) → IsIn x (take i xs) ⊎ (x ≡ r)
+    there m = elim (in_split x (take i xs) (r ∷ []) (rw longer at m)) [ inl a ↦ inl a | inr b ↦ elim b [ inl p ↦ inr p | inr none ↦ absurd none ] ]
+    back : IsIn x (take i xs) ⊎ (x ≡ r) → IsIn x (take (i + 1) xs)
+    back w = rw longer (elim w [ inl a ↦ in-append_left x (take i xs) (r ∷ []) a | inr p ↦ in-append_right x (take i xs) (r ∷ []) (inl p) ])
+
+-- what is there after a turn: new or old, and old as it was before
+pub turned : (N R S T U O : Type 0) → U ↔ (T ⊎ R) → N ↔ (R ⊎ S) → S ↔ (T ⊎ O) → N ↔ (U ⊎ O)
+turned N R S T U O u n s =
+    ( λ m. elim (n.0 m) [ inl r ↦ inl (u.1 (inr r)) | inr o ↦ elim (s.0 o) [ inl t ↦ inl (u.1 (inl t)) | inr p ↦ inr p ] ],
+      λ m. elim m [ inl v ↦ elim (u.0 v) [ inl t ↦ n.1 (inr (s.1 (inl t))) | inr r ↦ n.1 (inl r) ] | inr o ↦ n.1 (inr (s.1 (inr o))) ] )
+
+pub turned_back : (N R S T U O : Type 0) → U ↔ (T ⊎ R) → N ↔ (R ⊎ S) → S ↔ (O ⊎ T) → N ↔ (O ⊎ U)
+turned_back N R S T U O u n s =
+    ( λ m. elim (n.0 m) [ inl r ↦ inr (u.1 (inr r)) | inr o ↦ elim (s.0 o) [ inl p ↦ inl p | inr t ↦ inr (u.1 (inl t)) ] ],
+      λ m. elim m [ inl o ↦ n.1 (inr (s.1 (inl o))) | inr v ↦ elim (u.0 v) [ inl t ↦ n.1 (inr (s.1 (inr t))) | inr r ↦ n.1 (inl r) ] ] )
+
+pub on_ok_then : {T E : Type 0} (r : Result T E) (P Q : Type 0) → (P → Q) → OnOk r P → OnOk r Q
+on_ok_then (Ok x) P Q f h = f h
+on_ok_then (Err e) P Q f h = h
+
+pub room_then_ok : {T E : Type 0} (r : Result T E) (n m : ℕ) → OnErr r (m ≤ n) → n + 1 ≤ m → is_ok r ≡ true
+room_then_ok (Ok x) n m h room = refl
+room_then_ok (Err e) n m h room = absurd (omega arith)
+
+pub in_other_words : (N O R S : Type 0) → R ↔ S → N ↔ (R ⊎ O) → N ↔ (S ⊎ O)
+in_other_words N O R S rs n =
+    ( λ m. elim (n.0 m) [ inl r ↦ inl (rs.0 r) | inr o ↦ inr o ], λ m. elim m [ inl s ↦ n.1 (inl (rs.1 s)) | inr o ↦ n.1 (inr o) ] )

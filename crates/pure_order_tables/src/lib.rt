@@ -1,0 +1,8 @@
+//! Completed tables of classes and arities: queries by look-up, which answer the order of classes by its paths.
+#![tactic(auto)]
+
+mod classes;
+mod names;
+mod room;
+
+pub use classes::ClassTable;
