@@ -1,5 +1,5 @@
 -- The class order: chains of paths, and what one more class changes.
-use Rattle.std.proofs.Common.{◌≡◌, ℕ, List, [], ◌∷◌, ◌++◌, refl, ap, sym, inl, inr, ◌⊎◌, ◌↔◌, append_assoc, append-nil, ◌∙◌}
+use Rattle.std.proofs.Common.{◌≡◌, ℕ, List, [], ◌∷◌, ◌++◌, refl, ap, sym, inl, inr, ◌⊎◌, ◌↔◌, append_assoc, append-nil, ◌∙◌, Bool, IsTrue}
 use Rattle.pure_term.specs.Lists.{IsIn, Each, AnyOf}
 use Rattle.pure_term.specs.Order.{Class, Arity, Algebra, IsInclusion, IsClassBelow, itself, along, IsSortBelow, HasClassBelow, AreDomainsBelow}
 use Rattle.pure_term.proofs.ListLaws.{any_of, in-append_left, in-append_right}
@@ -51,3 +51,10 @@ follows-one_more done (l ∷ ls) k f fresh known = (f.0, f.1, follows-one_more (
 
 pub below_same : (A : Algebra) (c d : ℕ) → c ≡ d → IsClassBelow A c d
 below_same A c d e = rw e itself
+
+-- The order is that of the classes alone.
+pub below-classes : (A : Algebra) (c d : ℕ) → IsClassBelow (of_classes A.classes) c d ↔ IsClassBelow A c d
+below-classes A c d = (λ h. below-more (of_classes A.classes) A (λ k m. m) h, λ h. below-more A (of_classes A.classes) (λ k m. m) h)
+
+pub below-at : (A B : Algebra) (b : Bool) (c d : ℕ) → A ≡ B → (IsTrue b ↔ IsClassBelow (of_classes A.classes) c d) → IsTrue b ↔ IsClassBelow B c d
+below-at A B b c d same h = rw (← same) (λ t. (below-classes A c d).0 (h.0 t), λ k. h.1 ((below-classes A c d).1 k))

@@ -3,3 +3,5 @@ pub mod NameLaws
 pub mod MapLaws
 pub mod BelowLaws
 pub mod ClassTableLaws
+pub mod ArityLaws
+pub mod ArityTableLaws

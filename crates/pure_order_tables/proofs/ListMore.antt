@@ -1,8 +1,8 @@
 -- Membership in lists that grow by one element.
-use Rattle.std.proofs.Common.{◌≡◌, ℕ, ◌+◌, ◌<◌, ◌≤◌, List, [], ◌∷◌, ◌++◌, length, get_or, take, refl, sym, arith, Result, Ok, Err, OnOk, OnErr, is_ok, true, inl, inr, ◌⊎◌, ◌↔◌}
+use Rattle.std.proofs.Common.{◌≡◌, ℕ, ◌+◌, ◌<◌, ◌≤◌, List, [], ◌∷◌, ◌++◌, length, get_or, take, refl, sym, arith, Result, Ok, Err, OnOk, OnErr, is_ok, Bool, true, false, IsTrue, zero, suc, ap, take_all, inl, inr, ◌⊎◌, ◌↔◌}
 use Rattle.std.proofs.lemmas.List.{take_more}
-use Rattle.pure_term.specs.Lists.{IsIn, Each, AnyOf}
-use Rattle.pure_term.proofs.ListLaws.{in-append_left, in-append_right}
+use Rattle.pure_term.specs.Lists.{IsIn, Each, AnyOf, EachTwo}
+use Rattle.pure_term.proofs.ListLaws.{any_of, in-append_left, in-append_right}
 
 pub in_split : {A : Type 0} (x : A) (xs ys : List A) → IsIn x (xs ++ ys) → IsIn x xs ⊎ IsIn x ys
 in_split x [] ys m = inr m
@@ -82,3 +82,60 @@ room_then_ok (Err e) n m h room = absurd (omega arith)
 pub in_other_words : (N O R S : Type 0) → R ↔ S → N ↔ (R ⊎ O) → N ↔ (S ⊎ O)
 in_other_words N O R S rs n =
     ( λ m. elim (n.0 m) [ inl r ↦ inl (rs.0 r) | inr o ↦ inr o ], λ m. elim m [ inl s ↦ n.1 (inl (rs.1 s)) | inr o ↦ n.1 (inr o) ] )
+
+pub each_turn : {A : Type 0} (P : A → Type 0) (xs : List A) (i : ℕ) (r : A) → i < length xs → r ≡ get_or xs i r → Each P (take i xs) → P r → Each P (take (i + 1) xs)
+each_turn P xs i r within read each p = rw (longer_by xs i r within read) (each-append P (take i xs) (r ∷ []) each (p, tt))
+
+pub read_in : {A : Type 0} (xs : List A) (i : ℕ) (r : A) → i < length xs → r ≡ get_or xs i r → IsIn r xs
+read_in [] i r within read = absurd (omega arith)
+read_in (x ∷ xs) zero r within read = inl read
+read_in (x ∷ xs) (suc i) r within read = inr (read_in xs i r (omega arith) read)
+
+pub each_read : {A : Type 0} (P : A → Type 0) (xs : List A) (i : ℕ) (r : A) → i < length xs → r ≡ get_or xs i r → Each P xs → P r
+each_read P xs i r within read each = each_at P xs each r (read_in xs i r within read)
+
+pub any_read : {A : Type 0} (P : A → Type 0) (xs : List A) (i : ℕ) (r : A) → i < length xs → r ≡ get_or xs i r → P r → AnyOf P xs
+any_read P xs i r within read p = any_of P r xs (read_in xs i r within read) p
+
+pub two_long : {A B : Type 0} (R : A → B → Type 0) (xs : List A) (ys : List B) → EachTwo R xs ys → length xs ≡ length ys
+two_long R [] [] h = refl
+two_long R [] (y ∷ ys) h = absurd h
+two_long R (x ∷ xs) [] h = absurd h
+two_long R (x ∷ xs) (y ∷ ys) h = ap suc (two_long R xs ys h.1)
+
+pub two-append : {A B : Type 0} (R : A → B → Type 0) (xs us : List A) (ys vs : List B) → EachTwo R xs ys → EachTwo R us vs → EachTwo R (xs ++ us) (ys ++ vs)
+two-append R [] us [] vs h k = k
+two-append R [] us (y ∷ ys) vs h k = absurd h
+two-append R (x ∷ xs) us [] vs h k = absurd h
+two-append R (x ∷ xs) us (y ∷ ys) vs h k = (h.0, two-append R xs us ys vs h.1 k)
+
+pub two_read : {A B : Type 0} (R : A → B → Type 0) (xs : List A) (ys : List B) (i : ℕ) (a : A) (b : B) → i < length xs → a ≡ get_or xs i a → b ≡ get_or ys i b → EachTwo R xs ys → R a b
+two_read R [] ys i a b within ra rb h = absurd (omega arith)
+two_read R (x ∷ xs) [] i a b within ra rb h = absurd h
+two_read R (x ∷ xs) (y ∷ ys) zero a b within ra rb h = rw (ra, rb) h.0
+two_read R (x ∷ xs) (y ∷ ys) (suc i) a b within ra rb h = two_read R xs ys i a b (omega arith) ra rb h.1
+
+pub two_turn : {A B : Type 0} (R : A → B → Type 0) (xs : List A) (ys : List B) (i : ℕ) (a : A) (b : B) → length xs ≡ length ys → i < length xs → a ≡ get_or xs i a → b ≡ get_or ys i b → EachTwo R (take i xs) (take i ys) → R a b → EachTwo R (take (i + 1) xs) (take (i + 1) ys)
+two_turn R xs ys i a b same within ra rb h r =
+    let other : i < length ys = omega arith in
+    rw (longer_by xs i a within ra, longer_by ys i b other rb) (two-append R (take i xs) (a ∷ []) (take i ys) (b ∷ []) h (r, tt))
+
+pub two_full : {A B : Type 0} (R : A → B → Type 0) (xs : List A) (ys : List B) (i : ℕ) → length xs ≡ length ys → length xs ≤ i → EachTwo R (take i xs) (take i ys) → EachTwo R xs ys
+two_full R xs ys i same full h = rw (take_all i xs full, take_all i ys (omega arith)) at h
+
+-- a test that answered false
+pub test_fails : (P : Type 0) (b : Bool) → (IsTrue b ↔ P) → b ≡ false → ¬ P
+test_fails P b h e p = let t = h.1 p in cc
+
+pub test_holds : (P : Type 0) (b : Bool) → (IsTrue b ↔ P) → b ≡ true → P
+test_holds P b h e = h.0 e
+
+-- an answer given at once
+pub yes_as : (P : Type 0) → P → IsTrue true ↔ P
+yes_as P p = (λ t. p, λ q. refl)
+
+pub no_as : (P : Type 0) → ¬ P → IsTrue false ↔ P
+no_as P n = (λ t. absurd (false_true t), λ p. absurd (n p))
+  where
+    false_true : IsTrue false → ⊥
+    false_true t = cc

@@ -1,3 +1,6 @@
 pub mod Classes
 pub mod ClassView
 pub mod ClassTable
+pub mod Arities
+pub mod ArityView
+pub mod ArityTable

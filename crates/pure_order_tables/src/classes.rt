@@ -2,7 +2,7 @@ ghost use Rattle.std.specs.Prelude.{◌≡◌, ◌↔◌, ◌⊎◌, ℕ, [], �
 ghost use Rattle.std.specs.List.Sorted.{IsStrictlyIncreasing};
 ghost use Rattle.pure_term.specs.Lists.{IsIn, Each, AnyOf};
 ghost use Rattle.pure_term.specs.Order.{IsClassBelow};
-ghost use Rattle.pure_order_tables.specs.Classes.{IsDeclared, of_classes};
+ghost use Rattle.pure_order_tables.specs.Classes.{IsDeclared, Follows, of_classes};
 ghost use Rattle.pure_order_tables.specs.ClassTable.{AreAllAbove};
 
 use crate::names::{has, is_same, put, put_all};
@@ -112,6 +112,7 @@ impl ClassTable {
         requires known { Each (IsDeclared self.old) above.now }
         ensures ok { OnOk result (self.new ≡ self.old ++ record { name = class; above = above.now } ∷ []) }
         ensures err { OnErr result (self.new ≡ self.old) }
+        ensures ordered { Follows [] self.old }
     {
         let up = self.above_new(alloc, class, above)?;
         let entry = ClassEntry {

@@ -4,5 +4,7 @@
 mod classes;
 mod names;
 mod room;
+mod tables;
 
 pub use classes::ClassTable;
+pub use tables::Tables;

@@ -1,0 +1,6 @@
+use Rattle.pure_order_tables.specs.ArityView.{algebra_of}
+use Rattle.pure_order_tables.proofs.ArityTableLaws.{table-one_class}
+use Rattle.pure_order_tables.proofs.tables.Tables.push_class.Goals as goal
+
+pub invariant_of-self-2 : goal.invariant_of-self-2
+invariant_of-self-2 c = rw c.in_ok-push.ensures.ok (table-one_class (algebra_of c.self.inside.classes c.self.inside.arities.items) c.args.self.now (record { name = c.args.class; above = c.args.above.now }) c.self.inside.slots c.self.view_is c.push.ensures.ordered c.requires.fresh c.self.invariant)

@@ -1,0 +1,211 @@
+ghost use Rattle.std.specs.Prelude.{◌≡◌, ◌↔◌, ℕ, [], ◌∷◌, ◌++◌, IsTrue, OnOk, OnErr, IfOk, MatchBool, MatchOption, length};
+ghost use Rattle.std.specs.BTreeMap.{get};
+ghost use Rattle.std.specs.Ordering.{nat_cmp};
+ghost use Rattle.pure_term.specs.Lists.{IsIn, Each, AnyOf, EachTwo};
+ghost use Rattle.pure_term.specs.Order.{Arity, IsClassBelow, HasClassBelow, IsSortBelow};
+ghost use Rattle.pure_order_tables.specs.Classes.{IsDeclared};
+ghost use Rattle.pure_order_tables.specs.Arities.{IsArityBelow, IsGreatestIfAny, IsAboveGreatest, IsNotAbove, with_class, with_arity};
+ghost use Rattle.pure_order_tables.specs.ArityTable.{IsPlace, ArePlaces};
+
+use crate::classes::ClassTable;
+use crate::room::push_in_room;
+use pure_term::{Name, Sort};
+use std::alloc::{AllocError, Global};
+use std::collections::BTreeMap;
+use std::marker::Model;
+
+/// A declared arity.
+#[derive(Drop)]
+struct ArityEntry {
+    con: Name,
+    domains: Vec<Sort>,
+    class: Name,
+}
+
+/// Declared classes and arities. For each constructor and class the slots have the place of the arity with the greatest domains.
+#[derive(Drop)]
+pub struct Tables {
+    classes: ClassTable,
+    arities: Vec<ArityEntry>,
+    slots: BTreeMap<u32, BTreeMap<u32, usize>>,
+}
+
+impl Model for Tables {
+    ghost use Rattle.pure_term.specs.Order.{Algebra};
+
+    ghost Value = { Algebra };
+
+    ghost use Rattle.pure_order_tables.specs.ArityView.{algebra_of};
+    ghost use Rattle.pure_order_tables.specs.ArityTable.{IsArityTable};
+
+    ghost view = { λ t. algebra_of t.classes t.arities.items };
+
+    ghost invariant = { λ t. IsArityTable (algebra_of t.classes t.arities.items) t.slots };
+}
+
+impl Tables {
+    /// Nothing declared.
+    pub fn empty(alloc: Global) -> Tables
+        ensures { result ≡ record { classes = []; arities = [] } }
+    {
+        Tables {
+            classes: ClassTable::empty(alloc),
+            arities: Vec::new(alloc),
+            slots: BTreeMap::new(alloc),
+        }
+    }
+
+    /// Whether the class is declared.
+    pub fn is_declared(&self, class: Name) -> bool
+        ensures { IsTrue result ↔ IsDeclared self.now.classes class }
+    {
+        self.classes.is_declared(class)
+    }
+
+    /// Whether the first class is below the second.
+    pub fn below(&self, first: Name, second: Name) -> bool
+        ensures { IsTrue result ↔ IsClassBelow self.now first second }
+    {
+        self.classes.below(first, second)
+    }
+
+    /// Whether one of the classes is below the class.
+    fn some_below(&self, classes: &[Name], class: Name) -> bool
+        ensures { IsTrue result ↔ HasClassBelow self.now classes.now class }
+    {
+        for lower in classes {
+            if self.below(*lower, class) {
+                return true;
+            }
+        }
+        false
+    }
+
+    /// Whether the first sort is below the second.
+    pub fn sort_below(&self, first: &Sort, second: &Sort) -> bool
+        ensures { IsTrue result ↔ IsSortBelow self.now first.now second.now }
+    {
+        for class in second.classes() {
+            if !self.some_below(first.classes(), *class) {
+                return false;
+            }
+        }
+        true
+    }
+
+    /// Whether the first sorts are as many as the second, and each is below its own.
+    pub fn domains_below(&self, first: &[Sort], second: &[Sort]) -> bool
+        ensures { IsTrue result ↔ EachTwo (IsSortBelow self.now) first.now second.now }
+    {
+        if first.len() != second.len() {
+            return false;
+        }
+        for i in 0..first.len() {
+            let lower = &first[i];
+            let upper = &second[i];
+            if !self.sort_below(lower, upper) {
+                return false;
+            }
+        }
+        true
+    }
+
+    /// The place of an arity of the constructor for a class below this one, the greatest if there is a greatest.
+    fn place(&self, con: Name, class: Name) -> Option<usize>
+        ensures { MatchOption result ((q : Arity) → ¬ IsArityBelow self.now con class q) (IsPlace self.now con class) }
+    {
+        match self.slots.get(&con.0) {
+            None => None,
+            Some(places) => places.get(&class.0).copied(),
+        }
+    }
+
+    /// The domains of an arity of the constructor for a class below this one, the greatest if there is a greatest.
+    pub fn candidate(&self, con: Name, class: Name) -> Option<&[Sort]>
+        ensures { MatchOption result ((q : Arity) → ¬ IsArityBelow self.now con class q) (λ domains. (q : Arity) × (q.domains ≡ domains.now) × IsGreatestIfAny self.now con class q) }
+    {
+        match self.place(con, class) {
+            None => None,
+            Some(place) => {
+                let entry = &self.arities[place];
+                Some(entry.domains.as_slice())
+            }
+        }
+    }
+
+    /// Whether the domains are above the greatest of the constructor's arities for classes below this one.
+    fn is_greater(&self, con: Name, class: Name, domains: &[Sort]) -> bool
+        ensures { MatchBool result (IsAboveGreatest self.now con class domains.now) (IsNotAbove self.now con class domains.now) }
+    {
+        match self.candidate(con, class) {
+            None => true,
+            Some(candidate) => self.domains_below(candidate, domains),
+        }
+    }
+
+    /// The count of arities.
+    fn arity_count(&self) -> usize
+        ensures { result ≡ length self.now.arities }
+    {
+        self.arities.len()
+    }
+
+    /// The constructor's places.
+    fn places_of(&self, alloc: Global, con: Name) -> Result<BTreeMap<u32, usize>, AllocError>
+        ensures { IfOk result (λ places. ArePlaces self.now con (get nat_cmp places)) }
+    {
+        match self.slots.get(&con.0) {
+            None => Ok(BTreeMap::new(alloc)),
+            Some(places) => copied(places),
+        }
+    }
+
+    /// The constructor's places once a further arity stands behind the others.
+    fn places_with(&self, alloc: Global, con: Name, domains: &[Sort], class: Name) -> Result<BTreeMap<u32, usize>, AllocError>
+        requires { IsDeclared self.now.classes class }
+        ensures { IfOk result (λ places. ArePlaces (with_arity self.now (record { con = con; domains = domains.now; class = class })) con (get nat_cmp places)) }
+    {
+        let mut places = self.places_of(alloc, con)?;
+        let Some(above) = self.classes.above(class) else {
+            return Ok(places);
+        };
+        let last = self.arity_count();
+        for upper in above {
+            if self.is_greater(con, *upper, domains) {
+                places.insert(upper.0, last)?;
+            }
+        }
+        Ok(places)
+    }
+
+    /// Declares a class.
+    pub fn push_class(&mut self, alloc: Global, class: Name, above: &[Name]) -> Result<(), AllocError>
+        requires fresh { ¬ IsDeclared self.old.classes class }
+        requires known { Each (IsDeclared self.old.classes) above.now }
+        ensures ok { OnOk result (self.new ≡ with_class self.old (record { name = class; above = above.now })) }
+        ensures err { OnErr result (self.new ≡ self.old) }
+    {
+        self.classes.push(alloc, class, above)?;
+        Ok(())
+    }
+
+    /// Declares an arity.
+    pub fn push_arity(&mut self, alloc: Global, con: Name, domains: Vec<Sort>, class: Name) -> Result<(), AllocError>
+        requires domains { Each (Each (IsDeclared self.old.classes)) domains.items }
+        requires class { IsDeclared self.old.classes class }
+        ensures ok { OnOk result (self.new ≡ with_arity self.old (record { con = con; domains = domains.items; class = class })) }
+        ensures err { OnErr result (self.new ≡ self.old) }
+    {
+        let places = self.places_with(alloc, con, domains.as_slice(), class)?;
+        self.arities.reserve(1)?;
+        self.slots.insert(con.0, places)?;
+        push_in_room(&mut self.arities, ArityEntry { con, domains, class });
+        Ok(())
+    }
+}
+
+fn copied(places: &BTreeMap<u32, usize>) -> Result<BTreeMap<u32, usize>, AllocError>
+    ensures { IfOk result (λ copy. (q : ℕ) → get nat_cmp copy q ≡ get nat_cmp places.now q) }
+{
+    places.clone()
+}
