@@ -76,12 +76,8 @@ turn_kept A a d r P P' o passed not done = elim done [
 pub all_done : (A : Algebra) (a : Arity) (d : ℕ) (P : Type 0) (o : Option ℕ) → (IsClassBelow A a.class d → P) → IsDone A a d P o → MatchOption o ((q : Arity) → ¬ IsArityBelow (with_arity A a) a.con d q) (IsPlace (with_arity A a) a.con d)
 all_done A a d P o all done = elim done [ inl right ↦ right | inr left ↦ kept_apart A a a.con d o (λ h. left.0 (all (same_order_back A a h.below))) left.1 ]
 
-pub entries-one_arity : (cs : List Class) (es es' : List ArityEntry) (e : ArityEntry) (B : Algebra) (con class : ℕ) (domains : List (List ℕ)) (old new : BTreeMap ℕ (BTreeMap ℕ ℕ)) (places : BTreeMap ℕ ℕ) → algebra_of cs es ≡ B → es' ≡ es ++ e ∷ [] → e.con ≡ con → e.domains.items ≡ domains → e.class ≡ class
-    → IsArityTable (algebra_of cs es) old → Each (Each (IsDeclared B.classes)) domains → IsDeclared B.classes class → ArePlaces (with_arity B (record { con = con; domains = domains; class = class })) con (get nat_cmp places) → Updates nat_cmp old new con (Some places) → IsArityTable (algebra_of cs es') new
-entries-one_arity cs es es' e B con class domains old new places same longer named there of t known declared right updates =
-    let A : Algebra = algebra_of cs es in
-    let written : Arity = record { con = con; domains = domains; class = class } in
-    let arity : arity_of e ≡ written = λ i. record { con = named i; domains = there i; class = of i } in
-    let classes : cs ≡ B.classes = ap (λ (x : Algebra). x.classes) same in
-    let is : IsKnown cs (arity_of e) = record { domains = rw (there, classes) known; class = rw (of, classes) declared } in
-    rw (longer, map-append arity_of es (e ∷ [])) (table-one_arity A (arity_of e) old new places t is (subst (λ (x : Arity). ArePlaces (with_arity A x) x.con (get nat_cmp places)) (sym arity) (subst (λ (X : Algebra). ArePlaces (with_arity X written) con (get nat_cmp places)) (sym same) right)) (rw named updates))
+pub entries-one_arity : (cs : List Class) (es es' : List ArityEntry) (e : ArityEntry) (B : Algebra) (old new : BTreeMap ℕ (BTreeMap ℕ ℕ)) (places : BTreeMap ℕ ℕ) → algebra_of cs es ≡ B → es' ≡ es ++ e ∷ []
+    → IsArityTable (algebra_of cs es) old → IsKnown B.classes (arity_of e) → ArePlaces (with_arity B (arity_of e)) e.con (get nat_cmp places) → Updates nat_cmp old new e.con (Some places) → IsArityTable (algebra_of cs es') new
+entries-one_arity cs es es' e B old new places same longer t known right updates =
+    let is : IsKnown cs (arity_of e) = subst (λ (X : Algebra). IsKnown X.classes (arity_of e)) (sym same) known in
+    rw (longer, map-append arity_of es (e ∷ [])) (table-one_arity (algebra_of cs es) (arity_of e) old new places t is (subst (λ (X : Algebra). ArePlaces (with_arity X (arity_of e)) e.con (get nat_cmp places)) (sym same) right) updates)

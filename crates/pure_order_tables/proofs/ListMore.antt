@@ -1,5 +1,5 @@
 -- Membership in lists that grow by one element.
-use Rattle.std.proofs.Common.{◌≡◌, ℕ, ◌+◌, ◌<◌, ◌≤◌, List, [], ◌∷◌, ◌++◌, length, get_or, take, refl, sym, arith, Result, Ok, Err, OnOk, OnErr, is_ok, Bool, true, false, IsTrue, zero, suc, ap, take_all, inl, inr, ◌⊎◌, ◌↔◌}
+use Rattle.std.proofs.Common.{◌≡◌, ℕ, ◌+◌, ◌<◌, ◌≤◌, List, [], ◌∷◌, ◌++◌, length, get_or, take, refl, sym, arith, Result, Ok, Err, OnOk, OnErr, is_ok, Bool, true, false, IsTrue, zero, suc, ap, take_all, map, inl, inr, ◌⊎◌, ◌↔◌}
 use Rattle.std.proofs.lemmas.List.{take_more}
 use Rattle.pure_term.specs.Lists.{IsIn, Each, AnyOf, EachTwo}
 use Rattle.pure_term.proofs.ListLaws.{any_of, in-append_left, in-append_right}
@@ -139,3 +139,7 @@ no_as P n = (λ t. absurd (false_true t), λ p. absurd (n p))
   where
     false_true : IsTrue false → ⊥
     false_true t = cc
+
+pub any-map : {A B : Type 0} (f : A → B) (P : B → Type 0) (xs : List A) → AnyOf P (map f xs) ↔ AnyOf (λ x. P (f x)) xs
+any-map f P [] = (λ h. h, λ h. h)
+any-map f P (x ∷ xs) = let t = any-map f P xs in (λ h. elim h [ inl p ↦ inl p | inr n ↦ inr (t.0 n) ], λ h. elim h [ inl p ↦ inl p | inr n ↦ inr (t.1 n) ])

@@ -4,3 +4,4 @@ pub mod ClassTable
 pub mod Arities
 pub mod ArityView
 pub mod ArityTable
+pub mod Checks

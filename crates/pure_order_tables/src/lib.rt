@@ -1,10 +1,11 @@
 //! Completed tables of classes and arities: queries by look-up, which answer the order of classes by its paths.
 #![tactic(auto)]
 
+mod checks;
 mod classes;
 mod names;
 mod room;
 mod tables;
 
 pub use classes::ClassTable;
-pub use tables::Tables;
+pub use tables::{ArityEntry, Tables};

@@ -4,7 +4,8 @@ ghost use Rattle.std.specs.Ordering.{nat_cmp};
 ghost use Rattle.pure_term.specs.Lists.{IsIn, Each, AnyOf, EachTwo};
 ghost use Rattle.pure_term.specs.Order.{Arity, IsClassBelow, HasClassBelow, IsSortBelow};
 ghost use Rattle.pure_order_tables.specs.Classes.{IsDeclared};
-ghost use Rattle.pure_order_tables.specs.Arities.{IsArityBelow, IsGreatestIfAny, IsAboveGreatest, IsNotAbove, with_class, with_arity};
+ghost use Rattle.pure_order_tables.specs.Arities.{IsArityBelow, IsGreatestIfAny, IsAboveGreatest, IsKnown, IsNotAbove, with_class, with_arity};
+ghost use Rattle.pure_order_tables.specs.ArityView.{arity_of, arities_of};
 ghost use Rattle.pure_order_tables.specs.ArityTable.{IsPlace, ArePlaces};
 
 use crate::classes::ClassTable;
@@ -16,10 +17,10 @@ use std::marker::Model;
 
 /// A declared arity.
 #[derive(Drop)]
-struct ArityEntry {
-    con: Name,
-    domains: Vec<Sort>,
-    class: Name,
+pub struct ArityEntry {
+    pub con: Name,
+    pub domains: Vec<Sort>,
+    pub class: Name,
 }
 
 /// Declared classes and arities. For each constructor and class the slots have the place of the arity with the greatest domains.
@@ -133,13 +134,13 @@ impl Tables {
         }
     }
 
-    /// Whether the domains are above the greatest of the constructor's arities for classes below this one.
-    fn is_greater(&self, con: Name, class: Name, domains: &[Sort]) -> bool
-        ensures { MatchBool result (IsAboveGreatest self.now con class domains.now) (IsNotAbove self.now con class domains.now) }
+    /// Whether the arity's domains are above the greatest of its constructor's arities for classes below this one.
+    fn is_greater(&self, arity: &ArityEntry, class: Name) -> bool
+        ensures { MatchBool result (IsAboveGreatest self.now arity.now.con class arity.now.domains.items) (IsNotAbove self.now arity.now.con class arity.now.domains.items) }
     {
-        match self.candidate(con, class) {
+        match self.candidate(arity.con, class) {
             None => true,
-            Some(candidate) => self.domains_below(candidate, domains),
+            Some(candidate) => self.domains_below(candidate, arity.domains.as_slice()),
         }
     }
 
@@ -160,18 +161,18 @@ impl Tables {
         }
     }
 
-    /// The constructor's places once a further arity stands behind the others.
-    fn places_with(&self, alloc: Global, con: Name, domains: &[Sort], class: Name) -> Result<BTreeMap<u32, usize>, AllocError>
-        requires { IsDeclared self.now.classes class }
-        ensures { IfOk result (λ places. ArePlaces (with_arity self.now (record { con = con; domains = domains.now; class = class })) con (get nat_cmp places)) }
+    /// The places of the constructor's arities once this one stands behind the others.
+    fn places_with(&self, alloc: Global, arity: &ArityEntry) -> Result<BTreeMap<u32, usize>, AllocError>
+        requires { IsDeclared self.now.classes arity.now.class }
+        ensures { IfOk result (λ places. ArePlaces (with_arity self.now (arity_of arity.now)) arity.now.con (get nat_cmp places)) }
     {
-        let mut places = self.places_of(alloc, con)?;
-        let Some(above) = self.classes.above(class) else {
+        let mut places = self.places_of(alloc, arity.con)?;
+        let Some(above) = self.classes.above(arity.class) else {
             return Ok(places);
         };
         let last = self.arity_count();
         for upper in above {
-            if self.is_greater(con, *upper, domains) {
+            if self.is_greater(arity, *upper) {
                 places.insert(upper.0, last)?;
             }
         }
@@ -190,17 +191,25 @@ impl Tables {
     }
 
     /// Declares an arity.
-    pub fn push_arity(&mut self, alloc: Global, con: Name, domains: Vec<Sort>, class: Name) -> Result<(), AllocError>
-        requires domains { Each (Each (IsDeclared self.old.classes)) domains.items }
-        requires class { IsDeclared self.old.classes class }
-        ensures ok { OnOk result (self.new ≡ with_arity self.old (record { con = con; domains = domains.items; class = class })) }
+    pub fn push_arity(&mut self, alloc: Global, arity: ArityEntry) -> Result<(), AllocError>
+        requires { IsKnown self.old.classes (arity_of arity) }
+        ensures ok { OnOk result (self.new ≡ with_arity self.old (arity_of arity)) }
         ensures err { OnErr result (self.new ≡ self.old) }
     {
-        let places = self.places_with(alloc, con, domains.as_slice(), class)?;
+        let places = self.places_with(alloc, &arity)?;
+        let con = arity.con;
         self.arities.reserve(1)?;
         self.slots.insert(con.0, places)?;
-        push_in_room(&mut self.arities, ArityEntry { con, domains, class });
+        push_in_room(&mut self.arities, arity);
         Ok(())
+    }
+
+    /// The declared arities.
+    pub fn arities(&self) -> &[ArityEntry]
+        ensures are { arities_of result.now ≡ self.now.arities }
+        ensures known { Each (IsKnown self.now.classes) self.now.arities }
+    {
+        self.arities.as_slice()
     }
 }
 

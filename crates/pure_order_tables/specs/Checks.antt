@@ -1,0 +1,41 @@
+-- What is tested of two arities, and the least that are in conflict.
+use Rattle.std.specs.Prelude.{◌≡◌, ◌≤◌, ◌<◌, ◌⊎◌, ℕ, List}
+use Rattle.pure_term.specs.Lists.{IsIn, Each, AnyOf, EachTwo}
+use Rattle.pure_term.specs.Order.{Arity, Algebra, IsClassBelow, IsSortBelow, AreDomainsBelow, AreCompatible}
+use Rattle.pure_order_tables.specs.Arities.{IsArityBelow, IsGreatestIfAny}
+
+-- An arity of the constructor k for a class below d whose domains are above both of these.
+pub record IsAboveBoth (A : Algebra) (k d : ℕ) (first second : List (List ℕ)) (q : Arity) : Type 0 where
+  pub con : q.con ≡ k
+  pub below : IsClassBelow A q.class d
+  pub first_below : EachTwo (IsSortBelow A) first q.domains
+  pub second_below : EachTwo (IsSortBelow A) second q.domains
+
+-- At each of these classes above both of theirs the arities have a join among the declared ones.
+abbrev pub AreJoined : Algebra → Arity → Arity → List ℕ → Type 0
+AreJoined A a b ds = Each (λ d. IsClassBelow A a.class d → IsClassBelow A b.class d → AnyOf (IsAboveBoth A a.con d a.domains b.domains) A.arities) ds
+
+-- The arities pass both parts of the test of being compatible, the second at these classes alone. The first arity need not be declared.
+pub record Pass (A : Algebra) (a b : Arity) (ds : List ℕ) : Type 0 where
+  pub forth : IsClassBelow A a.class b.class → AreDomainsBelow A a b
+  pub back : IsClassBelow A b.class a.class → AreDomainsBelow A b a
+  pub joined : AreDomainsBelow A b a ⊎ AreJoined A a b ds
+
+-- The domains are below an arity of k for a class below d that is a greatest one, if there is a greatest one.
+abbrev pub IsCovered : Algebra → ℕ → ℕ → List (List ℕ) → Type 0
+IsCovered A k d domains = (q : Arity) × IsGreatestIfAny A k d q × EachTwo (IsSortBelow A) domains q.domains
+
+-- The arities are in conflict: they aren't compatible.
+abbrev pub AreInConflict : Algebra → Arity → Arity → Type 0
+AreInConflict A a b = ¬ AreCompatible A a b
+
+-- A declared arity of a's constructor in conflict with a.
+pub record IsInConflict (A : Algebra) (a b : Arity) : Type 0 where
+  pub declared : IsIn b A.arities
+  pub con : b.con ≡ a.con
+  pub conflict : AreInConflict A a b
+
+-- The class is the least class of a declared arity in conflict with a.
+pub record IsLeastInConflict (A : Algebra) (a : Arity) (class : ℕ) : Type 0 where
+  pub is : (b : Arity) × IsInConflict A a b × (b.class ≡ class)
+  pub least : (b : Arity) → IsInConflict A a b → class ≤ b.class
