@@ -8,6 +8,7 @@ use Rattle.pure_term.proofs.ListLaws.{each_of, any_of, in-append_left, in-append
 use Rattle.pure_term.proofs.OrderLaws.{sort_below-itself}
 use Rattle.pure_order_tables.specs.Classes.{IsDeclared, Follows}
 use Rattle.pure_order_tables.specs.Arities.{IsArityBelow, IsGreatest, IsGreatestIfAny, IsKnown, with_class, with_arity}
+use Rattle.pure_order_tables.specs.Checks.{IsDecided}
 use Rattle.pure_order_tables.specs.ArityTable.{IsPlace, ArePlaces}
 use Rattle.pure_order_tables.proofs.ListMore.{in_split, any_some, each_at, any-append_left, any_imply}
 use Rattle.pure_order_tables.proofs.BelowLaws.{below-trans, below-more, below-one_more}
@@ -160,3 +161,22 @@ known_after A l known = each_of (IsKnown (with_class A l).classes) A.arities (λ
 -- While the classes above the new arity's are gone through: the place at d is right with the new arity, or d is still to come and the place is right without it.
 abbrev pub IsDone : Algebra → Arity → ℕ → Type 0 → Option ℕ → Type 0
 IsDone A a d passed o = MatchOption o ((q : Arity) → ¬ IsArityBelow (with_arity A a) a.con d q) (IsPlace (with_arity A a) a.con d) ⊎ ((¬ passed) × MatchOption o ((q : Arity) → ¬ IsArityBelow A a.con d q) (IsPlace A a.con d))
+
+-- Where the order of classes is decided, so is that of domains.
+
+any_decided : {A : Type 0} (P : A → Type 0) → ((x : A) → P x ⊎ ¬ P x) → (xs : List A) → AnyOf P xs ⊎ ¬ AnyOf P xs
+any_decided P d [] = inr (λ h. h)
+any_decided P d (x ∷ xs) = elim (d x) [ inl p ↦ inl (inl p) | inr n ↦ elim (any_decided P d xs) [ inl t ↦ inl (inr t) | inr m ↦ inr (λ h. elim h [ inl p ↦ n p | inr t ↦ m t ]) ] ]
+
+each_decided : {A : Type 0} (P : A → Type 0) → ((x : A) → P x ⊎ ¬ P x) → (xs : List A) → Each P xs ⊎ ¬ Each P xs
+each_decided P d [] = inl tt
+each_decided P d (x ∷ xs) = elim (d x) [ inl p ↦ elim (each_decided P d xs) [ inl t ↦ inl (p, t) | inr m ↦ inr (λ h. m h.1) ] | inr n ↦ inr (λ h. n h.0) ]
+
+pub two_decided : (A : Algebra) → IsDecided A → (ss rs : List (List ℕ)) → EachTwo (IsSortBelow A) ss rs ⊎ ¬ EachTwo (IsSortBelow A) ss rs
+two_decided A d [] [] = inl tt
+two_decided A d [] (r ∷ rs) = inr (λ h. h)
+two_decided A d (s ∷ ss) [] = inr (λ h. h)
+two_decided A d (s ∷ ss) (r ∷ rs) = elim (each_decided (HasClassBelow A s) (λ c. any_decided (λ b. IsClassBelow A b c) (λ b. d b c) s) r) [
+    | inl h ↦ elim (two_decided A d ss rs) [ inl t ↦ inl (h, t) | inr m ↦ inr (λ k. m k.1) ]
+    | inr n ↦ inr (λ k. n k.0)
+  ]

@@ -1,5 +1,6 @@
 -- The class order: chains of paths, and what one more class changes.
-use Rattle.std.proofs.Common.{◌≡◌, ℕ, List, [], ◌∷◌, ◌++◌, refl, ap, sym, inl, inr, ◌⊎◌, ◌↔◌, append_assoc, append-nil, ◌∙◌, Bool, IsTrue}
+use Rattle.std.proofs.Common.{◌≡◌, ℕ, List, [], ◌∷◌, ◌++◌, refl, ap, sym, inl, inr, ◌⊎◌, ◌↔◌, append_assoc, append-nil, ◌∙◌, subst, Bool, IsTrue}
+use Rattle.pure_order_tables.specs.Checks.{IsDecided}
 use Rattle.pure_term.specs.Lists.{IsIn, Each, AnyOf}
 use Rattle.pure_term.specs.Order.{Class, Arity, Algebra, IsInclusion, IsClassBelow, itself, along, IsSortBelow, HasClassBelow, AreDomainsBelow}
 use Rattle.pure_term.proofs.ListLaws.{any_of, in-append_left, in-append_right}
@@ -58,3 +59,6 @@ below-classes A c d = (λ h. below-more (of_classes A.classes) A (λ k m. m) h, 
 
 pub below-at : (A B : Algebra) (b : Bool) (c d : ℕ) → A ≡ B → (IsTrue b ↔ IsClassBelow (of_classes A.classes) c d) → IsTrue b ↔ IsClassBelow B c d
 below-at A B b c d same h = rw (← same) (λ t. (below-classes A c d).0 (h.0 t), λ k. h.1 ((below-classes A c d).1 k))
+
+pub decided_at : (A B : Algebra) → A ≡ B → IsDecided (of_classes A.classes) → IsDecided B
+decided_at A B same h = subst IsDecided same (λ c d. elim (h c d) [ inl k ↦ inl ((below-classes A c d).0 k) | inr n ↦ inr (λ k. n ((below-classes A c d).1 k)) ])

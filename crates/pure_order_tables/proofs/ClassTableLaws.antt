@@ -12,9 +12,11 @@ use Rattle.pure_order_tables.specs.declared.classes.ClassEntry.{ClassEntry}
 use Rattle.pure_order_tables.specs.ClassView.{class_of, classes_of}
 use Rattle.pure_order_tables.specs.Classes.{IsDeclared, Follows, of_classes}
 use Rattle.pure_order_tables.specs.ClassTable.{AreAllAbove, IsClassTable}
-use Rattle.pure_order_tables.proofs.ListMore.{in_split, any_split, any_some, each_at, any-append_left, any-append_right}
+use Rattle.pure_order_tables.proofs.ListMore.{in_split, in_or_not, any_split, any_some, each_at, any-append_left, any-append_right}
+use Rattle.std.proofs.lemmas.Bool.Decides.{eqb_tells}
+use Rattle.pure_order_tables.specs.Checks.{IsDecided}
 use Rattle.pure_order_tables.proofs.MapLaws.{get_after}
-use Rattle.pure_order_tables.proofs.BelowLaws.{below-more, below-one_more, below-undeclared, follows-one_more, declared}
+use Rattle.pure_order_tables.proofs.BelowLaws.{below-more, below-one_more, below-undeclared, below_same, follows-one_more, declared}
 
 from_new : (cs : List Class) (k : Class) → Follows [] cs → ¬ IsDeclared cs k.name → Each (IsDeclared cs) k.above → (c d : ℕ) → c ≡ k.name → IsClassBelow (of_classes (cs ++ k ∷ [])) c d → (d ≡ k.name) ⊎ AnyOf (λ b. IsClassBelow (of_classes cs) b d) k.above
 from_new cs k f fresh known c d e itself = inl e
@@ -75,3 +77,10 @@ pub entries-one_more : (es es' : List ClassEntry) (e : ClassEntry) (value : List
     → ((x : ℕ) → IsIn x names.items ↔ ((x ≡ class) ⊎ AnyOf (λ b. IsClassBelow (of_classes value) b x) above)) → Updates nat_cmp old new class (Some names) → IsClassTable (classes_of es') new
 entries-one_more es es' e value above class old new names longer named there view t fresh known up has updates =
     rw (longer, map-append class_of es (e ∷ [])) (table-one_more (classes_of es) (class_of e) old new names t (rw (view, named) fresh) (rw (there, view) known) up (rw (there, named, view) has) (rw named updates))
+
+pub decided : (cs : List Class) (up : BTreeMap ℕ (Vec ℕ Global)) → IsClassTable cs up → IsDecided (of_classes cs)
+decided cs up t c d = by (get nat_cmp up c) (t.above c)
+  where
+    by : (o : Option (Vec ℕ Global)) → MatchOption o (¬ IsDeclared cs c) (λ v. AreAllAbove cs c v.items) → IsClassBelow (of_classes cs) c d ⊎ ¬ IsClassBelow (of_classes cs) c d
+    by None m = elim (eqb_tells c d) [ inl w ↦ inl (below_same (of_classes cs) c d w.1) | inr w ↦ inr (λ h. w.1 (below-undeclared (of_classes cs) c d m h)) ]
+    by (Some v) m = elim (in_or_not d v.items) [ inl n ↦ inl ((m.are d).0 n) | inr n ↦ inr (λ h. n ((m.are d).1 h)) ]

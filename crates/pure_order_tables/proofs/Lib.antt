@@ -5,3 +5,4 @@ pub mod BelowLaws
 pub mod ClassTableLaws
 pub mod ArityLaws
 pub mod ArityTableLaws
+pub mod CoregularLaws

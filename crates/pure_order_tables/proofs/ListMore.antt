@@ -1,6 +1,7 @@
 -- Membership in lists that grow by one element.
 use Rattle.std.proofs.Common.{◌≡◌, ℕ, ◌+◌, ◌<◌, ◌≤◌, List, [], ◌∷◌, ◌++◌, length, get_or, take, refl, sym, arith, Result, Ok, Err, OnOk, OnErr, is_ok, Bool, true, false, IsTrue, zero, suc, ap, take_all, map, inl, inr, ◌⊎◌, ◌↔◌}
 use Rattle.std.proofs.lemmas.List.{take_more}
+use Rattle.std.proofs.lemmas.Bool.Decides.{eqb_tells}
 use Rattle.pure_term.specs.Lists.{IsIn, Each, AnyOf, EachTwo}
 use Rattle.pure_term.proofs.ListLaws.{any_of, in-append_left, in-append_right}
 
@@ -143,3 +144,10 @@ no_as P n = (λ t. absurd (false_true t), λ p. absurd (n p))
 pub any-map : {A B : Type 0} (f : A → B) (P : B → Type 0) (xs : List A) → AnyOf P (map f xs) ↔ AnyOf (λ x. P (f x)) xs
 any-map f P [] = (λ h. h, λ h. h)
 any-map f P (x ∷ xs) = let t = any-map f P xs in (λ h. elim h [ inl p ↦ inl p | inr n ↦ inr (t.0 n) ], λ h. elim h [ inl p ↦ inl p | inr n ↦ inr (t.1 n) ])
+
+pub in_or_not : (n : ℕ) (ms : List ℕ) → IsIn n ms ⊎ ¬ IsIn n ms
+in_or_not n [] = inr (λ h. h)
+in_or_not n (m ∷ ms) = elim (eqb_tells n m) [
+    | inl w ↦ inl (inl w.1)
+    | inr w ↦ elim (in_or_not n ms) [ inl k ↦ inl (inr k) | inr k ↦ inr (λ h. elim h [ inl e ↦ w.1 e | inr l ↦ k l ]) ]
+  ]

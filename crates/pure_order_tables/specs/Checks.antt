@@ -39,3 +39,11 @@ pub record IsInConflict (A : Algebra) (a b : Arity) : Type 0 where
 pub record IsLeastInConflict (A : Algebra) (a : Arity) (class : ℕ) : Type 0 where
   pub is : (b : Arity) × IsInConflict A a b × (b.class ≡ class)
   pub least : (b : Arity) → IsInConflict A a b → class ≤ b.class
+
+-- For each two arities of k for classes below d there is one whose domains are above those of both.
+abbrev pub IsDirected : Algebra → ℕ → ℕ → Type 0
+IsDirected A k d = (a b : Arity) → IsArityBelow A k d a → IsArityBelow A k d b → (q : Arity) × IsArityBelow A k d q × AreDomainsBelow A a q × AreDomainsBelow A b q
+
+-- Of each two classes the first is below the second or isn't.
+abbrev pub IsDecided : Algebra → Type 0
+IsDecided A = (c d : ℕ) → IsClassBelow A c d ⊎ ¬ IsClassBelow A c d

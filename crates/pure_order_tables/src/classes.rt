@@ -3,6 +3,7 @@ ghost use Rattle.std.specs.List.Sorted.{IsStrictlyIncreasing};
 ghost use Rattle.pure_term.specs.Lists.{IsIn, Each, AnyOf};
 ghost use Rattle.pure_term.specs.Order.{IsClassBelow};
 ghost use Rattle.pure_order_tables.specs.Classes.{IsDeclared, Follows, of_classes};
+ghost use Rattle.pure_order_tables.specs.Checks.{IsDecided};
 ghost use Rattle.pure_order_tables.specs.ClassTable.{AreAllAbove};
 
 use crate::names::{has, is_same, put, put_all};
@@ -79,6 +80,13 @@ impl ClassTable {
             None => is_same(first, second),
             Some(names) => has(names, second),
         }
+    }
+
+    /// The order is decided.
+    pub(crate) fn order_is_decided(&self)
+        ensures { IsDecided (of_classes self.now) }
+    {
+        let _ = &self.up;
     }
 
     /// Puts the classes above this one among the names.

@@ -5,6 +5,7 @@ ghost use Rattle.pure_term.specs.Lists.{IsIn, Each, AnyOf, EachTwo};
 ghost use Rattle.pure_term.specs.Order.{Arity, IsClassBelow, HasClassBelow, IsSortBelow};
 ghost use Rattle.pure_order_tables.specs.Classes.{IsDeclared};
 ghost use Rattle.pure_order_tables.specs.Arities.{IsArityBelow, IsGreatestIfAny, IsAboveGreatest, IsKnown, IsNotAbove, with_class, with_arity};
+ghost use Rattle.pure_order_tables.specs.Checks.{IsDecided};
 ghost use Rattle.pure_order_tables.specs.ArityView.{arity_of, arities_of};
 ghost use Rattle.pure_order_tables.specs.ArityTable.{IsPlace, ArePlaces};
 
@@ -109,6 +110,13 @@ impl Tables {
             }
         }
         true
+    }
+
+    /// The order is decided.
+    pub fn order_is_decided(&self)
+        ensures { IsDecided self.now }
+    {
+        self.classes.order_is_decided();
     }
 
     /// The place of an arity of the constructor for a class below this one, the greatest if there is a greatest.
