@@ -1,12 +1,15 @@
 -- Coregular algebras: the greatest arity for the classes below a class, and what one more arity has to pass.
-use Rattle.std.proofs.Common.{◌≡◌, ℕ, List, [], ◌∷◌, ◌++◌, refl, ap, sym, subst, inl, inr, ◌⊎◌, ◌↔◌, ◌∙◌}
+use Rattle.std.proofs.Common.{◌≡◌, ℕ, List, [], ◌∷◌, ◌++◌, refl, ap, sym, subst, inl, inr, ◌⊎◌, ◌↔◌, ◌∙◌, ◌≤◌, Option, Some, None, MatchOption, arith, take, length, get_or, ◌+◌, ◌<◌}
+use Rattle.std.proofs.lemmas.List.{map-append}
+use Rattle.pure_order_tables.specs.declared.tables.ArityEntry.{ArityEntry}
+use Rattle.pure_order_tables.specs.ArityView.{arity_of, arities_of}
 use Rattle.std.proofs.lemmas.Bool.Decides.{eqb_tells}
 use Rattle.pure_term.specs.Lists.{IsIn, Each, AnyOf, EachTwo}
 use Rattle.pure_term.specs.Order.{Class, Arity, Algebra, IsClassBelow, itself, AreDomainsBelow, IsJoin, AreCompatible, IsCoregular}
 use Rattle.pure_term.proofs.ListLaws.{each_of, any_of, in-append_left, in-append_right}
 use Rattle.pure_order_tables.specs.Arities.{IsArityBelow, IsGreatest, IsGreatestIfAny, with_arity}
-use Rattle.pure_order_tables.specs.Checks.{IsAboveBoth, AreJoined, Pass, IsCovered, AreInConflict, IsDirected, IsDecided}
-use Rattle.pure_order_tables.proofs.ListMore.{in_split, any_some, each_at}
+use Rattle.pure_order_tables.specs.Checks.{IsAboveBoth, AreJoined, Pass, IsCovered, AreInConflict, IsDirected, IsDecided, PassesWith, Fails, IsLeastFailing, FindsFailing, IsLeastInConflict}
+use Rattle.pure_order_tables.proofs.ListMore.{longer_by, in_split, any_some, any_imply, each_at, each-append, any-append_left, any-append_right}
 use Rattle.pure_order_tables.proofs.ArityLaws.{domains_same, domains-trans, same_order, same_order_back, same_domains, same_domains_back, further, new_or_old, two_decided}
 
 -- In a coregular algebra the arities of a constructor for classes below a class are directed.
@@ -119,3 +122,41 @@ compatible_passes A decided a b ds w = record {
         | inl old ↦ any_of (IsAboveBoth A a.con d a.domains b.domains) j.0 A.arities old (record { con = j.1.con; below = same_order_back A a j.1.class; first_below = same_domains_back A a a j.0 j.1.first; second_below = same_domains_back A a b j.0 j.1.second })
         | inr v ↦ elim v [ inl e ↦ absurd (other (same_domains_back A a b a (rw e at j.1.second))) | inr none ↦ absurd none ]
       ]
+
+-- one turn of the look for a failing arity
+
+pub found_pass : (A : Algebra) (a : Arity) (ds : List ℕ) (bs : List Arity) (o : Option ℕ) (b : Arity) → PassesWith A a ds b → FindsFailing A a ds bs o → FindsFailing A a ds (bs ++ b ∷ []) o
+found_pass A a ds bs None b p f = each-append (PassesWith A a ds) bs (b ∷ []) f (p, tt)
+found_pass A a ds bs (Some c) b p f = record {
+  is = any-append_left (λ x. Fails A a ds x × (x.class ≡ c)) bs (b ∷ []) f.is;
+  least = each-append (λ x. Fails A a ds x → c ≤ x.class) bs (b ∷ []) f.least ((λ h. absurd (h.fails (p h.con))), tt);
+}
+
+pub found_fail : (A : Algebra) (a : Arity) (ds : List ℕ) (bs : List Arity) (o : Option ℕ) (b : Arity) (c : ℕ) → Fails A a ds b → c ≤ b.class → MatchOption o (c ≡ b.class) (λ d. (c ≤ d) × ((c ≡ d) ⊎ (c ≡ b.class))) → FindsFailing A a ds bs o → FindsFailing A a ds (bs ++ b ∷ []) (Some c)
+found_fail A a ds bs None b c h below is f = record {
+  is = any-append_right (λ x. Fails A a ds x × (x.class ≡ c)) bs (b ∷ []) (inl (h, sym is));
+  least = each-append (λ x. Fails A a ds x → c ≤ x.class) bs (b ∷ []) (each_of (λ x. Fails A a ds x → c ≤ x.class) bs (λ x m k. absurd (k.fails (each_at (PassesWith A a ds) bs f x m k.con)))) ((λ k. below), tt);
+}
+found_fail A a ds bs (Some d) b c h below is f = record {
+  is = elim is.1 [
+      | inl e ↦ any-append_left (λ x. Fails A a ds x × (x.class ≡ c)) bs (b ∷ []) (any_imply (λ x. Fails A a ds x × (x.class ≡ d)) (λ x. Fails A a ds x × (x.class ≡ c)) bs (λ x k. (k.0, k.1 ∙ sym e)) f.is)
+      | inr e ↦ any-append_right (λ x. Fails A a ds x × (x.class ≡ c)) bs (b ∷ []) (inl (h, sym e))
+    ];
+  least = each-append (λ x. Fails A a ds x → c ≤ x.class) bs (b ∷ []) (each_of (λ x. Fails A a ds x → c ≤ x.class) bs (λ x m k. (let low = each_at (λ x. Fails A a ds x → d ≤ x.class) bs f.least x m k in let lower = is.0 in omega arith))) ((λ k. below), tt);
+}
+
+-- What the look finds for a new arity.
+pub conflict_found : (A : Algebra) → IsDecided A → IsCoregular A → (a : Arity) (ds : List ℕ) → ((d : ℕ) → IsClassBelow A a.class d → IsIn d ds ⊎ IsCovered A a.con d a.domains) → (o : Option ℕ) → FindsFailing A a ds A.arities o
+    → MatchOption o (IsCoregular (with_arity A a)) (IsLeastInConflict (with_arity A a) a)
+conflict_found A decided r a ds rest None f = coregular_with A r a (λ b m con. passed_compatible A decided r a b ds m con rest (each_at (PassesWith A a ds) A.arities f b m con))
+conflict_found A decided r a ds rest (Some c) f = record {
+  is = (let w = any_some (λ x. Fails A a ds x × (x.class ≡ c)) A.arities f.is in
+    (w.0, record { declared = in-append_left w.0 A.arities (a ∷ []) w.1; con = w.2.0.con; conflict = λ k. w.2.0.fails (compatible_passes A decided a w.0 ds k) }, w.2.1));
+  least = λ b k. elim (in_split b A.arities (a ∷ []) k.declared) [
+      | inl old ↦ each_at (λ x. Fails A a ds x → c ≤ x.class) A.arities f.least b old (record { con = k.con; fails = λ p. k.conflict (passed_compatible A decided r a b ds old k.con rest p) })
+      | inr w ↦ elim w [ inl e ↦ absurd (k.conflict (rw e (compatible_self (with_arity A a) a (in-append_right a A.arities (a ∷ []) (inl refl))))) | inr none ↦ absurd none ]
+    ];
+}
+
+pub one_more_arity : (es : List ArityEntry) (i : ℕ) (e : ArityEntry) → i < length es → e ≡ get_or es i e → arities_of (take (i + 1) es) ≡ arities_of (take i es) ++ arity_of e ∷ []
+one_more_arity es i e within read = ap arities_of (longer_by es i e within read) ∙ map-append arity_of (take i es) (e ∷ [])

@@ -151,3 +151,14 @@ in_or_not n (m ∷ ms) = elim (eqb_tells n m) [
     | inl w ↦ inl (inl w.1)
     | inr w ↦ elim (in_or_not n ms) [ inl k ↦ inl (inr k) | inr k ↦ inr (λ h. elim h [ inl e ↦ w.1 e | inr l ↦ k l ]) ]
   ]
+
+-- While a list is gone through: each element passed is kept or has the property.
+pub kept_turn : {A : Type 0} (P : A → Type 0) (xs kept kept' : List A) (i : ℕ) (r : A) → i < length xs → r ≡ get_or xs i r → (kept' ≡ kept ++ r ∷ []) ⊎ ((kept' ≡ kept) × P r)
+    → ((x : A) → IsIn x (take i xs) → IsIn x kept ⊎ P x) → (x : A) → IsIn x (take (i + 1) xs) → IsIn x kept' ⊎ P x
+kept_turn P xs kept kept' i r within read way before x m = elim ((in_turn x xs i r within read).0 m) [
+    | inl old ↦ elim (before x old) [
+        | inl k ↦ inl (elim way [ inl e ↦ rw e (in-append_left x kept (r ∷ []) k) | inr w ↦ rw w.0 k ])
+        | inr p ↦ inr p
+      ]
+    | inr here ↦ elim way [ inl e ↦ inl (rw (e, here) (in-append_right r kept (r ∷ []) (inl refl))) | inr w ↦ inr (rw here w.1) ]
+  ]

@@ -1,5 +1,5 @@
 -- What is tested of two arities, and the least that are in conflict.
-use Rattle.std.specs.Prelude.{◌≡◌, ◌≤◌, ◌<◌, ◌⊎◌, ℕ, List}
+use Rattle.std.specs.Prelude.{◌≡◌, ◌≤◌, ◌<◌, ◌⊎◌, ℕ, List, Option, MatchOption}
 use Rattle.pure_term.specs.Lists.{IsIn, Each, AnyOf, EachTwo}
 use Rattle.pure_term.specs.Order.{Arity, Algebra, IsClassBelow, IsSortBelow, AreDomainsBelow, AreCompatible}
 use Rattle.pure_order_tables.specs.Arities.{IsArityBelow, IsGreatestIfAny}
@@ -47,3 +47,21 @@ IsDirected A k d = (a b : Arity) → IsArityBelow A k d a → IsArityBelow A k d
 -- Of each two classes the first is below the second or isn't.
 abbrev pub IsDecided : Algebra → Type 0
 IsDecided A = (c d : ℕ) → IsClassBelow A c d ⊎ ¬ IsClassBelow A c d
+
+-- The arity b passes the test with a, where it is of a's constructor.
+abbrev pub PassesWith : Algebra → Arity → List ℕ → Arity → Type 0
+PassesWith A a ds b = b.con ≡ a.con → Pass A a b ds
+
+-- The arity b is of a's constructor and doesn't pass the test with a.
+pub record Fails (A : Algebra) (a : Arity) (ds : List ℕ) (b : Arity) : Type 0 where
+  pub con : b.con ≡ a.con
+  pub fails : ¬ Pass A a b ds
+
+-- The class is the least class of one of these arities that fails the test with a.
+pub record IsLeastFailing (A : Algebra) (a : Arity) (ds : List ℕ) (bs : List Arity) (class : ℕ) : Type 0 where
+  pub is : AnyOf (λ b. Fails A a ds b × (b.class ≡ class)) bs
+  pub least : Each (λ b. Fails A a ds b → class ≤ b.class) bs
+
+-- What a look for a failing arity finds.
+abbrev pub FindsFailing : Algebra → Arity → List ℕ → List Arity → Option ℕ → Type 0
+FindsFailing A a ds bs found = MatchOption found (Each (PassesWith A a ds) bs) (IsLeastFailing A a ds bs)

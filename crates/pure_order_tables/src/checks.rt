@@ -1,13 +1,16 @@
 ghost use Rattle.std.specs.Prelude.{◌≡◌, ◌↔◌, ◌⊎◌, ℕ, IsTrue, IfOk, MatchBool, MatchOption};
 ghost use Rattle.std.specs.Bool.{OnTrue};
 ghost use Rattle.pure_term.specs.Lists.{IsIn, AnyOf, EachTwo};
-ghost use Rattle.pure_term.specs.Order.{AreDomainsBelow, IsClassBelow};
+ghost use Rattle.pure_term.specs.Order.{AreDomainsBelow, IsClassBelow, IsCoregular};
+ghost use Rattle.pure_order_tables.specs.Arities.{with_arity};
+ghost use Rattle.pure_order_tables.specs.Classes.{IsDeclared};
 ghost use Rattle.pure_order_tables.specs.ArityView.{arity_of};
-ghost use Rattle.pure_order_tables.specs.Checks.{AreJoined, IsAboveBoth, IsCovered, Pass};
+ghost use Rattle.pure_order_tables.specs.Checks.{AreJoined, Fails, FindsFailing, IsAboveBoth, IsCovered, IsLeastInConflict, Pass, PassesWith};
 
-use crate::names::is_same;
+use crate::names::{is_same, lesser};
 use crate::tables::{ArityEntry, Tables};
 use pure_term::{Name, Sort};
+use std::alloc::{AllocError, Global};
 
 impl Tables {
     /// Whether the arity is one of the constructor for a class below this one, with domains above both of these.
@@ -71,5 +74,53 @@ impl Tables {
             None => false,
             Some(candidate) => self.domains_below(domains, candidate),
         }
+    }
+
+    /// The classes above the arity's at which its domains aren't below the candidate.
+    fn unsettled(&self, alloc: Global, arity: &ArityEntry) -> Result<Vec<Name>, AllocError>
+        requires { IsDeclared self.now.classes arity.now.class }
+        ensures { IfOk result (λ classes. (d : ℕ) → IsClassBelow self.now arity.now.class d → IsIn d classes.items ⊎ IsCovered self.now arity.now.con d arity.now.domains.items) }
+    {
+        let mut classes = Vec::new(alloc);
+        let Some(above) = self.above(arity.class) else {
+            return Ok(classes);
+        };
+        for class in above {
+            if !self.is_covered(arity.con, *class, arity.domains.as_slice()) {
+                classes.push(*class)?;
+            }
+        }
+        Ok(classes)
+    }
+
+    /// Whether the second arity is of the first one's constructor and doesn't pass the test with it.
+    fn fails(&self, first: &ArityEntry, second: &ArityEntry, classes: &[Name]) -> bool
+        ensures { MatchBool result (Fails self.now (arity_of first.now) classes.now (arity_of second.now)) (PassesWith self.now (arity_of first.now) classes.now (arity_of second.now)) }
+    {
+        is_same(second.con, first.con) && !self.pass(first, second, classes)
+    }
+
+    /// The least class of a declared arity that fails the test with this one.
+    pub(crate) fn least_failing(&self, arity: &ArityEntry, classes: &[Name]) -> Option<Name>
+        ensures { FindsFailing self.now (arity_of arity.now) classes.now self.now.arities result }
+    {
+        let mut least = None;
+        for other in self.arities() {
+            if self.fails(arity, other, classes) {
+                least = Some(lesser(least, other.class));
+            }
+        }
+        least
+    }
+
+    /// The least class of a declared arity in conflict with this one, which isn't declared yet.
+    pub fn conflict(&self, alloc: Global, arity: &ArityEntry) -> Result<Option<Name>, AllocError>
+        requires coregular { IsCoregular self.now }
+        requires declared { IsDeclared self.now.classes arity.now.class }
+        ensures { IfOk result (λ found. MatchOption found (IsCoregular (with_arity self.now (arity_of arity.now))) (IsLeastInConflict (with_arity self.now (arity_of arity.now)) (arity_of arity.now))) }
+    {
+        self.order_is_decided();
+        let unsettled = self.unsettled(alloc, arity)?;
+        Ok(self.least_failing(arity, unsettled.as_slice()))
     }
 }

@@ -1,4 +1,4 @@
-ghost use Rattle.std.specs.Prelude.{◌≡◌, ◌↔◌, ◌⊎◌, ◌<◌, ◌≤◌, ℕ, length, slice_index, IsTrue, OnOk};
+ghost use Rattle.std.specs.Prelude.{◌≡◌, ◌↔◌, ◌⊎◌, ◌<◌, ◌≤◌, ℕ, length, slice_index, IsTrue, OnOk, MatchOption};
 ghost use Rattle.std.specs.List.Sorted.{IsStrictlyIncreasing};
 ghost use Rattle.pure_term.specs.Lists.{IsIn};
 
@@ -17,6 +17,17 @@ pub(crate) fn is_same(first: Name, second: Name) -> bool
     ensures { IsTrue result ↔ (first ≡ second) }
 {
     first.0 == second.0
+}
+
+/// The lesser of the name and the least so far.
+pub(crate) fn lesser(least: Option<Name>, name: Name) -> Name
+    ensures within { result ≤ name }
+    ensures one { MatchOption least (result ≡ name) (λ other. (result ≤ other) × ((result ≡ other) ⊎ (result ≡ name))) }
+{
+    match least {
+        Some(other) if is_below(other, name) => other,
+        _ => name,
+    }
 }
 
 /// The place of the first of these ascending names that is not below the name.

@@ -71,6 +71,16 @@ impl Tables {
         self.classes.below(first, second)
     }
 
+    /// The classes above a declared class, itself among them.
+    pub(crate) fn above(&self, class: Name) -> Option<&[Name]>
+        ensures { MatchOption result (¬ IsDeclared self.now.classes class) (λ names. (d : ℕ) → IsIn d names.now ↔ IsClassBelow self.now class d) }
+    {
+        match self.classes.above(class) {
+            None => None,
+            Some(names) => Some(names),
+        }
+    }
+
     /// Whether one of the classes is below the class.
     fn some_below(&self, classes: &[Name], class: Name) -> bool
         ensures { IsTrue result ↔ HasClassBelow self.now classes.now class }
