@@ -6,3 +6,4 @@ pub mod ClassTableLaws
 pub mod ArityLaws
 pub mod ArityTableLaws
 pub mod CoregularLaws
+pub mod UnknownLaws

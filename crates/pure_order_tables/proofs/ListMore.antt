@@ -1,5 +1,5 @@
 -- Membership in lists that grow by one element.
-use Rattle.std.proofs.Common.{◌≡◌, ℕ, ◌+◌, ◌<◌, ◌≤◌, List, [], ◌∷◌, ◌++◌, length, get_or, take, refl, sym, arith, Result, Ok, Err, OnOk, OnErr, is_ok, Bool, true, false, IsTrue, zero, suc, ap, take_all, map, inl, inr, ◌⊎◌, ◌↔◌}
+use Rattle.std.proofs.Common.{◌≡◌, ℕ, ◌+◌, ◌<◌, ◌≤◌, List, [], ◌∷◌, ◌++◌, length, get_or, take, refl, sym, arith, Result, Ok, Err, OnOk, OnErr, is_ok, Bool, true, false, IsTrue, zero, suc, ap, take_all, take-append-drop, drop, drop-cons, add-one, ◌∙◌, map, inl, inr, ◌⊎◌, ◌↔◌}
 use Rattle.std.proofs.lemmas.List.{take_more}
 use Rattle.std.proofs.lemmas.Bool.Decides.{eqb_tells}
 use Rattle.pure_term.specs.Lists.{IsIn, Each, AnyOf, EachTwo}
@@ -162,3 +162,9 @@ kept_turn P xs kept kept' i r within read way before x m = elim ((in_turn x xs i
       ]
     | inr here ↦ elim way [ inl e ↦ inl (rw (e, here) (in-append_right r kept (r ∷ []) (inl refl))) | inr w ↦ inr (rw here w.1) ]
   ]
+
+pub split_at : {A : Type 0} (xs : List A) (i : ℕ) (r : A) → i < length xs → r ≡ get_or xs i r → xs ≡ take i xs ++ r ∷ drop (i + 1) xs
+split_at xs i r within read = sym (take-append-drop i xs) ∙ ap (λ ys. take i xs ++ ys) (rest_at xs i r within read)
+  where
+    rest_at : {A : Type 0} (xs : List A) (i : ℕ) (r : A) → i < length xs → r ≡ get_or xs i r → drop i xs ≡ r ∷ drop (i + 1) xs
+    rest_at xs i r within read = drop-cons xs i r within ∙ rw (← read, add-one) refl

@@ -5,3 +5,4 @@ pub mod Arities
 pub mod ArityView
 pub mod ArityTable
 pub mod Checks
+pub mod Unknown

@@ -6,6 +6,7 @@ mod classes;
 mod names;
 mod room;
 mod tables;
+mod unknown;
 
 pub use classes::ClassTable;
 pub use tables::{ArityEntry, Tables};

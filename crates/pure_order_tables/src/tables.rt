@@ -82,7 +82,7 @@ impl Tables {
     }
 
     /// Whether one of the classes is below the class.
-    fn some_below(&self, classes: &[Name], class: Name) -> bool
+    pub fn some_below(&self, classes: &[Name], class: Name) -> bool
         ensures { IsTrue result ↔ HasClassBelow self.now classes.now class }
     {
         for lower in classes {
