@@ -1,7 +1,7 @@
 -- Types under the order of sorts, and the greatest domains.
-use Rattle.std.proofs.Common.{◌≡◌, ℕ, List, [], ◌∷◌, refl, sym, ◌↔◌, ◌∙◌}
+use Rattle.std.proofs.Common.{◌≡◌, ℕ, List, [], ◌∷◌, refl, sym, ◌↔◌, ◌∙◌, Bool, IsTrue}
 use Rattle.pure_term.specs.Lists.{IsIn, Each, AnyOf, EachTwo}
-use Rattle.pure_term.specs.Typ.{Typ, TFree, TVar, Con, Typs, none, also}
+use Rattle.pure_term.specs.Typ.{Typ, TFree, TVar, Con, Typs, none, also, typs_of}
 use Rattle.pure_term.specs.Order.{Arity, Algebra, IsClassBelow, HasClassBelow, IsSortBelow, IsOfClass, IsOfSort, AreOfSorts, IsCoregular}
 use Rattle.pure_term.proofs.ListLaws.{each_of, any_of}
 use Rattle.pure_order_tables.specs.Arities.{IsArityBelow, IsGreatest, IsGreatestIfAny}
@@ -42,3 +42,13 @@ of_class_by_domains A k d domains g ts = rw (← g.1) (there, back)
     there h = of_sorts_up A ts h.0.domains g.0.domains h.4 (g.2.above h.0 (record { declared = h.1; con = h.2; below = h.3 }))
     back : AreOfSorts A ts g.0.domains → IsOfClass A (Con k ts) d
     back h = (g.0, g.2.is.declared, g.2.is.con, g.2.is.below, h)
+
+pub are_of_sorts : (A : Algebra) (ts : List Typ) (ss : List (List ℕ)) → AreOfSorts A (typs_of ts) ss ↔ EachTwo (IsOfSort A) ts ss
+are_of_sorts A [] [] = (λ h. h, λ h. h)
+are_of_sorts A [] (s ∷ ss) = (λ h. h, λ h. h)
+are_of_sorts A (t ∷ ts) [] = (λ h. h, λ h. h)
+are_of_sorts A (t ∷ ts) (s ∷ ss) = let rest = are_of_sorts A ts ss in (λ h. (h.0, rest.0 h.1), λ h. (h.0, rest.1 h.1))
+
+-- An answer for a constructor's type, from whether its arguments are of the greatest domains.
+pub con_answer : (A : Algebra) (k d : ℕ) (ts : List Typ) (domains : List (List ℕ)) (b : Bool) → ((us : Typs) → IsOfClass A (Con k us) d ↔ AreOfSorts A us domains) → (IsTrue b ↔ EachTwo (IsOfSort A) ts domains) → IsTrue b ↔ IsOfClass A (Con k (typs_of ts)) d
+con_answer A k d ts domains b by test = (λ h. (by (typs_of ts)).1 ((are_of_sorts A ts domains).1 (test.0 h)), λ h. test.1 ((are_of_sorts A ts domains).0 ((by (typs_of ts)).0 h)))

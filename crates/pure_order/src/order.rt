@@ -77,6 +77,7 @@ impl Order {
             TypNode::TFree { sort, .. } => self.tables.some_below(sort.classes(), class),
             TypNode::TVar { sort, .. } => self.tables.some_below(sort.classes(), class),
             TypNode::Con { name, args } => {
+                let args = args.as_slice();
                 let Some(domains) = self.domains(*name, class) else {
                     return false;
                 };
@@ -124,5 +125,61 @@ impl Order {
         }
         self.tables.push_class(alloc, class, above)?;
         Ok(())
+    }
+
+    /// Declares an arity.
+    pub fn add_arity(&mut self, alloc: Global, con: Name, domains: Vec<Sort>, class: Name) -> Result<(), OrderFault>
+        ensures ok { OnOk result (self.new ≡ with_arity self.old (record { con = con; domains = domains.items; class = class })) }
+        ensures new { OnOk result (IsKnown self.old.classes (record { con = con; domains = domains.items; class = class }) × (¬ HasArityFor self.old con class)) }
+        ensures coregular { OnOk result (IsCoregular (with_arity self.old (record { con = con; domains = domains.items; class = class }))) }
+        ensures fault { IfErr result (IsArityFault self.old (record { con = con; domains = domains.items; class = class })) }
+        ensures err { OnErr result (self.new ≡ self.old) }
+    {
+        if let Some(class) = self.tables.first_unknown_in(domains.as_slice()) {
+            return Err(OrderFault::UnknownClass { class });
+        }
+        if !self.tables.is_declared(class) {
+            return Err(OrderFault::UnknownClass { class });
+        }
+        if self.tables.has_arity(con, class) {
+            return Err(OrderFault::Duplicate);
+        }
+        let arity = ArityEntry { con, domains, class };
+        if let Some(c2) = self.tables.conflict(alloc, &arity)? {
+            return Err(OrderFault::NotCoregular { con, c1: class, c2 });
+        }
+        self.tables.push_arity(alloc, arity)?;
+        Ok(())
+    }
+
+    /// Whether another class of the sort is below the class.
+    fn is_above_another(&self, classes: &[Name], class: Name) -> bool
+        ensures { IsTrue result ↔ IsAboveAnother self.now classes.now class }
+    {
+        for other in classes {
+            if self.is_other_below(*other, class) {
+                return true;
+            }
+        }
+        false
+    }
+
+    fn is_other_below(&self, other: Name, class: Name) -> bool
+        ensures { IsTrue result ↔ ((¬ (other ≡ class)) × IsClassBelow self.now other class) }
+    {
+        other.0 != class.0 && self.below(other, class)
+    }
+
+    /// The sort without its classes that are above another one.
+    pub fn reduce(&self, alloc: Global, s: &Sort) -> Result<Sort, AllocError>
+        ensures { IfOk result (IsReduced self.now s.now) }
+    {
+        let mut classes = Vec::new(alloc);
+        for class in s.classes() {
+            if !self.is_above_another(s.classes(), *class) {
+                classes.push(*class)?;
+            }
+        }
+        Ok(Sort::make(classes))
     }
 }

@@ -7,10 +7,12 @@ use Rattle.std.proofs.lemmas.Bool.Decides.{eqb_tells}
 use Rattle.pure_term.specs.Lists.{IsIn, Each, AnyOf, EachTwo}
 use Rattle.pure_term.specs.Order.{Class, Arity, Algebra, IsClassBelow, itself, AreDomainsBelow, IsJoin, AreCompatible, IsCoregular}
 use Rattle.pure_term.proofs.ListLaws.{each_of, any_of, in-append_left, in-append_right}
-use Rattle.pure_order_tables.specs.Arities.{IsArityBelow, IsGreatest, IsGreatestIfAny, with_arity}
+use Rattle.pure_order_tables.specs.Arities.{IsArityBelow, IsGreatest, IsGreatestIfAny, IsKnown, with_class, with_arity}
 use Rattle.pure_order_tables.specs.Checks.{IsAboveBoth, AreJoined, Pass, IsCovered, AreInConflict, IsDirected, IsDecided, PassesWith, Fails, IsLeastFailing, FindsFailing, IsLeastInConflict}
 use Rattle.pure_order_tables.proofs.ListMore.{longer_by, in_split, any_some, any_imply, each_at, each-append, any-append_left, any-append_right}
-use Rattle.pure_order_tables.proofs.ArityLaws.{domains_same, domains-trans, same_order, same_order_back, same_domains, same_domains_back, further, new_or_old, two_decided}
+use Rattle.pure_order_tables.proofs.ArityLaws.{domains_same, domains-trans, same_order, same_order_back, same_domains, same_domains_back, further, new_or_old, two_decided, domains-more, has_more, below_before}
+use Rattle.pure_order_tables.specs.Classes.{IsDeclared, Follows}
+use Rattle.pure_order_tables.proofs.BelowLaws.{below-more}
 
 -- In a coregular algebra the arities of a constructor for classes below a class are directed.
 pub directed : (A : Algebra) → IsCoregular A → (k d : ℕ) → IsDirected A k d
@@ -160,3 +162,20 @@ conflict_found A decided r a ds rest (Some c) f = record {
 
 pub one_more_arity : (es : List ArityEntry) (i : ℕ) (e : ArityEntry) → i < length es → e ≡ get_or es i e → arities_of (take (i + 1) es) ≡ arities_of (take i es) ++ arity_of e ∷ []
 one_more_arity es i e within read = ap arities_of (longer_by es i e within read) ∙ map-append arity_of (take i es) (e ∷ [])
+
+-- One more class keeps the algebra coregular.
+pub coregular_with_class : (A : Algebra) (l : Class) → Follows [] A.classes → ¬ IsDeclared A.classes l.name → Each (IsKnown A.classes) A.arities → IsCoregular A → IsCoregular (with_class A l)
+coregular_with_class A l f fresh known r a b m n con = record {
+  forth = λ h. domains-more A (with_class A l) (has_more A l) a b (w.forth (before a b.class m h));
+  back = λ h. domains-more A (with_class A l) (has_more A l) b a (w.back (before b a.class n h));
+  joined = λ d h k. (let j = w.joined d (before a d m h) (before b d n k) in
+    (j.0, record { declared = j.1.declared; con = j.1.con; class = below-more A (with_class A l) (has_more A l) j.1.class; first = domains-more A (with_class A l) (has_more A l) a j.0 j.1.first; second = domains-more A (with_class A l) (has_more A l) b j.0 j.1.second }));
+}
+  where
+    w : AreCompatible A a b
+    w = r a b m n con
+    before : (x : Arity) (d : ℕ) → IsIn x A.arities → IsClassBelow (with_class A l) x.class d → IsClassBelow A x.class d
+    before x d o h = below_before A l f fresh x.class d (each_at (IsKnown A.classes) A.arities known x o).class h
+
+pub push_keeps : (A B : Algebra) (l : Class) (cs : List Class) → A ≡ B → cs ≡ A.classes ++ l ∷ [] → Follows [] A.classes → ¬ IsDeclared B.classes l.name → Each (IsKnown A.classes) A.arities → IsCoregular B → IsCoregular (record { classes = cs; arities = A.arities })
+push_keeps A B l cs same longer f fresh known r = rw longer (coregular_with_class A l f (subst (λ (X : Algebra). ¬ IsDeclared X.classes l.name) (sym same) fresh) known (subst IsCoregular (sym same) r))

@@ -2,7 +2,7 @@ ghost use Rattle.std.specs.Prelude.{◌≡◌, ◌↔◌, ℕ, [], ◌∷◌, �
 ghost use Rattle.std.specs.BTreeMap.{get};
 ghost use Rattle.std.specs.Ordering.{nat_cmp};
 ghost use Rattle.pure_term.specs.Lists.{IsIn, Each, AnyOf, EachTwo};
-ghost use Rattle.pure_term.specs.Order.{Arity, IsClassBelow, HasClassBelow, IsSortBelow};
+ghost use Rattle.pure_term.specs.Order.{Arity, IsClassBelow, HasClassBelow, IsSortBelow, IsCoregular};
 ghost use Rattle.pure_order_tables.specs.Classes.{IsDeclared};
 ghost use Rattle.pure_order_tables.specs.Arities.{IsArityBelow, IsGreatestIfAny, IsAboveGreatest, IsKnown, IsNotAbove, with_class, with_arity};
 ghost use Rattle.pure_order_tables.specs.Checks.{IsDecided};
@@ -203,6 +203,7 @@ impl Tables {
         requires known { Each (IsDeclared self.old.classes) above.now }
         ensures ok { OnOk result (self.new ≡ with_class self.old (record { name = class; above = above.now })) }
         ensures err { OnErr result (self.new ≡ self.old) }
+        ensures coregular { IsCoregular self.old → IsCoregular self.new }
     {
         self.classes.push(alloc, class, above)?;
         Ok(())
