@@ -3,6 +3,8 @@
 
 mod fault;
 mod order;
+#[cfg(test)]
+mod tests;
 
 pub use fault::OrderFault;
 pub use order::Order;
