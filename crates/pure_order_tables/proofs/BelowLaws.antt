@@ -62,3 +62,6 @@ below-at A B b c d same h = rw (← same) (λ t. (below-classes A c d).0 (h.0 t)
 
 pub decided_at : (A B : Algebra) → A ≡ B → IsDecided (of_classes A.classes) → IsDecided B
 decided_at A B same h = subst IsDecided same (λ c d. elim (h c d) [ inl k ↦ inl ((below-classes A c d).0 k) | inr n ↦ inr (λ k. n ((below-classes A c d).1 k)) ])
+
+pub below_iff : (A B : Algebra) → A ≡ B → (c d : ℕ) → IsClassBelow (of_classes A.classes) c d ↔ IsClassBelow B c d
+below_iff A B same c d = subst (λ (X : Algebra). IsClassBelow (of_classes A.classes) c d ↔ IsClassBelow X c d) same (below-classes A c d)

@@ -7,3 +7,5 @@ pub mod ArityLaws
 pub mod ArityTableLaws
 pub mod CoregularLaws
 pub mod UnknownLaws
+pub mod UnionLaws
+pub mod ConflictLaws

@@ -168,3 +168,29 @@ split_at xs i r within read = sym (take-append-drop i xs) ∙ ap (λ ys. take i 
   where
     rest_at : {A : Type 0} (xs : List A) (i : ℕ) (r : A) → i < length xs → r ≡ get_or xs i r → drop i xs ≡ r ∷ drop (i + 1) xs
     rest_at xs i r within read = drop-cons xs i r within ∙ rw (← read, add-one) refl
+
+-- a set that grows by what is read
+pub grown_put : {A : Type 0} (x : A) (now now' old xs ys : List A) → now' ≡ now ++ x ∷ [] → ys ≡ xs ++ x ∷ [] → ((k : A) → IsIn k now ↔ (IsIn k old ⊎ IsIn k xs)) → (k : A) → IsIn k now' ↔ (IsIn k old ⊎ IsIn k ys)
+grown_put x now now' old xs ys longer read has k = rw (longer, read)
+    ( λ n. elim (in_split k now (x ∷ []) n) [
+          | inl t ↦ elim ((has k).0 t) [ inl o ↦ inl o | inr s ↦ inr (in-append_left k xs (x ∷ []) s) ]
+          | inr v ↦ inr (in-append_right k xs (x ∷ []) v)
+        ],
+      λ n. elim n [
+          | inl o ↦ in-append_left k now (x ∷ []) ((has k).1 (inl o))
+          | inr t ↦ elim (in_split k xs (x ∷ []) t) [
+              | inl s ↦ in-append_left k now (x ∷ []) ((has k).1 (inr s))
+              | inr v ↦ in-append_right k now (x ∷ []) v
+            ]
+        ] )
+
+pub grown_kept : {A : Type 0} (x : A) (now old xs ys : List A) → IsIn x now → ys ≡ xs ++ x ∷ [] → ((k : A) → IsIn k now ↔ (IsIn k old ⊎ IsIn k xs)) → (k : A) → IsIn k now ↔ (IsIn k old ⊎ IsIn k ys)
+grown_kept x now old xs ys there read has k = rw read
+    ( λ n. elim ((has k).0 n) [ inl o ↦ inl o | inr t ↦ inr (in-append_left k xs (x ∷ []) t) ],
+      λ n. elim n [
+          | inl o ↦ (has k).1 (inl o)
+          | inr t ↦ elim (in_split k xs (x ∷ []) t) [
+              | inl early ↦ (has k).1 (inr early)
+              | inr v ↦ elim v [ inl same ↦ rw same there | inr none ↦ absurd none ]
+            ]
+        ] )

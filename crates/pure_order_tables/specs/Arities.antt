@@ -1,5 +1,5 @@
 -- The arities of a constructor for the classes below a class, and the greatest of them.
-use Rattle.std.specs.Prelude.{◌≡◌, ℕ, List, [], ◌∷◌, ◌++◌}
+use Rattle.std.specs.Prelude.{◌≡◌, ◌↔◌, ◌⊎◌, ℕ, List, [], ◌∷◌, ◌++◌}
 use Rattle.pure_term.specs.Lists.{IsIn, Each, EachTwo}
 use Rattle.pure_term.specs.Order.{Class, Arity, Algebra, IsClassBelow, IsSortBelow, AreDomainsBelow}
 use Rattle.pure_order_tables.specs.Classes.{IsDeclared}
@@ -39,3 +39,8 @@ with_class A k = record { classes = A.classes ++ k ∷ []; arities = A.arities }
 
 abbrev pub with_arity : Algebra → Arity → Algebra
 with_arity A a = record { classes = A.classes; arities = A.arities ++ a ∷ [] }
+
+-- The third algebra is the union of the others: it declares what one of them declares.
+pub record IsUnion (A B U : Algebra) : Type 0 where
+  pub classes : (k : Class) → IsIn k U.classes ↔ (IsIn k A.classes ⊎ IsIn k B.classes)
+  pub arities : (a : Arity) → IsIn a U.arities ↔ (IsIn a A.arities ⊎ IsIn a B.arities)

@@ -65,3 +65,26 @@ pub record IsLeastFailing (A : Algebra) (a : Arity) (ds : List ℕ) (bs : List A
 -- What a look for a failing arity finds.
 abbrev pub FindsFailing : Algebra → Arity → List ℕ → List Arity → Option ℕ → Type 0
 FindsFailing A a ds bs found = MatchOption found (Each (PassesWith A a ds) bs) (IsLeastFailing A a ds bs)
+
+-- The first triple of numbers is the second one or before it.
+abbrev pub IsNotAfter : ℕ → ℕ → ℕ → ℕ → ℕ → ℕ → Type 0
+IsNotAfter k c d l e f = (k < l) ⊎ ((k ≡ l) × ((c < e) ⊎ ((c ≡ e) × (d ≤ f))))
+
+-- Of all declared arities in conflict, these are the least constructor, then the least first class, then the least second class.
+pub record IsLeastConflict (A : Algebra) (k c d : ℕ) : Type 0 where
+  pub is : (a b : Arity) × IsIn a A.arities × IsInConflict A a b × (a.con ≡ k) × (a.class ≡ c) × (b.class ≡ d)
+  pub ordered : c ≤ d
+  pub least : (a b : Arity) → IsIn a A.arities → IsInConflict A a b → IsNotAfter k c d a.con a.class b.class
+
+-- Where the arity is one of k for a class below d, its domains are below these.
+abbrev pub IsBelowOf : Algebra → ℕ → ℕ → List (List ℕ) → Arity → Type 0
+IsBelowOf A k d domains b = b.con ≡ k → IsClassBelow A b.class d → EachTwo (IsSortBelow A) b.domains domains
+
+-- For a constructor: the first class and the second are those of an arity of these and of one that fails the test with it, and no such pair is before them.
+pub record IsLeastPair (A : Algebra) (k : ℕ) (ds : List ℕ) (bs : List Arity) (c d : ℕ) : Type 0 where
+  pub is : (a b : Arity) × IsIn a bs × IsIn b A.arities × Fails A a ds b × (a.con ≡ k) × (a.class ≡ c) × (b.class ≡ d)
+  pub least : (a b : Arity) → IsIn a bs → IsIn b A.arities → a.con ≡ k → Fails A a ds b → (c < a.class) ⊎ ((c ≡ a.class) × (d ≤ b.class))
+
+-- What a look for such a pair finds.
+abbrev pub FindsPair : Algebra → ℕ → List ℕ → List Arity → Option (ℕ × ℕ) → Type 0
+FindsPair A k ds bs found = MatchOption found (Each (λ a. a.con ≡ k → Each (PassesWith A a ds) A.arities) bs) (λ p. IsLeastPair A k ds bs p.0 p.1)

@@ -1,8 +1,8 @@
 ghost use Rattle.std.specs.Prelude.{◌≡◌, ◌↔◌, ◌⊎◌, ℕ, [], ◌∷◌, ◌++◌, IsTrue, OnOk, OnErr, IfOk, MatchOption};
 ghost use Rattle.std.specs.List.Sorted.{IsStrictlyIncreasing};
 ghost use Rattle.pure_term.specs.Lists.{IsIn, Each, AnyOf};
-ghost use Rattle.pure_term.specs.Order.{IsClassBelow};
-ghost use Rattle.pure_order_tables.specs.Classes.{IsDeclared, Follows, of_classes};
+ghost use Rattle.pure_term.specs.Order.{Class, IsClassBelow};
+ghost use Rattle.pure_order_tables.specs.Classes.{Agree, Follows, IsDeclared, of_classes};
 ghost use Rattle.pure_order_tables.specs.Checks.{IsDecided};
 ghost use Rattle.pure_order_tables.specs.ClassTable.{AreAllAbove};
 
@@ -42,6 +42,8 @@ impl Model for ClassTable {
 }
 
 impl ClassTable {
+    ghost use Rattle.pure_order_tables.specs.ClassView.{classes_of};
+
     /// No classes.
     pub fn empty(alloc: Global) -> ClassTable
         ensures { result ≡ [] }
@@ -90,7 +92,7 @@ impl ClassTable {
     }
 
     /// Puts the classes above this one among the names.
-    fn put_above(&self, names: &mut Vec<Name>, class: Name) -> Result<(), AllocError>
+    pub(crate) fn put_above(&self, names: &mut Vec<Name>, class: Name) -> Result<(), AllocError>
         requires { IsStrictlyIncreasing names.old.items }
         ensures ascend { IsStrictlyIncreasing names.new.items }
         ensures has { OnOk result ((x : ℕ) → IsIn x names.new.items ↔ (IsClassBelow (of_classes self.now) class x ⊎ IsIn x names.old.items)) }
@@ -131,5 +133,30 @@ impl ClassTable {
         self.up.insert(class.0, up)?;
         push_in_room(&mut self.entries, entry);
         Ok(())
+    }
+
+    /// Declares those of the classes that aren't declared yet.
+    fn push_new(&mut self, alloc: Global, entries: &[ClassEntry]) -> Result<(), AllocError>
+        requires ordered { Follows [] (classes_of entries.now) }
+        requires agree { Agree self.old (classes_of entries.now) }
+        ensures { OnOk result ((k : Class) → IsIn k self.new ↔ (IsIn k self.old ⊎ IsIn k (classes_of entries.now))) }
+    {
+        for entry in entries {
+            if !self.is_declared(entry.name) {
+                self.push(alloc, entry.name, entry.above.as_slice())?;
+            }
+        }
+        Ok(())
+    }
+
+    /// The classes of both tables.
+    pub(crate) fn united(&self, alloc: Global, other: &ClassTable) -> Result<ClassTable, AllocError>
+        requires { Agree self.now other.now }
+        ensures { IfOk result (λ table. (k : Class) → IsIn k table ↔ (IsIn k self.now ⊎ IsIn k other.now)) }
+    {
+        let mut table = ClassTable::empty(alloc);
+        table.push_new(alloc, self.entries.as_slice())?;
+        table.push_new(alloc, other.entries.as_slice())?;
+        Ok(table)
     }
 }

@@ -3,9 +3,11 @@
 
 mod checks;
 mod classes;
+mod conflicts;
 mod names;
 mod room;
 mod tables;
+mod union;
 mod unknown;
 
 pub use classes::ClassTable;

@@ -30,6 +30,23 @@ pub(crate) fn lesser(least: Option<Name>, name: Name) -> Name
     }
 }
 
+/// Of the two names and the least so far those that come first.
+pub(crate) fn lesser_pair(least: Option<(Name, Name)>, first: Name, second: Name) -> (Name, Name)
+    ensures within { (result.0 < first) ⊎ ((result.0 ≡ first) × (result.1 ≤ second)) }
+    ensures one { MatchOption least (result ≡ (first, second)) (λ other. ((result.0 < other.0) ⊎ ((result.0 ≡ other.0) × (result.1 ≤ other.1))) × ((result ≡ other) ⊎ (result ≡ (first, second)))) }
+{
+    let Some((other_first, other_second)) = least else {
+        return (first, second);
+    };
+    if is_below(other_first, first) {
+        return (other_first, other_second);
+    }
+    if is_same(other_first, first) && is_below(other_second, second) {
+        return (other_first, other_second);
+    }
+    (first, second)
+}
+
 /// The place of the first of these ascending names that is not below the name.
 fn place_of(names: &[Name], name: Name) -> usize
     requires { IsStrictlyIncreasing names.now }

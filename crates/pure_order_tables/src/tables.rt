@@ -1,10 +1,11 @@
-ghost use Rattle.std.specs.Prelude.{◌≡◌, ◌↔◌, ℕ, [], ◌∷◌, ◌++◌, IsTrue, OnOk, OnErr, IfOk, MatchBool, MatchOption, length};
+ghost use Rattle.std.specs.Prelude.{◌≡◌, ◌↔◌, ◌⊎◌, ℕ, [], ◌∷◌, ◌++◌, IsTrue, OnOk, OnErr, IfOk, MatchBool, MatchOption, length};
 ghost use Rattle.std.specs.BTreeMap.{get};
 ghost use Rattle.std.specs.Ordering.{nat_cmp};
+ghost use Rattle.std.specs.List.Sorted.{IsStrictlyIncreasing};
 ghost use Rattle.pure_term.specs.Lists.{IsIn, Each, AnyOf, EachTwo};
 ghost use Rattle.pure_term.specs.Order.{Arity, IsClassBelow, HasClassBelow, IsSortBelow, IsCoregular};
-ghost use Rattle.pure_order_tables.specs.Classes.{IsDeclared};
-ghost use Rattle.pure_order_tables.specs.Arities.{IsArityBelow, IsGreatestIfAny, IsAboveGreatest, IsKnown, IsNotAbove, with_class, with_arity};
+ghost use Rattle.pure_order_tables.specs.Classes.{Agree, IsDeclared};
+ghost use Rattle.pure_order_tables.specs.Arities.{IsArityBelow, IsGreatestIfAny, IsAboveGreatest, IsKnown, IsNotAbove, IsUnion, with_class, with_arity};
 ghost use Rattle.pure_order_tables.specs.Checks.{IsDecided};
 ghost use Rattle.pure_order_tables.specs.ArityView.{arity_of, arities_of};
 ghost use Rattle.pure_order_tables.specs.ArityTable.{IsPlace, ArePlaces};
@@ -79,6 +80,16 @@ impl Tables {
             None => None,
             Some(names) => Some(names),
         }
+    }
+
+    /// Puts the classes above this one among the names.
+    pub(crate) fn put_above(&self, names: &mut Vec<Name>, class: Name) -> Result<(), AllocError>
+        requires { IsStrictlyIncreasing names.old.items }
+        ensures ascend { IsStrictlyIncreasing names.new.items }
+        ensures has { OnOk result ((x : ℕ) → IsIn x names.new.items ↔ (IsClassBelow self.now class x ⊎ IsIn x names.old.items)) }
+    {
+        self.classes.put_above(names, class)?;
+        Ok(())
     }
 
     /// Whether one of the classes is below the class.
@@ -229,6 +240,21 @@ impl Tables {
         ensures known { Each (IsKnown self.now.classes) self.now.arities }
     {
         self.arities.as_slice()
+    }
+
+    /// The classes and arities of both tables.
+    pub fn united(&self, alloc: Global, other: &Tables) -> Result<Tables, AllocError>
+        requires { Agree self.now.classes other.now.classes }
+        ensures { IfOk result (IsUnion self.now other.now) }
+    {
+        let mut tables = Tables {
+            classes: self.classes.united(alloc, &other.classes)?,
+            arities: Vec::new(alloc),
+            slots: BTreeMap::new(alloc),
+        };
+        tables.push_new(alloc, self.arities())?;
+        tables.push_new(alloc, other.arities())?;
+        Ok(tables)
     }
 }
 
