@@ -2,12 +2,12 @@ ghost use Rattle.std.specs.Prelude.{◌≡◌, ◌↔◌, ℕ, [], ◌∷◌, Is
 ghost use Rattle.pure_term.specs.Lists.{IsIn, Each, AnyOf};
 ghost use Rattle.pure_term.specs.Typ.{Typs, Con};
 ghost use Rattle.pure_term.specs.Order.{Arity, IsClassBelow, IsSortBelow, IsOfClass, IsOfSort, AreOfSorts, IsCoregular};
-ghost use Rattle.pure_order_tables.specs.Classes.{IsDeclared};
-ghost use Rattle.pure_order_tables.specs.Arities.{IsArityBelow, IsKnown, with_class, with_arity};
+ghost use Rattle.pure_order_tables.specs.Classes.{Agree, IsDeclared};
+ghost use Rattle.pure_order_tables.specs.Arities.{IsArityBelow, IsKnown, IsUnion, with_class, with_arity};
 ghost use Rattle.pure_order_tables.specs.Checks.{IsDirected};
 ghost use Rattle.pure_order.specs.Domains.{AreGreatestDomains, IsAboveAnother, IsReduced};
 ghost use Rattle.pure_order_tables.specs.Unknown.{IsFirstUnknown, HasArityFor, joined, names_of};
-ghost use Rattle.pure_order.specs.FaultView.{IsClassFault, IsArityFault};
+ghost use Rattle.pure_order.specs.FaultView.{IsClassFault, IsArityFault, IsMergeFault};
 
 use crate::fault::OrderFault;
 use pure_order_tables::{ArityEntry, Tables};
@@ -181,5 +181,23 @@ impl Order {
             }
         }
         Ok(Sort::make(classes))
+    }
+
+    /// The union of two orders that agree on the classes declared to be above a class.
+    pub fn merge(&self, alloc: Global, other: &Order) -> Result<Order, OrderFault>
+        requires { Agree self.now.classes other.now.classes }
+        ensures ok { IfOk result (IsUnion self.now other.now) }
+        ensures coregular { IfOk result IsCoregular }
+        ensures fault { IfErr result (IsMergeFault self.now other.now) }
+    {
+        let tables = self.tables.united(alloc, &other.tables)?;
+        if let Some(found) = tables.least_conflict(alloc)? {
+            return Err(OrderFault::NotCoregular {
+                con: found.0,
+                c1: found.1,
+                c2: found.2,
+            });
+        }
+        Ok(Order { tables })
     }
 }

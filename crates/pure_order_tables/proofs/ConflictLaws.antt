@@ -1,13 +1,16 @@
 -- Arities in conflict within one algebra.
-use Rattle.std.proofs.Common.{◌≡◌, ℕ, ◌≤◌, ◌<◌, List, [], ◌∷◌, ◌++◌, refl, sym, ap, inl, inr, ◌⊎◌, ◌↔◌, ◌∙◌, Bool, true, false, Option, Some, None, MatchOption, arith}
+use Rattle.std.proofs.Common.{◌≡◌, ℕ, ◌≤◌, ◌<◌, List, [], ◌∷◌, ◌++◌, refl, sym, ap, inl, inr, ◌⊎◌, ◌↔◌, ◌∙◌, Bool, true, false, Option, Some, None, MatchOption, arith, take, length, get_or, length-take-le, get_or-take}
+use Rattle.std.specs.List.Sorted.{IsStrictlyIncreasing}
+use Rattle.std.proofs.lemmas.Grind.{get_or_default_zero}
 use Rattle.std.specs.Bool.{OnTrue}
 use Rattle.std.proofs.lemmas.Bool.Decides.{eqb_tells}
 use Rattle.pure_term.specs.Lists.{IsIn, Each, AnyOf, EachTwo}
 use Rattle.pure_term.specs.Order.{Arity, Algebra, IsClassBelow, AreDomainsBelow, IsJoin, AreCompatible, IsCoregular}
 use Rattle.pure_term.proofs.ListLaws.{each_of, any_of, in-append_left, in-append_right}
 use Rattle.pure_order_tables.specs.Arities.{IsArityBelow, IsGreatestIfAny}
-use Rattle.pure_order_tables.specs.Checks.{IsAboveBoth, AreJoined, Pass, IsDirected, IsBelowOf, PassesWith, Fails, FindsFailing, IsInConflict, IsNotAfter, IsLeastConflict, IsLeastFailing, FindsPair, IsLeastPair}
+use Rattle.pure_order_tables.specs.Checks.{IsAboveBoth, AreJoined, Pass, IsDirected, IsBelowOf, PassesWith, Fails, FindsFailing, IsInConflict, IsNotAfter, IsLeastConflict, IsLeastFailing, FindsPair, IsLeastPair, HasNoConflict}
 use Rattle.pure_order_tables.proofs.ListMore.{in_split, any_some, each_at, each-append, in_or_not}
+use Rattle.pure_order_tables.proofs.NameLaws.{place_in, in_at, increasing_far}
 use Rattle.pure_order_tables.proofs.ArityLaws.{domains_same}
 use Rattle.pure_order_tables.proofs.CoregularLaws.{compatible_back}
 
@@ -106,3 +109,57 @@ pair_found A k ds bs o e c p con fails within one f = record { is = which o one 
     before : (o : Option (ℕ × ℕ)) → MatchOption o (p ≡ (e.class, c)) (λ q. ((p.0 < q.0) ⊎ ((p.0 ≡ q.0) × (p.1 ≤ q.1))) × ((p ≡ q) ⊎ (p ≡ (e.class, c)))) → FindsPair A k ds bs o → (a b : Arity) → IsIn a bs → IsIn b A.arities → a.con ≡ k → Fails A a ds b → (p.0 < a.class) ⊎ ((p.0 ≡ a.class) × (p.1 ≤ b.class))
     before None one f a b m n at h = absurd (h.fails (each_at (PassesWith A a ds) A.arities (each_at (λ a. a.con ≡ k → Each (PassesWith A a ds) A.arities) bs f a m at) b n h.con))
     before (Some q) one f a b m n at h = lex_trans p.0 p.1 q.0 q.1 a.class b.class one.0 (f.least a b m n at h)
+
+-- the constructors gone through in order
+
+pub no_pair : (A : Algebra) (k : ℕ) (ds : List ℕ) → ((d : ℕ) → IsDirected A k d ⊎ IsIn d ds) → Each (λ a. a.con ≡ k → Each (PassesWith A a ds) A.arities) A.arities → HasNoConflict A k
+no_pair A k ds rest all a b m n at con = pass_compatible A a b ds (λ d. rw at (rest d)) m n con (each_at (PassesWith A a ds) A.arities (each_at (λ a. a.con ≡ k → Each (PassesWith A a ds) A.arities) A.arities all a m at) b n con)
+
+pub no_conflict_coregular : (A : Algebra) (cons : List ℕ) → Each (λ a. IsIn a.con cons) A.arities → Each (HasNoConflict A) cons → IsCoregular A
+no_conflict_coregular A cons has none a b m n con = each_at (HasNoConflict A) cons none a.con (each_at (λ a. IsIn a.con cons) A.arities has a m) a b m n refl (sym con)
+
+pair_conflict : (A : Algebra) (k : ℕ) (ds : List ℕ) (a b : Arity) → ((d : ℕ) → IsDirected A k d ⊎ IsIn d ds) → IsIn a A.arities → IsIn b A.arities → a.con ≡ k → b.con ≡ a.con → ¬ AreCompatible A a b → Fails A a ds b
+pair_conflict A k ds a b rest m n at con not = record { con = con; fails = λ p. not (pass_compatible A a b ds (λ d. rw at (rest d)) m n con p) }
+
+-- The place of a constructor that was not gone through yet.
+later_or_here : (cons : List ℕ) (i k l : ℕ) → IsStrictlyIncreasing cons → i < length cons → k ≡ get_or cons i k → IsIn l cons → ¬ IsIn l (take i cons) → (k < l) ⊎ (k ≡ l)
+later_or_here cons i k l up within read m not =
+    let w = place_in l cons m in
+    let zeroed = get_or_default_zero cons i k within in
+    elim (by_order w.0 i) [
+      | inl before ↦ absurd (not (in_at (take i cons) w.0 l (omega (arith, length-take-le i cons (omega arith))) (get_or-take i cons w.0 0 before ∙ w.2)))
+      | inr v ↦ elim v [
+          | inl same ↦ inr (read ∙ zeroed ∙ rw (← same) w.2)
+          | inr after ↦ inl (let far = increasing_far cons up i w.0 after w.1 in omega (arith, w.2))
+        ]
+    ]
+  where
+    by_order : (j i : ℕ) → (j < i) ⊎ ((j ≡ i) ⊎ (i < j))
+    by_order j i = grind arith
+
+pub least_found : (A : Algebra) (cons : List ℕ) (i k : ℕ) (ds : List ℕ) (p : ℕ × ℕ) → IsStrictlyIncreasing cons → Each (λ a. IsIn a.con cons) A.arities → i < length cons → k ≡ get_or cons i k → Each (HasNoConflict A) (take i cons) → ((d : ℕ) → IsDirected A k d ⊎ IsIn d ds)
+    → IsLeastPair A k ds A.arities p.0 p.1 → IsLeastConflict A k p.0 p.1
+least_found A cons i k ds p up has within read none rest f = record { is = found; ordered = in_order; least = first }
+  where
+    a : Arity
+    a = f.is.0
+    b : Arity
+    b = f.is.1
+    not_compatible : ¬ AreCompatible A a b
+    not_compatible w = f.is.4.fails (compatible_pass A a b ds w)
+    found : (a b : Arity) × IsIn a A.arities × IsInConflict A a b × (a.con ≡ k) × (a.class ≡ p.0) × (b.class ≡ p.1)
+    found = (a, b, f.is.2, record { declared = f.is.3; con = f.is.4.con; conflict = not_compatible }, f.is.5, f.is.6, f.is.7)
+    in_order : p.0 ≤ p.1
+    in_order =
+        let back = pair_conflict A k ds b a rest f.is.3 f.is.2 (f.is.4.con ∙ f.is.5) (sym f.is.4.con) (λ w. not_compatible (compatible_back A b a f.is.4.con w)) in
+        elim (f.least b a f.is.3 f.is.2 (f.is.4.con ∙ f.is.5) back) [ inl less ↦ omega (arith, f.is.7) | inr same ↦ omega (arith, same.0, f.is.7) ]
+    first : (x y : Arity) → IsIn x A.arities → IsInConflict A x y → IsNotAfter k p.0 p.1 x.con x.class y.class
+    first x y m c =
+        let here = each_at (λ a. IsIn a.con cons) A.arities has x m in
+        elim (later_or_here cons i k x.con up within read here (λ early. c.conflict (each_at (HasNoConflict A) (take i cons) none x.con early x y m c.declared refl c.con))) [
+          | inl less ↦ inl less
+          | inr same ↦ inr (same, f.least x y m c.declared (sym same) (pair_conflict A k ds x y rest m c.declared (sym same) c.con c.conflict))
+        ]
+
+pub con_put : (cs cs' : List ℕ) (bs : List Arity) (e : Arity) → Each (λ a. IsIn a.con cs) bs → ((x : ℕ) → IsIn x cs' ↔ ((x ≡ e.con) ⊎ IsIn x cs)) → Each (λ a. IsIn a.con cs') (bs ++ e ∷ [])
+con_put cs cs' bs e old has = each-append (λ a. IsIn a.con cs') bs (e ∷ []) (each_of (λ a. IsIn a.con cs') bs (λ a m. (has a.con).1 (inr (each_at (λ a. IsIn a.con cs) bs old a m)))) ((has e.con).1 (inl refl), tt)

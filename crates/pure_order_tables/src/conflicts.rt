@@ -5,9 +5,9 @@ ghost use Rattle.pure_term.specs.Lists.{IsIn, Each, AnyOf, EachTwo};
 ghost use Rattle.pure_term.specs.Order.{Arity, IsClassBelow, IsSortBelow, IsCoregular};
 ghost use Rattle.pure_order_tables.specs.ArityView.{arity_of};
 ghost use Rattle.pure_order_tables.specs.Arities.{IsArityBelow};
-ghost use Rattle.pure_order_tables.specs.Checks.{FindsPair, IsBelowOf, IsDirected};
+ghost use Rattle.pure_order_tables.specs.Checks.{FindsPair, IsBelowOf, IsDirected, IsLeastConflict};
 
-use crate::names::{is_same, lesser_pair};
+use crate::names::{is_same, lesser_pair, put};
 use crate::tables::{ArityEntry, Tables};
 use pure_term::{Name, Sort};
 use std::alloc::{AllocError, Global};
@@ -85,5 +85,31 @@ impl Tables {
             }
         }
         least
+    }
+
+    /// The constructors with a declared arity.
+    fn constructors(&self, alloc: Global) -> Result<Vec<Name>, AllocError>
+        ensures ascend { IfOk result (λ cons. IsStrictlyIncreasing cons.items) }
+        ensures has { IfOk result (λ cons. Each (λ a. IsIn a.con cons.items) self.now.arities) }
+    {
+        let mut cons = Vec::new(alloc);
+        for arity in self.arities() {
+            put(&mut cons, arity.con)?;
+        }
+        Ok(cons)
+    }
+
+    /// The least constructor and the least two classes of declared arities in conflict.
+    pub fn least_conflict(&self, alloc: Global) -> Result<Option<(Name, Name, Name)>, AllocError>
+        ensures { IfOk result (λ found. MatchOption found (IsCoregular self.now) (λ f. IsLeastConflict self.now f.0 f.1 f.2)) }
+    {
+        let cons = self.constructors(alloc)?;
+        for con in cons.as_slice() {
+            let classes = self.undirected(alloc, *con)?;
+            if let Some(pair) = self.least_pair(*con, classes.as_slice()) {
+                return Ok(Some((*con, pair.0, pair.1)));
+            }
+        }
+        Ok(None)
     }
 }
