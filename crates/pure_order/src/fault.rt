@@ -1,0 +1,22 @@
+use pure_term::Name;
+use std::alloc::AllocError;
+
+/// Why a class, an arity or another order can't be added.
+#[derive(Clone, Copy, PartialEq, Eq, Debug)]
+pub enum OrderFault {
+    UnknownClass { class: Name },
+    Duplicate,
+    NotCoregular { con: Name, c1: Name, c2: Name },
+    Memory,
+}
+
+impl From<AllocError> for OrderFault {
+    ghost use Rattle.std.specs.Prelude.{◌≡◌};
+    ghost use Rattle.pure_order.specs.declared.fault.OrderFault.TheVariants.{Memory};
+
+    ghost from_gives = { λ _ fault. fault ≡ Memory };
+
+    fn from(_error: AllocError) -> OrderFault {
+        OrderFault::Memory
+    }
+}

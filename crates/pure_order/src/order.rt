@@ -1,0 +1,203 @@
+ghost use Rattle.std.specs.Prelude.{◌≡◌, ◌↔◌, ℕ, [], ◌∷◌, IsTrue, OnOk, OnErr, IfOk, IfErr, MatchOption};
+ghost use Rattle.pure_term.specs.Lists.{IsIn, Each, AnyOf};
+ghost use Rattle.pure_term.specs.Typ.{Typs, Con};
+ghost use Rattle.pure_term.specs.Order.{Arity, IsClassBelow, IsSortBelow, IsOfClass, IsOfSort, AreOfSorts, IsCoregular};
+ghost use Rattle.pure_order_tables.specs.Classes.{Agree, IsDeclared};
+ghost use Rattle.pure_order_tables.specs.Arities.{IsArityBelow, IsKnown, IsUnion, with_class, with_arity};
+ghost use Rattle.pure_order_tables.specs.Checks.{IsDirected};
+ghost use Rattle.pure_order.specs.Domains.{AreGreatestDomains, IsAboveAnother, IsReduced};
+ghost use Rattle.pure_order_tables.specs.Unknown.{IsFirstUnknown, HasArityFor, joined, names_of};
+ghost use Rattle.pure_order.specs.FaultView.{IsClassFault, IsArityFault, IsMergeFault};
+
+use crate::fault::OrderFault;
+use pure_order_tables::{ArityEntry, Tables};
+use pure_term::{Name, Sort, Typ, TypNode};
+use std::alloc::{AllocError, Global};
+use std::marker::Model;
+
+/// Declared classes and arities, coregular.
+#[derive(Drop)]
+pub struct Order {
+    tables: Tables,
+}
+
+impl Model for Order {
+    ghost use Rattle.pure_term.specs.Order.{Algebra, IsCoregular};
+
+    ghost Value = { Algebra };
+
+    ghost view = { λ o. o.tables };
+
+    ghost invariant = { λ o. IsCoregular o.tables };
+}
+
+impl Order {
+    /// No classes and no arities.
+    pub fn empty(alloc: Global) -> Order
+        ensures { result ≡ record { classes = []; arities = [] } }
+    {
+        Order {
+            tables: Tables::empty(alloc),
+        }
+    }
+
+    /// Whether the first class is below the second.
+    pub fn below(&self, first: Name, second: Name) -> bool
+        ensures { IsTrue result ↔ IsClassBelow self.now first second }
+    {
+        self.tables.below(first, second)
+    }
+
+    /// Whether the first sort is below the second.
+    pub fn sort_below(&self, first: &Sort, second: &Sort) -> bool
+        ensures { IsTrue result ↔ IsSortBelow self.now first.now second.now }
+    {
+        self.tables.sort_below(first, second)
+    }
+
+    /// The greatest domains among those of the constructor's arities for classes below this one, which are directed.
+    pub fn domains(&self, con: Name, class: Name) -> Option<&[Sort]>
+        ensures greatest { MatchOption result ((q : Arity) → ¬ IsArityBelow self.now con class q) (λ domains. AreGreatestDomains self.now con class domains.now) }
+        ensures of_class { MatchOption result ((ts : Typs) → ¬ IsOfClass self.now (Con con ts) class) (λ domains. (ts : Typs) → IsOfClass self.now (Con con ts) class ↔ AreOfSorts self.now ts domains.now) }
+        ensures directed { IsDirected self.now con class }
+        ensures coregular { IsCoregular self.now }
+    {
+        self.tables.order_is_decided();
+        match self.tables.candidate(con, class) {
+            None => None,
+            Some(domains) => Some(domains),
+        }
+    }
+
+    /// Whether the type is of the class.
+    fn of_class(&self, t: &Typ, class: Name) -> bool
+        ensures { IsTrue result ↔ IsOfClass self.now t.now class }
+    {
+        match &t.node {
+            TypNode::TFree { sort, .. } => self.tables.some_below(sort.classes(), class),
+            TypNode::TVar { sort, .. } => self.tables.some_below(sort.classes(), class),
+            TypNode::Con { name, args } => {
+                let args = args.as_slice();
+                let Some(domains) = self.domains(*name, class) else {
+                    return false;
+                };
+                if args.len() != domains.len() {
+                    return false;
+                }
+                for i in 0..args.len() {
+                    let arg = &args[i];
+                    let sort = &domains[i];
+                    for lower in sort.classes() {
+                        if !self.of_class(arg, *lower) {
+                            return false;
+                        }
+                    }
+                }
+                true
+            }
+        }
+    }
+
+    /// Whether the type is of the sort.
+    pub fn of_sort(&self, t: &Typ, s: &Sort) -> bool
+        ensures { IsTrue result ↔ IsOfSort self.now t.now s.now }
+    {
+        for class in s.classes() {
+            if !self.of_class(t, *class) {
+                return false;
+            }
+        }
+        true
+    }
+
+    /// Declares a class, with the classes declared to be above it.
+    pub fn add_class(&mut self, alloc: Global, class: Name, above: &[Name]) -> Result<(), OrderFault>
+        ensures ok { OnOk result (self.new ≡ with_class self.old (record { name = class; above = above.now })) }
+        ensures new { OnOk result (Each (IsDeclared self.old.classes) above.now × (¬ IsDeclared self.old.classes class)) }
+        ensures fault { IfErr result (IsClassFault self.old.classes class above.now) }
+        ensures err { OnErr result (self.new ≡ self.old) }
+    {
+        if let Some(class) = self.tables.first_unknown(above) {
+            return Err(OrderFault::UnknownClass { class });
+        }
+        if self.tables.is_declared(class) {
+            return Err(OrderFault::Duplicate);
+        }
+        self.tables.push_class(alloc, class, above)?;
+        Ok(())
+    }
+
+    /// Declares an arity.
+    pub fn add_arity(&mut self, alloc: Global, con: Name, domains: Vec<Sort>, class: Name) -> Result<(), OrderFault>
+        ensures ok { OnOk result (self.new ≡ with_arity self.old (record { con = con; domains = domains.items; class = class })) }
+        ensures new { OnOk result (IsKnown self.old.classes (record { con = con; domains = domains.items; class = class }) × (¬ HasArityFor self.old con class)) }
+        ensures coregular { OnOk result (IsCoregular (with_arity self.old (record { con = con; domains = domains.items; class = class }))) }
+        ensures fault { IfErr result (IsArityFault self.old (record { con = con; domains = domains.items; class = class })) }
+        ensures err { OnErr result (self.new ≡ self.old) }
+    {
+        if let Some(class) = self.tables.first_unknown_in(domains.as_slice()) {
+            return Err(OrderFault::UnknownClass { class });
+        }
+        if !self.tables.is_declared(class) {
+            return Err(OrderFault::UnknownClass { class });
+        }
+        if self.tables.has_arity(con, class) {
+            return Err(OrderFault::Duplicate);
+        }
+        let arity = ArityEntry { con, domains, class };
+        if let Some(c2) = self.tables.conflict(alloc, &arity)? {
+            return Err(OrderFault::NotCoregular { con, c1: class, c2 });
+        }
+        self.tables.push_arity(alloc, arity)?;
+        Ok(())
+    }
+
+    /// Whether another class of the sort is below the class.
+    fn is_above_another(&self, classes: &[Name], class: Name) -> bool
+        ensures { IsTrue result ↔ IsAboveAnother self.now classes.now class }
+    {
+        for other in classes {
+            if self.is_other_below(*other, class) {
+                return true;
+            }
+        }
+        false
+    }
+
+    fn is_other_below(&self, other: Name, class: Name) -> bool
+        ensures { IsTrue result ↔ ((¬ (other ≡ class)) × IsClassBelow self.now other class) }
+    {
+        other.0 != class.0 && self.below(other, class)
+    }
+
+    /// The sort without its classes that are above another one.
+    pub fn reduce(&self, alloc: Global, s: &Sort) -> Result<Sort, AllocError>
+        ensures { IfOk result (IsReduced self.now s.now) }
+    {
+        let mut classes = Vec::new(alloc);
+        for class in s.classes() {
+            if !self.is_above_another(s.classes(), *class) {
+                classes.push(*class)?;
+            }
+        }
+        Ok(Sort::make(classes))
+    }
+
+    /// The union of two orders that agree on the classes declared to be above a class.
+    pub fn merge(&self, alloc: Global, other: &Order) -> Result<Order, OrderFault>
+        requires { Agree self.now.classes other.now.classes }
+        ensures ok { IfOk result (IsUnion self.now other.now) }
+        ensures coregular { IfOk result IsCoregular }
+        ensures fault { IfErr result (IsMergeFault self.now other.now) }
+    {
+        let tables = self.tables.united(alloc, &other.tables)?;
+        if let Some(found) = tables.least_conflict(alloc)? {
+            return Err(OrderFault::NotCoregular {
+                con: found.0,
+                c1: found.1,
+                c2: found.2,
+            });
+        }
+        Ok(Order { tables })
+    }
+}

@@ -1,0 +1,182 @@
+-- Sorts and domains under the class order, and what one more class or arity changes.
+use Rattle.std.proofs.Common.{◌≡◌, ℕ, ◌+◌, ◌<◌, List, [], ◌∷◌, ◌++◌, length, get_or, refl, ap, sym, inl, inr, ◌⊎◌, ◌↔◌, Option, Some, None, MatchOption, ◌∙◌, arith, length-append}
+use Rattle.std.proofs.Math.ListN.{get_or-append}
+use Rattle.std.proofs.Math.Seq.{get_or-append_seam}
+use Rattle.pure_term.specs.Lists.{IsIn, Each, AnyOf, EachTwo}
+use Rattle.pure_term.specs.Order.{Class, Arity, Algebra, IsClassBelow, itself, along, IsSortBelow, HasClassBelow, AreDomainsBelow}
+use Rattle.pure_term.proofs.ListLaws.{each_of, any_of, in-append_left, in-append_right}
+use Rattle.pure_term.proofs.OrderLaws.{sort_below-itself}
+use Rattle.pure_order_tables.specs.Classes.{IsDeclared, Follows}
+use Rattle.pure_order_tables.specs.Arities.{IsArityBelow, IsGreatest, IsGreatestIfAny, IsKnown, with_class, with_arity}
+use Rattle.pure_order_tables.specs.Checks.{IsDecided}
+use Rattle.pure_order_tables.specs.ArityTable.{IsPlace, ArePlaces}
+use Rattle.pure_order_tables.proofs.ListMore.{in_split, any_some, each_at, any-append_left, any_imply}
+use Rattle.pure_order_tables.proofs.BelowLaws.{below-trans, below-more, below-one_more}
+
+pub sort_below-trans : (A : Algebra) (s r t : List ℕ) → IsSortBelow A s r → IsSortBelow A r t → IsSortBelow A s t
+sort_below-trans A s r t h k = each_of (HasClassBelow A s) t (λ d m.
+    let c = any_some (λ b. IsClassBelow A b d) r (each_at (HasClassBelow A r) t k d m) in
+    let b = any_some (λ x. IsClassBelow A x c.0) s (each_at (HasClassBelow A s) r h c.0 c.1) in
+    any_of (λ x. IsClassBelow A x d) b.0 s b.1 (below-trans b.2 c.2))
+
+pub two_same : (A : Algebra) (ss : List (List ℕ)) → EachTwo (IsSortBelow A) ss ss
+two_same A [] = tt
+two_same A (s ∷ ss) = (sort_below-itself A s, two_same A ss)
+
+pub domains_same : (A : Algebra) (a : Arity) → AreDomainsBelow A a a
+domains_same A a = two_same A a.domains
+
+pub two-trans : (A : Algebra) (ss rs ts : List (List ℕ)) → EachTwo (IsSortBelow A) ss rs → EachTwo (IsSortBelow A) rs ts → EachTwo (IsSortBelow A) ss ts
+two-trans A [] [] ts h k = k
+two-trans A [] (r ∷ rs) ts h k = absurd h
+two-trans A (s ∷ ss) [] ts h k = absurd h
+two-trans A (s ∷ ss) (r ∷ rs) [] h k = absurd k
+two-trans A (s ∷ ss) (r ∷ rs) (t ∷ ts) h k = (sort_below-trans A s r t h.0 k.0, two-trans A ss rs ts h.1 k.1)
+
+pub domains-trans : (A : Algebra) (a b c : Arity) → AreDomainsBelow A a b → AreDomainsBelow A b c → AreDomainsBelow A a c
+domains-trans A a b c h k = two-trans A a.domains b.domains c.domains h k
+
+two_imply : (A B : Algebra) (ss rs : List (List ℕ)) (ok : List ℕ → Type 0) → Each ok ss → ((s r : List ℕ) → ok s → IsSortBelow A s r → IsSortBelow B s r) → EachTwo (IsSortBelow A) ss rs → EachTwo (IsSortBelow B) ss rs
+two_imply A B [] [] ok each f h = tt
+two_imply A B [] (r ∷ rs) ok each f h = absurd h
+two_imply A B (s ∷ ss) [] ok each f h = absurd h
+two_imply A B (s ∷ ss) (r ∷ rs) ok each f h = (f s r each.0 h.0, two_imply A B ss rs ok each.1 f h.1)
+
+-- The classes of one algebra are among those of another.
+abbrev pub HasMore : Algebra → Algebra → Type 0
+HasMore A B = (k : Class) → IsIn k A.classes → IsIn k B.classes
+
+pub domains-more : (A B : Algebra) → HasMore A B → (a b : Arity) → AreDomainsBelow A a b → AreDomainsBelow B a b
+domains-more A B more a b h = two_imply A B a.domains b.domains (λ s. Unit {0}) (each_of (λ s. Unit {0}) a.domains (λ s m. tt)) (λ s r t k. each_of (HasClassBelow B s) r (λ d m. any_imply (λ x. IsClassBelow A x d) (λ x. IsClassBelow B x d) s (λ x w. below-more A B more w) (each_at (HasClassBelow A s) r k d m))) h
+
+-- with one more arity
+
+pub same_order : (A : Algebra) (a : Arity) {c d : ℕ} → IsClassBelow A c d → IsClassBelow (with_arity A a) c d
+same_order A a h = below-more A (with_arity A a) (λ k m. m) h
+
+pub same_order_back : (A : Algebra) (a : Arity) {c d : ℕ} → IsClassBelow (with_arity A a) c d → IsClassBelow A c d
+same_order_back A a h = below-more (with_arity A a) A (λ k m. m) h
+
+pub same_domains : (A : Algebra) (a b c : Arity) → AreDomainsBelow A b c → AreDomainsBelow (with_arity A a) b c
+same_domains A a b c h = domains-more A (with_arity A a) (λ k m. m) b c h
+
+pub same_domains_back : (A : Algebra) (a b c : Arity) → AreDomainsBelow (with_arity A a) b c → AreDomainsBelow A b c
+same_domains_back A a b c h = domains-more (with_arity A a) A (λ k m. m) b c h
+
+pub further : (A : Algebra) (a : Arity) (k d : ℕ) (q : Arity) → IsArityBelow A k d q → IsArityBelow (with_arity A a) k d q
+further A a k d q h = record { declared = in-append_left q A.arities (a ∷ []) h.declared; con = h.con; below = same_order A a h.below }
+
+pub new_or_old : (A : Algebra) (a : Arity) (k d : ℕ) (q : Arity) → IsArityBelow (with_arity A a) k d q → (q ≡ a) ⊎ IsArityBelow A k d q
+new_or_old A a k d q h = elim (in_split q A.arities (a ∷ []) h.declared) [
+    | inl old ↦ inr (record { declared = old; con = h.con; below = same_order_back A a h.below })
+    | inr w ↦ elim w [ inl e ↦ inl e | inr none ↦ absurd none ]
+  ]
+
+-- An old arity that is greatest with the new one is so without.
+pub greatest_before : (A : Algebra) (a : Arity) (k d : ℕ) (q : Arity) → IsArityBelow A k d q → IsGreatest (with_arity A a) k d q → IsGreatest A k d q
+greatest_before A a k d q is g = record { is = is; above = λ b m. same_domains_back A a b q (g.above b (further A a k d b m)) }
+
+-- A place stays right where the new arity isn't the greatest.
+pub kept_place : (A : Algebra) (a : Arity) (k d i : ℕ) → ¬ IsGreatest (with_arity A a) k d a → IsPlace A k d i → IsPlace (with_arity A a) k d i
+kept_place A a k d i not p = record { within = omega (arith, length-append A.arities (a ∷ []), p.within); greatest = λ e. rw (get_or-append A.arities (a ∷ []) e i p.within) (kept e) }
+  where
+    kept : (e : Arity) → IsGreatestIfAny (with_arity A a) k d (get_or A.arities i e)
+    kept e = record {
+      is = further A a k d (get_or A.arities i e) (p.greatest e).is;
+      above = λ b g. elim (new_or_old A a k d b g.is) [
+          | inl same ↦ absurd (not (rw same at g))
+          | inr old ↦ same_domains A a b (get_or A.arities i e) ((p.greatest e).above b (greatest_before A a k d b old g))
+        ];
+    }
+
+-- The new arity has the place where it is above the greatest, if there is one.
+pub new_place : (A : Algebra) (a : Arity) (k d : ℕ) → a.con ≡ k → IsClassBelow A a.class d → ((b : Arity) → IsGreatest A k d b → AreDomainsBelow A b a) → IsPlace (with_arity A a) k d (length A.arities)
+new_place A a k d named below over = record { within = omega (arith, length-append A.arities (a ∷ [])); greatest = λ e. rw (get_or-append_seam A.arities a [] e) is_greatest }
+  where
+    is_greatest : IsGreatestIfAny (with_arity A a) k d a
+    is_greatest = record {
+      is = record { declared = in-append_right a A.arities (a ∷ []) (inl refl); con = named; below = same_order A a below };
+      above = λ b g. elim (new_or_old A a k d b g.is) [
+          | inl same ↦ rw same (domains_same (with_arity A a) a)
+          | inr old ↦ same_domains A a b a (over b (greatest_before A a k d b old g))
+        ];
+    }
+
+-- Where some arity isn't below it, the new one isn't the greatest.
+pub not_greatest : (A : Algebra) (a : Arity) (k d : ℕ) (b : Arity) → IsArityBelow A k d b → ¬ AreDomainsBelow A b a → ¬ IsGreatest (with_arity A a) k d a
+not_greatest A a k d b m not g = not (same_domains_back A a b a (g.above b (further A a k d b m)))
+
+-- What a class has without the new arity it has with it, where that isn't for a class below.
+pub kept_apart : (A : Algebra) (a : Arity) (k d : ℕ) (o : Option ℕ) → ¬ IsArityBelow (with_arity A a) k d a → MatchOption o ((q : Arity) → ¬ IsArityBelow A k d q) (IsPlace A k d)
+    → MatchOption o ((q : Arity) → ¬ IsArityBelow (with_arity A a) k d q) (IsPlace (with_arity A a) k d)
+kept_apart A a k d None not p = λ q h. elim (new_or_old A a k d q h) [ inl same ↦ not (rw same at h) | inr old ↦ p q old ]
+kept_apart A a k d (Some i) not p = kept_place A a k d i (λ g. not g.is) p
+
+-- with one more class
+
+declared_in : (A : Algebra) (a : Arity) → Each (IsKnown A.classes) A.arities → IsIn a A.arities → IsKnown A.classes a
+declared_in A a known m = each_at (IsKnown A.classes) A.arities known a m
+
+not_the_new : (cs : List Class) (k : Class) (c : ℕ) → ¬ IsDeclared cs k.name → IsDeclared cs c → ¬ (c ≡ k.name)
+not_the_new cs k c fresh m e = fresh (rw e at m)
+
+pub has_more : (A : Algebra) (k : Class) → HasMore A (with_class A k)
+has_more A k l m = in-append_left l A.classes (k ∷ []) m
+
+pub below_before : (A : Algebra) (k : Class) → Follows [] A.classes → ¬ IsDeclared A.classes k.name → (c d : ℕ) → IsDeclared A.classes c → IsClassBelow (with_class A k) c d → IsClassBelow A c d
+below_before A k f fresh c d m h = below-one_more A (with_class A k) k refl f fresh c d (not_the_new A.classes k c fresh m) h
+
+pub domains_before : (A : Algebra) (k : Class) → Follows [] A.classes → ¬ IsDeclared A.classes k.name → (a b : Arity) → IsKnown A.classes a → AreDomainsBelow (with_class A k) a b → AreDomainsBelow A a b
+domains_before A k f fresh a b known h = two_imply (with_class A k) A a.domains b.domains (Each (IsDeclared A.classes)) known.domains (λ s r ok t. each_of (HasClassBelow A s) r (λ d m. 
+    let c = any_some (λ x. IsClassBelow (with_class A k) x d) s (each_at (HasClassBelow (with_class A k) s) r t d m) in
+    any_of (λ x. IsClassBelow A x d) c.0 s c.1 (below_before A k f fresh c.0 d (each_at (IsDeclared A.classes) s ok c.0 c.1) c.2))) h
+
+arity_before : (A : Algebra) (l : Class) → Follows [] A.classes → ¬ IsDeclared A.classes l.name → Each (IsKnown A.classes) A.arities → (k d : ℕ) (q : Arity) → IsArityBelow (with_class A l) k d q → IsArityBelow A k d q
+arity_before A l f fresh known k d q h = record { declared = h.declared; con = h.con; below = below_before A l f fresh q.class d (declared_in A q known h.declared).class h.below }
+
+arity_after : (A : Algebra) (l : Class) (k d : ℕ) (q : Arity) → IsArityBelow A k d q → IsArityBelow (with_class A l) k d q
+arity_after A l k d q h = record { declared = h.declared; con = h.con; below = below-more A (with_class A l) (has_more A l) h.below }
+
+pub places_after : (A : Algebra) (l : Class) → Follows [] A.classes → ¬ IsDeclared A.classes l.name → Each (IsKnown A.classes) A.arities → (k : ℕ) (place : ℕ → Option ℕ) → ArePlaces A k place → ArePlaces (with_class A l) k place
+places_after A l f fresh known k place p d = by (place d) (p d)
+  where
+    by : (o : Option ℕ) → MatchOption o ((q : Arity) → ¬ IsArityBelow A k d q) (IsPlace A k d) → MatchOption o ((q : Arity) → ¬ IsArityBelow (with_class A l) k d q) (IsPlace (with_class A l) k d)
+    by None p = λ q h. p q (arity_before A l f fresh known k d q h)
+    by (Some i) p = record {
+      within = p.within;
+      greatest = λ e. record {
+        is = arity_after A l k d (get_or A.arities i e) (p.greatest e).is;
+        above = λ b g. (let old = arity_before A l f fresh known k d b g.is in
+            let greatest : IsGreatest A k d b = record { is = old; above = λ c m. domains_before A l f fresh c b (declared_in A c known m.declared) (g.above c (arity_after A l k d c m)) } in
+            domains-more A (with_class A l) (has_more A l) b (get_or A.arities i e) ((p.greatest e).above b greatest));
+      };
+    }
+
+pub known_after : (A : Algebra) (l : Class) → Each (IsKnown A.classes) A.arities → Each (IsKnown (with_class A l).classes) A.arities
+known_after A l known = each_of (IsKnown (with_class A l).classes) A.arities (λ a m. (let old = declared_in A a known m in record {
+    domains = each_of (Each (IsDeclared (with_class A l).classes)) a.domains (λ s n. each_of (IsDeclared (with_class A l).classes) s (λ c o. any-append_left (λ x. x.name ≡ c) A.classes (l ∷ []) (each_at (IsDeclared A.classes) s (each_at (Each (IsDeclared A.classes)) a.domains old.domains s n) c o)));
+    class = any-append_left (λ x. x.name ≡ a.class) A.classes (l ∷ []) old.class;
+  }))
+
+-- While the classes above the new arity's are gone through: the place at d is right with the new arity, or d is still to come and the place is right without it.
+abbrev pub IsDone : Algebra → Arity → ℕ → Type 0 → Option ℕ → Type 0
+IsDone A a d passed o = MatchOption o ((q : Arity) → ¬ IsArityBelow (with_arity A a) a.con d q) (IsPlace (with_arity A a) a.con d) ⊎ ((¬ passed) × MatchOption o ((q : Arity) → ¬ IsArityBelow A a.con d q) (IsPlace A a.con d))
+
+-- Where the order of classes is decided, so is that of domains.
+
+any_decided : {A : Type 0} (P : A → Type 0) → ((x : A) → P x ⊎ ¬ P x) → (xs : List A) → AnyOf P xs ⊎ ¬ AnyOf P xs
+any_decided P d [] = inr (λ h. h)
+any_decided P d (x ∷ xs) = elim (d x) [ inl p ↦ inl (inl p) | inr n ↦ elim (any_decided P d xs) [ inl t ↦ inl (inr t) | inr m ↦ inr (λ h. elim h [ inl p ↦ n p | inr t ↦ m t ]) ] ]
+
+each_decided : {A : Type 0} (P : A → Type 0) → ((x : A) → P x ⊎ ¬ P x) → (xs : List A) → Each P xs ⊎ ¬ Each P xs
+each_decided P d [] = inl tt
+each_decided P d (x ∷ xs) = elim (d x) [ inl p ↦ elim (each_decided P d xs) [ inl t ↦ inl (p, t) | inr m ↦ inr (λ h. m h.1) ] | inr n ↦ inr (λ h. n h.0) ]
+
+pub two_decided : (A : Algebra) → IsDecided A → (ss rs : List (List ℕ)) → EachTwo (IsSortBelow A) ss rs ⊎ ¬ EachTwo (IsSortBelow A) ss rs
+two_decided A d [] [] = inl tt
+two_decided A d [] (r ∷ rs) = inr (λ h. h)
+two_decided A d (s ∷ ss) [] = inr (λ h. h)
+two_decided A d (s ∷ ss) (r ∷ rs) = elim (each_decided (HasClassBelow A s) (λ c. any_decided (λ b. IsClassBelow A b c) (λ b. d b c) s) r) [
+    | inl h ↦ elim (two_decided A d ss rs) [ inl t ↦ inl (h, t) | inr m ↦ inr (λ k. m k.1) ]
+    | inr n ↦ inr (λ k. n k.0)
+  ]

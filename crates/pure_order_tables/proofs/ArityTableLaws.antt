@@ -1,0 +1,83 @@
+-- Tables of arities.
+use Rattle.std.proofs.Common.{◌≡◌, ℕ, ◌+◌, ◌<◌, List, [], ◌∷◌, ◌++◌, length, get_or, refl, ap, sym, subst, inl, inr, ◌⊎◌, ◌↔◌, Bool, true, false, IsTrue, MatchBool, Option, Some, None, MatchOption, ◌∙◌}
+use Rattle.std.specs.BTreeMap.{BTreeMap, get, Updates}
+use Rattle.std.specs.Ordering.{nat_cmp}
+use Rattle.pure_term.specs.Lists.{IsIn, Each, AnyOf, EachTwo}
+use Rattle.pure_term.specs.Order.{Class, Arity, Algebra, IsClassBelow, itself, along, IsSortBelow, HasClassBelow, AreDomainsBelow}
+use Rattle.pure_order_tables.specs.Classes.{IsDeclared, Follows, of_classes}
+use Rattle.pure_order_tables.specs.Arities.{IsArityBelow, IsGreatest, IsGreatestIfAny, IsAboveGreatest, IsNotAbove, IsKnown, with_class, with_arity}
+use Rattle.std.proofs.Math.ListN.{get_or-map}
+use Rattle.std.proofs.lemmas.List.{map-append}
+use Rattle.std.proofs.lemmas.Bool.Decides.{eqb_tells}
+use Rattle.pure_order_tables.specs.declared.tables.ArityEntry.{ArityEntry}
+use Rattle.pure_order_tables.specs.ArityView.{arity_of, arities_of, algebra_of}
+use Rattle.pure_order_tables.specs.ClassTable.{AreAllAbove}
+use Rattle.pure_order_tables.proofs.BelowLaws.{below-classes}
+use Rattle.pure_order_tables.specs.ArityTable.{IsPlace, ArePlaces, places_in, IsArityTable}
+use Rattle.pure_order_tables.proofs.ListMore.{each-append}
+use Rattle.pure_order_tables.proofs.MapLaws.{get_after}
+use Rattle.pure_order_tables.proofs.ArityLaws.{IsDone, two-trans, same_order_back, new_place, not_greatest, kept_place, known_after, places_after, kept_apart}
+
+pub no_place : (A B : Algebra) (slots : BTreeMap ℕ (BTreeMap ℕ ℕ)) (k l d : ℕ) → A ≡ B → l ≡ k → IsArityTable A slots → None ≡ get nat_cmp slots l → (q : Arity) → ¬ IsArityBelow B k d q
+no_place A B slots k l d same name t none =
+    let places = rw (← none) at (t.places l d) in
+    rw (← same, ← name) places
+
+pub table-one_class : (A B : Algebra) (l : Class) (slots : BTreeMap ℕ (BTreeMap ℕ ℕ)) → A ≡ B → Follows [] A.classes → ¬ IsDeclared B.classes l.name → IsArityTable A slots → IsArityTable (with_class A l) slots
+table-one_class A B l slots same f fresh t =
+    let new : ¬ IsDeclared A.classes l.name = subst (λ (X : Algebra). ¬ IsDeclared X.classes l.name) (sym same) fresh in
+    record { known = known_after A l t.known; places = λ k. places_after A l f new t.known k (places_in (get nat_cmp slots k)) (t.places k) }
+
+pub table-one_arity : (A : Algebra) (a : Arity) (old new : BTreeMap ℕ (BTreeMap ℕ ℕ)) (places : BTreeMap ℕ ℕ) → IsArityTable A old → IsKnown A.classes a → ArePlaces (with_arity A a) a.con (get nat_cmp places) → Updates nat_cmp old new a.con (Some places) → IsArityTable (with_arity A a) new
+table-one_arity A a old new places t known right updates = record {
+  known = each-append (IsKnown A.classes) A.arities (a ∷ []) t.known (known, tt);
+  places = λ k. elim (get_after old new a.con places updates k) [
+    | inl w ↦ rw w.1 (rw w.0 right)
+    | inr w ↦ rw w.1 (λ d. kept_apart A a k d (places_in (get nat_cmp old k) d) (λ h. w.0 (sym h.con)) (t.places k d))
+  ];
+}
+
+-- The entry at a place has the arity.
+pub candidate_at : (cs : List Class) (es : List ArityEntry) (B : Algebra) (k d i : ℕ) (e : ArityEntry) (domains : List (List ℕ)) → algebra_of cs es ≡ B → e ≡ get_or es i e → domains ≡ e.domains.items → IsPlace B k d i → (q : Arity) × (q.domains ≡ domains) × IsGreatestIfAny B k d q
+candidate_at cs es B k d i e domains same read there p =
+    let found : get_or (arities_of es) i (arity_of e) ≡ arity_of e = get_or-map arity_of es i e ∙ ap arity_of (sym read) in
+    let place : IsPlace (algebra_of cs es) k d i = rw same p in
+    (arity_of e, sym there, rw same at (rw found at (place.greatest (arity_of e))))
+
+-- What is above the candidate is above the greatest.
+pub greater_or_not : (A : Algebra) (k d : ℕ) (q : Arity) (candidate domains : List (List ℕ)) (b : Bool) → q.domains ≡ candidate → IsGreatestIfAny A k d q → (IsTrue b ↔ EachTwo (IsSortBelow A) candidate domains) → MatchBool b (IsAboveGreatest A k d domains) (IsNotAbove A k d domains)
+greater_or_not A k d q candidate domains true there g test = λ b h. two-trans A b.domains q.domains domains (g.above b h) (rw there (test.0 refl))
+greater_or_not A k d q candidate domains false there g test = (q, g.is, λ h. (let t = test.1 (rw there at h) in cc))
+
+-- the classes above a class, in the algebra of the table
+pub above_in : (cs : List Class) (es : List ArityEntry) (A : Algebra) (c : ℕ) (names : List ℕ) → algebra_of cs es ≡ A → AreAllAbove cs c names → (d : ℕ) → IsIn d names ↔ IsClassBelow A c d
+above_in cs es A c names same all d = rw (← same) (λ m. (below-classes (algebra_of cs es) c d).0 ((all.are d).0 m), λ h. (all.are d).1 ((below-classes (algebra_of cs es) c d).1 h))
+
+-- One turn over the classes above the new arity's, at r: d is r or isn't.
+pub turn_put : (A : Algebra) (a : Arity) (d r : ℕ) (P P' : Type 0) (o o' : Option ℕ) → P' ↔ (P ⊎ (d ≡ r)) → IsClassBelow A a.class r → IsAboveGreatest A a.con r a.domains → ((d ≡ r) × (o' ≡ Some (length A.arities))) ⊎ ((¬ (d ≡ r)) × (o' ≡ o)) → IsDone A a d P o → IsDone A a d P' o'
+turn_put A a d r P P' o o' passed below over at done = elim at [
+    | inl w ↦ inl (rw w.1 (new_place A a a.con d refl (rw w.0 below) (rw w.0 over)))
+    | inr w ↦ rw w.1 (elim done [ inl right ↦ inl right | inr left ↦ inr (λ p. elim (passed.0 p) [ inl q ↦ left.0 q | inr e ↦ w.0 e ], left.1) ])
+  ]
+
+pub turn_kept : (A : Algebra) (a : Arity) (d r : ℕ) (P P' : Type 0) (o : Option ℕ) → P' ↔ (P ⊎ (d ≡ r)) → IsNotAbove A a.con r a.domains → IsDone A a d P o → IsDone A a d P' o
+turn_kept A a d r P P' o passed not done = elim done [
+    | inl right ↦ inl right
+    | inr left ↦ elim (eqb_tells d r) [
+        | inl w ↦ inl (still o left.1 (rw w.1 not))
+        | inr w ↦ inr (λ p. elim (passed.0 p) [ inl q ↦ left.0 q | inr e ↦ w.1 e ], left.1)
+      ]
+  ]
+  where
+    still : (o : Option ℕ) → MatchOption o ((q : Arity) → ¬ IsArityBelow A a.con d q) (IsPlace A a.con d) → IsNotAbove A a.con d a.domains → MatchOption o ((q : Arity) → ¬ IsArityBelow (with_arity A a) a.con d q) (IsPlace (with_arity A a) a.con d)
+    still None none n = absurd (none n.0 n.1)
+    still (Some i) p n = kept_place A a a.con d i (not_greatest A a a.con d n.0 n.1 n.2) p
+
+pub all_done : (A : Algebra) (a : Arity) (d : ℕ) (P : Type 0) (o : Option ℕ) → (IsClassBelow A a.class d → P) → IsDone A a d P o → MatchOption o ((q : Arity) → ¬ IsArityBelow (with_arity A a) a.con d q) (IsPlace (with_arity A a) a.con d)
+all_done A a d P o all done = elim done [ inl right ↦ right | inr left ↦ kept_apart A a a.con d o (λ h. left.0 (all (same_order_back A a h.below))) left.1 ]
+
+pub entries-one_arity : (cs : List Class) (es es' : List ArityEntry) (e : ArityEntry) (B : Algebra) (old new : BTreeMap ℕ (BTreeMap ℕ ℕ)) (places : BTreeMap ℕ ℕ) → algebra_of cs es ≡ B → es' ≡ es ++ e ∷ []
+    → IsArityTable (algebra_of cs es) old → IsKnown B.classes (arity_of e) → ArePlaces (with_arity B (arity_of e)) e.con (get nat_cmp places) → Updates nat_cmp old new e.con (Some places) → IsArityTable (algebra_of cs es') new
+entries-one_arity cs es es' e B old new places same longer t known right updates =
+    let is : IsKnown cs (arity_of e) = subst (λ (X : Algebra). IsKnown X.classes (arity_of e)) (sym same) known in
+    rw (longer, map-append arity_of es (e ∷ [])) (table-one_arity (algebra_of cs es) (arity_of e) old new places t is (subst (λ (X : Algebra). ArePlaces (with_arity X (arity_of e)) e.con (get nat_cmp places)) (sym same) right) updates)

@@ -1,0 +1,7 @@
+use Rattle.std.proofs.Common.{◌≡◌, take}
+use Rattle.pure_term.specs.Lists.{IsIn}
+use Rattle.pure_order_tables.specs.ArityView.{arity_of, arities_of}
+use Rattle.pure_order_tables.proofs.tables.Tables.has_same.Given as goal
+
+abbrev pub invariant-loop-other : goal.invariant-loop-other
+invariant-loop-other l = ¬ IsIn (arity_of l.arity) (arities_of (take l.other-index l.other-items))

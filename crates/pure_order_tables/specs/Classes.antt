@@ -1,0 +1,21 @@
+-- Declared classes, in the order of their declarations.
+use Rattle.std.specs.Prelude.{◌≡◌, ℕ, List, [], ◌∷◌, ◌++◌}
+use Rattle.pure_term.specs.Lists.{IsIn, Each, AnyOf}
+use Rattle.pure_term.specs.Order.{Class, Arity, Algebra}
+
+-- The class is declared.
+abbrev pub IsDeclared : List Class → ℕ → Type 0
+IsDeclared cs c = AnyOf (λ k. k.name ≡ c) cs
+
+-- Each class of the second list is declared once, after those of the first list, and after the classes declared to be above it.
+abbrev pub Follows : List Class → List Class → Type 0
+Follows done [] = Unit {0}
+Follows done (k ∷ ks) = (¬ IsDeclared done k.name) × Each (IsDeclared done) k.above × Follows (done ++ k ∷ []) ks
+
+-- the algebra of these classes, without arities
+abbrev pub of_classes : List Class → Algebra
+of_classes cs = record { classes = cs; arities = [] }
+
+-- A class that both lists declare has the same classes declared above it in both.
+abbrev pub Agree : List Class → List Class → Type 0
+Agree cs ks = (c k : Class) → IsIn c cs → IsIn k ks → c.name ≡ k.name → c ≡ k

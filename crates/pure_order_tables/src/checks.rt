@@ -1,0 +1,126 @@
+ghost use Rattle.std.specs.Prelude.{◌≡◌, ◌↔◌, ◌⊎◌, ℕ, IsTrue, IfOk, MatchBool, MatchOption};
+ghost use Rattle.std.specs.Bool.{OnTrue};
+ghost use Rattle.pure_term.specs.Lists.{IsIn, AnyOf, EachTwo};
+ghost use Rattle.pure_term.specs.Order.{AreDomainsBelow, IsClassBelow, IsCoregular};
+ghost use Rattle.pure_order_tables.specs.Arities.{with_arity};
+ghost use Rattle.pure_order_tables.specs.Classes.{IsDeclared};
+ghost use Rattle.pure_order_tables.specs.ArityView.{arity_of};
+ghost use Rattle.pure_order_tables.specs.Checks.{AreJoined, Fails, FindsFailing, IsAboveBoth, IsCovered, IsLeastInConflict, Pass, PassesWith};
+
+use crate::names::{is_same, lesser};
+use crate::tables::{ArityEntry, Tables};
+use pure_term::{Name, Sort};
+use std::alloc::{AllocError, Global};
+
+impl Tables {
+    /// Whether the arity is one of the constructor for a class below this one, with domains above both of these.
+    fn is_above_both(&self, arity: &ArityEntry, con: Name, class: Name, first: &[Sort], second: &[Sort]) -> bool
+        ensures { MatchBool result (IsAboveBoth self.now con class first.now second.now (arity_of arity.now)) (¬ IsAboveBoth self.now con class first.now second.now (arity_of arity.now)) }
+    {
+        is_same(arity.con, con)
+            && self.below(arity.class, class)
+            && self.domains_below(first, arity.domains.as_slice())
+            && self.domains_below(second, arity.domains.as_slice())
+    }
+
+    /// Whether some declared arity of the constructor for a class below this one has domains above both of these.
+    fn have_join(&self, con: Name, class: Name, first: &[Sort], second: &[Sort]) -> bool
+        ensures { MatchBool result (AnyOf (IsAboveBoth self.now con class first.now second.now) self.now.arities) (¬ AnyOf (IsAboveBoth self.now con class first.now second.now) self.now.arities) }
+    {
+        for arity in self.arities() {
+            if self.is_above_both(arity, con, class, first, second) {
+                return true;
+            }
+        }
+        false
+    }
+
+    /// Whether the second part holds of two arities at these classes.
+    fn are_joined(&self, first: &ArityEntry, second: &ArityEntry, classes: &[Name]) -> bool
+        ensures { MatchBool result (AreJoined self.now (arity_of first.now) (arity_of second.now) classes.now) (¬ AreJoined self.now (arity_of first.now) (arity_of second.now) classes.now) }
+    {
+        for class in classes {
+            if self.below(first.class, *class)
+                && self.below(second.class, *class)
+                && !self.have_join(first.con, *class, first.domains.as_slice(), second.domains.as_slice())
+            {
+                return false;
+            }
+        }
+        true
+    }
+
+    /// Whether the first part holds of two arities, one way.
+    fn falls(&self, first: &ArityEntry, second: &ArityEntry) -> bool
+        ensures { MatchBool result (IsClassBelow self.now first.now.class second.now.class → AreDomainsBelow self.now (arity_of first.now) (arity_of second.now)) (¬ (IsClassBelow self.now first.now.class second.now.class → AreDomainsBelow self.now (arity_of first.now) (arity_of second.now))) }
+    {
+        !self.below(first.class, second.class) || self.domains_below(first.domains.as_slice(), second.domains.as_slice())
+    }
+
+    /// Whether two arities of a constructor pass the test of being compatible, the second part at these classes.
+    pub(crate) fn pass(&self, first: &ArityEntry, second: &ArityEntry, classes: &[Name]) -> bool
+        ensures { MatchBool result (Pass self.now (arity_of first.now) (arity_of second.now) classes.now) (¬ Pass self.now (arity_of first.now) (arity_of second.now) classes.now) }
+    {
+        self.falls(first, second)
+            && self.falls(second, first)
+            && (self.domains_below(second.domains.as_slice(), first.domains.as_slice()) || self.are_joined(first, second, classes))
+    }
+
+    /// Whether the domains are below the candidate of the constructor at the class.
+    pub(crate) fn is_covered(&self, con: Name, class: Name, domains: &[Sort]) -> bool
+        ensures { OnTrue result (IsCovered self.now con class domains.now) }
+    {
+        match self.candidate(con, class) {
+            None => false,
+            Some(candidate) => self.domains_below(domains, candidate),
+        }
+    }
+
+    /// The classes above the arity's at which its domains aren't below the candidate.
+    fn unsettled(&self, alloc: Global, arity: &ArityEntry) -> Result<Vec<Name>, AllocError>
+        requires { IsDeclared self.now.classes arity.now.class }
+        ensures { IfOk result (λ classes. (d : ℕ) → IsClassBelow self.now arity.now.class d → IsIn d classes.items ⊎ IsCovered self.now arity.now.con d arity.now.domains.items) }
+    {
+        let mut classes = Vec::new(alloc);
+        let Some(above) = self.above(arity.class) else {
+            return Ok(classes);
+        };
+        for class in above {
+            if !self.is_covered(arity.con, *class, arity.domains.as_slice()) {
+                classes.push(*class)?;
+            }
+        }
+        Ok(classes)
+    }
+
+    /// Whether the second arity is of the first one's constructor and doesn't pass the test with it.
+    fn fails(&self, first: &ArityEntry, second: &ArityEntry, classes: &[Name]) -> bool
+        ensures { MatchBool result (Fails self.now (arity_of first.now) classes.now (arity_of second.now)) (PassesWith self.now (arity_of first.now) classes.now (arity_of second.now)) }
+    {
+        is_same(second.con, first.con) && !self.pass(first, second, classes)
+    }
+
+    /// The least class of a declared arity that fails the test with this one.
+    pub(crate) fn least_failing(&self, arity: &ArityEntry, classes: &[Name]) -> Option<Name>
+        ensures { FindsFailing self.now (arity_of arity.now) classes.now self.now.arities result }
+    {
+        let mut least = None;
+        for other in self.arities() {
+            if self.fails(arity, other, classes) {
+                least = Some(lesser(least, other.class));
+            }
+        }
+        least
+    }
+
+    /// The least class of a declared arity in conflict with this one, which isn't declared yet.
+    pub fn conflict(&self, alloc: Global, arity: &ArityEntry) -> Result<Option<Name>, AllocError>
+        requires coregular { IsCoregular self.now }
+        requires declared { IsDeclared self.now.classes arity.now.class }
+        ensures { IfOk result (λ found. MatchOption found (IsCoregular (with_arity self.now (arity_of arity.now))) (IsLeastInConflict (with_arity self.now (arity_of arity.now)) (arity_of arity.now))) }
+    {
+        self.order_is_decided();
+        let unsettled = self.unsettled(alloc, arity)?;
+        Ok(self.least_failing(arity, unsettled.as_slice()))
+    }
+}

@@ -1,0 +1,14 @@
+//! Completed tables of classes and arities: queries by look-up, which answer the order of classes by its paths.
+#![tactic(auto)]
+
+mod checks;
+mod classes;
+mod conflicts;
+mod names;
+mod room;
+mod tables;
+mod union;
+mod unknown;
+
+pub use classes::ClassTable;
+pub use tables::{ArityEntry, Tables};

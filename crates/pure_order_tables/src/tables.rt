@@ -1,0 +1,265 @@
+ghost use Rattle.std.specs.Prelude.{◌≡◌, ◌↔◌, ◌⊎◌, ℕ, [], ◌∷◌, ◌++◌, IsTrue, OnOk, OnErr, IfOk, MatchBool, MatchOption, length};
+ghost use Rattle.std.specs.BTreeMap.{get};
+ghost use Rattle.std.specs.Ordering.{nat_cmp};
+ghost use Rattle.std.specs.List.Sorted.{IsStrictlyIncreasing};
+ghost use Rattle.pure_term.specs.Lists.{IsIn, Each, AnyOf, EachTwo};
+ghost use Rattle.pure_term.specs.Order.{Arity, IsClassBelow, HasClassBelow, IsSortBelow, IsCoregular};
+ghost use Rattle.pure_order_tables.specs.Classes.{Agree, IsDeclared};
+ghost use Rattle.pure_order_tables.specs.Arities.{IsArityBelow, IsGreatestIfAny, IsAboveGreatest, IsKnown, IsNotAbove, IsUnion, with_class, with_arity};
+ghost use Rattle.pure_order_tables.specs.Checks.{IsDecided};
+ghost use Rattle.pure_order_tables.specs.ArityView.{arity_of, arities_of};
+ghost use Rattle.pure_order_tables.specs.ArityTable.{IsPlace, ArePlaces};
+
+use crate::classes::ClassTable;
+use crate::room::push_in_room;
+use pure_term::{Name, Sort};
+use std::alloc::{AllocError, Global};
+use std::collections::BTreeMap;
+use std::marker::Model;
+
+/// A declared arity.
+#[derive(Drop)]
+pub struct ArityEntry {
+    pub con: Name,
+    pub domains: Vec<Sort>,
+    pub class: Name,
+}
+
+/// Declared classes and arities. For each constructor and class the slots have the place of the arity with the greatest domains.
+#[derive(Drop)]
+pub struct Tables {
+    classes: ClassTable,
+    arities: Vec<ArityEntry>,
+    slots: BTreeMap<u32, BTreeMap<u32, usize>>,
+}
+
+impl Model for Tables {
+    ghost use Rattle.pure_term.specs.Order.{Algebra};
+
+    ghost Value = { Algebra };
+
+    ghost use Rattle.pure_order_tables.specs.ArityView.{algebra_of};
+    ghost use Rattle.pure_order_tables.specs.ArityTable.{IsArityTable};
+
+    ghost view = { λ t. algebra_of t.classes t.arities.items };
+
+    ghost invariant = { λ t. IsArityTable (algebra_of t.classes t.arities.items) t.slots };
+}
+
+impl Tables {
+    /// Nothing declared.
+    pub fn empty(alloc: Global) -> Tables
+        ensures { result ≡ record { classes = []; arities = [] } }
+    {
+        Tables {
+            classes: ClassTable::empty(alloc),
+            arities: Vec::new(alloc),
+            slots: BTreeMap::new(alloc),
+        }
+    }
+
+    /// Whether the class is declared.
+    pub fn is_declared(&self, class: Name) -> bool
+        ensures { IsTrue result ↔ IsDeclared self.now.classes class }
+    {
+        self.classes.is_declared(class)
+    }
+
+    /// Whether the first class is below the second.
+    pub fn below(&self, first: Name, second: Name) -> bool
+        ensures { IsTrue result ↔ IsClassBelow self.now first second }
+    {
+        self.classes.below(first, second)
+    }
+
+    /// The classes above a declared class, itself among them.
+    pub(crate) fn above(&self, class: Name) -> Option<&[Name]>
+        ensures { MatchOption result (¬ IsDeclared self.now.classes class) (λ names. (d : ℕ) → IsIn d names.now ↔ IsClassBelow self.now class d) }
+    {
+        match self.classes.above(class) {
+            None => None,
+            Some(names) => Some(names),
+        }
+    }
+
+    /// Puts the classes above this one among the names.
+    pub(crate) fn put_above(&self, names: &mut Vec<Name>, class: Name) -> Result<(), AllocError>
+        requires { IsStrictlyIncreasing names.old.items }
+        ensures ascend { IsStrictlyIncreasing names.new.items }
+        ensures has { OnOk result ((x : ℕ) → IsIn x names.new.items ↔ (IsClassBelow self.now class x ⊎ IsIn x names.old.items)) }
+    {
+        self.classes.put_above(names, class)?;
+        Ok(())
+    }
+
+    /// Whether one of the classes is below the class.
+    pub fn some_below(&self, classes: &[Name], class: Name) -> bool
+        ensures { IsTrue result ↔ HasClassBelow self.now classes.now class }
+    {
+        for lower in classes {
+            if self.below(*lower, class) {
+                return true;
+            }
+        }
+        false
+    }
+
+    /// Whether the first sort is below the second.
+    pub fn sort_below(&self, first: &Sort, second: &Sort) -> bool
+        ensures { IsTrue result ↔ IsSortBelow self.now first.now second.now }
+    {
+        for class in second.classes() {
+            if !self.some_below(first.classes(), *class) {
+                return false;
+            }
+        }
+        true
+    }
+
+    /// Whether the first sorts are as many as the second, and each is below its own.
+    pub fn domains_below(&self, first: &[Sort], second: &[Sort]) -> bool
+        ensures { IsTrue result ↔ EachTwo (IsSortBelow self.now) first.now second.now }
+    {
+        if first.len() != second.len() {
+            return false;
+        }
+        for i in 0..first.len() {
+            let lower = &first[i];
+            let upper = &second[i];
+            if !self.sort_below(lower, upper) {
+                return false;
+            }
+        }
+        true
+    }
+
+    /// The order is decided.
+    pub fn order_is_decided(&self)
+        ensures { IsDecided self.now }
+    {
+        self.classes.order_is_decided();
+    }
+
+    /// The place of an arity of the constructor for a class below this one, the greatest if there is a greatest.
+    fn place(&self, con: Name, class: Name) -> Option<usize>
+        ensures { MatchOption result ((q : Arity) → ¬ IsArityBelow self.now con class q) (IsPlace self.now con class) }
+    {
+        match self.slots.get(&con.0) {
+            None => None,
+            Some(places) => places.get(&class.0).copied(),
+        }
+    }
+
+    /// The domains of an arity of the constructor for a class below this one, the greatest if there is a greatest.
+    pub fn candidate(&self, con: Name, class: Name) -> Option<&[Sort]>
+        ensures { MatchOption result ((q : Arity) → ¬ IsArityBelow self.now con class q) (λ domains. (q : Arity) × (q.domains ≡ domains.now) × IsGreatestIfAny self.now con class q) }
+    {
+        match self.place(con, class) {
+            None => None,
+            Some(place) => {
+                let entry = &self.arities[place];
+                Some(entry.domains.as_slice())
+            }
+        }
+    }
+
+    /// Whether the arity's domains are above the greatest of its constructor's arities for classes below this one.
+    fn is_greater(&self, arity: &ArityEntry, class: Name) -> bool
+        ensures { MatchBool result (IsAboveGreatest self.now arity.now.con class arity.now.domains.items) (IsNotAbove self.now arity.now.con class arity.now.domains.items) }
+    {
+        match self.candidate(arity.con, class) {
+            None => true,
+            Some(candidate) => self.domains_below(candidate, arity.domains.as_slice()),
+        }
+    }
+
+    /// The count of arities.
+    fn arity_count(&self) -> usize
+        ensures { result ≡ length self.now.arities }
+    {
+        self.arities.len()
+    }
+
+    /// The constructor's places.
+    fn places_of(&self, alloc: Global, con: Name) -> Result<BTreeMap<u32, usize>, AllocError>
+        ensures { IfOk result (λ places. ArePlaces self.now con (get nat_cmp places)) }
+    {
+        match self.slots.get(&con.0) {
+            None => Ok(BTreeMap::new(alloc)),
+            Some(places) => copied(places),
+        }
+    }
+
+    /// The places of the constructor's arities once this one stands behind the others.
+    fn places_with(&self, alloc: Global, arity: &ArityEntry) -> Result<BTreeMap<u32, usize>, AllocError>
+        requires { IsDeclared self.now.classes arity.now.class }
+        ensures { IfOk result (λ places. ArePlaces (with_arity self.now (arity_of arity.now)) arity.now.con (get nat_cmp places)) }
+    {
+        let mut places = self.places_of(alloc, arity.con)?;
+        let Some(above) = self.classes.above(arity.class) else {
+            return Ok(places);
+        };
+        let last = self.arity_count();
+        for upper in above {
+            if self.is_greater(arity, *upper) {
+                places.insert(upper.0, last)?;
+            }
+        }
+        Ok(places)
+    }
+
+    /// Declares a class.
+    pub fn push_class(&mut self, alloc: Global, class: Name, above: &[Name]) -> Result<(), AllocError>
+        requires fresh { ¬ IsDeclared self.old.classes class }
+        requires known { Each (IsDeclared self.old.classes) above.now }
+        ensures ok { OnOk result (self.new ≡ with_class self.old (record { name = class; above = above.now })) }
+        ensures err { OnErr result (self.new ≡ self.old) }
+        ensures coregular { IsCoregular self.old → IsCoregular self.new }
+    {
+        self.classes.push(alloc, class, above)?;
+        Ok(())
+    }
+
+    /// Declares an arity.
+    pub fn push_arity(&mut self, alloc: Global, arity: ArityEntry) -> Result<(), AllocError>
+        requires { IsKnown self.old.classes (arity_of arity) }
+        ensures ok { OnOk result (self.new ≡ with_arity self.old (arity_of arity)) }
+        ensures err { OnErr result (self.new ≡ self.old) }
+    {
+        let places = self.places_with(alloc, &arity)?;
+        let con = arity.con;
+        self.arities.reserve(1)?;
+        self.slots.insert(con.0, places)?;
+        push_in_room(&mut self.arities, arity);
+        Ok(())
+    }
+
+    /// The declared arities.
+    pub fn arities(&self) -> &[ArityEntry]
+        ensures are { arities_of result.now ≡ self.now.arities }
+        ensures known { Each (IsKnown self.now.classes) self.now.arities }
+    {
+        self.arities.as_slice()
+    }
+
+    /// The classes and arities of both tables.
+    pub fn united(&self, alloc: Global, other: &Tables) -> Result<Tables, AllocError>
+        requires { Agree self.now.classes other.now.classes }
+        ensures { IfOk result (IsUnion self.now other.now) }
+    {
+        let mut tables = Tables {
+            classes: self.classes.united(alloc, &other.classes)?,
+            arities: Vec::new(alloc),
+            slots: BTreeMap::new(alloc),
+        };
+        tables.push_new(alloc, self.arities())?;
+        tables.push_new(alloc, other.arities())?;
+        Ok(tables)
+    }
+}
+
+fn copied(places: &BTreeMap<u32, usize>) -> Result<BTreeMap<u32, usize>, AllocError>
+    ensures { IfOk result (λ copy. (q : ℕ) → get nat_cmp copy q ≡ get nat_cmp places.now q) }
+{
+    places.clone()
+}

@@ -1,0 +1,53 @@
+ghost use Rattle.std.specs.Prelude.{◌≡◌, ◌↔◌, IsTrue, MatchOption};
+ghost use Rattle.pure_term.specs.Lists.{Each};
+ghost use Rattle.pure_order_tables.specs.Classes.{IsDeclared};
+ghost use Rattle.pure_order_tables.specs.Unknown.{HasArityFor, IsFirstUnknown, joined};
+
+use crate::names::is_same;
+use crate::tables::{ArityEntry, Tables};
+use pure_term::{Name, Sort};
+
+/// Whether the arity is one of the constructor for the class.
+fn is_for(arity: &ArityEntry, con: Name, class: Name) -> bool
+    ensures { IsTrue result ↔ ((arity.now.con ≡ con) × (arity.now.class ≡ class)) }
+{
+    is_same(arity.con, con) && is_same(arity.class, class)
+}
+
+impl Tables {
+    /// The first of these names that isn't a declared class.
+    pub fn first_unknown(&self, names: &[Name]) -> Option<Name>
+        ensures { MatchOption result (Each (IsDeclared self.now.classes) names.now) (IsFirstUnknown self.now.classes names.now) }
+    {
+        for name in names {
+            if !self.is_declared(*name) {
+                return Some(*name);
+            }
+        }
+        None
+    }
+
+    /// The first of the classes in these sorts that isn't declared.
+    pub fn first_unknown_in(&self, sorts: &[Sort]) -> Option<Name>
+        ensures { MatchOption result (Each (Each (IsDeclared self.now.classes)) sorts.now) (IsFirstUnknown self.now.classes (joined sorts.now)) }
+    {
+        for sort in sorts {
+            if let Some(name) = self.first_unknown(sort.classes()) {
+                return Some(name);
+            }
+        }
+        None
+    }
+
+    /// Whether the constructor has a declared arity for the class.
+    pub fn has_arity(&self, con: Name, class: Name) -> bool
+        ensures { IsTrue result ↔ HasArityFor self.now con class }
+    {
+        for arity in self.arities() {
+            if is_for(arity, con, class) {
+                return true;
+            }
+        }
+        false
+    }
+}
