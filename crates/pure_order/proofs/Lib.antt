@@ -1,3 +1,4 @@
 pub mod DomainLaws
 pub mod FaultLaws
 pub mod ReduceLaws
+pub mod FlatLaws

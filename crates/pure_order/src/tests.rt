@@ -1,4 +1,5 @@
-ghost use Rattle.std.specs.Prelude.{◌<◌};
+ghost use Rattle.std.specs.Prelude.{◌<◌, ◌≡◌, IfOk};
+ghost use Rattle.pure_order.specs.Flat.{flat};
 
 use crate::{Order, OrderFault};
 use pure_term::{Name, Sort, Typ, TypNode};
@@ -64,9 +65,8 @@ fn classes(rt: HostRuntime) -> Result<(), Fail> {
     assert_eq!(rt; order.add_class(alloc, D, &[C, G]), Err(OrderFault::UnknownClass { class: G }));
     assert_eq!(rt; order.add_class(alloc, E, &[K, G]), Err(OrderFault::UnknownClass { class: K }));
     order.add_class(alloc, E, &[D])?;
-    for (lower, upper, answer) in [(D, C, true), (C, D, false), (E, C, true), (G, G, true), (G, C, false)] {
-        assert_eq!(rt; order.below(lower, upper), answer);
-    }
+    assert!(rt; order.below(D, C) && !order.below(C, D));
+    assert!(rt; order.below(E, C) && order.below(G, G) && !order.below(G, C));
     let both = pair(alloc, C, D)?;
     let reduced = order.reduce(alloc, &both)?;
     assert_eq!(rt; reduced.classes(), [D].as_slice());
@@ -84,20 +84,17 @@ fn arities(rt: HostRuntime) -> Result<(), Fail> {
     assert!(rt; order.domains(K, D).is_none());
     add(&mut order, alloc, E, E)?;
     add(&mut order, alloc, D, D)?;
-    for (domain, class, fault) in [
-        (G, K, OrderFault::UnknownClass { class: G }),
-        (C, G, OrderFault::UnknownClass { class: G }),
-        (D, C, OrderFault::Duplicate),
-    ] {
-        assert_eq!(rt; add(&mut order, alloc, domain, class), Err(fault));
-    }
+    let unknown = OrderFault::UnknownClass { class: G };
+    assert_eq!(rt; add(&mut order, alloc, G, K), Err(unknown));
+    assert_eq!(rt; add(&mut order, alloc, C, G), Err(unknown));
+    assert_eq!(rt; add(&mut order, alloc, D, C), Err(OrderFault::Duplicate));
     let domains = order.domains(K, E).ok_or("domains")?;
     assert_eq!(rt; domains.len(), 1);
     let domain = &domains[0];
     assert_eq!(rt; domain.classes(), [E].as_slice());
-    for (arg, class, answer) in [(C, C, true), (C, E, true), (C, D, false), (E, D, false)] {
-        assert_eq!(rt; order.of_sort(&applied(alloc, arg)?, &sort(alloc, class)?), answer);
-    }
+    let arg = applied(alloc, C)?;
+    assert!(rt; order.of_sort(&arg, &sort(alloc, C)?) && order.of_sort(&arg, &sort(alloc, E)?));
+    assert!(rt; !order.of_sort(&arg, &sort(alloc, D)?));
     Ok(())
 }
 
@@ -105,13 +102,37 @@ fn arities(rt: HostRuntime) -> Result<(), Fail> {
 fn falling(rt: HostRuntime) -> Result<(), Fail> {
     let alloc = rt.alloc();
     let mut order = Order::empty(alloc);
-    for class in [C, D, E] {
-        order.add_class(alloc, class, &[])?;
-    }
+    order.add_class(alloc, C, &[])?;
+    order.add_class(alloc, D, &[])?;
+    order.add_class(alloc, E, &[])?;
     order.add_class(alloc, G, &[E])?;
     add(&mut order, alloc, C, E)?;
     let conflict = OrderFault::NotCoregular { con: K, c1: G, c2: E };
     assert_eq!(rt; add(&mut order, alloc, D, G), Err(conflict));
     assert!(rt; !order.of_sort(&applied(alloc, D)?, &sort(alloc, G)?));
+    Ok(())
+}
+
+/// Unrelated classes c, d and e, and an arity for e.
+fn flat_order(alloc: Global, domain: Name) -> Result<Order, OrderFault>
+    ensures { IfOk result (λ o. o.classes ≡ flat 10 11 12) }
+{
+    let mut order = Order::empty(alloc);
+    order.add_class(alloc, C, &[])?;
+    order.add_class(alloc, D, &[])?;
+    order.add_class(alloc, E, &[])?;
+    order.add_arity(alloc, K, domains(alloc, domain)?, E)?;
+    Ok(order)
+}
+
+#[test]
+fn merges(rt: HostRuntime) -> Result<(), Fail> {
+    let alloc = rt.alloc();
+    let first = flat_order(alloc, C)?;
+    let second = flat_order(alloc, D)?;
+    let conflict = OrderFault::NotCoregular { con: K, c1: E, c2: E };
+    assert_eq!(rt; first.merge(alloc, &second).err(), Some(conflict));
+    let same = first.merge(alloc, &first)?;
+    assert!(rt; same.of_sort(&applied(alloc, C)?, &sort(alloc, E)?));
     Ok(())
 }

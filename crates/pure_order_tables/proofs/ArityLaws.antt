@@ -1,9 +1,9 @@
 -- Sorts and domains under the class order, and what one more class or arity changes.
-use Rattle.std.proofs.Common.{◌≡◌, ℕ, ◌+◌, ◌<◌, List, [], ◌∷◌, ◌++◌, length, get_or, refl, ap, sym, inl, inr, ◌⊎◌, ◌↔◌, Option, Some, None, MatchOption, ◌∙◌, arith, length-append}
+use Rattle.std.proofs.Common.{◌≡◌, ℕ, List, [], ◌∷◌, length, get_or, refl, inl, inr, ◌⊎◌, Option, Some, None, MatchOption, arith, length-append}
 use Rattle.std.proofs.Math.ListN.{get_or-append}
 use Rattle.std.proofs.Math.Seq.{get_or-append_seam}
 use Rattle.pure_term.specs.Lists.{IsIn, Each, AnyOf, EachTwo}
-use Rattle.pure_term.specs.Order.{Class, Arity, Algebra, IsClassBelow, itself, along, IsSortBelow, HasClassBelow, AreDomainsBelow}
+use Rattle.pure_term.specs.Order.{Class, Arity, Algebra, IsClassBelow, IsSortBelow, HasClassBelow, AreDomainsBelow}
 use Rattle.pure_term.proofs.ListLaws.{each_of, any_of, in-append_left, in-append_right}
 use Rattle.pure_term.proofs.OrderLaws.{sort_below-itself}
 use Rattle.pure_order_tables.specs.Classes.{IsDeclared, Follows}
@@ -68,9 +68,9 @@ further A a k d q h = record { declared = in-append_left q A.arities (a ∷ []) 
 
 pub new_or_old : (A : Algebra) (a : Arity) (k d : ℕ) (q : Arity) → IsArityBelow (with_arity A a) k d q → (q ≡ a) ⊎ IsArityBelow A k d q
 new_or_old A a k d q h = elim (in_split q A.arities (a ∷ []) h.declared) [
-    | inl old ↦ inr (record { declared = old; con = h.con; below = same_order_back A a h.below })
-    | inr w ↦ elim w [ inl e ↦ inl e | inr none ↦ absurd none ]
-  ]
+  | inl old ↦ inr (record { declared = old; con = h.con; below = same_order_back A a h.below })
+  | inr w ↦ elim w [ inl e ↦ inl e | inr none ↦ absurd none ]
+]
 
 -- An old arity that is greatest with the new one is so without.
 pub greatest_before : (A : Algebra) (a : Arity) (k d : ℕ) (q : Arity) → IsArityBelow A k d q → IsGreatest (with_arity A a) k d q → IsGreatest A k d q
@@ -84,9 +84,9 @@ kept_place A a k d i not p = record { within = omega (arith, length-append A.ari
     kept e = record {
       is = further A a k d (get_or A.arities i e) (p.greatest e).is;
       above = λ b g. elim (new_or_old A a k d b g.is) [
-          | inl same ↦ absurd (not (rw same at g))
-          | inr old ↦ same_domains A a b (get_or A.arities i e) ((p.greatest e).above b (greatest_before A a k d b old g))
-        ];
+        | inl same ↦ absurd (not (rw same at g))
+        | inr old ↦ same_domains A a b (get_or A.arities i e) ((p.greatest e).above b (greatest_before A a k d b old g))
+      ];
     }
 
 -- The new arity has the place where it is above the greatest, if there is one.
@@ -97,9 +97,9 @@ new_place A a k d named below over = record { within = omega (arith, length-appe
     is_greatest = record {
       is = record { declared = in-append_right a A.arities (a ∷ []) (inl refl); con = named; below = same_order A a below };
       above = λ b g. elim (new_or_old A a k d b g.is) [
-          | inl same ↦ rw same (domains_same (with_arity A a) a)
-          | inr old ↦ same_domains A a b a (over b (greatest_before A a k d b old g))
-        ];
+        | inl same ↦ rw same (domains_same (with_arity A a) a)
+        | inr old ↦ same_domains A a b a (over b (greatest_before A a k d b old g))
+      ];
     }
 
 -- Where some arity isn't below it, the new one isn't the greatest.
@@ -127,7 +127,7 @@ pub below_before : (A : Algebra) (k : Class) → Follows [] A.classes → ¬ IsD
 below_before A k f fresh c d m h = below-one_more A (with_class A k) k refl f fresh c d (not_the_new A.classes k c fresh m) h
 
 pub domains_before : (A : Algebra) (k : Class) → Follows [] A.classes → ¬ IsDeclared A.classes k.name → (a b : Arity) → IsKnown A.classes a → AreDomainsBelow (with_class A k) a b → AreDomainsBelow A a b
-domains_before A k f fresh a b known h = two_imply (with_class A k) A a.domains b.domains (Each (IsDeclared A.classes)) known.domains (λ s r ok t. each_of (HasClassBelow A s) r (λ d m. 
+domains_before A k f fresh a b known h = two_imply (with_class A k) A a.domains b.domains (Each (IsDeclared A.classes)) known.domains (λ s r ok t. each_of (HasClassBelow A s) r (λ d m.
     let c = any_some (λ x. IsClassBelow (with_class A k) x d) s (each_at (HasClassBelow (with_class A k) s) r t d m) in
     any_of (λ x. IsClassBelow A x d) c.0 s c.1 (below_before A k f fresh c.0 d (each_at (IsDeclared A.classes) s ok c.0 c.1) c.2))) h
 
@@ -154,9 +154,9 @@ places_after A l f fresh known k place p d = by (place d) (p d)
 
 pub known_after : (A : Algebra) (l : Class) → Each (IsKnown A.classes) A.arities → Each (IsKnown (with_class A l).classes) A.arities
 known_after A l known = each_of (IsKnown (with_class A l).classes) A.arities (λ a m. (let old = declared_in A a known m in record {
-    domains = each_of (Each (IsDeclared (with_class A l).classes)) a.domains (λ s n. each_of (IsDeclared (with_class A l).classes) s (λ c o. any-append_left (λ x. x.name ≡ c) A.classes (l ∷ []) (each_at (IsDeclared A.classes) s (each_at (Each (IsDeclared A.classes)) a.domains old.domains s n) c o)));
-    class = any-append_left (λ x. x.name ≡ a.class) A.classes (l ∷ []) old.class;
-  }))
+  domains = each_of (Each (IsDeclared (with_class A l).classes)) a.domains (λ s n. each_of (IsDeclared (with_class A l).classes) s (λ c o. any-append_left (λ x. x.name ≡ c) A.classes (l ∷ []) (each_at (IsDeclared A.classes) s (each_at (Each (IsDeclared A.classes)) a.domains old.domains s n) c o)));
+  class = any-append_left (λ x. x.name ≡ a.class) A.classes (l ∷ []) old.class;
+}))
 
 -- While the classes above the new arity's are gone through: the place at d is right with the new arity, or d is still to come and the place is right without it.
 abbrev pub IsDone : Algebra → Arity → ℕ → Type 0 → Option ℕ → Type 0
@@ -177,6 +177,6 @@ two_decided A d [] [] = inl tt
 two_decided A d [] (r ∷ rs) = inr (λ h. h)
 two_decided A d (s ∷ ss) [] = inr (λ h. h)
 two_decided A d (s ∷ ss) (r ∷ rs) = elim (each_decided (HasClassBelow A s) (λ c. any_decided (λ b. IsClassBelow A b c) (λ b. d b c) s) r) [
-    | inl h ↦ elim (two_decided A d ss rs) [ inl t ↦ inl (h, t) | inr m ↦ inr (λ k. m k.1) ]
-    | inr n ↦ inr (λ k. n k.0)
-  ]
+  | inl h ↦ elim (two_decided A d ss rs) [ inl t ↦ inl (h, t) | inr m ↦ inr (λ k. m k.1) ]
+  | inr n ↦ inr (λ k. n k.0)
+]

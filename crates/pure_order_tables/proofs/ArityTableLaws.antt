@@ -1,11 +1,11 @@
 -- Tables of arities.
-use Rattle.std.proofs.Common.{◌≡◌, ℕ, ◌+◌, ◌<◌, List, [], ◌∷◌, ◌++◌, length, get_or, refl, ap, sym, subst, inl, inr, ◌⊎◌, ◌↔◌, Bool, true, false, IsTrue, MatchBool, Option, Some, None, MatchOption, ◌∙◌}
+use Rattle.std.proofs.Common.{◌≡◌, ℕ, List, [], ◌∷◌, ◌++◌, length, get_or, refl, ap, sym, subst, inl, inr, ◌⊎◌, ◌↔◌, Bool, true, false, IsTrue, MatchBool, Option, Some, None, MatchOption, ◌∙◌}
 use Rattle.std.specs.BTreeMap.{BTreeMap, get, Updates}
 use Rattle.std.specs.Ordering.{nat_cmp}
-use Rattle.pure_term.specs.Lists.{IsIn, Each, AnyOf, EachTwo}
-use Rattle.pure_term.specs.Order.{Class, Arity, Algebra, IsClassBelow, itself, along, IsSortBelow, HasClassBelow, AreDomainsBelow}
-use Rattle.pure_order_tables.specs.Classes.{IsDeclared, Follows, of_classes}
-use Rattle.pure_order_tables.specs.Arities.{IsArityBelow, IsGreatest, IsGreatestIfAny, IsAboveGreatest, IsNotAbove, IsKnown, with_class, with_arity}
+use Rattle.pure_term.specs.Lists.{IsIn, EachTwo}
+use Rattle.pure_term.specs.Order.{Class, Arity, Algebra, IsClassBelow, IsSortBelow}
+use Rattle.pure_order_tables.specs.Classes.{IsDeclared, Follows}
+use Rattle.pure_order_tables.specs.Arities.{IsArityBelow, IsGreatestIfAny, IsAboveGreatest, IsNotAbove, IsKnown, with_class, with_arity}
 use Rattle.std.proofs.Math.ListN.{get_or-map}
 use Rattle.std.proofs.lemmas.List.{map-append}
 use Rattle.std.proofs.lemmas.Bool.Decides.{eqb_tells}
@@ -56,18 +56,18 @@ above_in cs es A c names same all d = rw (← same) (λ m. (below-classes (algeb
 -- One turn over the classes above the new arity's, at r: d is r or isn't.
 pub turn_put : (A : Algebra) (a : Arity) (d r : ℕ) (P P' : Type 0) (o o' : Option ℕ) → P' ↔ (P ⊎ (d ≡ r)) → IsClassBelow A a.class r → IsAboveGreatest A a.con r a.domains → ((d ≡ r) × (o' ≡ Some (length A.arities))) ⊎ ((¬ (d ≡ r)) × (o' ≡ o)) → IsDone A a d P o → IsDone A a d P' o'
 turn_put A a d r P P' o o' passed below over at done = elim at [
-    | inl w ↦ inl (rw w.1 (new_place A a a.con d refl (rw w.0 below) (rw w.0 over)))
-    | inr w ↦ rw w.1 (elim done [ inl right ↦ inl right | inr left ↦ inr (λ p. elim (passed.0 p) [ inl q ↦ left.0 q | inr e ↦ w.0 e ], left.1) ])
-  ]
+  | inl w ↦ inl (rw w.1 (new_place A a a.con d refl (rw w.0 below) (rw w.0 over)))
+  | inr w ↦ rw w.1 (elim done [ inl right ↦ inl right | inr left ↦ inr (λ p. elim (passed.0 p) [ inl q ↦ left.0 q | inr e ↦ w.0 e ], left.1) ])
+]
 
 pub turn_kept : (A : Algebra) (a : Arity) (d r : ℕ) (P P' : Type 0) (o : Option ℕ) → P' ↔ (P ⊎ (d ≡ r)) → IsNotAbove A a.con r a.domains → IsDone A a d P o → IsDone A a d P' o
 turn_kept A a d r P P' o passed not done = elim done [
-    | inl right ↦ inl right
-    | inr left ↦ elim (eqb_tells d r) [
-        | inl w ↦ inl (still o left.1 (rw w.1 not))
-        | inr w ↦ inr (λ p. elim (passed.0 p) [ inl q ↦ left.0 q | inr e ↦ w.1 e ], left.1)
-      ]
+  | inl right ↦ inl right
+  | inr left ↦ elim (eqb_tells d r) [
+    | inl w ↦ inl (still o left.1 (rw w.1 not))
+    | inr w ↦ inr (λ p. elim (passed.0 p) [ inl q ↦ left.0 q | inr e ↦ w.1 e ], left.1)
   ]
+]
   where
     still : (o : Option ℕ) → MatchOption o ((q : Arity) → ¬ IsArityBelow A a.con d q) (IsPlace A a.con d) → IsNotAbove A a.con d a.domains → MatchOption o ((q : Arity) → ¬ IsArityBelow (with_arity A a) a.con d q) (IsPlace (with_arity A a) a.con d)
     still None none n = absurd (none n.0 n.1)

@@ -1,11 +1,11 @@
 -- The class order: chains of paths, and what one more class changes.
-use Rattle.std.proofs.Common.{◌≡◌, ℕ, List, [], ◌∷◌, ◌++◌, refl, ap, sym, inl, inr, ◌⊎◌, ◌↔◌, append_assoc, append-nil, ◌∙◌, subst, Bool, IsTrue}
+use Rattle.std.proofs.Common.{◌≡◌, ℕ, List, [], ◌∷◌, ◌++◌, refl, ap, sym, inl, inr, ◌↔◌, append_assoc, append-nil, ◌∙◌, subst, Bool, IsTrue}
 use Rattle.pure_order_tables.specs.Checks.{IsDecided}
-use Rattle.pure_term.specs.Lists.{IsIn, Each, AnyOf}
-use Rattle.pure_term.specs.Order.{Class, Arity, Algebra, IsInclusion, IsClassBelow, itself, along, IsSortBelow, HasClassBelow, AreDomainsBelow}
-use Rattle.pure_term.proofs.ListLaws.{any_of, in-append_left, in-append_right}
+use Rattle.pure_term.specs.Lists.{IsIn, Each}
+use Rattle.pure_term.specs.Order.{Class, Algebra, IsClassBelow, itself, along}
+use Rattle.pure_term.proofs.ListLaws.{any_of}
 use Rattle.pure_order_tables.specs.Classes.{IsDeclared, Follows, of_classes}
-use Rattle.pure_order_tables.proofs.ListMore.{in_split, any_some, any_split, each_at, any-append_left, any-append_right}
+use Rattle.pure_order_tables.proofs.ListMore.{in_split, each_at, any-append_left}
 
 pub below-trans : {A : Algebra} {c d e : ℕ} → IsClassBelow A c d → IsClassBelow A d e → IsClassBelow A c e
 below-trans itself k = k
@@ -28,9 +28,9 @@ below-undeclared A c d absent (along i h) = absurd (absent (declared A.classes i
 pub above_declared : (done ks : List Class) (k : Class) (d : ℕ) → Follows done ks → IsIn k ks → IsIn d k.above → IsDeclared (done ++ ks) d
 above_declared done [] k d f m n = absurd m
 above_declared done (l ∷ ls) k d f m n = elim m [
-    | inl e ↦ any-append_left (λ x. x.name ≡ d) done (l ∷ ls) (each_at (IsDeclared done) l.above f.1 d (rw e at n))
-    | inr later ↦ rw (sym (append_assoc done (l ∷ []) ls)) (above_declared (done ++ l ∷ []) ls k d f.2 later n)
-  ]
+  | inl e ↦ any-append_left (λ x. x.name ≡ d) done (l ∷ ls) (each_at (IsDeclared done) l.above f.1 d (rw e at n))
+  | inr later ↦ rw (sym (append_assoc done (l ∷ []) ls)) (above_declared (done ++ l ∷ []) ls k d f.2 later n)
+]
 
 old_inclusion : (cs : List Class) (k l : Class) (c : ℕ) → IsIn l (cs ++ k ∷ []) → l.name ≡ c → ¬ (c ≡ k.name) → IsIn l cs
 old_inclusion cs k l c m n other = elim (in_split l cs (k ∷ []) m) [ inl a ↦ a | inr w ↦ elim w [ inl same ↦ absurd (other (sym n ∙ ap (λ (x : Class). x.name) same)) | inr none ↦ absurd none ] ]

@@ -1,5 +1,5 @@
 -- A table of classes with one more class.
-use Rattle.std.proofs.Common.{◌≡◌, ℕ, List, [], ◌∷◌, ◌++◌, refl, ap, sym, inl, inr, ◌⊎◌, ◌↔◌, Vec, Option, Some, None, MatchOption, cond, Bool, true, false, nat_eq, ◌∙◌, subst}
+use Rattle.std.proofs.Common.{◌≡◌, ℕ, List, [], ◌∷◌, ◌++◌, refl, sym, inl, inr, ◌⊎◌, ◌↔◌, Vec, Option, Some, None, MatchOption, ◌∙◌}
 use Rattle.std.specs.List.Sorted.{IsStrictlyIncreasing}
 use Rattle.std.specs.BTreeMap.{BTreeMap, get, Updates}
 use Rattle.std.specs.declared.alloc.Global.{Global}
@@ -27,6 +27,7 @@ from_new cs k f fresh known c d e (along {b = b} i h) =
   where
     is_new : (l : Class) → IsIn l (cs ++ k ∷ []) → l.name ≡ k.name → l ≡ k
     is_new l m e = elim (in_split l cs (k ∷ []) m) [ inl a ↦ absurd (fresh (declared cs l k.name a e)) | inr w ↦ elim w [ inl same ↦ same | inr none ↦ absurd none ] ]
+
     not_new : (b : ℕ) → IsDeclared cs b → ¬ (b ≡ k.name)
     not_new b m e = fresh (rw (← e) m)
 
@@ -37,11 +38,13 @@ new_above cs k f fresh known names up has = record { declared = any-append_right
   where
     old_to_new : (b d : ℕ) → IsClassBelow (of_classes cs) b d → IsClassBelow (of_classes (cs ++ k ∷ [])) b d
     old_to_new b d h = below-more (of_classes cs) (of_classes (cs ++ k ∷ [])) (λ l m. in-append_left l cs (k ∷ []) m) h
+
     there : (d : ℕ) → IsIn d names → IsClassBelow (of_classes (cs ++ k ∷ [])) k.name d
     there d m = elim ((has d).0 m) [
-        | inl e ↦ rw e itself
-        | inr w ↦ (let b = any_some (λ b. IsClassBelow (of_classes cs) b d) k.above w in along (k, in-append_right k cs (k ∷ []) (inl refl), refl, b.1) (old_to_new b.0 d b.2))
-      ]
+      | inl e ↦ rw e itself
+      | inr w ↦ (let b = any_some (λ b. IsClassBelow (of_classes cs) b d) k.above w in along (k, in-append_right k cs (k ∷ []) (inl refl), refl, b.1) (old_to_new b.0 d b.2))
+    ]
+
     back : (d : ℕ) → IsClassBelow (of_classes (cs ++ k ∷ [])) k.name d → IsIn d names
     back d h = (has d).1 (from_new cs k f fresh known k.name d refl h)
 
@@ -50,8 +53,10 @@ old_above : (cs : List Class) (k : Class) → Follows [] cs → ¬ IsDeclared cs
 old_above cs k f fresh c other names a = record {
   declared = any-append_left (λ l. l.name ≡ c) cs (k ∷ []) a.declared;
   ascend = a.ascend;
-  are = λ d. ( λ m. below-more (of_classes cs) (of_classes (cs ++ k ∷ [])) (λ l n. in-append_left l cs (k ∷ []) n) ((a.are d).0 m),
-               λ h. (a.are d).1 (below-one_more (of_classes cs) (of_classes (cs ++ k ∷ [])) k refl f fresh c d other h) );
+  are = λ d. (
+    λ m. below-more (of_classes cs) (of_classes (cs ++ k ∷ [])) (λ l n. in-append_left l cs (k ∷ []) n) ((a.are d).0 m),
+    λ h. (a.are d).1 (below-one_more (of_classes cs) (of_classes (cs ++ k ∷ [])) k refl f fresh c d other h),
+  );
 }
 
 still_undeclared : (cs : List Class) (k : Class) (c : ℕ) → ¬ (c ≡ k.name) → ¬ IsDeclared cs c → ¬ IsDeclared (cs ++ k ∷ []) c

@@ -1,16 +1,16 @@
 -- Coregular algebras: the greatest arity for the classes below a class, and what one more arity has to pass.
-use Rattle.std.proofs.Common.{◌≡◌, ℕ, List, [], ◌∷◌, ◌++◌, refl, ap, sym, subst, inl, inr, ◌⊎◌, ◌↔◌, ◌∙◌, ◌≤◌, Option, Some, None, MatchOption, arith, take, length, get_or, ◌+◌, ◌<◌}
+use Rattle.std.proofs.Common.{◌≡◌, ℕ, List, [], ◌∷◌, ◌++◌, refl, ap, sym, subst, inl, inr, ◌⊎◌, ◌∙◌, ◌≤◌, Option, Some, None, MatchOption, arith, take, length, get_or, ◌+◌, ◌<◌}
 use Rattle.std.proofs.lemmas.List.{map-append}
 use Rattle.pure_order_tables.specs.declared.tables.ArityEntry.{ArityEntry}
 use Rattle.pure_order_tables.specs.ArityView.{arity_of, arities_of}
 use Rattle.std.proofs.lemmas.Bool.Decides.{eqb_tells}
-use Rattle.pure_term.specs.Lists.{IsIn, Each, AnyOf, EachTwo}
-use Rattle.pure_term.specs.Order.{Class, Arity, Algebra, IsClassBelow, itself, AreDomainsBelow, IsJoin, AreCompatible, IsCoregular}
+use Rattle.pure_term.specs.Lists.{IsIn, Each, AnyOf}
+use Rattle.pure_term.specs.Order.{Class, Arity, Algebra, IsClassBelow, AreDomainsBelow, IsJoin, AreCompatible, IsCoregular}
 use Rattle.pure_term.proofs.ListLaws.{each_of, any_of, in-append_left, in-append_right}
 use Rattle.pure_order_tables.specs.Arities.{IsArityBelow, IsGreatest, IsGreatestIfAny, IsKnown, with_class, with_arity}
-use Rattle.pure_order_tables.specs.Checks.{IsAboveBoth, AreJoined, Pass, IsCovered, AreInConflict, IsDirected, IsDecided, PassesWith, Fails, IsLeastFailing, FindsFailing, IsLeastInConflict}
+use Rattle.pure_order_tables.specs.Checks.{IsAboveBoth, Pass, IsCovered, IsDirected, IsDecided, PassesWith, Fails, FindsFailing, IsLeastInConflict}
 use Rattle.pure_order_tables.proofs.ListMore.{longer_by, in_split, any_some, any_imply, each_at, each-append, any-append_left, any-append_right}
-use Rattle.pure_order_tables.proofs.ArityLaws.{domains_same, domains-trans, same_order, same_order_back, same_domains, same_domains_back, further, new_or_old, two_decided, domains-more, has_more, below_before}
+use Rattle.pure_order_tables.proofs.ArityLaws.{domains_same, domains-trans, same_order, same_order_back, same_domains, same_domains_back, two_decided, domains-more, has_more, below_before}
 use Rattle.pure_order_tables.specs.Classes.{IsDeclared, Follows}
 use Rattle.pure_order_tables.proofs.BelowLaws.{below-more}
 
@@ -28,15 +28,17 @@ greatest A decided k d join a m =
   where
     is_or_not : (b : Arity) → IsIn b A.arities → IsArityBelow A k d b ⊎ ¬ IsArityBelow A k d b
     is_or_not b n = elim (eqb_tells b.con k) [
-        | inl w ↦ elim (decided b.class d) [ inl below ↦ inl (record { declared = n; con = w.1; below = below }) | inr other ↦ inr (λ h. other h.below) ]
-        | inr w ↦ inr (λ h. w.1 h.con)
-      ]
+      | inl w ↦ elim (decided b.class d) [ inl below ↦ inl (record { declared = n; con = w.1; below = below }) | inr other ↦ inr (λ h. other h.below) ]
+      | inr w ↦ inr (λ h. w.1 h.con)
+    ]
+
     with_one : (x : Arity) (xs : List Arity) → ((q : Arity) × IsArityBelow A k d q × ((b : Arity) → IsIn b xs → IsArityBelow A k d b → AreDomainsBelow A b q)) → IsArityBelow A k d x ⊎ ¬ IsArityBelow A k d x
         → (q : Arity) × IsArityBelow A k d q × ((b : Arity) → IsIn b (x ∷ xs) → IsArityBelow A k d b → AreDomainsBelow A b q)
     with_one x xs w (inl here) =
         let j = join x w.0 here w.1 in
         (j.0, j.1, λ b n h. elim n [ inl e ↦ rw e j.2 | inr later ↦ domains-trans A b w.0 j.0 (w.2 b later h) j.3 ])
     with_one x xs w (inr other) = (w.0, w.1, λ b n h. elim n [ inl e ↦ absurd (other (rw e at h)) | inr later ↦ w.2 b later h ])
+
     over : (bs : List Arity) → ((b : Arity) → IsIn b bs → IsIn b A.arities) → (q : Arity) × IsArityBelow A k d q × ((b : Arity) → IsIn b bs → IsArityBelow A k d b → AreDomainsBelow A b q)
     over [] among = (a, m, λ b n h. absurd n)
     over (x ∷ xs) among = with_one x xs (over xs (λ b n. among b (inr n))) (is_or_not x (among x (inl refl)))
@@ -56,18 +58,20 @@ passed_compatible A decided r a b unsettled m con rest p = record {
   where
     new_join : (d : ℕ) → IsClassBelow A a.class d → AreDomainsBelow A b a → (q : Arity) × IsJoin (with_arity A a) a b d q
     new_join d h over = (a, record { declared = in-append_right a A.arities (a ∷ []) (inl refl); con = refl; class = same_order A a h; first = domains_same (with_arity A a) a; second = same_domains A a b a over })
+
     old_join : (d : ℕ) (q : Arity) → IsIn q A.arities → q.con ≡ a.con → IsClassBelow A q.class d → AreDomainsBelow A a q → AreDomainsBelow A b q → (q : Arity) × IsJoin (with_arity A a) a b d q
     old_join d q n e h first second = (q, record { declared = in-append_left q A.arities (a ∷ []) n; con = e; class = same_order A a h; first = same_domains A a a q first; second = same_domains A a b q second })
+
     at : (d : ℕ) → IsClassBelow A a.class d → IsClassBelow A b.class d → (q : Arity) × IsJoin (with_arity A a) a b d q
     at d h k = elim p.joined [
-        | inl over ↦ new_join d h over
-        | inr joined ↦ elim (rest d h) [
-            | inl inside ↦ (let w = any_some (IsAboveBoth A a.con d a.domains b.domains) A.arities (each_at (λ d. IsClassBelow A a.class d → IsClassBelow A b.class d → AnyOf (IsAboveBoth A a.con d a.domains b.domains) A.arities) unsettled joined d inside h k) in
-                old_join d w.0 w.1 w.2.con w.2.below w.2.first_below w.2.second_below)
-            | inr covered ↦ (let g = candidate_greatest A decided a.con d (directed A r a.con d) covered.0 covered.1 in
-                old_join d covered.0 g.is.declared g.is.con g.is.below covered.2 (g.above b (record { declared = m; con = con; below = k })))
-          ]
+      | inl over ↦ new_join d h over
+      | inr joined ↦ elim (rest d h) [
+        | inl inside ↦ (let w = any_some (IsAboveBoth A a.con d a.domains b.domains) A.arities (each_at (λ d. IsClassBelow A a.class d → IsClassBelow A b.class d → AnyOf (IsAboveBoth A a.con d a.domains b.domains) A.arities) unsettled joined d inside h k) in
+            old_join d w.0 w.1 w.2.con w.2.below w.2.first_below w.2.second_below)
+        | inr covered ↦ (let g = candidate_greatest A decided a.con d (directed A r a.con d) covered.0 covered.1 in
+            old_join d covered.0 g.is.declared g.is.con g.is.below covered.2 (g.above b (record { declared = m; con = con; below = k })))
       ]
+    ]
 
 pub compatible_back : (A : Algebra) (a b : Arity) → a.con ≡ b.con → AreCompatible A a b → AreCompatible A b a
 compatible_back A a b con w = record {
@@ -89,24 +93,24 @@ still_compatible A a b c w = record {
   forth = λ h. same_domains A a b c (w.forth (same_order_back A a h));
   back = λ h. same_domains A a c b (w.back (same_order_back A a h));
   joined = λ d h k. (let j = w.joined d (same_order_back A a h) (same_order_back A a k) in
-    (j.0, record { declared = in-append_left j.0 A.arities (a ∷ []) j.1.declared; con = j.1.con; class = same_order A a j.1.class; first = same_domains A a b j.0 j.1.first; second = same_domains A a c j.0 j.1.second }));
+      (j.0, record { declared = in-append_left j.0 A.arities (a ∷ []) j.1.declared; con = j.1.con; class = same_order A a j.1.class; first = same_domains A a b j.0 j.1.first; second = same_domains A a c j.0 j.1.second }));
 }
 
 -- An arity that is compatible with all of its constructor keeps the algebra coregular.
 pub coregular_with : (A : Algebra) → IsCoregular A → (a : Arity) → ((b : Arity) → IsIn b A.arities → b.con ≡ a.con → AreCompatible (with_arity A a) a b) → IsCoregular (with_arity A a)
 coregular_with A r a all b c m n con = elim (in_split b A.arities (a ∷ []) m) [
-    | inl old ↦ elim (in_split c A.arities (a ∷ []) n) [
-        | inl old' ↦ still_compatible A a b c (r b c old old' con)
-        | inr w ↦ elim w [ inl e ↦ rw e (compatible_back (with_arity A a) a b (rw e at (sym con)) (all b old (rw e at con))) | inr none ↦ absurd none ]
-      ]
-    | inr v ↦ elim v [
-        | inl e ↦ elim (in_split c A.arities (a ∷ []) n) [
-            | inl old' ↦ rw e (all c old' (rw e at (sym con)))
-            | inr w ↦ elim w [ inl f ↦ rw (e, f) (compatible_self (with_arity A a) a (in-append_right a A.arities (a ∷ []) (inl refl))) | inr none ↦ absurd none ]
-          ]
-        | inr none ↦ absurd none
-      ]
+  | inl old ↦ elim (in_split c A.arities (a ∷ []) n) [
+    | inl old' ↦ still_compatible A a b c (r b c old old' con)
+    | inr w ↦ elim w [ inl e ↦ rw e (compatible_back (with_arity A a) a b (rw e at (sym con)) (all b old (rw e at con))) | inr none ↦ absurd none ]
   ]
+  | inr v ↦ elim v [
+    | inl e ↦ elim (in_split c A.arities (a ∷ []) n) [
+      | inl old' ↦ rw e (all c old' (rw e at (sym con)))
+      | inr w ↦ elim w [ inl f ↦ rw (e, f) (compatible_self (with_arity A a) a (in-append_right a A.arities (a ∷ []) (inl refl))) | inr none ↦ absurd none ]
+    ]
+    | inr none ↦ absurd none
+  ]
+]
 
 -- What is compatible with a new arity passes the test.
 pub compatible_passes : (A : Algebra) → IsDecided A → (a b : Arity) (ds : List ℕ) → AreCompatible (with_arity A a) a b → Pass A a b ds
@@ -121,9 +125,9 @@ compatible_passes A decided a b ds w = record {
   where
     at : ¬ AreDomainsBelow A b a → (d : ℕ) → ((q : Arity) × IsJoin (with_arity A a) a b d q) → AnyOf (IsAboveBoth A a.con d a.domains b.domains) A.arities
     at other d j = elim (in_split j.0 A.arities (a ∷ []) j.1.declared) [
-        | inl old ↦ any_of (IsAboveBoth A a.con d a.domains b.domains) j.0 A.arities old (record { con = j.1.con; below = same_order_back A a j.1.class; first_below = same_domains_back A a a j.0 j.1.first; second_below = same_domains_back A a b j.0 j.1.second })
-        | inr v ↦ elim v [ inl e ↦ absurd (other (same_domains_back A a b a (rw e at j.1.second))) | inr none ↦ absurd none ]
-      ]
+      | inl old ↦ any_of (IsAboveBoth A a.con d a.domains b.domains) j.0 A.arities old (record { con = j.1.con; below = same_order_back A a j.1.class; first_below = same_domains_back A a a j.0 j.1.first; second_below = same_domains_back A a b j.0 j.1.second })
+      | inr v ↦ elim v [ inl e ↦ absurd (other (same_domains_back A a b a (rw e at j.1.second))) | inr none ↦ absurd none ]
+    ]
 
 -- one turn of the look for a failing arity
 
@@ -141,9 +145,9 @@ found_fail A a ds bs None b c h below is f = record {
 }
 found_fail A a ds bs (Some d) b c h below is f = record {
   is = elim is.1 [
-      | inl e ↦ any-append_left (λ x. Fails A a ds x × (x.class ≡ c)) bs (b ∷ []) (any_imply (λ x. Fails A a ds x × (x.class ≡ d)) (λ x. Fails A a ds x × (x.class ≡ c)) bs (λ x k. (k.0, k.1 ∙ sym e)) f.is)
-      | inr e ↦ any-append_right (λ x. Fails A a ds x × (x.class ≡ c)) bs (b ∷ []) (inl (h, sym e))
-    ];
+    | inl e ↦ any-append_left (λ x. Fails A a ds x × (x.class ≡ c)) bs (b ∷ []) (any_imply (λ x. Fails A a ds x × (x.class ≡ d)) (λ x. Fails A a ds x × (x.class ≡ c)) bs (λ x k. (k.0, k.1 ∙ sym e)) f.is)
+    | inr e ↦ any-append_right (λ x. Fails A a ds x × (x.class ≡ c)) bs (b ∷ []) (inl (h, sym e))
+  ];
   least = each-append (λ x. Fails A a ds x → c ≤ x.class) bs (b ∷ []) (each_of (λ x. Fails A a ds x → c ≤ x.class) bs (λ x m k. (let low = each_at (λ x. Fails A a ds x → d ≤ x.class) bs f.least x m k in let lower = is.0 in omega arith))) ((λ k. below), tt);
 }
 
@@ -153,11 +157,11 @@ pub conflict_found : (A : Algebra) → IsDecided A → IsCoregular A → (a : Ar
 conflict_found A decided r a ds rest None f = coregular_with A r a (λ b m con. passed_compatible A decided r a b ds m con rest (each_at (PassesWith A a ds) A.arities f b m con))
 conflict_found A decided r a ds rest (Some c) f = record {
   is = (let w = any_some (λ x. Fails A a ds x × (x.class ≡ c)) A.arities f.is in
-    (w.0, record { declared = in-append_left w.0 A.arities (a ∷ []) w.1; con = w.2.0.con; conflict = λ k. w.2.0.fails (compatible_passes A decided a w.0 ds k) }, w.2.1));
+      (w.0, record { declared = in-append_left w.0 A.arities (a ∷ []) w.1; con = w.2.0.con; conflict = λ k. w.2.0.fails (compatible_passes A decided a w.0 ds k) }, w.2.1));
   least = λ b k. elim (in_split b A.arities (a ∷ []) k.declared) [
-      | inl old ↦ each_at (λ x. Fails A a ds x → c ≤ x.class) A.arities f.least b old (record { con = k.con; fails = λ p. k.conflict (passed_compatible A decided r a b ds old k.con rest p) })
-      | inr w ↦ elim w [ inl e ↦ absurd (k.conflict (rw e (compatible_self (with_arity A a) a (in-append_right a A.arities (a ∷ []) (inl refl))))) | inr none ↦ absurd none ]
-    ];
+    | inl old ↦ each_at (λ x. Fails A a ds x → c ≤ x.class) A.arities f.least b old (record { con = k.con; fails = λ p. k.conflict (passed_compatible A decided r a b ds old k.con rest p) })
+    | inr w ↦ elim w [ inl e ↦ absurd (k.conflict (rw e (compatible_self (with_arity A a) a (in-append_right a A.arities (a ∷ []) (inl refl))))) | inr none ↦ absurd none ]
+  ];
 }
 
 pub one_more_arity : (es : List ArityEntry) (i : ℕ) (e : ArityEntry) → i < length es → e ≡ get_or es i e → arities_of (take (i + 1) es) ≡ arities_of (take i es) ++ arity_of e ∷ []
@@ -169,11 +173,12 @@ coregular_with_class A l f fresh known r a b m n con = record {
   forth = λ h. domains-more A (with_class A l) (has_more A l) a b (w.forth (before a b.class m h));
   back = λ h. domains-more A (with_class A l) (has_more A l) b a (w.back (before b a.class n h));
   joined = λ d h k. (let j = w.joined d (before a d m h) (before b d n k) in
-    (j.0, record { declared = j.1.declared; con = j.1.con; class = below-more A (with_class A l) (has_more A l) j.1.class; first = domains-more A (with_class A l) (has_more A l) a j.0 j.1.first; second = domains-more A (with_class A l) (has_more A l) b j.0 j.1.second }));
+      (j.0, record { declared = j.1.declared; con = j.1.con; class = below-more A (with_class A l) (has_more A l) j.1.class; first = domains-more A (with_class A l) (has_more A l) a j.0 j.1.first; second = domains-more A (with_class A l) (has_more A l) b j.0 j.1.second }));
 }
   where
     w : AreCompatible A a b
     w = r a b m n con
+
     before : (x : Arity) (d : ℕ) → IsIn x A.arities → IsClassBelow (with_class A l) x.class d → IsClassBelow A x.class d
     before x d o h = below_before A l f fresh x.class d (each_at (IsKnown A.classes) A.arities known x o).class h
 

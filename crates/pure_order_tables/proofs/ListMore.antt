@@ -46,8 +46,10 @@ any_turn {A} P xs i r within read = (there, back)
   where
     longer : take (i + 1) xs ≡ take i xs ++ r ∷ []
     longer = longer_by xs i r within read
+
     there : AnyOf P (take (i + 1) xs) → AnyOf P (take i xs) ⊎ P r
     there m = elim (any_split P (take i xs) (r ∷ []) (rw longer at m)) [ inl a ↦ inl a | inr b ↦ elim b [ inl p ↦ inr p | inr none ↦ absurd none ] ]
+
     back : AnyOf P (take i xs) ⊎ P r → AnyOf P (take (i + 1) xs)
     back w = rw longer (elim w [ inl a ↦ any-append_left P (take i xs) (r ∷ []) a | inr p ↦ any-append_right P (take i xs) (r ∷ []) (inl p) ])
 
@@ -56,21 +58,25 @@ in_turn {A} x xs i r within read = (there, back)
   where
     longer : take (i + 1) xs ≡ take i xs ++ r ∷ []
     longer = longer_by xs i r within read
+
     there : IsIn x (take (i + 1) xs) → IsIn x (take i xs) ⊎ (x ≡ r)
     there m = elim (in_split x (take i xs) (r ∷ []) (rw longer at m)) [ inl a ↦ inl a | inr b ↦ elim b [ inl p ↦ inr p | inr none ↦ absurd none ] ]
+
     back : IsIn x (take i xs) ⊎ (x ≡ r) → IsIn x (take (i + 1) xs)
     back w = rw longer (elim w [ inl a ↦ in-append_left x (take i xs) (r ∷ []) a | inr p ↦ in-append_right x (take i xs) (r ∷ []) (inl p) ])
 
 -- what is there after a turn: new or old, and old as it was before
 pub turned : (N R S T U O : Type 0) → U ↔ (T ⊎ R) → N ↔ (R ⊎ S) → S ↔ (T ⊎ O) → N ↔ (U ⊎ O)
-turned N R S T U O u n s =
-    ( λ m. elim (n.0 m) [ inl r ↦ inl (u.1 (inr r)) | inr o ↦ elim (s.0 o) [ inl t ↦ inl (u.1 (inl t)) | inr p ↦ inr p ] ],
-      λ m. elim m [ inl v ↦ elim (u.0 v) [ inl t ↦ n.1 (inr (s.1 (inl t))) | inr r ↦ n.1 (inl r) ] | inr o ↦ n.1 (inr (s.1 (inr o))) ] )
+turned N R S T U O u n s = (
+  λ m. elim (n.0 m) [ inl r ↦ inl (u.1 (inr r)) | inr o ↦ elim (s.0 o) [ inl t ↦ inl (u.1 (inl t)) | inr p ↦ inr p ] ],
+  λ m. elim m [ inl v ↦ elim (u.0 v) [ inl t ↦ n.1 (inr (s.1 (inl t))) | inr r ↦ n.1 (inl r) ] | inr o ↦ n.1 (inr (s.1 (inr o))) ],
+)
 
 pub turned_back : (N R S T U O : Type 0) → U ↔ (T ⊎ R) → N ↔ (R ⊎ S) → S ↔ (O ⊎ T) → N ↔ (O ⊎ U)
-turned_back N R S T U O u n s =
-    ( λ m. elim (n.0 m) [ inl r ↦ inr (u.1 (inr r)) | inr o ↦ elim (s.0 o) [ inl p ↦ inl p | inr t ↦ inr (u.1 (inl t)) ] ],
-      λ m. elim m [ inl o ↦ n.1 (inr (s.1 (inl o))) | inr v ↦ elim (u.0 v) [ inl t ↦ n.1 (inr (s.1 (inr t))) | inr r ↦ n.1 (inl r) ] ] )
+turned_back N R S T U O u n s = (
+  λ m. elim (n.0 m) [ inl r ↦ inr (u.1 (inr r)) | inr o ↦ elim (s.0 o) [ inl p ↦ inl p | inr t ↦ inr (u.1 (inl t)) ] ],
+  λ m. elim m [ inl o ↦ n.1 (inr (s.1 (inl o))) | inr v ↦ elim (u.0 v) [ inl t ↦ n.1 (inr (s.1 (inr t))) | inr r ↦ n.1 (inl r) ] ],
+)
 
 pub on_ok_then : {T E : Type 0} (r : Result T E) (P Q : Type 0) → (P → Q) → OnOk r P → OnOk r Q
 on_ok_then (Ok x) P Q f h = f h
@@ -82,7 +88,7 @@ room_then_ok (Err e) n m h room = absurd (omega arith)
 
 pub in_other_words : (N O R S : Type 0) → R ↔ S → N ↔ (R ⊎ O) → N ↔ (S ⊎ O)
 in_other_words N O R S rs n =
-    ( λ m. elim (n.0 m) [ inl r ↦ inl (rs.0 r) | inr o ↦ inr o ], λ m. elim m [ inl s ↦ n.1 (inl (rs.1 s)) | inr o ↦ n.1 (inr o) ] )
+    (λ m. elim (n.0 m) [ inl r ↦ inl (rs.0 r) | inr o ↦ inr o ], λ m. elim m [ inl s ↦ n.1 (inl (rs.1 s)) | inr o ↦ n.1 (inr o) ])
 
 pub each_turn : {A : Type 0} (P : A → Type 0) (xs : List A) (i : ℕ) (r : A) → i < length xs → r ≡ get_or xs i r → Each P (take i xs) → P r → Each P (take (i + 1) xs)
 each_turn P xs i r within read each p = rw (longer_by xs i r within read) (each-append P (take i xs) (r ∷ []) each (p, tt))
@@ -148,20 +154,20 @@ any-map f P (x ∷ xs) = let t = any-map f P xs in (λ h. elim h [ inl p ↦ inl
 pub in_or_not : (n : ℕ) (ms : List ℕ) → IsIn n ms ⊎ ¬ IsIn n ms
 in_or_not n [] = inr (λ h. h)
 in_or_not n (m ∷ ms) = elim (eqb_tells n m) [
-    | inl w ↦ inl (inl w.1)
-    | inr w ↦ elim (in_or_not n ms) [ inl k ↦ inl (inr k) | inr k ↦ inr (λ h. elim h [ inl e ↦ w.1 e | inr l ↦ k l ]) ]
-  ]
+  | inl w ↦ inl (inl w.1)
+  | inr w ↦ elim (in_or_not n ms) [ inl k ↦ inl (inr k) | inr k ↦ inr (λ h. elim h [ inl e ↦ w.1 e | inr l ↦ k l ]) ]
+]
 
 -- While a list is gone through: each element passed is kept or has the property.
 pub kept_turn : {A : Type 0} (P : A → Type 0) (xs kept kept' : List A) (i : ℕ) (r : A) → i < length xs → r ≡ get_or xs i r → (kept' ≡ kept ++ r ∷ []) ⊎ ((kept' ≡ kept) × P r)
     → ((x : A) → IsIn x (take i xs) → IsIn x kept ⊎ P x) → (x : A) → IsIn x (take (i + 1) xs) → IsIn x kept' ⊎ P x
 kept_turn P xs kept kept' i r within read way before x m = elim ((in_turn x xs i r within read).0 m) [
-    | inl old ↦ elim (before x old) [
-        | inl k ↦ inl (elim way [ inl e ↦ rw e (in-append_left x kept (r ∷ []) k) | inr w ↦ rw w.0 k ])
-        | inr p ↦ inr p
-      ]
-    | inr here ↦ elim way [ inl e ↦ inl (rw (e, here) (in-append_right r kept (r ∷ []) (inl refl))) | inr w ↦ inr (rw here w.1) ]
+  | inl old ↦ elim (before x old) [
+    | inl k ↦ inl (elim way [ inl e ↦ rw e (in-append_left x kept (r ∷ []) k) | inr w ↦ rw w.0 k ])
+    | inr p ↦ inr p
   ]
+  | inr here ↦ elim way [ inl e ↦ inl (rw (e, here) (in-append_right r kept (r ∷ []) (inl refl))) | inr w ↦ inr (rw here w.1) ]
+]
 
 pub split_at : {A : Type 0} (xs : List A) (i : ℕ) (r : A) → i < length xs → r ≡ get_or xs i r → xs ≡ take i xs ++ r ∷ drop (i + 1) xs
 split_at xs i r within read = sym (take-append-drop i xs) ∙ ap (λ ys. take i xs ++ ys) (rest_at xs i r within read)
@@ -171,26 +177,28 @@ split_at xs i r within read = sym (take-append-drop i xs) ∙ ap (λ ys. take i 
 
 -- a set that grows by what is read
 pub grown_put : {A : Type 0} (x : A) (now now' old xs ys : List A) → now' ≡ now ++ x ∷ [] → ys ≡ xs ++ x ∷ [] → ((k : A) → IsIn k now ↔ (IsIn k old ⊎ IsIn k xs)) → (k : A) → IsIn k now' ↔ (IsIn k old ⊎ IsIn k ys)
-grown_put x now now' old xs ys longer read has k = rw (longer, read)
-    ( λ n. elim (in_split k now (x ∷ []) n) [
-          | inl t ↦ elim ((has k).0 t) [ inl o ↦ inl o | inr s ↦ inr (in-append_left k xs (x ∷ []) s) ]
-          | inr v ↦ inr (in-append_right k xs (x ∷ []) v)
-        ],
-      λ n. elim n [
-          | inl o ↦ in-append_left k now (x ∷ []) ((has k).1 (inl o))
-          | inr t ↦ elim (in_split k xs (x ∷ []) t) [
-              | inl s ↦ in-append_left k now (x ∷ []) ((has k).1 (inr s))
-              | inr v ↦ in-append_right k now (x ∷ []) v
-            ]
-        ] )
+grown_put x now now' old xs ys longer read has k = rw (longer, read) (
+  λ n. elim (in_split k now (x ∷ []) n) [
+    | inl t ↦ elim ((has k).0 t) [ inl o ↦ inl o | inr s ↦ inr (in-append_left k xs (x ∷ []) s) ]
+    | inr v ↦ inr (in-append_right k xs (x ∷ []) v)
+  ],
+  λ n. elim n [
+    | inl o ↦ in-append_left k now (x ∷ []) ((has k).1 (inl o))
+    | inr t ↦ elim (in_split k xs (x ∷ []) t) [
+      | inl s ↦ in-append_left k now (x ∷ []) ((has k).1 (inr s))
+      | inr v ↦ in-append_right k now (x ∷ []) v
+    ]
+  ],
+)
 
 pub grown_kept : {A : Type 0} (x : A) (now old xs ys : List A) → IsIn x now → ys ≡ xs ++ x ∷ [] → ((k : A) → IsIn k now ↔ (IsIn k old ⊎ IsIn k xs)) → (k : A) → IsIn k now ↔ (IsIn k old ⊎ IsIn k ys)
-grown_kept x now old xs ys there read has k = rw read
-    ( λ n. elim ((has k).0 n) [ inl o ↦ inl o | inr t ↦ inr (in-append_left k xs (x ∷ []) t) ],
-      λ n. elim n [
-          | inl o ↦ (has k).1 (inl o)
-          | inr t ↦ elim (in_split k xs (x ∷ []) t) [
-              | inl early ↦ (has k).1 (inr early)
-              | inr v ↦ elim v [ inl same ↦ rw same there | inr none ↦ absurd none ]
-            ]
-        ] )
+grown_kept x now old xs ys there read has k = rw read (
+  λ n. elim ((has k).0 n) [ inl o ↦ inl o | inr t ↦ inr (in-append_left k xs (x ∷ []) t) ],
+  λ n. elim n [
+    | inl o ↦ (has k).1 (inl o)
+    | inr t ↦ elim (in_split k xs (x ∷ []) t) [
+      | inl early ↦ (has k).1 (inr early)
+      | inr v ↦ elim v [ inl same ↦ rw same there | inr none ↦ absurd none ]
+    ]
+  ],
+)

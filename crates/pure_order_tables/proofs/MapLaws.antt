@@ -14,6 +14,6 @@ not_equal k q apart Greater h = refl
 
 pub get_after : {V : Type 0} (m n : BTreeMap ℕ V) (k : ℕ) (v : V) → Updates nat_cmp m n k (Some v) → (q : ℕ) → ((q ≡ k) × (get nat_cmp n q ≡ Some v)) ⊎ ((¬ (q ≡ k)) × (get nat_cmp n q ≡ get nat_cmp m q))
 get_after m n k v u q = elim (eqb_tells q k) [
-    | inl w ↦ inl (w.1, rw w.1 u.1)
-    | inr w ↦ inr (w.1, u.2 q (not_equal k q w.1 (nat_cmp k q) (ranked k q (nat_cmp k q) refl)))
-  ]
+  | inl w ↦ inl (w.1, rw w.1 u.1)
+  | inr w ↦ inr (w.1, u.2 q (not_equal k q w.1 (nat_cmp k q) (ranked k q (nat_cmp k q) refl)))
+]

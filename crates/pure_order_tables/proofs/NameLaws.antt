@@ -1,6 +1,6 @@
 -- Ascending lists of names.
-use Rattle.std.proofs.Common.{suc, zero, ◌≡◌, ℕ, ◌+◌, ◌<◌, ◌≤◌, List, [], ◌∷◌, ◌++◌, length, get_or, take, drop, take-append-drop, refl, ap, sym, subst, inl, inr, ◌⊎◌, ◌↔◌, arith, add-one}
-use Rattle.std.specs.Prelude.{Bool, true, false, IsTrue}
+use Rattle.std.proofs.Common.{suc, zero, ◌≡◌, ℕ, ◌+◌, ◌<◌, ◌≤◌, List, [], ◌∷◌, ◌++◌, length, get_or, take, drop, take-append-drop, refl, sym, inl, inr, ◌⊎◌, ◌↔◌, arith, add-one}
+use Rattle.std.specs.Prelude.{Bool, false, IsTrue}
 use Rattle.std.specs.List.{insert}
 use Rattle.std.proofs.lemmas.Grind.{get_or_default_zero}
 use Rattle.std.specs.List.Sorted.{IsStrictlyIncreasing}
@@ -54,19 +54,21 @@ in-insert xs i y x = (there, back)
   where
     joined : take i xs ++ drop i xs ≡ xs
     joined = take-append-drop i xs
+
     there : IsIn x (take i xs ++ (y ∷ drop i xs)) → (x ≡ y) ⊎ IsIn x xs
     there m = elim (in_split x (take i xs) (y ∷ drop i xs) m) [
-        | inl front ↦ inr (rw (← joined) (in-append_left x (take i xs) (drop i xs) front))
-        | inr rest ↦ elim rest [ inl e ↦ inl e | inr later ↦ inr (rw (← joined) (in-append_right x (take i xs) (drop i xs) later)) ]
-      ]
+      | inl front ↦ inr (rw (← joined) (in-append_left x (take i xs) (drop i xs) front))
+      | inr rest ↦ elim rest [ inl e ↦ inl e | inr later ↦ inr (rw (← joined) (in-append_right x (take i xs) (drop i xs) later)) ]
+    ]
+
     back : (x ≡ y) ⊎ IsIn x xs → IsIn x (take i xs ++ (y ∷ drop i xs))
     back w = elim w [
-        | inl e ↦ in-append_right x (take i xs) (y ∷ drop i xs) (inl e)
-        | inr m ↦ (let both : IsIn x (take i xs ++ drop i xs) = rw joined m in elim (in_split x (take i xs) (drop i xs) both) [
-            | inl front ↦ in-append_left x (take i xs) (y ∷ drop i xs) front
-            | inr later ↦ in-append_right x (take i xs) (y ∷ drop i xs) (inr later)
-          ])
-      ]
+      | inl e ↦ in-append_right x (take i xs) (y ∷ drop i xs) (inl e)
+      | inr m ↦ (let both : IsIn x (take i xs ++ drop i xs) = rw joined m in elim (in_split x (take i xs) (drop i xs) both) [
+        | inl front ↦ in-append_left x (take i xs) (y ∷ drop i xs) front
+        | inr later ↦ in-append_right x (take i xs) (y ∷ drop i xs) (inr later)
+      ])
+    ]
 
 above_absent : (xs : List ℕ) (y k : ℕ) → k < length xs → ¬ IsIn y xs → y ≤ get_or xs k 0 → y < get_or xs k 0
 above_absent xs y k w absent h = elim (below_or_same y (get_or xs k 0) (omega arith)) [ inl less ↦ less | inr same ↦ absurd (absent (in_at xs k y w (sym same))) ]
@@ -83,17 +85,18 @@ insert_increases xs i y up le before from absent k within =
     let long = length-insert xs i y le in
     elim (by_order k i) [
       | inl first ↦ elim first [
-          | inl far ↦ rw (get_or-insert_below xs i y 0 k (omega arith) le, get_or-insert_below xs i y 0 (k + 1) far le) (up k (omega arith))
-          | inr just ↦ rw (get_or-insert_below xs i y 0 k (omega arith) le) (let here : get_or (insert xs i y) (k + 1) 0 ≡ y = rw (← just) (get_or-insert_at xs i y 0 le) in rw here (before k (omega arith)))
-        ]
+        | inl far ↦ rw (get_or-insert_below xs i y 0 k (omega arith) le, get_or-insert_below xs i y 0 (k + 1) far le) (up k (omega arith))
+        | inr just ↦ rw (get_or-insert_below xs i y 0 k (omega arith) le) (let here : get_or (insert xs i y) (k + 1) 0 ≡ y = rw (← just) (get_or-insert_at xs i y 0 le) in rw here (before k (omega arith)))
+      ]
       | inr second ↦ elim second [
-          | inl here ↦ rw (get_or-insert_above xs i y 0 k (omega arith) le) (let at : get_or (insert xs i y) k 0 ≡ y = rw (← here) (get_or-insert_at xs i y 0 le) in rw at (strict k (omega arith) (from k (omega arith) (omega arith))))
-          | inr after ↦ beyond xs i y up le k after (omega arith)
-        ]
+        | inl here ↦ rw (get_or-insert_above xs i y 0 k (omega arith) le) (let at : get_or (insert xs i y) k 0 ≡ y = rw (← here) (get_or-insert_at xs i y 0 le) in rw at (strict k (omega arith) (from k (omega arith) (omega arith))))
+        | inr after ↦ beyond xs i y up le k after (omega arith)
+      ]
     ]
   where
     by_order : (k i : ℕ) → ((k + 1 < i) ⊎ (i ≡ k + 1)) ⊎ ((i ≡ k) ⊎ (i < k))
     by_order k i = grind arith
+
     strict : (k : ℕ) → k < length xs → y ≤ get_or xs k 0 → y < get_or xs k 0
     strict k w h = above_absent xs y k w absent h
 
@@ -112,6 +115,7 @@ not_below r y b h e = elim (below_or_same' r y) [ inl less ↦ absurd (false_not
   where
     below_or_same' : (i j : ℕ) → (i < j) ⊎ (j ≤ i)
     below_or_same' i j = grind arith
+
     false_not_true : IsTrue false → ⊥
     false_not_true t = cc
 

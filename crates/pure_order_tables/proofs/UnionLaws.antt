@@ -1,15 +1,14 @@
 -- One turn of a union of classes.
-use Rattle.std.proofs.Common.{◌≡◌, ℕ, ◌+◌, ◌<◌, List, [], ◌∷◌, ◌++◌, length, get_or, take, refl, sym, ap, inl, inr, ◌⊎◌, ◌↔◌, ◌∙◌, arith, append_assoc, append-nil, drop}
-use Rattle.std.proofs.Math.ListN.{get_or-map}
+use Rattle.std.proofs.Common.{◌≡◌, ℕ, ◌+◌, ◌<◌, List, [], ◌∷◌, ◌++◌, length, get_or, take, sym, ap, inl, inr, ◌⊎◌, ◌↔◌, ◌∙◌, append_assoc, append-nil, drop}
 use Rattle.std.proofs.lemmas.List.{map-append}
-use Rattle.pure_term.specs.Lists.{IsIn, Each, AnyOf}
+use Rattle.pure_term.specs.Lists.{IsIn, Each}
 use Rattle.pure_term.specs.Order.{Class, Arity}
-use Rattle.pure_term.proofs.ListLaws.{each_of, in-map, in-append_left, in-append_right}
+use Rattle.pure_term.proofs.ListLaws.{each_of, in-map}
 use Rattle.pure_order_tables.specs.declared.classes.ClassEntry.{ClassEntry}
 use Rattle.pure_order_tables.specs.ClassView.{class_of, classes_of}
 use Rattle.pure_order_tables.specs.Classes.{IsDeclared, Follows, Agree}
 use Rattle.pure_order_tables.specs.Arities.{IsKnown}
-use Rattle.pure_order_tables.proofs.ListMore.{grown_put, grown_kept, in_split, any_some, each_at, longer_by, read_in, split_at, any-append_left, any-append_right}
+use Rattle.pure_order_tables.proofs.ListMore.{grown_put, grown_kept, any_some, each_at, longer_by, read_in, split_at}
 use Rattle.pure_order_tables.proofs.BelowLaws.{declared}
 
 -- What an ordered list says of one of its classes.
@@ -53,22 +52,23 @@ union_put table table' old es i e within read longer has = grown_put (class_of e
 
 -- the union of two lists, one after the other put into an empty one
 pub union_two : {A : Type 0} (xs ys none one two xs' ys' : List A) → none ≡ [] → xs' ≡ xs → ys' ≡ ys → ((k : A) → IsIn k one ↔ (IsIn k none ⊎ IsIn k xs')) → ((k : A) → IsIn k two ↔ (IsIn k one ⊎ IsIn k ys')) → (k : A) → IsIn k two ↔ (IsIn k xs ⊎ IsIn k ys)
-union_two xs ys none one two xs' ys' empty ex ey first second k =
-    ( λ m. elim ((second k).0 m) [
-          | inl n ↦ elim ((first k).0 n) [ inl bad ↦ absurd (rw empty at bad) | inr x ↦ inl (rw ex at x) ]
-          | inr y ↦ inr (rw ey at y)
-        ],
-      λ m. elim m [ inl x ↦ (second k).1 (inl ((first k).1 (inr (rw ex x)))) | inr y ↦ (second k).1 (inr (rw ey y)) ] )
+union_two xs ys none one two xs' ys' empty ex ey first second k = (
+  λ m. elim ((second k).0 m) [
+    | inl n ↦ elim ((first k).0 n) [ inl bad ↦ absurd (rw empty at bad) | inr x ↦ inl (rw ex at x) ]
+    | inr y ↦ inr (rw ey at y)
+  ],
+  λ m. elim m [ inl x ↦ (second k).1 (inl ((first k).1 (inr (rw ex x)))) | inr y ↦ (second k).1 (inr (rw ey y)) ],
+)
 
 pub agree_two : (cs ks none one cs' ks' : List Class) → none ≡ [] → cs' ≡ cs → ks' ≡ ks → ((k : Class) → IsIn k one ↔ (IsIn k none ⊎ IsIn k cs')) → Agree cs ks → Agree one ks'
 agree_two cs ks none one cs' ks' empty ec ek first agree c k m n same = elim ((first c).0 m) [
-    | inl bad ↦ absurd (rw empty at bad)
-    | inr x ↦ agree c k (rw ec at x) (rw ek at n) same
-  ]
+  | inl bad ↦ absurd (rw empty at bad)
+  | inr x ↦ agree c k (rw ec at x) (rw ek at n) same
+]
 
 -- Arities that name declared classes do so with more classes declared.
 pub known_more : (cs ks : List Class) → ((k : Class) → IsIn k cs → IsIn k ks) → (bs : List Arity) → Each (IsKnown cs) bs → Each (IsKnown ks) bs
 known_more cs ks more bs known = each_of (IsKnown ks) bs (λ a m. (let old = each_at (IsKnown cs) bs known a m in record {
-    domains = each_of (Each (IsDeclared ks)) a.domains (λ s n. each_of (IsDeclared ks) s (λ c o. declared_more cs ks more c (each_at (IsDeclared cs) s (each_at (Each (IsDeclared cs)) a.domains old.domains s n) c o)));
-    class = declared_more cs ks more a.class old.class;
-  }))
+  domains = each_of (Each (IsDeclared ks)) a.domains (λ s n. each_of (IsDeclared ks) s (λ c o. declared_more cs ks more c (each_at (IsDeclared cs) s (each_at (Each (IsDeclared cs)) a.domains old.domains s n) c o)));
+  class = declared_more cs ks more a.class old.class;
+}))

@@ -14,7 +14,14 @@ use std::alloc::{AllocError, Global};
 
 impl Tables {
     /// Whether the arity is one of the constructor for a class below this one, with domains above both of these.
-    fn is_above_both(&self, arity: &ArityEntry, con: Name, class: Name, first: &[Sort], second: &[Sort]) -> bool
+    fn is_above_both(
+        &self,
+        arity: &ArityEntry,
+        con: Name,
+        class: Name,
+        first: &[Sort],
+        second: &[Sort],
+    ) -> bool
         ensures { MatchBool result (IsAboveBoth self.now con class first.now second.now (arity_of arity.now)) (¬ IsAboveBoth self.now con class first.now second.now (arity_of arity.now)) }
     {
         is_same(arity.con, con)
@@ -42,7 +49,12 @@ impl Tables {
         for class in classes {
             if self.below(first.class, *class)
                 && self.below(second.class, *class)
-                && !self.have_join(first.con, *class, first.domains.as_slice(), second.domains.as_slice())
+                && !self.have_join(
+                    first.con,
+                    *class,
+                    first.domains.as_slice(),
+                    second.domains.as_slice(),
+                )
             {
                 return false;
             }
@@ -54,7 +66,8 @@ impl Tables {
     fn falls(&self, first: &ArityEntry, second: &ArityEntry) -> bool
         ensures { MatchBool result (IsClassBelow self.now first.now.class second.now.class → AreDomainsBelow self.now (arity_of first.now) (arity_of second.now)) (¬ (IsClassBelow self.now first.now.class second.now.class → AreDomainsBelow self.now (arity_of first.now) (arity_of second.now))) }
     {
-        !self.below(first.class, second.class) || self.domains_below(first.domains.as_slice(), second.domains.as_slice())
+        !self.below(first.class, second.class)
+            || self.domains_below(first.domains.as_slice(), second.domains.as_slice())
     }
 
     /// Whether two arities of a constructor pass the test of being compatible, the second part at these classes.
@@ -63,7 +76,8 @@ impl Tables {
     {
         self.falls(first, second)
             && self.falls(second, first)
-            && (self.domains_below(second.domains.as_slice(), first.domains.as_slice()) || self.are_joined(first, second, classes))
+            && (self.domains_below(second.domains.as_slice(), first.domains.as_slice())
+                || self.are_joined(first, second, classes))
     }
 
     /// Whether the domains are below the candidate of the constructor at the class.

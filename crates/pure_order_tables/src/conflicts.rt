@@ -12,7 +12,6 @@ use crate::tables::{ArityEntry, Tables};
 use pure_term::{Name, Sort};
 use std::alloc::{AllocError, Global};
 
-
 impl Tables {
     /// Whether the arity's domains are below these, where it is one of the constructor for a class below this one.
     fn is_below_of(&self, arity: &ArityEntry, con: Name, class: Name, domains: &[Sort]) -> bool

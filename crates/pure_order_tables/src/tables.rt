@@ -191,7 +191,11 @@ impl Tables {
     }
 
     /// The places of the constructor's arities once this one stands behind the others.
-    fn places_with(&self, alloc: Global, arity: &ArityEntry) -> Result<BTreeMap<u32, usize>, AllocError>
+    fn places_with(
+        &self,
+        alloc: Global,
+        arity: &ArityEntry,
+    ) -> Result<BTreeMap<u32, usize>, AllocError>
         requires { IsDeclared self.now.classes arity.now.class }
         ensures { IfOk result (λ places. ArePlaces (with_arity self.now (arity_of arity.now)) arity.now.con (get nat_cmp places)) }
     {
@@ -209,7 +213,12 @@ impl Tables {
     }
 
     /// Declares a class.
-    pub fn push_class(&mut self, alloc: Global, class: Name, above: &[Name]) -> Result<(), AllocError>
+    pub fn push_class(
+        &mut self,
+        alloc: Global,
+        class: Name,
+        above: &[Name],
+    ) -> Result<(), AllocError>
         requires fresh { ¬ IsDeclared self.old.classes class }
         requires known { Each (IsDeclared self.old.classes) above.now }
         ensures ok { OnOk result (self.new ≡ with_class self.old (record { name = class; above = above.now })) }

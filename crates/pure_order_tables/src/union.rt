@@ -87,7 +87,11 @@ impl Tables {
     }
 
     /// Declares those of the arities that aren't declared yet.
-    pub(crate) fn push_new(&mut self, alloc: Global, arities: &[ArityEntry]) -> Result<(), AllocError>
+    pub(crate) fn push_new(
+        &mut self,
+        alloc: Global,
+        arities: &[ArityEntry],
+    ) -> Result<(), AllocError>
         requires { Each (IsKnown self.old.classes) (arities_of arities.now) }
         ensures classes { OnOk result (self.new.classes ≡ self.old.classes) }
         ensures arities { OnOk result ((a : Arity) → IsIn a self.new.arities ↔ (IsIn a self.old.arities ⊎ IsIn a (arities_of arities.now))) }

@@ -6,7 +6,7 @@ invariant-loop-low l = record {
   ordered : l.low ≤ l.high;
   within : l.high ≤ length l.names;
   before : (k : ℕ) → k < l.low → slice_index l.names k < l.name;
-  from : (k : ℕ) → l.high ≤ k → k < length l.names → l.name ≤ slice_index l.names k
+  from : (k : ℕ) → l.high ≤ k → k < length l.names → l.name ≤ slice_index l.names k;
 }
 
 abbrev pub decreases-loop-low : goal.decreases-loop-low

@@ -1,6 +1,3 @@
-use Rattle.std.proofs.Common.{arith, length, slice_index, ◌<◌, ◌≤◌, ℕ, List}
-use Rattle.std.specs.List.{insert}
-use Rattle.std.specs.List.Sorted.{IsStrictlyIncreasing}
 use Rattle.pure_order_tables.proofs.NameLaws.{insert_increases, in-insert, has_not}
 use Rattle.pure_order_tables.proofs.names.put.Goals as goal
 

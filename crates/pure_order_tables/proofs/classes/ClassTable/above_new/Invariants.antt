@@ -8,5 +8,5 @@ use Rattle.pure_order_tables.proofs.classes.ClassTable.above_new.Given as goal
 abbrev pub invariant-loop-b : goal.invariant-loop-b
 invariant-loop-b l = record {
   ascend : IsStrictlyIncreasing l.names.items;
-  has : (x : ℕ) → IsIn x l.names.items ↔ ((x ≡ l.fn.class) ⊎ AnyOf (λ b. IsClassBelow (of_classes l.self) b x) (take l.b-index l.above))
+  has : (x : ℕ) → IsIn x l.names.items ↔ ((x ≡ l.fn.class) ⊎ AnyOf (λ b. IsClassBelow (of_classes l.self) b x) (take l.b-index l.above));
 }

@@ -1,5 +1,3 @@
-use Rattle.pure_order_tables.specs.Checks.{IsDecided}
-use Rattle.pure_order_tables.specs.Classes.{of_classes}
 use Rattle.pure_order_tables.specs.ClassView.{classes_of}
 use Rattle.pure_order_tables.proofs.ClassTableLaws.{decided}
 use Rattle.pure_order_tables.proofs.classes.ClassTable.order_is_decided.Goals as goal

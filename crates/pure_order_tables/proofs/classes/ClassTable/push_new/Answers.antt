@@ -8,9 +8,9 @@ push-requires-clause-known c = rw c.as_slice.ensures.value (above_known c.loop-e
 
 pub loop-entry-preserved : goal.loop-entry-preserved
 loop-entry-preserved c = elim c.if-not-is_declared.branch [
-    | then-not-is_declared+in_ok-push w ↦ rw w.self-is (union_put c.loop-entry.self w.push.new.self c.args.self.now c.args.entries.now c.loop-entry.entry-index c.entry-item.result c.loop-entry-test.true c.entry-item.is (rw w.as_slice.ensures.value at w.in_ok-push.ensures.ok) c.loop-entry.invariant)
-    | else-not-is_declared w ↦ rw w.self-is (union_kept c.loop-entry.self c.args.self.now c.args.entries.now c.loop-entry.entry-index c.entry-item.result c.loop-entry-test.true c.entry-item.is c.requires.ordered c.requires.agree c.loop-entry.invariant (c.is_declared.ensures.0 w.if-not-is_declared.false))
-  ]
+  | then-not-is_declared+in_ok-push w ↦ rw w.self-is (union_put c.loop-entry.self w.push.new.self c.args.self.now c.args.entries.now c.loop-entry.entry-index c.entry-item.result c.loop-entry-test.true c.entry-item.is (rw w.as_slice.ensures.value at w.in_ok-push.ensures.ok) c.loop-entry.invariant)
+  | else-not-is_declared w ↦ rw w.self-is (union_kept c.loop-entry.self c.args.self.now c.args.entries.now c.loop-entry.entry-index c.entry-item.result c.loop-entry-test.true c.entry-item.is c.requires.ordered c.requires.agree c.loop-entry.invariant (c.is_declared.ensures.0 w.if-not-is_declared.false))
+]
 
 pub returns : goal.returns
 returns c = rw (take_all c.loop-entry.entry-index c.args.entries.now c.loop-entry-test.false) at c.loop-entry.invariant

@@ -11,11 +11,11 @@ loop-arity-preserved c =
     let read = one_more_arity c.arities-arity-items.result.now c.loop-arity.arity-index c.arity-item.result c.loop-arity-test.true c.arity-item.is in
     elim c.if-is_same.branch [
       | then-is_same+in_ok-put_above w ↦ record {
-          ascend = rw w.classes-is w.put_above.ensures.ascend;
-          has = rw (read, w.classes-is) (over_put c.args.self.now c.args.con c.loop-arity.classes.items w.put_above.new.names.items (arities_of (take c.loop-arity.arity-index c.arities-arity-items.result.now)) (arity_of c.arity-item.result) c.loop-arity.invariant.has w.in_ok-put_above.ensures.has);
-        }
+        ascend = rw w.classes-is w.put_above.ensures.ascend;
+        has = rw (read, w.classes-is) (over_put c.args.self.now c.args.con c.loop-arity.classes.items w.put_above.new.names.items (arities_of (take c.loop-arity.arity-index c.arities-arity-items.result.now)) (arity_of c.arity-item.result) c.loop-arity.invariant.has w.in_ok-put_above.ensures.has);
+      }
       | else-is_same w ↦ record {
-          ascend = rw w.classes-is c.loop-arity.invariant.ascend;
-          has = rw (read, w.classes-is) (over_kept c.args.self.now c.args.con c.loop-arity.classes.items (arities_of (take c.loop-arity.arity-index c.arities-arity-items.result.now)) (arity_of c.arity-item.result) c.loop-arity.invariant.has (test_fails _ c.is_same.result c.is_same.ensures w.if-is_same.false));
-        }
+        ascend = rw w.classes-is c.loop-arity.invariant.ascend;
+        has = rw (read, w.classes-is) (over_kept c.args.self.now c.args.con c.loop-arity.classes.items (arities_of (take c.loop-arity.arity-index c.arities-arity-items.result.now)) (arity_of c.arity-item.result) c.loop-arity.invariant.has (test_fails _ c.is_same.result c.is_same.ensures w.if-is_same.false));
+      }
     ]

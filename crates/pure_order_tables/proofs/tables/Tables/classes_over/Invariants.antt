@@ -8,5 +8,5 @@ use Rattle.pure_order_tables.proofs.tables.Tables.classes_over.Given as goal
 abbrev pub invariant-loop-arity : goal.invariant-loop-arity
 invariant-loop-arity l = record {
   ascend : IsStrictlyIncreasing l.classes.items;
-  has : Each (λ a. a.con ≡ l.con → (d : ℕ) → IsClassBelow l.self a.class d → IsIn d l.classes.items) (arities_of (take l.arity-index l.arity-items))
+  has : Each (λ a. a.con ≡ l.con → (d : ℕ) → IsClassBelow l.self a.class d → IsIn d l.classes.items) (arities_of (take l.arity-index l.arity-items));
 }

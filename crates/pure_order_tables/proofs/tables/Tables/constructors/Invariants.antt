@@ -7,5 +7,5 @@ use Rattle.pure_order_tables.proofs.tables.Tables.constructors.Given as goal
 abbrev pub invariant-loop-arity : goal.invariant-loop-arity
 invariant-loop-arity l = record {
   ascend : IsStrictlyIncreasing l.cons.items;
-  has : Each (λ a. IsIn a.con l.cons.items) (arities_of (take l.arity-index l.arity-items))
+  has : Each (λ a. IsIn a.con l.cons.items) (arities_of (take l.arity-index l.arity-items));
 }

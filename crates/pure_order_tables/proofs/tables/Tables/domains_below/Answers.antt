@@ -1,6 +1,5 @@
-use Rattle.std.proofs.Common.{sym, inl, inr}
 use Rattle.pure_term.specs.Order.{IsSortBelow}
-use Rattle.pure_order_tables.proofs.ListMore.{two_long, two_read, two_turn, two_full, no_as, test_fails}
+use Rattle.pure_order_tables.proofs.ListMore.{two_long, two_read, two_turn, no_as, test_fails}
 use Rattle.pure_order_tables.proofs.tables.Tables.domains_below.Goals as goal
 
 pub returns-then-first-second : goal.returns-then-first-second

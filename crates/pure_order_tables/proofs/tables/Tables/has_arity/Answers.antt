@@ -11,9 +11,9 @@ returns-then-is_for c = yes_as _ (rw c.arities-arity-items.ensures.are at ((any-
 
 pub loop-arity-preserved : goal.loop-arity-preserved
 loop-arity-preserved c m = elim ((any_turn (λ (e : ArityEntry). (e.con ≡ c.args.con) × (e.class ≡ c.args.class)) c.arities-arity-items.result.now c.loop-arity.arity-index c.arity-item.result c.loop-arity-test.true c.arity-item.is).0 m) [
-    | inl before ↦ c.loop-arity.invariant before
-    | inr here ↦ test_fails _ c.is_for.result c.is_for.ensures c.if-is_for.false here
-  ]
+  | inl before ↦ c.loop-arity.invariant before
+  | inr here ↦ test_fails _ c.is_for.result c.is_for.ensures c.if-is_for.false here
+]
 
 pub returns : goal.returns
 returns c = no_as _ (λ m. c.loop-arity.invariant (rw (take_all c.loop-arity.arity-index c.arities-arity-items.result.now c.loop-arity-test.false)

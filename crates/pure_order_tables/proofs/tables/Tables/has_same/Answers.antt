@@ -1,4 +1,4 @@
-use Rattle.std.proofs.Common.{◌∷◌, [], take, inl, inr, sym}
+use Rattle.std.proofs.Common.{◌∷◌, [], take, inl, inr}
 use Rattle.pure_order_tables.specs.ArityView.{arity_of, arities_of}
 use Rattle.pure_term.proofs.ListLaws.{in-map}
 use Rattle.pure_order_tables.proofs.ListMore.{in_split, read_in, yes_as, test_fails}

@@ -1,5 +1,4 @@
 use Rattle.std.proofs.Common.{take_all, inl, inr}
-use Rattle.pure_term.specs.Lists.{AnyOf}
 use Rattle.pure_order_tables.specs.ArityView.{arity_of}
 use Rattle.pure_order_tables.specs.Checks.{IsAboveBoth}
 use Rattle.pure_order_tables.proofs.ListMore.{any-map, any_read, any_turn}
@@ -11,9 +10,9 @@ returns-then-is_above_both c = rw c.arities-arity-items.ensures.are at ((any-map
 
 pub loop-arity-preserved : goal.loop-arity-preserved
 loop-arity-preserved c m = elim ((any_turn (λ e. IsAboveBoth c.args.self.now c.args.con c.args.class c.args.first.now c.args.second.now (arity_of e)) c.arities-arity-items.result.now c.loop-arity.arity-index c.arity-item.result c.loop-arity-test.true c.arity-item.is).0 m) [
-    | inl before ↦ c.loop-arity.invariant before
-    | inr here ↦ c.if-is_above_both.ensures here
-  ]
+  | inl before ↦ c.loop-arity.invariant before
+  | inr here ↦ c.if-is_above_both.ensures here
+]
 
 pub returns : goal.returns
 returns c m = c.loop-arity.invariant (rw (take_all c.loop-arity.arity-index c.arities-arity-items.result.now c.loop-arity-test.false) ((any-map arity_of (IsAboveBoth c.args.self.now c.args.con c.args.class c.args.first.now c.args.second.now) c.arities-arity-items.result.now).0 (rw c.arities-arity-items.ensures.are m)))

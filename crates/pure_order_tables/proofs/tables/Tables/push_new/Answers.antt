@@ -1,8 +1,7 @@
-use Rattle.std.proofs.Common.{◌∷◌, [], ◌++◌, ◌≡◌, take, take_all, ap, ◌∙◌}
-use Rattle.pure_term.specs.Lists.{IsIn}
-use Rattle.pure_term.specs.Order.{Arity, Algebra}
+use Rattle.std.proofs.Common.{◌∷◌, [], ◌++◌, take, take_all, ap, ◌∙◌}
+use Rattle.pure_term.specs.Order.{Algebra}
 use Rattle.pure_term.proofs.ListLaws.{in-map}
-use Rattle.pure_order_tables.specs.Arities.{IsKnown, with_arity}
+use Rattle.pure_order_tables.specs.Arities.{IsKnown}
 use Rattle.pure_order_tables.specs.ArityView.{arity_of, arities_of}
 use Rattle.pure_order_tables.proofs.ListMore.{grown_put, grown_kept, each_at, read_in}
 use Rattle.pure_order_tables.proofs.CoregularLaws.{one_more_arity}
@@ -17,14 +16,14 @@ loop-arity-preserved c =
     let read = one_more_arity c.args.arities.now c.loop-arity.arity-index c.arity-item.result c.loop-arity-test.true c.arity-item.is in
     elim c.if-not-has_same.branch [
       | then-not-has_same+in_ok-copy_arity+in_ok-push_arity w ↦ record {
-          same = rw w.self-is (ap (λ (A : Algebra). A.classes) w.in_ok-push_arity.ensures.ok ∙ c.loop-arity.invariant.same);
-          has = rw w.self-is (grown_put (arity_of c.arity-item.result) c.loop-arity.self.arities w.push_arity.new.self.arities c.args.self.now.arities (arities_of (take c.loop-arity.arity-index c.args.arities.now)) _
-              (ap (λ (A : Algebra). A.arities) w.in_ok-push_arity.ensures.ok ∙ ap (λ a. c.loop-arity.self.arities ++ a ∷ []) w.in_ok-copy_arity.ensures) read c.loop-arity.invariant.has);
-        }
+        same = rw w.self-is (ap (λ (A : Algebra). A.classes) w.in_ok-push_arity.ensures.ok ∙ c.loop-arity.invariant.same);
+        has = rw w.self-is (grown_put (arity_of c.arity-item.result) c.loop-arity.self.arities w.push_arity.new.self.arities c.args.self.now.arities (arities_of (take c.loop-arity.arity-index c.args.arities.now)) _
+            (ap (λ (A : Algebra). A.arities) w.in_ok-push_arity.ensures.ok ∙ ap (λ a. c.loop-arity.self.arities ++ a ∷ []) w.in_ok-copy_arity.ensures) read c.loop-arity.invariant.has);
+      }
       | else-not-has_same w ↦ record {
-          same = rw w.self-is c.loop-arity.invariant.same;
-          has = rw w.self-is (grown_kept (arity_of c.arity-item.result) c.loop-arity.self.arities c.args.self.now.arities (arities_of (take c.loop-arity.arity-index c.args.arities.now)) _ (c.has_same.ensures.0 w.if-not-has_same.false) read c.loop-arity.invariant.has);
-        }
+        same = rw w.self-is c.loop-arity.invariant.same;
+        has = rw w.self-is (grown_kept (arity_of c.arity-item.result) c.loop-arity.self.arities c.args.self.now.arities (arities_of (take c.loop-arity.arity-index c.args.arities.now)) _ (c.has_same.ensures.0 w.if-not-has_same.false) read c.loop-arity.invariant.has);
+      }
     ]
 
 pub returns-clause-arities : goal.returns-clause-arities

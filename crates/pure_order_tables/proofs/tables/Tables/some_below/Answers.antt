@@ -1,4 +1,4 @@
-use Rattle.pure_term.specs.Order.{IsClassBelow, HasClassBelow}
+use Rattle.pure_term.specs.Order.{IsClassBelow}
 use Rattle.std.proofs.Common.{inl, inr}
 use Rattle.pure_order_tables.proofs.ListMore.{any_read, any_turn, yes_as, test_fails}
 use Rattle.pure_order_tables.proofs.tables.Tables.some_below.Goals as goal
@@ -8,6 +8,6 @@ returns-then-below c = yes_as _ (any_read (λ b. IsClassBelow c.args.self.now b 
 
 pub loop-lower-preserved : goal.loop-lower-preserved
 loop-lower-preserved c m = elim ((any_turn (λ b. IsClassBelow c.args.self.now b c.args.class) c.args.classes.now c.loop-lower.lower-index c.lower-item.result c.loop-lower-test.true c.lower-item.is).0 m) [
-    | inl before ↦ c.loop-lower.invariant before
-    | inr here ↦ test_fails _ c.below.result c.below.ensures c.if-below.false here
-  ]
+  | inl before ↦ c.loop-lower.invariant before
+  | inr here ↦ test_fails _ c.below.result c.below.ensures c.if-below.false here
+]

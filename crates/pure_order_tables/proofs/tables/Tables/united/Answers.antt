@@ -1,4 +1,4 @@
-use Rattle.std.proofs.Common.{◌≡◌, ap, ◌∙◌, inl, inr}
+use Rattle.std.proofs.Common.{◌≡◌, ap, inl, inr}
 use Rattle.pure_term.specs.Order.{Algebra}
 use Rattle.pure_order_tables.specs.ArityView.{arities_of}
 use Rattle.pure_order_tables.proofs.UnionLaws.{union_two, known_more}
