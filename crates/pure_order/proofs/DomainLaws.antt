@@ -1,10 +1,10 @@
 -- Types under the order of sorts, and the greatest domains.
-use Rattle.std.proofs.Common.{◌≡◌, ℕ, List, [], ◌∷◌, refl, sym, ◌↔◌, ◌∙◌, Bool, IsTrue}
-use Rattle.pure_term.specs.Lists.{IsIn, Each, AnyOf, EachTwo}
+use Rattle.std.proofs.Common.{◌≡◌, ℕ, List, [], ◌∷◌, ◌↔◌, Bool, IsTrue}
+use Rattle.pure_term.specs.Lists.{EachTwo}
 use Rattle.pure_term.specs.Typ.{Typ, TFree, TVar, Con, Typs, none, also, typs_of}
 use Rattle.pure_term.specs.Order.{Arity, Algebra, IsClassBelow, HasClassBelow, IsSortBelow, IsOfClass, IsOfSort, AreOfSorts, IsCoregular}
-use Rattle.pure_term.proofs.ListLaws.{each_of, any_of}
-use Rattle.pure_order_tables.specs.Arities.{IsArityBelow, IsGreatest, IsGreatestIfAny}
+use Rattle.pure_term.proofs.ListLaws.{each_of}
+use Rattle.pure_order_tables.specs.Arities.{IsGreatestIfAny}
 use Rattle.pure_order_tables.specs.Checks.{IsDecided}
 use Rattle.pure_order_tables.proofs.ListMore.{any_some, any_imply, each_at}
 use Rattle.pure_order_tables.proofs.BelowLaws.{below-trans}
@@ -40,6 +40,7 @@ of_class_by_domains A k d domains g ts = rw (← g.1) (there, back)
   where
     there : IsOfClass A (Con k ts) d → AreOfSorts A ts g.0.domains
     there h = of_sorts_up A ts h.0.domains g.0.domains h.4 (g.2.above h.0 (record { declared = h.1; con = h.2; below = h.3 }))
+
     back : AreOfSorts A ts g.0.domains → IsOfClass A (Con k ts) d
     back h = (g.0, g.2.is.declared, g.2.is.con, g.2.is.below, h)
 

@@ -1,4 +1,3 @@
 pub mod DomainLaws
 pub mod FaultLaws
 pub mod ReduceLaws
-pub mod FlatLaws

@@ -1,5 +1,5 @@
 -- One turn of the loop that reduces a sort.
-use Rattle.std.proofs.Common.{◌≡◌, ℕ, ◌+◌, ◌<◌, ◌≤◌, List, [], ◌∷◌, ◌++◌, length, get_or, take, inl, inr, ◌⊎◌, ◌↔◌, arith, length-append, length-take, get_or-take, sym, ◌∙◌, refl}
+use Rattle.std.proofs.Common.{◌≡◌, ℕ, ◌+◌, ◌<◌, ◌≤◌, List, [], ◌∷◌, ◌++◌, length, get_or, take, inl, inr, ◌⊎◌, ◌↔◌, arith, length-append, length-take, get_or-take, sym, ◌∙◌}
 use Rattle.std.proofs.Math.ListN.{get_or-append}
 use Rattle.std.proofs.Math.Seq.{get_or-append_seam}
 use Rattle.std.proofs.lemmas.Grind.{get_or_default_zero}
@@ -44,18 +44,21 @@ kept_one P xs kept i r up within read p k = record {
   where
     there : (c : ℕ) → IsIn c (kept ++ r ∷ []) → IsIn c (take (i + 1) xs) × P c
     there c m = elim (in_split c kept (r ∷ []) m) [
-        | inl old ↦ (let w = (k.are c).0 old in ((in_turn c xs i r within read).1 (inl w.0), w.1))
-        | inr v ↦ elim v [ inl e ↦ ((in_turn c xs i r within read).1 (inr e), rw e p) | inr nothing ↦ absurd nothing ]
-      ]
+      | inl old ↦ (let w = (k.are c).0 old in ((in_turn c xs i r within read).1 (inl w.0), w.1))
+      | inr v ↦ elim v [ inl e ↦ ((in_turn c xs i r within read).1 (inr e), rw e p) | inr nothing ↦ absurd nothing ]
+    ]
+
     back : (c : ℕ) → IsIn c (take (i + 1) xs) × P c → IsIn c (kept ++ r ∷ [])
     back c w = elim ((in_turn c xs i r within read).0 w.0) [
-        | inl old ↦ in-append_left c kept (r ∷ []) ((k.are c).1 (old, w.1))
-        | inr e ↦ in-append_right c kept (r ∷ []) (inl e)
-      ]
+      | inl old ↦ in-append_left c kept (r ∷ []) ((k.are c).1 (old, w.1))
+      | inr e ↦ in-append_right c kept (r ∷ []) (inl e)
+    ]
 
 pub dropped_one : (P : ℕ → Type 0) (xs kept : List ℕ) (i r : ℕ) → i < length xs → r ≡ get_or xs i r → ¬ P r → AreKept P (take i xs) kept → AreKept P (take (i + 1) xs) kept
 dropped_one P xs kept i r within read not k = record {
   ascend = k.ascend;
-  are = λ c. ( λ m. (let w = (k.are c).0 m in ((in_turn c xs i r within read).1 (inl w.0), w.1)),
-               λ w. elim ((in_turn c xs i r within read).0 w.0) [ inl old ↦ (k.are c).1 (old, w.1) | inr e ↦ absurd (not (rw e at w.1)) ] );
+  are = λ c. (
+    λ m. (let w = (k.are c).0 m in ((in_turn c xs i r within read).1 (inl w.0), w.1)),
+    λ w. elim ((in_turn c xs i r within read).0 w.0) [ inl old ↦ (k.are c).1 (old, w.1) | inr e ↦ absurd (not (rw e at w.1)) ],
+  );
 }

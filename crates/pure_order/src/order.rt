@@ -111,7 +111,12 @@ impl Order {
     }
 
     /// Declares a class, with the classes declared to be above it.
-    pub fn add_class(&mut self, alloc: Global, class: Name, above: &[Name]) -> Result<(), OrderFault>
+    pub fn add_class(
+        &mut self,
+        alloc: Global,
+        class: Name,
+        above: &[Name],
+    ) -> Result<(), OrderFault>
         ensures ok { OnOk result (self.new ≡ with_class self.old (record { name = class; above = above.now })) }
         ensures new { OnOk result (Each (IsDeclared self.old.classes) above.now × (¬ IsDeclared self.old.classes class)) }
         ensures fault { IfErr result (IsClassFault self.old.classes class above.now) }
@@ -128,7 +133,13 @@ impl Order {
     }
 
     /// Declares an arity.
-    pub fn add_arity(&mut self, alloc: Global, con: Name, domains: Vec<Sort>, class: Name) -> Result<(), OrderFault>
+    pub fn add_arity(
+        &mut self,
+        alloc: Global,
+        con: Name,
+        domains: Vec<Sort>,
+        class: Name,
+    ) -> Result<(), OrderFault>
         ensures ok { OnOk result (self.new ≡ with_arity self.old (record { con = con; domains = domains.items; class = class })) }
         ensures new { OnOk result (IsKnown self.old.classes (record { con = con; domains = domains.items; class = class }) × (¬ HasArityFor self.old con class)) }
         ensures coregular { OnOk result (IsCoregular (with_arity self.old (record { con = con; domains = domains.items; class = class }))) }
@@ -144,7 +155,11 @@ impl Order {
         if self.tables.has_arity(con, class) {
             return Err(OrderFault::Duplicate);
         }
-        let arity = ArityEntry { con, domains, class };
+        let arity = ArityEntry {
+            con,
+            domains,
+            class,
+        };
         if let Some(c2) = self.tables.conflict(alloc, &arity)? {
             return Err(OrderFault::NotCoregular { con, c1: class, c2 });
         }

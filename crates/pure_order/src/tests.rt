@@ -7,9 +7,13 @@ use std::alloc::{AllocError, Global};
 use std::test::Fail;
 
 const C: Name = Name(10);
+
 const D: Name = Name(11);
+
 const E: Name = Name(12);
+
 const G: Name = Name(13);
+
 const K: Name = Name(20);
 
 fn sort(alloc: Global, class: Name) -> Result<Sort, AllocError> {
@@ -62,8 +66,14 @@ fn classes(rt: HostRuntime) -> Result<(), Fail> {
     order.add_class(alloc, C, &[])?;
     order.add_class(alloc, D, &[C])?;
     assert_eq!(rt; order.add_class(alloc, D, &[C]), Err(OrderFault::Duplicate));
-    assert_eq!(rt; order.add_class(alloc, D, &[C, G]), Err(OrderFault::UnknownClass { class: G }));
-    assert_eq!(rt; order.add_class(alloc, E, &[K, G]), Err(OrderFault::UnknownClass { class: K }));
+    assert_eq!(rt;
+        order.add_class(alloc, D, &[C, G]),
+        Err(OrderFault::UnknownClass { class: G })
+    );
+    assert_eq!(rt;
+        order.add_class(alloc, E, &[K, G]),
+        Err(OrderFault::UnknownClass { class: K })
+    );
     order.add_class(alloc, E, &[D])?;
     assert!(rt; order.below(D, C) && !order.below(C, D));
     assert!(rt; order.below(E, C) && order.below(G, G) && !order.below(G, C));
@@ -79,7 +89,11 @@ fn arities(rt: HostRuntime) -> Result<(), Fail> {
     let alloc = rt.alloc();
     let mut order = fork(alloc)?;
     add(&mut order, alloc, C, C)?;
-    let conflict = OrderFault::NotCoregular { con: K, c1: D, c2: C };
+    let conflict = OrderFault::NotCoregular {
+        con: K,
+        c1: D,
+        c2: C,
+    };
     assert_eq!(rt; add(&mut order, alloc, D, D), Err(conflict));
     assert!(rt; order.domains(K, D).is_none());
     add(&mut order, alloc, E, E)?;
@@ -107,7 +121,11 @@ fn falling(rt: HostRuntime) -> Result<(), Fail> {
     order.add_class(alloc, E, &[])?;
     order.add_class(alloc, G, &[E])?;
     add(&mut order, alloc, C, E)?;
-    let conflict = OrderFault::NotCoregular { con: K, c1: G, c2: E };
+    let conflict = OrderFault::NotCoregular {
+        con: K,
+        c1: G,
+        c2: E,
+    };
     assert_eq!(rt; add(&mut order, alloc, D, G), Err(conflict));
     assert!(rt; !order.of_sort(&applied(alloc, D)?, &sort(alloc, G)?));
     Ok(())
@@ -130,7 +148,11 @@ fn merges(rt: HostRuntime) -> Result<(), Fail> {
     let alloc = rt.alloc();
     let first = flat_order(alloc, C)?;
     let second = flat_order(alloc, D)?;
-    let conflict = OrderFault::NotCoregular { con: K, c1: E, c2: E };
+    let conflict = OrderFault::NotCoregular {
+        con: K,
+        c1: E,
+        c2: E,
+    };
     assert_eq!(rt; first.merge(alloc, &second).err(), Some(conflict));
     let same = first.merge(alloc, &first)?;
     assert!(rt; same.of_sort(&applied(alloc, C)?, &sort(alloc, E)?));

@@ -11,8 +11,8 @@ returns-then-args-domains t c = rw (← c.t.view_is, c.in-Con.is, ← c.as_slice
 pub returns-then-not-of_class : goal.returns-then-not-of_class
 returns-then-not-of_class t c = rw (← c.t.view_is, c.in-Con.is, ← c.as_slice-args.ensures.value) (con_answer c.args.self.now c.in-Con.name c.args.class c.as_slice-args.result.now c.in-Some.domains.now false c.in-Some.ensures.of_class
     (no_as _ (λ h. test_fails _ c.of_class.result c.of_class.ensures c.if-not-of_class.true
-        (each_read (IsOfClass c.args.self.now c.index-args-i.result) c.classes-lower-items.result.now c.loop-lower.lower-index c.lower-item.result c.loop-lower-test.true c.lower-item.is
-            (rw c.classes-lower-items.ensures.are (two_read (IsOfSort c.args.self.now) c.as_slice-args.result.now c.in-Some.domains.now c.loop-i.i c.index-args-i.result c.index-domains-i.result c.loop-i-test.true c.index-args-i.is c.index-domains-i.is h))))))
+    (each_read (IsOfClass c.args.self.now c.index-args-i.result) c.classes-lower-items.result.now c.loop-lower.lower-index c.lower-item.result c.loop-lower-test.true c.lower-item.is
+    (rw c.classes-lower-items.ensures.are (two_read (IsOfSort c.args.self.now) c.as_slice-args.result.now c.in-Some.domains.now c.loop-i.i c.index-args-i.result c.index-domains-i.result c.loop-i-test.true c.index-args-i.is c.index-domains-i.is h))))))
 
 pub loop-i-preserved : goal.loop-i-preserved
 loop-i-preserved t c = two_turn (IsOfSort c.args.self.now) c.as_slice-args.result.now c.in-Some.domains.now c.loop-i.i c.index-args-i.result c.index-domains-i.result c.if-args-domains.false c.loop-i-test.true c.index-args-i.is c.index-domains-i.is c.loop-i.invariant

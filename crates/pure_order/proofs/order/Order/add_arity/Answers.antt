@@ -10,8 +10,13 @@ pub returns-then-has_arity-clause-fault : goal.returns-then-has_arity-clause-fau
 returns-then-has_arity-clause-fault c = rw (← c.self.view_is) (known_arity c.self.inside.tables.classes c.args.con c.args.class c.args.domains.items c.as_slice.result.now c.as_slice.ensures.value c.in_default.ensures (c.is_declared.ensures.0 c.if-not-is_declared.false), c.has_arity.ensures.0 c.if-has_arity.true)
 
 pub returns-in-Some-2-clause-fault : goal.returns-in-Some-2-clause-fault
-returns-in-Some-2-clause-fault c = rw (← c.self.view_is) ( known_arity c.self.inside.tables.classes c.args.con c.args.class c.args.domains.items c.as_slice.result.now c.as_slice.ensures.value c.in_default.ensures (c.is_declared.ensures.0 c.if-not-is_declared.false),
-    test_fails _ c.has_arity.result c.has_arity.ensures c.if-has_arity.false, refl, refl, rw c.in-Some-2.is at c.in_ok-c2.ensures )
+returns-in-Some-2-clause-fault c = rw (← c.self.view_is) (
+  known_arity c.self.inside.tables.classes c.args.con c.args.class c.args.domains.items c.as_slice.result.now c.as_slice.ensures.value c.in_default.ensures (c.is_declared.ensures.0 c.if-not-is_declared.false),
+  test_fails _ c.has_arity.result c.has_arity.ensures c.if-has_arity.false,
+  refl,
+  refl,
+  rw c.in-Some-2.is at c.in_ok-c2.ensures,
+)
 
 pub returns-clause-new : goal.returns-clause-new
 returns-clause-new c = rw (← c.self.view_is) (known_arity c.self.inside.tables.classes c.args.con c.args.class c.args.domains.items c.as_slice.result.now c.as_slice.ensures.value c.in_default.ensures (c.is_declared.ensures.0 c.if-not-is_declared.false), test_fails _ c.has_arity.result c.has_arity.ensures c.if-has_arity.false)

@@ -8,6 +8,6 @@ returns-then-is_other_below c = yes_as _ (any_read (λ b. (¬ (b ≡ c.args.clas
 
 pub loop-other-preserved : goal.loop-other-preserved
 loop-other-preserved c m = elim ((any_turn (λ (b : ℕ). (¬ (b ≡ c.args.class)) × IsClassBelow c.args.self.now b c.args.class) c.args.classes.now c.loop-other.other-index c.other-item.result c.loop-other-test.true c.other-item.is).0 m) [
-    | inl before ↦ c.loop-other.invariant before
-    | inr here ↦ test_fails _ c.is_other_below.result c.is_other_below.ensures c.if-is_other_below.false here
-  ]
+  | inl before ↦ c.loop-other.invariant before
+  | inr here ↦ test_fails _ c.is_other_below.result c.is_other_below.ensures c.if-is_other_below.false here
+]

@@ -1,17 +1,17 @@
-use Rattle.std.proofs.Common.{take_all, take}
+use Rattle.std.proofs.Common.{take_all}
 use Rattle.pure_order_tables.proofs.ListMore.{test_fails}
 use Rattle.pure_order.specs.Domains.{IsAboveAnother}
-use Rattle.pure_order.proofs.ReduceLaws.{AreKept, kept_one, dropped_one}
+use Rattle.pure_order.proofs.ReduceLaws.{kept_one, dropped_one}
 use Rattle.pure_order.proofs.order.Order.reduce.Goals as goal
 use Rattle.pure_order.proofs.order.Order.reduce.Goals.{then-not-is_above_another+in_ok-push, else-not-is_above_another}
 
 pub loop-class-preserved : goal.loop-class-preserved
 loop-class-preserved c = elim c.if-not-is_above_another.branch [
-    | then-not-is_above_another+in_ok-push w ↦ rw (w.classes-is, w.in_ok-push.ensures.items) (kept_one (λ c'. ¬ IsAboveAnother c.args.self.now c.args.s.now c') c.classes-class-items.result.now c.loop-class.classes.items c.loop-class.class-index c.class-item.result (rw c.classes-class-items.ensures.are c.classes-class-items.ensures.ascend) c.loop-class-test.true c.class-item.is
-        (rw c.classes.ensures.are at (test_fails _ c.is_above_another.result c.is_above_another.ensures w.if-not-is_above_another.true)) c.loop-class.invariant)
-    | else-not-is_above_another w ↦ rw w.classes-is (dropped_one (λ c'. ¬ IsAboveAnother c.args.self.now c.args.s.now c') c.classes-class-items.result.now c.loop-class.classes.items c.loop-class.class-index c.class-item.result c.loop-class-test.true c.class-item.is
-        (λ n. n (rw c.classes.ensures.are at (c.is_above_another.ensures.0 w.if-not-is_above_another.false))) c.loop-class.invariant)
-  ]
+  | then-not-is_above_another+in_ok-push w ↦ rw (w.classes-is, w.in_ok-push.ensures.items) (kept_one (λ c'. ¬ IsAboveAnother c.args.self.now c.args.s.now c') c.classes-class-items.result.now c.loop-class.classes.items c.loop-class.class-index c.class-item.result (rw c.classes-class-items.ensures.are c.classes-class-items.ensures.ascend) c.loop-class-test.true c.class-item.is
+      (rw c.classes.ensures.are at (test_fails _ c.is_above_another.result c.is_above_another.ensures w.if-not-is_above_another.true)) c.loop-class.invariant)
+  | else-not-is_above_another w ↦ rw w.classes-is (dropped_one (λ c'. ¬ IsAboveAnother c.args.self.now c.args.s.now c') c.classes-class-items.result.now c.loop-class.classes.items c.loop-class.class-index c.class-item.result c.loop-class-test.true c.class-item.is
+      (λ n. n (rw c.classes.ensures.are at (c.is_above_another.ensures.0 w.if-not-is_above_another.false))) c.loop-class.invariant)
+]
 
 pub returns : goal.returns
 returns c =
