@@ -11,8 +11,6 @@ mod name;
 mod names;
 mod sort;
 mod term;
-#[cfg(test)]
-mod tests;
 mod text;
 mod typ;
 mod typing;

@@ -1,0 +1,9 @@
+//! The calls on terms against answers that were written by hand.
+#![tactic(auto)]
+
+#[cfg(test)]
+mod asked;
+#[cfg(test)]
+mod calls;
+#[cfg(test)]
+mod notation;
