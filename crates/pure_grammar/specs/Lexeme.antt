@@ -40,14 +40,21 @@ kind_of Ends = kind.End
 abbrev pub same : List ℕ → List ℕ → Bool
 same = pointwise nat_eq
 
--- the keyword of these bytes
-unfoldable pub word_lexeme : List ℕ → Lexeme
-word_lexeme bs =
-    if same bs (codes "theory") then Reserved keyword.Theory
-    else (if same bs (codes "imports") then Reserved keyword.Imports
-    else (if same bs (codes "begin") then Reserved keyword.Begin
-    else (if same bs (codes "end") then Reserved keyword.End
-    else (if same bs (codes "class") then Reserved keyword.Class
+-- the keyword of a proof that these bytes are
+unfoldable pub proof_lexeme : List ℕ → Lexeme
+proof_lexeme bs =
+    if same bs (codes "apply") then Reserved keyword.Apply
+    else (if same bs (codes "done") then Reserved keyword.Done
+    else (if same bs (codes "by") then Reserved keyword.By
+    else (if same bs (codes "prefer") then Reserved keyword.Prefer
+    else (if same bs (codes "defer") then Reserved keyword.Defer
+    else (if same bs (codes "have") then Reserved keyword.Have
+    else Other kind.Word)))))
+
+-- the keyword of a command or a proof that these bytes are
+unfoldable pub command_lexeme : List ℕ → Lexeme
+command_lexeme bs =
+    if same bs (codes "class") then Reserved keyword.Class
     else (if same bs (codes "typedecl") then Reserved keyword.Typedecl
     else (if same bs (codes "arities") then Reserved keyword.Arities
     else (if same bs (codes "consts") then Reserved keyword.Consts
@@ -57,14 +64,17 @@ word_lexeme bs =
     else (if same bs (codes "definition") then Reserved keyword.Definition
     else (if same bs (codes "lemma") then Reserved keyword.Lemma
     else (if same bs (codes "theorem") then Reserved keyword.Theorem
-    else (if same bs (codes "apply") then Reserved keyword.Apply
-    else (if same bs (codes "done") then Reserved keyword.Done
-    else (if same bs (codes "by") then Reserved keyword.By
-    else (if same bs (codes "prefer") then Reserved keyword.Prefer
-    else (if same bs (codes "defer") then Reserved keyword.Defer
-    else (if same bs (codes "have") then Reserved keyword.Have
+    else proof_lexeme bs)))))))))
+
+-- the keyword of these bytes
+unfoldable pub word_lexeme : List ℕ → Lexeme
+word_lexeme bs =
+    if same bs (codes "theory") then Reserved keyword.Theory
+    else (if same bs (codes "imports") then Reserved keyword.Imports
+    else (if same bs (codes "begin") then Reserved keyword.Begin
+    else (if same bs (codes "end") then Reserved keyword.End
     else (if same bs (codes "version") then Reserved keyword.Version
-    else Other kind.Word))))))))))))))))))))
+    else command_lexeme bs))))
 
 -- the sign of these bytes
 unfoldable pub symbol_lexeme : List ℕ → Lexeme

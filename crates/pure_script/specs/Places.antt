@@ -74,8 +74,8 @@ seen_place (AfterClassName x0) = spec.AfterClassName x0
 seen_place (AtAbove x0) = spec.AtAbove x0
 seen_place (AfterAbove x0 x1) = spec.AfterAbove x0 x1.items
 seen_place AtParams = spec.AtParams
-seen_place (AtParam x0) = spec.AtParam x0.items
-seen_place (AfterParam x0) = spec.AfterParam x0.items
+seen_place (AtParam x0) = spec.AtParam x0
+seen_place (AfterParam x0) = spec.AfterParam x0
 seen_place (AtTypeName x0) = spec.AtTypeName x0
 seen_place AtConstructor = spec.AtConstructor
 seen_place (AfterConstructor x0) = spec.AfterConstructor x0
@@ -103,7 +103,7 @@ seen_place (AtDefinitionText x0 x1) = spec.AtDefinitionText x0 (span x1)
 seen_place AtLemma = spec.AtLemma
 seen_place (AfterLemma x0) = spec.AfterLemma x0
 seen_place (AtLemmaText x0) = spec.AtLemmaText x0
-seen_place (InProof x0 x1 x2 x3) = spec.InProof x0 (span x1) (seen_steps x2.items) (seen_proof_place x3)
+seen_place (InProof goal place) = spec.InProof goal.name (span goal.prop) (seen_steps goal.script.items) (seen_proof_place place)
 
 abbrev pub seen_begun : Option Place → Option spec.Place
 seen_begun None = None

@@ -8,7 +8,7 @@ use Rattle.pure_script.specs.declared.state.State.{State}
 use Rattle.pure_script.specs.declared.state.State.TheVariants.{AtStart, AtTheoryName, AfterTheoryName, AtImport, AfterImport, InBody}
 
 abbrev pub seen_header : Header → spec.Header
-seen_header h = record { name = h.name; imports = h.imports.items }
+seen_header h = record { name = h.name; imports = h.imports }
 
 abbrev pub seen_state : State → spec.State
 seen_state AtStart = spec.AtStart

@@ -22,6 +22,13 @@ pub(crate) fn at_constructor(alloc: Global, lexeme: Lexeme<'_>) -> Result<Turn, 
     }
 }
 
+pub(crate) fn after_constructor(con: Text, lexeme: Lexeme<'_>) -> Turn
+    ensures { seen_turn result ≡ spec.turn (spec.AfterConstructor con) (seen_lexeme lexeme.entry) }
+{
+    let so = is_sign(Sign::DoubleColon, lexeme);
+    moves_if(so, Place::AtDomains { con })
+}
+
 pub(crate) fn at_arity_class(
     alloc: Global,
     con: Text,

@@ -4,10 +4,10 @@ ghost use Rattle.pure_grammar.specs.Reader as spec;
 ghost use Rattle.pure_script.specs.Seen.{seen_lexeme, span};
 ghost use Rattle.pure_script.specs.Places.{seen_turn};
 
-use crate::lexeme::{Lexeme, is_word, quote_in, type_in};
-use crate::place::{Place, Turn, command_begun, ident, leave};
+use crate::lexeme::{Lexeme, is_sign, is_word, quote_in, type_in};
+use crate::place::{Place, Turn, command_begun, ident, leave, moves_if};
 use crate::theory::{Command, Span};
-use pure_grammar::Keyword;
+use pure_grammar::{Keyword, Sign};
 use pure_term::Text;
 use std::alloc::{AllocError, Global};
 
@@ -20,6 +20,13 @@ pub(crate) fn at_item(alloc: Global, lexeme: Lexeme<'_>) -> Result<Turn, AllocEr
             place: Place::AfterItem { name },
         }),
     }
+}
+
+pub(crate) fn after_item(name: Text, lexeme: Lexeme<'_>) -> Turn
+    ensures { seen_turn result ≡ spec.turn (spec.AfterItem name) (seen_lexeme lexeme.entry) }
+{
+    let so = is_sign(Sign::DoubleColon, lexeme);
+    moves_if(so, Place::AtItemType { name })
 }
 
 pub(crate) fn at_item_type(name: Text, lexeme: Lexeme<'_>) -> Turn
@@ -45,6 +52,13 @@ pub(crate) fn after_item_type(alloc: Global, lexeme: Lexeme<'_>) -> Result<Turn,
     }
 }
 
+pub(crate) fn at_where(lexeme: Lexeme<'_>) -> Turn
+    ensures { seen_turn result ≡ spec.turn spec.AtWhere (seen_lexeme lexeme.entry) }
+{
+    let so = is_word(Keyword::Where, lexeme);
+    moves_if(so, Place::AtAxiom)
+}
+
 pub(crate) fn at_axiom(alloc: Global, lexeme: Lexeme<'_>) -> Result<Turn, AllocError>
     ensures { IfOk result (λ turn. seen_turn turn ≡ spec.turn spec.AtAxiom (seen_lexeme lexeme.entry)) }
 {
@@ -54,6 +68,13 @@ pub(crate) fn at_axiom(alloc: Global, lexeme: Lexeme<'_>) -> Result<Turn, AllocE
             place: Place::AfterAxiom { name },
         }),
     }
+}
+
+pub(crate) fn after_axiom(name: Text, lexeme: Lexeme<'_>) -> Turn
+    ensures { seen_turn result ≡ spec.turn (spec.AfterAxiom name) (seen_lexeme lexeme.entry) }
+{
+    let so = is_sign(Sign::Colon, lexeme);
+    moves_if(so, Place::AtAxiomText { name })
 }
 
 pub(crate) fn at_axiom_text(name: Text, lexeme: Lexeme<'_>) -> Turn
@@ -90,6 +111,13 @@ pub(crate) fn at_definition(alloc: Global, lexeme: Lexeme<'_>) -> Result<Turn, A
     }
 }
 
+pub(crate) fn after_definition(name: Text, lexeme: Lexeme<'_>) -> Turn
+    ensures { seen_turn result ≡ spec.turn (spec.AfterDefinition name) (seen_lexeme lexeme.entry) }
+{
+    let so = is_sign(Sign::DoubleColon, lexeme);
+    moves_if(so, Place::AtDefinitionType { name })
+}
+
 pub(crate) fn at_definition_type(name: Text, lexeme: Lexeme<'_>) -> Turn
     ensures { seen_turn result ≡ spec.turn (spec.AtDefinitionType name) (seen_lexeme lexeme.entry) }
 {
@@ -99,6 +127,13 @@ pub(crate) fn at_definition_type(name: Text, lexeme: Lexeme<'_>) -> Turn
             place: Place::AfterDefinitionType { name, typ },
         },
     }
+}
+
+pub(crate) fn after_definition_type(name: Text, typ: Span, lexeme: Lexeme<'_>) -> Turn
+    ensures { seen_turn result ≡ spec.turn (spec.AfterDefinitionType name (span typ)) (seen_lexeme lexeme.entry) }
+{
+    let so = is_word(Keyword::Where, lexeme);
+    moves_if(so, Place::AtDefinitionText { name, typ })
 }
 
 pub(crate) fn at_definition_text(name: Text, typ: Span, lexeme: Lexeme<'_>) -> Turn

@@ -256,109 +256,96 @@ fn symbol_lexeme<'s>(text: &'s [u8]) -> Lexeme<'s>
     }
 }
 
+/// The token of a keyword.
+fn reserved<'s>(word: Keyword) -> Lexeme<'s>
+    ensures { seen_lexeme result ≡ spec.Reserved word }
+{
+    Lexeme::Reserved { word }
+}
+
 /// The keyword of these bytes.
 #[tactic(auto, unfolding(pure_grammar::specs::Lexeme::word_lexeme))]
 fn word_lexeme<'s>(text: &'s [u8]) -> Lexeme<'s>
     ensures { seen_lexeme result ≡ spec.word_lexeme text.now }
 {
     if equals(text, b"theory") {
-        return Lexeme::Reserved {
-            word: Keyword::Theory,
-        };
+        return reserved(Keyword::Theory);
     }
     if equals(text, b"imports") {
-        return Lexeme::Reserved {
-            word: Keyword::Imports,
-        };
+        return reserved(Keyword::Imports);
     }
     if equals(text, b"begin") {
-        return Lexeme::Reserved {
-            word: Keyword::Begin,
-        };
+        return reserved(Keyword::Begin);
     }
     if equals(text, b"end") {
-        return Lexeme::Reserved { word: Keyword::End };
-    }
-    if equals(text, b"class") {
-        return Lexeme::Reserved {
-            word: Keyword::Class,
-        };
-    }
-    if equals(text, b"typedecl") {
-        return Lexeme::Reserved {
-            word: Keyword::Typedecl,
-        };
-    }
-    if equals(text, b"arities") {
-        return Lexeme::Reserved {
-            word: Keyword::Arities,
-        };
-    }
-    if equals(text, b"consts") {
-        return Lexeme::Reserved {
-            word: Keyword::Consts,
-        };
-    }
-    if equals(text, b"axiomatization") {
-        return Lexeme::Reserved {
-            word: Keyword::Axiomatization,
-        };
-    }
-    if equals(text, b"where") {
-        return Lexeme::Reserved {
-            word: Keyword::Where,
-        };
-    }
-    if equals(text, b"and") {
-        return Lexeme::Reserved { word: Keyword::And };
-    }
-    if equals(text, b"definition") {
-        return Lexeme::Reserved {
-            word: Keyword::Definition,
-        };
-    }
-    if equals(text, b"lemma") {
-        return Lexeme::Reserved {
-            word: Keyword::Lemma,
-        };
-    }
-    if equals(text, b"theorem") {
-        return Lexeme::Reserved {
-            word: Keyword::Theorem,
-        };
-    }
-    if equals(text, b"apply") {
-        return Lexeme::Reserved {
-            word: Keyword::Apply,
-        };
-    }
-    if equals(text, b"done") {
-        return Lexeme::Reserved {
-            word: Keyword::Done,
-        };
-    }
-    if equals(text, b"by") {
-        return Lexeme::Reserved { word: Keyword::By };
-    }
-    if equals(text, b"prefer") {
-        return Lexeme::Reserved {
-            word: Keyword::Prefer,
-        };
-    }
-    if equals(text, b"defer") {
-        return Lexeme::Reserved {
-            word: Keyword::Defer,
-        };
-    }
-    if equals(text, b"have") {
-        return Lexeme::Reserved {
-            word: Keyword::Have,
-        };
+        return reserved(Keyword::End);
     }
     if equals(text, b"version") {
-        return Lexeme::Reserved {
-            word: Keyword::Version,
-        };
+        return reserved(Keyword::Version);
+    }
+    command_lexeme(text)
+}
+
+/// The keyword of a command or a proof that these bytes are.
+#[tactic(auto, unfolding(pure_grammar::specs::Lexeme::command_lexeme))]
+fn command_lexeme<'s>(text: &'s [u8]) -> Lexeme<'s>
+    ensures { seen_lexeme result ≡ spec.command_lexeme text.now }
+{
+    if equals(text, b"class") {
+        return reserved(Keyword::Class);
+    }
+    if equals(text, b"typedecl") {
+        return reserved(Keyword::Typedecl);
+    }
+    if equals(text, b"arities") {
+        return reserved(Keyword::Arities);
+    }
+    if equals(text, b"consts") {
+        return reserved(Keyword::Consts);
+    }
+    if equals(text, b"axiomatization") {
+        return reserved(Keyword::Axiomatization);
+    }
+    if equals(text, b"where") {
+        return reserved(Keyword::Where);
+    }
+    if equals(text, b"and") {
+        return reserved(Keyword::And);
+    }
+    if equals(text, b"definition") {
+        return reserved(Keyword::Definition);
+    }
+    if equals(text, b"lemma") {
+        return reserved(Keyword::Lemma);
+    }
+    if equals(text, b"theorem") {
+        return reserved(Keyword::Theorem);
+    }
+    proof_lexeme(text)
+}
+
+/// The keyword of a proof that these bytes are.
+#[tactic(auto, unfolding(pure_grammar::specs::Lexeme::proof_lexeme))]
+fn proof_lexeme<'s>(text: &'s [u8]) -> Lexeme<'s>
+    ensures { seen_lexeme result ≡ spec.proof_lexeme text.now }
+{
+    if equals(text, b"apply") {
+        return reserved(Keyword::Apply);
+    }
+    if equals(text, b"done") {
+        return reserved(Keyword::Done);
+    }
+    if equals(text, b"by") {
+        return reserved(Keyword::By);
+    }
+    if equals(text, b"prefer") {
+        return reserved(Keyword::Prefer);
+    }
+    if equals(text, b"defer") {
+        return reserved(Keyword::Defer);
+    }
+    if equals(text, b"have") {
+        return reserved(Keyword::Have);
     }
     Lexeme::Other {
         kind: TokenKind::Word,

@@ -10,6 +10,7 @@ mod place;
 mod proof;
 mod read;
 mod state;
+mod texts;
 mod theory;
 mod turn;
 mod typedecl;

@@ -6,6 +6,7 @@ ghost use Rattle.pure_script.specs.Seen.{seen_lexeme};
 ghost use Rattle.pure_script.specs.Places.{seen_place, seen_begun, seen_turn, seen_command};
 
 use crate::lexeme::{Lexeme, ident_in, is_word, name_in, variable_in};
+use crate::texts::Texts;
 use crate::theory::{Command, Span, Step};
 use pure_grammar::Keyword;
 use pure_term::Text;
@@ -32,6 +33,14 @@ pub(crate) enum ProofPlace {
     AfterUnfolded { last: bool, facts: Vec<Text> },
 }
 
+/// A lemma with the steps of its proof so far.
+#[derive(Drop)]
+pub(crate) struct Goal {
+    pub(crate) name: Text,
+    pub(crate) prop: Span,
+    pub(crate) script: Vec<Step>,
+}
+
 /// A place among the commands, with what was read of the current one.
 #[derive(Drop)]
 pub(crate) enum Place {
@@ -50,10 +59,10 @@ pub(crate) enum Place {
     },
     AtParams,
     AtParam {
-        params: Vec<Text>,
+        params: Texts,
     },
     AfterParam {
-        params: Vec<Text>,
+        params: Texts,
     },
     AtTypeName {
         params: u32,
@@ -131,9 +140,7 @@ pub(crate) enum Place {
         name: Text,
     },
     InProof {
-        name: Text,
-        prop: Span,
-        script: Vec<Step>,
+        goal: Goal,
         place: ProofPlace,
     },
 }

@@ -6,7 +6,7 @@ ghost use Rattle.pure_script.specs.Seen.{seen_lexeme, span};
 ghost use Rattle.pure_script.specs.Places.{seen_turn, seen_step, seen_steps, seen_method, seen_proof_place};
 
 use crate::lexeme::{Lexeme, is_ident, is_sign, is_word, number_in, quote_in};
-use crate::place::{FactMethod, Place, ProofPlace, Turn, ident, name};
+use crate::place::{FactMethod, Goal, Place, ProofPlace, Turn, ident, moves_if, name};
 use crate::theory::{Command, Span, Step};
 use pure_grammar::{Keyword, Sign};
 use pure_term::Text;
@@ -23,6 +23,13 @@ pub(crate) fn at_lemma(alloc: Global, lexeme: Lexeme<'_>) -> Result<Turn, AllocE
     }
 }
 
+pub(crate) fn after_lemma(name: Text, lexeme: Lexeme<'_>) -> Turn
+    ensures { seen_turn result ≡ spec.turn (spec.AfterLemma name) (seen_lexeme lexeme.entry) }
+{
+    let colon = is_sign(Sign::Colon, lexeme);
+    moves_if(colon, Place::AtLemmaText { name })
+}
+
 pub(crate) fn at_lemma_text(alloc: Global, name: Text, lexeme: Lexeme<'_>) -> Turn
     ensures { seen_turn result ≡ spec.turn (spec.AtLemmaText name) (seen_lexeme lexeme.entry) }
 {
@@ -30,24 +37,10 @@ pub(crate) fn at_lemma_text(alloc: Global, name: Text, lexeme: Lexeme<'_>) -> Tu
         None => Turn::Refuses,
         Some(prop) => {
             let script = Vec::new(alloc);
-            Turn::Moves {
-                place: Place::InProof {
-                    name,
-                    prop,
-                    script,
-                    place: ProofPlace::AtStep,
-                },
-            }
+            let goal = Goal { name, prop, script };
+            in_proof(goal, ProofPlace::AtStep)
         }
     }
-}
-
-/// A lemma with the steps of its proof so far.
-#[derive(Drop)]
-pub(crate) struct Goal {
-    pub(crate) name: Text,
-    pub(crate) prop: Span,
-    pub(crate) script: Vec<Step>,
 }
 
 /// The steps with one more.
@@ -63,12 +56,7 @@ fn in_proof(goal: Goal, place: ProofPlace) -> Turn
     ensures { seen_turn result ≡ spec.Moves (spec.InProof goal.name (span goal.prop) (seen_steps goal.script.items) (seen_proof_place place)) }
 {
     Turn::Moves {
-        place: Place::InProof {
-            name: goal.name,
-            prop: goal.prop,
-            script: goal.script,
-            place,
-        },
+        place: Place::InProof { goal, place },
     }
 }
 

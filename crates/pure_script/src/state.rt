@@ -9,9 +9,9 @@ ghost use Rattle.pure_script.specs.States.{seen_state, seen_next, seen_header, s
 
 use crate::lexeme::{Lexeme, is_word};
 use crate::place::{Place, ProofPlace, Turn, ident};
+use crate::texts::Texts;
 use crate::theory::{Command, TheoryText};
 use crate::turn::turn;
-use crate::typedecl::is_among;
 use pure_grammar::{Keyword, TokenKind};
 use pure_term::Text;
 use std::alloc::{AllocError, Global};
@@ -20,7 +20,7 @@ use std::alloc::{AllocError, Global};
 #[derive(Drop)]
 pub(crate) struct Header {
     pub(crate) name: Text,
-    pub(crate) imports: Vec<Text>,
+    pub(crate) imports: Texts,
 }
 
 /// A place in the text, with what was read before it.
@@ -56,23 +56,19 @@ fn body_begun(alloc: Global, header: Header) -> State
 }
 
 /// The list of one text.
-fn only(alloc: Global, text: Text) -> Result<Vec<Text>, AllocError>
-    ensures { IfOk result (λ texts. texts.items ≡ text ∷ []) }
+fn only(alloc: Global, text: Text) -> Result<Texts, AllocError>
+    ensures { IfOk result (λ texts. texts ≡ text ∷ []) }
 {
-    let mut texts = Vec::new(alloc);
-    texts.push(text)?;
+    let (_, texts) = Texts::none(alloc).with(alloc, text)?;
     Ok(texts)
 }
 
 /// The imports with one more, unless it is there.
-fn with_import(imports: Vec<Text>, theory: Text) -> Result<Vec<Text>, AllocError>
-    ensures { IfOk result (λ all. all.items ≡ with_text imports.items theory) }
+fn with_import(alloc: Global, imports: Texts, theory: Text) -> Result<Texts, AllocError>
+    ensures { IfOk result (λ all. all ≡ with_text imports theory) }
 {
-    let mut imports = imports;
-    if !is_among(&theory, &imports) {
-        imports.push(theory)?;
-    }
-    Ok(imports)
+    let (_, all) = imports.with(alloc, theory)?;
+    Ok(all)
 }
 
 fn at_theory_name(alloc: Global, lexeme: Lexeme<'_>) -> Result<Option<State>, AllocError>
@@ -123,7 +119,7 @@ fn after_import(
 {
     match ident(alloc, lexeme)? {
         Some(theory) => {
-            let imports = with_import(header.imports, theory)?;
+            let imports = with_import(alloc, header.imports, theory)?;
             let header = Header {
                 name: header.name,
                 imports,
@@ -236,7 +232,7 @@ pub(crate) fn ended(state: State) -> Option<TheoryText>
             if is_after_end(&place) {
                 return Some(TheoryText {
                     name: header.name,
-                    imports: header.imports,
+                    imports: header.imports.into_list(),
                     commands,
                 });
             }

@@ -1,11 +1,14 @@
 //! The trees of theories, and the places of their faults, by hand from the rules.
 
 use super::*;
+use crate::tests::rows::{CHANGES, Change, FURTHER, WORKED};
 use pure_lex::tokens;
 use pure_term::Text;
 use std::alloc::Global;
 use std::process::Abort;
 use std::test::Fail;
+
+mod rows;
 
 // Each row is a source, and its tree or where its first fault stands and what may stand there. A range of the source
 // is shown by its bytes.
@@ -379,22 +382,66 @@ fn check_rows<R: Abort + AllocGlobal>(rt: &R, rows: &[(&[u8], &[u8])]) -> Result
     Ok(())
 }
 
-/// Each cut of the long text ends too soon, at its end.
-fn check_cuts<R: Abort + AllocGlobal>(rt: &R) -> Result<(), Fail> {
-    let Ok(found) = tokens(rt.alloc(), LONG, 0, LONG.len() as u32) else {
-        assert!(rt; false);
-        return Ok(());
-    };
-    for token in &found {
-        let cut = LONG.get(..token.to as usize).unwrap_or(LONG);
-        if cut.len() < LONG.len() {
-            let alloc = rt.alloc();
-            let at = token.to;
-            let text = shown(alloc, cut)?;
-            let wanted = format!(in alloc; "at {at} ")?;
-            assert!(rt; text.as_slice().starts_with(wanted.as_bytes()));
+/// The long text with the change at this range.
+fn changed(alloc: Global, from: usize, to: usize, change: &Change) -> Result<Vec<u8>, Fail> {
+    let mut text = Vec::new(alloc);
+    text.extend_from_slice(LONG.get(..from).unwrap_or(LONG))?;
+    for _ in 0..change.times {
+        text.extend_from_slice(LONG.get(from..to).unwrap_or(LONG))?;
+        text.push(b' ')?;
+    }
+    text.extend_from_slice(change.put)?;
+    if change.goes_on {
+        text.extend_from_slice(LONG.get(to..).unwrap_or(LONG))?;
+    }
+    Ok(text)
+}
+
+/// What the text is: a theory, or the place of its fault and the first letter of the kind that is expected there.
+fn say_outcome(alloc: Global, said: &mut Vec<u8>, source: &[u8]) -> Result<(), Fail> {
+    let text = shown(alloc, source)?;
+    match text.strip_prefix(b"at ") {
+        None => say(said, "ok ")?,
+        Some(place) => {
+            let digits = place.iter().position(|b| *b == b' ').unwrap_or(0);
+            said.extend_from_slice(place.get(..digits).unwrap_or(b""))?;
+            said.push(place.get(digits + 1).copied().unwrap_or(b'?'))?;
+            said.push(b' ')?;
         }
     }
+    Ok(())
+}
+
+/// What the change of each token of the long text makes of it.
+fn check_changes<R: Abort + AllocGlobal>(rt: &R) -> Result<(), Fail> {
+    let found = tokens(rt.alloc(), LONG, 0, LONG.len() as u32)
+        .ok()
+        .ok_or("no tokens")?;
+    for (change, wanted) in &CHANGES {
+        let mut said = Vec::new(rt.alloc());
+        for token in &found {
+            let text = changed(rt.alloc(), token.from as usize, token.to as usize, change)?;
+            say_outcome(rt.alloc(), &mut said, &text)?;
+        }
+        assert_eq!(rt; said.as_slice(), *wanted);
+    }
+    Ok(())
+}
+
+/// A theory of many commands has them all.
+fn check_many<R: Abort + AllocGlobal>(rt: &R, count: u32) -> Result<(), Fail> {
+    let alloc = rt.alloc();
+    let mut source = Vec::new(alloc);
+    let mut wanted = Vec::new(alloc);
+    say(&mut source, "theory A begin")?;
+    say(&mut wanted, "A: Pure;")?;
+    for i in 0..count {
+        say(&mut source, &format!(in alloc; " class c{i}")?)?;
+        say(&mut wanted, &format!(in alloc; " class c{i} <;")?)?;
+    }
+    say(&mut source, " end")?;
+    let found = shown(alloc, &source)?;
+    assert_eq!(rt; found, wanted);
     Ok(())
 }
 
@@ -403,5 +450,9 @@ fn theories_have_their_trees(rt: HostRuntime) -> Result<(), Fail> {
     check_rows(&rt, &TREES)?;
     check_rows(&rt, &FIRST_FAULTS)?;
     check_rows(&rt, &LATER_FAULTS)?;
-    check_cuts(&rt)
+    check_rows(&rt, &WORKED)?;
+    check_rows(&rt, &FURTHER)?;
+    check_many(&rt, 512)?;
+    check_many(&rt, 513)?;
+    check_changes(&rt)
 }

@@ -4,11 +4,9 @@ ghost use Rattle.pure_grammar.specs.Reader as spec;
 ghost use Rattle.pure_script.specs.Seen.{seen_lexeme};
 ghost use Rattle.pure_script.specs.Places.{seen_place, seen_turn};
 
-use crate::lexeme::{Lexeme, is_sign, is_word};
-use crate::place::{Place, Turn, command_begun, leave, moves_if};
-use crate::proof::Goal;
+use crate::lexeme::Lexeme;
+use crate::place::{Place, Turn, command_begun, leave};
 use crate::{arity, class, item, proof, typedecl};
-use pure_grammar::{Keyword, Sign};
 use std::alloc::{AllocError, Global};
 
 /// Where the token leads to from the place.
@@ -27,10 +25,7 @@ pub(crate) fn turn(alloc: Global, place: Place, l: Lexeme<'_>) -> Result<Turn, A
         Place::AfterParam { params } => typedecl::after_param(params, l),
         Place::AtTypeName { params } => typedecl::at_type_name(alloc, params, l),
         Place::AtConstructor => arity::at_constructor(alloc, l),
-        Place::AfterConstructor { con } => {
-            let colons = is_sign(Sign::DoubleColon, l);
-            Ok(moves_if(colons, Place::AtDomains { con }))
-        }
+        Place::AfterConstructor { con } => Ok(arity::after_constructor(con, l)),
         Place::AtDomains { con } => arity::at_domains(alloc, con, l),
         Place::AtSort { con, doms } => arity::at_sort(alloc, con, doms, l),
         Place::AfterSort { con, doms } => Ok(arity::after_sort(con, doms, l)),
@@ -39,45 +34,22 @@ pub(crate) fn turn(alloc: Global, place: Place, l: Lexeme<'_>) -> Result<Turn, A
         Place::AfterClass { con, doms, sort } => arity::after_class(con, doms, sort, l),
         Place::AtArityClass { con, doms } => arity::at_arity_class(alloc, con, doms, l),
         Place::AtItem => item::at_item(alloc, l),
-        Place::AfterItem { name } => {
-            let colons = is_sign(Sign::DoubleColon, l);
-            Ok(moves_if(colons, Place::AtItemType { name }))
-        }
+        Place::AfterItem { name } => Ok(item::after_item(name, l)),
         Place::AtItemType { name } => Ok(item::at_item_type(name, l)),
         Place::AfterItemType => item::after_item_type(alloc, l),
-        Place::AtWhere => Ok(moves_if(is_word(Keyword::Where, l), Place::AtAxiom)),
+        Place::AtWhere => Ok(item::at_where(l)),
         Place::AtAxiom => item::at_axiom(alloc, l),
-        Place::AfterAxiom { name } => {
-            let colon = is_sign(Sign::Colon, l);
-            Ok(moves_if(colon, Place::AtAxiomText { name }))
-        }
+        Place::AfterAxiom { name } => Ok(item::after_axiom(name, l)),
         Place::AtAxiomText { name } => Ok(item::at_axiom_text(name, l)),
         Place::AfterAxiomText => Ok(item::after_axiom_text(l)),
         Place::AtDefinition => item::at_definition(alloc, l),
-        Place::AfterDefinition { name } => {
-            let colons = is_sign(Sign::DoubleColon, l);
-            Ok(moves_if(colons, Place::AtDefinitionType { name }))
-        }
+        Place::AfterDefinition { name } => Ok(item::after_definition(name, l)),
         Place::AtDefinitionType { name } => Ok(item::at_definition_type(name, l)),
-        Place::AfterDefinitionType { name, typ } => {
-            let so = is_word(Keyword::Where, l);
-            Ok(moves_if(so, Place::AtDefinitionText { name, typ }))
-        }
+        Place::AfterDefinitionType { name, typ } => Ok(item::after_definition_type(name, typ, l)),
         Place::AtDefinitionText { name, typ } => Ok(item::at_definition_text(name, typ, l)),
         Place::AtLemma => proof::at_lemma(alloc, l),
-        Place::AfterLemma { name } => {
-            let colon = is_sign(Sign::Colon, l);
-            Ok(moves_if(colon, Place::AtLemmaText { name }))
-        }
+        Place::AfterLemma { name } => Ok(proof::after_lemma(name, l)),
         Place::AtLemmaText { name } => Ok(proof::at_lemma_text(alloc, name, l)),
-        Place::InProof {
-            name,
-            prop,
-            script,
-            place,
-        } => {
-            let goal = Goal { name, prop, script };
-            proof::proof_turn(alloc, goal, place, l)
-        }
+        Place::InProof { goal, place } => proof::proof_turn(alloc, goal, place, l),
     }
 }
