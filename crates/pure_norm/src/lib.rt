@@ -1,0 +1,10 @@
+//! Normal forms of terms.
+#![tactic(auto)]
+
+mod beta;
+mod fault;
+pub mod laws;
+mod walk;
+
+pub use beta::{MAX_STEPS, beta_norm};
+pub use fault::NormFault;
