@@ -1,0 +1,130 @@
+-- Beta steps keep types, certification and closedness; and normal forms.
+use Rattle.std.proofs.Common.{◌≡◌, ℕ, ◌+◌, List, [], ◌∷◌, Bool, true, false, refl, subst, arith}
+use Rattle.std.specs.Prelude.{◌-◌, nat_eq, nat_lt, if◌then◌else◌, Some}
+use Rattle.pure_term.specs.Typ.{Typ, arrow}
+use Rattle.pure_term.specs.Term.{Term, Const, Free, Var, Bound, Abs, App}
+use Rattle.pure_term.specs.Typing.{HasType}
+use Rattle.pure_term.specs.Bounds.{IsClosedUnder, lift_term, subst_under}
+use Rattle.pure_term.specs.Decl.{Decl}
+use Rattle.pure_term.specs.Certified.{HasCertifiedParts, IsCertified}
+use Rattle.pure_term.specs.Beta.{IsAbs, IsBetaNormal, beta_step, IsBetaSequence, IsBetaAnswer, NormalForm}
+use Rattle.pure_term.proofs.LiftLaws.{lift_term-bound}
+use Rattle.pure_term.proofs.BetaLaws.{one_beta_sequence_to_normal}
+use Rattle.pure_term.proofs.TypingBoundLaws.{typing-subst}
+use Rattle.pure_norm.specs.LawsBeta.{NormalFormIsNormal, OneNormalForm, NormalFormOfNormal, StepKeepsType, StepKeepsCertified, StepKeepsClosed, NormalFormKeepsType, NormalFormKeepsCertified, NormalFormKeepsClosed, NormalUnderLift}
+use Rattle.pure_norm.proofs.StepLemmas.{IsStep, contracted, in_function, in_argument, in_body, step-is_step, step-closed}
+
+typing-redex : (bs : List Typ) (T : Typ) (b a : Term) (U : Typ) → HasType bs (App (Abs T b) a) U → HasType bs (subst_under 0 a b) U
+typing-redex bs T b a U h =
+    let V : Typ = h.0 in
+    let W : Typ = h.1.0 in
+    let arrows : arrow T W ≡ arrow V U = h.1.2 in
+    let argument : V ≡ T = cc in
+    let range : W ≡ U = cc in
+    typing-subst [] bs 0 a b T U refl (subst (HasType bs a) argument h.2) (subst (HasType (T ∷ bs) b) range h.1.1)
+
+is_step-type : (bs : List Typ) (t u : Term) (U : Typ) → IsStep t u → HasType bs t U → HasType bs u U
+is_step-type bs t u U (contracted T b a v e) h = subst (λ w. HasType bs w U) e (typing-redex bs T b a U h)
+is_step-type bs t u U (in_function f g a s) h = (h.0, is_step-type bs f g (arrow h.0 U) s h.1, h.2)
+is_step-type bs t u U (in_argument f a b s) h = (h.0, h.1, is_step-type bs a b h.0 s h.2)
+is_step-type bs t u U (in_body T b c s) h = (h.0, is_step-type (T ∷ bs) b c h.0 s h.1, h.2)
+
+pub step-keeps_type : StepKeepsType
+step-keeps_type bs t u T e h = is_step-type bs t u T (step-is_step t u e) h
+
+-- Certified parts are kept by lifting and instantiation, and so by a step.
+module _ (ds : List Decl) where
+  parts-either : (b : Bool) (t u : Term) → HasCertifiedParts ds t → HasCertifiedParts ds u → HasCertifiedParts ds (if b then t else u)
+  parts-either true t u h k = h
+  parts-either false t u h k = k
+
+  parts-lift : (by from : ℕ) (t : Term) → HasCertifiedParts ds t → HasCertifiedParts ds (lift_term by from t)
+  parts-lift by from (Const c T) h = h
+  parts-lift by from (Free x T) h = h
+  parts-lift by from (Var x i T) h = h
+  parts-lift by from (Bound p) h = parts-either (nat_lt p from) (Bound p) (Bound (p + by)) tt tt
+  parts-lift by from (Abs T b) h = (h.0, parts-lift by (from + 1) b h.1)
+  parts-lift by from (App f a) h = (parts-lift by from f h.0, parts-lift by from a h.1)
+
+  parts-subst : (n : ℕ) (arg b : Term) → HasCertifiedParts ds arg → HasCertifiedParts ds b → HasCertifiedParts ds (subst_under n arg b)
+  parts-subst n arg (Const c T) k h = h
+  parts-subst n arg (Free x T) k h = h
+  parts-subst n arg (Var x i T) k h = h
+  parts-subst n arg (Bound p) k h =
+      parts-either (nat_lt p n) (Bound p) (if nat_eq p n then lift_term n 0 arg else Bound (p - 1)) tt (parts-either (nat_eq p n) (lift_term n 0 arg) (Bound (p - 1)) (parts-lift n 0 arg k) tt)
+  parts-subst n arg (Abs T b) k h = (h.0, parts-subst (n + 1) arg b k h.1)
+  parts-subst n arg (App f a) k h = (parts-subst n arg f k h.0, parts-subst n arg a k h.1)
+
+  is_step-parts : (t u : Term) → IsStep t u → HasCertifiedParts ds t → HasCertifiedParts ds u
+  is_step-parts t u (contracted T b a v e) h = subst (HasCertifiedParts ds) e (parts-subst 0 a b h.1 h.0.1)
+  is_step-parts t u (in_function f g a s) h = (is_step-parts f g s h.0, h.1)
+  is_step-parts t u (in_argument f a b s) h = (h.0, is_step-parts a b s h.1)
+  is_step-parts t u (in_body T b c s) h = (h.0, is_step-parts b c s h.1)
+
+pub step-keeps_certified : StepKeepsCertified
+step-keeps_certified ds t u e h = record { parts = is_step-parts ds t u (step-is_step t u e) h.parts; typ = h.typ; typed = step-keeps_type [] t u h.typ e h.typed }
+
+pub step-keeps_closed : StepKeepsClosed
+step-keeps_closed = step-closed
+
+-- What each step keeps, a sequence keeps.
+sequence-keeps : (P : Term → Type 0) → ((t u : Term) → beta_step t ≡ Some u → P t → P u) → (us : List Term) (t u : Term) → IsBetaSequence t us u → P t → P u
+sequence-keeps P keeps [] t u s h = subst P s h
+sequence-keeps P keeps (v ∷ vs) t u s h = sequence-keeps P keeps vs s.1.0 u s.1.2 (keeps t s.1.0 s.1.1 h)
+
+answer-keeps : (P : Term → Type 0) → ((t u : Term) → beta_step t ≡ Some u → P t → P u) → (t u : Term) → IsBetaAnswer t (NormalForm u) → P t → P u
+answer-keeps P keeps t u a h = subst P a.decided.2 (sequence-keeps P keeps a.before t a.last a.sequence h)
+
+pub normal_form-keeps_type : NormalFormKeepsType
+normal_form-keeps_type bs t u T a h = answer-keeps (λ v. HasType bs v T) (λ v w e k. step-keeps_type bs v w T e k) t u a h
+
+pub normal_form-keeps_certified : NormalFormKeepsCertified
+normal_form-keeps_certified ds t u a h = answer-keeps (IsCertified ds) (step-keeps_certified ds) t u a h
+
+pub normal_form-keeps_closed : NormalFormKeepsClosed
+normal_form-keeps_closed n t u a h = answer-keeps (IsClosedUnder n) (step-closed n) t u a h
+
+pub normal_form-is_normal : NormalFormIsNormal
+normal_form-is_normal t u a = subst IsBetaNormal a.decided.2 a.decided.1
+
+pub one_normal_form : OneNormalForm
+one_normal_form t u v vs a s normal =
+    subst (λ w. v ≡ w) a.decided.2 ((one_beta_sequence_to_normal t v a.last vs a.before s a.sequence normal a.decided.1).1)
+
+pub normal_form-of_normal : NormalFormOfNormal
+normal_form-of_normal t within normal = record { before = []; last = t; sequence = refl; undecided = tt; in_time = omega arith; decided = (within, normal, refl) }
+
+abs-of_lift : (by from : ℕ) (t : Term) → IsAbs (lift_term by from t) → IsAbs t
+abs-of_lift by from (Bound p) h = rw (lift_term-bound by from p) at h
+abs-of_lift by from (Abs T b) h = tt
+abs-of_lift by from (Const c T) h = h
+abs-of_lift by from (Free x T) h = h
+abs-of_lift by from (Var x i T) h = h
+abs-of_lift by from (App f a) h = h
+
+abs-lift : (by from : ℕ) (t : Term) → IsAbs t → IsAbs (lift_term by from t)
+abs-lift by from (Abs T b) h = tt
+abs-lift by from (Const c T) h = absurd h
+abs-lift by from (Free x T) h = absurd h
+abs-lift by from (Var x i T) h = absurd h
+abs-lift by from (Bound p) h = absurd h
+abs-lift by from (App f a) h = absurd h
+
+normal-lift : (by from : ℕ) (t : Term) → IsBetaNormal t → IsBetaNormal (lift_term by from t)
+normal-lift by from (Const c T) h = tt
+normal-lift by from (Free x T) h = tt
+normal-lift by from (Var x i T) h = tt
+normal-lift by from (Bound p) h = rw (lift_term-bound by from p) tt
+normal-lift by from (Abs T b) h = normal-lift by (from + 1) b h
+normal-lift by from (App f a) h = ((λ is. h.0 (abs-of_lift by from f is)), normal-lift by from f h.1, normal-lift by from a h.2)
+
+normal-of_lift : (by from : ℕ) (t : Term) → IsBetaNormal (lift_term by from t) → IsBetaNormal t
+normal-of_lift by from (Const c T) h = tt
+normal-of_lift by from (Free x T) h = tt
+normal-of_lift by from (Var x i T) h = tt
+normal-of_lift by from (Bound p) h = tt
+normal-of_lift by from (Abs T b) h = normal-of_lift by (from + 1) b h
+normal-of_lift by from (App f a) h = ((λ is. h.0 (abs-lift by from f is)), normal-of_lift by from f h.1, normal-of_lift by from a h.2)
+
+pub normal_under_lift : NormalUnderLift
+normal_under_lift by from t = (normal-lift by from t, normal-of_lift by from t)

@@ -1,0 +1,63 @@
+-- Terms whose loose bound variables all have binders above them: lifted, instantiated, and ready to be put into a body.
+use Rattle.std.proofs.Common.{◌≡◌, ℕ, ◌+◌, ◌<◌, ◌≤◌, Bool, true, false, refl, arith}
+use Rattle.std.proofs.lemmas.Bool.Decides.{nat_tests}
+use Rattle.std.specs.Prelude.{◌-◌, nat_eq, nat_lt, if◌then◌else◌}
+use Rattle.pure_term.specs.Term.{Term, Const, Free, Var, Bound, Abs, App, term_depth}
+use Rattle.pure_term.specs.Bounds.{IsClosedUnder, lift_term, place_at, subst_under}
+use Rattle.pure_term.specs.Conditions.{IsLiftable, IsPuttable}
+use Rattle.pure_term.proofs.LiftLaws.{lift_term-bound}
+
+-- More binders do too.
+pub closed-more : (n m : ℕ) (t : Term) → n ≤ m → IsClosedUnder n t → IsClosedUnder m t
+closed-more n m (Const c T) le h = tt
+closed-more n m (Free x T) le h = tt
+closed-more n m (Var x i T) le h = tt
+closed-more n m (Bound p) le h = omega arith
+closed-more n m (Abs T b) le h = closed-more (n + 1) (m + 1) b (omega arith) h
+closed-more n m (App f a) le h = (closed-more n m f le h.0, closed-more n m a le h.1)
+
+pub closed-lift : (n by from m : ℕ) (t : Term) → n + by ≤ m → IsClosedUnder n t → IsClosedUnder m (lift_term by from t)
+closed-lift n by from m (Const c T) le h = tt
+closed-lift n by from m (Free x T) le h = tt
+closed-lift n by from m (Var x i T) le h = tt
+closed-lift n by from m (Bound p) le h = rw (lift_term-bound by from p) (raised (nat_lt p from))
+  where
+    raised : (b : Bool) → (if b then p else p + by) < m
+    raised true = omega arith
+    raised false = omega arith
+closed-lift n by from m (Abs T b) le h = closed-lift (n + 1) by (from + 1) (m + 1) b (omega arith) h
+closed-lift n by from m (App f a) le h = (closed-lift n by from m f le h.0, closed-lift n by from m a le h.1)
+
+closed-place : (n k m p : ℕ) (arg : Term) → m ≡ n + k → IsClosedUnder k arg → p < m + 1 → IsClosedUnder m (place_at n arg p)
+closed-place n k m p arg e h below = choose (nat_lt p n) (nat_eq p n) refl refl
+  where
+    choose : (b s : Bool) → nat_lt p n ≡ b → nat_eq p n ≡ s → IsClosedUnder m (if b then Bound p else (if s then lift_term n 0 arg else Bound (p - 1)))
+    choose true s f g = let small : p < m = grind (arith, nat_tests) in small
+    choose false true f g = closed-lift k n 0 m arg (omega arith) h
+    choose false false f g = let lower : p - 1 < m = grind (arith, nat_tests) in lower
+
+-- Instantiation takes one binder away.
+pub closed-subst : (n k m : ℕ) (arg b : Term) → m ≡ n + k → IsClosedUnder k arg → IsClosedUnder (m + 1) b → IsClosedUnder m (subst_under n arg b)
+closed-subst n k m arg (Const c T) e h g = tt
+closed-subst n k m arg (Free x T) e h g = tt
+closed-subst n k m arg (Var x i T) e h g = tt
+closed-subst n k m arg (Bound p) e h g = closed-place n k m p arg e h g
+closed-subst n k m arg (Abs T b) e h g = closed-subst (n + 1) k (m + 1) arg b (omega arith) h g
+closed-subst n k m arg (App f a) e h g = (closed-subst n k m arg f e h g.0, closed-subst n k m arg a e h g.1)
+
+liftable-closed : (k by from : ℕ) (t : Term) → IsClosedUnder k t → k + by + term_depth t ≤ 10000 → IsLiftable by from t
+liftable-closed k by from (Const c T) h low = tt
+liftable-closed k by from (Free x T) h low = tt
+liftable-closed k by from (Var x i T) h low = tt
+liftable-closed k by from (Bound p) h low = λ above. omega arith
+liftable-closed k by from (Abs T b) h low = liftable-closed (k + 1) by (from + 1) b h (omega arith)
+liftable-closed k by from (App f a) h low = (liftable-closed k by from f h.0 (omega arith), liftable-closed k by from a h.1 (omega arith))
+
+-- Below few binders a shallow argument can be put into a shallow body.
+pub puttable-closed : (n k : ℕ) (arg b : Term) → IsClosedUnder k arg → k + n + term_depth b + term_depth arg ≤ 10000 → IsPuttable n arg b
+puttable-closed n k arg (Const c T) h low = tt
+puttable-closed n k arg (Free x T) h low = tt
+puttable-closed n k arg (Var x i T) h low = tt
+puttable-closed n k arg (Bound p) h low = λ same. liftable-closed k n 0 arg h (omega arith)
+puttable-closed n k arg (Abs T b) h low = puttable-closed (n + 1) k arg b h (omega arith)
+puttable-closed n k arg (App f a) h low = (puttable-closed n k arg f h (omega arith), puttable-closed n k arg a h (omega arith))

@@ -1,0 +1,29 @@
+ghost use Rattle.pure_term.specs.Bounds.{IsClosed};
+ghost use Rattle.pure_norm.specs.NormAnswer.{IsNormAnswer};
+
+use crate::fault::NormFault;
+use crate::walk::{Until, Walk, reduce};
+use pure_term::{MAX_DEPTH, MAX_SIZE, Term, depth, size};
+use std::alloc::Global;
+
+/// The greatest number of steps.
+pub const MAX_STEPS: u32 = 10_000;
+
+/// The beta-normal form, by leftmost-outermost steps (Isabelle/Isar Implementation manual, section 2.2). The answer is decided at the first term of the sequence that is too large,
+/// `Big`; or is normal; or stands after 10,000 steps and isn't, `Steps`.
+pub fn beta_norm(alloc: Global, t: &Term) -> Result<Term, NormFault>
+    requires { IsClosed t.now }
+    ensures { IsNormAnswer t.now result }
+{
+    let nodes = size(t);
+    if nodes > MAX_SIZE || depth(t) > MAX_DEPTH {
+        return Err(NormFault::Big);
+    }
+    let mut u = t.copy(alloc)?;
+    let mut walk = Walk {
+        steps: MAX_STEPS,
+        room: MAX_SIZE - nodes,
+    };
+    reduce(alloc, &mut u, Until::Normal, 0, &mut walk)?;
+    Ok(u)
+}

@@ -1,0 +1,28 @@
+//! What normal forms are and what they keep: laws, each carried by the contract of a function that does nothing.
+ghost use Rattle.pure_norm.specs.LawsBeta.{NormalFormIsNormal, OneNormalForm, NormalFormOfNormal, StepKeepsType, StepKeepsCertified, StepKeepsClosed, NormalFormKeepsType, NormalFormKeepsCertified, NormalFormKeepsClosed, NormalUnderLift};
+
+/// A normal form has no redex, and is the one normal term that the steps reach.
+pub fn one_normal_form()
+    ensures normal { NormalFormIsNormal }
+    ensures one { OneNormalForm }
+    ensures itself { NormalFormOfNormal }
+{}
+
+/// A step keeps a term's type, and that it is certified and closed.
+pub fn step_keeps()
+    ensures typ { StepKeepsType }
+    ensures certified { StepKeepsCertified }
+    ensures closed { StepKeepsClosed }
+{}
+
+/// So does the normal form.
+pub fn normal_form_keeps()
+    ensures typ { NormalFormKeepsType }
+    ensures certified { NormalFormKeepsCertified }
+    ensures closed { NormalFormKeepsClosed }
+{}
+
+/// Lifting keeps terms normal, and others not.
+pub fn normal_under_lift()
+    ensures { NormalUnderLift }
+{}

@@ -1,0 +1,12 @@
+//! Normal forms of terms.
+#![tactic(auto)]
+
+mod beta;
+mod fault;
+pub mod laws;
+#[cfg(test)]
+mod tests;
+mod walk;
+
+pub use beta::{MAX_STEPS, beta_norm};
+pub use fault::NormFault;
