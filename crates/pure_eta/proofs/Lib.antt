@@ -5,3 +5,6 @@ pub mod ArrowLaws
 pub mod FitsLaws
 pub mod SaturatedLaws
 pub mod LongLaws
+pub mod KeptLaws
+pub mod CertifiedLaws
+pub mod FormLaws

@@ -19,7 +19,7 @@ lower_term n (Bound p) = if nat_lt n p then Bound (p - 1) else Bound p
 lower_term n (Abs T b) = Abs T (lower_term (n + 1) b)
 lower_term n (App f a) = App (lower_term n f) (lower_term n a)
 
--- the abstraction over T of the body; but where the body is a function applied to the abstraction's own variable, which isn't loose in the function, the function outside the abstraction
+-- the abstraction over T of the body; or, where the body is g applied to the abstraction's own variable and g is without that variable, g alone, lowered
 abbrev pub contracted : Typ → Term → Term
 contracted T (App g (Bound zero)) = if is_loose 0 g then Abs T (App g (Bound 0)) else lower_term 0 g
 contracted T b = Abs T b

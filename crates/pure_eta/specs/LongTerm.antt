@@ -9,7 +9,7 @@ abbrev pub range_typ : Option Typ → Option Typ
 range_typ (Some (Con zero (also A (also B none)))) = Some B
 range_typ _ = None
 
--- the type of a typed term that is no redex: that written with the constant or variable at its front, or of its binder, and so many ranges further as there are arguments
+-- the type of a typed term whose front is a constant or a variable: the type at the front, one range further for each argument
 abbrev pub front_typ : List Typ → Term → Option Typ
 front_typ bs (Const c T) = Some T
 front_typ bs (Free x T) = Some T
@@ -18,7 +18,7 @@ front_typ bs (Bound p) = slice_get bs p
 front_typ bs (Abs T b) = None
 front_typ bs (App f a) = range_typ (front_typ bs f)
 
--- the term under one abstraction for each arrow of the type, and applied to their variables, each of which is expanded at its own type
+-- the term under one abstraction for each arrow of the type, applied to their variables, each of them expanded at its own type
 abbrev pub expanded : Typ → Term → Term
 expanded (Con zero (also A (also B none))) t = Abs A (expanded B (App (lift_term 1 0 t) (expanded A (Bound 0))))
 expanded T t = t
@@ -28,7 +28,7 @@ abbrev pub expanded_at : (applied : Bool) → Option Typ → Term → Term
 expanded_at false (Some T) t = expanded T t
 expanded_at _ _ t = t
 
--- the term, applied or not, with each subterm that isn't applied expanded
+-- the term with each subterm that isn't applied expanded at its type; the term itself may be applied
 abbrev pub long_term : (applied : Bool) → List Typ → Term → Term
 long_term applied bs (Abs T b) = Abs T (long_term false (T ∷ bs) b)
 long_term applied bs (App f a) = expanded_at applied (front_typ bs (App f a)) (App (long_term true bs f) (long_term false bs a))

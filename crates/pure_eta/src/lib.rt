@@ -3,8 +3,11 @@
 
 mod eta;
 mod fits;
+pub mod laws;
 mod long;
 mod scope;
+#[cfg(test)]
+mod tests;
 
 pub use eta::eta_norm;
 pub use long::long_form;

@@ -46,7 +46,7 @@ pub fn arrow_of(typ: &Typ) -> Option<(&Typ, &Typ)>
     }
 }
 
-// The type of a typed term that is no redex, as it stands in the term or in its scope.
+// The type of a typed term whose front is a constant or a variable, as it stands in the term or in its scope.
 pub fn front_typ_of<'a>(t: &'a Term, scope: &Scope<'a>) -> Option<&'a Typ>
     ensures { MatchOption result (front_typ (scope_typs scope.now) t.now ≡ None) (λ typ. front_typ (scope_typs scope.now) t.now ≡ Some typ.now) }
 {
