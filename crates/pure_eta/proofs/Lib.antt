@@ -1,0 +1,10 @@
+pub mod LooseLaws
+pub mod EtaStepLaws
+pub mod EtaFormLaws
+pub mod ArrowLaws
+pub mod FitsLaws
+pub mod SaturatedLaws
+pub mod LongLaws
+pub mod KeptLaws
+pub mod CertifiedLaws
+pub mod FormLaws

@@ -1,0 +1,13 @@
+//! Eta reduction: eta-normal forms, and long forms.
+#![tactic(auto)]
+
+mod eta;
+mod fits;
+pub mod laws;
+mod long;
+mod scope;
+#[cfg(test)]
+mod tests;
+
+pub use eta::eta_norm;
+pub use long::long_form;

@@ -1,0 +1,118 @@
+ghost use Rattle.std.specs.Prelude.{◌≡◌, [], IfOk};
+ghost use Rattle.pure_term.specs.Term as term;
+ghost use Rattle.pure_term.specs.Bounds.{lift_term};
+ghost use Rattle.pure_term.specs.Typing.{HasType};
+ghost use Rattle.pure_term.specs.Beta.{IsBetaNormal};
+ghost use Rattle.pure_term.specs.Typ as tree;
+ghost use Rattle.pure_eta.specs.LongTerm.{front_typ, expanded, expanded_at, long_term};
+ghost use Rattle.pure_eta.specs.ScopeTyps.{scope_typs};
+ghost use Rattle.pure_eta.specs.Answer.{IsLongAnswer};
+
+use crate::fits::long_fits;
+use crate::scope::{Scope, arrow_of, front_typ_of};
+use pure_term::{Grow, MAX_SIZE, Term, TermNode, Typ};
+use std::alloc::{AllocError, Global};
+
+/// The long form of a beta-normal term that has a type under no binders: the beta-normal form in which every subterm that isn't applied has as many abstractions as its type has arrows (Isabelle/Isar Implementation manual, section 2.2).
+/// `Big` where it isn't within the limits, which is found before it is made.
+pub fn long_form(alloc: Global, t: &Term) -> Result<Term, Grow>
+    requires typed { (T : tree.Typ) × HasType [] t.now T }
+    requires normal { IsBetaNormal t.now }
+    ensures { IsLongAnswer t.now result }
+{
+    let scope = Scope::Empty;
+    let Some(_) = long_fits(t, &scope, false, MAX_SIZE) else {
+        return Err(Grow::Big);
+    };
+    Ok(lengthen(alloc, t, &scope, false)?)
+}
+
+fn lengthen(alloc: Global, t: &Term, scope: &Scope, is_applied: bool) -> Result<Term, AllocError>
+    ensures { IfOk result (λ u. u ≡ long_term is_applied (scope_typs scope.now) t.now) }
+{
+    let front = match &t.node {
+        TermNode::Abs { typ, body } => {
+            let body = lengthen(alloc, body, &Scope::Under(typ, &*scope), false)?;
+            return abstraction(alloc, typ, body);
+        }
+        TermNode::App { fun, arg } => {
+            let function = lengthen(alloc, fun, scope, true)?;
+            let argument = lengthen(alloc, arg, scope, false)?;
+            application(alloc, function, argument)?
+        }
+        _ => t.copy(alloc)?,
+    };
+    if is_applied {
+        return Ok(front);
+    }
+    match front_typ_of(&*t, &*scope) {
+        Some(typ) => expand(alloc, typ, front),
+        None => Ok(front),
+    }
+}
+
+fn abstraction(alloc: Global, typ: &Typ, body: Term) -> Result<Term, AllocError>
+    ensures { IfOk result (λ u. u ≡ term.Abs typ.now body) }
+{
+    let typ = typ.copy(alloc)?;
+    let body = Box::new(alloc, body)?;
+    Ok(Term {
+        node: TermNode::Abs { typ, body },
+    })
+}
+
+fn application(alloc: Global, function: Term, argument: Term) -> Result<Term, AllocError>
+    ensures { IfOk result (λ u. u ≡ term.App function argument) }
+{
+    let fun = Box::new(alloc, function)?;
+    let arg = Box::new(alloc, argument)?;
+    Ok(Term {
+        node: TermNode::App { fun, arg },
+    })
+}
+
+// The term under an abstraction for each arrow of the type, and applied to their variables, each expanded at its own type.
+fn expand(alloc: Global, typ: &Typ, mut t: Term) -> Result<Term, AllocError>
+    ensures { IfOk result (λ u. u ≡ expanded typ.now t) }
+{
+    let Some((domain, range)) = arrow_of(typ) else {
+        return Ok(t);
+    };
+    raise(&mut t, 0)?;
+    let variable = Term {
+        node: TermNode::Bound { place: 0 },
+    };
+    let argument = expand(alloc, domain, variable)?;
+    let applied = application(alloc, t, argument)?;
+    let body = expand(alloc, range, applied)?;
+    abstraction(alloc, domain, body)
+}
+
+// Raises each loose bound variable from this place on by one. Below 2 ^ 32 binders, which no memory holds, it is want of memory.
+fn raise(t: &mut Term, from: u32) -> Result<(), AllocError>
+    ensures { IfOk result (λ _. t.new ≡ lift_term 1 from t.old) }
+{
+    match &mut t.node {
+        TermNode::Bound { place } => {
+            if *place < from {
+                return Ok(());
+            }
+            let Some(raised) = place.checked_add(1) else {
+                return Err(AllocError);
+            };
+            *place = raised;
+            Ok(())
+        }
+        TermNode::Abs { body, .. } => {
+            let Some(under) = from.checked_add(1) else {
+                return Err(AllocError);
+            };
+            raise(body, under)
+        }
+        TermNode::App { fun, arg } => {
+            raise(fun, from)?;
+            raise(arg, from)
+        }
+        _ => Ok(()),
+    }
+}
