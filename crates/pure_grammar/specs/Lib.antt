@@ -15,3 +15,4 @@ pub mod InnerText
 pub mod RawTree
 pub mod InnerTree
 pub mod Inner
+pub mod InnerReader
