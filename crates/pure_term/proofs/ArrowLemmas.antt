@@ -36,3 +36,9 @@ pub arrow-popped : (k : ℕ) (items rest : List Typ) (r : Option Typ) (U : Typ) 
     → MatchOption r (¬ Takes (Con k (typs_of items)) U) (λ range. Con k (typs_of items) ≡ arrow U range)
 arrow-popped k items rest None U (V, e) split some = let no = some (rw (arrow-args k items U V e) (lit< tt)) in absurd (cc)
 arrow-popped k items rest (Some last) U (V, e) split some = arrow-last k items rest U V last e split
+
+-- The second argument of a type of functions is the type of the results.
+pub takes-range : (k : ℕ) (items : List Typ) (U r : Typ) → Takes (Con k (typs_of items)) U → r ≡ get_or items 1 r → Con k (typs_of items) ≡ arrow U r
+takes-range k items U r (V, e) h =
+    let same : get_or items 1 r ≡ V = ap (λ xs. get_or xs 1 r) (arrow-args k items U V e) in
+    e ∙ ap (λ v. arrow U v) (sym (h ∙ same))

@@ -5,6 +5,8 @@ use Rattle.pure_term.specs.Term.{Term}
 use Rattle.pure_term.specs.Typing.{HasType, IsUntypedAt}
 use Rattle.pure_term.specs.Limits.{cut_off}
 use Rattle.pure_term.specs.declared.typing.Scope.{Scope, Empty, Under'}
+use Rattle.pure_term.specs.declared.typing.Found.{Found}
+use Rattle.pure_term.specs.declared.typing.Found.TheVariants.{Lent, Made}
 use Rattle.pure_term.specs.declared.typing.TypeFault.{TypeFault}
 use Rattle.pure_term.specs.declared.typing.TypeFault.TheVariants.{NotTyped, Memory}
 
@@ -12,6 +14,11 @@ use Rattle.pure_term.specs.declared.typing.TypeFault.TheVariants.{NotTyped, Memo
 abbrev pub scope_typs : Scope → List Typ
 scope_typs Empty = []
 scope_typs (Under' t p s) = t.now ∷ scope_typs s
+
+-- the type that was found: one that stands in the term, or one that was made
+abbrev pub found_typ : Found → Typ
+found_typ (Lent t) = t.now
+found_typ (Made t) = t
 
 -- the fault, with a place so much further on
 abbrev pub deeper_fault : ℕ → TypeFault → TypeFault
@@ -23,3 +30,8 @@ abbrev pub IsTypeAnswer : List Typ → Term → Result Typ TypeFault → Type 0
 IsTypeAnswer bs t (Ok T) = HasType bs t T
 IsTypeAnswer bs t (Err (NotTyped cut)) = (place : ℕ) × IsUntypedAt bs t place × (cut ≡ cut_off place)
 IsTypeAnswer bs t (Err Memory) = Unit {0}
+
+-- The same of an answer whose type may be lent.
+abbrev pub IsFoundAnswer : List Typ → Term → Result Found TypeFault → Type 0
+IsFoundAnswer bs t (Ok found) = HasType bs t (found_typ found)
+IsFoundAnswer bs t (Err fault) = IsTypeAnswer bs t (Err fault)

@@ -51,7 +51,7 @@ fn instance_of(alloc: Global, t: &Typ, binds: &[TypBind]) -> Result<Typ, AllocEr
             None => t.copy(alloc),
         },
         TypNode::Con { name, args } => {
-            let mut images = Vec::new(alloc);
+            let mut images = Vec::with_capacity(alloc, args.len())?;
             for arg in args {
                 images.push(instance_of(alloc, arg, binds)?)?;
             }

@@ -72,7 +72,10 @@ pub fn depth(t: &Term) -> u32
 pub fn is_within(t: &Term) -> bool
     ensures { IsTrue result ↔ IsWithin t.now }
 {
-    size(t) <= MAX_SIZE && depth(t) <= MAX_DEPTH
+    match term_leaves(t, MAX_SIZE, MAX_DEPTH) {
+        Some(_) => true,
+        None => false,
+    }
 }
 
 /// The count of the term's nodes, without those of types, cut off at `u32::MAX`.

@@ -51,7 +51,7 @@ impl Typ {
     pub fn arrow(alloc: Global, domain: Typ, range: Typ) -> Result<Typ, AllocError>
         ensures { IfOk result (λ t. t ≡ arrow domain range) }
     {
-        let mut args = Vec::new(alloc);
+        let mut args = Vec::with_capacity(alloc, 2)?;
         args.push(domain)?;
         args.push(range)?;
         let name = Name(0);
@@ -75,7 +75,7 @@ impl Typ {
                 sort: sort.copy(alloc)?,
             },
             TypNode::Con { name, args } => {
-                let mut copied = Vec::new(alloc);
+                let mut copied = Vec::with_capacity(alloc, args.len())?;
                 for arg in args {
                     copied.push(arg.copy(alloc)?)?;
                 }

@@ -1,7 +1,7 @@
-ghost use Rattle.std.specs.Prelude.{◌≡◌, ◌↔◌, IsTrue, [], slice_get, Some, None, MatchOption};
+ghost use Rattle.std.specs.Prelude.{◌≡◌, ◌↔◌, IsTrue, [], slice_get, Some, None, MatchOption, IfOk};
 ghost use Rattle.pure_term.specs.Typ.{arrow};
 ghost use Rattle.pure_term.specs.Typing.{Takes};
-ghost use Rattle.pure_term.specs.TypeAnswer.{scope_typs, deeper_fault, IsTypeAnswer};
+ghost use Rattle.pure_term.specs.TypeAnswer.{scope_typs, found_typ, deeper_fault, IsTypeAnswer, IsFoundAnswer};
 
 use crate::measure::node_count_of;
 use crate::term::{Term, TermNode};
@@ -28,13 +28,13 @@ impl From<AllocError> for TypeFault {
 
 // The types of the binders around a term, the innermost first.
 #[derive(Clone, Copy)]
-enum Scope<'a> {
+enum Scope<'s, 't> {
     Empty,
-    Under(&'a Typ, &'a Scope<'a>),
+    Under(&'t Typ, &'s Scope<'s, 't>),
 }
 
 // The type of the binder of this place.
-fn typ_at<'a>(scope: &Scope<'a>, place: u32) -> Option<&'a Typ>
+fn typ_at<'s, 't>(scope: &'s Scope<'s, 't>, place: u32) -> Option<&'t Typ>
     ensures { MatchOption result (slice_get (scope_typs scope.now) place ≡ None) (λ t. slice_get (scope_typs scope.now) place ≡ Some t.now) }
 {
     match scope {
@@ -47,6 +47,13 @@ fn typ_at<'a>(scope: &Scope<'a>, place: u32) -> Option<&'a Typ>
             }
         }
     }
+}
+
+// The type of a term: one that stands in it, or one that was made for an abstraction.
+#[derive(Drop)]
+enum Found<'t> {
+    Lent(&'t Typ),
+    Made(Typ),
 }
 
 // Whether functions of the first type take arguments of the second.
@@ -68,8 +75,27 @@ fn takes(function: &Typ, argument: &Typ) -> bool
     }
 }
 
-// The type of the results of a function of the first type for arguments of the second.
-fn range_of(mut function: Typ, argument: &Typ) -> Option<Typ>
+// What a function of the first type gives for arguments of the second, where the type is lent.
+fn lent_range<'t>(function: &'t Typ, argument: &Typ) -> Option<&'t Typ>
+    ensures { MatchOption result (¬ Takes function.now argument.now) (λ range. function.now ≡ arrow argument.now range.now) }
+{
+    if !takes(function, argument) {
+        return None;
+    }
+    match &function.node {
+        TypNode::Con { args, .. } => {
+            if args.len() != 2 {
+                return None;
+            }
+            let range = &args[1];
+            Some(range)
+        }
+        _ => None,
+    }
+}
+
+// What a function of the first type gives for arguments of the second, where the type was made.
+fn made_range(mut function: Typ, argument: &Typ) -> Option<Typ>
     ensures { MatchOption result (¬ Takes function argument.now) (λ range. function ≡ arrow argument.now range) }
 {
     if !takes(&function, argument) {
@@ -78,6 +104,42 @@ fn range_of(mut function: Typ, argument: &Typ) -> Option<Typ>
     match &mut function.node {
         TypNode::Con { args, .. } => args.pop(),
         _ => None,
+    }
+}
+
+// The type, by reference.
+fn lent<'f>(found: &'f Found<'_>) -> &'f Typ
+    ensures { result.now ≡ found_typ found.now }
+{
+    match found {
+        Found::Lent(typ) => *typ,
+        Found::Made(typ) => typ,
+    }
+}
+
+// The type itself, copied where it was lent.
+fn owned(alloc: Global, found: Found) -> Result<Typ, AllocError>
+    ensures { IfOk result (λ t. t ≡ found_typ found.entry) }
+{
+    match found {
+        Found::Lent(typ) => typ.copy(alloc),
+        Found::Made(typ) => Ok(typ),
+    }
+}
+
+// The type of the results of a function of the first type for arguments of the second.
+fn range_of<'t>(function: Found<'t>, argument: &Typ) -> Option<Found<'t>>
+    ensures { MatchOption result (¬ Takes (found_typ function.entry) argument.now) (λ range. found_typ function.entry ≡ arrow argument.now (found_typ range)) }
+{
+    match function {
+        Found::Lent(typ) => match lent_range(typ, argument) {
+            Some(range) => Some(Found::Lent(range)),
+            None => None,
+        },
+        Found::Made(typ) => match made_range(typ, argument) {
+            Some(range) => Some(Found::Made(range)),
+            None => None,
+        },
     }
 }
 
@@ -92,15 +154,19 @@ fn deeper(fault: TypeFault, by: u32) -> TypeFault
     }
 }
 
-fn typ_under(alloc: Global, t: &Term, scope: &Scope) -> Result<Typ, TypeFault>
-    ensures { IsTypeAnswer (scope_typs scope.now) t.now result }
+fn typ_under<'s, 't>(
+    alloc: Global,
+    t: &'t Term,
+    scope: &'s Scope<'s, 't>,
+) -> Result<Found<'t>, TypeFault>
+    ensures { IsFoundAnswer (scope_typs scope.now) t.now result }
 {
     match &t.node {
-        TermNode::Const { typ, .. } => Ok(typ.copy(alloc)?),
-        TermNode::Free { typ, .. } => Ok(typ.copy(alloc)?),
-        TermNode::Var { typ, .. } => Ok(typ.copy(alloc)?),
+        TermNode::Const { typ, .. } => Ok(Found::Lent(typ)),
+        TermNode::Free { typ, .. } => Ok(Found::Lent(typ)),
+        TermNode::Var { typ, .. } => Ok(Found::Lent(typ)),
         TermNode::Bound { place } => match typ_at(scope, *place) {
-            Some(typ) => Ok(typ.copy(alloc)?),
+            Some(typ) => Ok(Found::Lent(typ)),
             None => Err(TypeFault::NotTyped { place: 0 }),
         },
         TermNode::Abs { typ, body } => {
@@ -108,8 +174,9 @@ fn typ_under(alloc: Global, t: &Term, scope: &Scope) -> Result<Typ, TypeFault>
                 Ok(range) => range,
                 Err(fault) => return Err(deeper(fault, 1)),
             };
+            let range = owned(alloc, range)?;
             let domain = typ.copy(alloc)?;
-            Ok(Typ::arrow(alloc, domain, range)?)
+            Ok(Found::Made(Typ::arrow(alloc, domain, range)?))
         }
         TermNode::App { fun, arg } => {
             let function = match typ_under(alloc, fun, scope) {
@@ -120,7 +187,7 @@ fn typ_under(alloc: Global, t: &Term, scope: &Scope) -> Result<Typ, TypeFault>
                 Ok(argument) => argument,
                 Err(fault) => return Err(deeper(fault, node_count_of(fun).saturating_add(1))),
             };
-            match range_of(function, &argument) {
+            match range_of(function, lent(&argument)) {
                 Some(range) => Ok(range),
                 None => Err(TypeFault::NotTyped { place: 0 }),
             }
@@ -132,5 +199,6 @@ fn typ_under(alloc: Global, t: &Term, scope: &Scope) -> Result<Typ, TypeFault>
 pub fn typ_of(alloc: Global, t: &Term) -> Result<Typ, TypeFault>
     ensures { IsTypeAnswer [] t.now result }
 {
-    typ_under(alloc, t, &Scope::Empty)
+    let found = typ_under(alloc, t, &Scope::Empty)?;
+    Ok(owned(alloc, found)?)
 }

@@ -1,9 +1,9 @@
-//! A notation for types and terms, in which an operator stands in front of what it takes. Blanks may stand anywhere
-//! between operators, and a missing number is 0.
+//! A notation for types and terms, in which an operator stands in front of what it takes. Blanks and commas may stand
+//! anywhere between operators, and a missing number is 0.
 //!
-//! Types: `i` and `p` are the constructors 6 and `prop` without arguments, `> T U` is the type of functions, `t3` and
-//! `s3` the fixed and the schematic type variable 3 without a class, `S3` that schematic type variable with a class,
-//! `w3` a constructor with three arguments `i`, and `d3 T` is a constructor put round the type three times.
+//! Types: `i` and `p` are the constructors 6 and `prop` without arguments, `> T U` is the type of functions, `t7` and
+//! `s7` the fixed and the schematic type variable 7 without a class, `S7` that schematic type variable with a class,
+//! `w100` a constructor with a hundred arguments `i`, and `d100 T` is a constructor put round the type a hundred times.
 //!
 //! Terms: `c3 T` and `f3 T` are the constant and the fixed variable 3, `v3 T` and `u3 T` the schematic variable 3 with
 //! index 0 and 1, `b3` is the bound variable 3, `l T t` an abstraction, `@ t u` an application, and `A3 t` is the term
@@ -33,12 +33,6 @@ pub(crate) fn read(alloc: Global, text: &[u8]) -> Result<Reader, AllocError> {
         read_byte(alloc, &mut reader, *byte)?;
     }
     Ok(reader)
-}
-
-/// The term that a text is, where it is one.
-pub(crate) fn read_term(alloc: Global, text: &[u8]) -> Result<Option<Term>, AllocError> {
-    let mut reader = read(alloc, text)?;
-    Ok(reader.terms.pop())
 }
 
 fn read_byte(alloc: Global, reader: &mut Reader, byte: u8) -> Result<(), AllocError> {

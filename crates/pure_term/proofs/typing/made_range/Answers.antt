@@ -3,7 +3,7 @@ use Rattle.std.specs.Prelude.{IsSome}
 use Rattle.pure_term.specs.Typing.{Takes}
 use Rattle.pure_term.specs.Typ.{Con, typs_of}
 use Rattle.pure_term.proofs.ArrowLemmas.{arrow-popped}
-use Rattle.pure_term.proofs.typing.range_of.Goals as goal
+use Rattle.pure_term.proofs.typing.made_range.Goals as goal
 
 pub returns-in-Con : goal.returns-in-Con
 returns-in-Con c =
