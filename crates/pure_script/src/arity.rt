@@ -5,7 +5,7 @@ ghost use Rattle.pure_script.specs.Seen.{seen_lexeme};
 ghost use Rattle.pure_script.specs.Places.{seen_turn, sorts};
 
 use crate::lexeme::{Lexeme, is_sign};
-use crate::place::{Place, Turn, moves_if, name};
+use crate::place::{ArityPlace, Place, Turn, moves_if, name};
 use crate::theory::Command;
 use pure_grammar::Sign;
 use pure_term::Text;
@@ -17,7 +17,9 @@ pub(crate) fn at_constructor(alloc: Global, lexeme: Lexeme<'_>) -> Result<Turn, 
     match name(alloc, lexeme)? {
         None => Ok(Turn::Refuses),
         Some(con) => Ok(Turn::Moves {
-            place: Place::AfterConstructor { con },
+            place: Place::OfArity {
+                place: ArityPlace::AfterConstructor { con },
+            },
         }),
     }
 }
@@ -26,7 +28,12 @@ pub(crate) fn after_constructor(con: Text, lexeme: Lexeme<'_>) -> Turn
     ensures { seen_turn result ≡ spec.turn (spec.AfterConstructor con) (seen_lexeme lexeme.entry) }
 {
     let so = is_sign(Sign::DoubleColon, lexeme);
-    moves_if(so, Place::AtDomains { con })
+    moves_if(
+        so,
+        Place::OfArity {
+            place: ArityPlace::AtDomains { con },
+        },
+    )
 }
 
 pub(crate) fn at_arity_class(
@@ -52,7 +59,9 @@ pub(crate) fn at_domains(alloc: Global, con: Text, lexeme: Lexeme<'_>) -> Result
     let doms = Vec::new(alloc);
     if is_sign(Sign::OpenParenthesis, lexeme) {
         return Ok(Turn::Moves {
-            place: Place::AtSort { con, doms },
+            place: Place::OfArity {
+                place: ArityPlace::AtSort { con, doms },
+            },
         });
     }
     at_arity_class(alloc, con, doms, lexeme)
@@ -86,7 +95,9 @@ pub(crate) fn at_sort(
 {
     if is_sign(Sign::OpenBrace, lexeme) {
         return Ok(Turn::Moves {
-            place: Place::AtFirstClass { con, doms },
+            place: Place::OfArity {
+                place: ArityPlace::AtFirstClass { con, doms },
+            },
         });
     }
     match name(alloc, lexeme)? {
@@ -94,7 +105,9 @@ pub(crate) fn at_sort(
         Some(class) => {
             let doms = with_sort(doms, one_class(alloc, class)?)?;
             Ok(Turn::Moves {
-                place: Place::AfterSort { con, doms },
+                place: Place::OfArity {
+                    place: ArityPlace::AfterSort { con, doms },
+                },
             })
         }
     }
@@ -105,12 +118,16 @@ pub(crate) fn after_sort(con: Text, doms: Vec<Vec<Text>>, lexeme: Lexeme<'_>) ->
 {
     if is_sign(Sign::Comma, lexeme) {
         return Turn::Moves {
-            place: Place::AtSort { con, doms },
+            place: Place::OfArity {
+                place: ArityPlace::AtSort { con, doms },
+            },
         };
     }
     moves_if(
         is_sign(Sign::CloseParenthesis, lexeme),
-        Place::AtArityClass { con, doms },
+        Place::OfArity {
+            place: ArityPlace::AtArityClass { con, doms },
+        },
     )
 }
 
@@ -125,7 +142,9 @@ pub(crate) fn at_first_class(
     if is_sign(Sign::CloseBrace, lexeme) {
         let doms = with_sort(doms, Vec::new(alloc))?;
         return Ok(Turn::Moves {
-            place: Place::AfterSort { con, doms },
+            place: Place::OfArity {
+                place: ArityPlace::AfterSort { con, doms },
+            },
         });
     }
     match name(alloc, lexeme)? {
@@ -133,7 +152,9 @@ pub(crate) fn at_first_class(
         Some(class) => {
             let sort = one_class(alloc, class)?;
             Ok(Turn::Moves {
-                place: Place::AfterClass { con, doms, sort },
+                place: Place::OfArity {
+                    place: ArityPlace::AfterClass { con, doms, sort },
+                },
             })
         }
     }
@@ -154,7 +175,9 @@ pub(crate) fn at_next_class(
         Some(class) => {
             sort.push(class)?;
             Ok(Turn::Moves {
-                place: Place::AfterClass { con, doms, sort },
+                place: Place::OfArity {
+                    place: ArityPlace::AfterClass { con, doms, sort },
+                },
             })
         }
     }
@@ -170,12 +193,16 @@ pub(crate) fn after_class(
 {
     if is_sign(Sign::Comma, lexeme) {
         return Ok(Turn::Moves {
-            place: Place::AtNextClass { con, doms, sort },
+            place: Place::OfArity {
+                place: ArityPlace::AtNextClass { con, doms, sort },
+            },
         });
     }
     let doms = with_sort(doms, sort)?;
     Ok(moves_if(
         is_sign(Sign::CloseBrace, lexeme),
-        Place::AfterSort { con, doms },
+        Place::OfArity {
+            place: ArityPlace::AfterSort { con, doms },
+        },
     ))
 }

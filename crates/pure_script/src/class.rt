@@ -5,7 +5,7 @@ ghost use Rattle.pure_script.specs.Seen.{seen_lexeme};
 ghost use Rattle.pure_script.specs.Places.{seen_turn};
 
 use crate::lexeme::{Lexeme, is_sign};
-use crate::place::{Place, Turn, command_begun, ident, leave_with, name};
+use crate::place::{ClassPlace, Place, Turn, command_begun, ident, leave_with, name};
 use crate::theory::Command;
 use pure_grammar::Sign;
 use pure_term::Text;
@@ -17,7 +17,9 @@ pub(crate) fn at_class_name(alloc: Global, lexeme: Lexeme<'_>) -> Result<Turn, A
     match ident(alloc, lexeme)? {
         None => Ok(Turn::Refuses),
         Some(name) => Ok(Turn::Moves {
-            place: Place::AfterClassName { name },
+            place: Place::OfClass {
+                place: ClassPlace::AfterClassName { name },
+            },
         }),
     }
 }
@@ -27,7 +29,9 @@ pub(crate) fn after_class_name(alloc: Global, name: Text, lexeme: Lexeme<'_>) ->
 {
     if is_sign(Sign::Less, lexeme) {
         return Turn::Moves {
-            place: Place::AtAbove { name },
+            place: Place::OfClass {
+                place: ClassPlace::AtAbove { name },
+            },
         };
     }
     let above = Vec::new(alloc);
@@ -43,7 +47,9 @@ pub(crate) fn at_above(alloc: Global, class: Text, lexeme: Lexeme<'_>) -> Result
             let mut above = Vec::new(alloc);
             above.push(first)?;
             Ok(Turn::Moves {
-                place: Place::AfterAbove { name: class, above },
+                place: Place::OfClass {
+                    place: ClassPlace::AfterAbove { name: class, above },
+                },
             })
         }
     }
@@ -62,7 +68,9 @@ pub(crate) fn after_above(
         Some(next) => {
             above.push(next)?;
             Ok(Turn::Moves {
-                place: Place::AfterAbove { name: class, above },
+                place: Place::OfClass {
+                    place: ClassPlace::AfterAbove { name: class, above },
+                },
             })
         }
         None => Ok(leave_with(Command::Class { name: class, above }, command_begun(lexeme))),

@@ -5,7 +5,7 @@ ghost use Rattle.pure_script.specs.Seen.{seen_lexeme, span};
 ghost use Rattle.pure_script.specs.Places.{seen_turn};
 
 use crate::lexeme::{Lexeme, is_sign, is_word, quote_in, type_in};
-use crate::place::{Place, Turn, command_begun, ident, leave, moves_if};
+use crate::place::{ItemPlace, Place, Turn, command_begun, ident, leave, moves_if};
 use crate::theory::{Command, Span};
 use pure_grammar::{Keyword, Sign};
 use pure_term::Text;
@@ -17,7 +17,9 @@ pub(crate) fn at_item(alloc: Global, lexeme: Lexeme<'_>) -> Result<Turn, AllocEr
     match ident(alloc, lexeme)? {
         None => Ok(Turn::Refuses),
         Some(name) => Ok(Turn::Moves {
-            place: Place::AfterItem { name },
+            place: Place::OfItem {
+                place: ItemPlace::AfterItem { name },
+            },
         }),
     }
 }
@@ -26,7 +28,12 @@ pub(crate) fn after_item(name: Text, lexeme: Lexeme<'_>) -> Turn
     ensures { seen_turn result ≡ spec.turn (spec.AfterItem name) (seen_lexeme lexeme.entry) }
 {
     let so = is_sign(Sign::DoubleColon, lexeme);
-    moves_if(so, Place::AtItemType { name })
+    moves_if(
+        so,
+        Place::OfItem {
+            place: ItemPlace::AtItemType { name },
+        },
+    )
 }
 
 pub(crate) fn at_item_type(name: Text, lexeme: Lexeme<'_>) -> Turn
@@ -36,7 +43,9 @@ pub(crate) fn at_item_type(name: Text, lexeme: Lexeme<'_>) -> Turn
         None => Turn::Refuses,
         Some(typ) => Turn::Adds {
             command: Command::Const { name, typ },
-            place: Place::AfterItemType,
+            place: Place::OfItem {
+                place: ItemPlace::AfterItemType,
+            },
         },
     }
 }
@@ -46,7 +55,9 @@ pub(crate) fn after_item_type(alloc: Global, lexeme: Lexeme<'_>) -> Result<Turn,
 {
     match ident(alloc, lexeme)? {
         Some(name) => Ok(Turn::Moves {
-            place: Place::AfterItem { name },
+            place: Place::OfItem {
+                place: ItemPlace::AfterItem { name },
+            },
         }),
         None => Ok(leave(command_begun(lexeme))),
     }
@@ -56,7 +67,12 @@ pub(crate) fn at_where(lexeme: Lexeme<'_>) -> Turn
     ensures { seen_turn result ≡ spec.turn spec.AtWhere (seen_lexeme lexeme.entry) }
 {
     let so = is_word(Keyword::Where, lexeme);
-    moves_if(so, Place::AtAxiom)
+    moves_if(
+        so,
+        Place::OfItem {
+            place: ItemPlace::AtAxiom,
+        },
+    )
 }
 
 pub(crate) fn at_axiom(alloc: Global, lexeme: Lexeme<'_>) -> Result<Turn, AllocError>
@@ -65,7 +81,9 @@ pub(crate) fn at_axiom(alloc: Global, lexeme: Lexeme<'_>) -> Result<Turn, AllocE
     match ident(alloc, lexeme)? {
         None => Ok(Turn::Refuses),
         Some(name) => Ok(Turn::Moves {
-            place: Place::AfterAxiom { name },
+            place: Place::OfItem {
+                place: ItemPlace::AfterAxiom { name },
+            },
         }),
     }
 }
@@ -74,7 +92,12 @@ pub(crate) fn after_axiom(name: Text, lexeme: Lexeme<'_>) -> Turn
     ensures { seen_turn result ≡ spec.turn (spec.AfterAxiom name) (seen_lexeme lexeme.entry) }
 {
     let so = is_sign(Sign::Colon, lexeme);
-    moves_if(so, Place::AtAxiomText { name })
+    moves_if(
+        so,
+        Place::OfItem {
+            place: ItemPlace::AtAxiomText { name },
+        },
+    )
 }
 
 pub(crate) fn at_axiom_text(name: Text, lexeme: Lexeme<'_>) -> Turn
@@ -84,7 +107,9 @@ pub(crate) fn at_axiom_text(name: Text, lexeme: Lexeme<'_>) -> Turn
         None => Turn::Refuses,
         Some(prop) => Turn::Adds {
             command: Command::Axiom { name, prop },
-            place: Place::AfterAxiomText,
+            place: Place::OfItem {
+                place: ItemPlace::AfterAxiomText,
+            },
         },
     }
 }
@@ -94,7 +119,9 @@ pub(crate) fn after_axiom_text(lexeme: Lexeme<'_>) -> Turn
 {
     if is_word(Keyword::And, lexeme) {
         return Turn::Moves {
-            place: Place::AtAxiom,
+            place: Place::OfItem {
+                place: ItemPlace::AtAxiom,
+            },
         };
     }
     leave(command_begun(lexeme))
@@ -106,7 +133,9 @@ pub(crate) fn at_definition(alloc: Global, lexeme: Lexeme<'_>) -> Result<Turn, A
     match ident(alloc, lexeme)? {
         None => Ok(Turn::Refuses),
         Some(name) => Ok(Turn::Moves {
-            place: Place::AfterDefinition { name },
+            place: Place::OfItem {
+                place: ItemPlace::AfterDefinition { name },
+            },
         }),
     }
 }
@@ -115,7 +144,12 @@ pub(crate) fn after_definition(name: Text, lexeme: Lexeme<'_>) -> Turn
     ensures { seen_turn result ≡ spec.turn (spec.AfterDefinition name) (seen_lexeme lexeme.entry) }
 {
     let so = is_sign(Sign::DoubleColon, lexeme);
-    moves_if(so, Place::AtDefinitionType { name })
+    moves_if(
+        so,
+        Place::OfItem {
+            place: ItemPlace::AtDefinitionType { name },
+        },
+    )
 }
 
 pub(crate) fn at_definition_type(name: Text, lexeme: Lexeme<'_>) -> Turn
@@ -124,7 +158,9 @@ pub(crate) fn at_definition_type(name: Text, lexeme: Lexeme<'_>) -> Turn
     match type_in(lexeme) {
         None => Turn::Refuses,
         Some(typ) => Turn::Moves {
-            place: Place::AfterDefinitionType { name, typ },
+            place: Place::OfItem {
+                place: ItemPlace::AfterDefinitionType { name, typ },
+            },
         },
     }
 }
@@ -133,7 +169,12 @@ pub(crate) fn after_definition_type(name: Text, typ: Span, lexeme: Lexeme<'_>) -
     ensures { seen_turn result ≡ spec.turn (spec.AfterDefinitionType name (span typ)) (seen_lexeme lexeme.entry) }
 {
     let so = is_word(Keyword::Where, lexeme);
-    moves_if(so, Place::AtDefinitionText { name, typ })
+    moves_if(
+        so,
+        Place::OfItem {
+            place: ItemPlace::AtDefinitionText { name, typ },
+        },
+    )
 }
 
 pub(crate) fn at_definition_text(name: Text, typ: Span, lexeme: Lexeme<'_>) -> Turn

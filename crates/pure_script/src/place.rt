@@ -41,32 +41,27 @@ pub(crate) struct Goal {
     pub(crate) script: Vec<Step>,
 }
 
-/// A place among the commands, with what was read of the current one.
+/// A place in the declaration of a class.
 #[derive(Drop)]
-pub(crate) enum Place {
-    AtCommand,
-    AfterEnd,
+pub(crate) enum ClassPlace {
     AtClassName,
-    AfterClassName {
-        name: Text,
-    },
-    AtAbove {
-        name: Text,
-    },
-    AfterAbove {
-        name: Text,
-        above: Vec<Text>,
-    },
+    AfterClassName { name: Text },
+    AtAbove { name: Text },
+    AfterAbove { name: Text, above: Vec<Text> },
+}
+
+/// A place in the declaration of a type.
+#[derive(Drop)]
+pub(crate) enum TypePlace {
     AtParams,
-    AtParam {
-        params: Texts,
-    },
-    AfterParam {
-        params: Texts,
-    },
-    AtTypeName {
-        params: u32,
-    },
+    AtParam { params: Texts },
+    AfterParam { params: Texts },
+    AtTypeName { params: u32 },
+}
+
+/// A place in the declaration of an arity.
+#[derive(Drop)]
+pub(crate) enum ArityPlace {
     AtConstructor,
     AfterConstructor {
         con: Text,
@@ -100,49 +95,46 @@ pub(crate) enum Place {
         con: Text,
         doms: Vec<Vec<Text>>,
     },
+}
+
+/// A place in the declaration of constants or axioms, or in a definition.
+#[derive(Drop)]
+pub(crate) enum ItemPlace {
     AtItem,
-    AfterItem {
-        name: Text,
-    },
-    AtItemType {
-        name: Text,
-    },
+    AfterItem { name: Text },
+    AtItemType { name: Text },
     AfterItemType,
     AtWhere,
     AtAxiom,
-    AfterAxiom {
-        name: Text,
-    },
-    AtAxiomText {
-        name: Text,
-    },
+    AfterAxiom { name: Text },
+    AtAxiomText { name: Text },
     AfterAxiomText,
     AtDefinition,
-    AfterDefinition {
-        name: Text,
-    },
-    AtDefinitionType {
-        name: Text,
-    },
-    AfterDefinitionType {
-        name: Text,
-        typ: Span,
-    },
-    AtDefinitionText {
-        name: Text,
-        typ: Span,
-    },
+    AfterDefinition { name: Text },
+    AtDefinitionType { name: Text },
+    AfterDefinitionType { name: Text, typ: Span },
+    AtDefinitionText { name: Text, typ: Span },
+}
+
+/// A place in a lemma.
+#[derive(Drop)]
+pub(crate) enum LemmaPlace {
     AtLemma,
-    AfterLemma {
-        name: Text,
-    },
-    AtLemmaText {
-        name: Text,
-    },
-    InProof {
-        goal: Goal,
-        place: ProofPlace,
-    },
+    AfterLemma { name: Text },
+    AtLemmaText { name: Text },
+    InProof { goal: Goal, place: ProofPlace },
+}
+
+/// A place among the commands, with what was read of the current one.
+#[derive(Drop)]
+pub(crate) enum Place {
+    AtCommand,
+    AfterEnd,
+    OfClass { place: ClassPlace },
+    OfType { place: TypePlace },
+    OfArity { place: ArityPlace },
+    OfItem { place: ItemPlace },
+    OfLemma { place: LemmaPlace },
 }
 
 /// What a token leads to: another place, or a command that it ends and another place, or nothing.
@@ -169,28 +161,44 @@ pub(crate) fn command_begun(lexeme: Lexeme<'_>) -> Option<Place>
     ensures { seen_begun result ≡ spec.command_begun (seen_lexeme lexeme.entry) }
 {
     if is_word(Keyword::Class, lexeme) {
-        return Some(Place::AtClassName);
+        return Some(Place::OfClass {
+            place: ClassPlace::AtClassName,
+        });
     }
     if is_word(Keyword::Typedecl, lexeme) {
-        return Some(Place::AtParams);
+        return Some(Place::OfType {
+            place: TypePlace::AtParams,
+        });
     }
     if is_word(Keyword::Arities, lexeme) {
-        return Some(Place::AtConstructor);
+        return Some(Place::OfArity {
+            place: ArityPlace::AtConstructor,
+        });
     }
     if is_word(Keyword::Consts, lexeme) {
-        return Some(Place::AtItem);
+        return Some(Place::OfItem {
+            place: ItemPlace::AtItem,
+        });
     }
     if is_word(Keyword::Axiomatization, lexeme) {
-        return Some(Place::AtWhere);
+        return Some(Place::OfItem {
+            place: ItemPlace::AtWhere,
+        });
     }
     if is_word(Keyword::Definition, lexeme) {
-        return Some(Place::AtDefinition);
+        return Some(Place::OfItem {
+            place: ItemPlace::AtDefinition,
+        });
     }
     if is_word(Keyword::Lemma, lexeme) {
-        return Some(Place::AtLemma);
+        return Some(Place::OfLemma {
+            place: LemmaPlace::AtLemma,
+        });
     }
     if is_word(Keyword::Theorem, lexeme) {
-        return Some(Place::AtLemma);
+        return Some(Place::OfLemma {
+            place: LemmaPlace::AtLemma,
+        });
     }
     if is_word(Keyword::End, lexeme) {
         return Some(Place::AfterEnd);

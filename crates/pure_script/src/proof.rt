@@ -6,7 +6,7 @@ ghost use Rattle.pure_script.specs.Seen.{seen_lexeme, span};
 ghost use Rattle.pure_script.specs.Places.{seen_turn, seen_step, seen_steps, seen_method, seen_proof_place};
 
 use crate::lexeme::{Lexeme, is_ident, is_sign, is_word, number_in, quote_in};
-use crate::place::{FactMethod, Goal, Place, ProofPlace, Turn, ident, moves_if, name};
+use crate::place::{FactMethod, Goal, LemmaPlace, Place, ProofPlace, Turn, ident, moves_if, name};
 use crate::theory::{Command, Span, Step};
 use pure_grammar::{Keyword, Sign};
 use pure_term::Text;
@@ -18,7 +18,9 @@ pub(crate) fn at_lemma(alloc: Global, lexeme: Lexeme<'_>) -> Result<Turn, AllocE
     match ident(alloc, lexeme)? {
         None => Ok(Turn::Refuses),
         Some(name) => Ok(Turn::Moves {
-            place: Place::AfterLemma { name },
+            place: Place::OfLemma {
+                place: LemmaPlace::AfterLemma { name },
+            },
         }),
     }
 }
@@ -27,7 +29,12 @@ pub(crate) fn after_lemma(name: Text, lexeme: Lexeme<'_>) -> Turn
     ensures { seen_turn result ≡ spec.turn (spec.AfterLemma name) (seen_lexeme lexeme.entry) }
 {
     let colon = is_sign(Sign::Colon, lexeme);
-    moves_if(colon, Place::AtLemmaText { name })
+    moves_if(
+        colon,
+        Place::OfLemma {
+            place: LemmaPlace::AtLemmaText { name },
+        },
+    )
 }
 
 pub(crate) fn at_lemma_text(alloc: Global, name: Text, lexeme: Lexeme<'_>) -> Turn
@@ -56,7 +63,9 @@ fn in_proof(goal: Goal, place: ProofPlace) -> Turn
     ensures { seen_turn result ≡ spec.Moves (spec.InProof goal.name (span goal.prop) (seen_steps goal.script.items) (seen_proof_place place)) }
 {
     Turn::Moves {
-        place: Place::InProof { goal, place },
+        place: Place::OfLemma {
+            place: LemmaPlace::InProof { goal, place },
+        },
     }
 }
 
@@ -109,6 +118,7 @@ fn after_method(goal: Goal, last: bool) -> Result<Turn, AllocError>
     Ok(proved(goal))
 }
 
+#[inline(never)]
 fn at_method(goal: Goal, last: bool, lexeme: Lexeme<'_>) -> Result<Turn, AllocError>
     ensures { IfOk result (λ turn. seen_turn turn ≡ spec.proof_turn goal.name (span goal.prop) (seen_steps goal.script.items) (spec.AtMethod last) (seen_lexeme lexeme.entry)) }
 {
@@ -121,6 +131,7 @@ fn at_method(goal: Goal, last: bool, lexeme: Lexeme<'_>) -> Result<Turn, AllocEr
     Ok(Turn::Refuses)
 }
 
+#[inline(never)]
 fn at_basic(goal: Goal, last: bool, lexeme: Lexeme<'_>) -> Result<Turn, AllocError>
     ensures { IfOk result (λ turn. seen_turn turn ≡ spec.proof_turn goal.name (span goal.prop) (seen_steps goal.script.items) (spec.AtBasic last) (seen_lexeme lexeme.entry)) }
 {
@@ -148,6 +159,7 @@ fn at_basic(goal: Goal, last: bool, lexeme: Lexeme<'_>) -> Result<Turn, AllocErr
     Ok(Turn::Refuses)
 }
 
+#[inline(never)]
 fn after_basic(goal: Goal, last: bool, lexeme: Lexeme<'_>) -> Result<Turn, AllocError>
     ensures { IfOk result (λ turn. seen_turn turn ≡ spec.basic_end goal.name (span goal.prop) (seen_steps goal.script.items) last (seen_lexeme lexeme.entry)) }
 {
@@ -160,6 +172,7 @@ fn after_basic(goal: Goal, last: bool, lexeme: Lexeme<'_>) -> Result<Turn, Alloc
     Ok(Turn::Refuses)
 }
 
+#[inline(never)]
 fn at_fact(
     alloc: Global,
     goal: Goal,
@@ -178,6 +191,7 @@ fn at_fact(
     }
 }
 
+#[inline(never)]
 fn at_unfolded(
     alloc: Global,
     goal: Goal,
@@ -196,6 +210,7 @@ fn at_unfolded(
     }
 }
 
+#[inline(never)]
 fn after_unfolded(
     alloc: Global,
     goal: Goal,
@@ -215,6 +230,7 @@ fn after_unfolded(
     }
 }
 
+#[inline(never)]
 fn at_step(goal: Goal, lexeme: Lexeme<'_>) -> Result<Turn, AllocError>
     ensures { IfOk result (λ turn. seen_turn turn ≡ spec.proof_turn goal.name (span goal.prop) (seen_steps goal.script.items) spec.AtStep (seen_lexeme lexeme.entry)) }
 {
@@ -236,6 +252,7 @@ fn at_step(goal: Goal, lexeme: Lexeme<'_>) -> Result<Turn, AllocError>
     Ok(Turn::Refuses)
 }
 
+#[inline(never)]
 fn at_number(goal: Goal, lexeme: Lexeme<'_>) -> Result<Turn, AllocError>
     ensures { IfOk result (λ turn. seen_turn turn ≡ spec.proof_turn goal.name (span goal.prop) (seen_steps goal.script.items) spec.AtNumber (seen_lexeme lexeme.entry)) }
 {
@@ -246,6 +263,7 @@ fn at_number(goal: Goal, lexeme: Lexeme<'_>) -> Result<Turn, AllocError>
 }
 
 /// Where a token of a proof leads to.
+#[inline(never)]
 pub(crate) fn proof_turn(
     alloc: Global,
     goal: Goal,

@@ -4,11 +4,13 @@ ghost use Rattle.pure_grammar.specs.Lexeme.{Ends};
 ghost use Rattle.pure_grammar.specs.PhraseTree.{with_text};
 ghost use Rattle.pure_grammar.specs.Reader as spec;
 ghost use Rattle.pure_script.specs.Seen.{seen_lexeme};
-ghost use Rattle.pure_script.specs.Places.{seen_place, seen_proof_place, seen_turn, seen_command, seen_commands};
+ghost use Rattle.pure_script.specs.Places.{seen_place, seen_class_place, seen_type_place, seen_arity_place, seen_item_place, seen_lemma_place, seen_proof_place, seen_turn, seen_command, seen_commands};
 ghost use Rattle.pure_script.specs.States.{seen_state, seen_next, seen_header, seen_end};
 
 use crate::lexeme::{Lexeme, is_word};
-use crate::place::{Place, ProofPlace, Turn, ident};
+use crate::place::{
+    ArityPlace, ClassPlace, ItemPlace, LemmaPlace, Place, ProofPlace, Turn, TypePlace, ident,
+};
 use crate::texts::Texts;
 use crate::theory::{Command, TheoryText};
 use crate::turn::turn;
@@ -257,47 +259,87 @@ fn kind_in_proof(place: &ProofPlace) -> TokenKind
     }
 }
 
+fn class_kind(place: &ClassPlace) -> TokenKind
+    ensures { result ≡ spec.kind_at (seen_class_place place.now) }
+{
+    match place {
+        ClassPlace::AtClassName => TokenKind::Ident,
+        ClassPlace::AfterClassName { .. } => TokenKind::Word,
+        ClassPlace::AtAbove { .. } => TokenKind::Ident,
+        ClassPlace::AfterAbove { .. } => TokenKind::Word,
+    }
+}
+
+fn type_kind(place: &TypePlace) -> TokenKind
+    ensures { result ≡ spec.kind_at (seen_type_place place.now) }
+{
+    match place {
+        TypePlace::AtParams => TokenKind::Ident,
+        TypePlace::AtParam { .. } => TokenKind::TypeVar,
+        TypePlace::AfterParam { .. } => TokenKind::Symbol,
+        TypePlace::AtTypeName { .. } => TokenKind::Ident,
+    }
+}
+
+fn arity_kind(place: &ArityPlace) -> TokenKind
+    ensures { result ≡ spec.kind_at (seen_arity_place place.now) }
+{
+    match place {
+        ArityPlace::AtConstructor => TokenKind::Ident,
+        ArityPlace::AfterConstructor { .. } => TokenKind::Symbol,
+        ArityPlace::AtDomains { .. } => TokenKind::Ident,
+        ArityPlace::AtSort { .. } => TokenKind::Ident,
+        ArityPlace::AfterSort { .. } => TokenKind::Symbol,
+        ArityPlace::AtFirstClass { .. } => TokenKind::Ident,
+        ArityPlace::AtNextClass { .. } => TokenKind::Ident,
+        ArityPlace::AfterClass { .. } => TokenKind::Symbol,
+        ArityPlace::AtArityClass { .. } => TokenKind::Ident,
+    }
+}
+
+fn item_kind(place: &ItemPlace) -> TokenKind
+    ensures { result ≡ spec.kind_at (seen_item_place place.now) }
+{
+    match place {
+        ItemPlace::AtItem => TokenKind::Ident,
+        ItemPlace::AfterItem { .. } => TokenKind::Symbol,
+        ItemPlace::AtItemType { .. } => TokenKind::Quote,
+        ItemPlace::AfterItemType => TokenKind::Word,
+        ItemPlace::AtWhere => TokenKind::Word,
+        ItemPlace::AtAxiom => TokenKind::Ident,
+        ItemPlace::AfterAxiom { .. } => TokenKind::Symbol,
+        ItemPlace::AtAxiomText { .. } => TokenKind::Quote,
+        ItemPlace::AfterAxiomText => TokenKind::Word,
+        ItemPlace::AtDefinition => TokenKind::Ident,
+        ItemPlace::AfterDefinition { .. } => TokenKind::Symbol,
+        ItemPlace::AtDefinitionType { .. } => TokenKind::Quote,
+        ItemPlace::AfterDefinitionType { .. } => TokenKind::Word,
+        ItemPlace::AtDefinitionText { .. } => TokenKind::Quote,
+    }
+}
+
+fn lemma_kind(place: &LemmaPlace) -> TokenKind
+    ensures { result ≡ spec.kind_at (seen_lemma_place place.now) }
+{
+    match place {
+        LemmaPlace::AtLemma => TokenKind::Ident,
+        LemmaPlace::AfterLemma { .. } => TokenKind::Symbol,
+        LemmaPlace::AtLemmaText { .. } => TokenKind::Quote,
+        LemmaPlace::InProof { place, .. } => kind_in_proof(place),
+    }
+}
+
 fn kind_at(place: &Place) -> TokenKind
     ensures { result ≡ spec.kind_at (seen_place place.now) }
 {
     match place {
         Place::AtCommand => TokenKind::Word,
         Place::AfterEnd => TokenKind::End,
-        Place::AtClassName => TokenKind::Ident,
-        Place::AfterClassName { .. } => TokenKind::Word,
-        Place::AtAbove { .. } => TokenKind::Ident,
-        Place::AfterAbove { .. } => TokenKind::Word,
-        Place::AtParams => TokenKind::Ident,
-        Place::AtParam { .. } => TokenKind::TypeVar,
-        Place::AfterParam { .. } => TokenKind::Symbol,
-        Place::AtTypeName { .. } => TokenKind::Ident,
-        Place::AtConstructor => TokenKind::Ident,
-        Place::AfterConstructor { .. } => TokenKind::Symbol,
-        Place::AtDomains { .. } => TokenKind::Ident,
-        Place::AtSort { .. } => TokenKind::Ident,
-        Place::AfterSort { .. } => TokenKind::Symbol,
-        Place::AtFirstClass { .. } => TokenKind::Ident,
-        Place::AtNextClass { .. } => TokenKind::Ident,
-        Place::AfterClass { .. } => TokenKind::Symbol,
-        Place::AtArityClass { .. } => TokenKind::Ident,
-        Place::AtItem => TokenKind::Ident,
-        Place::AfterItem { .. } => TokenKind::Symbol,
-        Place::AtItemType { .. } => TokenKind::Quote,
-        Place::AfterItemType => TokenKind::Word,
-        Place::AtWhere => TokenKind::Word,
-        Place::AtAxiom => TokenKind::Ident,
-        Place::AfterAxiom { .. } => TokenKind::Symbol,
-        Place::AtAxiomText { .. } => TokenKind::Quote,
-        Place::AfterAxiomText => TokenKind::Word,
-        Place::AtDefinition => TokenKind::Ident,
-        Place::AfterDefinition { .. } => TokenKind::Symbol,
-        Place::AtDefinitionType { .. } => TokenKind::Quote,
-        Place::AfterDefinitionType { .. } => TokenKind::Word,
-        Place::AtDefinitionText { .. } => TokenKind::Quote,
-        Place::AtLemma => TokenKind::Ident,
-        Place::AfterLemma { .. } => TokenKind::Symbol,
-        Place::AtLemmaText { .. } => TokenKind::Quote,
-        Place::InProof { place, .. } => kind_in_proof(place),
+        Place::OfClass { place } => class_kind(place),
+        Place::OfType { place } => type_kind(place),
+        Place::OfArity { place } => arity_kind(place),
+        Place::OfItem { place } => item_kind(place),
+        Place::OfLemma { place } => lemma_kind(place),
     }
 }
 

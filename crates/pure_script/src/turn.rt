@@ -1,13 +1,95 @@
-//! Where a token of the commands leads to.
+//! Where a token of the commands leads to. The groups of places stay functions of their own when they are compiled, since each
+//! function pays at its entry for all its locals.
 ghost use Rattle.std.specs.Prelude.{◌≡◌, IfOk};
 ghost use Rattle.pure_grammar.specs.Reader as spec;
 ghost use Rattle.pure_script.specs.Seen.{seen_lexeme};
-ghost use Rattle.pure_script.specs.Places.{seen_place, seen_turn};
+ghost use Rattle.pure_script.specs.Places.{seen_place, seen_class_place, seen_type_place, seen_arity_place, seen_item_place, seen_lemma_place, seen_turn};
 
 use crate::lexeme::Lexeme;
-use crate::place::{Place, Turn, command_begun, leave};
+use crate::place::{
+    ArityPlace, ClassPlace, ItemPlace, LemmaPlace, Place, Turn, TypePlace, command_begun, leave,
+};
 use crate::{arity, class, item, proof, typedecl};
 use std::alloc::{AllocError, Global};
+
+#[inline(never)]
+fn class_turn(alloc: Global, place: ClassPlace, l: Lexeme<'_>) -> Result<Turn, AllocError>
+    ensures { IfOk result (λ turn. seen_turn turn ≡ spec.turn (seen_class_place place) (seen_lexeme l.entry)) }
+{
+    match place {
+        ClassPlace::AtClassName => class::at_class_name(alloc, l),
+        ClassPlace::AfterClassName { name } => Ok(class::after_class_name(alloc, name, l)),
+        ClassPlace::AtAbove { name } => class::at_above(alloc, name, l),
+        ClassPlace::AfterAbove { name, above } => class::after_above(alloc, name, above, l),
+    }
+}
+
+#[inline(never)]
+fn type_turn(alloc: Global, place: TypePlace, l: Lexeme<'_>) -> Result<Turn, AllocError>
+    ensures { IfOk result (λ turn. seen_turn turn ≡ spec.turn (seen_type_place place) (seen_lexeme l.entry)) }
+{
+    match place {
+        TypePlace::AtParams => typedecl::at_params(alloc, l),
+        TypePlace::AtParam { params } => typedecl::at_param(alloc, params, l),
+        TypePlace::AfterParam { params } => typedecl::after_param(params, l),
+        TypePlace::AtTypeName { params } => typedecl::at_type_name(alloc, params, l),
+    }
+}
+
+#[inline(never)]
+fn arity_turn(alloc: Global, place: ArityPlace, l: Lexeme<'_>) -> Result<Turn, AllocError>
+    ensures { IfOk result (λ turn. seen_turn turn ≡ spec.turn (seen_arity_place place) (seen_lexeme l.entry)) }
+{
+    match place {
+        ArityPlace::AtConstructor => arity::at_constructor(alloc, l),
+        ArityPlace::AfterConstructor { con } => Ok(arity::after_constructor(con, l)),
+        ArityPlace::AtDomains { con } => arity::at_domains(alloc, con, l),
+        ArityPlace::AtSort { con, doms } => arity::at_sort(alloc, con, doms, l),
+        ArityPlace::AfterSort { con, doms } => Ok(arity::after_sort(con, doms, l)),
+        ArityPlace::AtFirstClass { con, doms } => arity::at_first_class(alloc, con, doms, l),
+        ArityPlace::AtNextClass { con, doms, sort } => arity::at_next_class(
+            alloc, con, doms, sort, l,
+        ),
+        ArityPlace::AfterClass { con, doms, sort } => arity::after_class(con, doms, sort, l),
+        ArityPlace::AtArityClass { con, doms } => arity::at_arity_class(alloc, con, doms, l),
+    }
+}
+
+#[inline(never)]
+fn item_turn(alloc: Global, place: ItemPlace, l: Lexeme<'_>) -> Result<Turn, AllocError>
+    ensures { IfOk result (λ turn. seen_turn turn ≡ spec.turn (seen_item_place place) (seen_lexeme l.entry)) }
+{
+    match place {
+        ItemPlace::AtItem => item::at_item(alloc, l),
+        ItemPlace::AfterItem { name } => Ok(item::after_item(name, l)),
+        ItemPlace::AtItemType { name } => Ok(item::at_item_type(name, l)),
+        ItemPlace::AfterItemType => item::after_item_type(alloc, l),
+        ItemPlace::AtWhere => Ok(item::at_where(l)),
+        ItemPlace::AtAxiom => item::at_axiom(alloc, l),
+        ItemPlace::AfterAxiom { name } => Ok(item::after_axiom(name, l)),
+        ItemPlace::AtAxiomText { name } => Ok(item::at_axiom_text(name, l)),
+        ItemPlace::AfterAxiomText => Ok(item::after_axiom_text(l)),
+        ItemPlace::AtDefinition => item::at_definition(alloc, l),
+        ItemPlace::AfterDefinition { name } => Ok(item::after_definition(name, l)),
+        ItemPlace::AtDefinitionType { name } => Ok(item::at_definition_type(name, l)),
+        ItemPlace::AfterDefinitionType { name, typ } => Ok(item::after_definition_type(
+            name, typ, l,
+        )),
+        ItemPlace::AtDefinitionText { name, typ } => Ok(item::at_definition_text(name, typ, l)),
+    }
+}
+
+#[inline(never)]
+fn lemma_turn(alloc: Global, place: LemmaPlace, l: Lexeme<'_>) -> Result<Turn, AllocError>
+    ensures { IfOk result (λ turn. seen_turn turn ≡ spec.turn (seen_lemma_place place) (seen_lexeme l.entry)) }
+{
+    match place {
+        LemmaPlace::AtLemma => proof::at_lemma(alloc, l),
+        LemmaPlace::AfterLemma { name } => Ok(proof::after_lemma(name, l)),
+        LemmaPlace::AtLemmaText { name } => Ok(proof::at_lemma_text(alloc, name, l)),
+        LemmaPlace::InProof { goal, place } => proof::proof_turn(alloc, goal, place, l),
+    }
+}
 
 /// Where the token leads to from the place.
 pub(crate) fn turn(alloc: Global, place: Place, l: Lexeme<'_>) -> Result<Turn, AllocError>
@@ -16,40 +98,10 @@ pub(crate) fn turn(alloc: Global, place: Place, l: Lexeme<'_>) -> Result<Turn, A
     match place {
         Place::AtCommand => Ok(leave(command_begun(l))),
         Place::AfterEnd => Ok(Turn::Refuses),
-        Place::AtClassName => class::at_class_name(alloc, l),
-        Place::AfterClassName { name } => Ok(class::after_class_name(alloc, name, l)),
-        Place::AtAbove { name } => class::at_above(alloc, name, l),
-        Place::AfterAbove { name, above } => class::after_above(alloc, name, above, l),
-        Place::AtParams => typedecl::at_params(alloc, l),
-        Place::AtParam { params } => typedecl::at_param(alloc, params, l),
-        Place::AfterParam { params } => typedecl::after_param(params, l),
-        Place::AtTypeName { params } => typedecl::at_type_name(alloc, params, l),
-        Place::AtConstructor => arity::at_constructor(alloc, l),
-        Place::AfterConstructor { con } => Ok(arity::after_constructor(con, l)),
-        Place::AtDomains { con } => arity::at_domains(alloc, con, l),
-        Place::AtSort { con, doms } => arity::at_sort(alloc, con, doms, l),
-        Place::AfterSort { con, doms } => Ok(arity::after_sort(con, doms, l)),
-        Place::AtFirstClass { con, doms } => arity::at_first_class(alloc, con, doms, l),
-        Place::AtNextClass { con, doms, sort } => arity::at_next_class(alloc, con, doms, sort, l),
-        Place::AfterClass { con, doms, sort } => arity::after_class(con, doms, sort, l),
-        Place::AtArityClass { con, doms } => arity::at_arity_class(alloc, con, doms, l),
-        Place::AtItem => item::at_item(alloc, l),
-        Place::AfterItem { name } => Ok(item::after_item(name, l)),
-        Place::AtItemType { name } => Ok(item::at_item_type(name, l)),
-        Place::AfterItemType => item::after_item_type(alloc, l),
-        Place::AtWhere => Ok(item::at_where(l)),
-        Place::AtAxiom => item::at_axiom(alloc, l),
-        Place::AfterAxiom { name } => Ok(item::after_axiom(name, l)),
-        Place::AtAxiomText { name } => Ok(item::at_axiom_text(name, l)),
-        Place::AfterAxiomText => Ok(item::after_axiom_text(l)),
-        Place::AtDefinition => item::at_definition(alloc, l),
-        Place::AfterDefinition { name } => Ok(item::after_definition(name, l)),
-        Place::AtDefinitionType { name } => Ok(item::at_definition_type(name, l)),
-        Place::AfterDefinitionType { name, typ } => Ok(item::after_definition_type(name, typ, l)),
-        Place::AtDefinitionText { name, typ } => Ok(item::at_definition_text(name, typ, l)),
-        Place::AtLemma => proof::at_lemma(alloc, l),
-        Place::AfterLemma { name } => Ok(proof::after_lemma(name, l)),
-        Place::AtLemmaText { name } => Ok(proof::at_lemma_text(alloc, name, l)),
-        Place::InProof { goal, place } => proof::proof_turn(alloc, goal, place, l),
+        Place::OfClass { place } => class_turn(alloc, place, l),
+        Place::OfType { place } => type_turn(alloc, place, l),
+        Place::OfArity { place } => arity_turn(alloc, place, l),
+        Place::OfItem { place } => item_turn(alloc, place, l),
+        Place::OfLemma { place } => lemma_turn(alloc, place, l),
     }
 }

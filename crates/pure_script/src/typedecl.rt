@@ -5,7 +5,7 @@ ghost use Rattle.pure_script.specs.Seen.{seen_lexeme};
 ghost use Rattle.pure_script.specs.Places.{seen_turn};
 
 use crate::lexeme::{Lexeme, is_sign, variable_in};
-use crate::place::{Place, Turn, ident, moves_if, variable};
+use crate::place::{Place, Turn, TypePlace, ident, moves_if, variable};
 use crate::texts::Texts;
 use crate::theory::Command;
 use pure_grammar::Sign;
@@ -33,13 +33,17 @@ pub(crate) fn at_params(alloc: Global, lexeme: Lexeme<'_>) -> Result<Turn, Alloc
 {
     match variable_in(lexeme) {
         Some(_) => Ok(Turn::Moves {
-            place: Place::AtTypeName { params: 1 },
+            place: Place::OfType {
+                place: TypePlace::AtTypeName { params: 1 },
+            },
         }),
         None => {
             if is_sign(Sign::OpenParenthesis, lexeme) {
                 let params = Texts::none(alloc);
                 return Ok(Turn::Moves {
-                    place: Place::AtParam { params },
+                    place: Place::OfType {
+                        place: TypePlace::AtParam { params },
+                    },
                 });
             }
             at_type_name(alloc, 0, lexeme)
@@ -58,7 +62,9 @@ pub(crate) fn at_param(alloc: Global, params: Texts, lexeme: Lexeme<'_>) -> Resu
                 return Ok(Turn::Refuses);
             }
             Ok(Turn::Moves {
-                place: Place::AfterParam { params },
+                place: Place::OfType {
+                    place: TypePlace::AfterParam { params },
+                },
             })
         }
     }
@@ -69,12 +75,16 @@ pub(crate) fn after_param(params: Texts, lexeme: Lexeme<'_>) -> Result<Turn, All
 {
     if is_sign(Sign::Comma, lexeme) {
         return Ok(Turn::Moves {
-            place: Place::AtParam { params },
+            place: Place::OfType {
+                place: TypePlace::AtParam { params },
+            },
         });
     }
     let params = params.count()?;
     Ok(moves_if(
         is_sign(Sign::CloseParenthesis, lexeme),
-        Place::AtTypeName { params },
+        Place::OfType {
+            place: TypePlace::AtTypeName { params },
+        },
     ))
 }
