@@ -2,7 +2,7 @@
 use Rattle.std.proofs.Common.{◌≡◌, ℕ, ◌+◌, List, [], ◌∷◌, Bool, true, false, refl, subst, arith}
 use Rattle.std.specs.Prelude.{◌-◌, nat_eq, nat_lt, if◌then◌else◌, Some}
 use Rattle.pure_term.specs.Typ.{Typ, arrow}
-use Rattle.pure_term.specs.Term.{Term, Const, Free, Var, Bound, Abs, App}
+use Rattle.pure_term.specs.Term.{Term, Const, Free, Var, Bound, Abs, App, IsWithin}
 use Rattle.pure_term.specs.Typing.{HasType}
 use Rattle.pure_term.specs.Bounds.{IsClosedUnder, lift_term, subst_under}
 use Rattle.pure_term.specs.Decl.{Decl}
@@ -11,7 +11,7 @@ use Rattle.pure_term.specs.Beta.{IsAbs, IsBetaNormal, beta_step, IsBetaSequence,
 use Rattle.pure_term.proofs.LiftLaws.{lift_term-bound}
 use Rattle.pure_term.proofs.BetaLaws.{one_beta_sequence_to_normal}
 use Rattle.pure_term.proofs.TypingBoundLaws.{typing-subst}
-use Rattle.pure_norm.specs.LawsBeta.{NormalFormIsNormal, OneNormalForm, NormalFormOfNormal, StepKeepsType, StepKeepsCertified, StepKeepsClosed, NormalFormKeepsType, NormalFormKeepsCertified, NormalFormKeepsClosed, NormalUnderLift}
+use Rattle.pure_norm.specs.LawsBeta.{NormalFormIsNormal, NormalFormIsWithin, OneNormalForm, NormalFormOfNormal, StepKeepsType, StepKeepsCertified, StepKeepsClosed, NormalFormKeepsType, NormalFormKeepsCertified, NormalFormKeepsClosed, NormalUnderLift}
 use Rattle.pure_norm.proofs.StepLemmas.{IsStep, contracted, in_function, in_argument, in_body, step-is_step, step-closed}
 
 typing-redex : (bs : List Typ) (T : Typ) (b a : Term) (U : Typ) → HasType bs (App (Abs T b) a) U → HasType bs (subst_under 0 a b) U
@@ -86,6 +86,9 @@ normal_form-keeps_closed n t u a h = answer-keeps (IsClosedUnder n) (step-closed
 
 pub normal_form-is_normal : NormalFormIsNormal
 normal_form-is_normal t u a = subst IsBetaNormal a.decided.2 a.decided.1
+
+pub normal_form-is_within : NormalFormIsWithin
+normal_form-is_within t u a = subst IsWithin a.decided.2 a.decided.0
 
 pub one_normal_form : OneNormalForm
 one_normal_form t u v vs a s normal =

@@ -12,6 +12,10 @@ use Rattle.pure_term.specs.Beta.{IsBetaNormal, beta_step, IsBetaSequence, IsBeta
 abbrev pub NormalFormIsNormal : Type 0
 NormalFormIsNormal = (t u : Term) → IsBetaAnswer t (NormalForm u) → IsBetaNormal u
 
+-- It is within the limits.
+abbrev pub NormalFormIsWithin : Type 0
+NormalFormIsWithin = (t u : Term) → IsBetaAnswer t (NormalForm u) → IsWithin u
+
 -- It is the one normal term that the sequence of the term reaches.
 abbrev pub OneNormalForm : Type 0
 OneNormalForm = (t u v : Term) (vs : List Term) → IsBetaAnswer t (NormalForm u) → IsBetaSequence t vs v → IsBetaNormal v → v ≡ u

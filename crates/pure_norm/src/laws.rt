@@ -1,9 +1,10 @@
 //! What normal forms are and what they keep: laws, each carried by the contract of a function that does nothing.
-ghost use Rattle.pure_norm.specs.LawsBeta.{NormalFormIsNormal, OneNormalForm, NormalFormOfNormal, StepKeepsType, StepKeepsCertified, StepKeepsClosed, NormalFormKeepsType, NormalFormKeepsCertified, NormalFormKeepsClosed, NormalUnderLift};
+ghost use Rattle.pure_norm.specs.LawsBeta.{NormalFormIsNormal, NormalFormIsWithin, OneNormalForm, NormalFormOfNormal, StepKeepsType, StepKeepsCertified, StepKeepsClosed, NormalFormKeepsType, NormalFormKeepsCertified, NormalFormKeepsClosed, NormalUnderLift};
 
-/// A normal form has no redex, and is the one normal term that the steps reach.
+/// A normal form has no redex, is within the limits, and is the one normal term that the steps reach.
 pub fn one_normal_form()
     ensures normal { NormalFormIsNormal }
+    ensures within { NormalFormIsWithin }
     ensures one { OneNormalForm }
     ensures itself { NormalFormOfNormal }
 {}
