@@ -1,0 +1,4 @@
+pub mod Joins
+pub mod TypLemmas
+pub mod Numerals
+pub mod SessionLemmas

@@ -1,0 +1,6 @@
+pub mod NameText
+pub mod TypText
+pub mod Notation
+pub mod TermText
+pub mod Forms
+pub mod RowText
