@@ -7,3 +7,5 @@ pub mod ReaderLemmas
 pub mod OuterLemmas
 pub mod ReadLemmas
 pub mod FaultLemmas
+pub mod InnerReaderLemmas
+pub mod InnerLemmas

@@ -9,3 +9,10 @@ pub mod PhraseText
 pub mod PhraseTree
 pub mod Outer
 pub mod Reader
+pub mod InnerLexeme
+pub mod InnerPhrase
+pub mod InnerText
+pub mod RawTree
+pub mod InnerTree
+pub mod Inner
+pub mod InnerReader

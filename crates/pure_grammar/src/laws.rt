@@ -1,4 +1,5 @@
 //! Laws of the definitions. Each function has no body: its contract is the law.
+ghost use Rattle.pure_grammar.specs.Inner.{OneTerm, OneType};
 ghost use Rattle.pure_grammar.specs.Outer.{OneTheory};
 ghost use Rattle.pure_grammar.specs.Spelling.{OneList, ListOrFault, OneFault, QuoteHasMarks, TokensAreSlices};
 
@@ -30,4 +31,14 @@ pub fn quote_has_marks()
 /// No tokens of a source spell two trees of a theory.
 pub fn one_theory()
     ensures { OneTheory }
+{}
+
+/// No tokens of a source spell two trees of a term.
+pub fn one_term()
+    ensures { OneTerm }
+{}
+
+/// No tokens of a source spell two trees of a type.
+pub fn one_type()
+    ensures { OneType }
 {}
