@@ -4,3 +4,5 @@ pub mod Notation
 pub mod TermText
 pub mod Forms
 pub mod RowText
+pub mod Readable
+pub mod ReadBack

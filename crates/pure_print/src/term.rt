@@ -3,6 +3,8 @@ ghost use Rattle.std.specs.Prelude.{◌≡◌, ◌++◌, ◌+◌, IfOk, OnOk};
 ghost use Rattle.pure_print.specs.Notation.{notation, number_of};
 ghost use Rattle.pure_print.specs.TermText.{number_text, body_text, placed, form_text, term_text};
 ghost use Rattle.pure_print.specs.Forms.{seen_form};
+ghost use Rattle.pure_print.specs.Readable.{IsReadable};
+ghost use Rattle.pure_print.specs.ReadBack.{IsReadBack};
 
 use crate::form::Form;
 use crate::name::{push_index, push_term_name};
@@ -13,6 +15,7 @@ use std::alloc::{AllocError, Global};
 /// The printed form of a term.
 pub fn print_term(alloc: Global, names: &Names, t: &Term) -> Result<Text, AllocError>
     ensures printed { IfOk result (λ text. text ≡ term_text names.now t.now) }
+    ensures read_back { IfOk result (λ text. IsReadable names.now t.now → IsReadBack names.now t.now text) }
 {
     let mut text = Vec::new(alloc);
     push_term(&mut text, names, 0, 0, t)?;

@@ -1,6 +1,8 @@
 //! Types as they are printed.
 ghost use Rattle.std.specs.Prelude.{◌≡◌, ◌++◌, IfOk, OnOk};
 ghost use Rattle.pure_term.specs.Typ.{Con, typs_of};
+ghost use Rattle.pure_print.specs.Readable.{IsReadableTyp};
+ghost use Rattle.pure_print.specs.ReadBack.{IsReadBackTyp};
 ghost use Rattle.pure_print.specs.TypText as spec;
 
 use crate::name::{push_index, push_sort, push_typ_name, push_typ_variable};
@@ -14,6 +16,7 @@ const PROP: Name = Name(1);
 /// The printed form of a type.
 pub fn print_typ(alloc: Global, names: &Names, t: &Typ) -> Result<Text, AllocError>
     ensures printed { IfOk result (λ text. text ≡ spec.typ_text names.now t.now) }
+    ensures read_back { IfOk result (λ text. IsReadableTyp names.now t.now → IsReadBackTyp names.now t.now text) }
 {
     let mut text = Vec::new(alloc);
     push_typ(&mut text, names, t)?;
