@@ -82,7 +82,7 @@ fn push_row(text: &mut Vec<u8>, row: &Row) -> Result<(), AllocError>
     text.push(b' ')?;
     text.extend_from_slice(row.head.bytes())?;
     text.extend_from_slice(row.tail.bytes())?;
-    text.push(b'\n')?;
+    text.extend_from_slice(b"\n")?;
     Ok(())
 }
 
