@@ -1,0 +1,14 @@
+pub mod Joins
+pub mod TypLemmas
+pub mod Numerals
+pub mod SessionLemmas
+pub mod Pieces
+pub mod Bits
+pub mod FirstTokens
+pub mod Signs
+pub mod Names
+pub mod SortBits
+pub mod TypBits
+pub mod TypReadBack
+pub mod FormBits
+pub mod TermReadBack

@@ -1,0 +1,15 @@
+//! Printing of types, terms, rows and the table.
+#![tactic(auto)]
+
+mod form;
+mod name;
+mod number;
+mod row;
+mod term;
+#[cfg(test)]
+mod tests;
+mod typ;
+
+pub use row::{Row, RowStatus, print_row, print_table};
+pub use term::print_term;
+pub use typ::print_typ;

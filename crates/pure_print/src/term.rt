@@ -1,0 +1,127 @@
+//! Terms as they are printed.
+ghost use Rattle.std.specs.Prelude.{◌≡◌, ◌++◌, ◌+◌, IfOk, OnOk};
+ghost use Rattle.pure_print.specs.Notation.{notation, number_of};
+ghost use Rattle.pure_print.specs.TermText.{number_text, body_text, placed, form_text, term_text};
+ghost use Rattle.pure_print.specs.Forms.{seen_form};
+ghost use Rattle.pure_print.specs.Readable.{IsReadable};
+ghost use Rattle.pure_print.specs.ReadBack.{IsReadBack};
+
+use crate::form::Form;
+use crate::name::{push_index, push_term_name};
+use crate::number::push_number;
+use pure_term::{Names, Term, Text};
+use std::alloc::{AllocError, Global};
+
+/// The printed form of a term.
+pub fn print_term(alloc: Global, names: &Names, t: &Term) -> Result<Text, AllocError>
+    ensures printed { IfOk result (λ text. text ≡ term_text names.now t.now) }
+    ensures read_back { IfOk result (λ text. IsReadable names.now t.now → IsReadBack names.now t.now text) }
+{
+    let mut text = Vec::new(alloc);
+    push_term(&mut text, names, 0, 0, t)?;
+    Ok(Text::from(text))
+}
+
+/// Appends a term under so many binders, in parentheses where it binds less tightly than the level.
+#[cycle(term)]
+fn push_term(
+    text: &mut Vec<u8>,
+    names: &Names,
+    binders: usize,
+    level: u8,
+    t: &Term,
+) -> Result<(), AllocError>
+    ensures { OnOk result (text.new.items ≡ text.old.items ++ placed level (notation binders t.now) (form_text names.now (notation binders t.now))) }
+{
+    let form = Form::of(t);
+    if form.level() >= level {
+        return push_form(text, names, binders, &form);
+    }
+    text.push(b'(')?;
+    push_form(text, names, binders, &form)?;
+    text.push(b')')?;
+    Ok(())
+}
+
+#[cycle(term)]
+fn push_form(
+    text: &mut Vec<u8>,
+    names: &Names,
+    binders: usize,
+    form: &Form<'_>,
+) -> Result<(), AllocError>
+    ensures { OnOk result (text.new.items ≡ text.old.items ++ form_text names.now (seen_form binders form.now)) }
+{
+    match form {
+        Form::Constant { name } => push_term_name(text, names, *name),
+        Form::Fixed { name } => push_term_name(text, names, *name),
+        Form::Schematic { name, index } => {
+            text.push(b'?')?;
+            push_term_name(text, names, *name)?;
+            push_index(text, *index)
+        }
+        Form::Bound { place } => push_bound(text, binders, *place),
+        Form::ForAll { body } => {
+            text.extend_from_slice(b"!!")?;
+            push_body(text, names, binders, 0, body)
+        }
+        Form::Lambda { body } => {
+            text.push(b'%')?;
+            push_body(text, names, binders, 3, body)
+        }
+        Form::Implies { left, right } => {
+            push_term(text, names, binders, 2, left)?;
+            text.extend_from_slice(b" ==> ")?;
+            push_term(text, names, binders, 1, right)
+        }
+        Form::Equal { left, right } => {
+            push_term(text, names, binders, 3, left)?;
+            text.extend_from_slice(b" == ")?;
+            push_term(text, names, binders, 3, right)
+        }
+        Form::Apply { function, argument } => {
+            push_term(text, names, binders, 4, function)?;
+            text.push(b' ')?;
+            push_term(text, names, binders, 5, argument)
+        }
+    }
+}
+
+/// Appends a binder without its mark, and its body.
+#[cycle(term)]
+fn push_body(
+    text: &mut Vec<u8>,
+    names: &Names,
+    binders: usize,
+    level: u8,
+    body: &Term,
+) -> Result<(), AllocError>
+    ensures { OnOk result (text.new.items ≡ text.old.items ++ body_text level binders (notation (binders + 1) body.now) (form_text names.now (notation (binders + 1) body.now))) }
+{
+    let Some(inner) = binders.checked_add(1) else {
+        return Err(AllocError);
+    };
+    push_bound_name(text, binders)?;
+    text.extend_from_slice(b". ")?;
+    push_term(text, names, inner, level, body)
+}
+
+/// Appends the name of the binder that has this number.
+fn push_bound_name(text: &mut Vec<u8>, number: usize) -> Result<(), AllocError>
+    ensures { OnOk result (text.new.items ≡ text.old.items ++ number_text number) }
+{
+    text.push(b'_')?;
+    push_number(text, number)
+}
+
+/// Appends the name of a bound variable under so many binders.
+fn push_bound(text: &mut Vec<u8>, binders: usize, place: u32) -> Result<(), AllocError>
+    ensures { OnOk result (text.new.items ≡ text.old.items ++ number_text (number_of binders place)) }
+{
+    let place = place as usize;
+    if place < binders {
+        push_bound_name(text, binders - (place + 1))
+    } else {
+        push_bound_name(text, place)
+    }
+}
