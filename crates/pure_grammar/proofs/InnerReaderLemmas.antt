@@ -229,11 +229,11 @@ mutual
 -- ---- binders
 
 -- what stands open behind binders
-abbrev more_binder_frames : Quantifier → List BinderPhrase → List Frame → List Frame
+abbrev pub more_binder_frames : Quantifier → List BinderPhrase → List Frame → List Frame
 more_binder_frames q [] k = k
 more_binder_frames q (b ∷ bs) k = more_binder_frames q bs (bound q (binder_place b) (binder_place b) (binder_var b) (binder_typ b) ∷ k)
 
-abbrev binder_frames : Quantifier → ℕ → BindersPhrase → List Frame → List Frame
+abbrev pub binder_frames : Quantifier → ℕ → BindersPhrase → List Frame → List Frame
 binder_frames q at (OneTyped x T) k = bound q at (var_place x) (var_of x) (Some (type_raw T)) ∷ k
 binder_frames q at (Binders b bs) k = more_binder_frames q bs (bound q at (binder_place b) (binder_var b) (binder_typ b) ∷ k)
 
@@ -272,7 +272,7 @@ reduced-more_alls : (bs : List BinderPhrase) (a at b : ℕ) (x : List ℕ) (T : 
 reduced-more_alls [] a at b x T t k = refl
 reduced-more_alls (c ∷ bs) a at b x T t k = reduced-more_alls bs a (binder_place c) (binder_place c) (binder_var c) (binder_typ c) t (Joined (AllBody at b x T) ∷ k)
 
-reduced-alls : (bs : BindersPhrase) (a at : ℕ) (t : RawTree) (k : List Frame) → reduced 1 a t (binder_frames OfAll at bs k) ≡ reduced 1 at (all_raw at bs t) k
+pub reduced-alls : (bs : BindersPhrase) (a at : ℕ) (t : RawTree) (k : List Frame) → reduced 1 a t (binder_frames OfAll at bs k) ≡ reduced 1 at (all_raw at bs t) k
 reduced-alls (OneTyped x T) a at t k = refl
 reduced-alls (Binders b bs) a at t k = reduced-more_alls bs a at (binder_place b) (binder_var b) (binder_typ b) t k
 
@@ -281,7 +281,7 @@ reduced-more_lambdas : (bs : List BinderPhrase) (n a at : ℕ) (x : List ℕ) (T
 reduced-more_lambdas [] n a at x T t k e = rw e refl
 reduced-more_lambdas (c ∷ bs) n a at x T t k e = reduced-more_lambdas bs n a (binder_place c) (binder_var c) (binder_typ c) t (Joined (LambdaBody at x T) ∷ k) e ∙ rw e refl
 
-reduced-lambdas : (bs : BindersPhrase) (n a at : ℕ) (t : RawTree) (k : List Frame) → nat_le n 3 ≡ true → reduced n a t (binder_frames OfLambda at bs k) ≡ reduced n at (lambda_raw at bs t) k
+pub reduced-lambdas : (bs : BindersPhrase) (n a at : ℕ) (t : RawTree) (k : List Frame) → nat_le n 3 ≡ true → reduced n a t (binder_frames OfLambda at bs k) ≡ reduced n at (lambda_raw at bs t) k
 reduced-lambdas (OneTyped x T) n a at t k e = rw e refl
 reduced-lambdas (Binders b bs) n a at t k e = reduced-more_lambdas bs n a at (binder_var b) (binder_typ b) t k e
 
@@ -333,7 +333,7 @@ IsLoose (InTerm o ∷ k) = Unit {0}
 IsLoose (Range at d ∷ k) = ⊥
 IsLoose (InType o ∷ k) = ⊥
 
-equals-loose : (k : List Frame) (at : ℕ) (t : RawTree) → IsLoose k → equals (reduced 3 at t k) ≡ Some (In AtCon (Joined (RightSide at t) ∷ k))
+pub equals-loose : (k : List Frame) (at : ℕ) (t : RawTree) → IsLoose k → equals (reduced 3 at t k) ≡ Some (In AtCon (Joined (RightSide at t) ∷ k))
 equals-loose [] at t l = refl
 equals-loose (Joined (LambdaBody a x T) ∷ k) at t l = absurd l
 equals-loose (Joined (RightSide a u) ∷ k) at t l = absurd l
@@ -343,7 +343,7 @@ equals-loose (InTerm o ∷ k) at t l = refl
 equals-loose (Range a d ∷ k) at t l = absurd l
 equals-loose (InType o ∷ k) at t l = absurd l
 
-implies-loose : (k : List Frame) (at : ℕ) (t : RawTree) → IsLoose k → implies (reduced 2 at t k) ≡ Some (In AtTerm (Joined (Conclusion at t) ∷ k))
+pub implies-loose : (k : List Frame) (at : ℕ) (t : RawTree) → IsLoose k → implies (reduced 2 at t k) ≡ Some (In AtTerm (Joined (Conclusion at t) ∷ k))
 implies-loose [] at t l = refl
 implies-loose (Joined (LambdaBody a x T) ∷ k) at t l = absurd l
 implies-loose (Joined (RightSide a u) ∷ k) at t l = absurd l
@@ -357,7 +357,7 @@ loose-more_alls : (bs : List BinderPhrase) (k : List Frame) → IsLoose k → Is
 loose-more_alls [] k l = l
 loose-more_alls (b ∷ bs) k l = loose-more_alls bs (bound OfAll (binder_place b) (binder_place b) (binder_var b) (binder_typ b) ∷ k) tt
 
-loose-alls : (bs : BindersPhrase) (at : ℕ) (k : List Frame) → IsLoose (binder_frames OfAll at bs k)
+pub loose-alls : (bs : BindersPhrase) (at : ℕ) (k : List Frame) → IsLoose (binder_frames OfAll at bs k)
 loose-alls (OneTyped x T) at k = tt
 loose-alls (Binders b bs) at k = loose-more_alls bs (bound OfAll at (binder_place b) (binder_var b) (binder_typ b) ∷ k) tt
 

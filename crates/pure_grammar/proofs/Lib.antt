@@ -9,3 +9,7 @@ pub mod ReadLemmas
 pub mod FaultLemmas
 pub mod InnerReaderLemmas
 pub mod InnerLemmas
+pub mod InnerAround
+pub mod InnerReadLemmas
+pub mod InnerFaultLemmas
+pub mod InnerEndLemmas

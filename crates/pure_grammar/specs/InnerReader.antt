@@ -148,6 +148,12 @@ pub data State : Type 0 where
   DoneTerm : (term : RawTree) → State
   DoneType : (typ : RawTypTree) → State
 
+-- all is read
+abbrev pub is_done : State → Bool
+is_done (In place stack) = false
+is_done (DoneTerm t) = true
+is_done (DoneType T) = true
+
 abbrev pub goes_if : Bool → State → Option State
 goes_if true s = Some s
 goes_if false s = None
@@ -199,13 +205,17 @@ reduced level at t (InTerm o ∷ k) = record { at = at; term = t; stack = InTerm
 reduced level at t (Range a d ∷ k) = record { at = at; term = t; stack = Range a d ∷ k }
 reduced level at t (InType o ∷ k) = record { at = at; term = t; stack = InType o ∷ k }
 
--- the right side of `==` stands open
+-- the right side of `==`
+abbrev pub is_right_side : Frame → Bool
+is_right_side (Joined j) = nat_eq (join_level j) 2
+is_right_side (InTerm o) = false
+is_right_side (Range a d) = false
+is_right_side (InType o) = false
+
+-- the right side of `==` is the innermost thing that stands open
 abbrev pub in_right_side : List Frame → Bool
 in_right_side [] = false
-in_right_side (Joined j ∷ k) = nat_eq (join_level j) 2
-in_right_side (InTerm o ∷ k) = false
-in_right_side (Range a d ∷ k) = false
-in_right_side (InType o ∷ k) = false
+in_right_side (f ∷ k) = is_right_side f
 
 -- behind `==`, which no right side takes
 abbrev pub equals : TermPart → Option State
@@ -252,11 +262,13 @@ after_atom at f k l =
     goes_at (opening_at opening.Parenthesis l) (λ p. In AtTerm (InTerm (Argument at f) ∷ k))
     (goes_with (leaf_in l) (λ w. In (AfterAtom at (tree.App at f (leaf w))) k) (after_leaf at f k l))
 
+abbrev pub atom_begun : List Frame → InnerLexeme → Option State
+atom_begun k l =
+    goes_at (opening_at opening.Parenthesis l) (λ at. In AtTerm (InTerm (Enclosed at) ∷ k))
+    (goes_with (leaf_in l) (λ w. In (AfterAtom w.at (leaf w)) k) None)
+
 abbrev pub con_begun : List Frame → InnerLexeme → Option State
-con_begun k l =
-    goes_at (opening_at opening.Lambda l) (λ at. In (AtBinder OfLambda at) k)
-    (goes_at (opening_at opening.Parenthesis l) (λ at. In AtTerm (InTerm (Enclosed at) ∷ k))
-    (goes_with (leaf_in l) (λ w. In (AfterAtom w.at (leaf w)) k) None))
+con_begun k l = goes_at (opening_at opening.Lambda l) (λ at. In (AtBinder OfLambda at) k) (atom_begun k l)
 
 abbrev pub term_begun : List Frame → InnerLexeme → Option State
 term_begun k l =
@@ -349,12 +361,15 @@ after_post at T k l = goes_with (name_in l) (λ w. In (AfterPost at (tree.Con at
 abbrev pub after_variable : Written → List Frame → InnerLexeme → Option State
 after_variable w k l = if is_mark mark.DoubleColon l then Some (In (AtSort w) k) else after_post w.at (variable_type w []) k l
 
+abbrev pub name_begun : List Frame → InnerLexeme → Option State
+name_begun k l =
+    goes_with (variable_in l) (λ w. In (AfterVariable w) k)
+    (goes_with (name_in l) (λ w. In (AfterPost w.at (tree.Con w.at w.text tree.none)) k) None)
+
 abbrev pub type_begun : List Frame → InnerLexeme → Option State
 type_begun k l =
     goes_at (opening_at opening.Bracket l) (λ at. In AtType (InType (FirstDomain at) ∷ k))
-    (goes_at (opening_at opening.Parenthesis l) (λ at. In AtType (InType (EnclosedType at) ∷ k))
-    (goes_with (variable_in l) (λ w. In (AfterVariable w) k)
-    (goes_with (name_in l) (λ w. In (AfterPost w.at (tree.Con w.at w.text tree.none)) k) None)))
+    (goes_at (opening_at opening.Parenthesis l) (λ at. In AtType (InType (EnclosedType at) ∷ k)) (name_begun k l))
 
 abbrev pub at_sort : Written → List Frame → InnerLexeme → Option State
 at_sort v k l =

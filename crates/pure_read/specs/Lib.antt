@@ -1,0 +1,9 @@
+pub mod RawDepth
+pub mod RawCodes
+pub mod RawView
+pub mod RawFalls
+pub mod Seen
+pub mod Frames
+pub mod States
+pub mod Parts
+pub mod Stuck

@@ -1,0 +1,277 @@
+//! The trees of terms and types as they are written.
+ghost use Rattle.std.specs.Prelude.{◌≡◌, IfOk, codes, [], ◌∷◌};
+ghost use Rattle.pure_grammar.specs.RawTree as tree;
+
+use pure_grammar::TokenKind;
+use pure_term::Text;
+use std::alloc::{AllocError, Global};
+use std::marker::Model;
+
+/// A class as it is written, with the place of its token.
+#[derive(Debug, Drop)]
+pub struct RawClass {
+    pub at: u32,
+    pub name: Text,
+}
+
+impl Model for RawClass {
+    ghost use Rattle.pure_grammar.specs.RawTree.{RawClassTree};
+    ghost use Rattle.pure_read.specs.RawCodes.{coded_class};
+
+    ghost Value = { RawClassTree };
+
+    ghost coded = { coded_class };
+
+    ghost view = { λ c. record { at = c.at; name = c.name } };
+}
+
+/// A type as it is written.
+#[cycle(raw_typ)]
+#[derive(Debug, Drop)]
+pub struct RawTyp {
+    pub node: RawTypNode,
+}
+
+/// A variable by its token, with the classes that are written, or a constructor with its arguments; an arrow is the
+/// constructor `Pure.fun`. Each node has the place of its first token.
+#[cycle(raw_typ)]
+#[derive(Debug, Drop)]
+pub enum RawTypNode {
+    Var {
+        at: u32,
+        kind: TokenKind,
+        text: Text,
+        sort: Vec<RawClass>,
+    },
+    Con {
+        at: u32,
+        name: Text,
+        args: Vec<RawTyp>,
+    },
+}
+
+impl Model for RawTyp {
+    ghost use Rattle.pure_grammar.specs.RawTree as tree;
+    ghost use Rattle.pure_read.specs.RawCodes.{coded_raw_typ};
+
+    ghost Value = { tree.RawTypTree };
+
+    ghost coded = { coded_raw_typ };
+
+    ghost use Rattle.pure_read.specs.RawView.{view_raw_typ};
+
+    ghost view = { λ t. view_raw_typ t.node };
+
+    ghost use Rattle.pure_read.specs.RawDepth.{raw_typ_depth};
+
+    ghost size = { raw_typ_depth };
+
+    ghost use Rattle.pure_read.specs.RawFalls.{depth_le-raw_typ_depth};
+
+    ghost size_decreases = { λ t h. depth_le-raw_typ_depth t.node };
+}
+
+/// A term as it is written.
+#[cycle(raw)]
+#[derive(Debug, Drop)]
+pub struct Raw {
+    pub node: RawNode,
+}
+
+/// A variable or constant by its token, an abstraction, an application, or a term with a type; `==>`, `==` and `!!` are
+/// applications of the constants `Pure.imp`, `Pure.eq` and `Pure.all`. Each node has the place of its first token.
+#[cycle(raw)]
+#[derive(Debug, Drop)]
+pub enum RawNode {
+    Leaf {
+        at: u32,
+        kind: TokenKind,
+        text: Text,
+    },
+    Abs {
+        at: u32,
+        var: Text,
+        typ: Option<RawTyp>,
+        body: Box<Raw>,
+    },
+    App {
+        at: u32,
+        fun: Box<Raw>,
+        arg: Box<Raw>,
+    },
+    Typed {
+        at: u32,
+        term: Box<Raw>,
+        typ: RawTyp,
+    },
+}
+
+impl Model for Raw {
+    ghost use Rattle.pure_grammar.specs.RawTree as tree;
+    ghost use Rattle.pure_read.specs.RawCodes.{coded_raw};
+
+    ghost Value = { tree.RawTree };
+
+    ghost coded = { coded_raw };
+
+    ghost use Rattle.pure_read.specs.RawView.{view_raw};
+
+    ghost view = { λ t. view_raw t.node };
+
+    ghost use Rattle.pure_read.specs.RawDepth.{raw_depth};
+
+    ghost size = { raw_depth };
+
+    ghost use Rattle.pure_read.specs.RawFalls.{depth_le-raw_depth};
+
+    ghost size_decreases = { λ t h. depth_le-raw_depth t.node };
+}
+
+impl Raw {
+    /// A variable or constant.
+    pub(crate) fn leaf(at: u32, kind: TokenKind, text: Text) -> Raw
+        ensures { result ≡ tree.Leaf at kind text }
+    {
+        Raw {
+            node: RawNode::Leaf { at, kind, text },
+        }
+    }
+
+    pub(crate) fn abs(
+        alloc: Global,
+        at: u32,
+        var: Text,
+        typ: Option<RawTyp>,
+        body: Raw,
+    ) -> Result<Raw, AllocError>
+        ensures { IfOk result (λ t. t ≡ tree.Abs at var typ body) }
+    {
+        let body = Box::new(alloc, body)?;
+        Ok(Raw {
+            node: RawNode::Abs { at, var, typ, body },
+        })
+    }
+
+    pub(crate) fn app(alloc: Global, at: u32, fun: Raw, arg: Raw) -> Result<Raw, AllocError>
+        ensures { IfOk result (λ t. t ≡ tree.App at fun arg) }
+    {
+        let fun = Box::new(alloc, fun)?;
+        let arg = Box::new(alloc, arg)?;
+        Ok(Raw {
+            node: RawNode::App { at, fun, arg },
+        })
+    }
+
+    pub(crate) fn typed(alloc: Global, at: u32, term: Raw, typ: RawTyp) -> Result<Raw, AllocError>
+        ensures { IfOk result (λ t. t ≡ tree.Typed at term typ) }
+    {
+        let term = Box::new(alloc, term)?;
+        Ok(Raw {
+            node: RawNode::Typed { at, term, typ },
+        })
+    }
+
+    fn constant(alloc: Global, at: u32, name: &[u8]) -> Result<Raw, AllocError>
+        ensures { IfOk result (λ t. t ≡ tree.constant at name.now) }
+    {
+        Ok(Raw::leaf(at, TokenKind::Qualified, Text::make(alloc, name)?))
+    }
+
+    /// `premise ==> conclusion`.
+    pub(crate) fn implication(
+        alloc: Global,
+        at: u32,
+        premise: Raw,
+        conclusion: Raw,
+    ) -> Result<Raw, AllocError>
+        ensures { IfOk result (λ t. t ≡ tree.implication at premise conclusion) }
+    {
+        let constant = Raw::constant(alloc, at, b"Pure.imp")?;
+        Raw::app(
+            alloc,
+            at,
+            Raw::app(alloc, at, constant, premise)?,
+            conclusion,
+        )
+    }
+
+    /// `left == right`.
+    pub(crate) fn equation(alloc: Global, at: u32, left: Raw, right: Raw) -> Result<Raw, AllocError>
+        ensures { IfOk result (λ t. t ≡ tree.equation at left right) }
+    {
+        let constant = Raw::constant(alloc, at, b"Pure.eq")?;
+        Raw::app(alloc, at, Raw::app(alloc, at, constant, left)?, right)
+    }
+
+    /// `!!var. body`, with its binder at the place `binder`.
+    pub(crate) fn generality(
+        alloc: Global,
+        at: u32,
+        binder: u32,
+        var: Text,
+        typ: Option<RawTyp>,
+        body: Raw,
+    ) -> Result<Raw, AllocError>
+        ensures { IfOk result (λ t. t ≡ tree.generality at binder var typ body) }
+    {
+        let constant = Raw::constant(alloc, at, b"Pure.all")?;
+        Raw::app(
+            alloc,
+            at,
+            constant,
+            Raw::abs(alloc, binder, var, typ, body)?,
+        )
+    }
+}
+
+impl RawTyp {
+    pub(crate) fn var(at: u32, kind: TokenKind, text: Text, sort: Vec<RawClass>) -> RawTyp
+        ensures { result ≡ tree.Var at kind text sort.items }
+    {
+        RawTyp {
+            node: RawTypNode::Var {
+                at,
+                kind,
+                text,
+                sort,
+            },
+        }
+    }
+
+    pub(crate) fn con(at: u32, name: Text, args: Vec<RawTyp>) -> RawTyp
+        ensures { result ≡ tree.Con at name (tree.raw_typs_of args.items) }
+    {
+        RawTyp {
+            node: RawTypNode::Con { at, name, args },
+        }
+    }
+
+    /// `arg name`.
+    pub(crate) fn applied(
+        alloc: Global,
+        at: u32,
+        name: Text,
+        arg: RawTyp,
+    ) -> Result<RawTyp, AllocError>
+        ensures { IfOk result (λ t. t ≡ tree.Con at name (tree.also arg tree.none)) }
+    {
+        let mut args = Vec::new(alloc);
+        args.push(arg)?;
+        Ok(RawTyp::con(at, name, args))
+    }
+
+    /// `domain => range`.
+    pub(crate) fn arrow(
+        alloc: Global,
+        at: u32,
+        domain: RawTyp,
+        range: RawTyp,
+    ) -> Result<RawTyp, AllocError>
+        ensures { IfOk result (λ t. t ≡ tree.function_type at domain range) }
+    {
+        let mut args = Vec::new(alloc);
+        args.push(domain)?;
+        args.push(range)?;
+        Ok(RawTyp::con(at, Text::make(alloc, b"Pure.fun")?, args))
+    }
+}

@@ -1,0 +1,88 @@
+//! The places of a text of terms and types.
+ghost use Rattle.std.specs.Prelude.{◌≡◌, Some};
+ghost use Rattle.pure_grammar.specs.InnerReader as spec;
+ghost use Rattle.pure_read.specs.Frames.{seen_stack};
+ghost use Rattle.pure_read.specs.States.{seen_place, seen_state, seen_next};
+
+use crate::frame::{Binder, Quantifier, Stack};
+use crate::lexeme::Written;
+use crate::raw::{Raw, RawClass, RawTyp};
+
+/// A place in the text, with what was read of the part that it is in.
+#[derive(Drop)]
+pub(crate) enum Place {
+    AtTerm,
+    AtCon,
+    AfterAtom {
+        at: u32,
+        app: Raw,
+    },
+    AtImplies,
+    AtBinder {
+        quantifier: Quantifier,
+        at: u32,
+    },
+    AfterFirstVar {
+        binder: Binder,
+    },
+    AfterBinder {
+        quantifier: Quantifier,
+    },
+    AtBinderVar {
+        quantifier: Quantifier,
+        at: u32,
+        binder: u32,
+    },
+    AfterBinderVar {
+        binder: Binder,
+    },
+    AtType,
+    AfterVariable {
+        variable: Written,
+    },
+    AtSort {
+        variable: Written,
+    },
+    AtFirstClass {
+        variable: Written,
+    },
+    AfterClass {
+        variable: Written,
+        classes: Vec<RawClass>,
+    },
+    AtNextClass {
+        variable: Written,
+        classes: Vec<RawClass>,
+    },
+    AfterPost {
+        at: u32,
+        typ: RawTyp,
+    },
+    AtConstructor {
+        at: u32,
+        arguments: Vec<RawTyp>,
+    },
+    AtArrow,
+}
+
+/// A place with what stands open, or all is read.
+#[derive(Drop)]
+pub(crate) enum State {
+    In { place: Place, stack: Stack },
+    DoneTerm { term: Raw },
+    DoneType { typ: RawTyp },
+}
+
+/// To the place.
+pub(crate) fn goes(place: Place, stack: Stack) -> Option<State>
+    ensures { seen_next result ≡ Some (spec.In (seen_place place) (seen_stack stack)) }
+{
+    Some(State::In { place, stack })
+}
+
+/// To the state, if so.
+pub(crate) fn goes_if(so: bool, state: State) -> Option<State>
+    ensures { seen_next result ≡ spec.goes_if so (seen_state state) }
+{
+    if so { Some(state) } else { None }
+}

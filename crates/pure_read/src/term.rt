@@ -1,0 +1,296 @@
+//! Where a token of a term leads to.
+ghost use Rattle.std.specs.Prelude.{◌≡◌, IfOk, ◌∷◌, Some};
+ghost use Rattle.pure_grammar.specs.InnerReader as spec;
+ghost use Rattle.pure_read.specs.Seen.{seen_lexeme, seen_one};
+ghost use Rattle.pure_read.specs.Frames.{seen_frame, seen_stack, seen_term_open};
+ghost use Rattle.pure_read.specs.States.{seen_next};
+ghost use Rattle.pure_read.specs.Parts.{seen_term_part};
+
+use crate::frame::{Frame, Join, Popped, Quantifier, Stack, TermOpen, TypeOpen};
+use crate::lexeme::{Lexeme, Written, is_end, is_mark, leaf_in, opening_at};
+use crate::raw::Raw;
+use crate::state::{Place, State, goes, goes_if};
+use pure_grammar::{Mark, Opening};
+use std::alloc::{AllocError, Global};
+
+/// A term that is read, where it begins, and what stands open round it.
+#[derive(Drop)]
+pub(crate) struct TermPart {
+    pub(crate) at: u32,
+    pub(crate) term: Raw,
+    pub(crate) stack: Stack,
+}
+
+fn leaf(written: Written) -> Raw
+    ensures { result ≡ spec.leaf (seen_one written) }
+{
+    Raw::leaf(written.at, written.kind, written.text)
+}
+
+/// The term, which no frame that is given ends.
+fn kept(at: u32, term: Raw, below: Stack, frame: Frame) -> Result<TermPart, AllocError>
+    ensures { IfOk result (λ part. seen_term_part part ≡ record { at = at; term = term; stack = seen_frame frame ∷ seen_stack below }) }
+{
+    let stack = below.with(frame)?;
+    Ok(TermPart { at, term, stack })
+}
+
+/// The term with all that has at least this level, which ends with it.
+pub(crate) fn reduced(
+    alloc: Global,
+    level: u8,
+    at: u32,
+    term: Raw,
+    stack: Stack,
+) -> Result<TermPart, AllocError>
+    ensures { IfOk result (λ part. seen_term_part part ≡ spec.reduced level at term (seen_stack stack)) }
+{
+    match stack.pop() {
+        Popped::Nothing => {
+            let stack = Stack::empty(alloc);
+            Ok(TermPart { at, term, stack })
+        }
+        Popped::Open { frame, below } => match frame {
+            Frame::Joined { join } => {
+                if level <= join.level() {
+                    let whole = join.at();
+                    let term = join.term(alloc, term)?;
+                    return reduced(alloc, level, whole, term, below);
+                }
+                kept(at, term, below, Frame::Joined { join })
+            }
+            Frame::InTerm { around } => kept(at, term, below, Frame::InTerm { around }),
+            Frame::Range { at: whole, domain } => {
+                kept(at, term, below, Frame::Range { at: whole, domain })
+            }
+            Frame::InType { around } => kept(at, term, below, Frame::InType { around }),
+        },
+    }
+}
+
+/// Behind the left side of an equation.
+fn at_right_side(at: u32, left: Raw, stack: Stack) -> Result<Option<State>, AllocError>
+    ensures { IfOk result (λ next. seen_next next ≡ Some (spec.In spec.AtCon (spec.Joined (spec.RightSide at left) ∷ seen_stack stack))) }
+{
+    let join = Join::RightSide { at, left };
+    let stack = stack.with(Frame::Joined { join })?;
+    Ok(goes(Place::AtCon, stack))
+}
+
+/// Behind `==`, which no right side takes.
+fn equals(alloc: Global, part: TermPart) -> Result<Option<State>, AllocError>
+    ensures { IfOk result (λ next. seen_next next ≡ spec.equals (seen_term_part part)) }
+{
+    let TermPart { at, term, stack } = part;
+    match stack.pop() {
+        Popped::Nothing => at_right_side(at, term, Stack::empty(alloc)),
+        Popped::Open { frame, below } => {
+            if frame.is_right_side() {
+                return Ok(None);
+            }
+            at_right_side(at, term, below.with(frame)?)
+        }
+    }
+}
+
+/// Behind `==>`.
+fn implies(part: TermPart) -> Result<Option<State>, AllocError>
+    ensures { IfOk result (λ next. seen_next next ≡ spec.implies (seen_term_part part)) }
+{
+    let join = Join::Conclusion {
+        at: part.at,
+        premise: part.term,
+    };
+    let stack = part.stack.with(Frame::Joined { join })?;
+    Ok(goes(Place::AtTerm, stack))
+}
+
+/// Behind a premise in a list.
+fn premise_ends(
+    at: u32,
+    premise: Raw,
+    stack: Stack,
+    l: Lexeme<'_>,
+) -> Result<Option<State>, AllocError>
+    ensures { IfOk result (λ next. seen_next next ≡ spec.premise_ends (spec.Joined (spec.Conclusion at premise) ∷ seen_stack stack) (seen_lexeme l.entry)) }
+{
+    let join = Join::Conclusion { at, premise };
+    let stack = stack.with(Frame::Joined { join })?;
+    if is_mark(Mark::Semicolon, l) {
+        let around = TermOpen::NextPremise;
+        return Ok(goes(Place::AtTerm, stack.with(Frame::InTerm { around })?));
+    }
+    if is_mark(Mark::ClosePremises, l) {
+        return Ok(goes(Place::AtImplies, stack));
+    }
+    Ok(None)
+}
+
+/// Behind a term in a list of premises or in parentheses.
+fn open_ends(
+    alloc: Global,
+    at: u32,
+    term: Raw,
+    around: TermOpen,
+    stack: Stack,
+    l: Lexeme<'_>,
+) -> Result<Option<State>, AllocError>
+    ensures { IfOk result (λ next. seen_next next ≡ spec.open_ends at term (seen_term_open around) (seen_stack stack) (seen_lexeme l.entry)) }
+{
+    let closed = is_mark(Mark::CloseParenthesis, l);
+    match around {
+        TermOpen::FirstPremise { at: whole } => premise_ends(whole, term, stack, l),
+        TermOpen::NextPremise => premise_ends(at, term, stack, l),
+        TermOpen::Enclosed { at: whole } => {
+            let place = Place::AfterAtom {
+                at: whole,
+                app: term,
+            };
+            Ok(goes_if(closed, State::In { place, stack }))
+        }
+        TermOpen::Argument {
+            at: whole,
+            function,
+        } => {
+            let app = Raw::app(alloc, whole, function, term)?;
+            let place = Place::AfterAtom { at: whole, app };
+            Ok(goes_if(closed, State::In { place, stack }))
+        }
+    }
+}
+
+/// Behind a whole term.
+fn part_ends(alloc: Global, part: TermPart, l: Lexeme<'_>) -> Result<Option<State>, AllocError>
+    ensures { IfOk result (λ next. seen_next next ≡ spec.part_ends (seen_term_part part) (seen_lexeme l.entry)) }
+{
+    let TermPart { at, term, stack } = part;
+    match stack.pop() {
+        Popped::Nothing => Ok(goes_if(is_end(l), State::DoneTerm { term })),
+        Popped::Open { frame, below } => match frame {
+            Frame::Joined { .. } => Ok(None),
+            Frame::InTerm { around } => open_ends(alloc, at, term, around, below, l),
+            Frame::Range { .. } => Ok(None),
+            Frame::InType { .. } => Ok(None),
+        },
+    }
+}
+
+/// Behind an application, a constraint or an abstraction.
+pub(crate) fn con_ends(
+    alloc: Global,
+    at: u32,
+    term: Raw,
+    stack: Stack,
+    l: Lexeme<'_>,
+) -> Result<Option<State>, AllocError>
+    ensures { IfOk result (λ next. seen_next next ≡ spec.con_ends at term (seen_stack stack) (seen_lexeme l.entry)) }
+{
+    if is_mark(Mark::Equals, l) {
+        return equals(alloc, reduced(alloc, 3, at, term, stack)?);
+    }
+    if is_mark(Mark::Implies, l) {
+        return implies(reduced(alloc, 2, at, term, stack)?);
+    }
+    part_ends(alloc, reduced(alloc, 1, at, term, stack)?, l)
+}
+
+fn after_leaf(
+    alloc: Global,
+    at: u32,
+    function: Raw,
+    stack: Stack,
+    l: Lexeme<'_>,
+) -> Result<Option<State>, AllocError>
+    ensures { IfOk result (λ next. seen_next next ≡ spec.after_leaf at function (seen_stack stack) (seen_lexeme l.entry)) }
+{
+    if is_mark(Mark::DoubleColon, l) {
+        let around = TypeOpen::Constraint { at, term: function };
+        return Ok(goes(Place::AtType, stack.with(Frame::InType { around })?));
+    }
+    con_ends(alloc, at, function, stack, l)
+}
+
+/// Behind an atom, which another one may follow.
+pub(crate) fn after_atom(
+    alloc: Global,
+    at: u32,
+    function: Raw,
+    stack: Stack,
+    l: Lexeme<'_>,
+) -> Result<Option<State>, AllocError>
+    ensures { IfOk result (λ next. seen_next next ≡ spec.after_atom at function (seen_stack stack) (seen_lexeme l.entry)) }
+{
+    match opening_at(Opening::Parenthesis, l) {
+        Some(_) => {
+            let around = TermOpen::Argument { at, function };
+            Ok(goes(Place::AtTerm, stack.with(Frame::InTerm { around })?))
+        }
+        None => match leaf_in(alloc, l)? {
+            Some(written) => {
+                let app = Raw::app(alloc, at, function, leaf(written))?;
+                Ok(goes(Place::AfterAtom { at, app }, stack))
+            }
+            None => after_leaf(alloc, at, function, stack, l),
+        },
+    }
+}
+
+/// The first token of an application.
+fn atom_begun(alloc: Global, stack: Stack, l: Lexeme<'_>) -> Result<Option<State>, AllocError>
+    ensures { IfOk result (λ next. seen_next next ≡ spec.atom_begun (seen_stack stack) (seen_lexeme l.entry)) }
+{
+    match opening_at(Opening::Parenthesis, l) {
+        Some(at) => {
+            let around = TermOpen::Enclosed { at };
+            Ok(goes(Place::AtTerm, stack.with(Frame::InTerm { around })?))
+        }
+        None => match leaf_in(alloc, l)? {
+            Some(written) => {
+                let at = written.at;
+                let app = leaf(written);
+                Ok(goes(Place::AfterAtom { at, app }, stack))
+            }
+            None => Ok(None),
+        },
+    }
+}
+
+/// The first token of a side of an equation.
+pub(crate) fn con_begun(
+    alloc: Global,
+    stack: Stack,
+    l: Lexeme<'_>,
+) -> Result<Option<State>, AllocError>
+    ensures { IfOk result (λ next. seen_next next ≡ spec.con_begun (seen_stack stack) (seen_lexeme l.entry)) }
+{
+    match opening_at(Opening::Lambda, l) {
+        Some(at) => {
+            let quantifier = Quantifier::Lambda;
+            Ok(goes(Place::AtBinder { quantifier, at }, stack))
+        }
+        None => atom_begun(alloc, stack, l),
+    }
+}
+
+/// The first token of a term.
+pub(crate) fn term_begun(
+    alloc: Global,
+    stack: Stack,
+    l: Lexeme<'_>,
+) -> Result<Option<State>, AllocError>
+    ensures { IfOk result (λ next. seen_next next ≡ spec.term_begun (seen_stack stack) (seen_lexeme l.entry)) }
+{
+    match opening_at(Opening::All, l) {
+        Some(at) => {
+            let quantifier = Quantifier::All;
+            Ok(goes(Place::AtBinder { quantifier, at }, stack))
+        }
+        None => match opening_at(Opening::Premises, l) {
+            Some(at) => {
+                let around = TermOpen::FirstPremise { at };
+                Ok(goes(Place::AtTerm, stack.with(Frame::InTerm { around })?))
+            }
+            None => con_begun(alloc, stack, l),
+        },
+    }
+}

@@ -1,0 +1,295 @@
+//! Where a token of a type leads to.
+ghost use Rattle.std.specs.Prelude.{◌≡◌, IfOk, [], ◌∷◌, ◌++◌};
+ghost use Rattle.pure_grammar.specs.InnerReader as spec;
+ghost use Rattle.pure_grammar.specs.RawTree as tree;
+ghost use Rattle.pure_read.specs.Seen.{seen_lexeme, seen_one};
+ghost use Rattle.pure_read.specs.Frames.{seen_frame, seen_stack, seen_type_open};
+ghost use Rattle.pure_read.specs.States.{seen_next, seen_state};
+ghost use Rattle.pure_read.specs.Parts.{seen_type_part};
+
+use crate::binder::{body_place, bound};
+use crate::frame::{Frame, Popped, Stack, TypeOpen};
+use crate::lexeme::{Lexeme, Written, is_end, is_mark, name_in, opening_at, variable_in};
+use crate::raw::{Raw, RawClass, RawTyp};
+use crate::state::{Place, State, goes, goes_if};
+use crate::term::con_ends;
+use pure_grammar::{Mark, Opening};
+use std::alloc::{AllocError, Global};
+
+/// A type that is read, where it begins, and what stands open round it.
+#[derive(Drop)]
+pub(crate) struct TypePart {
+    pub(crate) at: u32,
+    pub(crate) typ: RawTyp,
+    pub(crate) stack: Stack,
+}
+
+/// The variable with these classes.
+pub(crate) fn variable_type(written: Written, classes: Vec<RawClass>) -> RawTyp
+    ensures { result ≡ spec.variable_type (seen_one written) classes.items }
+{
+    RawTyp::var(written.at, written.kind, written.text, classes)
+}
+
+/// The type, which this frame does not end.
+fn kept(at: u32, typ: RawTyp, below: Stack, frame: Frame) -> Result<TypePart, AllocError>
+    ensures { IfOk result (λ part. seen_type_part part ≡ record { at = at; typ = typ; stack = seen_frame frame ∷ seen_stack below }) }
+{
+    let stack = below.with(frame)?;
+    Ok(TypePart { at, typ, stack })
+}
+
+/// The type with all right sides of `=>`, which end with it.
+fn ranged(alloc: Global, at: u32, typ: RawTyp, stack: Stack) -> Result<TypePart, AllocError>
+    ensures { IfOk result (λ part. seen_type_part part ≡ spec.ranged at typ (seen_stack stack)) }
+{
+    match stack.pop() {
+        Popped::Nothing => {
+            let stack = Stack::empty(alloc);
+            Ok(TypePart { at, typ, stack })
+        }
+        Popped::Open { frame, below } => match frame {
+            Frame::Joined { join } => kept(at, typ, below, Frame::Joined { join }),
+            Frame::InTerm { around } => kept(at, typ, below, Frame::InTerm { around }),
+            Frame::Range { at: whole, domain } => {
+                let arrow = RawTyp::arrow(alloc, whole, domain, typ)?;
+                ranged(alloc, whole, arrow, below)
+            }
+            Frame::InType { around } => kept(at, typ, below, Frame::InType { around }),
+        },
+    }
+}
+
+/// Behind a domain in a list.
+fn domain_ends(
+    at: u32,
+    domain: RawTyp,
+    stack: Stack,
+    l: Lexeme<'_>,
+) -> Result<Option<State>, AllocError>
+    ensures { IfOk result (λ next. seen_next next ≡ spec.domain_ends (spec.Range at domain ∷ seen_stack stack) (seen_lexeme l.entry)) }
+{
+    let stack = stack.with(Frame::Range { at, domain })?;
+    if is_mark(Mark::Comma, l) {
+        let around = TypeOpen::NextDomain;
+        return Ok(goes(Place::AtType, stack.with(Frame::InType { around })?));
+    }
+    if is_mark(Mark::CloseBracket, l) {
+        return Ok(goes(Place::AtArrow, stack));
+    }
+    Ok(None)
+}
+
+/// Behind the first type in parentheses.
+fn enclosed_ends(
+    alloc: Global,
+    at: u32,
+    typ: RawTyp,
+    stack: Stack,
+    l: Lexeme<'_>,
+) -> Result<Option<State>, AllocError>
+    ensures { IfOk result (λ next. seen_next next ≡ spec.argument_ends at (typ ∷ []) (spec.In (spec.AfterPost at typ) (seen_stack stack)) (seen_stack stack) (seen_lexeme l.entry)) }
+{
+    if is_mark(Mark::Comma, l) {
+        let mut arguments = Vec::new(alloc);
+        arguments.push(typ)?;
+        let around = TypeOpen::MoreArguments { at, arguments };
+        return Ok(goes(Place::AtType, stack.with(Frame::InType { around })?));
+    }
+    if is_mark(Mark::CloseParenthesis, l) {
+        return Ok(goes(Place::AfterPost { at, typ }, stack));
+    }
+    Ok(None)
+}
+
+/// Behind a further type in parentheses, with these arguments up to it.
+fn argument_ends(
+    at: u32,
+    arguments: Vec<RawTyp>,
+    stack: Stack,
+    l: Lexeme<'_>,
+) -> Result<Option<State>, AllocError>
+    ensures { IfOk result (λ next. seen_next next ≡ spec.argument_ends at arguments.items (spec.In (spec.AtConstructor at arguments.items) (seen_stack stack)) (seen_stack stack) (seen_lexeme l.entry)) }
+{
+    if is_mark(Mark::Comma, l) {
+        let around = TypeOpen::MoreArguments { at, arguments };
+        return Ok(goes(Place::AtType, stack.with(Frame::InType { around })?));
+    }
+    if is_mark(Mark::CloseParenthesis, l) {
+        return Ok(goes(Place::AtConstructor { at, arguments }, stack));
+    }
+    Ok(None)
+}
+
+/// Behind a type, by what it stands in.
+fn open_ends(
+    alloc: Global,
+    at: u32,
+    typ: RawTyp,
+    around: TypeOpen,
+    stack: Stack,
+    l: Lexeme<'_>,
+) -> Result<Option<State>, AllocError>
+    ensures { IfOk result (λ next. seen_next next ≡ spec.type_open_ends at typ (seen_type_open around) (seen_stack stack) (seen_lexeme l.entry)) }
+{
+    match around {
+        TypeOpen::Constraint { at: whole, term } => {
+            let typed = Raw::typed(alloc, whole, term, typ)?;
+            con_ends(alloc, whole, typed, stack, l)
+        }
+        TypeOpen::BinderType { binder } => {
+            if !is_mark(Mark::CloseParenthesis, l) {
+                return Ok(None);
+            }
+            let quantifier = binder.quantifier;
+            let stack = stack.with(bound(binder, Some(typ)))?;
+            Ok(goes(Place::AfterBinder { quantifier }, stack))
+        }
+        TypeOpen::OnlyBinderType { binder } => {
+            if !is_mark(Mark::Dot, l) {
+                return Ok(None);
+            }
+            let place = body_place(binder.quantifier);
+            Ok(goes(place, stack.with(bound(binder, Some(typ)))?))
+        }
+        TypeOpen::FirstDomain { at: whole } => domain_ends(whole, typ, stack, l),
+        TypeOpen::NextDomain => domain_ends(at, typ, stack, l),
+        TypeOpen::EnclosedType { at: whole } => enclosed_ends(alloc, whole, typ, stack, l),
+        TypeOpen::MoreArguments {
+            at: whole,
+            arguments,
+        } => {
+            let mut arguments = arguments;
+            arguments.push(typ)?;
+            argument_ends(whole, arguments, stack, l)
+        }
+    }
+}
+
+/// Behind a whole type.
+fn part_ends(alloc: Global, part: TypePart, l: Lexeme<'_>) -> Result<Option<State>, AllocError>
+    ensures { IfOk result (λ next. seen_next next ≡ spec.type_part_ends (seen_type_part part) (seen_lexeme l.entry)) }
+{
+    let TypePart { at, typ, stack } = part;
+    match stack.pop() {
+        Popped::Nothing => Ok(goes_if(is_end(l), State::DoneType { typ })),
+        Popped::Open { frame, below } => match frame {
+            Frame::Joined { .. } => Ok(None),
+            Frame::InTerm { .. } => Ok(None),
+            Frame::Range { .. } => Ok(None),
+            Frame::InType { around } => open_ends(alloc, at, typ, around, below, l),
+        },
+    }
+}
+
+/// Behind a type without arrows.
+fn type_ends(
+    alloc: Global,
+    at: u32,
+    typ: RawTyp,
+    stack: Stack,
+    l: Lexeme<'_>,
+) -> Result<Option<State>, AllocError>
+    ensures { IfOk result (λ next. seen_next next ≡ spec.type_ends at typ (seen_stack stack) (seen_lexeme l.entry)) }
+{
+    if is_mark(Mark::Arrow, l) {
+        let frame = Frame::Range { at, domain: typ };
+        return Ok(goes(Place::AtType, stack.with(frame)?));
+    }
+    part_ends(alloc, ranged(alloc, at, typ, stack)?, l)
+}
+
+/// Behind a type that a constructor may follow.
+pub(crate) fn after_post(
+    alloc: Global,
+    at: u32,
+    typ: RawTyp,
+    stack: Stack,
+    l: Lexeme<'_>,
+) -> Result<Option<State>, AllocError>
+    ensures { IfOk result (λ next. seen_next next ≡ spec.after_post at typ (seen_stack stack) (seen_lexeme l.entry)) }
+{
+    match name_in(alloc, l)? {
+        Some(written) => {
+            let typ = RawTyp::applied(alloc, at, written.text, typ)?;
+            Ok(goes(Place::AfterPost { at, typ }, stack))
+        }
+        None => type_ends(alloc, at, typ, stack, l),
+    }
+}
+
+/// Behind a type variable, which a sort may follow.
+pub(crate) fn after_variable(
+    alloc: Global,
+    variable: Written,
+    stack: Stack,
+    l: Lexeme<'_>,
+) -> Result<Option<State>, AllocError>
+    ensures { IfOk result (λ next. seen_next next ≡ spec.after_variable (seen_one variable) (seen_stack stack) (seen_lexeme l.entry)) }
+{
+    if is_mark(Mark::DoubleColon, l) {
+        return Ok(goes(Place::AtSort { variable }, stack));
+    }
+    let at = variable.at;
+    let typ = variable_type(variable, Vec::new(alloc));
+    after_post(alloc, at, typ, stack, l)
+}
+
+/// The first token of a type that begins with a name.
+fn name_begun(alloc: Global, stack: Stack, l: Lexeme<'_>) -> Result<Option<State>, AllocError>
+    ensures { IfOk result (λ next. seen_next next ≡ spec.name_begun (seen_stack stack) (seen_lexeme l.entry)) }
+{
+    match variable_in(alloc, l)? {
+        Some(variable) => Ok(goes(Place::AfterVariable { variable }, stack)),
+        None => match name_in(alloc, l)? {
+            Some(written) => {
+                let at = written.at;
+                let typ = RawTyp::con(at, written.text, Vec::new(alloc));
+                Ok(goes(Place::AfterPost { at, typ }, stack))
+            }
+            None => Ok(None),
+        },
+    }
+}
+
+/// The first token of a type.
+pub(crate) fn type_begun(
+    alloc: Global,
+    stack: Stack,
+    l: Lexeme<'_>,
+) -> Result<Option<State>, AllocError>
+    ensures { IfOk result (λ next. seen_next next ≡ spec.type_begun (seen_stack stack) (seen_lexeme l.entry)) }
+{
+    match opening_at(Opening::Bracket, l) {
+        Some(at) => {
+            let around = TypeOpen::FirstDomain { at };
+            Ok(goes(Place::AtType, stack.with(Frame::InType { around })?))
+        }
+        None => match opening_at(Opening::Parenthesis, l) {
+            Some(at) => {
+                let around = TypeOpen::EnclosedType { at };
+                Ok(goes(Place::AtType, stack.with(Frame::InType { around })?))
+            }
+            None => name_begun(alloc, stack, l),
+        },
+    }
+}
+
+/// Behind the parenthesis that closes arguments.
+pub(crate) fn at_constructor(
+    alloc: Global,
+    at: u32,
+    arguments: Vec<RawTyp>,
+    stack: Stack,
+    l: Lexeme<'_>,
+) -> Result<Option<State>, AllocError>
+    ensures { IfOk result (λ next. seen_next next ≡ spec.turn (spec.AtConstructor at arguments.items) (seen_stack stack) (seen_lexeme l.entry)) }
+{
+    match name_in(alloc, l)? {
+        Some(written) => {
+            let typ = RawTyp::con(at, written.text, arguments);
+            Ok(goes(Place::AfterPost { at, typ }, stack))
+        }
+        None => Ok(None),
+    }
+}
