@@ -12,3 +12,4 @@ pub mod TypBits
 pub mod TypReadBack
 pub mod FormBits
 pub mod TermReadBack
+pub mod LawsLemmas

@@ -6,3 +6,4 @@ pub mod Forms
 pub mod RowText
 pub mod Readable
 pub mod ReadBack
+pub mod Laws
