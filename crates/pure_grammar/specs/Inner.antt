@@ -20,7 +20,7 @@ pub record IsType (ls : List InnerLexeme) (raw : RawTypTree) : Type 0 where
   pub spelled : type_text phrase (Ends ∷ []) ≡ ls
   pub means : type_raw phrase ≡ raw
 
--- The tokens of the source spell the tree of a term.
+-- The tokens of the source spell the tree of a term. The limit of 1,000 tokens is the reader's alone.
 abbrev pub SpellsTerm : List ℕ → List Token → RawTree → Type 0
 SpellsTerm source tokens raw = IsTerm (inners source tokens) raw
 

@@ -40,7 +40,8 @@ type_place (DomainsType at t ts u) = at
 type_place (PlainType p) = post_place p
 type_place (ArrowType p u) = post_place p
 
--- `T k1 .. kn` is each constructor applied to what stands before it; all begin with T's first token
+-- `T k1 .. kn` is each constructor applied to what stands before it; all begin where the text begins, at its parenthesis if
+-- it has one
 abbrev pub constructed : ℕ → RawTypTree → List InnerName → RawTypTree
 constructed at t [] = t
 constructed at t (k ∷ ks) = constructed at (tree.Con at (name_of k) (tree.also t tree.none)) ks

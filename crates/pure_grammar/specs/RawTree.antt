@@ -26,7 +26,8 @@ raw_typs_of [] = none
 raw_typs_of (t ∷ ts) = also t (raw_typs_of ts)
 
 -- A term: a variable or constant by its token, an abstraction, an application, or a term with a type. Each node has the
--- place of its first token.
+-- place of the first token of its text; the leaf of `==>`, `==` or `!!`, and its application to the first argument, have that
+-- of the whole.
 pub data RawTree : Type 0 where
   Leaf : (at : ℕ) → (kind : TokenKind) → (text : List ℕ) → RawTree
   Abs : (at : ℕ) → (var : List ℕ) → (typ : Option RawTypTree) → (body : RawTree) → RawTree

@@ -12,6 +12,6 @@ AreGreatestDomains A k d domains = (q : Arity) × (q.domains ≡ domains) × IsG
 abbrev pub IsAboveAnother : Algebra → List ℕ → ℕ → Type 0
 IsAboveAnother A s c = AnyOf (λ b. (¬ (b ≡ c)) × IsClassBelow A b c) s
 
--- The second sort has the classes of the first that aren't above another one of it.
+-- The second sort has the classes of the first that aren't above another one of it. Sorts ascend strictly, so it is one list.
 abbrev pub IsReduced : Algebra → List ℕ → List ℕ → Type 0
 IsReduced A s r = (c : ℕ) → IsIn c r ↔ (IsIn c s × (¬ IsAboveAnother A s c))

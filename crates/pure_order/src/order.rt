@@ -119,6 +119,7 @@ impl Order {
     ) -> Result<(), OrderFault>
         ensures ok { OnOk result (self.new ≡ with_class self.old (record { name = class; above = above.now })) }
         ensures new { OnOk result (Each (IsDeclared self.old.classes) above.now × (¬ IsDeclared self.old.classes class)) }
+        ensures coregular { OnOk result (IsCoregular self.new) }
         ensures fault { IfErr result (IsClassFault self.old.classes class above.now) }
         ensures err { OnErr result (self.new ≡ self.old) }
     {

@@ -27,7 +27,7 @@ OfSortExample = IsOfSort ladder (Con k (also (TVar 1 0 (sort_of c)) none)) (sort
 abbrev pub WrongCountExample : Type 0
 WrongCountExample = (¬ IsOfSort ladder (Con k none) (sort_of e)) × IsOfSort ladder (Con k none) []
 
--- Arities with different counts of domains aren't coregular.
+-- Two arities for one class with different counts of domains aren't coregular.
 abbrev pub UnevenIsNotCoregular : Type 0
 UnevenIsNotCoregular = ¬ IsCoregular uneven
 

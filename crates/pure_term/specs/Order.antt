@@ -65,7 +65,7 @@ pub record IsJoin (A : Algebra) (a b : Arity) (d : ℕ) (q : Arity) : Type 0 whe
   pub first : AreDomainsBelow A a q
   pub second : AreDomainsBelow A b q
 
--- Two arities of one constructor are compatible. Where the class of one is below that of the other, so are its domains;
+-- Two arities of one constructor are compatible where this holds: where the class of one is below that of the other, so are its domains;
 -- and for each class above both of theirs there is a declared arity for a class below it, with domains above the domains of both. Otherwise they are in conflict.
 -- The first part is the manual's condition. The second, this project's own, makes unifiers most general.
 pub record AreCompatible (A : Algebra) (a b : Arity) : Type 0 where
