@@ -63,8 +63,8 @@ static LIMIT_OF_SIZE: [(&[u8], &[u8]); 14] = [
 
 /// The same of depth.
 static LIMIT_OF_DEPTH: [(&[u8], &[u8]); 12] = [
-    (b"F1997.a", b"F1997.a"),
-    (b"F1998.a", b"big"),
+    (b"@\\aF1996.a", b"a"),
+    (b"@\\aF1997.a", b"big"),
     (b"@\\F1000.0F997.a", b"F1997.a"),
     (b"@\\F1000.0F998.a", b"big"),
     (b"@f@\\F1000.0F996.a", b"F1997.a"),
