@@ -1,7 +1,6 @@
 pub mod Joins
 pub mod TypLemmas
 pub mod Numerals
-pub mod SessionLemmas
 pub mod Pieces
 pub mod Bits
 pub mod FirstTokens

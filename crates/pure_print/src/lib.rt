@@ -7,8 +7,6 @@ mod name;
 mod number;
 mod row;
 mod term;
-#[cfg(test)]
-mod tests;
 mod typ;
 
 pub use row::{Row, RowStatus, print_row, print_table};

@@ -1,7 +1,7 @@
 use Rattle.std.proofs.Common.{refl, arith, ap, length}
 use Rattle.pure_term.specs.NameTexts.{AreSessionTexts}
-use Rattle.pure_print.proofs.SessionLemmas.{session-texts}
-use Rattle.pure_print.proofs.tests.session.Goals as goal
+use Rattle.pure_print_tests.proofs.SessionLemmas.{session-texts}
+use Rattle.pure_print_tests.proofs.notation.session.Goals as goal
 
 pub make-requires : goal.make-requires
 make-requires c = rw c.in_ok-texts.ensures (session-texts _ refl refl (omega arith))
