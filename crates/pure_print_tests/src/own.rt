@@ -23,7 +23,13 @@ pub(crate) fn is_own(
     term: &Term,
 ) -> Result<bool, AllocError> {
     match (&raw.node, &term.node) {
-        (RawNode::App { fun, arg, .. }, TermNode::App { fun: function, arg: argument }) => {
+        (
+            RawNode::App { fun, arg, .. },
+            TermNode::App {
+                fun: function,
+                arg: argument,
+            },
+        ) => {
             if !is_own(alloc, names, binders, fun, function)? {
                 return Ok(false);
             }
@@ -52,7 +58,7 @@ pub(crate) fn is_own(
 /// Whether the text names the constructor; `prop` is Pure's propositions.
 fn is_constructor(names: &Names, constructor: Name, is_alone: bool, text: &[u8]) -> bool {
     if is_alone && constructor.0 == 1 {
-        return text == b"prop";
+        return text == b"prop".as_slice();
     }
     match names.text(constructor) {
         Some(own) => own == text,
@@ -69,7 +75,13 @@ pub(crate) fn is_own_typ(
     typ: &Typ,
 ) -> Result<bool, AllocError> {
     match (&raw.node, &typ.node) {
-        (RawTypNode::Con { name, args, .. }, TypNode::Con { name: own, args: types }) => {
+        (
+            RawTypNode::Con { name, args, .. },
+            TypNode::Con {
+                name: own,
+                args: types,
+            },
+        ) => {
             if args.len() != types.len() {
                 return Ok(false);
             }
