@@ -1,5 +1,4 @@
-use Rattle.std.proofs.Common.{refl, arith, ap, length}
-use Rattle.pure_term.specs.NameTexts.{AreSessionTexts}
+use Rattle.std.proofs.Common.{refl, arith}
 use Rattle.pure_print_tests.proofs.SessionLemmas.{session-texts}
 use Rattle.pure_print_tests.proofs.notation.session.Goals as goal
 
