@@ -7,3 +7,4 @@ pub mod Frames
 pub mod States
 pub mod Parts
 pub mod Stuck
+pub mod Laws

@@ -3,6 +3,7 @@
 
 mod binder;
 mod frame;
+pub mod laws;
 mod lexeme;
 mod raw;
 mod read;
@@ -15,7 +16,5 @@ mod typ;
 pub use raw::{Raw, RawClass, RawNode, RawTyp, RawTypNode};
 pub use read::{RawFault, read_raw, read_raw_typ};
 
-#[cfg(test)]
-mod tables;
 #[cfg(test)]
 mod tests;

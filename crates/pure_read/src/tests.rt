@@ -1,6 +1,7 @@
 //! The trees of terms and types, and the places of their faults, by hand from the rules.
 
-use super::tables::*;
+mod tables;
+
 use super::*;
 use pure_grammar::TokenKind;
 use pure_lex::tokens;
@@ -8,6 +9,7 @@ use pure_term::Text;
 use std::alloc::Global;
 use std::process::Abort;
 use std::test::Fail;
+use tables::*;
 
 fn say(shown: &mut Vec<u8>, text: &str) -> Result<(), Fail> {
     shown.extend_from_slice(text.as_bytes())?;
