@@ -10,3 +10,4 @@ mod walk;
 
 pub use beta::{MAX_STEPS, beta_norm};
 pub use fault::NormFault;
+pub use pure_eta::{eta_norm, long_form};
