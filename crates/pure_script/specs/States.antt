@@ -41,3 +41,8 @@ IsNext false behind next = next ≡ None
 abbrev pub IsLed : Bool → List Command → spec.Place → List Command → spec.Turn → Type 0
 IsLed true commands place old turn = (h : spec.Header) → spec.body_state h old turn ≡ Some (spec.InBody h commands place)
 IsLed false commands place old turn = turn ≡ spec.Refuses
+
+-- Where a token is one import more, it leads to the new place; else the place is the old one.
+abbrev pub IsImport : Bool → Front → Front → Option spec.State → Type 0
+IsImport true new old next = next ≡ Some (seen_front new)
+IsImport false new old next = new ≡ old

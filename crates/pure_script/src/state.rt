@@ -5,7 +5,7 @@ ghost use Rattle.pure_grammar.specs.PhraseTree.{with_text};
 ghost use Rattle.pure_grammar.specs.Reader as spec;
 ghost use Rattle.pure_script.specs.Seen.{seen_lexeme};
 ghost use Rattle.pure_script.specs.Places.{seen_place, seen_class_place, seen_type_place, seen_arity_place, seen_item_place, seen_lemma_place, seen_proof_place, seen_turn, seen_command, seen_commands};
-ghost use Rattle.pure_script.specs.States.{seen_state, seen_front, seen_next, seen_header, seen_end, IsNext, IsLed};
+ghost use Rattle.pure_script.specs.States.{seen_state, seen_front, seen_next, seen_header, seen_end, IsNext, IsLed, IsImport};
 
 use crate::lexeme::{Lexeme, is_word};
 use crate::place::{
@@ -224,6 +224,51 @@ fn in_body(
     }
 }
 
+/// Goes on where the token is one import more, and else stays.
+#[inline(never)]
+fn is_import(alloc: Global, front: &mut Front, lexeme: Lexeme<'_>) -> Result<bool, AllocError>
+    ensures { IfOk result (λ on. IsImport on front.new front.old (spec.next (seen_front front.old) (seen_lexeme lexeme.entry))) }
+{
+    match front {
+        Front::AfterImport { header } => match ident(alloc, lexeme)? {
+            None => Ok(false),
+            Some(theory) => {
+                header.imports.add(alloc, theory)?;
+                Ok(true)
+            }
+        },
+        _ => Ok(false),
+    }
+}
+
+/// Goes to the state behind a token. Apart from `goes_on`, whose every call would pay for the room that the front takes.
+#[inline(never)]
+#[tactic(auto, using(crate::proofs::Steps::body_next_same))]
+fn goes_anywhere(alloc: Global, state: &mut State, lexeme: Lexeme<'_>) -> Result<bool, AllocError>
+    ensures { IfOk result (λ on. IsNext on (seen_state state.new) (spec.next (seen_state state.old) (seen_lexeme lexeme.entry))) }
+{
+    match state {
+        State::InBody {
+            commands,
+            place,
+            ..
+        } => in_body(alloc, commands, place, lexeme),
+        State::InFront { front } => {
+            if is_import(alloc, front, lexeme)? {
+                return Ok(true);
+            }
+            let here = mem::replace(front, Front::AtStart);
+            match front_next(alloc, here, lexeme)? {
+                None => Ok(false),
+                Some(behind) => {
+                    *state = behind;
+                    Ok(true)
+                }
+            }
+        }
+    }
+}
+
 /// Goes to the state behind a token; false exactly where none goes on.
 #[tactic(auto, using(crate::proofs::Steps::body_next_same))]
 pub(crate) fn goes_on(
@@ -239,16 +284,7 @@ pub(crate) fn goes_on(
             place,
             ..
         } => in_body(alloc, commands, place, lexeme),
-        State::InFront { front } => {
-            let here = mem::replace(front, Front::AtStart);
-            match front_next(alloc, here, lexeme)? {
-                None => Ok(false),
-                Some(behind) => {
-                    *state = behind;
-                    Ok(true)
-                }
-            }
-        }
+        State::InFront { .. } => goes_anywhere(alloc, state, lexeme),
     }
 }
 
