@@ -1,7 +1,7 @@
 -- What is read so far, and what it says in the end.
 use Rattle.std.proofs.Common.{◌≡◌, ℕ, zero, suc, ◌+◌, ◌-◌, ◌<◌, ◌≤◌, List, [], ◌∷◌, length, drop, get_or, refl, sym, ◌∙◌, ap, subst, arith, drop-cons, length-drop}
 use Rattle.std.proofs.lemmas.List.{length-append, drop_all}
-use Rattle.std.specs.Prelude.{false, Some, None}
+use Rattle.std.specs.Prelude.{Bool, true, false, Option, Some, None}
 use Rattle.pure_grammar.specs.declared.token.Token.{Token}
 use Rattle.pure_grammar.specs.TheoryText.{TheoryText}
 use Rattle.pure_grammar.specs.Lexeme.{Lexeme, Ends, lexeme, lexemes}
@@ -10,17 +10,22 @@ use Rattle.pure_grammar.specs.Outer.{SpellsTheory, HasSyntaxFault, place_of}
 use Rattle.pure_grammar.specs.Reader as spec
 use Rattle.pure_grammar.specs.Reader.{AtStart, AtLast, Through, Stuck, goes_on, next, run, expected, is_last}
 use Rattle.pure_grammar.proofs.FaultLemmas.{Wrong, goes-wrong, Gets-IsTheory}
-use Rattle.pure_script.specs.States.{seen_state}
+use Rattle.pure_script.specs.States.{seen_state, IsNext}
 use Rattle.pure_script.specs.declared.state.State.{State}
 use Rattle.pure_script.specs.declared.state.State.TheVariants as state
+use Rattle.pure_script.specs.declared.state.Front.TheVariants as front
 
 pub is_last-seen : (s : State) → is_last (seen_state s) ≡ false
-is_last-seen state.AtStart = refl
-is_last-seen state.AtTheoryName = refl
-is_last-seen (state.AfterTheoryName name) = refl
-is_last-seen (state.AtImport name) = refl
-is_last-seen (state.AfterImport header) = refl
+is_last-seen (state.InFront front.AtStart) = refl
+is_last-seen (state.InFront front.AtTheoryName) = refl
+is_last-seen (state.InFront (front.AfterTheoryName name)) = refl
+is_last-seen (state.InFront (front.AtImport name)) = refl
+is_last-seen (state.InFront (front.AfterImport header)) = refl
 is_last-seen (state.InBody header commands place) = refl
+
+pub none-next : (on : Bool) (behind : spec.State) (next : Option spec.State) → on ≡ false → IsNext on behind next → next ≡ None
+none-next true behind next e is = absurd (cc e)
+none-next false behind next e is = is
 
 run-drop : (source : List ℕ) (ts : List Token) (i : ℕ) (s : spec.State) (d t : Token) → i < length ts → t ≡ get_or ts i d → run AtStart (lexemes source ts) ≡ run s (lexemes source (drop i ts))
     → run AtStart (lexemes source ts) ≡ goes_on (next s (lexeme source t)) (Stuck s (lexeme source t) (lexemes source (drop (suc i) ts))) (λ u. run u (lexemes source (drop (suc i) ts)))

@@ -25,6 +25,9 @@ use Rattle.pure_script.specs.declared.place.ItemPlace.{ItemPlace}
 use Rattle.pure_script.specs.declared.place.ItemPlace.TheVariants.{AtItem, AfterItem, AtItemType, AfterItemType, AtWhere, AtAxiom, AfterAxiom, AtAxiomText, AfterAxiomText, AtDefinition, AfterDefinition, AtDefinitionType, AfterDefinitionType, AtDefinitionText}
 use Rattle.pure_script.specs.declared.place.LemmaPlace.{LemmaPlace}
 use Rattle.pure_script.specs.declared.place.LemmaPlace.TheVariants.{AtLemma, AfterLemma, AtLemmaText, InProof}
+use Rattle.pure_script.specs.declared.place.Goal.{Goal}
+use Rattle.pure_script.specs.declared.place.Course.{Course}
+use Rattle.pure_script.specs.declared.place.Course.TheVariants as course
 use Rattle.pure_script.specs.declared.place.Turn.{Turn}
 use Rattle.pure_script.specs.declared.place.Turn.TheVariants.{Moves, Adds, Refuses}
 
@@ -138,3 +141,9 @@ abbrev pub seen_turn : Turn → spec.Turn
 seen_turn (Moves place) = spec.Moves (seen_place place)
 seen_turn (Adds command place) = spec.Adds (seen_command command) (seen_place place)
 seen_turn Refuses = spec.Refuses
+
+-- where a token of a proof leads to, by the goal and the place behind it
+abbrev pub seen_course : Course → Goal → ProofPlace → spec.Turn
+seen_course course.Stays goal place = spec.Moves (spec.InProof goal.name (span goal.prop) (seen_steps goal.script.items) (seen_proof_place place))
+seen_course course.Proves goal place = spec.Adds (tree.Lemma goal.name (span goal.prop) (seen_steps goal.script.items)) spec.AtCommand
+seen_course course.Refuses goal place = spec.Refuses

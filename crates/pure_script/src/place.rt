@@ -145,6 +145,14 @@ pub(crate) enum Turn {
     Refuses,
 }
 
+/// How a token of a proof goes on: the proof does, or its last step is read, or the token refuses.
+#[derive(Clone, Copy)]
+pub(crate) enum Course {
+    Stays,
+    Proves,
+    Refuses,
+}
+
 /// To the place, if so.
 pub(crate) fn moves_if(so: bool, place: Place) -> Turn
     ensures { seen_turn result ≡ spec.moves_if so (seen_place place) }

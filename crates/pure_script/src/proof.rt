@@ -3,14 +3,17 @@ ghost use Rattle.std.specs.Prelude.{◌≡◌, IfOk, [], ◌∷◌, ◌++◌};
 ghost use Rattle.pure_grammar.specs.TheoryText.{Lemma};
 ghost use Rattle.pure_grammar.specs.Reader as spec;
 ghost use Rattle.pure_script.specs.Seen.{seen_lexeme, span};
-ghost use Rattle.pure_script.specs.Places.{seen_turn, seen_step, seen_steps, seen_method, seen_proof_place};
+ghost use Rattle.pure_script.specs.Places.{seen_turn, seen_course, seen_command, seen_step, seen_steps, seen_method, seen_proof_place};
 
 use crate::lexeme::{Lexeme, is_ident, is_sign, is_word, number_in, quote_in};
-use crate::place::{FactMethod, Goal, LemmaPlace, Place, ProofPlace, Turn, ident, moves_if, name};
+use crate::place::{
+    Course, FactMethod, Goal, LemmaPlace, Place, ProofPlace, Turn, ident, moves_if, name,
+};
 use crate::theory::{Command, Span, Step};
 use pure_grammar::{Keyword, Sign};
 use pure_term::Text;
 use std::alloc::{AllocError, Global};
+use std::mem;
 
 pub(crate) fn at_lemma(alloc: Global, lexeme: Lexeme<'_>) -> Result<Turn, AllocError>
     ensures { IfOk result (λ turn. seen_turn turn ≡ spec.turn spec.AtLemma (seen_lexeme lexeme.entry)) }
@@ -45,41 +48,24 @@ pub(crate) fn at_lemma_text(alloc: Global, name: Text, lexeme: Lexeme<'_>) -> Tu
         Some(prop) => {
             let script = Vec::new(alloc);
             let goal = Goal { name, prop, script };
-            in_proof(goal, ProofPlace::AtStep)
+            let place = ProofPlace::AtStep;
+            Turn::Moves {
+                place: Place::OfLemma {
+                    place: LemmaPlace::InProof { goal, place },
+                },
+            }
         }
     }
 }
 
-/// The steps with one more.
-fn with_step(script: Vec<Step>, step: Step) -> Result<Vec<Step>, AllocError>
-    ensures { IfOk result (λ all. seen_steps all.items ≡ seen_steps script.items ++ seen_step step ∷ []) }
+/// The goal gets one more step.
+fn step(goal: &mut Goal, step: Step) -> Result<(), AllocError>
+    ensures name { IfOk result (λ _. goal.new.name ≡ goal.old.name) }
+    ensures prop { IfOk result (λ _. span goal.new.prop ≡ span goal.old.prop) }
+    ensures script { IfOk result (λ _. seen_steps goal.new.script.items ≡ seen_steps goal.old.script.items ++ seen_step step ∷ []) }
 {
-    let mut script = script;
-    script.push(step)?;
-    Ok(script)
-}
-
-fn in_proof(goal: Goal, place: ProofPlace) -> Turn
-    ensures { seen_turn result ≡ spec.Moves (spec.InProof goal.name (span goal.prop) (seen_steps goal.script.items) (seen_proof_place place)) }
-{
-    Turn::Moves {
-        place: Place::OfLemma {
-            place: LemmaPlace::InProof { goal, place },
-        },
-    }
-}
-
-/// The goal with one more step.
-fn step(goal: Goal, step: Step) -> Result<Goal, AllocError>
-    ensures name { IfOk result (λ next. next.name ≡ goal.name) }
-    ensures prop { IfOk result (λ next. span next.prop ≡ span goal.prop) }
-    ensures script { IfOk result (λ next. seen_steps next.script.items ≡ seen_steps goal.script.items ++ seen_step step ∷ []) }
-{
-    Ok(Goal {
-        name: goal.name,
-        prop: goal.prop,
-        script: with_step(goal.script, step)?,
-    })
+    goal.script.push(step)?;
+    Ok(())
 }
 
 fn fact_step(method: FactMethod, fact: Text) -> Step
@@ -92,173 +78,233 @@ fn fact_step(method: FactMethod, fact: Text) -> Step
     }
 }
 
-/// The lemma, whose proof is read.
-fn proved(goal: Goal) -> Turn
-    ensures { seen_turn result ≡ spec.Adds (Lemma goal.name (span goal.prop) (seen_steps goal.script.items)) spec.AtCommand }
+/// The lemma, whose proof is read; the goal is left empty.
+#[inline(never)]
+pub(crate) fn proved(alloc: Global, goal: &mut Goal) -> Result<Command, AllocError>
+    ensures { IfOk result (λ command. seen_command command ≡ Lemma goal.old.name (span goal.old.prop) (seen_steps goal.old.script.items)) }
 {
-    Turn::Adds {
-        command: Command::Lemma {
-            name: goal.name,
-            prop: goal.prop,
-            script: goal.script,
-        },
-        place: Place::AtCommand,
-    }
+    let name = mem::replace(&mut goal.name, Text::make(alloc, b"")?);
+    let script = mem::replace(&mut goal.script, Vec::new(alloc));
+    let prop = goal.prop;
+    Ok(Command::Lemma { name, prop, script })
 }
 
 /// Behind a method; that of `by` closes the proof.
-fn after_method(goal: Goal, last: bool) -> Result<Turn, AllocError>
-    ensures { IfOk result (λ turn. seen_turn turn ≡ spec.after_method goal.name (span goal.prop) last (seen_steps goal.script.items)) }
+fn after_method(goal: &mut Goal, place: &mut ProofPlace, last: bool) -> Result<Course, AllocError>
+    ensures { IfOk result (λ course. seen_course course goal.new place.new ≡ spec.after_method goal.old.name (span goal.old.prop) last (seen_steps goal.old.script.items)) }
 {
     if !last {
-        return Ok(in_proof(goal, ProofPlace::AtStep));
+        *place = ProofPlace::AtStep;
+        return Ok(Course::Stays);
     }
-    let goal = step(goal, Step::Close)?;
-    let goal = step(goal, Step::Done)?;
-    Ok(proved(goal))
+    step(goal, Step::Close)?;
+    step(goal, Step::Done)?;
+    Ok(Course::Proves)
 }
 
-#[inline(never)]
-fn at_method(goal: Goal, last: bool, lexeme: Lexeme<'_>) -> Result<Turn, AllocError>
-    ensures { IfOk result (λ turn. seen_turn turn ≡ spec.proof_turn goal.name (span goal.prop) (seen_steps goal.script.items) (spec.AtMethod last) (seen_lexeme lexeme.entry)) }
+fn at_method(
+    goal: &mut Goal,
+    place: &mut ProofPlace,
+    last: bool,
+    lexeme: Lexeme<'_>,
+) -> Result<Course, AllocError>
+    ensures { IfOk result (λ course. seen_course course goal.new place.new ≡ spec.proof_turn goal.old.name (span goal.old.prop) (seen_steps goal.old.script.items) (spec.AtMethod last) (seen_lexeme lexeme.entry)) }
 {
     if is_ident(b"assumption", lexeme) {
-        return after_method(step(goal, Step::Assumption)?, last);
+        step(goal, Step::Assumption)?;
+        return after_method(goal, place, last);
     }
     if is_sign(Sign::OpenParenthesis, lexeme) {
-        return Ok(in_proof(goal, ProofPlace::AtBasic { last }));
+        *place = ProofPlace::AtBasic { last };
+        return Ok(Course::Stays);
     }
-    Ok(Turn::Refuses)
+    Ok(Course::Refuses)
 }
 
-#[inline(never)]
-fn at_basic(goal: Goal, last: bool, lexeme: Lexeme<'_>) -> Result<Turn, AllocError>
-    ensures { IfOk result (λ turn. seen_turn turn ≡ spec.proof_turn goal.name (span goal.prop) (seen_steps goal.script.items) (spec.AtBasic last) (seen_lexeme lexeme.entry)) }
+fn at_basic(
+    goal: &mut Goal,
+    place: &mut ProofPlace,
+    last: bool,
+    lexeme: Lexeme<'_>,
+) -> Result<Course, AllocError>
+    ensures { IfOk result (λ course. seen_course course goal.new place.new ≡ spec.proof_turn goal.old.name (span goal.old.prop) (seen_steps goal.old.script.items) (spec.AtBasic last) (seen_lexeme lexeme.entry)) }
 {
     if is_ident(b"assumption", lexeme) {
-        return Ok(in_proof(
-            step(goal, Step::Assumption)?,
-            ProofPlace::AfterBasic { last },
-        ));
+        step(goal, Step::Assumption)?;
+        *place = ProofPlace::AfterBasic { last };
+        return Ok(Course::Stays);
     }
     if is_ident(b"rule", lexeme) {
         let method = FactMethod::Rule;
-        return Ok(in_proof(goal, ProofPlace::AtFact { last, method }));
+        *place = ProofPlace::AtFact { last, method };
+        return Ok(Course::Stays);
     }
     if is_ident(b"erule", lexeme) {
         let method = FactMethod::Erule;
-        return Ok(in_proof(goal, ProofPlace::AtFact { last, method }));
+        *place = ProofPlace::AtFact { last, method };
+        return Ok(Course::Stays);
     }
     if is_ident(b"drule", lexeme) {
         let method = FactMethod::Drule;
-        return Ok(in_proof(goal, ProofPlace::AtFact { last, method }));
+        *place = ProofPlace::AtFact { last, method };
+        return Ok(Course::Stays);
     }
     if is_ident(b"unfold", lexeme) {
-        return Ok(in_proof(goal, ProofPlace::AtUnfolded { last }));
+        *place = ProofPlace::AtUnfolded { last };
+        return Ok(Course::Stays);
     }
-    Ok(Turn::Refuses)
+    Ok(Course::Refuses)
 }
 
-#[inline(never)]
-fn after_basic(goal: Goal, last: bool, lexeme: Lexeme<'_>) -> Result<Turn, AllocError>
-    ensures { IfOk result (λ turn. seen_turn turn ≡ spec.basic_end goal.name (span goal.prop) (seen_steps goal.script.items) last (seen_lexeme lexeme.entry)) }
+fn after_basic(
+    goal: &mut Goal,
+    place: &mut ProofPlace,
+    last: bool,
+    lexeme: Lexeme<'_>,
+) -> Result<Course, AllocError>
+    ensures { IfOk result (λ course. seen_course course goal.new place.new ≡ spec.basic_end goal.old.name (span goal.old.prop) (seen_steps goal.old.script.items) last (seen_lexeme lexeme.entry)) }
 {
     if is_sign(Sign::Comma, lexeme) {
-        return Ok(in_proof(goal, ProofPlace::AtBasic { last }));
+        *place = ProofPlace::AtBasic { last };
+        return Ok(Course::Stays);
     }
     if is_sign(Sign::CloseParenthesis, lexeme) {
-        return after_method(goal, last);
+        return after_method(goal, place, last);
     }
-    Ok(Turn::Refuses)
+    Ok(Course::Refuses)
 }
 
-#[inline(never)]
 fn at_fact(
     alloc: Global,
-    goal: Goal,
+    goal: &mut Goal,
+    place: &mut ProofPlace,
     last: bool,
     method: FactMethod,
     lexeme: Lexeme<'_>,
-) -> Result<Turn, AllocError>
-    ensures { IfOk result (λ turn. seen_turn turn ≡ spec.proof_turn goal.name (span goal.prop) (seen_steps goal.script.items) (spec.AtFact last (seen_method method)) (seen_lexeme lexeme.entry)) }
+) -> Result<Course, AllocError>
+    ensures { IfOk result (λ course. seen_course course goal.new place.new ≡ spec.proof_turn goal.old.name (span goal.old.prop) (seen_steps goal.old.script.items) (spec.AtFact last (seen_method method)) (seen_lexeme lexeme.entry)) }
 {
     match name(alloc, lexeme)? {
-        None => Ok(Turn::Refuses),
-        Some(fact) => Ok(in_proof(
-            step(goal, fact_step(method, fact))?,
-            ProofPlace::AfterBasic { last },
-        )),
+        None => Ok(Course::Refuses),
+        Some(fact) => {
+            step(goal, fact_step(method, fact))?;
+            *place = ProofPlace::AfterBasic { last };
+            Ok(Course::Stays)
+        }
     }
 }
 
-#[inline(never)]
 fn at_unfolded(
     alloc: Global,
-    goal: Goal,
+    goal: &mut Goal,
+    place: &mut ProofPlace,
     last: bool,
     lexeme: Lexeme<'_>,
-) -> Result<Turn, AllocError>
-    ensures { IfOk result (λ turn. seen_turn turn ≡ spec.proof_turn goal.name (span goal.prop) (seen_steps goal.script.items) (spec.AtUnfolded last) (seen_lexeme lexeme.entry)) }
+) -> Result<Course, AllocError>
+    ensures { IfOk result (λ course. seen_course course goal.new place.new ≡ spec.proof_turn goal.old.name (span goal.old.prop) (seen_steps goal.old.script.items) (spec.AtUnfolded last) (seen_lexeme lexeme.entry)) }
 {
     match name(alloc, lexeme)? {
-        None => Ok(Turn::Refuses),
+        None => Ok(Course::Refuses),
         Some(fact) => {
             let mut facts = Vec::new(alloc);
             facts.push(fact)?;
-            Ok(in_proof(goal, ProofPlace::AfterUnfolded { last, facts }))
+            *place = ProofPlace::AfterUnfolded { last, facts };
+            Ok(Course::Stays)
         }
     }
 }
 
-#[inline(never)]
-fn after_unfolded(
-    alloc: Global,
-    goal: Goal,
-    last: bool,
-    facts: Vec<Text>,
+fn at_step(
+    goal: &mut Goal,
+    place: &mut ProofPlace,
     lexeme: Lexeme<'_>,
-) -> Result<Turn, AllocError>
-    ensures { IfOk result (λ turn. seen_turn turn ≡ spec.proof_turn goal.name (span goal.prop) (seen_steps goal.script.items) (spec.AfterUnfolded last facts.items) (seen_lexeme lexeme.entry)) }
-{
-    let mut facts = facts;
-    match name(alloc, lexeme)? {
-        Some(fact) => {
-            facts.push(fact)?;
-            Ok(in_proof(goal, ProofPlace::AfterUnfolded { last, facts }))
-        }
-        None => after_basic(step(goal, Step::Unfold { facts })?, last, lexeme),
-    }
-}
-
-#[inline(never)]
-fn at_step(goal: Goal, lexeme: Lexeme<'_>) -> Result<Turn, AllocError>
-    ensures { IfOk result (λ turn. seen_turn turn ≡ spec.proof_turn goal.name (span goal.prop) (seen_steps goal.script.items) spec.AtStep (seen_lexeme lexeme.entry)) }
+) -> Result<Course, AllocError>
+    ensures { IfOk result (λ course. seen_course course goal.new place.new ≡ spec.proof_turn goal.old.name (span goal.old.prop) (seen_steps goal.old.script.items) spec.AtStep (seen_lexeme lexeme.entry)) }
 {
     if is_word(Keyword::Apply, lexeme) {
-        return Ok(in_proof(goal, ProofPlace::AtMethod { last: false }));
+        *place = ProofPlace::AtMethod { last: false };
+        return Ok(Course::Stays);
     }
     if is_word(Keyword::Prefer, lexeme) {
-        return Ok(in_proof(goal, ProofPlace::AtNumber));
+        *place = ProofPlace::AtNumber;
+        return Ok(Course::Stays);
     }
     if is_word(Keyword::Defer, lexeme) {
-        return Ok(in_proof(step(goal, Step::Defer)?, ProofPlace::AtStep));
+        step(goal, Step::Defer)?;
+        *place = ProofPlace::AtStep;
+        return Ok(Course::Stays);
     }
     if is_word(Keyword::Done, lexeme) {
-        return Ok(proved(step(goal, Step::Done)?));
+        step(goal, Step::Done)?;
+        return Ok(Course::Proves);
     }
     if is_word(Keyword::By, lexeme) {
-        return Ok(in_proof(goal, ProofPlace::AtMethod { last: true }));
+        *place = ProofPlace::AtMethod { last: true };
+        return Ok(Course::Stays);
     }
-    Ok(Turn::Refuses)
+    Ok(Course::Refuses)
 }
 
-#[inline(never)]
-fn at_number(goal: Goal, lexeme: Lexeme<'_>) -> Result<Turn, AllocError>
-    ensures { IfOk result (λ turn. seen_turn turn ≡ spec.proof_turn goal.name (span goal.prop) (seen_steps goal.script.items) spec.AtNumber (seen_lexeme lexeme.entry)) }
+fn at_number(
+    goal: &mut Goal,
+    place: &mut ProofPlace,
+    lexeme: Lexeme<'_>,
+) -> Result<Course, AllocError>
+    ensures { IfOk result (λ course. seen_course course goal.new place.new ≡ spec.proof_turn goal.old.name (span goal.old.prop) (seen_steps goal.old.script.items) spec.AtNumber (seen_lexeme lexeme.entry)) }
 {
     match number_in(lexeme) {
-        None => Ok(Turn::Refuses),
-        Some(n) => Ok(in_proof(step(goal, Step::Prefer { n })?, ProofPlace::AtStep)),
+        None => Ok(Course::Refuses),
+        Some(n) => {
+            step(goal, Step::Prefer { n })?;
+            *place = ProofPlace::AtStep;
+            Ok(Course::Stays)
+        }
+    }
+}
+
+/// How a token of a proof goes on, with its place and what is read in place.
+#[inline(never)]
+pub(crate) fn proof_course(
+    alloc: Global,
+    goal: &mut Goal,
+    place: &mut ProofPlace,
+    lexeme: Lexeme<'_>,
+) -> Result<Course, AllocError>
+    ensures { IfOk result (λ course. seen_course course goal.new place.new ≡ spec.proof_turn goal.old.name (span goal.old.prop) (seen_steps goal.old.script.items) (seen_proof_place place.old) (seen_lexeme lexeme.entry)) }
+{
+    match place {
+        ProofPlace::AtStep => at_step(goal, place, lexeme),
+        ProofPlace::AtNumber => at_number(goal, place, lexeme),
+        ProofPlace::AtMethod { last } => {
+            let last = *last;
+            at_method(goal, place, last, lexeme)
+        }
+        ProofPlace::AtBasic { last } => {
+            let last = *last;
+            at_basic(goal, place, last, lexeme)
+        }
+        ProofPlace::AfterBasic { last } => {
+            let last = *last;
+            after_basic(goal, place, last, lexeme)
+        }
+        ProofPlace::AtFact { last, method } => {
+            let (last, method) = (*last, *method);
+            at_fact(alloc, goal, place, last, method, lexeme)
+        }
+        ProofPlace::AtUnfolded { last } => {
+            let last = *last;
+            at_unfolded(alloc, goal, place, last, lexeme)
+        }
+        ProofPlace::AfterUnfolded { last, facts } => {
+            let last = *last;
+            if let Some(fact) = name(alloc, lexeme)? {
+                facts.push(fact)?;
+                return Ok(Course::Stays);
+            }
+            let facts = mem::replace(facts, Vec::new(alloc));
+            step(goal, Step::Unfold { facts })?;
+            after_basic(goal, place, last, lexeme)
+        }
     }
 }
 
@@ -272,16 +318,18 @@ pub(crate) fn proof_turn(
 ) -> Result<Turn, AllocError>
     ensures { IfOk result (λ turn. seen_turn turn ≡ spec.proof_turn goal.name (span goal.prop) (seen_steps goal.script.items) (seen_proof_place place) (seen_lexeme lexeme.entry)) }
 {
-    match place {
-        ProofPlace::AtStep => at_step(goal, lexeme),
-        ProofPlace::AtNumber => at_number(goal, lexeme),
-        ProofPlace::AtMethod { last } => at_method(goal, last, lexeme),
-        ProofPlace::AtBasic { last } => at_basic(goal, last, lexeme),
-        ProofPlace::AfterBasic { last } => after_basic(goal, last, lexeme),
-        ProofPlace::AtFact { last, method } => at_fact(alloc, goal, last, method, lexeme),
-        ProofPlace::AtUnfolded { last } => at_unfolded(alloc, goal, last, lexeme),
-        ProofPlace::AfterUnfolded { last, facts } => after_unfolded(
-            alloc, goal, last, facts, lexeme,
-        ),
+    let mut goal = goal;
+    let mut place = place;
+    match proof_course(alloc, &mut goal, &mut place, lexeme)? {
+        Course::Stays => Ok(Turn::Moves {
+            place: Place::OfLemma {
+                place: LemmaPlace::InProof { goal, place },
+            },
+        }),
+        Course::Proves => Ok(Turn::Adds {
+            command: proved(alloc, &mut goal)?,
+            place: Place::AtCommand,
+        }),
+        Course::Refuses => Ok(Turn::Refuses),
     }
 }

@@ -6,7 +6,7 @@ ghost use Rattle.pure_script.specs.Places.{seen_theory};
 ghost use Rattle.pure_script.specs.Faults.{IsFaultOf};
 
 use crate::lexeme::lexeme_of;
-use crate::state::{State, ended, expected, next};
+use crate::state::{Front, State, ended, expected, goes_on};
 use crate::theory::{ScriptFault, TheoryText};
 use pure_grammar::Token;
 use std::alloc::Global;
@@ -23,20 +23,17 @@ pub fn read_theory(
     ensures ok { IfOk result (λ theory. SpellsTheory source.now tokens.now (seen_theory theory)) }
     ensures fault { IfErr result (IsFaultOf source.now tokens.now) }
 {
-    let mut state = State::AtStart;
+    let mut state = State::InFront {
+        front: Front::AtStart,
+    };
     for token in tokens {
         let lexeme = lexeme_of(source, *token)?;
         let kind = expected(&state);
-        match next(alloc, state, lexeme)? {
-            None => {
-                return Err(ScriptFault::Syntax {
-                    at: token.from,
-                    expected: kind,
-                });
-            }
-            Some(behind) => {
-                state = behind;
-            }
+        if !goes_on(alloc, &mut state, lexeme)? {
+            return Err(ScriptFault::Syntax {
+                at: token.from,
+                expected: kind,
+            });
         }
     }
     let kind = expected(&state);

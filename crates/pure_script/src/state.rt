@@ -1,22 +1,25 @@
 //! The places of a whole theory's text, and where each token leads to.
-ghost use Rattle.std.specs.Prelude.{◌≡◌, IfOk, [], ◌∷◌, ◌++◌};
+ghost use Rattle.std.specs.Prelude.{◌≡◌, IfOk, Some, [], ◌∷◌, ◌++◌};
 ghost use Rattle.pure_grammar.specs.Lexeme.{Ends};
 ghost use Rattle.pure_grammar.specs.PhraseTree.{with_text};
 ghost use Rattle.pure_grammar.specs.Reader as spec;
 ghost use Rattle.pure_script.specs.Seen.{seen_lexeme};
 ghost use Rattle.pure_script.specs.Places.{seen_place, seen_class_place, seen_type_place, seen_arity_place, seen_item_place, seen_lemma_place, seen_proof_place, seen_turn, seen_command, seen_commands};
-ghost use Rattle.pure_script.specs.States.{seen_state, seen_next, seen_header, seen_end};
+ghost use Rattle.pure_script.specs.States.{seen_state, seen_front, seen_next, seen_header, seen_end, IsNext, IsLed, IsImport};
 
 use crate::lexeme::{Lexeme, is_word};
 use crate::place::{
-    ArityPlace, ClassPlace, ItemPlace, LemmaPlace, Place, ProofPlace, Turn, TypePlace, ident,
+    ArityPlace, ClassPlace, Course, ItemPlace, LemmaPlace, Place, ProofPlace, Turn, TypePlace,
+    ident,
 };
+use crate::proof::{proof_course, proved};
 use crate::texts::Texts;
 use crate::theory::{Command, TheoryText};
 use crate::turn::turn;
 use pure_grammar::{Keyword, TokenKind};
 use pure_term::Text;
 use std::alloc::{AllocError, Global};
+use std::mem;
 
 /// The name and the imports of a theory.
 #[derive(Drop)]
@@ -25,19 +28,21 @@ pub(crate) struct Header {
     pub(crate) imports: Texts,
 }
 
+/// A place before `begin`, with what was read before it.
+#[derive(Drop)]
+pub(crate) enum Front {
+    AtStart,
+    AtTheoryName,
+    AfterTheoryName { name: Text },
+    AtImport { name: Text },
+    AfterImport { header: Header },
+}
+
 /// A place in the text, with what was read before it.
 #[derive(Drop)]
 pub(crate) enum State {
-    AtStart,
-    AtTheoryName,
-    AfterTheoryName {
-        name: Text,
-    },
-    AtImport {
-        name: Text,
-    },
-    AfterImport {
-        header: Header,
+    InFront {
+        front: Front,
     },
     InBody {
         header: Header,
@@ -73,12 +78,18 @@ fn with_import(alloc: Global, imports: Texts, theory: Text) -> Result<Texts, All
     Ok(all)
 }
 
+fn in_front(front: Front) -> Option<State>
+    ensures { seen_next result ≡ Some (seen_front front) }
+{
+    Some(State::InFront { front })
+}
+
 fn at_theory_name(alloc: Global, lexeme: Lexeme<'_>) -> Result<Option<State>, AllocError>
     ensures { IfOk result (λ next. seen_next next ≡ spec.next spec.AtTheoryName (seen_lexeme lexeme.entry)) }
 {
     match ident(alloc, lexeme)? {
         None => Ok(None),
-        Some(name) => Ok(Some(State::AfterTheoryName { name })),
+        Some(name) => Ok(in_front(Front::AfterTheoryName { name })),
     }
 }
 
@@ -90,7 +101,7 @@ fn after_theory_name(
     ensures { IfOk result (λ next. seen_next next ≡ spec.next (spec.AfterTheoryName name) (seen_lexeme lexeme.entry)) }
 {
     if is_word(Keyword::Imports, lexeme) {
-        return Ok(Some(State::AtImport { name }));
+        return Ok(in_front(Front::AtImport { name }));
     }
     if is_word(Keyword::Begin, lexeme) {
         let imports = only(alloc, Text::make(alloc, b"Pure")?)?;
@@ -107,7 +118,7 @@ fn at_import(alloc: Global, name: Text, lexeme: Lexeme<'_>) -> Result<Option<Sta
         Some(theory) => {
             let imports = only(alloc, theory)?;
             let header = Header { name, imports };
-            Ok(Some(State::AfterImport { header }))
+            Ok(in_front(Front::AfterImport { header }))
         }
     }
 }
@@ -126,7 +137,7 @@ fn after_import(
                 name: header.name,
                 imports,
             };
-            Ok(Some(State::AfterImport { header }))
+            Ok(in_front(Front::AfterImport { header }))
         }
         None => {
             if is_word(Keyword::Begin, lexeme) {
@@ -137,78 +148,143 @@ fn after_import(
     }
 }
 
-fn with_command(commands: Vec<Command>, command: Command) -> Result<Vec<Command>, AllocError>
-    ensures { IfOk result (λ all. seen_commands all.items ≡ seen_commands commands.items ++ seen_command command ∷ []) }
+/// The state behind a token before the commands, or None exactly where none goes on.
+#[inline(never)]
+fn front_next(alloc: Global, front: Front, lexeme: Lexeme<'_>) -> Result<Option<State>, AllocError>
+    ensures { IfOk result (λ next. seen_next next ≡ spec.next (seen_front front) (seen_lexeme lexeme.entry)) }
 {
-    let mut commands = commands;
-    commands.push(command)?;
-    Ok(commands)
-}
-
-/// The state behind a token of the commands.
-fn body_state(
-    header: Header,
-    commands: Vec<Command>,
-    turn: Turn,
-) -> Result<Option<State>, AllocError>
-    ensures { IfOk result (λ next. seen_next next ≡ spec.body_state (seen_header header) (seen_commands commands.items) (seen_turn turn)) }
-{
-    match turn {
-        Turn::Moves { place } => Ok(Some(State::InBody {
-            header,
-            commands,
-            place,
-        })),
-        Turn::Adds { command, place } => {
-            let commands = with_command(commands, command)?;
-            Ok(Some(State::InBody {
-                header,
-                commands,
-                place,
-            }))
-        }
-        Turn::Refuses => Ok(None),
-    }
-}
-
-fn in_body(
-    alloc: Global,
-    header: Header,
-    commands: Vec<Command>,
-    place: Place,
-    lexeme: Lexeme<'_>,
-) -> Result<Option<State>, AllocError>
-    ensures { IfOk result (λ next. seen_next next ≡ spec.body_state (seen_header header) (seen_commands commands.items) (spec.turn (seen_place place) (seen_lexeme lexeme.entry))) }
-{
-    let led = turn(alloc, place, lexeme)?;
-    body_state(header, commands, led)
-}
-
-/// The state behind a token, or None exactly where none goes on.
-#[tactic(auto, using(crate::proofs::Steps::body_next_same))]
-pub(crate) fn next(
-    alloc: Global,
-    state: State,
-    lexeme: Lexeme<'_>,
-) -> Result<Option<State>, AllocError>
-    ensures { IfOk result (λ next. seen_next next ≡ spec.next (seen_state state) (seen_lexeme lexeme.entry)) }
-{
-    match state {
-        State::AtStart => {
+    match front {
+        Front::AtStart => {
             if is_word(Keyword::Theory, lexeme) {
-                return Ok(Some(State::AtTheoryName));
+                return Ok(in_front(Front::AtTheoryName));
             }
             Ok(None)
         }
-        State::AtTheoryName => at_theory_name(alloc, lexeme),
-        State::AfterTheoryName { name } => after_theory_name(alloc, name, lexeme),
-        State::AtImport { name } => at_import(alloc, name, lexeme),
-        State::AfterImport { header } => after_import(alloc, header, lexeme),
+        Front::AtTheoryName => at_theory_name(alloc, lexeme),
+        Front::AfterTheoryName { name } => after_theory_name(alloc, name, lexeme),
+        Front::AtImport { name } => at_import(alloc, name, lexeme),
+        Front::AfterImport { header } => after_import(alloc, header, lexeme),
+    }
+}
+
+/// One token more of the commands outside of proofs, and whether it goes on.
+#[inline(never)]
+fn outside_proof(
+    alloc: Global,
+    commands: &mut Vec<Command>,
+    place: &mut Place,
+    lexeme: Lexeme<'_>,
+) -> Result<bool, AllocError>
+    ensures { IfOk result (λ on. IsLed on (seen_commands commands.new.items) (seen_place place.new) (seen_commands commands.old.items) (spec.turn (seen_place place.old) (seen_lexeme lexeme.entry))) }
+{
+    let here = mem::replace(place, Place::AtCommand);
+    match turn(alloc, here, lexeme)? {
+        Turn::Moves { place: behind } => {
+            *place = behind;
+            Ok(true)
+        }
+        Turn::Adds {
+            command,
+            place: behind,
+        } => {
+            commands.push(command)?;
+            *place = behind;
+            Ok(true)
+        }
+        Turn::Refuses => Ok(false),
+    }
+}
+
+/// One token more of the commands, and whether it goes on.
+#[inline(never)]
+fn in_body(
+    alloc: Global,
+    commands: &mut Vec<Command>,
+    place: &mut Place,
+    lexeme: Lexeme<'_>,
+) -> Result<bool, AllocError>
+    ensures { IfOk result (λ on. IsLed on (seen_commands commands.new.items) (seen_place place.new) (seen_commands commands.old.items) (spec.turn (seen_place place.old) (seen_lexeme lexeme.entry))) }
+{
+    match place {
+        Place::OfLemma { place: lemma } => match lemma {
+            LemmaPlace::InProof { goal, place: step } => match proof_course(
+                alloc, goal, step, lexeme,
+            )? {
+                Course::Stays => Ok(true),
+                Course::Refuses => Ok(false),
+                Course::Proves => {
+                    commands.push(proved(alloc, goal)?)?;
+                    *place = Place::AtCommand;
+                    Ok(true)
+                }
+            },
+            _ => outside_proof(alloc, commands, place, lexeme),
+        },
+        _ => outside_proof(alloc, commands, place, lexeme),
+    }
+}
+
+/// Goes on where the token is one import more, and else stays.
+#[inline(never)]
+fn is_import(alloc: Global, front: &mut Front, lexeme: Lexeme<'_>) -> Result<bool, AllocError>
+    ensures { IfOk result (λ on. IsImport on front.new front.old (spec.next (seen_front front.old) (seen_lexeme lexeme.entry))) }
+{
+    match front {
+        Front::AfterImport { header } => match ident(alloc, lexeme)? {
+            None => Ok(false),
+            Some(theory) => {
+                header.imports.add(alloc, theory)?;
+                Ok(true)
+            }
+        },
+        _ => Ok(false),
+    }
+}
+
+/// Goes to the state behind a token. Apart from `goes_on`, whose every call would pay for the room that the front takes.
+#[inline(never)]
+#[tactic(auto, using(crate::proofs::Steps::body_next_same))]
+fn goes_anywhere(alloc: Global, state: &mut State, lexeme: Lexeme<'_>) -> Result<bool, AllocError>
+    ensures { IfOk result (λ on. IsNext on (seen_state state.new) (spec.next (seen_state state.old) (seen_lexeme lexeme.entry))) }
+{
+    match state {
         State::InBody {
-            header,
             commands,
             place,
-        } => { in_body(alloc, header, commands, place, lexeme) }
+            ..
+        } => in_body(alloc, commands, place, lexeme),
+        State::InFront { front } => {
+            if is_import(alloc, front, lexeme)? {
+                return Ok(true);
+            }
+            let here = mem::replace(front, Front::AtStart);
+            match front_next(alloc, here, lexeme)? {
+                None => Ok(false),
+                Some(behind) => {
+                    *state = behind;
+                    Ok(true)
+                }
+            }
+        }
+    }
+}
+
+/// Goes to the state behind a token; false exactly where none goes on.
+#[tactic(auto, using(crate::proofs::Steps::body_next_same))]
+pub(crate) fn goes_on(
+    alloc: Global,
+    state: &mut State,
+    lexeme: Lexeme<'_>,
+) -> Result<bool, AllocError>
+    ensures { IfOk result (λ on. IsNext on (seen_state state.new) (spec.next (seen_state state.old) (seen_lexeme lexeme.entry))) }
+{
+    match state {
+        State::InBody {
+            commands,
+            place,
+            ..
+        } => in_body(alloc, commands, place, lexeme),
+        State::InFront { .. } => goes_anywhere(alloc, state, lexeme),
     }
 }
 
@@ -240,7 +316,19 @@ pub(crate) fn ended(state: State) -> Option<TheoryText>
             }
             None
         }
-        _ => None,
+        State::InFront { .. } => None,
+    }
+}
+
+fn front_kind(front: &Front) -> TokenKind
+    ensures { result ≡ spec.expected (seen_front front.now) }
+{
+    match front {
+        Front::AtStart => TokenKind::Word,
+        Front::AtTheoryName => TokenKind::Ident,
+        Front::AfterTheoryName { .. } => TokenKind::Word,
+        Front::AtImport { .. } => TokenKind::Ident,
+        Front::AfterImport { .. } => TokenKind::Word,
     }
 }
 
@@ -348,11 +436,7 @@ pub(crate) fn expected(state: &State) -> TokenKind
     ensures { result ≡ spec.expected (seen_state state.now) }
 {
     match state {
-        State::AtStart => TokenKind::Word,
-        State::AtTheoryName => TokenKind::Ident,
-        State::AfterTheoryName { .. } => TokenKind::Word,
-        State::AtImport { .. } => TokenKind::Ident,
-        State::AfterImport { .. } => TokenKind::Word,
+        State::InFront { front } => front_kind(front),
         State::InBody { place, .. } => kind_at(place),
     }
 }

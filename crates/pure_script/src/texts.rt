@@ -8,6 +8,7 @@ use pure_term::Text;
 use std::alloc::{AllocError, Global};
 use std::collections::BTreeSet;
 use std::marker::Model;
+use std::mem;
 
 /// Different texts in the order in which they came, and the set of them, by which one is found.
 #[derive(Drop)]
@@ -53,6 +54,17 @@ impl Texts {
         }
         list.push(text)?;
         Ok((false, Texts { list, known }))
+    }
+
+    /// The text comes behind the others, unless it is there; and whether it was there.
+    pub(crate) fn add(&mut self, alloc: Global, text: Text) -> Result<bool, AllocError>
+        ensures known { IfOk result (λ known. known ≡ list_any (same text) self.old) }
+        ensures texts { IfOk result (λ _. self.new ≡ with_text self.old text) }
+    {
+        let texts = mem::replace(self, Texts::none(alloc));
+        let (known, all) = texts.with(alloc, text)?;
+        *self = all;
+        Ok(known)
     }
 
     /// How many there are: never more than the number can say, unless memory fails.
