@@ -8,7 +8,7 @@ use crate::grow::Grow;
 use crate::measure::{
     MAX_DEPTH, MAX_SIZE, are_same, depth, is_within, node_leaves, size, term_leaves, typ_leaves,
 };
-use crate::term::{Term, TermNode};
+use crate::term::{Term, TermNode, copied};
 use crate::typ::Typ;
 use std::alloc::{AllocError, Global};
 
@@ -20,13 +20,13 @@ pub fn lift(alloc: Global, t: &Term, by: u32, from: u32) -> Result<Term, Grow>
     if !is_within(t) {
         return Err(Grow::Big);
     }
-    Ok(lift_under(alloc, t, by, u64::from(from))?)
+    Ok(Box::into_inner(lift_under(alloc, t, by, u64::from(from))?))
 }
 
-fn lift_under(alloc: Global, t: &Term, by: u32, from: u64) -> Result<Term, AllocError>
+fn lift_under(alloc: Global, t: &Term, by: u32, from: u64) -> Result<Box<Term>, AllocError>
     requires liftable { IsLiftable by from t.now }
     requires shallow { from + term_depth t.now < 2 ^ 64 }
-    ensures { IfOk result (λ u. u ≡ lift_term by from t.now) }
+    ensures { IfOk result (λ u. u.value ≡ lift_term by from t.now) }
 {
     let node = match &t.node {
         TermNode::Bound { place } => {
@@ -38,15 +38,15 @@ fn lift_under(alloc: Global, t: &Term, by: u32, from: u64) -> Result<Term, Alloc
         }
         TermNode::Abs { typ, body } => TermNode::Abs {
             typ: typ.copy(alloc)?,
-            body: Box::new(alloc, lift_under(alloc, body, by, from + 1)?)?,
+            body: lift_under(alloc, body, by, from + 1)?,
         },
         TermNode::App { fun, arg } => TermNode::App {
-            fun: Box::new(alloc, lift_under(alloc, fun, by, from)?)?,
-            arg: Box::new(alloc, lift_under(alloc, arg, by, from)?)?,
+            fun: lift_under(alloc, fun, by, from)?,
+            arg: lift_under(alloc, arg, by, from)?,
         },
-        _ => return t.copy(alloc),
+        _ => return copied(alloc, t),
     };
-    Ok(Term { node })
+    Ok(Box::new(alloc, Term { node })?)
 }
 
 /// The body with the argument in place of bound variable 0, and the other loose bound variables lowered by one.
@@ -59,7 +59,7 @@ pub fn subst_bound(alloc: Global, body: &Term, arg: &Term) -> Result<Term, Grow>
     let Some(_) = subst_leaves(body, 0, arg, arg_size, arg_depth, MAX_SIZE, MAX_DEPTH) else {
         return Err(Grow::Big);
     };
-    Ok(put_under(alloc, body, 0, arg)?)
+    Ok(Box::into_inner(put_under(alloc, body, 0, arg)?))
 }
 
 // What is left of room when the body with the argument put in place of bound variable `place` is put in.
@@ -109,10 +109,10 @@ fn subst_leaves(
     }
 }
 
-fn put_under(alloc: Global, body: &Term, place: u32, arg: &Term) -> Result<Term, AllocError>
+fn put_under(alloc: Global, body: &Term, place: u32, arg: &Term) -> Result<Box<Term>, AllocError>
     requires puttable { IsPuttable place arg.now body.now }
     requires few { place + term_size (subst_under place arg.now body.now) ≤ 200000 }
-    ensures { IfOk result (λ u. u ≡ subst_under place arg.now body.now) }
+    ensures { IfOk result (λ u. u.value ≡ subst_under place arg.now body.now) }
 {
     let node = match &body.node {
         TermNode::Bound { place: bound } => {
@@ -126,15 +126,15 @@ fn put_under(alloc: Global, body: &Term, place: u32, arg: &Term) -> Result<Term,
         }
         TermNode::Abs { typ, body } => TermNode::Abs {
             typ: typ.copy(alloc)?,
-            body: Box::new(alloc, put_under(alloc, body, place + 1, arg)?)?,
+            body: put_under(alloc, body, place + 1, arg)?,
         },
         TermNode::App { fun, arg: inner } => TermNode::App {
-            fun: Box::new(alloc, put_under(alloc, fun, place, arg)?)?,
-            arg: Box::new(alloc, put_under(alloc, inner, place, arg)?)?,
+            fun: put_under(alloc, fun, place, arg)?,
+            arg: put_under(alloc, inner, place, arg)?,
         },
-        _ => return body.copy(alloc),
+        _ => return copied(alloc, body),
     };
-    Ok(Term { node })
+    Ok(Box::new(alloc, Term { node })?)
 }
 
 /// The abstraction of the term over a fixed or schematic variable.
@@ -159,7 +159,7 @@ fn abstraction(alloc: Global, t: &Term, v: &Term, typ: &Typ) -> Result<Term, All
     ensures { IfOk result (λ u. u ≡ Abs typ.now (bind_under 0 v.now t.now)) }
 {
     let typ = typ.copy(alloc)?;
-    let body = Box::new(alloc, bind(alloc, t, 0, v)?)?;
+    let body = bind(alloc, t, 0, v)?;
     Ok(Term {
         node: TermNode::Abs { typ, body },
     })
@@ -218,26 +218,25 @@ fn variable_leaves(t: &Term, v: &Term, left: u32, room: u32) -> Option<u32>
     }
 }
 
-fn bind_variable(alloc: Global, t: &Term, place: u32, v: &Term) -> Result<Term, AllocError>
+fn bind_variable(alloc: Global, t: &Term, place: u32, v: &Term) -> Result<Box<Term>, AllocError>
     requires { IsVariable t.now }
-    ensures { IfOk result (λ u. u ≡ bind_under place v.now t.now) }
+    ensures { IfOk result (λ u. u.value ≡ bind_under place v.now t.now) }
 {
     if are_same(v, t) {
-        Ok(Term {
-            node: TermNode::Bound { place },
-        })
+        let node = TermNode::Bound { place };
+        Ok(Box::new(alloc, Term { node })?)
     } else {
-        t.copy(alloc)
+        copied(alloc, t)
     }
 }
 
-fn bind(alloc: Global, t: &Term, place: u32, v: &Term) -> Result<Term, AllocError>
+fn bind(alloc: Global, t: &Term, place: u32, v: &Term) -> Result<Box<Term>, AllocError>
     requires liftable { IsLiftable 1 place t.now }
     requires few { place + term_size (bind_under place v.now t.now) ≤ 200000 }
-    ensures { IfOk result (λ u. u ≡ bind_under place v.now t.now) }
+    ensures { IfOk result (λ u. u.value ≡ bind_under place v.now t.now) }
 {
     let node = match &t.node {
-        TermNode::Const { .. } => return t.copy(alloc),
+        TermNode::Const { .. } => return copied(alloc, t),
         TermNode::Free { .. } => return bind_variable(alloc, t, place, v),
         TermNode::Var { .. } => return bind_variable(alloc, t, place, v),
         TermNode::Bound { place: bound } => {
@@ -249,12 +248,12 @@ fn bind(alloc: Global, t: &Term, place: u32, v: &Term) -> Result<Term, AllocErro
         }
         TermNode::Abs { typ, body } => TermNode::Abs {
             typ: typ.copy(alloc)?,
-            body: Box::new(alloc, bind(alloc, body, place + 1, v)?)?,
+            body: bind(alloc, body, place + 1, v)?,
         },
         TermNode::App { fun, arg } => TermNode::App {
-            fun: Box::new(alloc, bind(alloc, fun, place, v)?)?,
-            arg: Box::new(alloc, bind(alloc, arg, place, v)?)?,
+            fun: bind(alloc, fun, place, v)?,
+            arg: bind(alloc, arg, place, v)?,
         },
     };
-    Ok(Term { node })
+    Ok(Box::new(alloc, Term { node })?)
 }

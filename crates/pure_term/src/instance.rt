@@ -7,7 +7,7 @@ ghost use Rattle.pure_term.specs.Limits.{Leaves, IsGrown};
 use crate::grow::Grow;
 use crate::maps::{TermBind, TermMap, TypBind, TypMap, find_term, find_typ};
 use crate::measure::{MAX_DEPTH, MAX_SIZE, node_leaves, term_leaves, typ_leaves};
-use crate::term::{Term, TermNode};
+use crate::term::{Term, TermNode, copied};
 use crate::typ::{Typ, TypNode};
 use std::alloc::{AllocError, Global};
 
@@ -73,7 +73,7 @@ pub fn inst_typ(alloc: Global, t: &Term, map: &TypMap) -> Result<Term, Grow>
     let Some(_) = inst_typ_leaves(t, binds, MAX_SIZE, MAX_DEPTH) else {
         return Err(Grow::Big);
     };
-    Ok(retyped(alloc, t, binds)?)
+    Ok(Box::into_inner(retyped(alloc, t, binds)?))
 }
 
 fn inst_typ_leaves(t: &Term, binds: &[TypBind], left: u32, room: u32) -> Option<u32>
@@ -105,19 +105,19 @@ fn inst_typ_leaves(t: &Term, binds: &[TypBind], left: u32, room: u32) -> Option<
     }
 }
 
-fn retyped(alloc: Global, t: &Term, binds: &[TypBind]) -> Result<Term, AllocError>
-    ensures { IfOk result (λ u. u ≡ inst_typ (typ_image binds.now) t.now) }
+fn retyped(alloc: Global, t: &Term, binds: &[TypBind]) -> Result<Box<Term>, AllocError>
+    ensures { IfOk result (λ u. u.value ≡ inst_typ (typ_image binds.now) t.now) }
 {
     match &t.node {
         TermNode::Const { name, typ } => {
             let typ = instance_of(alloc, typ, binds)?;
             let node = TermNode::Const { name: *name, typ };
-            Ok(Term { node })
+            Ok(Box::new(alloc, Term { node })?)
         }
         TermNode::Free { name, typ } => {
             let typ = instance_of(alloc, typ, binds)?;
             let node = TermNode::Free { name: *name, typ };
-            Ok(Term { node })
+            Ok(Box::new(alloc, Term { node })?)
         }
         TermNode::Var { name, index, typ } => {
             let typ = instance_of(alloc, typ, binds)?;
@@ -126,20 +126,20 @@ fn retyped(alloc: Global, t: &Term, binds: &[TypBind]) -> Result<Term, AllocErro
                 index: *index,
                 typ,
             };
-            Ok(Term { node })
+            Ok(Box::new(alloc, Term { node })?)
         }
-        TermNode::Bound { .. } => t.copy(alloc),
+        TermNode::Bound { .. } => copied(alloc, t),
         TermNode::Abs { typ, body } => {
             let typ = instance_of(alloc, typ, binds)?;
-            let body = Box::new(alloc, retyped(alloc, body, binds)?)?;
+            let body = retyped(alloc, body, binds)?;
             let node = TermNode::Abs { typ, body };
-            Ok(Term { node })
+            Ok(Box::new(alloc, Term { node })?)
         }
         TermNode::App { fun, arg } => {
-            let fun = Box::new(alloc, retyped(alloc, fun, binds)?)?;
-            let arg = Box::new(alloc, retyped(alloc, arg, binds)?)?;
+            let fun = retyped(alloc, fun, binds)?;
+            let arg = retyped(alloc, arg, binds)?;
             let node = TermNode::App { fun, arg };
-            Ok(Term { node })
+            Ok(Box::new(alloc, Term { node })?)
         }
     }
 }
@@ -152,7 +152,7 @@ pub fn inst_term(alloc: Global, t: &Term, map: &TermMap) -> Result<Term, Grow>
     let Some(_) = inst_term_leaves(t, binds, MAX_SIZE, MAX_DEPTH) else {
         return Err(Grow::Big);
     };
-    Ok(replaced(alloc, t, binds)?)
+    Ok(Box::into_inner(replaced(alloc, t, binds)?))
 }
 
 fn inst_term_leaves(t: &Term, binds: &[TermBind], left: u32, room: u32) -> Option<u32>
@@ -187,27 +187,27 @@ fn inst_term_leaves(t: &Term, binds: &[TermBind], left: u32, room: u32) -> Optio
     }
 }
 
-fn replaced(alloc: Global, t: &Term, binds: &[TermBind]) -> Result<Term, AllocError>
-    ensures { IfOk result (λ u. u ≡ inst_term (term_image binds.now) t.now) }
+fn replaced(alloc: Global, t: &Term, binds: &[TermBind]) -> Result<Box<Term>, AllocError>
+    ensures { IfOk result (λ u. u.value ≡ inst_term (term_image binds.now) t.now) }
 {
     let node = match &t.node {
-        TermNode::Const { .. } => return t.copy(alloc),
-        TermNode::Free { .. } => return t.copy(alloc),
+        TermNode::Const { .. } => return copied(alloc, t),
+        TermNode::Free { .. } => return copied(alloc, t),
         TermNode::Var { name, index, typ } => {
             return match find_term(binds, *name, *index, typ) {
-                Some(image) => image.copy(alloc),
-                None => t.copy(alloc),
+                Some(image) => copied(alloc, image),
+                None => copied(alloc, t),
             };
         }
         TermNode::Bound { place } => TermNode::Bound { place: *place },
         TermNode::Abs { typ, body } => TermNode::Abs {
             typ: typ.copy(alloc)?,
-            body: Box::new(alloc, replaced(alloc, body, binds)?)?,
+            body: replaced(alloc, body, binds)?,
         },
         TermNode::App { fun, arg } => TermNode::App {
-            fun: Box::new(alloc, replaced(alloc, fun, binds)?)?,
-            arg: Box::new(alloc, replaced(alloc, arg, binds)?)?,
+            fun: replaced(alloc, fun, binds)?,
+            arg: replaced(alloc, arg, binds)?,
         },
     };
-    Ok(Term { node })
+    Ok(Box::new(alloc, Term { node })?)
 }

@@ -54,32 +54,39 @@ impl Term {
     pub fn copy(&self, alloc: Global) -> Result<Term, AllocError>
         ensures { IfOk result (λ t. t ≡ self.now) }
     {
-        let node = match &self.node {
-            TermNode::Const { name, typ } => TermNode::Const {
-                name: *name,
-                typ: typ.copy(alloc)?,
-            },
-            TermNode::Free { name, typ } => TermNode::Free {
-                name: *name,
-                typ: typ.copy(alloc)?,
-            },
-            TermNode::Var { name, index, typ } => TermNode::Var {
-                name: *name,
-                index: *index,
-                typ: typ.copy(alloc)?,
-            },
-            TermNode::Bound { place } => TermNode::Bound { place: *place },
-            TermNode::Abs { typ, body } => TermNode::Abs {
-                typ: typ.copy(alloc)?,
-                body: Box::new(alloc, body.copy(alloc)?)?,
-            },
-            TermNode::App { fun, arg } => TermNode::App {
-                fun: Box::new(alloc, fun.copy(alloc)?)?,
-                arg: Box::new(alloc, arg.copy(alloc)?)?,
-            },
-        };
-        Ok(Term { node })
+        Ok(Box::into_inner(copied(alloc, self)?))
     }
+}
+
+/// An equal term, in a block of its own.
+pub fn copied(alloc: Global, t: &Term) -> Result<Box<Term>, AllocError>
+    ensures { IfOk result (λ u. u.value ≡ t.now) }
+{
+    let node = match &t.node {
+        TermNode::Const { name, typ } => TermNode::Const {
+            name: *name,
+            typ: typ.copy(alloc)?,
+        },
+        TermNode::Free { name, typ } => TermNode::Free {
+            name: *name,
+            typ: typ.copy(alloc)?,
+        },
+        TermNode::Var { name, index, typ } => TermNode::Var {
+            name: *name,
+            index: *index,
+            typ: typ.copy(alloc)?,
+        },
+        TermNode::Bound { place } => TermNode::Bound { place: *place },
+        TermNode::Abs { typ, body } => TermNode::Abs {
+            typ: typ.copy(alloc)?,
+            body: copied(alloc, body)?,
+        },
+        TermNode::App { fun, arg } => TermNode::App {
+            fun: copied(alloc, fun)?,
+            arg: copied(alloc, arg)?,
+        },
+    };
+    Ok(Box::new(alloc, Term { node })?)
 }
 
 // The place of the term's kind among the kinds.

@@ -61,6 +61,7 @@ impl Typ {
     }
 
     /// An equal type.
+    #[cycle(copied_typ)]
     pub fn copy(&self, alloc: Global) -> Result<Typ, AllocError>
         ensures { IfOk result (λ t. t ≡ self.now) }
     {
@@ -74,19 +75,25 @@ impl Typ {
                 index: *index,
                 sort: sort.copy(alloc)?,
             },
-            TypNode::Con { name, args } => {
-                let mut copied = Vec::with_capacity(alloc, args.len())?;
-                for arg in args {
-                    copied.push(arg.copy(alloc)?)?;
-                }
-                TypNode::Con {
-                    name: *name,
-                    args: copied,
-                }
-            }
+            TypNode::Con { name, args } => TypNode::Con {
+                name: *name,
+                args: copied_types(alloc, args.as_slice())?,
+            },
         };
         Ok(Typ { node })
     }
+}
+
+// Equal types.
+#[cycle(copied_typ)]
+fn copied_types(alloc: Global, types: &[Typ]) -> Result<Vec<Typ>, AllocError>
+    ensures { IfOk result (λ ts. ts.items ≡ types.now) }
+{
+    let mut copied = Vec::with_capacity(alloc, types.len())?;
+    for typ in types {
+        copied.push(typ.copy(alloc)?)?;
+    }
+    Ok(copied)
 }
 
 // The place of the type's kind among the kinds.

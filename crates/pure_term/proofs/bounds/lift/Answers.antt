@@ -1,4 +1,4 @@
-use Rattle.std.proofs.Common.{◌≡◌}
+use Rattle.std.proofs.Common.{◌≡◌, ◌∙◌}
 use Rattle.pure_term.specs.Bounds.{lift_term}
 use Rattle.pure_term.proofs.TermLemmas.{within-lift, within-of_lift}
 use Rattle.pure_term.proofs.bounds.lift.Goals as goal
@@ -8,5 +8,5 @@ returns-then-not-is_within c = λ w. let yes = c.is_within.ensures.1 (within-of_
 
 pub returns : goal.returns
 returns c =
-    let lifted : c.in_ok-lift_under.field-0 ≡ lift_term c.args.by c.from.result c.args.t.now = c.in_ok-lift_under.ensures in
+    let lifted : c.into_inner.result ≡ lift_term c.args.by c.from.result c.args.t.now = c.into_inner.ensures ∙ c.in_ok-lift_under.ensures in
     (rw c.from.ensures at lifted, within-lift c.args.by c.args.from c.args.t.now (c.is_within.ensures.0 c.if-not-is_within.false))

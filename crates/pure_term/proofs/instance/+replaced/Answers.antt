@@ -6,4 +6,4 @@ use Rattle.pure_term.proofs.instance.+replaced.Goals as goal
 pub returns-in-Free : goal.returns-in-Free
 returns-in-Free t c =
     let fixed : inst_term (term_image c.args.binds.now) c.args.t.now ≡ c.args.t.now = rw (← c.t.view_is, c.in-Free.is) (term_image-fixed c.args.binds.now c.in-Free.name c.in-Free.typ) in
-    rw fixed c.copy-in-Free.ensures
+    rw fixed c.copied-in-Free.ensures
