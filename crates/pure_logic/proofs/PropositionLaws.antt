@@ -9,7 +9,8 @@ use Rattle.pure_term.specs.Subst.{term_instance}
 use Rattle.pure_term.specs.Decl.{AxiomDecl, PromiseDecl}
 use Rattle.pure_term.specs.Certified.{IsCertifiedTyp, HasCertifiedParts}
 use Rattle.pure_term.specs.Conditions.{IsVariable}
-use Rattle.pure_term.proofs.TypingBoundLaws.{typing-subst, typing-weaken, typing-instance}
+use Rattle.pure_term.proofs.TypingBoundLaws.{typing-subst, typing-weaken, typing-bind, typing-instance}
+use Rattle.pure_term.proofs.CertifiedLaws.{parts-subst, parts-bind}
 use Rattle.pure_logic.specs.Connectives.{all_typ, imp_typ, all_of, all, imp, eq}
 use Rattle.pure_logic.specs.Content.{Content, IsContent, IsBelow, IsWellFormed, IsCertifiedOf, IsProposition}
 use Rattle.pure_logic.specs.PureContent.{pure_content, any_typ}
@@ -21,7 +22,7 @@ use Rattle.pure_logic.specs.LawsConclusion.{NoPropositionExample}
 use Rattle.pure_logic.proofs.ChainLaws.{each-at, each-without}
 use Rattle.pure_logic.proofs.ConnectiveLaws.{certified_of, imp-parts, eq-parts, all-parts}
 use Rattle.pure_logic.proofs.InstanceLaws.{parts-instance}
-use Rattle.pure_logic.proofs.PartsLaws.{parts-subst, parts-bind, typing-bind, typ-certified}
+use Rattle.pure_logic.proofs.PartsLaws.{typ-certified}
 
 each-append : (P : Term → Type 0) (xs ys : List Term) → Each P xs → Each P ys → Each P (xs ++ ys)
 each-append P [] ys h k = k

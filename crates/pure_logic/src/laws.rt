@@ -1,7 +1,7 @@
 //! What the definitions mean: laws and computed examples, each carried by the contract of a function that does nothing.
 ghost use Rattle.pure_logic.specs.LawsDerivable.{PureIsContent, VariableIsProposition, ChainIsDerivable, VariableChainIsDerivable, PureIsBelowItself, TrivialIsDerivable, WeakenedIsDerivable};
 ghost use Rattle.pure_logic.specs.LawsTree.{OneConclusion, OneUnderPairs, WeakeningOfTrees, WeakeningOfDerivable, IdentityRespects, JoinedMapsRespect, JoinedInstance};
-ghost use Rattle.pure_logic.specs.LawsParts.{PartsOfLift, PartsOfSubst, PartsOfBind, PartsOfInstance, TypingOfBind};
+ghost use Rattle.pure_logic.specs.LawsParts.{PartsOfInstance};
 ghost use Rattle.pure_logic.specs.LawsConclusion.{ConclusionIsProposition, DerivableIsProposition, DerivableAloneIsProposition, NoPropositionExample};
 ghost use Rattle.pure_logic.specs.LawsContent.{MergeHasDeclarations, MergeHasNoRepeats, OneMerge, BeginningIsContent, ParentsAreBelow, BeginningExample, NoMergeExample, NamedTwiceExample, IllFormedExample, SchematicExample, BelowExample, DefinitionExample};
 ghost use Rattle.pure_logic.specs.LawsNodes.{ExampleIsContent, AxiomExample, PromiseExample, RestsExample, NoAxiomExample, NoMapExample, AssumeExample, AllIntroExample, NoAllIntroExample, AllElimExample, NoAllElimExample, ImpliesIntroExample, ImpliesElimExample, BetaExample, ReflExample, SubstExample, SymmetricExample, ExtExample, IffExample, PairsExample, DerivableExample};
@@ -117,11 +117,7 @@ pub fn derivable_example()
     ensures derivable { DerivableExample }
 {}
 
-/// A term's parts stay certified under lifting, instantiation, abstraction and respecting maps; and a term keeps its type under an abstraction.
+/// A term's parts stay certified under respecting maps.
 pub fn certification_is_kept()
-    ensures lifted { PartsOfLift }
-    ensures instantiated { PartsOfSubst }
-    ensures abstracted { PartsOfBind }
-    ensures mapped { PartsOfInstance }
-    ensures typing { TypingOfBind }
+    ensures { PartsOfInstance }
 {}

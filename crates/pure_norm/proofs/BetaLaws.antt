@@ -11,6 +11,7 @@ use Rattle.pure_term.specs.Beta.{IsAbs, IsBetaNormal, beta_step, IsBetaSequence,
 use Rattle.pure_term.proofs.LiftLaws.{lift_term-bound}
 use Rattle.pure_term.proofs.BetaLaws.{one_beta_sequence_to_normal}
 use Rattle.pure_term.proofs.TypingBoundLaws.{typing-subst}
+use Rattle.pure_term.proofs.CertifiedLaws.{parts-subst}
 use Rattle.pure_norm.specs.LawsBeta.{NormalFormIsNormal, NormalFormIsWithin, OneNormalForm, NormalFormOfNormal, StepKeepsType, StepKeepsCertified, StepKeepsClosed, NormalFormKeepsType, NormalFormKeepsCertified, NormalFormKeepsClosed, NormalUnderLift}
 use Rattle.pure_norm.proofs.StepLemmas.{IsStep, contracted, in_function, in_argument, in_body, step-is_step, step-closed}
 
@@ -32,31 +33,10 @@ is_step-type bs t u U (in_body T b c s) h = (h.0, is_step-type (T ∷ bs) b c h.
 pub step-keeps_type : StepKeepsType
 step-keeps_type bs t u T e h = is_step-type bs t u T (step-is_step t u e) h
 
--- Certified parts are kept by lifting and instantiation, and so by a step.
+-- Certified parts are kept by a step.
 module _ (ds : List Decl) where
-  parts-either : (b : Bool) (t u : Term) → HasCertifiedParts ds t → HasCertifiedParts ds u → HasCertifiedParts ds (if b then t else u)
-  parts-either true t u h k = h
-  parts-either false t u h k = k
-
-  parts-lift : (by from : ℕ) (t : Term) → HasCertifiedParts ds t → HasCertifiedParts ds (lift_term by from t)
-  parts-lift by from (Const c T) h = h
-  parts-lift by from (Free x T) h = h
-  parts-lift by from (Var x i T) h = h
-  parts-lift by from (Bound p) h = parts-either (nat_lt p from) (Bound p) (Bound (p + by)) tt tt
-  parts-lift by from (Abs T b) h = (h.0, parts-lift by (from + 1) b h.1)
-  parts-lift by from (App f a) h = (parts-lift by from f h.0, parts-lift by from a h.1)
-
-  parts-subst : (n : ℕ) (arg b : Term) → HasCertifiedParts ds arg → HasCertifiedParts ds b → HasCertifiedParts ds (subst_under n arg b)
-  parts-subst n arg (Const c T) k h = h
-  parts-subst n arg (Free x T) k h = h
-  parts-subst n arg (Var x i T) k h = h
-  parts-subst n arg (Bound p) k h =
-      parts-either (nat_lt p n) (Bound p) (if nat_eq p n then lift_term n 0 arg else Bound (p - 1)) tt (parts-either (nat_eq p n) (lift_term n 0 arg) (Bound (p - 1)) (parts-lift n 0 arg k) tt)
-  parts-subst n arg (Abs T b) k h = (h.0, parts-subst (n + 1) arg b k h.1)
-  parts-subst n arg (App f a) k h = (parts-subst n arg f k h.0, parts-subst n arg a k h.1)
-
   is_step-parts : (t u : Term) → IsStep t u → HasCertifiedParts ds t → HasCertifiedParts ds u
-  is_step-parts t u (contracted T b a v e) h = subst (HasCertifiedParts ds) e (parts-subst 0 a b h.1 h.0.1)
+  is_step-parts t u (contracted T b a v e) h = subst (HasCertifiedParts ds) e (parts-subst ds 0 a b h.1 h.0.1)
   is_step-parts t u (in_function f g a s) h = (is_step-parts f g s h.0, h.1)
   is_step-parts t u (in_argument f a b s) h = (h.0, is_step-parts a b s h.1)
   is_step-parts t u (in_body T b c s) h = (h.0, is_step-parts b c s h.1)

@@ -21,4 +21,5 @@ pub mod BindLemmas
 pub mod InstanceLemmas
 pub mod BoundLaws
 pub mod TypingBoundLaws
+pub mod CertifiedLaws
 pub mod NamesLemmas

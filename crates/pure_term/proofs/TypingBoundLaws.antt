@@ -3,9 +3,11 @@ use Rattle.std.proofs.Common.{◌≡◌, ℕ, zero, suc, ◌+◌, ◌<◌, List,
 use Rattle.std.proofs.lemmas.Bool.Decides.{nat_tests}
 use Rattle.std.specs.Prelude.{◌-◌, nat_eq, nat_lt, slice_get, Some, if◌then◌else◌}
 use Rattle.pure_term.specs.Typ.{Typ, arrow}
-use Rattle.pure_term.specs.Term.{Term, Const, Free, Var, Bound, Abs, App}
+use Rattle.pure_term.specs.Term.{Term, Const, Free, Var, Bound, Abs, App, term_eq}
 use Rattle.pure_term.specs.Typing.{HasType}
-use Rattle.pure_term.specs.Bounds.{lift_term, place_at, subst_under}
+use Rattle.pure_term.specs.Bounds.{lift_term, place_at, subst_under, bind_under}
+use Rattle.pure_term.specs.Conditions.{variable_typ}
+use Rattle.pure_term.specs.Equality.{term_eq-same}
 use Rattle.pure_term.specs.Subst.{typ_instance, term_instance, IsTypeRespecting}
 use Rattle.pure_term.proofs.LiftLaws.{lifted, lift_term-bound}
 
@@ -97,3 +99,24 @@ typing-instance typs terms r bs (Abs V b) T h =
     (typ_instance typs h.0, typing-instance typs terms r (V ∷ bs) b h.0 h.1, ap (typ_instance typs) h.2)
 typing-instance typs terms r bs (App f a) T h =
     (typ_instance typs h.0, typing-instance typs terms r bs f (arrow h.0 T) h.1, typing-instance typs terms r bs a h.0 h.2)
+
+-- The binder behind those of a list has its type.
+get-binder : (bs cs : List Typ) (U : Typ) → slice_get (bs ++ U ∷ cs) (length bs) ≡ Some U
+get-binder [] cs U = refl
+get-binder (b ∷ bs) cs U = get-binder bs cs U
+
+-- A variable has its type, bound or not.
+typing-bind_variable : (bs cs : List Typ) (n : ℕ) (v t : Term) (T : Typ) → n ≡ length bs → variable_typ t ≡ T → HasType (bs ++ variable_typ v ∷ cs) t T
+    → (b : Bool) → term_eq v t ≡ b → HasType (bs ++ variable_typ v ∷ cs) (if b then Bound n else t) T
+typing-bind_variable bs cs n v t T e f h true g =
+    ap (slice_get (bs ++ variable_typ v ∷ cs)) e ∙ (get-binder bs cs (variable_typ v) ∙ ap (λ (U : Typ). Some U) (ap variable_typ (term_eq-same v t g) ∙ f))
+typing-bind_variable bs cs n v t T e f h false g = h
+
+-- Typing is kept by abstraction over a variable, whose type the new binder has.
+pub typing-bind : (bs cs : List Typ) (n : ℕ) (v t : Term) (T : Typ) → n ≡ length bs → HasType (bs ++ cs) t T → HasType (bs ++ variable_typ v ∷ cs) (bind_under n v t) T
+typing-bind bs cs n v (Const c V) T e h = h
+typing-bind bs cs n v (Free x V) T e h = typing-bind_variable bs cs n v (Free x V) T e h h (term_eq v (Free x V)) refl
+typing-bind bs cs n v (Var x i V) T e h = typing-bind_variable bs cs n v (Var x i V) T e h h (term_eq v (Var x i V)) refl
+typing-bind bs cs n v (Bound p) T e h = typing-lift bs (variable_typ v ∷ []) cs n 1 (Bound p) T e refl h
+typing-bind bs cs n v (Abs V b) T e h = (h.0, typing-bind (V ∷ bs) cs (n + 1) v b h.0 (omega arith) h.1, h.2)
+typing-bind bs cs n v (App f a) T e h = (h.0, typing-bind bs cs n v f (arrow h.0 T) e h.1, typing-bind bs cs n v a h.0 e h.2)

@@ -4,7 +4,7 @@ use Rattle.pure_term.specs.Typ.{Typ}
 use Rattle.pure_term.specs.Term.{Term, term_size, term_depth}
 use Rattle.pure_term.specs.Typing.{HasType}
 use Rattle.pure_term.specs.Bounds.{lift_term, subst_under, bind_under, Occurs}
-use Rattle.pure_term.specs.Conditions.{IsVariable}
+use Rattle.pure_term.specs.Conditions.{IsVariable, variable_typ}
 use Rattle.pure_term.specs.Subst.{typ_instance, term_instance, IsTypeRespecting}
 
 -- Lifting by 0 changes nothing; lifting again from a place among the new binders is lifting by the sum; and two liftings change places.
@@ -35,12 +35,15 @@ SubstBind = (n : ℕ) (v t : Term) → IsVariable v → subst_under n v (bind_un
 abbrev pub BindSubst : Type 0
 BindSubst = (n : ℕ) (v b : Term) → IsVariable v → ¬ Occurs v b → bind_under n v (subst_under n v b) ≡ b
 
--- Typing is kept by lifting over further binders, by instantiation with a term of the binder's type, and by maps that respect types.
+-- Typing is kept by lifting over further binders, by instantiation with a term of the binder's type, by abstraction over a variable, under whose new binder the term stands then, and by maps that respect types.
 abbrev pub TypingOfLift : Type 0
 TypingOfLift = (bs ds cs : List Typ) (n by : ℕ) (t : Term) (T : Typ) → n ≡ length bs → by ≡ length ds → HasType (bs ++ cs) t T → HasType (bs ++ (ds ++ cs)) (lift_term by n t) T
 
 abbrev pub TypingOfSubst : Type 0
 TypingOfSubst = (bs cs : List Typ) (n : ℕ) (arg b : Term) (U T : Typ) → n ≡ length bs → HasType cs arg U → HasType (bs ++ U ∷ cs) b T → HasType (bs ++ cs) (subst_under n arg b) T
+
+abbrev pub TypingOfBind : Type 0
+TypingOfBind = (bs cs : List Typ) (n : ℕ) (v t : Term) (T : Typ) → n ≡ length bs → HasType (bs ++ cs) t T → HasType (bs ++ variable_typ v ∷ cs) (bind_under n v t) T
 
 abbrev pub TypingOfInstance : Type 0
 TypingOfInstance = (typs : Typ → Typ) (terms : Term → Term) → IsTypeRespecting typs terms → (bs : List Typ) (t : Term) (T : Typ) → HasType bs t T

@@ -28,3 +28,4 @@ pub mod LawsSubst
 pub mod LawsOrder
 pub mod LawsNormal
 pub mod LawsBounds
+pub mod LawsCertified

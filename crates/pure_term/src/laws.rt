@@ -3,7 +3,8 @@ ghost use Rattle.pure_term.specs.LawsTyping.{TypsAreLists, ListsAreTyps, TypTest
 ghost use Rattle.pure_term.specs.LawsOrder.{BelowExample, SortBelowExample, OfSortExample, WrongCountExample, UnevenIsNotCoregular, DeclaredClasses, DeclaredArities, CertifiedPartsExample, JoinedForkIsCoregular, CrossingIsNotCoregular, OpenForkIsNotCoregular, FallingIsNotCoregular, CertifiedExample, NotCertifiedExample, CertifiedImagesExample};
 ghost use Rattle.pure_term.specs.LawsSubst.{IdentityIsSortRespecting, IdentityIsTypeRespecting, IdentityChangesNoType, IdentityChangesNoTerm, EntriesRespectSorts, EntriesRespectTypes, EntriesKeepFixedTyps, EntriesKeepFixed, TermMapAlone, InstanceExample, TypInstanceExample, FixedTypExample, AllAtOnceExample, KeyedOnOwnTypeExample, SortRespectExample, TypeRespectExample};
 ghost use Rattle.pure_term.specs.LawsNormal.{NoStepExactlyWhereNormal, OneBetaSequence, OneBetaSequenceToNormal, EachTermHasBetaAnswer, OneBetaAnswer, BetaStepsExample, BetaAnswerExample, BetaNormalExample, EndlessExample, LargeExample, EtaExample, LongFormExample, TwoArrowsExample, OneLongForm, OneEtaNormalForm};
-ghost use Rattle.pure_term.specs.LawsBounds.{LiftZero, LiftAgain, LiftLift, SizeOfLift, DepthOfLift, SubstLift, SubstBind, BindSubst, TypingOfLift, TypingOfSubst, TypingOfInstance};
+ghost use Rattle.pure_term.specs.LawsBounds.{LiftZero, LiftAgain, LiftLift, SizeOfLift, DepthOfLift, SubstLift, SubstBind, BindSubst, TypingOfLift, TypingOfSubst, TypingOfBind, TypingOfInstance};
+ghost use Rattle.pure_term.specs.LawsCertified.{PartsOfLift, PartsOfSubst, PartsOfBind};
 ghost use Rattle.pure_term.specs.LawsMaps.{SubstPastLift, SubstPastSubst, SizeOfSubst, DepthOfSubst, InstanceOfLift, InstanceOfSubst, InstanceOfBind, InstanceOfInstance};
 
 /// The mutual list of types stands for a list.
@@ -196,11 +197,19 @@ pub fn instantiation_and_abstraction()
     ensures back { BindSubst }
 {}
 
-/// Typing is kept by lifting, by instantiation and by maps.
+/// Typing is kept by lifting, by instantiation, by abstraction and by maps.
 pub fn typing_is_kept()
     ensures lifted { TypingOfLift }
     ensures instantiated { TypingOfSubst }
+    ensures abstracted { TypingOfBind }
     ensures mapped { TypingOfInstance }
+{}
+
+/// A term's parts stay certified under lifting, instantiation and abstraction.
+pub fn certification_is_kept()
+    ensures lifted { PartsOfLift }
+    ensures instantiated { PartsOfSubst }
+    ensures abstracted { PartsOfBind }
 {}
 
 /// Instantiation past a lifting and past an instantiation, and the size and depth of what it gives.
