@@ -27,15 +27,10 @@ pub data InnerLexeme : Type 0 where
   Other : InnerLexeme
   Ends : InnerLexeme
 
--- the sign of these bytes
-unfoldable pub sign_lexeme : List ℕ → ℕ → InnerLexeme
-sign_lexeme bs at =
-    if same bs (codes "!!") then Opens opening.All at
-    else (if same bs (codes "%") then Opens opening.Lambda at
-    else (if same bs (codes "[|") then Opens opening.Premises at
-    else (if same bs (codes "(") then Opens opening.Parenthesis at
-    else (if same bs (codes "[") then Opens opening.Bracket at
-    else (if same bs (codes "==>") then Signed mark.Implies
+-- the sign of these bytes, where it begins nothing
+unfoldable pub mark_lexeme : List ℕ → InnerLexeme
+mark_lexeme bs =
+    if same bs (codes "==>") then Signed mark.Implies
     else (if same bs (codes "==") then Signed mark.Equals
     else (if same bs (codes "=>") then Signed mark.Arrow
     else (if same bs (codes "::") then Signed mark.DoubleColon
@@ -47,7 +42,17 @@ sign_lexeme bs at =
     else (if same bs (codes "]") then Signed mark.CloseBracket
     else (if same bs (codes "{") then Signed mark.OpenBrace
     else (if same bs (codes "}") then Signed mark.CloseBrace
-    else Other))))))))))))))))
+    else Other)))))))))))
+
+-- the sign of these bytes
+unfoldable pub sign_lexeme : List ℕ → ℕ → InnerLexeme
+sign_lexeme bs at =
+    if same bs (codes "!!") then Opens opening.All at
+    else (if same bs (codes "%") then Opens opening.Lambda at
+    else (if same bs (codes "[|") then Opens opening.Premises at
+    else (if same bs (codes "(") then Opens opening.Parenthesis at
+    else (if same bs (codes "[") then Opens opening.Bracket at
+    else mark_lexeme bs))))
 
 -- a schematic variable is one of types where an apostrophe stands behind its question mark
 abbrev pub schematic_lexeme : List ℕ → ℕ → InnerLexeme

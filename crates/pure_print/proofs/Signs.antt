@@ -9,7 +9,7 @@ use Rattle.pure_grammar.specs.Bytes.{head_is}
 use Rattle.pure_grammar.specs.Comment.{opens_comment}
 use Rattle.pure_grammar.specs.Token.{is_single, is_pair, is_triple, is_symbol, is_token}
 use Rattle.pure_grammar.specs.Spelling.{IsFirst}
-use Rattle.pure_grammar.specs.InnerLexeme.{InnerLexeme, Opens, Signed, sign_lexeme}
+use Rattle.pure_grammar.specs.InnerLexeme.{InnerLexeme, Opens, Signed, sign_lexeme, mark_lexeme}
 use Rattle.pure_grammar.proofs.Classes.{same_kind}
 use Rattle.pure_lex.proofs.Firsts.{group-longer}
 use Rattle.pure_print.proofs.Bits.{Bit, Any, token-bit}
@@ -55,43 +55,43 @@ two-bit b c lexeme pair triple other is =
     token-bit Symbol (b ∷ c ∷ []) lexeme (λ rest h. sign-first (b ∷ c ∷ []) rest pair (λ more left e p. two-whole b c triple more p) (rw other refl)) refl is
 
 pub lambda-bit : Bit (codes "%") (λ from r. Opens opening.Lambda from ∷ r) Any
-unfolding is_single is_pair is_triple sign_lexeme
+unfolding is_single is_pair is_triple sign_lexeme mark_lexeme
 lambda-bit = one-bit 37 (λ at. Opens opening.Lambda at) refl (λ c. refl) (λ c d. refl) refl (λ at. refl)
 
 pub dot-bit : Bit (codes ".") (λ from r. Signed mark.Dot ∷ r) Any
-unfolding is_single is_pair is_triple sign_lexeme
+unfolding is_single is_pair is_triple sign_lexeme mark_lexeme
 dot-bit = one-bit 46 (λ at. Signed mark.Dot) refl (λ c. refl) (λ c d. refl) refl (λ at. refl)
 
 pub comma-bit : Bit (codes ",") (λ from r. Signed mark.Comma ∷ r) Any
-unfolding is_single is_pair is_triple sign_lexeme
+unfolding is_single is_pair is_triple sign_lexeme mark_lexeme
 comma-bit = one-bit 44 (λ at. Signed mark.Comma) refl (λ c. refl) (λ c d. refl) refl (λ at. refl)
 
 pub close-bit : Bit (codes ")") (λ from r. Signed mark.CloseParenthesis ∷ r) Any
-unfolding is_single is_pair is_triple sign_lexeme
+unfolding is_single is_pair is_triple sign_lexeme mark_lexeme
 close-bit = one-bit 41 (λ at. Signed mark.CloseParenthesis) refl (λ c. refl) (λ c d. refl) refl (λ at. refl)
 
 pub open_brace-bit : Bit (codes "{") (λ from r. Signed mark.OpenBrace ∷ r) Any
-unfolding is_single is_pair is_triple sign_lexeme
+unfolding is_single is_pair is_triple sign_lexeme mark_lexeme
 open_brace-bit = one-bit 123 (λ at. Signed mark.OpenBrace) refl (λ c. refl) (λ c d. refl) refl (λ at. refl)
 
 pub close_brace-bit : Bit (codes "}") (λ from r. Signed mark.CloseBrace ∷ r) Any
-unfolding is_single is_pair is_triple sign_lexeme
+unfolding is_single is_pair is_triple sign_lexeme mark_lexeme
 close_brace-bit = one-bit 125 (λ at. Signed mark.CloseBrace) refl (λ c. refl) (λ c d. refl) refl (λ at. refl)
 
 pub all-bit : Bit (codes "!!") (λ from r. Opens opening.All from ∷ r) Any
-unfolding is_single is_pair is_triple sign_lexeme
+unfolding is_single is_pair is_triple sign_lexeme mark_lexeme
 all-bit = two-bit 33 33 (λ at. Opens opening.All at) refl (λ d. refl) refl (λ at. refl)
 
 pub arrow-bit : Bit (codes "=>") (λ from r. Signed mark.Arrow ∷ r) Any
-unfolding is_single is_pair is_triple sign_lexeme
+unfolding is_single is_pair is_triple sign_lexeme mark_lexeme
 arrow-bit = two-bit 61 62 (λ at. Signed mark.Arrow) refl (λ d. refl) refl (λ at. refl)
 
 pub colons-bit : Bit (codes "::") (λ from r. Signed mark.DoubleColon ∷ r) Any
-unfolding is_single is_pair is_triple sign_lexeme
+unfolding is_single is_pair is_triple sign_lexeme mark_lexeme
 colons-bit = two-bit 58 58 (λ at. Signed mark.DoubleColon) refl (λ d. refl) refl (λ at. refl)
 
 pub implies-bit : Bit (codes "==>") (λ from r. Signed mark.Implies ∷ r) Any
-unfolding is_single is_pair is_triple sign_lexeme
+unfolding is_single is_pair is_triple sign_lexeme mark_lexeme
 implies-bit = token-bit Symbol (codes "==>") (λ at. Signed mark.Implies) (λ rest h. sign-first (codes "==>") rest refl (λ more left e p. three-whole 61 61 62 more p) refl) refl (λ at. refl)
 
 -- An equality sign goes on with `>` alone.
@@ -105,7 +105,7 @@ equals-whole (d ∷ []) left none p = absurd (both_ways (d == 62) none p)
 equals-whole (d ∷ e ∷ more) left none p = cc
 
 pub equals-bit : Bit (codes "==") (λ from r. Signed mark.Equals ∷ r) NoArrow
-unfolding is_single is_pair is_triple sign_lexeme
+unfolding is_single is_pair is_triple sign_lexeme mark_lexeme
 equals-bit = token-bit Symbol (codes "==") (λ at. Signed mark.Equals)
     (λ rest h. sign-first (codes "==") rest refl (λ more left e p. equals-whole more left (rw e at h) p) refl) refl (λ at. refl)
 
@@ -114,6 +114,6 @@ abbrev pub NoStar : List ℕ → Type 0
 NoStar rest = head_is (λ b. b == 42) rest ≡ false
 
 pub open-bit : Bit (codes "(") (λ from r. Opens opening.Parenthesis from ∷ r) NoStar
-unfolding is_single is_pair is_triple sign_lexeme
+unfolding is_single is_pair is_triple sign_lexeme mark_lexeme
 open-bit = token-bit Symbol (codes "(") (λ at. Opens opening.Parenthesis at)
     (λ rest h. sign-first (codes "(") rest refl (λ more left e p. one-whole 40 (λ c. refl) (λ c d. refl) more p) h) refl (λ at. refl)

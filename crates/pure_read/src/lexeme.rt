@@ -221,26 +221,11 @@ fn signed<'s>(mark: Mark) -> Lexeme<'s>
     Lexeme::Signed { mark }
 }
 
-/// The sign of these bytes.
-#[tactic(auto, unfolding(pure_grammar::specs::InnerLexeme::sign_lexeme))]
-fn sign_lexeme<'s>(text: &'s [u8], at: u32) -> Lexeme<'s>
-    ensures { seen_lexeme result ≡ spec.sign_lexeme text.now at }
+/// The sign of these bytes, where it begins nothing.
+#[tactic(auto, unfolding(pure_grammar::specs::InnerLexeme::mark_lexeme))]
+fn mark_lexeme<'s>(text: &[u8]) -> Lexeme<'s>
+    ensures { seen_lexeme result ≡ spec.mark_lexeme text.now }
 {
-    if equals(text, b"!!") {
-        return opens(Opening::All, at);
-    }
-    if equals(text, b"%") {
-        return opens(Opening::Lambda, at);
-    }
-    if equals(text, b"[|") {
-        return opens(Opening::Premises, at);
-    }
-    if equals(text, b"(") {
-        return opens(Opening::Parenthesis, at);
-    }
-    if equals(text, b"[") {
-        return opens(Opening::Bracket, at);
-    }
     if equals(text, b"==>") {
         return signed(Mark::Implies);
     }
@@ -278,4 +263,27 @@ fn sign_lexeme<'s>(text: &'s [u8], at: u32) -> Lexeme<'s>
         return signed(Mark::CloseBrace);
     }
     Lexeme::Other
+}
+
+/// The sign of these bytes.
+#[tactic(auto, unfolding(pure_grammar::specs::InnerLexeme::sign_lexeme))]
+fn sign_lexeme<'s>(text: &'s [u8], at: u32) -> Lexeme<'s>
+    ensures { seen_lexeme result ≡ spec.sign_lexeme text.now at }
+{
+    if equals(text, b"!!") {
+        return opens(Opening::All, at);
+    }
+    if equals(text, b"%") {
+        return opens(Opening::Lambda, at);
+    }
+    if equals(text, b"[|") {
+        return opens(Opening::Premises, at);
+    }
+    if equals(text, b"(") {
+        return opens(Opening::Parenthesis, at);
+    }
+    if equals(text, b"[") {
+        return opens(Opening::Bracket, at);
+    }
+    mark_lexeme(text)
 }
