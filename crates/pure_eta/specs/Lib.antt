@@ -1,6 +1,5 @@
 pub mod EtaForm
 pub mod LongTerm
-pub mod ScopeTyps
 pub mod Fits
 pub mod Answer
 pub mod LawsEta

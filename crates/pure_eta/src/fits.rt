@@ -1,12 +1,12 @@
 ghost use Rattle.std.specs.Prelude.{◌≡◌, ◌+◌, ◌≤◌};
 ghost use Rattle.pure_term.specs.Typ.{typ_size, typ_depth};
 ghost use Rattle.pure_term.specs.Term.{term_size, term_depth, max_depth};
+ghost use Rattle.pure_term.specs.Scope.{scope_typs};
 ghost use Rattle.pure_eta.specs.LongTerm.{front_typ, long_term};
-ghost use Rattle.pure_eta.specs.ScopeTyps.{scope_typs};
 ghost use Rattle.pure_eta.specs.Fits.{Fits, added_size, expanded_depth, added_at, depth_at};
 
-use crate::scope::{Scope, arrow_of, front_typ_of};
-use pure_term::{MAX_DEPTH, Term, TermNode, Typ, TypNode};
+use crate::front::{arrow_of, front_typ_of};
+use pure_term::{MAX_DEPTH, Scope, Term, TermNode, Typ, TypNode};
 
 // How many nodes are left when something was put in, and how deep that is.
 #[derive(Clone, Copy)]

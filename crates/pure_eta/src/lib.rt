@@ -3,9 +3,9 @@
 
 mod eta;
 mod fits;
+mod front;
 pub mod laws;
 mod long;
-mod scope;
 #[cfg(test)]
 mod tests;
 

@@ -4,13 +4,13 @@ ghost use Rattle.pure_term.specs.Bounds.{lift_term};
 ghost use Rattle.pure_term.specs.Typing.{HasType};
 ghost use Rattle.pure_term.specs.Beta.{IsBetaNormal};
 ghost use Rattle.pure_term.specs.Typ as tree;
+ghost use Rattle.pure_term.specs.Scope.{scope_typs};
 ghost use Rattle.pure_eta.specs.LongTerm.{front_typ, expanded, expanded_at, long_term};
-ghost use Rattle.pure_eta.specs.ScopeTyps.{scope_typs};
 ghost use Rattle.pure_eta.specs.Answer.{IsLongAnswer};
 
 use crate::fits::long_fits;
-use crate::scope::{Scope, arrow_of, front_typ_of};
-use pure_term::{Grow, MAX_SIZE, Term, TermNode, Typ};
+use crate::front::{arrow_of, front_typ_of};
+use pure_term::{Grow, MAX_SIZE, Scope, Term, TermNode, Typ};
 use std::alloc::{AllocError, Global};
 
 /// The long form of a beta-normal term that has a type under no binders: the beta-normal form in which every subterm that isn't applied has as many abstractions as its type has arrows (Isabelle/Isar Implementation manual, section 2.2).

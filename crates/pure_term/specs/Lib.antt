@@ -13,6 +13,7 @@ pub mod TermFalls
 pub mod Order
 pub mod Limits
 pub mod Typing
+pub mod Scope
 pub mod TypeAnswer
 pub mod Bounds
 pub mod Conditions

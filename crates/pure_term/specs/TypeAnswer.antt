@@ -1,19 +1,13 @@
 -- What the call for a term's type answers.
-use Rattle.std.specs.Prelude.{◌≡◌, ℕ, ◌+◌, List, [], ◌∷◌, Result, Ok, Err}
+use Rattle.std.specs.Prelude.{◌≡◌, ℕ, ◌+◌, List, Result, Ok, Err}
 use Rattle.pure_term.specs.Typ.{Typ}
 use Rattle.pure_term.specs.Term.{Term}
 use Rattle.pure_term.specs.Typing.{HasType, IsUntypedAt}
 use Rattle.pure_term.specs.Limits.{cut_off}
-use Rattle.pure_term.specs.declared.typing.Scope.{Scope, Empty, Under'}
 use Rattle.pure_term.specs.declared.typing.Found.{Found}
 use Rattle.pure_term.specs.declared.typing.Found.TheVariants.{Lent, Made}
 use Rattle.pure_term.specs.declared.typing.TypeFault.{TypeFault}
 use Rattle.pure_term.specs.declared.typing.TypeFault.TheVariants.{NotTyped, Memory}
-
--- the types of the binders that a scope lists
-abbrev pub scope_typs : Scope → List Typ
-scope_typs Empty = []
-scope_typs (Under' t p s) = t.now ∷ scope_typs s
 
 -- the type that was found: one that stands in the term, or one that was made
 abbrev pub found_typ : Found → Typ

@@ -1,9 +1,11 @@
-ghost use Rattle.std.specs.Prelude.{◌≡◌, ◌↔◌, IsTrue, [], slice_get, Some, None, MatchOption, IfOk};
+ghost use Rattle.std.specs.Prelude.{◌≡◌, ◌↔◌, IsTrue, [], MatchOption, IfOk};
 ghost use Rattle.pure_term.specs.Typ.{arrow};
 ghost use Rattle.pure_term.specs.Typing.{Takes};
-ghost use Rattle.pure_term.specs.TypeAnswer.{scope_typs, found_typ, deeper_fault, IsTypeAnswer, IsFoundAnswer};
+ghost use Rattle.pure_term.specs.Scope.{scope_typs};
+ghost use Rattle.pure_term.specs.TypeAnswer.{found_typ, deeper_fault, IsTypeAnswer, IsFoundAnswer};
 
 use crate::measure::node_count_of;
+use crate::scope::{Scope, typ_at};
 use crate::term::{Term, TermNode};
 use crate::typ::{Typ, TypNode};
 use std::alloc::{AllocError, Global};
@@ -23,29 +25,6 @@ impl From<AllocError> for TypeFault {
 
     fn from(_: AllocError) -> TypeFault {
         TypeFault::Memory
-    }
-}
-
-// The types of the binders around a term, the innermost first.
-#[derive(Clone, Copy)]
-enum Scope<'s, 't> {
-    Empty,
-    Under(&'t Typ, &'s Scope<'s, 't>),
-}
-
-// The type of the binder of this place.
-fn typ_at<'s, 't>(scope: &'s Scope<'s, 't>, place: u32) -> Option<&'t Typ>
-    ensures { MatchOption result (slice_get (scope_typs scope.now) place ≡ None) (λ t. slice_get (scope_typs scope.now) place ≡ Some t.now) }
-{
-    match scope {
-        Scope::Empty => None,
-        Scope::Under(typ, outer) => {
-            if place == 0 {
-                Some(*typ)
-            } else {
-                typ_at(outer, place - 1)
-            }
-        }
     }
 }
 

@@ -3,7 +3,7 @@ use Rattle.pure_term.specs.Typ.{typ_size, typ_depth}
 use Rattle.pure_term.specs.Term.{Const, Free, Var, Bound, App, term_size, term_depth}
 use Rattle.pure_eta.specs.LongTerm.{front_typ, long_term}
 use Rattle.pure_eta.specs.Fits.{added_at}
-use Rattle.pure_eta.specs.ScopeTyps.{scope_typs}
+use Rattle.pure_term.specs.Scope.{scope_typs}
 use Rattle.pure_eta.proofs.FitsLaws.{leaf-fits, front-fits, front-stops, both-fit, first-stops, second-stops}
 use Rattle.pure_eta.proofs.fits.+long_fits.Goals as goal
 

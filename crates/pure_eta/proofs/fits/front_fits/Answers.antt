@@ -1,6 +1,6 @@
 use Rattle.std.proofs.Common.{◌+◌, ◌<◌, arith}
 use Rattle.pure_eta.specs.LongTerm.{front_typ}
-use Rattle.pure_eta.specs.ScopeTyps.{scope_typs}
+use Rattle.pure_term.specs.Scope.{scope_typs}
 use Rattle.pure_eta.proofs.FitsLaws.{depth_at-ge}
 use Rattle.pure_eta.proofs.fits.front_fits.Goals as goal
 

@@ -1,7 +1,7 @@
 -- What a scope lists.
 use Rattle.std.specs.Prelude.{List, [], ◌∷◌}
 use Rattle.pure_term.specs.Typ.{Typ}
-use Rattle.pure_eta.specs.declared.scope.Scope.{Scope, Empty, Under'}
+use Rattle.pure_term.specs.declared.scope.Scope.{Scope, Empty, Under'}
 
 -- the types of the binders that a scope lists, the innermost first
 abbrev pub scope_typs : Scope → List Typ

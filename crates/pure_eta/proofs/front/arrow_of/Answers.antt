@@ -1,6 +1,6 @@
 use Rattle.std.proofs.Common.{◌≢◌, length}
 use Rattle.pure_eta.proofs.ArrowLaws.{no_arrow-count}
-use Rattle.pure_eta.proofs.scope.arrow_of.Goals as goal
+use Rattle.pure_eta.proofs.front.arrow_of.Goals as goal
 
 pub returns-then-len-ne2 : goal.returns-then-len-ne2
 returns-then-len-ne2 c A B =

@@ -1,32 +1,9 @@
-ghost use Rattle.std.specs.Prelude.{◌≡◌, ◌≢◌, slice_get, Some, None, MatchOption};
+ghost use Rattle.std.specs.Prelude.{◌≡◌, ◌≢◌, Some, None, MatchOption};
 ghost use Rattle.pure_term.specs.Typ as tree;
+ghost use Rattle.pure_term.specs.Scope.{scope_typs};
 ghost use Rattle.pure_eta.specs.LongTerm.{range_typ, front_typ};
-ghost use Rattle.pure_eta.specs.ScopeTyps.{scope_typs};
 
-use pure_term::{Term, TermNode, Typ, TypNode};
-
-// The types of the binders around a term, the innermost first.
-#[derive(Clone, Copy)]
-pub enum Scope<'a> {
-    Empty,
-    Under(&'a Typ, &'a Scope<'a>),
-}
-
-// The type of the binder of this place.
-fn typ_at<'a>(scope: &Scope<'a>, place: u32) -> Option<&'a Typ>
-    ensures { MatchOption result (slice_get (scope_typs scope.now) place ≡ None) (λ t. slice_get (scope_typs scope.now) place ≡ Some t.now) }
-{
-    match scope {
-        Scope::Empty => None,
-        Scope::Under(typ, outer) => {
-            if place == 0 {
-                Some(*typ)
-            } else {
-                typ_at(outer, place - 1)
-            }
-        }
-    }
-}
+use pure_term::{Scope, Term, TermNode, Typ, TypNode, typ_at};
 
 // The domain and the range of a type of functions.
 pub fn arrow_of(typ: &Typ) -> Option<(&Typ, &Typ)>
@@ -47,7 +24,7 @@ pub fn arrow_of(typ: &Typ) -> Option<(&Typ, &Typ)>
 }
 
 // The type of a typed term whose front is a constant or a variable, as it stands in the term or in its scope.
-pub fn front_typ_of<'a>(t: &'a Term, scope: &Scope<'a>) -> Option<&'a Typ>
+pub fn front_typ_of<'t>(t: &'t Term, scope: &Scope<'_, 't>) -> Option<&'t Typ>
     ensures { MatchOption result (front_typ (scope_typs scope.now) t.now ≡ None) (λ typ. front_typ (scope_typs scope.now) t.now ≡ Some typ.now) }
 {
     match &t.node {
