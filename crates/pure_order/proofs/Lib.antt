@@ -1,3 +1,5 @@
 pub mod DomainLaws
 pub mod FaultLaws
 pub mod ReduceLaws
+pub mod PlaceLaws
+pub mod WalkLaws

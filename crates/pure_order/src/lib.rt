@@ -3,8 +3,10 @@
 
 mod fault;
 mod order;
+mod places;
 #[cfg(test)]
 mod tests;
+mod walk;
 
 pub use fault::OrderFault;
 pub use order::Order;

@@ -10,6 +10,8 @@ ghost use Rattle.pure_order_tables.specs.Unknown.{IsFirstUnknown, HasArityFor, j
 ghost use Rattle.pure_order.specs.FaultView.{IsClassFault, IsArityFault, IsMergeFault};
 
 use crate::fault::OrderFault;
+use crate::places::MOST_PLACES;
+use crate::walk::is_of_sort;
 use pure_order_tables::{ArityEntry, Tables};
 use pure_term::{Name, Sort, Typ, TypNode};
 use std::alloc::{AllocError, Global};
@@ -69,7 +71,7 @@ impl Order {
         }
     }
 
-    /// Whether the type is of the class.
+    /// Whether the type is of the class. An argument is walked once for each class of its domain, so that the time may double at each level.
     fn of_class(&self, t: &Typ, class: Name) -> bool
         ensures { IsTrue result ↔ IsOfClass self.now t.now class }
     {
@@ -98,8 +100,8 @@ impl Order {
         }
     }
 
-    /// Whether the type is of the sort.
-    pub fn of_sort(&self, t: &Typ, s: &Sort) -> bool
+    /// Whether the type is of the sort, class by class: where a set can't hold the places of all arities.
+    fn of_each_class(&self, t: &Typ, s: &Sort) -> bool
         ensures { IsTrue result ↔ IsOfSort self.now t.now s.now }
     {
         for class in s.classes() {
@@ -108,6 +110,17 @@ impl Order {
             }
         }
         true
+    }
+
+    /// Whether the type is of the sort.
+    pub fn of_sort(&self, t: &Typ, s: &Sort) -> bool
+        ensures { IsTrue result ↔ IsOfSort self.now t.now s.now }
+    {
+        if self.tables.arity_count() <= MOST_PLACES {
+            is_of_sort(&self.tables, t, s)
+        } else {
+            self.of_each_class(t, s)
+        }
     }
 
     /// Declares a class, with the classes declared to be above it.

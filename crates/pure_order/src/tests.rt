@@ -16,6 +16,8 @@ const G: Name = Name(13);
 
 const K: Name = Name(20);
 
+const I: Name = Name(21);
+
 fn sort(alloc: Global, class: Name) -> Result<Sort, AllocError> {
     Ok(Sort::make(vec![in alloc; class]?))
 }
@@ -34,18 +36,22 @@ fn add(order: &mut Order, alloc: Global, domain: Name, class: Name) -> Result<()
     order.add_arity(alloc, K, domains(alloc, domain)?, class)
 }
 
-/// The type `'a k` with `'a` of the class.
-fn applied(alloc: Global, class: Name) -> Result<Typ, AllocError> {
-    let arg = Typ {
+/// The type `'a` of the class.
+fn variable(alloc: Global, class: Name) -> Result<Typ, AllocError> {
+    Ok(Typ {
         node: TypNode::TFree {
             name: Name(0),
             sort: sort(alloc, class)?,
         },
-    };
+    })
+}
+
+/// The type `'a k` with `'a` of the class.
+fn applied(alloc: Global, class: Name) -> Result<Typ, AllocError> {
     Ok(Typ {
         node: TypNode::Con {
             name: K,
-            args: vec![in alloc; arg]?,
+            args: vec![in alloc; variable(alloc, class)?]?,
         },
     })
 }
@@ -156,5 +162,61 @@ fn merges(rt: HostRuntime) -> Result<(), Fail> {
     assert_eq!(rt; first.merge(alloc, &second).err(), Some(conflict));
     let same = first.merge(alloc, &first)?;
     assert!(rt; same.of_sort(&applied(alloc, C)?, &sort(alloc, E)?));
+    Ok(())
+}
+
+fn crossed_domains(alloc: Global) -> Result<Vec<Sort>, AllocError> {
+    Ok(vec![in alloc; pair(alloc, C, D)?]?)
+}
+
+/// Unrelated classes c and d, and a constructor whose type is of either where its argument is of both.
+fn crossed(alloc: Global) -> Result<Order, OrderFault> {
+    let mut order = Order::empty(alloc);
+    order.add_class(alloc, C, &[])?;
+    order.add_class(alloc, D, &[])?;
+    order.add_arity(alloc, K, crossed_domains(alloc)?, C)?;
+    order.add_arity(alloc, K, crossed_domains(alloc)?, D)?;
+    order.add_arity(alloc, I, Vec::new(alloc), C)?;
+    order.add_arity(alloc, I, Vec::new(alloc), D)?;
+    Ok(order)
+}
+
+/// The type with the constructor around it, so many times.
+fn nested(alloc: Global, inner: Typ, count: u32) -> Result<Typ, AllocError> {
+    let mut typ = inner;
+    for _ in 0..count {
+        typ = Typ {
+            node: TypNode::Con {
+                name: K,
+                args: vec![in alloc; typ]?,
+            },
+        };
+    }
+    Ok(typ)
+}
+
+/// The type i.
+fn constant(alloc: Global) -> Typ {
+    Typ {
+        node: TypNode::Con {
+            name: I,
+            args: Vec::new(alloc),
+        },
+    }
+}
+
+fn is_deep_of_both(order: &Order, alloc: Global, inner: Typ) -> Result<bool, AllocError> {
+    let typ = nested(alloc, inner, 60)?;
+    let both = pair(alloc, C, D)?;
+    Ok(order.of_sort(&typ, &both))
+}
+
+// A walk that looked at the argument once for each class would take 2 ^ 60 steps.
+#[test]
+fn deep(rt: HostRuntime) -> Result<(), Fail> {
+    let alloc = rt.alloc();
+    let order = crossed(alloc)?;
+    assert!(rt; is_deep_of_both(&order, alloc, constant(alloc))?);
+    assert!(rt; !is_deep_of_both(&order, alloc, variable(alloc, C)?)?);
     Ok(())
 }

@@ -141,7 +141,7 @@ impl Tables {
     }
 
     /// The place of an arity of the constructor for a class below this one, the greatest if there is a greatest.
-    fn place(&self, con: Name, class: Name) -> Option<usize>
+    pub fn place(&self, con: Name, class: Name) -> Option<usize>
         ensures { MatchOption result ((q : Arity) → ¬ IsArityBelow self.now con class q) (IsPlace self.now con class) }
     {
         match self.slots.get(&con.0) {
@@ -174,7 +174,7 @@ impl Tables {
     }
 
     /// The count of arities.
-    fn arity_count(&self) -> usize
+    pub fn arity_count(&self) -> usize
         ensures { result ≡ length self.now.arities }
     {
         self.arities.len()
