@@ -12,7 +12,7 @@ use Rattle.pure_order_tables.specs.Checks.{IsDecided}
 use Rattle.pure_order_tables.proofs.ListMore.{each_at, each_turn, in_turn, two_long, two_read, two_turn, two_full}
 use Rattle.pure_order_tables.proofs.CoregularLaws.{directed, candidate_greatest}
 use Rattle.pure_order.specs.Places.{Holds}
-use Rattle.pure_order.specs.Walk.{IsWalkable, no_arity, arity_at, domains_at, domain_at, HasDomain, IsGreatestPlace, HaveDomain, HaveDomains, IsOfDomain, AreOfDomains, IsGrown}
+use Rattle.pure_order.specs.Walk.{IsWalkable, no_arity, arity_at, domains_at, domain_at, HasDomain, IsGreatestPlace, HaveDomain, HaveDomains, IsOfDomain, AreOfDomains, AsksMore}
 use Rattle.pure_order.proofs.DomainLaws.{of_class_by_domains, are_of_sorts}
 
 pub greatest_at : (A : Algebra) → IsDecided A → IsWalkable A → (k c place : ℕ) → IsPlace A k c place → IsGreatest A k c (arity_at A place)
@@ -45,16 +45,16 @@ below_skip P places end none = (
   λ all place within h. all place (omega arith) h,
 )
 
-pub grown_same : (A : Algebra) (count : ℕ) (P Q : List Typ → Type 0) (old new : List ℕ) → ((ts : List Typ) → P ts ↔ Q ts) → IsGrown A count P old new → IsGrown A count Q old new
+pub grown_same : (A : Algebra) (count : ℕ) (P Q : List Typ → Type 0) (old new : List ℕ) → ((ts : List Typ) → P ts ↔ Q ts) → AsksMore A count P old new → AsksMore A count Q old new
 grown_same A count P Q old new same g = record {
   have = g.have;
   ask = λ ts. let ask = g.ask ts in (λ h. ((same ts).0 (ask.0 h).0, (ask.0 h).1), λ w. ask.1 ((same ts).1 w.0, w.1));
 }
 
-pub grown_not : (A : Algebra) (count : ℕ) (P : List Typ → Type 0) (old : List ℕ) → ((ts : List Typ) → P ts) → HaveDomains A count old → IsGrown A count P old old
+pub grown_not : (A : Algebra) (count : ℕ) (P : List Typ → Type 0) (old : List ℕ) → ((ts : List Typ) → P ts) → HaveDomains A count old → AsksMore A count P old old
 grown_not A count P old all have = record { have = have; ask = λ ts. (λ h. (all ts, h), λ w. w.1) }
 
-pub grown_on : (A : Algebra) (count : ℕ) (P Q R : List Typ → Type 0) (old now new : List ℕ) → ((ts : List Typ) → R ts ↔ (P ts × Q ts)) → IsGrown A count P old now → IsGrown A count Q now new → IsGrown A count R old new
+pub grown_on : (A : Algebra) (count : ℕ) (P Q R : List Typ → Type 0) (old now new : List ℕ) → ((ts : List Typ) → R ts ↔ (P ts × Q ts)) → AsksMore A count P old now → AsksMore A count Q now new → AsksMore A count R old new
 grown_on A count P Q R old now new both first second = record {
   have = second.have;
   ask = λ ts. (
@@ -64,12 +64,12 @@ grown_on A count P Q R old now new both first second = record {
 }
 
 -- An answer on the types is one on what the set has grown by, if it was empty.
-pub grown_answer : (A : Algebra) (count : ℕ) (P : List Typ → Type 0) (old new : List ℕ) (ts : List Typ) (b : Bool) → ((place : ℕ) → ¬ Holds old place) → IsGrown A count P old new → (IsTrue b ↔ AreOfDomains A new ts) → IsTrue b ↔ P ts
+pub grown_answer : (A : Algebra) (count : ℕ) (P : List Typ → Type 0) (old new : List ℕ) (ts : List Typ) (b : Bool) → ((place : ℕ) → ¬ Holds old place) → AsksMore A count P old new → (IsTrue b ↔ AreOfDomains A new ts) → IsTrue b ↔ P ts
 grown_answer A count P old new ts b none g test = let ask = g.ask ts in (λ h. (ask.0 (test.0 h)).0, λ p. test.1 (ask.1 (p, λ place h. absurd (none place h))))
 
 -- a set with the place of a greatest arity asks that the type is of the class
 pub grown_put : (A : Algebra) (k c count place : ℕ) (now new : List ℕ) → IsGreatestPlace A k c count place → ((other : ℕ) → Holds new other ↔ ((other ≡ place) ⊎ Holds now other)) → HaveDomains A count now
-    → IsGrown A count (λ ts. IsOfClass A (Con k (typs_of ts)) c) now new
+    → AsksMore A count (λ ts. IsOfClass A (Con k (typs_of ts)) c) now new
 grown_put A k c count place now new g put have = record {
   have = λ other h. elim ((put other).0 h) [ inl e ↦ rw e g.has | inr m ↦ have other m ];
   ask = λ ts. let decides = greatest_decides A k c place g.greatest ts in (
@@ -94,18 +94,18 @@ sort_all A t s r i same full = rw (take_all i s full, same) (λ h. h, λ h. h)
 abbrev pub Asks : Algebra → ℕ → List ℕ → ℕ → ℕ → List Typ → Type 0
 Asks A k places i end ts = AllBelow (λ place. IsOfSort A (Con k (typs_of ts)) (domain_at A place i)) places end
 
-pub asks_none : (A : Algebra) (k count i start : ℕ) (places old : List ℕ) → ((place : ℕ) → Holds places place → start ≤ place) → HaveDomains A count old → IsGrown A count (Asks A k places i start) old old
+pub asks_none : (A : Algebra) (k count i start : ℕ) (places old : List ℕ) → ((place : ℕ) → Holds places place → start ≤ place) → HaveDomains A count old → AsksMore A count (Asks A k places i start) old old
 asks_none A k count i start places old from have = grown_not A count (Asks A k places i start) old (λ ts place within h. (let f = from place h in absurd (omega arith))) have
 
-pub asks_turn : (A : Algebra) (k count i place : ℕ) (places old now new s : List ℕ) → s ≡ domain_at A place i → Holds places place → IsGrown A count (Asks A k places i place) old now → IsGrown A count (λ ts. IsOfSort A (Con k (typs_of ts)) s) now new → IsGrown A count (Asks A k places i (place + 1)) old new
+pub asks_turn : (A : Algebra) (k count i place : ℕ) (places old now new s : List ℕ) → s ≡ domain_at A place i → Holds places place → AsksMore A count (Asks A k places i place) old now → AsksMore A count (λ ts. IsOfSort A (Con k (typs_of ts)) s) now new → AsksMore A count (Asks A k places i (place + 1)) old new
 asks_turn A k count i place places old now new s same held first second =
     grown_on A count (Asks A k places i place) (λ ts. IsOfSort A (Con k (typs_of ts)) s) (Asks A k places i (place + 1)) old now new
     (λ ts. rw same (below_turn (λ p. IsOfSort A (Con k (typs_of ts)) (domain_at A p i)) places place held)) first second
 
-pub asks_skip : (A : Algebra) (k count i place : ℕ) (places old now : List ℕ) → ¬ Holds places place → IsGrown A count (Asks A k places i place) old now → IsGrown A count (Asks A k places i (place + 1)) old now
+pub asks_skip : (A : Algebra) (k count i place : ℕ) (places old now : List ℕ) → ¬ Holds places place → AsksMore A count (Asks A k places i place) old now → AsksMore A count (Asks A k places i (place + 1)) old now
 asks_skip A k count i place places old now none = grown_same A count (Asks A k places i place) (Asks A k places i (place + 1)) old now (λ ts. below_skip (λ p. IsOfSort A (Con k (typs_of ts)) (domain_at A p i)) places place none)
 
-pub asks_all : (A : Algebra) (k count i end stop : ℕ) (places old now : List ℕ) → ((place : ℕ) → Holds places place → place < end) → end ≤ stop → IsGrown A count (Asks A k places i stop) old now → IsGrown A count (λ ts. IsOfDomain A places i (Con k (typs_of ts))) old now
+pub asks_all : (A : Algebra) (k count i end stop : ℕ) (places old now : List ℕ) → ((place : ℕ) → Holds places place → place < end) → end ≤ stop → AsksMore A count (Asks A k places i stop) old now → AsksMore A count (λ ts. IsOfDomain A places i (Con k (typs_of ts))) old now
 asks_all A k count i end stop places old now below full = grown_same A count (Asks A k places i stop) (λ ts. IsOfDomain A places i (Con k (typs_of ts))) old now
     (λ ts. (λ all place h. let b = below place h in all place (omega arith) h, λ all place within h. all place h))
 

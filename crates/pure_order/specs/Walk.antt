@@ -56,6 +56,6 @@ abbrev pub AreOfDomains : Algebra → List ℕ → List Typ → Type 0
 AreOfDomains A places ts = (place : ℕ) → Holds places place → EachTwo (IsOfSort A) ts (domains_at A place)
 
 -- The set has grown by places of arities with so many domains, so that it asks P of the types beside what it asked before.
-pub record IsGrown (A : Algebra) (count : ℕ) (P : List Typ → Type 0) (old new : List ℕ) : Type 0 where
+pub record AsksMore (A : Algebra) (count : ℕ) (P : List Typ → Type 0) (old new : List ℕ) : Type 0 where
   pub have : HaveDomains A count new
   pub ask : (ts : List Typ) → AreOfDomains A new ts ↔ (P ts × AreOfDomains A old ts)

@@ -3,7 +3,7 @@ ghost use Rattle.pure_term.specs.Typ as tree;
 ghost use Rattle.pure_term.specs.Typ.{Con, typs_of};
 ghost use Rattle.pure_term.specs.Order.{IsOfClass, IsOfSort, IsSortBelow};
 ghost use Rattle.pure_order.specs.Places.{Holds};
-ghost use Rattle.pure_order.specs.Walk.{IsWalkable, domains_at, domain_at, HasDomain, IsGreatestPlace, HaveDomain, HaveDomains, IsOfDomain, AreOfDomains, IsGrown};
+ghost use Rattle.pure_order.specs.Walk.{IsWalkable, domains_at, domain_at, HasDomain, IsGreatestPlace, HaveDomain, HaveDomains, IsOfDomain, AreOfDomains, AsksMore};
 
 use crate::places::Places;
 use pure_order_tables::Tables;
@@ -44,7 +44,7 @@ fn greatest(tables: &Tables, con: Name, class: Name, count: usize) -> Option<usi
 fn put_greatest(tables: &Tables, places: &mut Places, con: Name, sort: &Sort, count: usize) -> bool
     requires walkable { IsWalkable tables.now }
     requires have { HaveDomains tables.now count places.old }
-    ensures { MatchBool result (IsGrown tables.now count (λ ts. IsOfSort tables.now (Con con (typs_of ts)) sort.now) places.old places.new) ((ts : List tree.Typ) → length ts ≡ count → ¬ IsOfSort tables.now (Con con (typs_of ts)) sort.now) }
+    ensures { MatchBool result (AsksMore tables.now count (λ ts. IsOfSort tables.now (Con con (typs_of ts)) sort.now) places.old places.new) ((ts : List tree.Typ) → length ts ≡ count → ¬ IsOfSort tables.now (Con con (typs_of ts)) sort.now) }
 {
     for class in sort.classes() {
         let Some(place) = greatest(tables, con, *class, count) else {
@@ -80,7 +80,7 @@ fn put_all_greatest(
     requires walkable { IsWalkable tables.now }
     requires have { HaveDomain tables.now index places.now }
     requires next { HaveDomains tables.now count next.old }
-    ensures { MatchBool result (IsGrown tables.now count (λ ts. IsOfDomain tables.now places.now index (Con con (typs_of ts))) next.old next.new) ((ts : List tree.Typ) → length ts ≡ count → ¬ IsOfDomain tables.now places.now index (Con con (typs_of ts))) }
+    ensures { MatchBool result (AsksMore tables.now count (λ ts. IsOfDomain tables.now places.now index (Con con (typs_of ts))) next.old next.new) ((ts : List tree.Typ) → length ts ≡ count → ¬ IsOfDomain tables.now places.now index (Con con (typs_of ts))) }
 {
     for place in places.start()..places.end() {
         if !places.contains(place) {
