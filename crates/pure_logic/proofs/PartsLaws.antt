@@ -1,5 +1,5 @@
 -- A term with certified parts has a certified type.
-use Rattle.std.proofs.Common.{◌≡◌, ℕ, zero, suc, List, [], ◌∷◌, arith}
+use Rattle.std.proofs.Common.{◌≡◌, ℕ, zero, suc, List, [], ◌∷◌}
 use Rattle.std.specs.Prelude.{slice_get, Some}
 use Rattle.pure_term.specs.Lists.{Each}
 use Rattle.pure_term.specs.Typ.{Typ, arrow}

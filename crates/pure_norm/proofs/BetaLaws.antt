@@ -1,6 +1,6 @@
 -- Beta steps keep types, certification and closedness; and normal forms.
-use Rattle.std.proofs.Common.{◌≡◌, ℕ, ◌+◌, List, [], ◌∷◌, Bool, true, false, refl, subst, arith}
-use Rattle.std.specs.Prelude.{◌-◌, nat_eq, nat_lt, if◌then◌else◌, Some}
+use Rattle.std.proofs.Common.{◌≡◌, ℕ, ◌+◌, List, [], ◌∷◌, refl, subst, arith}
+use Rattle.std.specs.Prelude.{Some}
 use Rattle.pure_term.specs.Typ.{Typ, arrow}
 use Rattle.pure_term.specs.Term.{Term, Const, Free, Var, Bound, Abs, App, IsWithin}
 use Rattle.pure_term.specs.Typing.{HasType}
