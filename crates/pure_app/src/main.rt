@@ -6,7 +6,7 @@ ghost use Rattle.pure_app.specs.Message.{message_text};
 
 use pure_check::{Status, pure};
 use pure_io::{DirLibrary, OpenGate, StdSink};
-use pure_term::Text;
+use pure_text::Text;
 use std::alloc::{AllocError, Global};
 use std::env::{Args, Env};
 use std::process::ExitCode;

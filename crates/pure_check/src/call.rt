@@ -9,7 +9,7 @@ use crate::row::{are_proved, table_text};
 use crate::rows::rows_of;
 use crate::status::Status;
 use pure_io::{Gate, Library, Sink, write_all};
-use pure_term::Text;
+use pure_text::Text;
 use std::alloc::Global;
 use std::rt::Files;
 use std::sync::Wait;

@@ -6,7 +6,7 @@ ghost use Rattle.pure_check.specs.Loaded.{IsLoaded, IsRead, IsSource, source_ans
 
 use crate::theories::theories_of;
 use pure_io::{LibFault, Library, ReadFault};
-use pure_term::Text;
+use pure_text::Text;
 use std::alloc::{AllocError, Global};
 use std::rt::Files;
 

@@ -8,7 +8,7 @@ ghost use Rattle.pure_first.specs.Seen.{seen_all};
 use crate::load::Loaded;
 use crate::row::{Reason, Row, lemma_row};
 use pure_first::{Lemma, read_theory};
-use pure_term::Text;
+use pure_text::Text;
 use std::alloc::{AllocError, Global};
 
 fn lemma_rows<'t>(

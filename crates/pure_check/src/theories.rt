@@ -4,7 +4,7 @@ ghost use Rattle.pure_first.specs.Token.{same, is_identifier as is_identifier_te
 ghost use Rattle.pure_check.specs.Table.{AreTheories, file_name};
 
 use pure_first::is_identifier;
-use pure_term::Text;
+use pure_text::Text;
 use std::alloc::{AllocError, Global};
 use std::collections::BTreeSet;
 

@@ -1,13 +1,13 @@
 -- The long form of a certified term is certified.
 use Rattle.std.proofs.Common.{ℕ, zero, suc, ◌+◌, List, [], ◌∷◌, Bool, true, false}
 use Rattle.std.specs.Prelude.{Option, Some, None, slice_get}
-use Rattle.pure_term.specs.Lists.{Each}
-use Rattle.pure_term.specs.Typ.{Typ, Con, none, also}
-use Rattle.pure_term.specs.Term.{Term, Const, Free, Var, Bound, Abs, App}
-use Rattle.pure_term.specs.Bounds.{lift_term}
-use Rattle.pure_term.specs.Decl.{Decl}
-use Rattle.pure_term.specs.Certified.{IsCertifiedTyp, HasCertifiedParts}
-use Rattle.pure_term.proofs.LiftLaws.{lift_term-bound}
+use Rattle.pure_text.specs.Lists.{Each}
+use Rattle.pure_definitions.specs.Typ.{Typ, Con, none, also}
+use Rattle.pure_definitions.specs.Term.{Term, Const, Free, Var, Bound, Abs, App}
+use Rattle.pure_definitions.specs.Bounds.{lift_term}
+use Rattle.pure_definitions.specs.Decl.{Decl}
+use Rattle.pure_definitions.specs.Certified.{IsCertifiedTyp, HasCertifiedParts}
+use Rattle.pure_definitions.proofs.LiftLaws.{lift_term-bound}
 use Rattle.pure_eta.specs.LongTerm.{range_typ, front_typ, expanded, expanded_at, long_term}
 
 certified-lift : (ds : List Decl) (by from : ℕ) (t : Term) → HasCertifiedParts ds t → HasCertifiedParts ds (lift_term by from t)

@@ -1,11 +1,11 @@
 -- Eta-normal forms and long forms exist; which terms have the same.
 use Rattle.std.proofs.Common.{false, [], refl}
-use Rattle.pure_term.specs.Typ.{arrow}
-use Rattle.pure_term.specs.Term.{Term, Free}
-use Rattle.pure_term.specs.Typing.{HasType}
-use Rattle.pure_term.specs.Eta.{EtaReduces, IsLongForm}
-use Rattle.pure_term.specs.LawsExamples.{i}
-use Rattle.pure_term.proofs.EtaLaws.{one_long_form}
+use Rattle.pure_definitions.specs.Typ.{arrow}
+use Rattle.pure_definitions.specs.Term.{Term, Free}
+use Rattle.pure_definitions.specs.Typing.{HasType}
+use Rattle.pure_definitions.specs.Eta.{EtaReduces, IsLongForm}
+use Rattle.pure_term_laws.specs.LawsExamples.{i}
+use Rattle.pure_term_laws.proofs.EtaLaws.{one_long_form}
 use Rattle.pure_eta.specs.EtaForm.{eta_form}
 use Rattle.pure_eta.specs.LongTerm.{long_term}
 use Rattle.pure_eta.specs.LawsEta.{EachTermHasEtaNormalForm, EachTypedNormalTermHasLongForm, LongFormOfLongForm, LongFormOfReduct, LongFormsOfJoined, EtaNormalFormOfLongForm, LongFormIsCertified, StepsOfLift, ExpandedArgumentExample}

@@ -1,16 +1,16 @@
 -- What eta steps keep: types, certified parts, beta-normal terms; and eta-normal terms under lifting.
 use Rattle.std.proofs.Common.{◌≡◌, ℕ, ◌+◌, List, [], ◌∷◌, true, refl, ap, sym, ◌∙◌, arith}
 use Rattle.std.proofs.lemmas.Bool.Decides.{nat_tests}
-use Rattle.pure_term.specs.Typ.{Typ, arrow}
-use Rattle.pure_term.specs.Term.{Term, Const, Free, Var, Bound, Abs, App}
-use Rattle.pure_term.specs.Bounds.{lift_term}
-use Rattle.pure_term.specs.Typing.{HasType}
-use Rattle.pure_term.specs.Decl.{Decl}
-use Rattle.pure_term.specs.Certified.{HasCertifiedParts}
-use Rattle.pure_term.specs.Beta.{IsAbs, IsBetaNormal}
-use Rattle.pure_term.specs.Eta.{EtaStep, EtaReduces}
-use Rattle.pure_term.proofs.LiftLaws.{lifted, lift_term-bound, subst-lift}
-use Rattle.pure_term.proofs.TypingBoundLaws.{typing-subst}
+use Rattle.pure_definitions.specs.Typ.{Typ, arrow}
+use Rattle.pure_definitions.specs.Term.{Term, Const, Free, Var, Bound, Abs, App}
+use Rattle.pure_definitions.specs.Bounds.{lift_term}
+use Rattle.pure_definitions.specs.Typing.{HasType}
+use Rattle.pure_definitions.specs.Decl.{Decl}
+use Rattle.pure_definitions.specs.Certified.{HasCertifiedParts}
+use Rattle.pure_definitions.specs.Beta.{IsAbs, IsBetaNormal}
+use Rattle.pure_definitions.specs.Eta.{EtaStep, EtaReduces}
+use Rattle.pure_definitions.proofs.LiftLaws.{lifted, lift_term-bound, subst-lift}
+use Rattle.pure_term_laws.proofs.TypingBoundLaws.{typing-subst}
 use Rattle.pure_eta.specs.EtaForm.{is_loose}
 use Rattle.pure_eta.specs.LawsEta.{StepsKeepType, StepsKeepParts, StepsKeepCertified, StepsKeepBetaNormal, EtaNormalOfLift}
 use Rattle.pure_eta.proofs.LooseLaws.{loose-lift}

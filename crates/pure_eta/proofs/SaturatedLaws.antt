@@ -1,12 +1,12 @@
 -- What is kept under lifting: abstractions, beta-normal terms, and terms whose parts have as many abstractions as their types have arrows.
 use Rattle.std.proofs.Common.{◌≡◌, ℕ, ◌+◌, List, ◌∷◌, ◌++◌, length, refl, ap, ◌∙◌, arith}
-use Rattle.pure_term.specs.Typ.{Typ}
-use Rattle.pure_term.specs.Term.{Term, Const, Free, Var, Bound, Abs, App}
-use Rattle.pure_term.specs.Bounds.{lift_term}
-use Rattle.pure_term.specs.Beta.{IsAbs, IsBetaNormal}
-use Rattle.pure_term.specs.Eta.{EtaReduces, abstraction_count, IsSaturated, HasSaturatedParts}
-use Rattle.pure_term.proofs.LiftLaws.{lift_term-bound}
-use Rattle.pure_term.proofs.TypingBoundLaws.{typing-lift}
+use Rattle.pure_definitions.specs.Typ.{Typ}
+use Rattle.pure_definitions.specs.Term.{Term, Const, Free, Var, Bound, Abs, App}
+use Rattle.pure_definitions.specs.Bounds.{lift_term}
+use Rattle.pure_definitions.specs.Beta.{IsAbs, IsBetaNormal}
+use Rattle.pure_definitions.specs.Eta.{EtaReduces, abstraction_count, IsSaturated, HasSaturatedParts}
+use Rattle.pure_definitions.proofs.LiftLaws.{lift_term-bound}
+use Rattle.pure_term_laws.proofs.TypingBoundLaws.{typing-lift}
 use Rattle.pure_eta.proofs.EtaStepLaws.{step-lift}
 
 pub reduces-lift : (by from : ℕ) {t u : Term} → EtaReduces t u → EtaReduces (lift_term by from t) (lift_term by from u)

@@ -1,9 +1,9 @@
 -- What the call for a long form answers.
 use Rattle.std.specs.Prelude.{Result, Ok, Err}
-use Rattle.pure_term.specs.Term.{Term, IsWithin}
-use Rattle.pure_term.specs.Eta.{IsLongForm}
-use Rattle.pure_term.specs.declared.grow.Grow.{Grow}
-use Rattle.pure_term.specs.declared.grow.Grow.TheVariants.{Big, Memory}
+use Rattle.pure_definitions.specs.Term.{Term, IsWithin}
+use Rattle.pure_definitions.specs.Eta.{IsLongForm}
+use Rattle.pure_typ.specs.declared.grow.Grow.{Grow}
+use Rattle.pure_typ.specs.declared.grow.Grow.TheVariants.{Big, Memory}
 
 -- The answer is the term's long form, within the limits; or `Big` where the term has a long form that isn't within them; or `Memory`.
 abbrev pub IsLongAnswer : Term → Result Term Grow → Type 0

@@ -1,14 +1,14 @@
 -- Laws of eta-normal forms and of long forms.
 use Rattle.std.specs.Prelude.{◌≡◌, ℕ, List, [], ◌++◌, length}
-use Rattle.pure_term.specs.Typ.{Typ, arrow}
-use Rattle.pure_term.specs.Term.{Term, Free, Bound, Abs, App}
-use Rattle.pure_term.specs.Bounds.{lift_term}
-use Rattle.pure_term.specs.Typing.{HasType}
-use Rattle.pure_term.specs.Decl.{Decl}
-use Rattle.pure_term.specs.Certified.{HasCertifiedParts, IsCertified}
-use Rattle.pure_term.specs.Beta.{IsBetaNormal}
-use Rattle.pure_term.specs.Eta.{EtaReduces, IsEtaNormal, IsEtaNormalForm, IsSaturated, HasSaturatedParts, IsLongForm}
-use Rattle.pure_term.specs.LawsExamples.{i}
+use Rattle.pure_definitions.specs.Typ.{Typ, arrow}
+use Rattle.pure_definitions.specs.Term.{Term, Free, Bound, Abs, App}
+use Rattle.pure_definitions.specs.Bounds.{lift_term}
+use Rattle.pure_definitions.specs.Typing.{HasType}
+use Rattle.pure_definitions.specs.Decl.{Decl}
+use Rattle.pure_definitions.specs.Certified.{HasCertifiedParts, IsCertified}
+use Rattle.pure_definitions.specs.Beta.{IsBetaNormal}
+use Rattle.pure_definitions.specs.Eta.{EtaReduces, IsEtaNormal, IsEtaNormalForm, IsSaturated, HasSaturatedParts, IsLongForm}
+use Rattle.pure_term_laws.specs.LawsExamples.{i}
 
 -- Each term has an eta-normal form.
 abbrev pub EachTermHasEtaNormalForm : Type 0

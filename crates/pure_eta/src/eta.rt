@@ -1,6 +1,6 @@
 ghost use Rattle.std.specs.Prelude.{◌≡◌, ◌↔◌, IsTrue, IfOk};
-ghost use Rattle.pure_term.specs.Term.{App, Bound};
-ghost use Rattle.pure_term.specs.Eta.{IsEtaNormalForm};
+ghost use Rattle.pure_definitions.specs.Term.{App, Bound};
+ghost use Rattle.pure_definitions.specs.Eta.{IsEtaNormalForm};
 ghost use Rattle.pure_eta.specs.EtaForm.{is_loose, lower_term, contracted, eta_form};
 
 use pure_term::{Term, TermNode, Typ};

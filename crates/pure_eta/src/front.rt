@@ -1,5 +1,5 @@
 ghost use Rattle.std.specs.Prelude.{◌≡◌, ◌≢◌, Some, None, MatchOption};
-ghost use Rattle.pure_term.specs.Typ as tree;
+ghost use Rattle.pure_definitions.specs.Typ as tree;
 ghost use Rattle.pure_term.specs.Scope.{scope_typs};
 ghost use Rattle.pure_eta.specs.LongTerm.{range_typ, front_typ};
 

@@ -3,7 +3,7 @@
 //! a digit is a bound variable; `A` applies the last term but one to the last, and `L` is the abstraction of the last term over the last type. Blanks mean nothing.
 
 ghost use Rattle.std.specs.Prelude.{IsTrue};
-ghost use Rattle.pure_term.specs.Beta.{IsAbs, IsBetaNormal};
+ghost use Rattle.pure_definitions.specs.Beta.{IsAbs, IsBetaNormal};
 
 use crate::{eta_norm, long_form};
 use pure_term::{Grow, Name, Term, TermNode, Typ, TypNode, depth, size, typ_of};

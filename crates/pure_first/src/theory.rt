@@ -7,7 +7,7 @@ ghost use Rattle.pure_first.specs.Reading.{TakesNo, TakesHeader, TakesLemma, Tak
 ghost use Rattle.pure_first.specs.Seen.{seen, seen_all, AreLemmas};
 
 use crate::{statement, token};
-use pure_term::Text;
+use pure_text::Text;
 use std::alloc::{AllocError, Global};
 use std::collections::BTreeSet;
 

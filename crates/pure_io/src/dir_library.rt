@@ -9,7 +9,7 @@ ghost use Rattle.pure_io.specs.Reading.{list_fault_of, unnamed_entry_of, NamesEn
 use crate::entries::names_within;
 use crate::library::{LibFault, Library, ReadFault};
 use crate::reading::read_opened;
-use pure_term::Text;
+use pure_text::Text;
 use std::alloc::Global;
 use std::fs::{DirEntry, ReadDir};
 use std::io::ErrorKind;

@@ -4,7 +4,7 @@ ghost use Rattle.std.specs.Iterator.{IsFinite};
 ghost use Rattle.pure_io.specs.Entries.{ListsWithin, ListsPast};
 
 use crate::library::LibFault;
-use pure_term::Text;
+use pure_text::Text;
 use std::alloc::Global;
 
 /// The names of all entries, those that aren't UTF-8 passed over. Fails past `limit` entries.

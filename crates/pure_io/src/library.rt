@@ -1,7 +1,7 @@
 //! A library of files.
 ghost use Rattle.std.specs.Prelude.{◌≡◌, ℕ, ◌+◌, ◌≤◌, List, length, take, map, Option, IfOk, IfSome};
 
-use pure_term::Text;
+use pure_text::Text;
 use std::alloc::{AllocError, Global};
 use std::rt::Files;
 

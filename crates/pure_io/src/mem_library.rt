@@ -4,7 +4,7 @@ ghost use Rattle.pure_io.specs.Outside.{text_named};
 
 use crate::failures::Failures;
 use crate::library::{File, LibFault, Library, ReadFault};
-use pure_term::Text;
+use pure_text::Text;
 use std::alloc::{AllocError, Global};
 use std::marker::Model;
 use std::rt::Files;

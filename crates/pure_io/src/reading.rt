@@ -5,7 +5,7 @@ ghost use Rattle.std.specs.IoError.{error_kind};
 ghost use Rattle.pure_io.specs.Reading.{read_fault_of, ConsumesAtMost};
 
 use crate::library::ReadFault;
-use pure_term::Text;
+use pure_text::Text;
 use std::alloc::Global;
 use std::io;
 use std::io::{ErrorKind, Read};

@@ -3,7 +3,7 @@ use crate::{
     DirLibrary, Failed, File, Gate, LibFault, Library, MemLibrary, MemSink, OpenGate, ReadFault,
     Sink, StdSink, write_all,
 };
-use pure_term::Text;
+use pure_text::Text;
 use std::alloc::{AllocError, Global};
 use std::env::Env;
 use std::fs::{Files, Permissions};

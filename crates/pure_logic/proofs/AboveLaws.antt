@@ -1,13 +1,13 @@
 -- What is certified over a content is certified over each content above it.
 use Rattle.std.proofs.Common.{ℕ, List, [], ◌∷◌, inl, inr}
-use Rattle.pure_term.specs.Lists.{IsIn, Each, AnyOf}
-use Rattle.pure_term.specs.Typ.{Typ, TFree, TVar, Con, Typs, none, also, typs_count}
-use Rattle.pure_term.specs.Term.{Term, Const, Free, Var, Bound, Abs, App}
-use Rattle.pure_term.specs.Order.{IsInclusion, IsClassBelow, itself, along, HasClassBelow, IsOfClass, AreOfSorts, IsOfSort}
-use Rattle.pure_term.specs.Subst.{IsSortRespecting}
-use Rattle.pure_term.specs.Decl.{Decl, ClassDecl, ConDecl, ArityDecl, ConstDecl, algebra_of, IsDeclaredClass}
-use Rattle.pure_term.specs.Certified.{IsCertifiedSort, IsCertifiedTyp, AreCertifiedTyps, IsInstance, HasCertifiedParts}
-use Rattle.pure_term.proofs.DeclLaws.{declared_classes, declared_arities}
+use Rattle.pure_text.specs.Lists.{IsIn, Each, AnyOf}
+use Rattle.pure_definitions.specs.Typ.{Typ, TFree, TVar, Con, Typs, none, also, typs_count}
+use Rattle.pure_definitions.specs.Term.{Term, Const, Free, Var, Bound, Abs, App}
+use Rattle.pure_definitions.specs.Order.{IsInclusion, IsClassBelow, itself, along, HasClassBelow, IsOfClass, AreOfSorts, IsOfSort}
+use Rattle.pure_definitions.specs.Subst.{IsSortRespecting}
+use Rattle.pure_definitions.specs.Decl.{Decl, ClassDecl, ConDecl, ArityDecl, ConstDecl, algebra_of, IsDeclaredClass}
+use Rattle.pure_definitions.specs.Certified.{IsCertifiedSort, IsCertifiedTyp, AreCertifiedTyps, IsInstance, HasCertifiedParts}
+use Rattle.pure_term_laws.proofs.DeclLaws.{declared_classes, declared_arities}
 use Rattle.pure_logic.specs.Content.{Content, IsBelow, IsCertifiedOf}
 
 pub each-more : {A : Type 0} (P Q : A → Type 0) → ((x : A) → P x → Q x) → (xs : List A) → Each P xs → Each Q xs

@@ -1,11 +1,11 @@
 -- A chain of propositions whose conclusion is among its premises.
 use Rattle.std.proofs.Common.{◌≡◌, ℕ, map, List, [], ◌∷◌, inl, inr, refl, cond, Bool, true, false}
-use Rattle.pure_term.specs.Lists.{IsIn, Each}
-use Rattle.pure_term.specs.Term.{Term, term_eq}
-use Rattle.pure_term.specs.Equality.{term_eq-itself}
+use Rattle.pure_text.specs.Lists.{IsIn, Each}
+use Rattle.pure_definitions.specs.Term.{Term, term_eq}
+use Rattle.pure_definitions.specs.Models.Equality.{term_eq-itself}
 use Rattle.pure_logic.specs.Connectives.{chain}
-use Rattle.pure_term.specs.Typ.{prop}
-use Rattle.pure_term.proofs.ListLaws.{in-map}
+use Rattle.pure_definitions.specs.Typ.{prop}
+use Rattle.pure_text.proofs.ListLaws.{in-map}
 use Rattle.pure_logic.specs.PureContent.{pure_content, proposition_variable}
 use Rattle.pure_logic.proofs.ConnectiveLaws.{pure-below_itself, certified_of, prop-certified}
 use Rattle.pure_logic.specs.Content.{Content, IsProposition}

@@ -1,15 +1,15 @@
 -- The examples of contents.
 use Rattle.std.proofs.Common.{◌≡◌, ◌⊎◌, ℕ, List, [], ◌∷◌, ◌++◌, inl, inr, refl, sym, arith, ap}
 use Rattle.std.specs.Prelude.{Some}
-use Rattle.pure_term.specs.Lists.{IsIn, Each, AnyOf}
-use Rattle.pure_term.specs.Typ.{prop}
-use Rattle.pure_term.specs.Term.{Free}
-use Rattle.pure_term.specs.Order.{Class, Arity, Algebra, IsInclusion, IsClassBelow, itself, along, AreCompatible, AreDomainsBelow, IsCoregular}
-use Rattle.pure_term.specs.Decl.{Decl, ClassDecl, ConDecl, ArityDecl, ConstDecl, AxiomDecl, PromiseDecl, algebra_of}
-use Rattle.pure_term.specs.LawsExamples.{i, j, c, d, e, arity, class_above}
-use Rattle.pure_term.proofs.DeclLaws.{declared_classes, declared_arities}
-use Rattle.pure_term.proofs.OrderExamples.{crossing_is_not_coregular}
-use Rattle.pure_term.proofs.OrderLaws.{sort_below-itself}
+use Rattle.pure_text.specs.Lists.{IsIn, Each, AnyOf}
+use Rattle.pure_definitions.specs.Typ.{prop}
+use Rattle.pure_definitions.specs.Term.{Free}
+use Rattle.pure_definitions.specs.Order.{Class, Arity, Algebra, IsInclusion, IsClassBelow, itself, along, AreCompatible, AreDomainsBelow, IsCoregular}
+use Rattle.pure_definitions.specs.Decl.{Decl, ClassDecl, ConDecl, ArityDecl, ConstDecl, AxiomDecl, PromiseDecl, algebra_of}
+use Rattle.pure_term_laws.specs.LawsExamples.{i, j, c, d, e, arity, class_above}
+use Rattle.pure_term_laws.proofs.DeclLaws.{declared_classes, declared_arities}
+use Rattle.pure_term_laws.proofs.OrderExamples.{crossing_is_not_coregular}
+use Rattle.pure_definitions.proofs.OrderLaws.{sort_below-itself}
 use Rattle.pure_logic.specs.Content.{TheoryId, IsContent, IsMerge, IsWellFormed, AreNamedAlike, AreLabelledAlike}
 use Rattle.pure_logic.specs.PureContent.{pure_declarations, proposition_variable}
 use Rattle.pure_logic.specs.ExampleContent.{promised, example}

@@ -1,12 +1,12 @@
 -- Whether the classes and type constructors of a sort or type are declared, decided; and maps that are read at such sorts and types alone.
 use Rattle.std.proofs.Common.{◌≡◌, ℕ, List, [], ◌∷◌, Bool, true, false, nat_eq, inl, inr, ◌⊎◌, ap, refl}
 use Rattle.std.proofs.lemmas.Bool.{eq-eqb, eqb-true}
-use Rattle.pure_term.specs.Lists.{IsIn, Each}
-use Rattle.pure_term.specs.Typ.{Typ, TFree, TVar, Con, Typs, none, also, typs_count}
-use Rattle.pure_term.specs.Term.{Term, Const, Free, Var, Bound, Abs, App}
-use Rattle.pure_term.specs.Subst.{typ_instance, typs_instance, term_instance}
-use Rattle.pure_term.specs.Decl.{Decl, ClassDecl, ConDecl, IsDeclaredClass}
-use Rattle.pure_term.specs.Certified.{IsCertifiedTyp, AreCertifiedTyps, HasCertifiedParts}
+use Rattle.pure_text.specs.Lists.{IsIn, Each}
+use Rattle.pure_definitions.specs.Typ.{Typ, TFree, TVar, Con, Typs, none, also, typs_count}
+use Rattle.pure_definitions.specs.Term.{Term, Const, Free, Var, Bound, Abs, App}
+use Rattle.pure_definitions.specs.Subst.{typ_instance, typs_instance, term_instance}
+use Rattle.pure_definitions.specs.Decl.{Decl, ClassDecl, ConDecl, IsDeclaredClass}
+use Rattle.pure_definitions.specs.Certified.{IsCertifiedTyp, AreCertifiedTyps, HasCertifiedParts}
 
 abbrev pub Decided : Type 0 → Type 0
 Decided P = P ⊎ (¬ P)

@@ -1,11 +1,11 @@
 -- Merges of contents.
 use Rattle.std.proofs.Common.{◌≡◌, ◌↔◌, ◌⊎◌, List, [], ◌∷◌, ◌++◌, inl, inr, sym, ◌∙◌, refl}
-use Rattle.pure_term.specs.Lists.{IsIn, Each, AnyOf, AreDistinct}
-use Rattle.pure_term.specs.Order.{IsCoregular}
-use Rattle.pure_term.specs.Typ.{prop}
-use Rattle.pure_term.specs.Term.{Term}
-use Rattle.pure_term.specs.Decl.{Decl, ClassDecl, ConDecl, ArityDecl, ConstDecl, AxiomDecl, PromiseDecl, algebra_of}
-use Rattle.pure_term.proofs.ListLaws.{each_of, in-append_left, in-append_right}
+use Rattle.pure_text.specs.Lists.{IsIn, Each, AnyOf, AreDistinct}
+use Rattle.pure_definitions.specs.Order.{IsCoregular}
+use Rattle.pure_definitions.specs.Typ.{prop}
+use Rattle.pure_definitions.specs.Term.{Term}
+use Rattle.pure_definitions.specs.Decl.{Decl, ClassDecl, ConDecl, ArityDecl, ConstDecl, AxiomDecl, PromiseDecl, algebra_of}
+use Rattle.pure_text.proofs.ListLaws.{each_of, in-append_left, in-append_right}
 use Rattle.pure_logic.specs.Content.{TheoryId, Content, IsStatement, IsWellFormed, IsContent, IsBelow, IsBeginning, IsAdded, IsMergeAfter, IsMerge}
 use Rattle.pure_logic.specs.LawsContent.{AreAgreed}
 use Rattle.pure_logic.proofs.ChainLaws.{each-at}

@@ -1,14 +1,14 @@
 -- What each node concludes over the content of the examples, and where it concludes nothing.
 use Rattle.std.proofs.Common.{◌≡◌, ℕ, [], ◌∷◌, inl, inr, refl, arith}
-use Rattle.pure_term.specs.Lists.{IsIn}
-use Rattle.pure_term.specs.Typ.{arrow, prop}
-use Rattle.pure_term.specs.Term.{Term, Const, Free, Bound, Abs, App}
-use Rattle.pure_term.specs.Order.{Arity}
-use Rattle.pure_term.specs.Bounds.{Occurs}
-use Rattle.pure_term.specs.Decl.{ConDecl, ConstDecl, AxiomDecl, PromiseDecl}
-use Rattle.pure_term.specs.Certified.{HasCertifiedParts}
-use Rattle.pure_term.specs.LawsExamples.{i, j, c, a, f, x, y, any_x, sort_of}
-use Rattle.pure_term.specs.LawsSubst.{for_a}
+use Rattle.pure_text.specs.Lists.{IsIn}
+use Rattle.pure_definitions.specs.Typ.{arrow, prop}
+use Rattle.pure_definitions.specs.Term.{Term, Const, Free, Bound, Abs, App}
+use Rattle.pure_definitions.specs.Order.{Arity}
+use Rattle.pure_definitions.specs.Bounds.{Occurs}
+use Rattle.pure_definitions.specs.Decl.{ConDecl, ConstDecl, AxiomDecl, PromiseDecl}
+use Rattle.pure_definitions.specs.Certified.{HasCertifiedParts}
+use Rattle.pure_term_laws.specs.LawsExamples.{i, j, c, a, f, x, y, any_x, sort_of}
+use Rattle.pure_term_laws.specs.LawsSubst.{for_a}
 use Rattle.pure_logic.specs.Connectives.{all, imp, eq}
 use Rattle.pure_logic.specs.Content.{IsCertifiedOf, IsProposition}
 use Rattle.pure_logic.specs.Tree.{Assume, ImpliesIntro}

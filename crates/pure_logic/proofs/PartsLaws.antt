@@ -1,11 +1,11 @@
 -- A term with certified parts has a certified type.
 use Rattle.std.proofs.Common.{◌≡◌, ℕ, zero, suc, List, [], ◌∷◌}
 use Rattle.std.specs.Prelude.{slice_get, Some}
-use Rattle.pure_term.specs.Lists.{Each}
-use Rattle.pure_term.specs.Typ.{Typ, arrow}
-use Rattle.pure_term.specs.Term.{Term, Const, Free, Var, Bound, Abs, App}
-use Rattle.pure_term.specs.Typing.{HasType}
-use Rattle.pure_term.specs.Certified.{IsCertifiedTyp, HasCertifiedParts}
+use Rattle.pure_text.specs.Lists.{Each}
+use Rattle.pure_definitions.specs.Typ.{Typ, arrow}
+use Rattle.pure_definitions.specs.Term.{Term, Const, Free, Var, Bound, Abs, App}
+use Rattle.pure_definitions.specs.Typing.{HasType}
+use Rattle.pure_definitions.specs.Certified.{IsCertifiedTyp, HasCertifiedParts}
 use Rattle.pure_logic.specs.Content.{Content, IsBelow}
 use Rattle.pure_logic.specs.PureContent.{pure_content}
 use Rattle.pure_logic.proofs.ConnectiveLaws.{arrow-certified}

@@ -1,13 +1,13 @@
 -- Weakening: what a tree concludes over a content, a tree concludes over each content above it.
 use Rattle.std.proofs.Common.{◌≡◌, ℕ, List, [], ◌+◌, ◌++◌, ap, refl}
-use Rattle.pure_term.specs.Typ.{Typ, TFree, TVar, Con, Typs, none, also, typs_count, arrow, prop}
-use Rattle.pure_term.specs.Term.{Term, Free, Var}
-use Rattle.pure_term.specs.Typing.{HasType}
-use Rattle.pure_term.specs.Order.{IsOfSort}
-use Rattle.pure_term.specs.Subst.{typ_instance, typs_instance, IsSortRespecting, IsTypeRespecting}
-use Rattle.pure_term.specs.Decl.{Decl, AxiomDecl, PromiseDecl, algebra_of}
-use Rattle.pure_term.specs.Certified.{IsCertifiedSort, IsCertifiedTyp, AreCertifiedTyps, HasCertifiedParts, AreImagesCertified}
-use Rattle.pure_term.proofs.OrderLaws.{sort_below-itself}
+use Rattle.pure_definitions.specs.Typ.{Typ, TFree, TVar, Con, Typs, none, also, typs_count, arrow, prop}
+use Rattle.pure_definitions.specs.Term.{Term, Free, Var}
+use Rattle.pure_definitions.specs.Typing.{HasType}
+use Rattle.pure_definitions.specs.Order.{IsOfSort}
+use Rattle.pure_definitions.specs.Subst.{typ_instance, typs_instance, IsSortRespecting, IsTypeRespecting}
+use Rattle.pure_definitions.specs.Decl.{Decl, AxiomDecl, PromiseDecl, algebra_of}
+use Rattle.pure_definitions.specs.Certified.{IsCertifiedSort, IsCertifiedTyp, AreCertifiedTyps, HasCertifiedParts, AreImagesCertified}
+use Rattle.pure_definitions.proofs.OrderLaws.{sort_below-itself}
 use Rattle.pure_logic.specs.Connectives.{all, imp}
 use Rattle.pure_logic.specs.Content.{Content, IsContent, IsBelow, IsWellFormed}
 use Rattle.pure_logic.specs.Tree.{Tree, Axiom, Promise, Assume, AllIntro, AllElim, ImpliesIntro, ImpliesElim, Beta, Refl, Subst, Ext, Iff, without, hyps_of, rests_of}

@@ -1,7 +1,7 @@
 -- Laws of what trees conclude: propositions of the content.
 use Rattle.std.specs.Prelude.{[]}
-use Rattle.pure_term.specs.Lists.{Each}
-use Rattle.pure_term.specs.Term.{Term, Var}
+use Rattle.pure_text.specs.Lists.{Each}
+use Rattle.pure_definitions.specs.Term.{Term, Var}
 use Rattle.pure_logic.specs.Connectives.{eq}
 use Rattle.pure_logic.specs.Content.{Content, IsContent, IsBelow, IsProposition}
 use Rattle.pure_logic.specs.PureContent.{pure_content, any_typ}

@@ -1,10 +1,10 @@
 -- Laws and examples of contents.
 use Rattle.std.specs.Prelude.{◌≡◌, ◌↔◌, ℕ, List, [], ◌∷◌, ◌++◌, Some, None}
-use Rattle.pure_term.specs.Lists.{IsIn, Each, AnyOf, AreDistinct}
-use Rattle.pure_term.specs.Typ.{TFree, TVar, arrow, prop}
-use Rattle.pure_term.specs.Term.{Const, Free, Var, Bound, Abs, App}
-use Rattle.pure_term.specs.Decl.{Decl, ClassDecl, ConDecl, ArityDecl, ConstDecl, AxiomDecl, PromiseDecl}
-use Rattle.pure_term.specs.LawsExamples.{i, j, k, c, d, e, a, f, x, any_x, class_above, arity}
+use Rattle.pure_text.specs.Lists.{IsIn, Each, AnyOf, AreDistinct}
+use Rattle.pure_definitions.specs.Typ.{TFree, TVar, arrow, prop}
+use Rattle.pure_definitions.specs.Term.{Const, Free, Var, Bound, Abs, App}
+use Rattle.pure_definitions.specs.Decl.{Decl, ClassDecl, ConDecl, ArityDecl, ConstDecl, AxiomDecl, PromiseDecl}
+use Rattle.pure_term_laws.specs.LawsExamples.{i, j, k, c, d, e, a, f, x, any_x, class_above, arity}
 use Rattle.pure_logic.specs.Connectives.{eq}
 use Rattle.pure_logic.specs.Content.{TheoryId, Content, IsSchematic, AreNamedAlike, AreLabelledAlike, IsContent, IsBelow, IsMerge, IsBeginning, definition}
 use Rattle.pure_logic.specs.PureContent.{pure_content, pure_declarations, proposition_variable}

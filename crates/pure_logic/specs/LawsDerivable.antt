@@ -1,7 +1,7 @@
 -- Laws of derivability from a content's axioms alone.
 use Rattle.std.specs.Prelude.{ℕ, List, map}
-use Rattle.pure_term.specs.Lists.{IsIn, Each}
-use Rattle.pure_term.specs.Term.{Term}
+use Rattle.pure_text.specs.Lists.{IsIn, Each}
+use Rattle.pure_definitions.specs.Term.{Term}
 use Rattle.pure_logic.specs.Connectives.{imp, chain}
 use Rattle.pure_logic.specs.Content.{Content, IsContent, IsBelow, IsProposition}
 use Rattle.pure_logic.specs.PureContent.{pure_content, proposition_variable}

@@ -1,10 +1,10 @@
 -- What each node of a tree concludes, by example, and where it concludes nothing.
 use Rattle.std.specs.Prelude.{◌≡◌, List, [], ◌∷◌}
-use Rattle.pure_term.specs.Typ.{Typ, Con, none, arrow, prop}
-use Rattle.pure_term.specs.Term.{Term, Const, Free, Bound, Abs, App}
-use Rattle.pure_term.specs.Subst.{TermBind, typ_image}
-use Rattle.pure_term.specs.LawsExamples.{i, j, a, f, x, y, any_x}
-use Rattle.pure_term.specs.LawsSubst.{for_a}
+use Rattle.pure_definitions.specs.Typ.{Typ, Con, none, arrow, prop}
+use Rattle.pure_definitions.specs.Term.{Term, Const, Free, Bound, Abs, App}
+use Rattle.pure_definitions.specs.Subst.{TermBind, typ_image}
+use Rattle.pure_term_laws.specs.LawsExamples.{i, j, a, f, x, y, any_x}
+use Rattle.pure_term_laws.specs.LawsSubst.{for_a}
 use Rattle.pure_logic.specs.Connectives.{all_of, all, imp, eq}
 use Rattle.pure_logic.specs.Content.{IsContent}
 use Rattle.pure_logic.specs.Tree.{Tree, Axiom, Promise, Assume, AllIntro, AllElim, ImpliesIntro, ImpliesElim, Beta, Refl, Subst, Ext, Iff, hyps_of, rests_of, joined_terms}

@@ -1,11 +1,11 @@
 -- The walk from a whole term gives the normaliser's answer.
 use Rattle.std.proofs.Common.{◌≡◌, ℕ, zero, suc, ◌-◌, ◌≤◌, List, [], ◌∷◌, length, refl, ap, sym, subst, arith}
 use Rattle.std.specs.Prelude.{Some, Err}
-use Rattle.pure_term.specs.Lists.{Each}
-use Rattle.pure_term.specs.Term.{Term, IsWithin, term_size, max_size}
-use Rattle.pure_term.specs.Limits.{cut_off}
-use Rattle.pure_term.specs.Beta.{IsBetaNormal, beta_step, IsBetaSequence, TooLarge, NormalForm, TooManySteps, max_steps, IsBetaAnswer}
-use Rattle.pure_term.proofs.BetaLaws.{normal-no_step}
+use Rattle.pure_text.specs.Lists.{Each}
+use Rattle.pure_definitions.specs.Term.{Term, IsWithin, term_size, max_size}
+use Rattle.pure_definitions.specs.Limits.{cut_off}
+use Rattle.pure_definitions.specs.Beta.{IsBetaNormal, beta_step, IsBetaSequence, TooLarge, NormalForm, TooManySteps, max_steps, IsBetaAnswer}
+use Rattle.pure_term_laws.proofs.BetaLaws.{normal-no_step}
 use Rattle.pure_norm.specs.declared.walk.Until.TheVariants.{Normal}
 use Rattle.pure_norm.specs.declared.walk.Walk.{Walk}
 use Rattle.pure_norm.specs.declared.fault.NormFault.{NormFault}

@@ -1,17 +1,17 @@
 -- Beta steps keep types, certification and closedness; and normal forms.
 use Rattle.std.proofs.Common.{◌≡◌, ℕ, ◌+◌, List, [], ◌∷◌, refl, subst, arith}
 use Rattle.std.specs.Prelude.{Some}
-use Rattle.pure_term.specs.Typ.{Typ, arrow}
-use Rattle.pure_term.specs.Term.{Term, Const, Free, Var, Bound, Abs, App, IsWithin}
-use Rattle.pure_term.specs.Typing.{HasType}
-use Rattle.pure_term.specs.Bounds.{IsClosedUnder, lift_term, subst_under}
-use Rattle.pure_term.specs.Decl.{Decl}
-use Rattle.pure_term.specs.Certified.{HasCertifiedParts, IsCertified}
-use Rattle.pure_term.specs.Beta.{IsAbs, IsBetaNormal, beta_step, IsBetaSequence, IsBetaAnswer, NormalForm}
-use Rattle.pure_term.proofs.LiftLaws.{lift_term-bound}
-use Rattle.pure_term.proofs.BetaLaws.{one_beta_sequence_to_normal}
-use Rattle.pure_term.proofs.TypingBoundLaws.{typing-subst}
-use Rattle.pure_term.proofs.CertifiedLaws.{parts-subst}
+use Rattle.pure_definitions.specs.Typ.{Typ, arrow}
+use Rattle.pure_definitions.specs.Term.{Term, Const, Free, Var, Bound, Abs, App, IsWithin}
+use Rattle.pure_definitions.specs.Typing.{HasType}
+use Rattle.pure_definitions.specs.Bounds.{IsClosedUnder, lift_term, subst_under}
+use Rattle.pure_definitions.specs.Decl.{Decl}
+use Rattle.pure_definitions.specs.Certified.{HasCertifiedParts, IsCertified}
+use Rattle.pure_definitions.specs.Beta.{IsAbs, IsBetaNormal, beta_step, IsBetaSequence, IsBetaAnswer, NormalForm}
+use Rattle.pure_definitions.proofs.LiftLaws.{lift_term-bound}
+use Rattle.pure_term_laws.proofs.BetaLaws.{one_beta_sequence_to_normal}
+use Rattle.pure_term_laws.proofs.TypingBoundLaws.{typing-subst}
+use Rattle.pure_term_laws.proofs.CertifiedLaws.{parts-subst}
 use Rattle.pure_norm.specs.LawsBeta.{NormalFormIsNormal, NormalFormIsWithin, OneNormalForm, NormalFormOfNormal, StepKeepsType, StepKeepsCertified, StepKeepsClosed, NormalFormKeepsType, NormalFormKeepsCertified, NormalFormKeepsClosed, NormalUnderLift}
 use Rattle.pure_norm.proofs.StepLemmas.{IsStep, contracted, in_function, in_argument, in_body, step-is_step, step-closed}
 

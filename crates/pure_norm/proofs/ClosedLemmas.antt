@@ -2,10 +2,10 @@
 use Rattle.std.proofs.Common.{◌≡◌, ℕ, ◌+◌, ◌<◌, ◌≤◌, Bool, true, false, refl, arith}
 use Rattle.std.proofs.lemmas.Bool.Decides.{nat_tests}
 use Rattle.std.specs.Prelude.{◌-◌, nat_eq, nat_lt, if◌then◌else◌}
-use Rattle.pure_term.specs.Term.{Term, Const, Free, Var, Bound, Abs, App, term_depth}
-use Rattle.pure_term.specs.Bounds.{IsClosedUnder, lift_term, place_at, subst_under}
-use Rattle.pure_term.specs.Conditions.{IsLiftable, IsPuttable}
-use Rattle.pure_term.proofs.LiftLaws.{lift_term-bound}
+use Rattle.pure_definitions.specs.Term.{Term, Const, Free, Var, Bound, Abs, App, term_depth}
+use Rattle.pure_definitions.specs.Bounds.{IsClosedUnder, lift_term, place_at, subst_under}
+use Rattle.pure_definitions.specs.Conditions.{IsLiftable, IsPuttable}
+use Rattle.pure_definitions.proofs.LiftLaws.{lift_term-bound}
 
 -- More binders do too.
 pub closed-more : (n m : ℕ) (t : Term) → n ≤ m → IsClosedUnder n t → IsClosedUnder m t

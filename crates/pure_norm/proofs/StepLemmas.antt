@@ -1,11 +1,11 @@
 -- One beta step: where it is taken, and how a step of a part is a step of the whole.
 use Rattle.std.proofs.Common.{◌≡◌, ◌⊎◌, inl, inr, ℕ, ◌+◌, refl, subst, arith}
 use Rattle.std.specs.Prelude.{Option, Some, None, option_map}
-use Rattle.pure_term.specs.Typ.{Typ}
-use Rattle.pure_term.specs.Term.{Term, Abs, App}
-use Rattle.pure_term.specs.Bounds.{IsClosedUnder, subst_bound}
-use Rattle.pure_term.specs.Beta.{IsAbs, IsBetaNormal, app_step, beta_step}
-use Rattle.pure_term.proofs.BetaLaws.{normal-no_step}
+use Rattle.pure_definitions.specs.Typ.{Typ}
+use Rattle.pure_definitions.specs.Term.{Term, Abs, App}
+use Rattle.pure_definitions.specs.Bounds.{IsClosedUnder, subst_bound}
+use Rattle.pure_definitions.specs.Beta.{IsAbs, IsBetaNormal, app_step, beta_step}
+use Rattle.pure_term_laws.proofs.BetaLaws.{normal-no_step}
 use Rattle.pure_norm.proofs.ClosedLemmas.{closed-subst}
 
 -- the step of an application whose function is no abstraction

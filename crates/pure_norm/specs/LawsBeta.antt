@@ -1,12 +1,12 @@
 -- What a beta step keeps of a term, and so its normal form; what a normal form is.
 use Rattle.std.specs.Prelude.{◌≡◌, ◌↔◌, ℕ, List, Some}
-use Rattle.pure_term.specs.Typ.{Typ}
-use Rattle.pure_term.specs.Term.{Term, IsWithin}
-use Rattle.pure_term.specs.Typing.{HasType}
-use Rattle.pure_term.specs.Bounds.{IsClosedUnder, lift_term}
-use Rattle.pure_term.specs.Decl.{Decl}
-use Rattle.pure_term.specs.Certified.{IsCertified}
-use Rattle.pure_term.specs.Beta.{IsBetaNormal, beta_step, IsBetaSequence, IsBetaAnswer, NormalForm}
+use Rattle.pure_definitions.specs.Typ.{Typ}
+use Rattle.pure_definitions.specs.Term.{Term, IsWithin}
+use Rattle.pure_definitions.specs.Typing.{HasType}
+use Rattle.pure_definitions.specs.Bounds.{IsClosedUnder, lift_term}
+use Rattle.pure_definitions.specs.Decl.{Decl}
+use Rattle.pure_definitions.specs.Certified.{IsCertified}
+use Rattle.pure_definitions.specs.Beta.{IsBetaNormal, beta_step, IsBetaSequence, IsBetaAnswer, NormalForm}
 
 -- A normal form has no redex.
 abbrev pub NormalFormIsNormal : Type 0

@@ -1,4 +1,4 @@
-ghost use Rattle.pure_term.specs.Bounds.{IsClosed};
+ghost use Rattle.pure_definitions.specs.Bounds.{IsClosed};
 ghost use Rattle.pure_norm.specs.NormAnswer.{IsNormAnswer};
 
 use crate::fault::NormFault;

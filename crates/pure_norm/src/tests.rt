@@ -4,7 +4,7 @@
 //! which takes 2 ^ (count + 1) - 1 steps; and `N` before the letter is its normal form. `F` before a number, a dot and a term is f applied so many times to it; `W` before
 //! a number and a dot is a variable of that size.
 ghost use Rattle.std.specs.Prelude.{IsTrue};
-ghost use Rattle.pure_term.specs.Bounds.{IsClosedUnder};
+ghost use Rattle.pure_definitions.specs.Bounds.{IsClosedUnder};
 
 use crate::{NormFault, beta_norm};
 use pure_term::{Name, Term, TermNode, Typ, TypNode};

@@ -1,5 +1,5 @@
 ghost use Rattle.std.specs.Prelude.{◌≡◌, ◌+◌, ◌<◌, ◌≤◌, IfOk, IfErr};
-ghost use Rattle.pure_term.specs.Term.{App};
+ghost use Rattle.pure_definitions.specs.Term.{App};
 ghost use Rattle.pure_norm.specs.Walk.{CanWalk, Walked, Fails, IsOver, Descended, IsContracted, CannotContract};
 
 use crate::fault::NormFault;

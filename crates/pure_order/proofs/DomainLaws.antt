@@ -1,9 +1,9 @@
 -- Types under the order of sorts, and the greatest domains.
 use Rattle.std.proofs.Common.{◌≡◌, ℕ, List, [], ◌∷◌, ◌↔◌, Bool, IsTrue}
-use Rattle.pure_term.specs.Lists.{EachTwo}
-use Rattle.pure_term.specs.Typ.{Typ, TFree, TVar, Con, Typs, none, also, typs_of}
-use Rattle.pure_term.specs.Order.{Arity, Algebra, IsClassBelow, HasClassBelow, IsSortBelow, IsOfClass, IsOfSort, AreOfSorts, IsCoregular}
-use Rattle.pure_term.proofs.ListLaws.{each_of}
+use Rattle.pure_text.specs.Lists.{EachTwo}
+use Rattle.pure_definitions.specs.Typ.{Typ, TFree, TVar, Con, Typs, none, also, typs_of}
+use Rattle.pure_definitions.specs.Order.{Arity, Algebra, IsClassBelow, HasClassBelow, IsSortBelow, IsOfClass, IsOfSort, AreOfSorts, IsCoregular}
+use Rattle.pure_text.proofs.ListLaws.{each_of}
 use Rattle.pure_order_tables.specs.Arities.{IsGreatestIfAny}
 use Rattle.pure_order_tables.specs.Checks.{IsDecided}
 use Rattle.pure_order_tables.proofs.ListMore.{any_some, any_imply, each_at}

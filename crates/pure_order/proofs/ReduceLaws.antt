@@ -4,8 +4,8 @@ use Rattle.std.proofs.Math.ListN.{get_or-append}
 use Rattle.std.proofs.Math.Seq.{get_or-append_seam}
 use Rattle.std.proofs.lemmas.Grind.{get_or_default_zero}
 use Rattle.std.specs.List.Sorted.{IsStrictlyIncreasing}
-use Rattle.pure_term.specs.Lists.{IsIn}
-use Rattle.pure_term.proofs.ListLaws.{in-append_left, in-append_right}
+use Rattle.pure_text.specs.Lists.{IsIn}
+use Rattle.pure_text.proofs.ListLaws.{in-append_left, in-append_right}
 use Rattle.pure_order_tables.proofs.ListMore.{in_split, in_turn}
 use Rattle.pure_order_tables.proofs.NameLaws.{increasing_far, place_in, in_at_place}
 

@@ -2,10 +2,10 @@
 use Rattle.std.proofs.Common.{◌≡◌, ℕ, ◌+◌, ◌<◌, ◌≤◌, ◌⊎◌, ◌↔◌, inl, inr, List, [], length, get_or, take, take_all, refl, sym, arith, Bool, IsTrue}
 use Rattle.std.proofs.lemmas.Bool.Decides.{eqb_tells}
 use Rattle.std.proofs.lemmas.List.{get_or_default}
-use Rattle.pure_term.specs.Lists.{EachTwo}
-use Rattle.pure_term.specs.Typ.{Typ, Con, typs_of}
-use Rattle.pure_term.specs.Order.{Algebra, IsOfClass, IsOfSort}
-use Rattle.pure_term.proofs.ListLaws.{each_of}
+use Rattle.pure_text.specs.Lists.{EachTwo}
+use Rattle.pure_definitions.specs.Typ.{Typ, Con, typs_of}
+use Rattle.pure_definitions.specs.Order.{Algebra, IsOfClass, IsOfSort}
+use Rattle.pure_text.proofs.ListLaws.{each_of}
 use Rattle.pure_order_tables.specs.Arities.{IsGreatest}
 use Rattle.pure_order_tables.specs.ArityTable.{IsPlace}
 use Rattle.pure_order_tables.specs.Checks.{IsDecided}

@@ -1,6 +1,6 @@
 -- Three unrelated classes, for the example of a merge.
 use Rattle.std.specs.Prelude.{List, [], ◌∷◌, ℕ}
-use Rattle.pure_term.specs.Order.{Class}
+use Rattle.pure_definitions.specs.Order.{Class}
 
 -- a class with none above it
 abbrev pub bare : ℕ → Class

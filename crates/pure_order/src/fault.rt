@@ -1,4 +1,4 @@
-use pure_term::Name;
+use pure_typ::Name;
 use std::alloc::AllocError;
 
 /// Why a class, an arity or another order can't be added.

@@ -1,7 +1,7 @@
 ghost use Rattle.std.specs.Prelude.{◌≡◌, ◌↔◌, ℕ, [], ◌∷◌, IsTrue, OnOk, OnErr, IfOk, IfErr, MatchOption};
-ghost use Rattle.pure_term.specs.Lists.{IsIn, Each, AnyOf};
-ghost use Rattle.pure_term.specs.Typ.{Typs, Con};
-ghost use Rattle.pure_term.specs.Order.{Arity, IsClassBelow, IsSortBelow, IsOfClass, IsOfSort, AreOfSorts, IsCoregular};
+ghost use Rattle.pure_text.specs.Lists.{IsIn, Each, AnyOf};
+ghost use Rattle.pure_definitions.specs.Typ.{Typs, Con};
+ghost use Rattle.pure_definitions.specs.Order.{Arity, IsClassBelow, IsSortBelow, IsOfClass, IsOfSort, AreOfSorts, IsCoregular};
 ghost use Rattle.pure_order_tables.specs.Classes.{Agree, IsDeclared};
 ghost use Rattle.pure_order_tables.specs.Arities.{IsArityBelow, IsKnown, IsUnion, with_class, with_arity};
 ghost use Rattle.pure_order_tables.specs.Checks.{IsDirected};
@@ -13,7 +13,7 @@ use crate::fault::OrderFault;
 use crate::places::MOST_PLACES;
 use crate::walk::is_of_sort;
 use pure_order_tables::{ArityEntry, Tables};
-use pure_term::{Name, Sort, Typ, TypNode};
+use pure_typ::{Name, Sort, Typ, TypNode};
 use std::alloc::{AllocError, Global};
 use std::marker::Model;
 
@@ -24,7 +24,7 @@ pub struct Order {
 }
 
 impl Model for Order {
-    ghost use Rattle.pure_term.specs.Order.{Algebra, IsCoregular};
+    ghost use Rattle.pure_definitions.specs.Order.{Algebra, IsCoregular};
 
     ghost Value = { Algebra };
 

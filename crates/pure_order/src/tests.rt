@@ -2,7 +2,7 @@ ghost use Rattle.std.specs.Prelude.{◌<◌, ◌≡◌, IfOk};
 ghost use Rattle.pure_order.specs.Flat.{flat};
 
 use crate::{Order, OrderFault};
-use pure_term::{Name, Sort, Typ, TypNode};
+use pure_typ::{Name, Sort, Typ, TypNode};
 use std::alloc::{AllocError, Global};
 use std::test::Fail;
 

@@ -1,13 +1,13 @@
 ghost use Rattle.std.specs.Prelude.{◌≡◌, ◌↔◌, ◌<◌, ℕ, List, IsTrue, MatchBool, MatchOption, length};
-ghost use Rattle.pure_term.specs.Typ as tree;
-ghost use Rattle.pure_term.specs.Typ.{Con, typs_of};
-ghost use Rattle.pure_term.specs.Order.{IsOfClass, IsOfSort, IsSortBelow};
+ghost use Rattle.pure_definitions.specs.Typ as tree;
+ghost use Rattle.pure_definitions.specs.Typ.{Con, typs_of};
+ghost use Rattle.pure_definitions.specs.Order.{IsOfClass, IsOfSort, IsSortBelow};
 ghost use Rattle.pure_order.specs.Places.{Holds};
 ghost use Rattle.pure_order.specs.Walk.{IsWalkable, domains_at, domain_at, HasDomain, IsGreatestPlace, HaveDomain, HaveDomains, IsOfDomain, AreOfDomains, AsksMore};
 
 use crate::places::Places;
 use pure_order_tables::Tables;
-use pure_term::{Name, Sort, Typ, TypNode};
+use pure_typ::{Name, Sort, Typ, TypNode};
 
 /// The domains of the arity at the place.
 fn domains(tables: &Tables, place: usize) -> &[Sort]

@@ -2,10 +2,10 @@
 use Rattle.std.proofs.Common.{◌≡◌, ℕ, List, [], ◌∷◌, length, get_or, refl, inl, inr, ◌⊎◌, Option, Some, None, MatchOption, arith, length-append}
 use Rattle.std.proofs.Math.ListN.{get_or-append}
 use Rattle.std.proofs.Math.Seq.{get_or-append_seam}
-use Rattle.pure_term.specs.Lists.{IsIn, Each, AnyOf, EachTwo}
-use Rattle.pure_term.specs.Order.{Class, Arity, Algebra, IsClassBelow, IsSortBelow, HasClassBelow, AreDomainsBelow}
-use Rattle.pure_term.proofs.ListLaws.{each_of, any_of, in-append_left, in-append_right}
-use Rattle.pure_term.proofs.OrderLaws.{sort_below-itself}
+use Rattle.pure_text.specs.Lists.{IsIn, Each, AnyOf, EachTwo}
+use Rattle.pure_definitions.specs.Order.{Class, Arity, Algebra, IsClassBelow, IsSortBelow, HasClassBelow, AreDomainsBelow}
+use Rattle.pure_text.proofs.ListLaws.{each_of, any_of, in-append_left, in-append_right}
+use Rattle.pure_definitions.proofs.OrderLaws.{sort_below-itself}
 use Rattle.pure_order_tables.specs.Classes.{IsDeclared, Follows}
 use Rattle.pure_order_tables.specs.Arities.{IsArityBelow, IsGreatest, IsGreatestIfAny, IsKnown, with_class, with_arity}
 use Rattle.pure_order_tables.specs.Checks.{IsDecided}

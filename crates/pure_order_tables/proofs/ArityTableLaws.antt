@@ -2,8 +2,8 @@
 use Rattle.std.proofs.Common.{◌≡◌, ℕ, List, [], ◌∷◌, ◌++◌, length, get_or, refl, ap, sym, subst, inl, inr, ◌⊎◌, ◌↔◌, Bool, true, false, IsTrue, MatchBool, Option, Some, None, MatchOption, ◌∙◌}
 use Rattle.std.specs.BTreeMap.{BTreeMap, get, Updates}
 use Rattle.std.specs.Ordering.{nat_cmp}
-use Rattle.pure_term.specs.Lists.{IsIn, EachTwo}
-use Rattle.pure_term.specs.Order.{Class, Arity, Algebra, IsClassBelow, IsSortBelow}
+use Rattle.pure_text.specs.Lists.{IsIn, EachTwo}
+use Rattle.pure_definitions.specs.Order.{Class, Arity, Algebra, IsClassBelow, IsSortBelow}
 use Rattle.pure_order_tables.specs.Classes.{IsDeclared, Follows}
 use Rattle.pure_order_tables.specs.Arities.{IsArityBelow, IsGreatestIfAny, IsAboveGreatest, IsNotAbove, IsKnown, with_class, with_arity}
 use Rattle.std.proofs.Math.ListN.{get_or-map}

@@ -1,9 +1,9 @@
 -- The class order: chains of paths, and what one more class changes.
 use Rattle.std.proofs.Common.{◌≡◌, ℕ, List, [], ◌∷◌, ◌++◌, refl, ap, sym, inl, inr, ◌↔◌, append_assoc, append-nil, ◌∙◌, subst, Bool, IsTrue}
 use Rattle.pure_order_tables.specs.Checks.{IsDecided}
-use Rattle.pure_term.specs.Lists.{IsIn, Each}
-use Rattle.pure_term.specs.Order.{Class, Algebra, IsClassBelow, itself, along}
-use Rattle.pure_term.proofs.ListLaws.{any_of}
+use Rattle.pure_text.specs.Lists.{IsIn, Each}
+use Rattle.pure_definitions.specs.Order.{Class, Algebra, IsClassBelow, itself, along}
+use Rattle.pure_text.proofs.ListLaws.{any_of}
 use Rattle.pure_order_tables.specs.Classes.{IsDeclared, Follows, of_classes}
 use Rattle.pure_order_tables.proofs.ListMore.{in_split, each_at, any-append_left}
 

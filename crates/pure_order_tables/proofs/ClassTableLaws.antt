@@ -4,9 +4,9 @@ use Rattle.std.specs.List.Sorted.{IsStrictlyIncreasing}
 use Rattle.std.specs.BTreeMap.{BTreeMap, get, Updates}
 use Rattle.std.specs.declared.alloc.Global.{Global}
 use Rattle.std.specs.Ordering.{nat_cmp}
-use Rattle.pure_term.specs.Lists.{IsIn, Each, AnyOf}
-use Rattle.pure_term.specs.Order.{Class, IsClassBelow, itself, along}
-use Rattle.pure_term.proofs.ListLaws.{any_of, in-append_left, in-append_right}
+use Rattle.pure_text.specs.Lists.{IsIn, Each, AnyOf}
+use Rattle.pure_definitions.specs.Order.{Class, IsClassBelow, itself, along}
+use Rattle.pure_text.proofs.ListLaws.{any_of, in-append_left, in-append_right}
 use Rattle.std.proofs.lemmas.List.{map-append}
 use Rattle.pure_order_tables.specs.declared.classes.ClassEntry.{ClassEntry}
 use Rattle.pure_order_tables.specs.ClassView.{class_of, classes_of}

@@ -3,9 +3,9 @@ use Rattle.std.proofs.Common.{◌≡◌, ℕ, ◌≤◌, ◌<◌, List, [], ◌�
 use Rattle.std.specs.List.Sorted.{IsStrictlyIncreasing}
 use Rattle.std.proofs.lemmas.Grind.{get_or_default_zero}
 use Rattle.std.specs.Bool.{OnTrue}
-use Rattle.pure_term.specs.Lists.{IsIn, Each, AnyOf}
-use Rattle.pure_term.specs.Order.{Arity, Algebra, IsClassBelow, AreDomainsBelow, IsJoin, AreCompatible, IsCoregular}
-use Rattle.pure_term.proofs.ListLaws.{each_of, any_of, in-append_left, in-append_right}
+use Rattle.pure_text.specs.Lists.{IsIn, Each, AnyOf}
+use Rattle.pure_definitions.specs.Order.{Arity, Algebra, IsClassBelow, AreDomainsBelow, IsJoin, AreCompatible, IsCoregular}
+use Rattle.pure_text.proofs.ListLaws.{each_of, any_of, in-append_left, in-append_right}
 use Rattle.pure_order_tables.specs.Arities.{IsArityBelow, IsGreatestIfAny}
 use Rattle.pure_order_tables.specs.Checks.{IsAboveBoth, Pass, IsDirected, IsBelowOf, PassesWith, Fails, IsInConflict, IsNotAfter, IsLeastConflict, IsLeastFailing, FindsPair, IsLeastPair, HasNoConflict}
 use Rattle.pure_order_tables.proofs.ListMore.{in_split, any_some, each_at, each-append, in_or_not}

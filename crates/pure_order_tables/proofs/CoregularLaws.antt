@@ -4,9 +4,9 @@ use Rattle.std.proofs.lemmas.List.{map-append}
 use Rattle.pure_order_tables.specs.declared.tables.ArityEntry.{ArityEntry}
 use Rattle.pure_order_tables.specs.ArityView.{arity_of, arities_of}
 use Rattle.std.proofs.lemmas.Bool.Decides.{eqb_tells}
-use Rattle.pure_term.specs.Lists.{IsIn, Each, AnyOf}
-use Rattle.pure_term.specs.Order.{Class, Arity, Algebra, IsClassBelow, AreDomainsBelow, IsJoin, AreCompatible, IsCoregular}
-use Rattle.pure_term.proofs.ListLaws.{each_of, any_of, in-append_left, in-append_right}
+use Rattle.pure_text.specs.Lists.{IsIn, Each, AnyOf}
+use Rattle.pure_definitions.specs.Order.{Class, Arity, Algebra, IsClassBelow, AreDomainsBelow, IsJoin, AreCompatible, IsCoregular}
+use Rattle.pure_text.proofs.ListLaws.{each_of, any_of, in-append_left, in-append_right}
 use Rattle.pure_order_tables.specs.Arities.{IsArityBelow, IsGreatest, IsGreatestIfAny, IsKnown, with_class, with_arity}
 use Rattle.pure_order_tables.specs.Checks.{IsAboveBoth, Pass, IsCovered, IsDirected, IsDecided, PassesWith, Fails, FindsFailing, IsLeastInConflict}
 use Rattle.pure_order_tables.proofs.ListMore.{longer_by, in_split, any_some, any_imply, each_at, each-append, any-append_left, any-append_right}

@@ -2,8 +2,8 @@
 use Rattle.std.proofs.Common.{◌≡◌, ℕ, ◌+◌, ◌<◌, ◌≤◌, List, [], ◌∷◌, ◌++◌, length, get_or, take, refl, sym, arith, Result, Ok, Err, OnOk, OnErr, is_ok, Bool, true, false, IsTrue, zero, suc, ap, take_all, take-append-drop, drop, drop-cons, add-one, ◌∙◌, map, inl, inr, ◌⊎◌, ◌↔◌}
 use Rattle.std.proofs.lemmas.List.{take_more}
 use Rattle.std.proofs.lemmas.Bool.Decides.{eqb_tells}
-use Rattle.pure_term.specs.Lists.{IsIn, Each, AnyOf, EachTwo}
-use Rattle.pure_term.proofs.ListLaws.{any_of, in-append_left, in-append_right}
+use Rattle.pure_text.specs.Lists.{IsIn, Each, AnyOf, EachTwo}
+use Rattle.pure_text.proofs.ListLaws.{any_of, in-append_left, in-append_right}
 
 pub in_split : {A : Type 0} (x : A) (xs ys : List A) → IsIn x (xs ++ ys) → IsIn x xs ⊎ IsIn x ys
 in_split x [] ys m = inr m

@@ -5,8 +5,8 @@ use Rattle.std.specs.List.{insert}
 use Rattle.std.proofs.lemmas.Grind.{get_or_default_zero}
 use Rattle.std.specs.List.Sorted.{IsStrictlyIncreasing}
 use Rattle.std.proofs.lemmas.List.Edits.{get_or-insert_at, get_or-insert_below, get_or-insert_above, length-insert}
-use Rattle.pure_term.specs.Lists.{IsIn}
-use Rattle.pure_term.proofs.ListLaws.{in-append_left, in-append_right}
+use Rattle.pure_text.specs.Lists.{IsIn}
+use Rattle.pure_text.proofs.ListLaws.{in-append_left, in-append_right}
 use Rattle.pure_order_tables.proofs.ListMore.{in_split}
 
 below_or_same : (i j : ℕ) → i < suc j → (i < j) ⊎ (i ≡ j)

@@ -1,9 +1,9 @@
 -- One turn of a union of classes.
 use Rattle.std.proofs.Common.{◌≡◌, ℕ, ◌+◌, ◌<◌, List, [], ◌∷◌, ◌++◌, length, get_or, take, sym, ap, inl, inr, ◌⊎◌, ◌↔◌, ◌∙◌, append_assoc, append-nil, drop}
 use Rattle.std.proofs.lemmas.List.{map-append}
-use Rattle.pure_term.specs.Lists.{IsIn, Each}
-use Rattle.pure_term.specs.Order.{Class, Arity}
-use Rattle.pure_term.proofs.ListLaws.{each_of, in-map}
+use Rattle.pure_text.specs.Lists.{IsIn, Each}
+use Rattle.pure_definitions.specs.Order.{Class, Arity}
+use Rattle.pure_text.proofs.ListLaws.{each_of, in-map}
 use Rattle.pure_order_tables.specs.declared.classes.ClassEntry.{ClassEntry}
 use Rattle.pure_order_tables.specs.ClassView.{class_of, classes_of}
 use Rattle.pure_order_tables.specs.Classes.{IsDeclared, Follows, Agree}

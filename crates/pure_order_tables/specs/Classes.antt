@@ -1,7 +1,7 @@
 -- Declared classes, in the order of their declarations.
 use Rattle.std.specs.Prelude.{◌≡◌, ℕ, List, [], ◌∷◌, ◌++◌}
-use Rattle.pure_term.specs.Lists.{IsIn, Each, AnyOf}
-use Rattle.pure_term.specs.Order.{Class, Algebra}
+use Rattle.pure_text.specs.Lists.{IsIn, Each, AnyOf}
+use Rattle.pure_definitions.specs.Order.{Class, Algebra}
 
 -- The class is declared.
 abbrev pub IsDeclared : List Class → ℕ → Type 0

@@ -1,7 +1,7 @@
 ghost use Rattle.std.specs.Prelude.{◌≡◌, ◌↔◌, ◌⊎◌, ℕ, IsTrue, IfOk, MatchBool, MatchOption};
 ghost use Rattle.std.specs.Bool.{OnTrue};
-ghost use Rattle.pure_term.specs.Lists.{IsIn, AnyOf, EachTwo};
-ghost use Rattle.pure_term.specs.Order.{AreDomainsBelow, IsClassBelow, IsCoregular};
+ghost use Rattle.pure_text.specs.Lists.{IsIn, AnyOf, EachTwo};
+ghost use Rattle.pure_definitions.specs.Order.{AreDomainsBelow, IsClassBelow, IsCoregular};
 ghost use Rattle.pure_order_tables.specs.Arities.{with_arity};
 ghost use Rattle.pure_order_tables.specs.Classes.{IsDeclared};
 ghost use Rattle.pure_order_tables.specs.ArityView.{arity_of};
@@ -9,7 +9,7 @@ ghost use Rattle.pure_order_tables.specs.Checks.{AreJoined, Fails, FindsFailing,
 
 use crate::names::{is_same, lesser};
 use crate::tables::{ArityEntry, Tables};
-use pure_term::{Name, Sort};
+use pure_typ::{Name, Sort};
 use std::alloc::{AllocError, Global};
 
 impl Tables {

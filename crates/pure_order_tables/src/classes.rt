@@ -1,14 +1,14 @@
 ghost use Rattle.std.specs.Prelude.{◌≡◌, ◌↔◌, ◌⊎◌, ℕ, [], ◌∷◌, ◌++◌, IsTrue, OnOk, OnErr, IfOk, MatchOption};
 ghost use Rattle.std.specs.List.Sorted.{IsStrictlyIncreasing};
-ghost use Rattle.pure_term.specs.Lists.{IsIn, Each, AnyOf};
-ghost use Rattle.pure_term.specs.Order.{Class, IsClassBelow};
+ghost use Rattle.pure_text.specs.Lists.{IsIn, Each, AnyOf};
+ghost use Rattle.pure_definitions.specs.Order.{Class, IsClassBelow};
 ghost use Rattle.pure_order_tables.specs.Classes.{Agree, Follows, IsDeclared, of_classes};
 ghost use Rattle.pure_order_tables.specs.Checks.{IsDecided};
 ghost use Rattle.pure_order_tables.specs.ClassTable.{AreAllAbove};
 
 use crate::names::{has, is_same, put, put_all};
 use crate::room::push_in_room;
-use pure_term::Name;
+use pure_typ::Name;
 use std::alloc::{AllocError, Global};
 use std::collections::BTreeMap;
 use std::marker::Model;
@@ -29,7 +29,7 @@ pub struct ClassTable {
 
 impl Model for ClassTable {
     ghost use Rattle.std.specs.Prelude.{List};
-    ghost use Rattle.pure_term.specs.Order.{Class};
+    ghost use Rattle.pure_definitions.specs.Order.{Class};
 
     ghost Value = { List Class };
 

@@ -1,15 +1,15 @@
 ghost use Rattle.std.specs.Prelude.{◌≡◌, ◌↔◌, ◌⊎◌, ◌≤◌, ◌<◌, ℕ, IsTrue, IfOk, MatchOption};
 ghost use Rattle.std.specs.Bool.{OnTrue};
 ghost use Rattle.std.specs.List.Sorted.{IsStrictlyIncreasing};
-ghost use Rattle.pure_term.specs.Lists.{IsIn, Each, AnyOf, EachTwo};
-ghost use Rattle.pure_term.specs.Order.{Arity, IsClassBelow, IsSortBelow, IsCoregular};
+ghost use Rattle.pure_text.specs.Lists.{IsIn, Each, AnyOf, EachTwo};
+ghost use Rattle.pure_definitions.specs.Order.{Arity, IsClassBelow, IsSortBelow, IsCoregular};
 ghost use Rattle.pure_order_tables.specs.ArityView.{arity_of};
 ghost use Rattle.pure_order_tables.specs.Arities.{IsArityBelow};
 ghost use Rattle.pure_order_tables.specs.Checks.{FindsPair, IsBelowOf, IsDirected, IsLeastConflict};
 
 use crate::names::{is_same, lesser_pair, put};
 use crate::tables::{ArityEntry, Tables};
-use pure_term::{Name, Sort};
+use pure_typ::{Name, Sort};
 use std::alloc::{AllocError, Global};
 
 impl Tables {

@@ -1,8 +1,8 @@
 ghost use Rattle.std.specs.Prelude.{◌≡◌, ◌↔◌, ◌⊎◌, ◌<◌, ◌≤◌, ℕ, length, slice_index, IsTrue, OnOk, MatchOption};
 ghost use Rattle.std.specs.List.Sorted.{IsStrictlyIncreasing};
-ghost use Rattle.pure_term.specs.Lists.{IsIn};
+ghost use Rattle.pure_text.specs.Lists.{IsIn};
 
-use pure_term::Name;
+use pure_typ::Name;
 use std::alloc::AllocError;
 
 /// Whether the first name is below the second.

@@ -2,8 +2,8 @@ ghost use Rattle.std.specs.Prelude.{◌≡◌, ◌↔◌, ◌⊎◌, ℕ, [], �
 ghost use Rattle.std.specs.BTreeMap.{get};
 ghost use Rattle.std.specs.Ordering.{nat_cmp};
 ghost use Rattle.std.specs.List.Sorted.{IsStrictlyIncreasing};
-ghost use Rattle.pure_term.specs.Lists.{IsIn, Each, AnyOf, EachTwo};
-ghost use Rattle.pure_term.specs.Order.{Arity, IsClassBelow, HasClassBelow, IsSortBelow, IsCoregular};
+ghost use Rattle.pure_text.specs.Lists.{IsIn, Each, AnyOf, EachTwo};
+ghost use Rattle.pure_definitions.specs.Order.{Arity, IsClassBelow, HasClassBelow, IsSortBelow, IsCoregular};
 ghost use Rattle.pure_order_tables.specs.Classes.{Agree, IsDeclared};
 ghost use Rattle.pure_order_tables.specs.Arities.{IsArityBelow, IsGreatestIfAny, IsAboveGreatest, IsKnown, IsNotAbove, IsUnion, with_class, with_arity};
 ghost use Rattle.pure_order_tables.specs.Checks.{IsDecided};
@@ -12,7 +12,7 @@ ghost use Rattle.pure_order_tables.specs.ArityTable.{IsPlace, ArePlaces};
 
 use crate::classes::ClassTable;
 use crate::room::push_in_room;
-use pure_term::{Name, Sort};
+use pure_typ::{Name, Sort};
 use std::alloc::{AllocError, Global};
 use std::collections::BTreeMap;
 use std::marker::Model;
@@ -34,7 +34,7 @@ pub struct Tables {
 }
 
 impl Model for Tables {
-    ghost use Rattle.pure_term.specs.Order.{Algebra};
+    ghost use Rattle.pure_definitions.specs.Order.{Algebra};
 
     ghost Value = { Algebra };
 

@@ -1,12 +1,12 @@
 ghost use Rattle.std.specs.Prelude.{◌≡◌, ◌↔◌, ◌⊎◌, IsTrue, OnOk, IfOk};
-ghost use Rattle.pure_term.specs.Lists.{IsIn, Each};
-ghost use Rattle.pure_term.specs.Order.{Arity, Class};
+ghost use Rattle.pure_text.specs.Lists.{IsIn, Each};
+ghost use Rattle.pure_definitions.specs.Order.{Arity, Class};
 ghost use Rattle.pure_order_tables.specs.ArityView.{arity_of, arities_of};
 ghost use Rattle.pure_order_tables.specs.Arities.{IsKnown};
 
 use crate::names::is_same;
 use crate::tables::{ArityEntry, Tables};
-use pure_term::{Name, Sort};
+use pure_typ::{Name, Sort};
 use std::alloc::{AllocError, Global};
 
 /// Whether the names are the same.

@@ -1,11 +1,11 @@
 ghost use Rattle.std.specs.Prelude.{◌≡◌, ◌↔◌, IsTrue, MatchOption};
-ghost use Rattle.pure_term.specs.Lists.{Each};
+ghost use Rattle.pure_text.specs.Lists.{Each};
 ghost use Rattle.pure_order_tables.specs.Classes.{IsDeclared};
 ghost use Rattle.pure_order_tables.specs.Unknown.{HasArityFor, IsFirstUnknown, joined};
 
 use crate::names::is_same;
 use crate::tables::{ArityEntry, Tables};
-use pure_term::{Name, Sort};
+use pure_typ::{Name, Sort};
 
 /// Whether the arity is one of the constructor for the class.
 fn is_for(arity: &ArityEntry, con: Name, class: Name) -> bool

@@ -4,10 +4,10 @@ use Rattle.std.specs.Prelude.{codes, None, nat_eq}
 use Rattle.std.proofs.lemmas.Fmt.{decimal_injective}
 use Rattle.std.proofs.lemmas.Bool.{cond_both, eqb-true, lt-ltb, both_ways}
 use Rattle.std.proofs.lemmas.Bool.Decides.{nat_tests}
-use Rattle.pure_term.specs.NameTexts.{builtin_texts}
-use Rattle.pure_term.specs.Term.{Term, Const, Free, Var, Bound}
-use Rattle.pure_term.specs.Term as term
-use Rattle.pure_term.specs.Bounds.{IsClosedUnder}
+use Rattle.pure_typ.specs.NameTexts.{builtin_texts}
+use Rattle.pure_definitions.specs.Term.{Term, Const, Free, Var, Bound}
+use Rattle.pure_definitions.specs.Term as term
+use Rattle.pure_definitions.specs.Bounds.{IsClosedUnder}
 use Rattle.pure_grammar.specs.declared.token.TokenKind.TheVariants as kind
 use Rattle.pure_grammar.specs.Bytes.{is_letter, is_digit, is_name_byte, head_is}
 use Rattle.pure_grammar.specs.RawTree.{RawTree, Leaf, Abs, App}

@@ -2,8 +2,8 @@
 use Rattle.std.proofs.Common.{◌≡◌, ℕ, ◌+◌, true, false, List, [], ◌∷◌, ◌++◌, length, refl, ap, inl, inr, arith, append_assoc}
 use Rattle.std.specs.Prelude.{codes, nat_eq}
 use Rattle.std.proofs.lemmas.Bool.{cases_Bool, eqb-true}
-use Rattle.pure_term.specs.NameTexts.{builtin_texts}
-use Rattle.pure_term.specs.Typ.{Typ, Typs, TFree, TVar, Con, none, also}
+use Rattle.pure_typ.specs.NameTexts.{builtin_texts}
+use Rattle.pure_definitions.specs.Typ.{Typ, Typs, TFree, TVar, Con, none, also}
 use Rattle.pure_grammar.specs.Bytes.{is_letter, is_digit, is_name_byte}
 use Rattle.pure_grammar.specs.RawTree.{RawTypTree, RawTypTrees}
 use Rattle.pure_grammar.specs.RawTree as raw

@@ -2,7 +2,7 @@
 use Rattle.std.specs.Prelude.{ℕ, ◌-◌, List, [], ◌∷◌, ◌++◌, length, codes, nat_eq, if◌then◌else◌, slice_get}
 use Rattle.std.specs.Option.{unwrap_or}
 use Rattle.std.specs.Fmt.{decimal}
-use Rattle.pure_term.specs.NameTexts.{name_texts}
+use Rattle.pure_typ.specs.NameTexts.{name_texts}
 
 -- A name prints as its text. A name above the table, which has the texts of Pure and of the session, is a fresh one: it
 -- prints as a mark and its number, counted from 0 at the first name above the table.

@@ -1,9 +1,9 @@
 -- What is read of a printed text.
 use Rattle.std.specs.Prelude.{◌≡◌, ◌≢◌, ℕ, zero, suc, List, [], ◌∷◌, ◌++◌, length, map, None, if◌then◌else◌}
-use Rattle.pure_term.specs.Typ.{Typ, Typs, TFree, TVar}
-use Rattle.pure_term.specs.Typ as typ
-use Rattle.pure_term.specs.Term.{Term, Const, Free, Var, Bound}
-use Rattle.pure_term.specs.Term as term
+use Rattle.pure_definitions.specs.Typ.{Typ, Typs, TFree, TVar}
+use Rattle.pure_definitions.specs.Typ as typ
+use Rattle.pure_definitions.specs.Term.{Term, Const, Free, Var, Bound}
+use Rattle.pure_definitions.specs.Term as term
 use Rattle.pure_grammar.specs.declared.token.Token.{Token}
 use Rattle.pure_grammar.specs.declared.token.TokenKind.{TokenKind}
 use Rattle.pure_grammar.specs.declared.token.TokenKind.TheVariants as kind

@@ -1,8 +1,8 @@
 -- Which terms and types are read back as they were printed.
 use Rattle.std.specs.Prelude.{◌≡◌, ℕ, ◌+◌, ◌<◌, ◌≤◌, ◌⊎◌, max, List, [], ◌∷◌, ◌++◌, length, IsTrue}
-use Rattle.pure_term.specs.Typ.{Typ, Typs, TFree, TVar, Con, none, also}
-use Rattle.pure_term.specs.Term.{Term, Const, Free, Var, Bound, Abs, App}
-use Rattle.pure_term.specs.Bounds.{IsClosed}
+use Rattle.pure_definitions.specs.Typ.{Typ, Typs, TFree, TVar, Con, none, also}
+use Rattle.pure_definitions.specs.Term.{Term, Const, Free, Var, Bound, Abs, App}
+use Rattle.pure_definitions.specs.Bounds.{IsClosed}
 use Rattle.pure_grammar.specs.Token.{is_spelling}
 use Rattle.pure_print.specs.NameText.{name_text, fresh_variable, term_name_text, typ_name_text}
 

@@ -1,6 +1,6 @@
 //! Names, indexes and sorts as they are printed.
 ghost use Rattle.std.specs.Prelude.{◌≡◌, ◌-◌, ◌++◌, length, slice_get, OnOk, None};
-ghost use Rattle.pure_term.specs.NameTexts.{name_texts};
+ghost use Rattle.pure_typ.specs.NameTexts.{name_texts};
 ghost use Rattle.pure_print.specs.NameText.{name_text, term_name_text, typ_name_text, typ_variable_text, index_text, more_classes_text, sort_text};
 
 use crate::number::push_number;

@@ -4,7 +4,7 @@ ghost use Rattle.std.specs.List.{count_by, flat_map};
 ghost use Rattle.pure_print.specs.RowText as spec;
 
 use crate::number::push_number;
-use pure_term::Text;
+use pure_text::Text;
 use std::alloc::{AllocError, Global};
 
 /// What became of a command or of a theory.

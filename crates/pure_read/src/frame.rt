@@ -4,7 +4,7 @@ ghost use Rattle.pure_grammar.specs.InnerReader as spec;
 ghost use Rattle.pure_read.specs.Frames.{seen_join, seen_frame, seen_stack, seen_popped};
 
 use crate::raw::{Raw, RawTyp};
-use pure_term::Text;
+use pure_text::Text;
 use std::alloc::{AllocError, Global};
 
 /// Which of the two signs binds.

@@ -9,7 +9,7 @@ ghost use Rattle.pure_grammar.specs.Token.{tail};
 ghost use Rattle.pure_read.specs.Seen.{seen_lexeme, seen_written};
 
 use pure_grammar::{Mark, Opening, Token, TokenKind};
-use pure_term::Text;
+use pure_text::Text;
 use std::alloc::{AllocError, Global};
 
 /// A token by what the grammar tells apart.

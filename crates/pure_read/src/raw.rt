@@ -3,7 +3,7 @@ ghost use Rattle.std.specs.Prelude.{◌≡◌, IfOk, codes, [], ◌∷◌};
 ghost use Rattle.pure_grammar.specs.RawTree as tree;
 
 use pure_grammar::TokenKind;
-use pure_term::Text;
+use pure_text::Text;
 use std::alloc::{AllocError, Global};
 use std::marker::Model;
 

@@ -5,7 +5,7 @@ mod tables;
 use super::*;
 use pure_grammar::TokenKind;
 use pure_lex::tokens;
-use pure_term::Text;
+use pure_text::Text;
 use std::alloc::Global;
 use std::process::Abort;
 use std::test::Fail;

@@ -8,7 +8,7 @@ use crate::lexeme::{Lexeme, is_sign};
 use crate::place::{ArityPlace, Place, Turn, moves_if, name};
 use crate::theory::Command;
 use pure_grammar::Sign;
-use pure_term::Text;
+use pure_text::Text;
 use std::alloc::{AllocError, Global};
 
 pub(crate) fn at_constructor(alloc: Global, lexeme: Lexeme<'_>) -> Result<Turn, AllocError>

@@ -8,7 +8,7 @@ use crate::lexeme::{Lexeme, is_sign};
 use crate::place::{ClassPlace, Place, Turn, command_begun, ident, leave_with, name};
 use crate::theory::Command;
 use pure_grammar::Sign;
-use pure_term::Text;
+use pure_text::Text;
 use std::alloc::{AllocError, Global};
 
 pub(crate) fn at_class_name(alloc: Global, lexeme: Lexeme<'_>) -> Result<Turn, AllocError>

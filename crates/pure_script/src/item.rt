@@ -8,7 +8,7 @@ use crate::lexeme::{Lexeme, is_sign, is_word, quote_in, type_in};
 use crate::place::{ItemPlace, Place, Turn, command_begun, ident, leave, moves_if};
 use crate::theory::{Command, Span};
 use pure_grammar::{Keyword, Sign};
-use pure_term::Text;
+use pure_text::Text;
 use std::alloc::{AllocError, Global};
 
 pub(crate) fn at_item(alloc: Global, lexeme: Lexeme<'_>) -> Result<Turn, AllocError>

@@ -9,7 +9,7 @@ use crate::lexeme::{Lexeme, ident_in, is_word, name_in, variable_in};
 use crate::texts::Texts;
 use crate::theory::{Command, Span, Step};
 use pure_grammar::Keyword;
-use pure_term::Text;
+use pure_text::Text;
 use std::alloc::{AllocError, Global};
 
 /// The methods that take one fact.

@@ -11,7 +11,7 @@ use crate::place::{
 };
 use crate::theory::{Command, Span, Step};
 use pure_grammar::{Keyword, Sign};
-use pure_term::Text;
+use pure_text::Text;
 use std::alloc::{AllocError, Global};
 use std::mem;
 

@@ -17,7 +17,7 @@ use crate::texts::Texts;
 use crate::theory::{Command, TheoryText};
 use crate::turn::turn;
 use pure_grammar::{Keyword, TokenKind};
-use pure_term::Text;
+use pure_text::Text;
 use std::alloc::{AllocError, Global};
 use std::mem;
 

@@ -3,7 +3,7 @@
 use super::*;
 use crate::tests::rows::{CHANGES, Change, FURTHER, WORKED};
 use pure_lex::tokens;
-use pure_term::Text;
+use pure_text::Text;
 use std::alloc::Global;
 use std::process::Abort;
 use std::test::Fail;

@@ -4,7 +4,7 @@ ghost use Rattle.std.specs.List.{list_any};
 ghost use Rattle.pure_grammar.specs.Lexeme.{same};
 ghost use Rattle.pure_grammar.specs.PhraseTree.{with_text};
 
-use pure_term::Text;
+use pure_text::Text;
 use std::alloc::{AllocError, Global};
 use std::collections::BTreeSet;
 use std::marker::Model;

@@ -2,7 +2,7 @@
 ghost use Rattle.std.specs.Prelude.{◌≡◌};
 
 use pure_grammar::TokenKind;
-use pure_term::Text;
+use pure_text::Text;
 use std::alloc::AllocError;
 
 /// A range of the source.

@@ -1,15 +1,14 @@
+//! Lifting, putting a term for bound variable 0, and abstraction over a variable.
 ghost use Rattle.std.specs.Prelude.{◌≡◌, ◌+◌, ◌<◌, ◌≤◌, ◌^◌, IfOk};
-ghost use Rattle.pure_term.specs.Term.{Abs, term_size, term_depth};
-ghost use Rattle.pure_term.specs.Bounds.{lift_term, subst_under, subst_bound, bind_under, abstract_over};
-ghost use Rattle.pure_term.specs.Conditions.{IsLiftable, IsPuttable, IsVariable, variable_typ};
-ghost use Rattle.pure_term.specs.Limits.{cut_off, Leaves, IsGrown};
+ghost use Rattle.pure_definitions.specs.Term.{Abs, term_size, term_depth};
+ghost use Rattle.pure_definitions.specs.Bounds.{lift_term, subst_under, subst_bound, bind_under, abstract_over};
+ghost use Rattle.pure_definitions.specs.Conditions.{IsLiftable, IsPuttable, IsVariable, variable_typ};
+ghost use Rattle.pure_definitions.specs.Limits.{cut_off, Leaves};
+ghost use Rattle.pure_term.specs.Grown.{IsGrown};
 
-use crate::grow::Grow;
-use crate::measure::{
-    MAX_DEPTH, MAX_SIZE, are_same, depth, is_within, node_leaves, size, term_leaves, typ_leaves,
-};
+use crate::measure::{are_same, depth, is_within, size, term_leaves};
 use crate::term::{Term, TermNode, copied};
-use crate::typ::Typ;
+use pure_typ::{Grow, MAX_DEPTH, MAX_SIZE, Typ, node_leaves, typ_leaves};
 use std::alloc::{AllocError, Global};
 
 /// The term with `by` added to each loose bound variable at or above `from`.

@@ -1,69 +1,18 @@
+//! Instances of terms by finite maps.
 ghost use Rattle.std.specs.Prelude.{◌≡◌, IfOk};
-ghost use Rattle.pure_term.specs.Typ.{typ_size, typ_depth};
-ghost use Rattle.pure_term.specs.Term.{term_size, term_depth};
-ghost use Rattle.pure_term.specs.Subst.{typ_image, term_image, typ_instance, inst_typ, inst_term};
-ghost use Rattle.pure_term.specs.Limits.{Leaves, IsGrown};
+ghost use Rattle.pure_definitions.specs.Term.{term_size, term_depth};
+ghost use Rattle.pure_definitions.specs.Subst.{typ_image, term_image, inst_typ, inst_term};
+ghost use Rattle.pure_definitions.specs.Limits.{Leaves};
+ghost use Rattle.pure_term.specs.Grown.{IsGrown};
 
-use crate::grow::Grow;
-use crate::maps::{TermBind, TermMap, TypBind, TypMap, find_term, find_typ};
-use crate::measure::{MAX_DEPTH, MAX_SIZE, node_leaves, term_leaves, typ_leaves};
+use crate::maps::{TermBind, TermMap, find_term};
+use crate::measure::term_leaves;
 use crate::term::{Term, TermNode, copied};
-use crate::typ::{Typ, TypNode};
+use pure_typ::{
+    Grow, MAX_DEPTH, MAX_SIZE, TypBind, TypMap, instance_leaves, instance_of, node_leaves,
+    typ_leaves,
+};
 use std::alloc::{AllocError, Global};
-
-// What is left of room when the instance of the type is put in.
-fn instance_leaves(t: &Typ, binds: &[TypBind], left: u32, room: u32) -> Option<u32>
-    ensures { Leaves left room (typ_size (typ_instance (typ_image binds.now) t.now)) (typ_depth (typ_instance (typ_image binds.now) t.now)) result }
-{
-    match &t.node {
-        TypNode::TFree { .. } => typ_leaves(t, left, room),
-        TypNode::TVar { name, index, sort } => match find_typ(binds, *name, *index, sort) {
-            Some(image) => typ_leaves(image, left, room),
-            None => typ_leaves(t, left, room),
-        },
-        TypNode::Con { args, .. } => {
-            if left == 0 {
-                return None;
-            }
-            if room == 0 {
-                return None;
-            }
-            let mut rest = left - 1;
-            for arg in args {
-                let Some(less) = instance_leaves(arg, binds, rest, room - 1) else {
-                    return None;
-                };
-                rest = less;
-            }
-            Some(rest)
-        }
-    }
-}
-
-// The instance of the type.
-fn instance_of(alloc: Global, t: &Typ, binds: &[TypBind]) -> Result<Typ, AllocError>
-    ensures { IfOk result (λ u. u ≡ typ_instance (typ_image binds.now) t.now) }
-{
-    match &t.node {
-        TypNode::TFree { .. } => t.copy(alloc),
-        TypNode::TVar { name, index, sort } => match find_typ(binds, *name, *index, sort) {
-            Some(image) => image.copy(alloc),
-            None => t.copy(alloc),
-        },
-        TypNode::Con { name, args } => {
-            let mut images = Vec::with_capacity(alloc, args.len())?;
-            for arg in args {
-                images.push(instance_of(alloc, arg, binds)?)?;
-            }
-            Ok(Typ {
-                node: TypNode::Con {
-                    name: *name,
-                    args: images,
-                },
-            })
-        }
-    }
-}
 
 /// The term under a type map: each variable in its types replaced, all at once.
 pub fn inst_typ(alloc: Global, t: &Term, map: &TypMap) -> Result<Term, Grow>

@@ -1,42 +1,12 @@
+//! The size and depth of terms, and which occur in which.
 ghost use Rattle.std.specs.Prelude.{◌≡◌, ◌↔◌, IsTrue};
-ghost use Rattle.pure_term.specs.Typ.{typ_size, typ_depth};
-ghost use Rattle.pure_term.specs.Term.{term_size, term_depth, IsWithin};
-ghost use Rattle.pure_term.specs.Limits.{cut_off, Leaves};
-ghost use Rattle.pure_term.specs.Typing.{node_count};
-ghost use Rattle.pure_term.specs.Bounds.{Occurs};
+ghost use Rattle.pure_definitions.specs.Term.{term_size, term_depth, IsWithin};
+ghost use Rattle.pure_definitions.specs.Limits.{cut_off, Leaves};
+ghost use Rattle.pure_definitions.specs.Typing.{node_count};
+ghost use Rattle.pure_definitions.specs.Bounds.{Occurs};
 
 use crate::term::{Term, TermNode};
-use crate::typ::{Typ, TypNode};
-
-/// The greatest size of a term within the limits.
-pub const MAX_SIZE: u32 = 200_000;
-
-/// The greatest depth of a term within the limits.
-pub const MAX_DEPTH: u32 = 2000;
-
-pub fn size_of_typ(t: &Typ) -> u32
-    ensures { result ≡ cut_off (typ_size t.now) }
-{
-    let mut size: u32 = 1;
-    if let TypNode::Con { args, .. } = &t.node {
-        for arg in args {
-            size = size.saturating_add(size_of_typ(arg));
-        }
-    }
-    size
-}
-
-pub fn depth_of_typ(t: &Typ) -> u32
-    ensures { result ≡ cut_off (typ_depth t.now) }
-{
-    let mut inside: u32 = 0;
-    if let TypNode::Con { args, .. } = &t.node {
-        for arg in args {
-            inside = inside.max(depth_of_typ(arg));
-        }
-    }
-    inside.saturating_add(1)
-}
+use pure_typ::{MAX_DEPTH, MAX_SIZE, depth_of_typ, size_of_typ, typ_leaves};
 
 /// The count of the term's nodes and of those of the types in it, cut off at `u32::MAX`.
 pub fn size(t: &Term) -> u32
@@ -91,6 +61,7 @@ pub fn node_count_of(t: &Term) -> u32
     }
 }
 
+/// Whether two terms are equal.
 pub fn are_same(t: &Term, u: &Term) -> bool
     ensures { IsTrue result ↔ (t.now ≡ u.now) }
 {
@@ -108,42 +79,7 @@ pub fn occurs(v: &Term, t: &Term) -> bool
     }
 }
 
-/// What is left of room for `left` nodes, on paths of at most `room`, when something of this size and depth is put in.
-pub fn node_leaves(left: u32, room: u32, size: u32, depth: u32) -> Option<u32>
-    ensures { Leaves left room size depth result }
-{
-    if left < size {
-        return None;
-    }
-    if room < depth {
-        return None;
-    }
-    Some(left - size)
-}
-
-/// What is left of room for `left` nodes, on paths of at most `room`, when the type is put in.
-pub fn typ_leaves(t: &Typ, left: u32, room: u32) -> Option<u32>
-    ensures { Leaves left room (typ_size t.now) (typ_depth t.now) result }
-{
-    if left == 0 {
-        return None;
-    }
-    if room == 0 {
-        return None;
-    }
-    let mut rest = left - 1;
-    if let TypNode::Con { args, .. } = &t.node {
-        for arg in args {
-            let Some(less) = typ_leaves(arg, rest, room - 1) else {
-                return None;
-            };
-            rest = less;
-        }
-    }
-    Some(rest)
-}
-
-/// The same of a term.
+/// What is left of room for `left` nodes, on paths of at most `room`, when the term is put in.
 pub fn term_leaves(t: &Term, left: u32, room: u32) -> Option<u32>
     ensures { Leaves left room (term_size t.now) (term_depth t.now) result }
 {

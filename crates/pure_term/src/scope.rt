@@ -1,7 +1,8 @@
+//! The types of the binders around a term.
 ghost use Rattle.std.specs.Prelude.{◌≡◌, slice_get, Some, None, MatchOption};
 ghost use Rattle.pure_term.specs.Scope.{scope_typs};
 
-use crate::typ::Typ;
+use pure_typ::Typ;
 
 /// The types of the binders around a term, the innermost first.
 #[derive(Clone, Copy)]

@@ -1,12 +1,12 @@
+//! Terms, their copies and their order.
 ghost use Rattle.std.specs.Prelude.{◌≡◌, IfOk, refl};
 ghost use Rattle.std.specs.Cmp.{partial_equiv_from_equiv, po};
 ghost use Rattle.std.specs.Ordering.{as_partial_cmp};
-ghost use Rattle.pure_term.specs.Term.{term_eq};
-ghost use Rattle.pure_term.specs.Equality.{term_eq-equiv};
-ghost use Rattle.pure_term.specs.Comparison.{term_rank, term_cmp, term_cmp-total, term_cmp-ties};
+ghost use Rattle.pure_definitions.specs.Term.{term_eq};
+ghost use Rattle.pure_definitions.specs.Models.Equality.{term_eq-equiv};
+ghost use Rattle.pure_definitions.specs.Models.Comparison.{term_rank, term_cmp, term_cmp-total, term_cmp-ties};
 
-use crate::name::Name;
-use crate::typ::Typ;
+use pure_typ::{Name, Typ};
 use std::alloc::{AllocError, Global};
 use std::cmp::Ordering;
 use std::marker::Model;
@@ -31,8 +31,8 @@ pub enum TermNode {
 }
 
 impl Model for Term {
-    ghost use Rattle.pure_term.specs.Term as tree;
-    ghost use Rattle.pure_term.specs.Codes.{coded_term};
+    ghost use Rattle.pure_definitions.specs.Term as tree;
+    ghost use Rattle.pure_definitions.specs.Models.Codes.{coded_term};
 
     ghost Value = { tree.Term };
 

@@ -1,13 +1,14 @@
+//! The type of a term, or the place of its first node at fault.
 ghost use Rattle.std.specs.Prelude.{◌≡◌, ◌↔◌, IsTrue, [], MatchOption, IfOk};
-ghost use Rattle.pure_term.specs.Typ.{arrow};
-ghost use Rattle.pure_term.specs.Typing.{Takes};
+ghost use Rattle.pure_definitions.specs.Typ.{arrow};
+ghost use Rattle.pure_definitions.specs.Typing.{Takes};
 ghost use Rattle.pure_term.specs.Scope.{scope_typs};
 ghost use Rattle.pure_term.specs.TypeAnswer.{found_typ, deeper_fault, IsTypeAnswer, IsFoundAnswer};
 
 use crate::measure::node_count_of;
 use crate::scope::{Scope, typ_at};
 use crate::term::{Term, TermNode};
-use crate::typ::{Typ, TypNode};
+use pure_typ::{Typ, TypNode};
 use std::alloc::{AllocError, Global};
 
 /// Why a term's type isn't given: it has none, and its first node at fault has this place, cut off at `u32::MAX`; or memory ran out.

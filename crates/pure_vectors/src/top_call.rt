@@ -1,7 +1,7 @@
 //! The top call on libraries in memory. Expected bytes come from the rules, by hand.
 use pure_check::{Status, pure};
 use pure_io::{File, LibFault, Library, MemLibrary, MemSink, OpenGate, ReadFault};
-use pure_term::Text;
+use pure_text::Text;
 use std::alloc::{AllocError, Global};
 use std::rt::Files;
 use std::sync::Wait;

@@ -1,5 +1,5 @@
 use Rattle.std.proofs.Common.{arith}
-use Rattle.pure_term.proofs.TypsLemmas.{typ_size-some}
+use Rattle.pure_definitions.proofs.TypsLemmas.{typ_size-some}
 use Rattle.pure_eta.proofs.FitsLaws.{put-stops, put-goes_on}
 use Rattle.pure_eta.proofs.fits.+typ_fits.Goals as goal
 

@@ -1,6 +1,6 @@
 use Rattle.std.proofs.Common.{ℕ, ◌⊎◌, ◌↔◌, take}
 use Rattle.std.specs.List.Sorted.{IsStrictlyIncreasing}
-use Rattle.pure_term.specs.Lists.{IsIn}
+use Rattle.pure_text.specs.Lists.{IsIn}
 use Rattle.pure_order_tables.proofs.names.put_all.Given as goal
 
 abbrev pub invariant-loop-name : goal.invariant-loop-name

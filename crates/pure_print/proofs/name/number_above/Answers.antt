@@ -1,5 +1,5 @@
 use Rattle.std.proofs.Common.{arith}
-use Rattle.pure_term.specs.NameTexts.{name_texts}
+use Rattle.pure_typ.specs.NameTexts.{name_texts}
 use Rattle.pure_print.proofs.Numerals.{none-past, some-within}
 use Rattle.pure_print.proofs.name.number_above.Goals as goal
 

@@ -1,5 +1,5 @@
 use Rattle.std.proofs.Common.{◌-◌, ◌≤◌, length}
-use Rattle.pure_term.specs.NameTexts.{name_texts}
+use Rattle.pure_typ.specs.NameTexts.{name_texts}
 use Rattle.pure_print.proofs.name.number_above.Given as goal
 
 -- the table's length lies between them

@@ -1,5 +1,5 @@
 use Rattle.std.proofs.Common.{sym, ◌∙◌, arith}
-use Rattle.pure_term.proofs.TypsLemmas.{typ_depth-item}
+use Rattle.pure_definitions.proofs.TypsLemmas.{typ_depth-item}
 use Rattle.pure_print.proofs.TypLemmas.{one-written, arrow-written, several-written, rest-taken}
 use Rattle.pure_print.proofs.typ.+typ.Goals as goal
 

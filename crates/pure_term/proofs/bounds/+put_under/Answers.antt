@@ -1,6 +1,6 @@
 use Rattle.std.proofs.Common.{◌≡◌, refl, arith}
-use Rattle.pure_term.specs.Term.{Bound}
-use Rattle.pure_term.proofs.GrownLemmas.{put-shallow}
+use Rattle.pure_definitions.specs.Term.{Bound}
+use Rattle.pure_definitions.proofs.GrownLemmas.{put-shallow}
 use Rattle.pure_term.proofs.bounds.+put_under.Goals as goal
 
 pub lift_under-requires-clause-shallow : goal.lift_under-requires-clause-shallow

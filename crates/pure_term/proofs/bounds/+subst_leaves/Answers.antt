@@ -1,6 +1,6 @@
 use Rattle.std.proofs.Common.{◌≡◌, refl, arith}
-use Rattle.pure_term.specs.Term.{Bound}
-use Rattle.pure_term.proofs.GrownLemmas.{leaves-put}
+use Rattle.pure_definitions.specs.Term.{Bound}
+use Rattle.pure_definitions.proofs.GrownLemmas.{leaves-put}
 use Rattle.pure_term.proofs.bounds.+subst_leaves.Goals as goal
 
 pub returns-then-bound-place : goal.returns-then-bound-place

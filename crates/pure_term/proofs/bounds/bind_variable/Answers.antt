@@ -1,5 +1,5 @@
 use Rattle.std.proofs.Common.{◌≢◌, sym, ◌∙◌}
-use Rattle.pure_term.proofs.BindLemmas.{bind_under-same, bind_under-other}
+use Rattle.pure_definitions.proofs.BindLemmas.{bind_under-same, bind_under-other}
 use Rattle.pure_term.proofs.bounds.bind_variable.Goals as goal
 
 pub returns-in_ok-new : goal.returns-in_ok-new

@@ -1,6 +1,6 @@
 use Rattle.std.proofs.Common.{◌≡◌, ◌∙◌}
-use Rattle.pure_term.specs.Bounds.{lift_term}
-use Rattle.pure_term.proofs.TermLemmas.{within-lift, within-of_lift}
+use Rattle.pure_definitions.specs.Bounds.{lift_term}
+use Rattle.pure_definitions.proofs.TermLemmas.{within-lift, within-of_lift}
 use Rattle.pure_term.proofs.bounds.lift.Goals as goal
 
 pub returns-then-not-is_within : goal.returns-then-not-is_within

@@ -1,9 +1,9 @@
 use Rattle.std.proofs.Common.{◌≡◌, ◌+◌, max, refl, arith}
-use Rattle.pure_term.specs.Typ.{typ_size, typ_depth}
-use Rattle.pure_term.specs.Term.{term_size, term_depth}
-use Rattle.pure_term.specs.Subst.{typ_image, typ_instance, inst_typ}
-use Rattle.pure_term.proofs.TermLemmas.{term_size-some, term_depth-some}
-use Rattle.pure_term.proofs.GrownLemmas.{leaves-equal, leaves-abs, leaves-node, leaves-part_none}
+use Rattle.pure_definitions.specs.Typ.{typ_size, typ_depth}
+use Rattle.pure_definitions.specs.Term.{term_size, term_depth}
+use Rattle.pure_definitions.specs.Subst.{typ_image, typ_instance, inst_typ}
+use Rattle.pure_definitions.proofs.TermLemmas.{term_size-some, term_depth-some}
+use Rattle.pure_definitions.proofs.GrownLemmas.{leaves-equal, leaves-abs, leaves-node, leaves-part_none}
 use Rattle.pure_term.proofs.instance.+inst_typ_leaves.Goals as goal
 
 pub returns-then-left-eq0 : goal.returns-then-left-eq0

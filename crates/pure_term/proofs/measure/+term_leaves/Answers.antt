@@ -1,5 +1,5 @@
 use Rattle.std.proofs.Common.{arith}
-use Rattle.pure_term.proofs.TermLemmas.{term_size-some, term_depth-some}
+use Rattle.pure_definitions.proofs.TermLemmas.{term_size-some, term_depth-some}
 use Rattle.pure_term.proofs.measure.+term_leaves.Goals as goal
 
 pub returns-then-left-eq0 : goal.returns-then-left-eq0

@@ -1,5 +1,5 @@
 use Rattle.std.proofs.Common.{sym, ◌∙◌}
-use Rattle.pure_term.specs.Equality.{term_eq-is_equality}
+use Rattle.pure_definitions.specs.Models.Equality.{term_eq-is_equality}
 use Rattle.pure_term.proofs.measure.are_same.Goals as goal
 
 pub returns : goal.returns

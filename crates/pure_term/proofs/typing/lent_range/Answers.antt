@@ -1,7 +1,7 @@
 use Rattle.std.proofs.Common.{◌≢◌, length}
-use Rattle.pure_term.specs.Typ.{Con, typs_of}
-use Rattle.pure_term.specs.Typing.{Takes}
-use Rattle.pure_term.proofs.ArrowLemmas.{takes-count, takes-range}
+use Rattle.pure_definitions.specs.Typ.{Con, typs_of}
+use Rattle.pure_definitions.specs.Typing.{Takes}
+use Rattle.pure_definitions.proofs.ArrowLemmas.{takes-count, takes-range}
 use Rattle.pure_term.proofs.typing.lent_range.Goals as goal
 
 pub returns-then-len-ne2 : goal.returns-then-len-ne2

@@ -1,8 +1,8 @@
 use Rattle.std.proofs.Common.{◌<◌, length, arith}
 use Rattle.std.specs.Prelude.{IsSome}
-use Rattle.pure_term.specs.Typing.{Takes}
-use Rattle.pure_term.specs.Typ.{Con, typs_of}
-use Rattle.pure_term.proofs.ArrowLemmas.{arrow-popped}
+use Rattle.pure_definitions.specs.Typing.{Takes}
+use Rattle.pure_definitions.specs.Typ.{Con, typs_of}
+use Rattle.pure_definitions.proofs.ArrowLemmas.{arrow-popped}
 use Rattle.pure_term.proofs.typing.made_range.Goals as goal
 
 pub returns-in-Con : goal.returns-in-Con

@@ -1,6 +1,6 @@
 use Rattle.std.proofs.Common.{◌≡◌, ◌≢◌, length, sym, ◌∙◌}
-use Rattle.pure_term.specs.Equality.{typ_eq-is_equality}
-use Rattle.pure_term.proofs.ArrowLemmas.{takes-count, takes-domain}
+use Rattle.pure_definitions.specs.Models.Equality.{typ_eq-is_equality}
+use Rattle.pure_definitions.proofs.ArrowLemmas.{takes-count, takes-domain}
 use Rattle.pure_term.proofs.typing.takes.Goals as goal
 
 pub returns-then-len-ne2 : goal.returns-then-len-ne2

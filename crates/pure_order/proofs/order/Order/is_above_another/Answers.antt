@@ -1,5 +1,5 @@
 use Rattle.std.proofs.Common.{◌≡◌, ℕ, inl, inr}
-use Rattle.pure_term.specs.Order.{IsClassBelow}
+use Rattle.pure_definitions.specs.Order.{IsClassBelow}
 use Rattle.pure_order_tables.proofs.ListMore.{any_read, any_turn, yes_as, test_fails}
 use Rattle.pure_order.proofs.order.Order.is_above_another.Goals as goal
 

@@ -1,4 +1,4 @@
-use Rattle.pure_term.specs.Order.{itself}
+use Rattle.pure_definitions.specs.Order.{itself}
 use Rattle.pure_order_tables.specs.Classes.{of_classes}
 use Rattle.pure_order_tables.proofs.BelowLaws.{below-undeclared}
 use Rattle.pure_order_tables.proofs.classes.ClassTable.below.Goals as goal

@@ -1,6 +1,6 @@
 use Rattle.std.proofs.Common.{take}
 use Rattle.std.specs.List.Sorted.{IsStrictlyIncreasing}
-use Rattle.pure_term.specs.Lists.{IsIn, Each}
+use Rattle.pure_text.specs.Lists.{IsIn, Each}
 use Rattle.pure_order_tables.specs.ArityView.{arities_of}
 use Rattle.pure_order_tables.proofs.tables.Tables.constructors.Given as goal
 

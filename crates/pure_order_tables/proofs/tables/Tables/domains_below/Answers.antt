@@ -1,4 +1,4 @@
-use Rattle.pure_term.specs.Order.{IsSortBelow}
+use Rattle.pure_definitions.specs.Order.{IsSortBelow}
 use Rattle.pure_order_tables.proofs.ListMore.{two_long, two_read, two_turn, no_as, test_fails}
 use Rattle.pure_order_tables.proofs.tables.Tables.domains_below.Goals as goal
 

@@ -1,5 +1,5 @@
 use Rattle.std.proofs.Common.{take}
-use Rattle.pure_term.specs.Lists.{Each}
+use Rattle.pure_text.specs.Lists.{Each}
 use Rattle.pure_order_tables.specs.Classes.{IsDeclared}
 use Rattle.pure_order_tables.proofs.tables.Tables.first_unknown.Given as goal
 

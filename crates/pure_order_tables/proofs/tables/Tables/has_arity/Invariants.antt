@@ -1,5 +1,5 @@
 use Rattle.std.proofs.Common.{◌≡◌, take}
-use Rattle.pure_term.specs.Lists.{AnyOf}
+use Rattle.pure_text.specs.Lists.{AnyOf}
 use Rattle.pure_order_tables.proofs.tables.Tables.has_arity.Given as goal
 
 abbrev pub invariant-loop-arity : goal.invariant-loop-arity

@@ -1,5 +1,5 @@
 use Rattle.std.proofs.Common.{take}
-use Rattle.pure_term.specs.Lists.{IsIn}
+use Rattle.pure_text.specs.Lists.{IsIn}
 use Rattle.pure_order_tables.specs.ArityView.{arity_of, arities_of}
 use Rattle.pure_order_tables.proofs.tables.Tables.has_same.Given as goal
 

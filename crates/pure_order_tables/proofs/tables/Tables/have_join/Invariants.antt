@@ -1,5 +1,5 @@
 use Rattle.std.proofs.Common.{take}
-use Rattle.pure_term.specs.Lists.{AnyOf}
+use Rattle.pure_text.specs.Lists.{AnyOf}
 use Rattle.pure_order_tables.specs.ArityView.{arity_of}
 use Rattle.pure_order_tables.specs.Checks.{IsAboveBoth}
 use Rattle.pure_order_tables.proofs.tables.Tables.have_join.Given as goal

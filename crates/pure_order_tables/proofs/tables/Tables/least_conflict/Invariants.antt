@@ -1,5 +1,5 @@
 use Rattle.std.proofs.Common.{take}
-use Rattle.pure_term.specs.Lists.{Each}
+use Rattle.pure_text.specs.Lists.{Each}
 use Rattle.pure_order_tables.specs.Checks.{HasNoConflict}
 use Rattle.pure_order_tables.proofs.tables.Tables.least_conflict.Given as goal
 

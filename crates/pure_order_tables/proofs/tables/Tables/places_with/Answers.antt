@@ -1,7 +1,7 @@
 use Rattle.std.proofs.Common.{take, take_all}
 use Rattle.std.specs.BTreeMap.{get}
 use Rattle.std.specs.Ordering.{nat_cmp}
-use Rattle.pure_term.specs.Lists.{IsIn}
+use Rattle.pure_text.specs.Lists.{IsIn}
 use Rattle.pure_order_tables.specs.ArityView.{arity_of}
 use Rattle.pure_order_tables.proofs.ListMore.{in_turn, read_in}
 use Rattle.pure_order_tables.proofs.MapLaws.{get_after}

@@ -1,6 +1,6 @@
 use Rattle.std.proofs.Common.{◌∷◌, [], ◌++◌, take, take_all, ap, ◌∙◌}
-use Rattle.pure_term.specs.Order.{Algebra}
-use Rattle.pure_term.proofs.ListLaws.{in-map}
+use Rattle.pure_definitions.specs.Order.{Algebra}
+use Rattle.pure_text.proofs.ListLaws.{in-map}
 use Rattle.pure_order_tables.specs.Arities.{IsKnown}
 use Rattle.pure_order_tables.specs.ArityView.{arity_of, arities_of}
 use Rattle.pure_order_tables.proofs.ListMore.{grown_put, grown_kept, each_at, read_in}

@@ -1,4 +1,4 @@
-use Rattle.pure_term.specs.Order.{IsClassBelow}
+use Rattle.pure_definitions.specs.Order.{IsClassBelow}
 use Rattle.std.proofs.Common.{inl, inr}
 use Rattle.pure_order_tables.proofs.ListMore.{any_read, any_turn, yes_as, test_fails}
 use Rattle.pure_order_tables.proofs.tables.Tables.some_below.Goals as goal

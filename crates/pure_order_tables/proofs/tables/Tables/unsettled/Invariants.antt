@@ -1,5 +1,5 @@
 use Rattle.std.proofs.Common.{ℕ, ◌⊎◌, take}
-use Rattle.pure_term.specs.Lists.{IsIn}
+use Rattle.pure_text.specs.Lists.{IsIn}
 use Rattle.pure_order_tables.specs.Checks.{IsCovered}
 use Rattle.pure_order_tables.proofs.tables.Tables.unsettled.Given as goal
 

@@ -1,4 +1,4 @@
-use Rattle.pure_term.specs.Comparison.{term_cmp-ties}
+use Rattle.pure_definitions.specs.Models.Comparison.{term_cmp-ties}
 use Rattle.pure_term.proofs.term.TermPartialEq.eq.Goals as goal
 
 pub returns : goal.returns

@@ -1,0 +1,9 @@
+pub mod OrderLaws
+pub mod LiftLaws
+pub mod TypsLemmas
+pub mod TermLemmas
+pub mod LeavesLemmas
+pub mod ArrowLemmas
+pub mod GrownLemmas
+pub mod BindLemmas
+pub mod InstanceLemmas

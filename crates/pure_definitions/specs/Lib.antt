@@ -1,0 +1,14 @@
+pub mod Names
+pub mod Typ
+pub mod Term
+pub mod Limits
+pub mod Bounds
+pub mod Conditions
+pub mod Order
+pub mod Typing
+pub mod Subst
+pub mod Decl
+pub mod Certified
+pub mod Beta
+pub mod Eta
+pub mod Models

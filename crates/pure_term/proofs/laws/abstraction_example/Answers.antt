@@ -1,5 +1,0 @@
-use Rattle.pure_term.proofs.TypingLaws.{occurs-itself}
-use Rattle.pure_term.proofs.laws.abstraction_example.Goals as goal
-
-pub returns-clause-itself : goal.returns-clause-itself
-returns-clause-itself c = occurs-itself

@@ -1,5 +1,0 @@
-use Rattle.pure_term.proofs.CertifiedLaws.{parts-lift, parts-subst, parts-bind}
-use Rattle.pure_term.proofs.laws.certification_is_kept.Goals as goal
-
-pub returns : goal.returns
-returns c = record { lifted = parts-lift; instantiated = parts-subst; abstracted = parts-bind }

@@ -1,5 +1,0 @@
-use Rattle.pure_term.proofs.OrderExamples.{joined_fork_is_coregular}
-use Rattle.pure_term.proofs.laws.coregular_example.Goals as goal
-
-pub returns : goal.returns
-returns c = joined_fork_is_coregular

@@ -1,6 +1,0 @@
-use Rattle.pure_term.proofs.LiftLaws.{subst-lift}
-use Rattle.pure_term.proofs.BoundLaws.{subst-bind, bind-subst}
-use Rattle.pure_term.proofs.laws.instantiation_and_abstraction.Goals as goal
-
-pub returns : goal.returns
-returns c = record { lifted = subst-lift; abstracted = subst-bind; back = bind-subst }

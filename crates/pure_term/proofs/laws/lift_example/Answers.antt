@@ -1,5 +1,0 @@
-use Rattle.pure_term.proofs.TypingLaws.{lift-closed}
-use Rattle.pure_term.proofs.laws.lift_example.Goals as goal
-
-pub returns-clause-closed : goal.returns-clause-closed
-returns-clause-closed c = lift-closed

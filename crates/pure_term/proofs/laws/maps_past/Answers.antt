@@ -1,5 +1,0 @@
-use Rattle.pure_term.proofs.MapLaws.{instance-lift, instance-subst, instance-bind, instance-instance}
-use Rattle.pure_term.proofs.laws.maps_past.Goals as goal
-
-pub returns : goal.returns
-returns c = record { lifted = instance-lift; instantiated = instance-subst; abstracted = instance-bind; again = instance-instance }

@@ -1,5 +1,0 @@
-use Rattle.pure_term.proofs.BetaLaws.{no_step-exactly_where_normal}
-use Rattle.pure_term.proofs.laws.no_step_exactly_where_normal.Goals as goal
-
-pub returns : goal.returns
-returns c = no_step-exactly_where_normal

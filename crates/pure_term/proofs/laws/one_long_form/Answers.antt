@@ -1,5 +1,0 @@
-use Rattle.pure_term.proofs.EtaLaws.{one_long_form as once}
-use Rattle.pure_term.proofs.laws.one_long_form.Goals as goal
-
-pub returns : goal.returns
-returns c = once

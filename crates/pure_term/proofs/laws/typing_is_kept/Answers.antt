@@ -1,5 +1,0 @@
-use Rattle.pure_term.proofs.TypingBoundLaws.{typing-lift, typing-subst, typing-bind, typing-instance}
-use Rattle.pure_term.proofs.laws.typing_is_kept.Goals as goal
-
-pub returns : goal.returns
-returns c = record { lifted = typing-lift; instantiated = typing-subst; abstracted = typing-bind; mapped = typing-instance }

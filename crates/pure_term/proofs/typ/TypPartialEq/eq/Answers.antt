@@ -1,5 +1,0 @@
-use Rattle.pure_term.specs.Comparison.{typ_cmp-ties}
-use Rattle.pure_term.proofs.typ.TypPartialEq.eq.Goals as goal
-
-pub returns : goal.returns
-returns c = let ties = typ_cmp-ties c.args.self.now c.args.other.now in cc

@@ -1,0 +1,13 @@
+pub mod TypingLaws
+pub mod LimitLaws
+pub mod MapLaws
+pub mod DeclLaws
+pub mod SubstLaws
+pub mod OrderExamples
+pub mod BetaLaws
+pub mod EtaLaws
+pub mod FaultLaws
+pub mod EtaNormalLaws
+pub mod BoundLaws
+pub mod TypingBoundLaws
+pub mod CertifiedLaws

@@ -1,0 +1,50 @@
+-- Laws of lifting, instantiation, abstraction and maps, on plain trees.
+use Rattle.std.specs.Prelude.{◌≡◌, ℕ, ◌+◌, ◌≤◌, List, ◌∷◌, ◌++◌, length, map}
+use Rattle.pure_definitions.specs.Typ.{Typ}
+use Rattle.pure_definitions.specs.Term.{Term, term_size, term_depth}
+use Rattle.pure_definitions.specs.Typing.{HasType}
+use Rattle.pure_definitions.specs.Bounds.{lift_term, subst_under, bind_under, Occurs}
+use Rattle.pure_definitions.specs.Conditions.{IsVariable, variable_typ}
+use Rattle.pure_definitions.specs.Subst.{typ_instance, term_instance, IsTypeRespecting}
+
+-- Lifting by 0 changes nothing; lifting again from a place among the new binders is lifting by the sum; and two liftings change places.
+abbrev pub LiftZero : Type 0
+LiftZero = (from : ℕ) (t : Term) → lift_term 0 from t ≡ t
+
+abbrev pub LiftAgain : Type 0
+LiftAgain = (by more from middle : ℕ) (t : Term) → from ≤ middle → middle ≤ from + by → lift_term more middle (lift_term by from t) ≡ lift_term (by + more) from t
+
+abbrev pub LiftLift : Type 0
+LiftLift = (by more below from : ℕ) (t : Term) → below ≤ from → lift_term more below (lift_term by from t) ≡ lift_term by (from + more) (lift_term more below t)
+
+-- A lifted term has the term's size and depth.
+abbrev pub SizeOfLift : Type 0
+SizeOfLift = (by from : ℕ) (t : Term) → term_size (lift_term by from t) ≡ term_size t
+
+abbrev pub DepthOfLift : Type 0
+DepthOfLift = (by from : ℕ) (t : Term) → term_depth (lift_term by from t) ≡ term_depth t
+
+-- Instantiating a lifted bound variable gives the term back.
+abbrev pub SubstLift : Type 0
+SubstLift = (n : ℕ) (arg t : Term) → subst_under n arg (lift_term 1 n t) ≡ t
+
+-- Abstraction over a variable, then instantiation with it, gives the term back; and the other way round, where the variable doesn't occur.
+abbrev pub SubstBind : Type 0
+SubstBind = (n : ℕ) (v t : Term) → IsVariable v → subst_under n v (bind_under n v t) ≡ t
+
+abbrev pub BindSubst : Type 0
+BindSubst = (n : ℕ) (v b : Term) → IsVariable v → ¬ Occurs v b → bind_under n v (subst_under n v b) ≡ b
+
+-- Typing is kept by lifting over further binders, by instantiation with a term of the binder's type, by abstraction over a variable, under whose new binder the term stands then, and by maps that respect types.
+abbrev pub TypingOfLift : Type 0
+TypingOfLift = (bs ds cs : List Typ) (n by : ℕ) (t : Term) (T : Typ) → n ≡ length bs → by ≡ length ds → HasType (bs ++ cs) t T → HasType (bs ++ (ds ++ cs)) (lift_term by n t) T
+
+abbrev pub TypingOfSubst : Type 0
+TypingOfSubst = (bs cs : List Typ) (n : ℕ) (arg b : Term) (U T : Typ) → n ≡ length bs → HasType cs arg U → HasType (bs ++ U ∷ cs) b T → HasType (bs ++ cs) (subst_under n arg b) T
+
+abbrev pub TypingOfBind : Type 0
+TypingOfBind = (bs cs : List Typ) (n : ℕ) (v t : Term) (T : Typ) → n ≡ length bs → HasType (bs ++ cs) t T → HasType (bs ++ variable_typ v ∷ cs) (bind_under n v t) T
+
+abbrev pub TypingOfInstance : Type 0
+TypingOfInstance = (typs : Typ → Typ) (terms : Term → Term) → IsTypeRespecting typs terms → (bs : List Typ) (t : Term) (T : Typ) → HasType bs t T
+    → HasType (map (typ_instance typs) bs) (term_instance typs terms t) (typ_instance typs T)

@@ -1,0 +1,6 @@
+//! Texts, and words on lists that all crates share.
+#![tactic(auto)]
+
+mod text;
+
+pub use text::Text;

@@ -1,0 +1,8 @@
+use Rattle.std.proofs.Common.{◌≡◌, drop}
+use Rattle.pure_definitions.specs.Typ.{TVar}
+use Rattle.pure_definitions.specs.Subst.{typ_image}
+use Rattle.pure_typ.proofs.maps.find_typ.Given as goal
+
+-- no entry so far replaces the variable
+abbrev pub invariant-loop-b : goal.invariant-loop-b
+invariant-loop-b l = typ_image l.binds (TVar l.name l.index l.sort) ≡ typ_image (drop l.b-index l.binds) (TVar l.name l.index l.sort)

@@ -1,0 +1,3 @@
+pub mod NameTexts
+pub mod TypView
+pub mod TypFalls

@@ -1,0 +1,64 @@
+//! Instances of types by finite maps.
+ghost use Rattle.std.specs.Prelude.{◌≡◌, IfOk};
+ghost use Rattle.pure_definitions.specs.Typ.{typ_size, typ_depth};
+ghost use Rattle.pure_definitions.specs.Subst.{typ_image, typ_instance};
+ghost use Rattle.pure_definitions.specs.Limits.{Leaves};
+
+use crate::maps::{TypBind, find_typ};
+use crate::measure::typ_leaves;
+use crate::typ::{Typ, TypNode};
+use std::alloc::{AllocError, Global};
+
+/// What is left of room when the instance of the type is put in.
+pub fn instance_leaves(t: &Typ, binds: &[TypBind], left: u32, room: u32) -> Option<u32>
+    ensures { Leaves left room (typ_size (typ_instance (typ_image binds.now) t.now)) (typ_depth (typ_instance (typ_image binds.now) t.now)) result }
+{
+    match &t.node {
+        TypNode::TFree { .. } => typ_leaves(t, left, room),
+        TypNode::TVar { name, index, sort } => match find_typ(binds, *name, *index, sort) {
+            Some(image) => typ_leaves(image, left, room),
+            None => typ_leaves(t, left, room),
+        },
+        TypNode::Con { args, .. } => {
+            if left == 0 {
+                return None;
+            }
+            if room == 0 {
+                return None;
+            }
+            let mut rest = left - 1;
+            for arg in args {
+                let Some(less) = instance_leaves(arg, binds, rest, room - 1) else {
+                    return None;
+                };
+                rest = less;
+            }
+            Some(rest)
+        }
+    }
+}
+
+/// The instance of the type.
+pub fn instance_of(alloc: Global, t: &Typ, binds: &[TypBind]) -> Result<Typ, AllocError>
+    ensures { IfOk result (λ u. u ≡ typ_instance (typ_image binds.now) t.now) }
+{
+    match &t.node {
+        TypNode::TFree { .. } => t.copy(alloc),
+        TypNode::TVar { name, index, sort } => match find_typ(binds, *name, *index, sort) {
+            Some(image) => image.copy(alloc),
+            None => t.copy(alloc),
+        },
+        TypNode::Con { name, args } => {
+            let mut images = Vec::with_capacity(alloc, args.len())?;
+            for arg in args {
+                images.push(instance_of(alloc, arg, binds)?)?;
+            }
+            Ok(Typ {
+                node: TypNode::Con {
+                    name: *name,
+                    args: images,
+                },
+            })
+        }
+    }
+}

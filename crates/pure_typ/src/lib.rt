@@ -1,0 +1,21 @@
+//! Names, sorts and types: what the crates of terms and of classes stand on. Texts are handed on.
+#![tactic(auto)]
+
+mod grow;
+mod instance;
+mod maps;
+mod measure;
+mod name;
+mod names;
+mod sort;
+mod typ;
+
+pub use grow::Grow;
+pub use instance::{instance_leaves, instance_of};
+pub use maps::{TypBind, TypMap};
+pub use measure::{MAX_DEPTH, MAX_SIZE, depth_of_typ, node_leaves, size_of_typ, typ_leaves};
+pub use name::{Label, Name};
+pub use names::Names;
+pub use pure_text::Text;
+pub use sort::Sort;
+pub use typ::{Typ, TypNode};

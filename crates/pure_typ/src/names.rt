@@ -1,0 +1,158 @@
+//! The texts of names.
+ghost use Rattle.std.specs.Prelude.{◌≡◌, ◌<◌, ℕ, ◌∷◌, ◌++◌, MatchOption, slice_get, Some, None};
+ghost use Rattle.std.specs.Ordering.{nat_cmp};
+ghost use Rattle.std.specs.Cmp.Lexicographic.{slice_cmp};
+ghost use Rattle.pure_typ.specs.NameTexts.{builtin_texts, name_texts, HasText, DoAscend, AreSessionTexts, IsFound};
+
+use crate::name::Name;
+use pure_text::Text;
+use std::cmp::Ordering;
+use std::marker::Model;
+
+/// The texts of a session's names, in byte order.
+#[derive(Debug, Drop)]
+pub struct Names {
+    texts: Vec<Text>,
+}
+
+impl Model for Names {
+    ghost use Rattle.std.specs.Prelude.{List, ℕ};
+    ghost use Rattle.pure_typ.specs.NameTexts.{AreSessionTexts};
+
+    ghost Value = { List (List ℕ) };
+
+    ghost view = { λ n. n.texts.items };
+
+    ghost invariant = { λ n. AreSessionTexts n.texts.items };
+}
+
+impl Names {
+    /// The names with these texts.
+    pub fn make(texts: Vec<Text>) -> Names
+        requires { AreSessionTexts texts.items }
+        ensures { result ≡ texts.items }
+    {
+        Names { texts }
+    }
+
+    /// The name with this text.
+    pub fn find(&self, text: &[u8]) -> Option<Name>
+        ensures { IsFound (name_texts self.now) text.now result }
+    {
+        self.find_joined(text, b"", b"")
+    }
+
+    /// The name with the text `theory.base`.
+    pub fn find_in(&self, theory: &[u8], base: &[u8]) -> Option<Name>
+        ensures { IsFound (name_texts self.now) (theory.now ++ 46 ∷ base.now) result }
+    {
+        self.find_joined(theory, b".", base)
+    }
+
+    /// The text of the name; a name of a fresh variable has none.
+    pub fn text(&self, name: Name) -> Option<&[u8]>
+        ensures { MatchOption result (slice_get (name_texts self.now) name ≡ None) (λ text. HasText self.now name text.now) }
+    {
+        let number = name.0;
+        if number < 6 {
+            return Some(builtin(number));
+        }
+        match self.texts.get((number - 6) as usize) {
+            Some(text) => Some(text.bytes()),
+            None => None,
+        }
+    }
+
+    // The name with the three texts, one after another.
+    fn find_joined(&self, a: &[u8], b: &[u8], c: &[u8]) -> Option<Name>
+        ensures { IsFound (name_texts self.now) (a.now ++ (b.now ++ c.now)) result }
+    {
+        if let Some(number) = find_builtin(a, b, c) {
+            return Some(Name(number));
+        }
+        match find_text(self.texts.as_slice(), a, b, c) {
+            Some(index) => Some(Name(index as u32 + 6)),
+            None => None,
+        }
+    }
+}
+
+// The text of a name that Pure itself declares.
+#[tactic(auto, unfolding(crate::specs::NameTexts::builtin_texts))]
+fn builtin(number: u32) -> &'static [u8]
+    requires { number < 6 }
+    ensures { slice_get builtin_texts number ≡ Some result.now }
+{
+    match number {
+        0 => b"Pure.fun",
+        1 => b"Pure.prop",
+        2 => b"Pure.all",
+        3 => b"Pure.imp",
+        4 => b"Pure.eq",
+        5 => b"Pure.protect",
+        _ => unreachable!(),
+    }
+}
+
+fn find_builtin(a: &[u8], b: &[u8], c: &[u8]) -> Option<u32>
+    ensures { IsFound builtin_texts (a.now ++ (b.now ++ c.now)) result }
+{
+    for number in 0..6u32 {
+        if compare_joined(builtin(number), a, b, c).is_eq() {
+            return Some(number);
+        }
+    }
+    None
+}
+
+fn find_text(texts: &[Text], a: &[u8], b: &[u8], c: &[u8]) -> Option<usize>
+    requires { DoAscend texts.now }
+    ensures { IsFound texts.now (a.now ++ (b.now ++ c.now)) result }
+{
+    let mut low = 0;
+    let mut high = texts.len();
+    while low < high {
+        let middle = low + (high - low) / 2;
+        let text = &texts[middle];
+        match compare_joined(text.bytes(), a, b, c) {
+            Ordering::Less => low = middle + 1,
+            Ordering::Greater => high = middle,
+            Ordering::Equal => return Some(middle),
+        }
+    }
+    None
+}
+
+// The byte at this place of three texts, one after another.
+fn byte_at(a: &[u8], b: &[u8], c: &[u8], at: usize) -> Option<u8>
+    ensures { result ≡ slice_get (a.now ++ (b.now ++ c.now)) at }
+{
+    if at < a.len() {
+        return Some(a[at]);
+    }
+    let at = at - a.len();
+    if at < b.len() {
+        return Some(b[at]);
+    }
+    c.get(at - b.len()).copied()
+}
+
+// The order of a text and three texts, one after another.
+fn compare_joined(text: &[u8], a: &[u8], b: &[u8], c: &[u8]) -> Ordering
+    ensures { result ≡ slice_cmp nat_cmp text.now (a.now ++ (b.now ++ c.now)) }
+{
+    for (at, byte) in text.iter().enumerate() {
+        let Some(other) = byte_at(a, b, c, at) else {
+            return Ordering::Greater;
+        };
+        match byte.cmp(&other) {
+            Ordering::Less => return Ordering::Less,
+            Ordering::Greater => return Ordering::Greater,
+            Ordering::Equal => {}
+        }
+    }
+    match byte_at(a, b, c, text.len()) {
+        Some(_) => Ordering::Less,
+        None => Ordering::Equal,
+    }
+}

@@ -1,0 +1,93 @@
+//! Sorts.
+ghost use Rattle.std.specs.Prelude.{◌≡◌, IfOk, refl, Some};
+ghost use Rattle.std.specs.Ordering.{nat_cmp};
+ghost use Rattle.std.specs.Cmp.Lexicographic.{slice_cmp, nat_list_eq_equiv, nat_list_cmp_total, texts_ties, texts_po};
+ghost use Rattle.std.specs.Cmp.{partial_equiv_from_equiv};
+ghost use Rattle.std.specs.List.Sorted.{IsStrictlyIncreasing};
+ghost use Rattle.pure_definitions.specs.Typ.{sort_eq};
+
+use crate::name::Name;
+use std::alloc::{AllocError, Global};
+use std::cmp::Ordering;
+use std::marker::Model;
+
+/// A sort, the intersection of its classes, whose names ascend strictly.
+#[derive(Debug, Drop)]
+pub struct Sort {
+    classes: Vec<Name>,
+}
+
+impl Model for Sort {
+    ghost use Rattle.std.specs.Prelude.{List, ℕ};
+    ghost use Rattle.std.specs.List.Sorted.{IsStrictlyIncreasing};
+
+    ghost Value = { List ℕ };
+
+    ghost view = { λ s. s.classes.items };
+
+    ghost invariant = { λ s. IsStrictlyIncreasing s.classes.items };
+}
+
+impl Sort {
+    /// The sort of these classes.
+    pub fn make(classes: Vec<Name>) -> Sort
+        requires { IsStrictlyIncreasing classes.items }
+        ensures { result ≡ classes.items }
+    {
+        Sort { classes }
+    }
+
+    /// The classes, in ascending order.
+    pub fn classes(&self) -> &[Name]
+        ensures are { result.now ≡ self.now }
+        ensures ascend { IsStrictlyIncreasing self.now }
+    {
+        self.classes.as_slice()
+    }
+
+    /// An equal sort.
+    pub fn copy(&self, alloc: Global) -> Result<Sort, AllocError>
+        ensures { IfOk result (λ s. s ≡ self.now) }
+    {
+        let classes = Vec::from_slice(alloc, self.classes())?;
+        Ok(Sort { classes })
+    }
+}
+
+impl PartialEq for Sort {
+    ghost eq = { sort_eq };
+
+    ghost laws = { partial_equiv_from_equiv nat_list_eq_equiv };
+
+    fn eq(&self, other: &Sort) -> bool {
+        self.classes() == other.classes()
+    }
+}
+
+impl Eq for Sort {
+    ghost laws = { nat_list_eq_equiv };
+}
+
+impl Ord for Sort {
+    ghost cmp = { slice_cmp nat_cmp };
+
+    ghost total = { nat_list_cmp_total };
+
+    ghost matches_partial_cmp = { λ x y. refl };
+
+    ghost matches_eq = { texts_ties };
+
+    fn cmp(&self, other: &Sort) -> Ordering {
+        self.classes().cmp(other.classes())
+    }
+}
+
+impl PartialOrd for Sort {
+    ghost partial_cmp = { λ x y. Some (slice_cmp nat_cmp x y) };
+
+    ghost laws = { texts_po };
+
+    fn partial_cmp(&self, other: &Sort) -> Option<Ordering> {
+        Some(self.cmp(other))
+    }
+}
