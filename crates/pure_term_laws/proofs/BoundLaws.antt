@@ -47,7 +47,7 @@ place_at-itself n arg =
     let same : nat_eq n n ≡ true = grind (arith, nat_tests) in
     rw (below, same) refl
 
-bind-bound : (n : ℕ) (v : Term) (p : ℕ) → bind_under n v (Bound p) ≡ Bound (lifted 1 n p)
+pub bind-bound : (n : ℕ) (v : Term) (p : ℕ) → bind_under n v (Bound p) ≡ Bound (lifted 1 n p)
 bind-bound n v p = by_cases (nat_lt p n)
   where
     by_cases : (b : Bool) → (if b then Bound p else Bound (p + 1)) ≡ Bound (if b then p else p + 1)

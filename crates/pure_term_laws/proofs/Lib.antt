@@ -9,5 +9,6 @@ pub mod EtaLaws
 pub mod FaultLaws
 pub mod EtaNormalLaws
 pub mod BoundLaws
+pub mod BindLaws
 pub mod TypingBoundLaws
 pub mod CertifiedLaws

@@ -8,22 +8,23 @@ use Rattle.pure_definitions.specs.Bounds.{IsClosedUnder, IsClosed, lift_term, pl
 use Rattle.pure_definitions.specs.Conditions.{IsVariable}
 use Rattle.pure_definitions.specs.Subst.{typ_instance, typs_instance, term_instance}
 use Rattle.pure_definitions.specs.Models.Equality.{term_eq-same, term_eq-itself}
-use Rattle.pure_term_laws.specs.LawsMaps.{AreImagesClosed, SendsAlone}
+use Rattle.pure_term_laws.specs.LawsMaps.{AreImagesClosed, SendsAlone, sent, SendsAloneExample}
+use Rattle.pure_term_laws.specs.LawsExamples.{p, x, y, z}
 use Rattle.pure_definitions.proofs.LiftLaws.{lifted, lift_term-bound, subst-lift}
 use Rattle.pure_term_laws.proofs.BoundLaws.{lift-again}
 use Rattle.pure_definitions.proofs.BindLemmas.{term_eq-other, bind_under-same, bind_under-other}
 use Rattle.pure_term_laws.proofs.TypingLaws.{lift-closed_under}
 
-place-below : (n : ℕ) (c : Term) (p : ℕ) → p + 1 ≤ n → place_at n c p ≡ Bound p
+pub place-below : (n : ℕ) (c : Term) (p : ℕ) → p + 1 ≤ n → place_at n c p ≡ Bound p
 place-below n c p h = let e : nat_lt p n ≡ true = grind (arith, nat_tests) in rw e refl
 
-place-itself : (n : ℕ) (c : Term) → place_at n c n ≡ lift_term n 0 c
+pub place-itself : (n : ℕ) (c : Term) → place_at n c n ≡ lift_term n 0 c
 place-itself n c =
     let e : nat_lt n n ≡ false = grind (arith, nat_tests) in
     let f : nat_eq n n ≡ true = grind (arith, nat_tests) in
     rw (e, f) refl
 
-place-above : (n : ℕ) (c : Term) (p : ℕ) → n ≤ p → place_at n c (p + 1) ≡ Bound p
+pub place-above : (n : ℕ) (c : Term) (p : ℕ) → n ≤ p → place_at n c (p + 1) ≡ Bound p
 place-above n c p h =
     let e : nat_lt (p + 1) n ≡ false = grind (arith, nat_tests) in
     let f : nat_eq (p + 1) n ≡ false = grind (arith, nat_tests) in
@@ -31,7 +32,7 @@ place-above n c p h =
     rw (e, f, back) refl
 
 -- A place is below n, or n, or one above some place that isn't below it.
-abbrev Beside : (n p : ℕ) → Type 0
+abbrev pub Beside : (n p : ℕ) → Type 0
 Beside n p = (p + 1 ≤ n) ⊎ ((p ≡ n) ⊎ ((q : ℕ) × (p ≡ q + 1) × (n ≤ q)))
 
 beside-suc : (n p : ℕ) → Beside n p → Beside (suc n) (suc p)
@@ -39,7 +40,7 @@ beside-suc n p (inl h) = inl (omega arith)
 beside-suc n p (inr (inl e)) = inr (inl (omega arith))
 beside-suc n p (inr (inr (q, e, h))) = inr (inr (suc q, omega arith, omega arith))
 
-beside : (n p : ℕ) → Beside n p
+pub beside : (n p : ℕ) → Beside n p
 beside zero zero = inr (inl refl)
 beside zero (suc p) = inr (inr (p, omega arith, omega arith))
 beside (suc n) zero = inl (omega arith)
@@ -201,26 +202,89 @@ module _ (typs : Typ → Typ) (terms : Term → Term) (closed : AreImagesClosed 
   instance-subst n arg (Abs T b) = ap (Abs (typ_instance typs T)) (instance-subst (n + 1) arg b)
   instance-subst n arg (App f a) = λ l. App (instance-subst n arg f l) (instance-subst n arg a l)
 
-  module _ (v w : Term) (sends : SendsAlone terms v w) where
-    bind-chosen : (n : ℕ) (u : Term) → IsVariable u → IsClosed (terms u) → term_instance typs terms u ≡ terms u → (b : Bool) → term_eq v u ≡ b
+  module _ (v w : Term) (image : terms v ≡ w) (variable : IsVariable w) where
+    bind-chosen : (n : ℕ) (u : Term) → IsVariable u → (v ≢ u → ¬ Occurs w (terms u)) → IsClosed (terms u) → term_instance typs terms u ≡ terms u → (b : Bool) → term_eq v u ≡ b
         → term_instance typs terms (bind_under n v u) ≡ bind_under n w (terms u)
-    bind-chosen n u is whole e true t =
+    bind-chosen n u is fresh whole e true t =
         let same : v ≡ u = term_eq-same v u t in
         ap (term_instance typs terms) (bind_under-same n v u is same)
-        ∙ sym (ap (bind_under n w) (ap terms (sym same) ∙ sends.image) ∙ bind_under-same n w w sends.image_variable refl)
-    bind-chosen n u is whole e false t =
+        ∙ sym (ap (bind_under n w) (ap terms (sym same) ∙ image) ∙ bind_under-same n w w variable refl)
+    bind-chosen n u is fresh whole e false t =
         let other : v ≢ u = λ s. (let itself : term_eq u u ≡ true = term_eq-itself u in let not : term_eq u u ≡ false = rw s at t in cc) in
-        (ap (term_instance typs terms) (bind_under-other n v u is other) ∙ e) ∙ sym (bind-fresh n 0 w (terms u) (omega arith) whole (sends.others u is other))
+        (ap (term_instance typs terms) (bind_under-other n v u is other) ∙ e) ∙ sym (bind-fresh n 0 w (terms u) (omega arith) whole (fresh other))
 
-    -- Maps past an abstraction.
-    pub instance-bind : (n : ℕ) (t : Term) → term_instance typs terms (bind_under n v t) ≡ bind_under n w (term_instance typs terms t)
-    instance-bind n (Const c T) = refl
-    instance-bind n (Free x T) = bind-chosen n (Free x T) tt (closed.fixed x T) refl (term_eq v (Free x T)) refl
-    instance-bind n (Var x i T) = bind-chosen n (Var x i T) tt (closed.schematic x i T) refl (term_eq v (Var x i T)) refl
-    instance-bind n (Bound p) = by_cases (nat_lt p n)
+    bind-sent : (n : ℕ) (t : Term) → ((u : Term) → IsVariable u → Occurs u t → v ≢ u → ¬ Occurs w (terms u))
+        → term_instance typs terms (bind_under n v t) ≡ bind_under n w (term_instance typs terms t)
+    bind-sent n (Const c T) others = refl
+    bind-sent n (Free x T) others = bind-chosen n (Free x T) tt (others (Free x T) tt refl) (closed.fixed x T) refl (term_eq v (Free x T)) refl
+    bind-sent n (Var x i T) others = bind-chosen n (Var x i T) tt (others (Var x i T) tt refl) (closed.schematic x i T) refl (term_eq v (Var x i T)) refl
+    bind-sent n (Bound p) others = by_cases (nat_lt p n)
       where
         by_cases : (b : Bool) → term_instance typs terms (if b then Bound p else Bound (p + 1)) ≡ (if b then Bound p else Bound (p + 1))
         by_cases true = refl
         by_cases false = refl
-    instance-bind n (Abs T b) = ap (Abs (typ_instance typs T)) (instance-bind (n + 1) b)
-    instance-bind n (App f a) = λ l. App (instance-bind n f l) (instance-bind n a l)
+    bind-sent n (Abs T b) others = ap (Abs (typ_instance typs T)) (bind-sent (n + 1) b (λ u is o. others u is (inr o)))
+    bind-sent n (App f a) others = λ l. App (bind-sent n f (λ u is o. others u is (inr (inl o))) l) (bind-sent n a (λ u is o. others u is (inr (inr o))) l)
+
+  -- Maps past an abstraction.
+  pub instance-bind : (v w t : Term) → SendsAlone terms v w t → (n : ℕ) → term_instance typs terms (bind_under n v t) ≡ bind_under n w (term_instance typs terms t)
+  instance-bind v w t sends n = bind-sent v w sends.image sends.image_variable n t sends.others
+
+-- Maps that agree on the variables of a term give one instance.
+pub instances-agree : (typs : Typ → Typ) (terms others : Term → Term) (t : Term) → ((u : Term) → IsVariable u → Occurs u t → terms u ≡ others u)
+    → term_instance typs terms t ≡ term_instance typs others t
+instances-agree typs terms others (Const c T) same = refl
+instances-agree typs terms others (Free x T) same = same (Free x T) tt refl
+instances-agree typs terms others (Var x i T) same = same (Var x i T) tt refl
+instances-agree typs terms others (Bound p) same = refl
+instances-agree typs terms others (Abs T b) same = ap (Abs (typ_instance typs T)) (instances-agree typs terms others b (λ u is o. same u is (inr o)))
+instances-agree typs terms others (App f a) same =
+    λ l. App (instances-agree typs terms others f (λ u is o. same u is (inr (inl o))) l) (instances-agree typs terms others a (λ u is o. same u is (inr (inr o))) l)
+
+-- A variable that doesn't occur may be sent elsewhere.
+pub instance-sent_elsewhere : (typs : Typ → Typ) (terms : Term → Term) (v w t : Term) → ¬ Occurs v t → term_instance typs (sent v w terms) t ≡ term_instance typs terms t
+instance-sent_elsewhere typs terms v w t absent =
+    instances-agree typs (sent v w terms) terms t (λ u is o. (let other : term_eq v u ≡ false = term_eq-other v u (λ e. absent (rw e o)) in rw other refl))
+
+-- what is no variable isn't one
+pub not_variable : {A : Type 0} (u t : Term) → IsVariable u → u ≡ t → ¬ IsVariable t → A
+not_variable u t is e other = absurd (other (rw (← e) is))
+
+-- What occurs in the image of a variable of the term occurs in the term's instance.
+pub occurs_in-instance : (typs : Typ → Typ) (terms : Term → Term) (u w t : Term) → IsVariable u → Occurs u t → Occurs w (terms u) → Occurs w (term_instance typs terms t)
+occurs_in-instance typs terms u w (Const c T) is o h = not_variable u (Const c T) is o (λ no. no)
+occurs_in-instance typs terms u w (Free x T) is o h = rw (← o) h
+occurs_in-instance typs terms u w (Var x i T) is o h = rw (← o) h
+occurs_in-instance typs terms u w (Bound p) is o h = not_variable u (Bound p) is o (λ no. no)
+occurs_in-instance typs terms u w (Abs T b) is (inl e) h = not_variable u (Abs T b) is e (λ no. no)
+occurs_in-instance typs terms u w (Abs T b) is (inr o) h = inr (occurs_in-instance typs terms u w b is o h)
+occurs_in-instance typs terms u w (App f a) is (inl e) h = not_variable u (App f a) is e (λ no. no)
+occurs_in-instance typs terms u w (App f a) is (inr (inl o)) h = inr (inl (occurs_in-instance typs terms u w f is o h))
+occurs_in-instance typs terms u w (App f a) is (inr (inr o)) h = inr (inr (occurs_in-instance typs terms u w a is o h))
+
+-- the variable y is sent to z, which isn't in the term `p x y`, and x stays
+pub sent-alone_example : SendsAloneExample
+sent-alone_example = (
+  record {
+    variable = tt;
+    image = refl;
+    image_variable = tt;
+    others = λ u is o other h. let same : sent y z (λ v. v) u ≡ u = rw (term_eq-other y u other) refl in absurd (z_not_there u o (occurs-variable u is (rw same at h)));
+  },
+  refl,
+)
+  where
+    occurs-variable : (u : Term) → IsVariable u → Occurs z u → z ≡ u
+    occurs-variable (Free n T) is o = o
+    occurs-variable (Var n k T) is o = o
+    occurs-variable (Const n T) is o = absurd is
+    occurs-variable (Bound n) is o = absurd is
+    occurs-variable (Abs T b) is o = absurd is
+    occurs-variable (App f a) is o = absurd is
+
+    z_not_there : (u : Term) → Occurs u (App (App p x) y) → z ≡ u → ⊥
+    z_not_there u (inl e) h = cc
+    z_not_there u (inr (inl (inl e))) h = cc
+    z_not_there u (inr (inl (inr (inl e)))) h = cc
+    z_not_there u (inr (inl (inr (inr e)))) h = let bad : 42 ≡ 40 = cc in absurd (omega (arith, bad))
+    z_not_there u (inr (inr e)) h = let bad : 42 ≡ 41 = cc in absurd (omega (arith, bad))

@@ -35,6 +35,31 @@ SubstBind = (n : ℕ) (v t : Term) → IsVariable v → subst_under n v (bind_un
 abbrev pub BindSubst : Type 0
 BindSubst = (n : ℕ) (v b : Term) → IsVariable v → ¬ Occurs v b → bind_under n v (subst_under n v b) ≡ b
 
+-- What was abstracted over doesn't occur any more; and abstraction over a variable that doesn't occur is a lifting over one binder.
+abbrev pub NotInBind : Type 0
+NotInBind = (n : ℕ) (v t : Term) → IsVariable v → ¬ Occurs v (bind_under n v t)
+
+abbrev pub BindOfOther : Type 0
+BindOfOther = (n : ℕ) (v t : Term) → ¬ Occurs v t → bind_under n v t ≡ lift_term 1 n t
+
+-- Lifting above the place of an instantiation.
+abbrev pub LiftPastSubst : Type 0
+LiftPastSubst = (m n k : ℕ) (arg t : Term) → lift_term m (n + k) (subst_under n arg t) ≡ subst_under n (lift_term m k arg) (lift_term m (n + k + 1) t)
+
+-- Lifting above the place of an abstraction, and from below it, which raises the place.
+abbrev pub LiftAboveBind : Type 0
+LiftAboveBind = (by n from : ℕ) (v t : Term) → n ≤ from → lift_term by (from + 1) (bind_under n v t) ≡ bind_under n v (lift_term by from t)
+
+abbrev pub LiftBelowBind : Type 0
+LiftBelowBind = (by n from : ℕ) (v t : Term) → from ≤ n → lift_term by from (bind_under n v t) ≡ bind_under (n + by) v (lift_term by from t)
+
+-- Abstraction at or above the place of an instantiation binds the variable in the argument too; below it the variable may not occur there.
+abbrev pub BindPastSubst : Type 0
+BindPastSubst = (n k : ℕ) (v arg t : Term) → bind_under (n + k) v (subst_under n arg t) ≡ subst_under n (bind_under k v arg) (bind_under (n + k + 1) v t)
+
+abbrev pub BindBelowSubst : Type 0
+BindBelowSubst = (m k : ℕ) (v arg t : Term) → IsVariable v → ¬ Occurs v arg → bind_under m v (subst_under (m + k) arg t) ≡ subst_under (m + k + 1) arg (bind_under m v t)
+
 -- Typing is kept by lifting over further binders, by instantiation with a term of the binder's type, by abstraction over a variable, under whose new binder the term stands then, and by maps that respect types.
 abbrev pub TypingOfLift : Type 0
 TypingOfLift = (bs ds cs : List Typ) (n by : ℕ) (t : Term) (T : Typ) → n ≡ length bs → by ≡ length ds → HasType (bs ++ cs) t T → HasType (bs ++ (ds ++ cs)) (lift_term by n t) T

@@ -37,12 +37,15 @@ f = Const 31 (arrow i i)
 abbrev pub p : Term
 p = Const 32 (arrow i (arrow i i))
 
--- the fixed variables `x :: i` and `y :: i`, and the schematic ones `?x :: i` and `?y :: i`
+-- the fixed variables `x :: i`, `y :: i` and `z :: i`, and the schematic ones `?x :: i` and `?y :: i`
 abbrev pub x : Term
 x = Free 40 i
 
 abbrev pub y : Term
 y = Free 41 i
+
+abbrev pub z : Term
+z = Free 42 i
 
 abbrev pub any_x : Term
 any_x = Var 40 0 i

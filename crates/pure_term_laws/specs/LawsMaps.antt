@@ -1,10 +1,11 @@
 -- Laws of instantiation past liftings and instantiations, and of maps past liftings, instantiations and abstractions, on plain trees.
-use Rattle.std.specs.Prelude.{◌≡◌, ◌≢◌, ℕ, ◌+◌, ◌≤◌}
+use Rattle.std.specs.Prelude.{◌≡◌, ◌≢◌, ℕ, ◌+◌, ◌≤◌, if◌then◌else◌}
 use Rattle.pure_definitions.specs.Typ.{Typ}
-use Rattle.pure_definitions.specs.Term.{Term, Free, Var, term_size, term_depth}
+use Rattle.pure_definitions.specs.Term.{Term, Free, Var, App, term_eq, term_size, term_depth}
 use Rattle.pure_definitions.specs.Bounds.{IsClosed, lift_term, subst_under, bind_under, Occurs}
 use Rattle.pure_definitions.specs.Conditions.{IsVariable}
 use Rattle.pure_definitions.specs.Subst.{typ_instance, term_instance}
+use Rattle.pure_term_laws.specs.LawsExamples.{p, x, y, z}
 
 -- Instantiation past a lifting over m binders, k of them the term's own.
 abbrev pub SubstPastLift : Type 0
@@ -35,17 +36,37 @@ abbrev pub InstanceOfSubst : Type 0
 InstanceOfSubst = (typs : Typ → Typ) (terms : Term → Term) → AreImagesClosed terms → (n : ℕ) (arg b : Term)
     → term_instance typs terms (subst_under n arg b) ≡ subst_under n (term_instance typs terms arg) (term_instance typs terms b)
 
--- The maps send the variable v to the variable w, which occurs in the image of no other variable.
-pub record SendsAlone (terms : Term → Term) (v w : Term) : Type 0 where
+-- On the variables of the term the maps send the variable v to the variable w, which occurs in the image of no other of them.
+pub record SendsAlone (terms : Term → Term) (v w t : Term) : Type 0 where
   pub variable : IsVariable v
   pub image : terms v ≡ w
   pub image_variable : IsVariable w
-  pub others : (u : Term) → IsVariable u → v ≢ u → ¬ Occurs w (terms u)
+  pub others : (u : Term) → IsVariable u → Occurs u t → v ≢ u → ¬ Occurs w (terms u)
 
 -- Maps past an abstraction.
 abbrev pub InstanceOfBind : Type 0
-InstanceOfBind = (typs : Typ → Typ) (terms : Term → Term) → AreImagesClosed terms → (v w : Term) → SendsAlone terms v w → (n : ℕ) (t : Term)
+InstanceOfBind = (typs : Typ → Typ) (terms : Term → Term) → AreImagesClosed terms → (v w t : Term) → SendsAlone terms v w t → (n : ℕ)
     → term_instance typs terms (bind_under n v t) ≡ bind_under n w (term_instance typs terms t)
+
+-- the term map with the variable v sent to w, and each other variable as before
+abbrev pub sent : (v w : Term) → (terms : Term → Term) → Term → Term
+sent v w terms u = if term_eq v u then w else terms u
+
+-- Of two fixed variables of a term one is sent to a fresh one: `%x. f x` in which y becomes z.
+abbrev pub SendsAloneExample : Type 0
+SendsAloneExample = SendsAlone (sent y z (λ u. u)) y z (App (App p x) y) × (term_instance (λ T. T) (sent y z (λ u. u)) (App (App p x) y) ≡ App (App p x) z)
+
+-- Maps that agree on the variables of a term give one instance of it; so a variable that doesn't occur may be sent elsewhere.
+abbrev pub InstancesAgree : Type 0
+InstancesAgree = (typs : Typ → Typ) (terms others : Term → Term) (t : Term) → ((u : Term) → IsVariable u → Occurs u t → terms u ≡ others u)
+    → term_instance typs terms t ≡ term_instance typs others t
+
+abbrev pub InstanceSentElsewhere : Type 0
+InstanceSentElsewhere = (typs : Typ → Typ) (terms : Term → Term) (v w t : Term) → ¬ Occurs v t → term_instance typs (sent v w terms) t ≡ term_instance typs terms t
+
+-- What occurs in the image of a variable of the term occurs in the term's instance.
+abbrev pub OccursInInstance : Type 0
+OccursInInstance = (typs : Typ → Typ) (terms : Term → Term) (u w t : Term) → IsVariable u → Occurs u t → Occurs w (terms u) → Occurs w (term_instance typs terms t)
 
 -- Maps one after the other are one map.
 abbrev pub InstanceOfInstance : Type 0

@@ -3,9 +3,9 @@ ghost use Rattle.pure_term_laws.specs.LawsTyping.{TypsAreLists, ListsAreTyps, Ty
 ghost use Rattle.pure_term_laws.specs.LawsOrder.{BelowExample, SortBelowExample, OfSortExample, WrongCountExample, UnevenIsNotCoregular, DeclaredClasses, DeclaredArities, CertifiedPartsExample, JoinedForkIsCoregular, CrossingIsNotCoregular, OpenForkIsNotCoregular, FallingIsNotCoregular, CertifiedExample, NotCertifiedExample, CertifiedImagesExample};
 ghost use Rattle.pure_term_laws.specs.LawsSubst.{IdentityIsSortRespecting, IdentityIsTypeRespecting, IdentityChangesNoType, IdentityChangesNoTerm, EntriesRespectSorts, EntriesRespectTypes, EntriesKeepFixedTyps, EntriesKeepFixed, TermMapAlone, InstanceExample, TypInstanceExample, FixedTypExample, AllAtOnceExample, KeyedOnOwnTypeExample, SortRespectExample, TypeRespectExample};
 ghost use Rattle.pure_term_laws.specs.LawsNormal.{NoStepExactlyWhereNormal, OneBetaSequence, OneBetaSequenceToNormal, EachTermHasBetaAnswer, OneBetaAnswer, BetaStepsExample, BetaAnswerExample, BetaNormalExample, EndlessExample, LargeExample, EtaExample, LongFormExample, TwoArrowsExample, OneLongForm, OneEtaNormalForm};
-ghost use Rattle.pure_term_laws.specs.LawsBounds.{LiftZero, LiftAgain, LiftLift, SizeOfLift, DepthOfLift, SubstLift, SubstBind, BindSubst, TypingOfLift, TypingOfSubst, TypingOfBind, TypingOfInstance};
+ghost use Rattle.pure_term_laws.specs.LawsBounds.{LiftZero, LiftAgain, LiftLift, SizeOfLift, DepthOfLift, SubstLift, SubstBind, BindSubst, NotInBind, BindOfOther, LiftPastSubst, LiftAboveBind, LiftBelowBind, BindPastSubst, BindBelowSubst, TypingOfLift, TypingOfSubst, TypingOfBind, TypingOfInstance};
 ghost use Rattle.pure_term_laws.specs.LawsCertified.{PartsOfLift, PartsOfSubst, PartsOfBind};
-ghost use Rattle.pure_term_laws.specs.LawsMaps.{SubstPastLift, SubstPastSubst, SizeOfSubst, DepthOfSubst, InstanceOfLift, InstanceOfSubst, InstanceOfBind, InstanceOfInstance};
+ghost use Rattle.pure_term_laws.specs.LawsMaps.{SubstPastLift, SubstPastSubst, SizeOfSubst, DepthOfSubst, InstanceOfLift, InstanceOfSubst, InstanceOfBind, SendsAloneExample, InstancesAgree, InstanceSentElsewhere, OccursInInstance, InstanceOfInstance};
 
 /// The mutual list of types stands for a list.
 pub fn typs_are_lists()
@@ -226,4 +226,31 @@ pub fn maps_past()
     ensures instantiated { InstanceOfSubst }
     ensures abstracted { InstanceOfBind }
     ensures again { InstanceOfInstance }
+{}
+
+/// A map past an abstraction may move a fixed variable of the term to a fresh one.
+pub fn sent_alone_example()
+    ensures { SendsAloneExample }
+{}
+
+/// An instance rests on the images of the variables that occur, and has what occurs in them.
+pub fn instance_by_occurring_variables()
+    ensures agree { InstancesAgree }
+    ensures elsewhere { InstanceSentElsewhere }
+    ensures occurs { OccursInInstance }
+{}
+
+/// What was abstracted over doesn't occur any more, and abstraction over what doesn't occur is a lifting.
+pub fn abstraction_and_occurrence()
+    ensures none { NotInBind }
+    ensures lifting { BindOfOther }
+{}
+
+/// Lifting and abstraction past one another, and both past an instantiation.
+pub fn lifting_and_abstraction_past()
+    ensures lift_past_subst { LiftPastSubst }
+    ensures lift_above_bind { LiftAboveBind }
+    ensures lift_below_bind { LiftBelowBind }
+    ensures bind_past_subst { BindPastSubst }
+    ensures bind_below_subst { BindBelowSubst }
 {}
