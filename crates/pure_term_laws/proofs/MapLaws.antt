@@ -282,9 +282,12 @@ sent-alone_example = (
     occurs-variable (Abs T b) is o = absurd is
     occurs-variable (App f a) is o = absurd is
 
+    apart : (m n : ℕ) → n + 1 ≤ m → m ≡ n → ⊥
+    apart m n low e = omega arith
+
     z_not_there : (u : Term) → Occurs u (App (App p x) y) → z ≡ u → ⊥
     z_not_there u (inl e) h = cc
     z_not_there u (inr (inl (inl e))) h = cc
     z_not_there u (inr (inl (inr (inl e)))) h = cc
-    z_not_there u (inr (inl (inr (inr e)))) h = let bad : 42 ≡ 40 = cc in absurd (omega (arith, bad))
-    z_not_there u (inr (inr e)) h = let bad : 42 ≡ 41 = cc in absurd (omega (arith, bad))
+    z_not_there u (inr (inl (inr (inr e)))) h = absurd (apart 42 40 (omega arith) (cc))
+    z_not_there u (inr (inr e)) h = absurd (apart 42 41 (omega arith) (cc))

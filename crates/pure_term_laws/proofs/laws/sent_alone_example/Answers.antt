@@ -1,6 +1,3 @@
-use Rattle.std.proofs.Common.{refl, ◌≡◌}
-use Rattle.std.specs.Prelude.{false}
-use Rattle.pure_definitions.specs.Term.{App, Free, term_eq}
 use Rattle.pure_term_laws.proofs.MapLaws.{sent-alone_example}
 use Rattle.pure_term_laws.proofs.laws.sent_alone_example.Goals as goal
 
