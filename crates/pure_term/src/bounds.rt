@@ -22,6 +22,7 @@ pub fn lift(alloc: Global, t: &Term, by: u32, from: u32) -> Result<Term, Grow>
     Ok(Box::into_inner(lift_under(alloc, t, by, u64::from(from))?))
 }
 
+/// The same in a block of its own, under binders of the term.
 fn lift_under(alloc: Global, t: &Term, by: u32, from: u64) -> Result<Box<Term>, AllocError>
     requires liftable { IsLiftable by from t.now }
     requires shallow { from + term_depth t.now < 2 ^ 64 }
@@ -61,7 +62,7 @@ pub fn subst_bound(alloc: Global, body: &Term, arg: &Term) -> Result<Term, Grow>
     Ok(Box::into_inner(put_under(alloc, body, 0, arg)?))
 }
 
-// What is left of room when the body with the argument put in place of bound variable `place` is put in.
+/// What is left of room when the body with the argument put in place of bound variable `place` is put in.
 fn subst_leaves(
     body: &Term,
     place: u32,
@@ -73,8 +74,8 @@ fn subst_leaves(
 ) -> Option<u32>
     requires arg_size { arg_size ≡ cut_off (term_size arg.now) }
     requires arg_depth { arg_depth ≡ cut_off (term_depth arg.now) }
-    requires few { place + left ≤ 200000 }
-    requires low { room ≤ 2000 }
+    requires few { place + left ≤ MAX_SIZE }
+    requires low { room ≤ MAX_DEPTH }
     ensures { Leaves left room (term_size (subst_under place arg.now body.now)) (term_depth (subst_under place arg.now body.now)) result }
 {
     match &body.node {
@@ -108,9 +109,10 @@ fn subst_leaves(
     }
 }
 
+/// The body with the argument put in place of bound variable `place`.
 fn put_under(alloc: Global, body: &Term, place: u32, arg: &Term) -> Result<Box<Term>, AllocError>
     requires puttable { IsPuttable place arg.now body.now }
-    requires few { place + term_size (subst_under place arg.now body.now) ≤ 200000 }
+    requires few { place + term_size (subst_under place arg.now body.now) ≤ MAX_SIZE }
     ensures { IfOk result (λ u. u.value ≡ subst_under place arg.now body.now) }
 {
     let node = match &body.node {
@@ -152,9 +154,10 @@ pub fn abstract_over(alloc: Global, t: &Term, v: &Term) -> Result<Term, Grow>
     Ok(abstraction(alloc, t, v, typ)?)
 }
 
+/// The abstraction, whose size is within the limits.
 fn abstraction(alloc: Global, t: &Term, v: &Term, typ: &Typ) -> Result<Term, AllocError>
     requires liftable { IsLiftable 1 0 t.now }
-    requires few { term_size (bind_under 0 v.now t.now) ≤ 200000 }
+    requires few { term_size (bind_under 0 v.now t.now) ≤ MAX_SIZE }
     ensures { IfOk result (λ u. u ≡ Abs typ.now (bind_under 0 v.now t.now)) }
 {
     let typ = typ.copy(alloc)?;
@@ -164,7 +167,7 @@ fn abstraction(alloc: Global, t: &Term, v: &Term, typ: &Typ) -> Result<Term, All
     })
 }
 
-// The type that is written with a variable.
+/// The type that is written with a variable.
 fn typ_of_variable(v: &Term) -> &Typ
     requires { IsVariable v.now }
     ensures { result.now ≡ variable_typ v.now }
@@ -176,7 +179,7 @@ fn typ_of_variable(v: &Term) -> &Typ
     }
 }
 
-// What is left of room when the term with the variable bound is put in: a bound variable counts as one node whatever its place.
+/// What is left of room when the term with the variable bound is put in: a bound variable counts as one node whatever its place.
 fn bind_leaves(t: &Term, v: &Term, left: u32, room: u32) -> Option<u32>
     ensures { Leaves left room (term_size (bind_under 0 v.now t.now)) (term_depth (bind_under 0 v.now t.now)) result }
 {
@@ -206,6 +209,7 @@ fn bind_leaves(t: &Term, v: &Term, left: u32, room: u32) -> Option<u32>
     }
 }
 
+/// The same of a variable.
 fn variable_leaves(t: &Term, v: &Term, left: u32, room: u32) -> Option<u32>
     requires { IsVariable t.now }
     ensures { Leaves left room (term_size (bind_under 0 v.now t.now)) (term_depth (bind_under 0 v.now t.now)) result }
@@ -217,6 +221,7 @@ fn variable_leaves(t: &Term, v: &Term, left: u32, room: u32) -> Option<u32>
     }
 }
 
+/// A variable, bound where it is the one that is abstracted over.
 fn bind_variable(alloc: Global, t: &Term, place: u32, v: &Term) -> Result<Box<Term>, AllocError>
     requires { IsVariable t.now }
     ensures { IfOk result (λ u. u.value ≡ bind_under place v.now t.now) }
@@ -229,9 +234,10 @@ fn bind_variable(alloc: Global, t: &Term, place: u32, v: &Term) -> Result<Box<Te
     }
 }
 
+/// The term with the variable bound, under `place` binders of the term.
 fn bind(alloc: Global, t: &Term, place: u32, v: &Term) -> Result<Box<Term>, AllocError>
     requires liftable { IsLiftable 1 place t.now }
-    requires few { place + term_size (bind_under place v.now t.now) ≤ 200000 }
+    requires few { place + term_size (bind_under place v.now t.now) ≤ MAX_SIZE }
     ensures { IfOk result (λ u. u.value ≡ bind_under place v.now t.now) }
 {
     let node = match &t.node {

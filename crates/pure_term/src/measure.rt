@@ -61,7 +61,7 @@ pub fn node_count_of(t: &Term) -> u32
     }
 }
 
-/// Whether two terms are equal.
+/// Whether two terms are equal, said as a fact.
 pub fn are_same(t: &Term, u: &Term) -> bool
     ensures { IsTrue result ↔ (t.now ≡ u.now) }
 {

@@ -89,7 +89,7 @@ pub fn copied(alloc: Global, t: &Term) -> Result<Box<Term>, AllocError>
     Ok(Box::new(alloc, Term { node })?)
 }
 
-// The place of the term's kind among the kinds.
+/// The place of the term's kind among the kinds.
 fn term_rank_of(t: &Term) -> u8
     ensures { result ≡ term_rank t.now }
 {
@@ -103,6 +103,7 @@ fn term_rank_of(t: &Term) -> u8
     }
 }
 
+/// The order of two terms: by their kinds, and then by their parts, from the left.
 fn compare_terms(t: &Term, u: &Term) -> Ordering
     ensures { result ≡ term_cmp t.now u.now }
 {

@@ -29,14 +29,14 @@ impl From<AllocError> for TypeFault {
     }
 }
 
-// The type of a term: one that stands in it, or one that was made for an abstraction.
+/// The type of a term: one that stands in it, or one that was made for an abstraction.
 #[derive(Drop)]
 enum Found<'t> {
     Lent(&'t Typ),
     Made(Typ),
 }
 
-// Whether functions of the first type take arguments of the second.
+/// Whether functions of the first type take arguments of the second.
 fn takes(function: &Typ, argument: &Typ) -> bool
     ensures { IsTrue result ↔ Takes function.now argument.now }
 {
@@ -55,7 +55,7 @@ fn takes(function: &Typ, argument: &Typ) -> bool
     }
 }
 
-// What a function of the first type gives for arguments of the second, where the type is lent.
+/// What a function of the first type gives for arguments of the second, where the type is lent.
 fn lent_range<'t>(function: &'t Typ, argument: &Typ) -> Option<&'t Typ>
     ensures { MatchOption result (¬ Takes function.now argument.now) (λ range. function.now ≡ arrow argument.now range.now) }
 {
@@ -74,7 +74,7 @@ fn lent_range<'t>(function: &'t Typ, argument: &Typ) -> Option<&'t Typ>
     }
 }
 
-// What a function of the first type gives for arguments of the second, where the type was made.
+/// What a function of the first type gives for arguments of the second, where the type was made.
 fn made_range(mut function: Typ, argument: &Typ) -> Option<Typ>
     ensures { MatchOption result (¬ Takes function argument.now) (λ range. function ≡ arrow argument.now range) }
 {
@@ -87,7 +87,7 @@ fn made_range(mut function: Typ, argument: &Typ) -> Option<Typ>
     }
 }
 
-// The type, by reference.
+/// The type, by reference.
 fn lent<'f>(found: &'f Found<'_>) -> &'f Typ
     ensures { result.now ≡ found_typ found.now }
 {
@@ -97,7 +97,7 @@ fn lent<'f>(found: &'f Found<'_>) -> &'f Typ
     }
 }
 
-// The type itself, copied where it was lent.
+/// The type itself, copied where it was lent.
 fn owned(alloc: Global, found: Found) -> Result<Typ, AllocError>
     ensures { IfOk result (λ t. t ≡ found_typ found.entry) }
 {
@@ -107,7 +107,8 @@ fn owned(alloc: Global, found: Found) -> Result<Typ, AllocError>
     }
 }
 
-// The type of the results of a function of the first type for arguments of the second.
+/// The type of the results of a function of the first type for arguments of the second.
+#[inline(never)]
 fn range_of<'t>(function: Found<'t>, argument: &Typ) -> Option<Found<'t>>
     ensures { MatchOption result (¬ Takes (found_typ function.entry) argument.now) (λ range. found_typ function.entry ≡ arrow argument.now (found_typ range)) }
 {
@@ -123,6 +124,8 @@ fn range_of<'t>(function: Found<'t>, argument: &Typ) -> Option<Found<'t>>
     }
 }
 
+/// The fault, with its place so much further on.
+#[inline(never)]
 fn deeper(fault: TypeFault, by: u32) -> TypeFault
     ensures { result ≡ deeper_fault by fault }
 {
@@ -134,6 +137,17 @@ fn deeper(fault: TypeFault, by: u32) -> TypeFault
     }
 }
 
+/// The type of an abstraction over a variable of the first type, of a body of the second.
+#[inline(never)]
+fn abstraction_typ(alloc: Global, domain: &Typ, range: Found) -> Result<Typ, AllocError>
+    ensures { IfOk result (λ t. t ≡ arrow domain.now (found_typ range.entry)) }
+{
+    let range = owned(alloc, range)?;
+    let domain = domain.copy(alloc)?;
+    Typ::arrow(alloc, domain, range)
+}
+
+/// The type of the term in the scope, or its first node at fault. What isn't recursion stands in functions of its own, so that a deep term takes little stack.
 fn typ_under<'s, 't>(
     alloc: Global,
     t: &'t Term,
@@ -154,9 +168,7 @@ fn typ_under<'s, 't>(
                 Ok(range) => range,
                 Err(fault) => return Err(deeper(fault, 1)),
             };
-            let range = owned(alloc, range)?;
-            let domain = typ.copy(alloc)?;
-            Ok(Found::Made(Typ::arrow(alloc, domain, range)?))
+            Ok(Found::Made(abstraction_typ(alloc, typ, range)?))
         }
         TermNode::App { fun, arg } => {
             let function = match typ_under(alloc, fun, scope) {
