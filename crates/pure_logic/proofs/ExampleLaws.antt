@@ -11,7 +11,7 @@ use Rattle.pure_text.proofs.ListLaws.{in-append_left, in-append_right}
 use Rattle.pure_logic.specs.Content.{IsCertifiedOf, IsProposition, IsBelow, IsContent, AreNamedAlike, AreLabelledAlike, IsStatement}
 use Rattle.pure_logic.specs.PureContent.{pure_content, pure_declarations, protect_axiom}
 use Rattle.pure_logic.proofs.AboveLaws.{certified_of-above}
-use Rattle.pure_logic.specs.ExampleContent.{less, holds, any_c, any_z, h, i_arity, example_declarations, example}
+use Rattle.pure_logic.specs.Examples.Theory.{less, holds, any_c, any_z, h, i_arity, example_declarations, example}
 use Rattle.pure_logic.proofs.ConnectiveLaws.{certified_of, itself-instance, arrow-certified, prop-certified}
 use Rattle.pure_logic.proofs.ContentLaws.{named_alike, both_promises, named_alike-so, both_promises-so, apart-once, protect_is_statement}
 

@@ -12,4 +12,7 @@ pub mod MapLaws
 pub mod ExampleLaws
 pub mod NodeExamples
 pub mod MergeLaws
+pub mod AncestorLaws
+pub mod CoregularLaws
+pub mod DerivableLaws
 pub mod ContentExamples

@@ -6,8 +6,9 @@ use Rattle.pure_definitions.specs.Typ.{prop}
 use Rattle.pure_definitions.specs.Term.{Term}
 use Rattle.pure_definitions.specs.Decl.{Decl, ClassDecl, ConDecl, ArityDecl, ConstDecl, AxiomDecl, PromiseDecl, algebra_of}
 use Rattle.pure_text.proofs.ListLaws.{each_of, in-append_left, in-append_right}
-use Rattle.pure_logic.specs.Content.{TheoryId, Content, IsStatement, IsWellFormed, IsContent, IsBelow, IsBeginning, IsAdded, IsMergeAfter, IsMerge}
-use Rattle.pure_logic.specs.LawsContent.{AreAgreed}
+use Rattle.pure_logic.specs.Content.{TheoryId, Content, IsStatement, IsWellFormed, IsContent, IsBelow}
+use Rattle.pure_logic.specs.Beginning.{IsBeginning, IsAdded, IsMergeAfter, IsMerge}
+use Rattle.pure_logic.specs.Laws.Contents.{AreAgreed}
 use Rattle.pure_logic.proofs.ChainLaws.{each-at}
 use Rattle.pure_logic.proofs.AboveLaws.{certified_of-above}
 

@@ -12,8 +12,8 @@ use Rattle.pure_term_laws.specs.LawsSubst.{for_a}
 use Rattle.pure_logic.specs.Connectives.{all, imp, eq}
 use Rattle.pure_logic.specs.Content.{IsCertifiedOf, IsProposition}
 use Rattle.pure_logic.specs.Tree.{Assume, ImpliesIntro}
-use Rattle.pure_logic.specs.ExampleContent.{less, holds, any_c, any_z, i_arity, promised, example}
-use Rattle.pure_logic.specs.LawsNodes.{for_z, AxiomExample, PromiseExample, NoAxiomExample, NoMapExample, AssumeExample, AllIntroExample, NoAllIntroExample, AllElimExample, NoAllElimExample, ImpliesIntroExample, ImpliesElimExample, BetaExample, ReflExample, SubstExample, SymmetricExample, ExtExample, IffExample, DerivableExample}
+use Rattle.pure_logic.specs.Examples.Theory.{less, holds, any_c, any_z, i_arity, promised, example}
+use Rattle.pure_logic.specs.Examples.Nodes.{for_z, AxiomExample, PromiseExample, NoAxiomExample, NoMapExample, AssumeExample, AllIntroExample, NoAllIntroExample, AllElimExample, NoAllElimExample, ImpliesIntroExample, ImpliesElimExample, BetaExample, ReflExample, SubstExample, SymmetricExample, ExtExample, IffExample, DerivableExample}
 use Rattle.pure_logic.proofs.ConnectiveLaws.{certified_of, imp-parts, all-parts, eq-parts}
 use Rattle.pure_logic.proofs.MapLaws.{identity_respects, joined_respect}
 use Rattle.pure_logic.proofs.ExampleLaws.{example-above, example-has, none_passes, is_const, is_con, is_axiom, is_promised_part, i-certified, j-certified, any_c-certified, i-of_c, x-of, y-of, a-of, f-of, h-of, a-parts, f-parts, less-parts, less-of}
@@ -185,3 +185,9 @@ derivable_example = record {
   hyps = (inr (inl refl), tt);
   rests = tt;
 }
+
+pub no_proposition_example : NoPropositionExample
+no_proposition_example = (empty, (any_typ, certified_of (content_of []) (Var 0 0 any_typ) any_typ (λ k h. omega arith, tt) refl, refl), λ h. h.certified.parts.0.0.0.0)
+  where
+    empty : IsContent (content_of [])
+    empty = record { named_once = λ d e m. absurd m; labelled_once = λ d e m. absurd m; well_formed = tt; coregular = λ a b m. absurd m }

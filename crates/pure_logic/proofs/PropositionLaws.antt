@@ -17,8 +17,6 @@ use Rattle.pure_logic.specs.PureContent.{pure_content, any_typ}
 use Rattle.pure_logic.specs.Tree.{Tree, Axiom, Promise, Assume, AllIntro, AllElim, ImpliesIntro, ImpliesElim, Beta, Refl, Subst, Ext, Iff, hyps_of}
 use Rattle.pure_logic.specs.Concludes.{AreRespecting, extensionality, Concludes}
 use Rattle.pure_logic.specs.Derivable.{Pair, Theorem, IsUnderPairs, IsDerivable, IsDerivableAlone}
-use Rattle.pure_logic.specs.LawsContent.{content_of}
-use Rattle.pure_logic.specs.LawsConclusion.{NoPropositionExample}
 use Rattle.pure_logic.proofs.ChainLaws.{each-at, each-without}
 use Rattle.pure_logic.proofs.ConnectiveLaws.{certified_of, imp-parts, eq-parts, all-parts}
 use Rattle.pure_logic.proofs.InstanceLaws.{parts-instance}
@@ -162,9 +160,3 @@ derivable_is_proposition Q q above th h = under_pairs-proposition Q above th.pai
 
 pub derivable_alone_is_proposition : (Q : Content) → IsContent Q → IsBelow pure_content Q → (A : Term) → IsDerivableAlone Q A → IsProposition Q A
 derivable_alone_is_proposition Q q above A h = derivable_is_proposition Q q above (record { hyps = []; pairs = []; prop = A; rests = [] }) h
-
-pub no_proposition_example : NoPropositionExample
-no_proposition_example = (empty, (any_typ, certified_of (content_of []) (Var 0 0 any_typ) any_typ (λ k h. omega arith, tt) refl, refl), λ h. h.certified.parts.0.0.0.0)
-  where
-    empty : IsContent (content_of [])
-    empty = record { named_once = λ d e m. absurd m; labelled_once = λ d e m. absurd m; well_formed = tt; coregular = λ a b m. absurd m }

@@ -1,10 +1,11 @@
 //! What the definitions mean: laws and computed examples, each carried by the contract of a function that does nothing.
-ghost use Rattle.pure_logic.specs.LawsDerivable.{PureIsContent, VariableIsProposition, ChainIsDerivable, VariableChainIsDerivable, PureIsBelowItself, TrivialIsDerivable, WeakenedIsDerivable};
-ghost use Rattle.pure_logic.specs.LawsTree.{OneConclusion, OneUnderPairs, WeakeningOfTrees, WeakeningOfDerivable, IdentityRespects, JoinedMapsRespect, JoinedInstance};
-ghost use Rattle.pure_logic.specs.LawsParts.{PartsOfInstance};
-ghost use Rattle.pure_logic.specs.LawsConclusion.{ConclusionIsProposition, DerivableIsProposition, DerivableAloneIsProposition, NoPropositionExample};
-ghost use Rattle.pure_logic.specs.LawsContent.{MergeHasDeclarations, MergeHasNoRepeats, OneMerge, BeginningIsContent, ParentsAreBelow, BeginningExample, NoMergeExample, NamedTwiceExample, IllFormedExample, SchematicExample, BelowExample, DefinitionExample};
-ghost use Rattle.pure_logic.specs.LawsNodes.{ExampleIsContent, AxiomExample, PromiseExample, RestsExample, NoAxiomExample, NoMapExample, AssumeExample, AllIntroExample, NoAllIntroExample, AllElimExample, NoAllElimExample, ImpliesIntroExample, ImpliesElimExample, BetaExample, ReflExample, SubstExample, SymmetricExample, ExtExample, IffExample, PairsExample, DerivableExample};
+ghost use Rattle.pure_logic.specs.Laws.Derivable.{DerivableAloneExactly, DerivableExactly, PureIsContent, VariableIsProposition, ChainIsDerivable, VariableChainIsDerivable, PureIsBelowItself, TrivialIsDerivable, WeakenedIsDerivable};
+ghost use Rattle.pure_logic.specs.Laws.Tree.{OneConclusion, OneUnderPairs, WeakeningOfTrees, WeakeningOfDerivable, IdentityRespects, JoinedMapsRespect, JoinedInstance};
+ghost use Rattle.pure_logic.specs.Laws.Parts.{PartsOfInstance};
+ghost use Rattle.pure_logic.specs.Laws.Conclusion.{ConclusionIsProposition, DerivableIsProposition, DerivableAloneIsProposition};
+ghost use Rattle.pure_logic.specs.Laws.Contents.{MergeHasDeclarations, MergeHasNoRepeats, OneMerge, BeginningIsContent, ParentsAreBelow, OneBeginning, AncestorsAreTheParents, AncestorsHaveNoRepeats, BeginningHasTheoriesApart, TheoriesAreToldApart};
+ghost use Rattle.pure_logic.specs.Examples.Contents.{BeginningExample, AncestorsExample, NotApartExample, NoMergeExample, MiddleMergeExample, NamedTwiceExample, IllFormedExample, SchematicExample, BelowExample, DefinitionExample};
+ghost use Rattle.pure_logic.specs.Examples.Nodes.{ExampleIsContent, AxiomExample, OwnTypeExample, PromiseExample, RestsExample, NoAxiomExample, NoMapExample, AssumeExample, AllIntroExample, NoAllIntroExample, AllElimExample, NoAllElimExample, ImpliesIntroExample, TwiceAssumedExample, ImpliesElimExample, BetaExample, ReflExample, SubstExample, SymmetricExample, ExtExample, IffExample, PairsExample, DerivableExample, OpenHypothesisExample, OpenPromiseExample, NoPropositionExample};
 
 /// Pure's content is a content, and below itself.
 pub fn pure_is_content()
@@ -25,6 +26,12 @@ pub fn chain_is_derivable()
     ensures weakened { WeakenedIsDerivable }
 {}
 
+/// What is derivable, in words of trees: exactly where a tree concludes it from what the theorem allows.
+pub fn derivable_exactly()
+    ensures alone { DerivableAloneExactly }
+    ensures theorem { DerivableExactly }
+{}
+
 /// A tree concludes one proposition at most.
 pub fn one_conclusion()
     ensures tree { OneConclusion }
@@ -36,7 +43,6 @@ pub fn conclusion_is_proposition()
     ensures tree { ConclusionIsProposition }
     ensures derivable { DerivableIsProposition }
     ensures alone { DerivableAloneIsProposition }
-    ensures without_pure { NoPropositionExample }
 {}
 
 /// What is concluded or derivable over a content is so over each content above it.
@@ -52,15 +58,31 @@ pub fn respecting_maps()
     ensures instance { JoinedInstance }
 {}
 
-/// A merge has its parents' declarations, each once.
+/// A merge has its parents' declarations, each once, and there is one at most.
 pub fn merge_has_declarations()
     ensures has { MergeHasDeclarations }
     ensures distinct { MergeHasNoRepeats }
     ensures one { OneMerge }
+    ensures none { NoMergeExample }
+    ensures middle { MiddleMergeExample }
+{}
+
+/// With what a theory begins: one content at most, which has the parents below it.
+pub fn beginning_is_content()
     ensures content { BeginningIsContent }
     ensures below { ParentsAreBelow }
+    ensures one { OneBeginning }
     ensures example { BeginningExample }
-    ensures none { NoMergeExample }
+{}
+
+/// The ancestors of a theory, and how it and they are told apart.
+pub fn ancestors_are_the_parents()
+    ensures parents { AncestorsAreTheParents }
+    ensures distinct { AncestorsHaveNoRepeats }
+    ensures apart { BeginningHasTheoriesApart }
+    ensures own { TheoriesAreToldApart }
+    ensures example { AncestorsExample }
+    ensures not_apart { NotApartExample }
 {}
 
 /// Declarations that make no content, contents below others, and what a definition declares.
@@ -80,6 +102,7 @@ pub fn example_is_content()
 /// Axioms and promises at an instance, and where they give nothing.
 pub fn axiom_example()
     ensures axiom { AxiomExample }
+    ensures own_type { OwnTypeExample }
     ensures promise { PromiseExample }
     ensures rests { RestsExample }
     ensures unknown { NoAxiomExample }
@@ -98,6 +121,7 @@ pub fn all_example()
 pub fn implies_example()
     ensures assume { AssumeExample }
     ensures intro { ImpliesIntroExample }
+    ensures twice { TwiceAssumedExample }
     ensures elim { ImpliesElimExample }
 {}
 
@@ -111,10 +135,13 @@ pub fn equality_example()
     ensures iff { IffExample }
 {}
 
-/// A theorem with hypotheses, a pair and a promise.
+/// A theorem with hypotheses, a pair and a promise; and trees that leave a hypothesis or a promise open, or conclude what is no proposition.
 pub fn derivable_example()
     ensures pairs { PairsExample }
     ensures derivable { DerivableExample }
+    ensures open_hypothesis { OpenHypothesisExample }
+    ensures open_promise { OpenPromiseExample }
+    ensures without_pure { NoPropositionExample }
 {}
 
 /// A term's parts stay certified under respecting maps.

@@ -1,16 +1,18 @@
 -- What each node of a tree concludes, by example, and where it concludes nothing.
-use Rattle.std.specs.Prelude.{◌≡◌, List, [], ◌∷◌}
+use Rattle.std.specs.Prelude.{◌≡◌, ◌≢◌, if◌then◌else◌, List, [], ◌∷◌}
 use Rattle.pure_definitions.specs.Typ.{Typ, Con, none, arrow, prop}
-use Rattle.pure_definitions.specs.Term.{Term, Const, Free, Bound, Abs, App}
-use Rattle.pure_definitions.specs.Subst.{TermBind, typ_image}
+use Rattle.pure_definitions.specs.Term.{Term, Const, Free, Var, Bound, Abs, App, term_eq}
+use Rattle.pure_definitions.specs.Subst.{TypBind, TermBind, typ_image, retyped_variable, term_instance}
 use Rattle.pure_term_laws.specs.LawsExamples.{i, j, a, f, x, y, any_x}
 use Rattle.pure_term_laws.specs.LawsSubst.{for_a}
 use Rattle.pure_logic.specs.Connectives.{all_of, all, imp, eq}
-use Rattle.pure_logic.specs.Content.{IsContent}
+use Rattle.pure_logic.specs.Content.{IsContent, IsProposition}
+use Rattle.pure_logic.specs.PureContent.{any_typ}
 use Rattle.pure_logic.specs.Tree.{Tree, Axiom, Promise, Assume, AllIntro, AllElim, ImpliesIntro, ImpliesElim, Beta, Refl, Subst, Ext, Iff, hyps_of, rests_of, joined_terms}
 use Rattle.pure_logic.specs.Concludes.{Concludes}
-use Rattle.pure_logic.specs.Derivable.{IsUnderPairs, IsDerivable}
-use Rattle.pure_logic.specs.ExampleContent.{less, holds, h, q, promised, example}
+use Rattle.pure_logic.specs.Derivable.{IsUnderPairs, IsDerivable, IsDerivableAlone}
+use Rattle.pure_logic.specs.Examples.Theory.{less, holds, any_left, any_right, any_w, related, h, q, promised, example}
+use Rattle.pure_logic.specs.Examples.Contents.{content_of}
 
 -- The example's declarations are a content.
 abbrev pub ExampleIsContent : Type 0
@@ -38,6 +40,18 @@ AxiomExample = Gives (axiom_at i a) [] (holds i a)
 
 abbrev pub PromiseExample : Type 0
 PromiseExample = Gives (Promise promised (λ T. T) (λ t. t)) [] (less any_x any_x) × (rests_of (Promise promised (λ T. T) (λ t. t)) ≡ promised ∷ [])
+
+-- With i for both its type variables and a for `?w :: ?'a` and x for `?w :: ?'b` the axiom `r ?w ?w` gives `r a x`: an image is that of the variable with its own type, and not of what the type map makes of it.
+-- With a type map and then a term map both would have one image.
+abbrev pub both_to_i : List TypBind
+both_to_i = record { name = 0; index = 0; sort = []; image = i } ∷ record { name = 1; index = 0; sort = []; image = i } ∷ []
+
+abbrev pub image_of_own : Term → Term
+image_of_own v = if term_eq (any_w any_left) v then a else (if term_eq (any_w any_right) v then x else retyped_variable (typ_image both_to_i) v)
+
+abbrev pub OwnTypeExample : Type 0
+OwnTypeExample = Gives (Axiom 52 (typ_image both_to_i) image_of_own) [] (related i i a x)
+    × ((terms : List TermBind) → (t : Term) × (term_instance (typ_image both_to_i) (joined_terms both_to_i terms) (related any_left any_right (any_w any_left) (any_w any_right)) ≡ related i i t t))
 
 -- A tree rests on the promises of all its parts.
 abbrev pub RestsExample : Type 0
@@ -84,6 +98,13 @@ abbrev pub ImpliesIntroExample : Type 0
 ImpliesIntroExample = Gives (ImpliesIntro (less x y) (Assume (less x y))) [] (imp (less x y) (less x y))
     × Gives (ImpliesIntro (less x x) (Assume (less x y))) (less x y ∷ []) (imp (less x x) (less x y)) × GivesNothing (ImpliesIntro a (Assume (less x y)))
 
+-- From `x < y ==> x < y ==> y < x`, with `x < y` assumed at two places: `y < x`. Where `x < y` is discharged both go.
+abbrev pub TwiceAssumedExample : Type 0
+TwiceAssumedExample =
+    let step = imp (less x y) (imp (less x y) (less y x)) in
+    let twice = ImpliesElim (ImpliesElim (Assume step) (Assume (less x y))) (Assume (less x y)) in
+    Gives twice (step ∷ less x y ∷ less x y ∷ []) (less y x) × Gives (ImpliesIntro (less x y) twice) (step ∷ []) (imp (less x y) (less y x))
+
 -- From `x < y ==> y < x` and `x < y`: `y < x`, from both hypotheses. Nothing where the premise differs, nor where nothing is implied.
 abbrev pub ImpliesElimExample : Type 0
 ImpliesElimExample = Gives (ImpliesElim (Assume (imp (less x y) (less y x))) (Assume (less x y))) (imp (less x y) (less y x) ∷ less x y ∷ []) (less y x)
@@ -124,3 +145,23 @@ PairsExample = IsUnderPairs (record { left = x; right = a } ∷ record { left = 
 -- `x < y` under the pair of x and a is derivable from the hypotheses `y < x` and `x < y`, of which it needs the second, and with a promise on which it needn't rest.
 abbrev pub DerivableExample : Type 0
 DerivableExample = IsDerivable example (record { hyps = less y x ∷ less x y ∷ []; pairs = record { left = x; right = a } ∷ []; prop = less x y; rests = promised ∷ [] })
+
+-- The tree that assumes `x < y` concludes it, with itself for a hypothesis: so `x < y` is derivable from itself, and this tree doesn't show it derivable alone, nor under other hypotheses.
+abbrev pub OpenHypothesisExample : Type 0
+OpenHypothesisExample = Gives (Assume (less x y)) (less x y ∷ []) (less x y) × (hyps_of (Assume (less x y)) ≢ [])
+    × IsDerivable example (record { hyps = less x y ∷ []; pairs = []; prop = less x y; rests = [] })
+    × ((h : IsDerivableAlone example (less x y)) → h.tree ≢ Assume (less x y))
+    × ((h : IsDerivable example (record { hyps = less y x ∷ []; pairs = []; prop = less x y; rests = [] })) → h.tree ≢ Assume (less x y))
+
+-- Likewise the promise's own tree shows its statement derivable where the theorem rests on its label, and not alone.
+abbrev pub OpenPromiseExample : Type 0
+OpenPromiseExample =
+    let tree = Promise promised (λ T. T) (λ t. t) in
+    (rests_of tree ≢ []) × IsDerivable example (record { hyps = []; pairs = []; prop = less any_x any_x; rests = promised ∷ [] })
+    × ((h : IsDerivableAlone example (less any_x any_x)) → h.tree ≢ tree)
+
+-- Pure's content has to be below: over no declarations at all a tree concludes `?x == ?x`, which is no proposition there, since `==` isn't declared.
+abbrev pub NoPropositionExample : Type 0
+NoPropositionExample =
+    let x = Var 0 0 any_typ in
+    IsContent (content_of []) × Concludes (content_of []) (Refl x) (eq any_typ x x) × (¬ IsProposition (content_of []) (eq any_typ x x))

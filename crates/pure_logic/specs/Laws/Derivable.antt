@@ -1,11 +1,23 @@
--- Laws of derivability from a content's axioms alone.
-use Rattle.std.specs.Prelude.{ℕ, List, map}
+-- Laws of what is derivable.
+use Rattle.std.specs.Prelude.{◌≡◌, ◌↔◌, ℕ, List, [], map}
+use Rattle.pure_definitions.specs.Names.{Label}
 use Rattle.pure_text.specs.Lists.{IsIn, Each}
 use Rattle.pure_definitions.specs.Term.{Term}
 use Rattle.pure_logic.specs.Connectives.{imp, chain}
 use Rattle.pure_logic.specs.Content.{Content, IsContent, IsBelow, IsProposition}
 use Rattle.pure_logic.specs.PureContent.{pure_content, proposition_variable}
-use Rattle.pure_logic.specs.Derivable.{IsDerivableAlone}
+use Rattle.pure_logic.specs.Tree.{Tree, hyps_of, rests_of}
+use Rattle.pure_logic.specs.Concludes.{Concludes}
+use Rattle.pure_logic.specs.Derivable.{Theorem, IsUnderPairs, IsDerivable, IsDerivableAlone}
+
+-- A proposition is derivable alone exactly where a tree without hypotheses and without promises concludes it.
+abbrev pub DerivableAloneExactly : Type 0
+DerivableAloneExactly = (Q : Content) (A : Term) → IsDerivableAlone Q A ↔ ((d : Tree) × Concludes Q d A × (hyps_of d ≡ []) × (rests_of d ≡ []))
+
+-- A theorem is derivable exactly where a tree concludes its proposition under its pairs, each hypothesis of the tree is one of the theorem's, and each promise on which the tree rests is one on which the theorem does.
+abbrev pub DerivableExactly : Type 0
+DerivableExactly = (Q : Content) (th : Theorem) → IsDerivable Q th
+    ↔ ((d : Tree) × (C : Term) × Concludes Q d C × IsUnderPairs th.pairs th.prop C × ((A : Term) → IsIn A (hyps_of d) → IsIn A th.hyps) × ((l : Label) → IsIn l (rests_of d) → IsIn l th.rests))
 
 -- Pure's own content is a content.
 abbrev pub PureIsContent : Type 0

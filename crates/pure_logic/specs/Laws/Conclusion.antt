@@ -1,14 +1,11 @@
 -- Laws of what trees conclude: propositions of the content.
-use Rattle.std.specs.Prelude.{[]}
 use Rattle.pure_text.specs.Lists.{Each}
-use Rattle.pure_definitions.specs.Term.{Term, Var}
-use Rattle.pure_logic.specs.Connectives.{eq}
+use Rattle.pure_definitions.specs.Term.{Term}
 use Rattle.pure_logic.specs.Content.{Content, IsContent, IsBelow, IsProposition}
-use Rattle.pure_logic.specs.PureContent.{pure_content, any_typ}
-use Rattle.pure_logic.specs.Tree.{Tree, Refl, hyps_of}
+use Rattle.pure_logic.specs.PureContent.{pure_content}
+use Rattle.pure_logic.specs.Tree.{Tree, hyps_of}
 use Rattle.pure_logic.specs.Concludes.{Concludes}
 use Rattle.pure_logic.specs.Derivable.{Theorem, IsDerivable, IsDerivableAlone}
-use Rattle.pure_logic.specs.LawsContent.{content_of}
 
 -- What a tree concludes over a content that has Pure's below it is a proposition of the content, certified and of type prop; and so are the hypotheses that the tree leaves open.
 abbrev pub ConclusionIsProposition : Type 0
@@ -21,9 +18,3 @@ DerivableIsProposition = (Q : Content) → IsContent Q → IsBelow pure_content 
 -- What is derivable from the axioms alone is a proposition of the content.
 abbrev pub DerivableAloneIsProposition : Type 0
 DerivableAloneIsProposition = (Q : Content) → IsContent Q → IsBelow pure_content Q → (A : Term) → IsDerivableAlone Q A → IsProposition Q A
-
--- Pure's content has to be below: over no declarations at all a tree concludes `?x == ?x`, which is no proposition there, since `==` isn't declared.
-abbrev pub NoPropositionExample : Type 0
-NoPropositionExample =
-    let x = Var 0 0 any_typ in
-    IsContent (content_of []) × Concludes (content_of []) (Refl x) (eq any_typ x x) × (¬ IsProposition (content_of []) (eq any_typ x x))

@@ -1,36 +1,15 @@
--- Laws and examples of contents.
-use Rattle.std.specs.Prelude.{◌≡◌, ◌↔◌, ℕ, List, [], ◌∷◌, ◌++◌, Some, None}
-use Rattle.pure_text.specs.Lists.{IsIn, Each, AnyOf, AreDistinct}
+-- Examples of contents.
+use Rattle.std.specs.Prelude.{◌≡◌, ℕ, List, [], ◌∷◌, ◌++◌, Some, None}
 use Rattle.pure_definitions.specs.Typ.{TFree, TVar, arrow, prop}
 use Rattle.pure_definitions.specs.Term.{Const, Free, Var, Bound, Abs, App}
-use Rattle.pure_definitions.specs.Decl.{Decl, ClassDecl, ConDecl, ArityDecl, ConstDecl, AxiomDecl, PromiseDecl}
+use Rattle.pure_definitions.specs.Order.{IsCoregular}
+use Rattle.pure_definitions.specs.Decl.{Decl, ClassDecl, ConDecl, ArityDecl, ConstDecl, AxiomDecl, PromiseDecl, algebra_of}
 use Rattle.pure_term_laws.specs.LawsExamples.{i, j, k, c, d, e, a, f, x, any_x, class_above, arity}
 use Rattle.pure_logic.specs.Connectives.{eq}
-use Rattle.pure_logic.specs.Content.{TheoryId, Content, IsSchematic, AreNamedAlike, AreLabelledAlike, IsContent, IsBelow, IsMerge, IsBeginning, definition}
+use Rattle.pure_logic.specs.Content.{TheoryId, Content, IsSchematic, IsContent, IsBelow, definition}
+use Rattle.pure_logic.specs.Beginning.{IsMerge, ancestors_of, IsBeginning, HasTheoriesApart}
 use Rattle.pure_logic.specs.PureContent.{pure_content, pure_declarations, proposition_variable}
-use Rattle.pure_logic.specs.ExampleContent.{promised, example}
-
--- A merge has exactly the declarations of the parents, each once, and there is one merge at most.
-abbrev pub MergeHasDeclarations : Type 0
-MergeHasDeclarations = (parents : List Content) (merged : List Decl) → IsMerge parents merged → (decl : Decl) → IsIn decl merged ↔ AnyOf (λ Q. IsIn decl Q.declarations) parents
-
-abbrev pub MergeHasNoRepeats : Type 0
-MergeHasNoRepeats = (parents : List Content) (merged : List Decl) → IsMerge parents merged → AreDistinct merged
-
-abbrev pub OneMerge : Type 0
-OneMerge = (parents : List Content) (merged other : List Decl) → IsMerge parents merged → IsMerge parents other → merged ≡ other
-
--- The parents' declarations of one kind with one name are the same, and so are their promises with one label.
-pub record AreAgreed (parents : List Content) : Type 0 where
-  pub named_once : (x y : Decl) → AnyOf (λ Q. IsIn x Q.declarations) parents → AnyOf (λ Q. IsIn y Q.declarations) parents → AreNamedAlike x y → x ≡ y
-  pub labelled_once : (x y : Decl) → AnyOf (λ Q. IsIn x Q.declarations) parents → AnyOf (λ Q. IsIn y Q.declarations) parents → AreLabelledAlike x y → x ≡ y
-
--- A theory whose parents are contents and agree begins with a content, and each parent is below it.
-abbrev pub BeginningIsContent : Type 0
-BeginningIsContent = (id : TheoryId) (parents : List Content) (Q : Content) → Each IsContent parents → AreAgreed parents → IsBeginning id parents Q → IsContent Q
-
-abbrev pub ParentsAreBelow : Type 0
-ParentsAreBelow = (id : TheoryId) (parents : List Content) (Q : Content) → IsBeginning id parents Q → Each (λ P. IsBelow P Q) parents
+use Rattle.pure_logic.specs.Examples.Theory.{promised, example}
 
 -- a content of these declarations alone, in no theory
 abbrev pub content_of : List Decl → Content
@@ -46,9 +25,24 @@ first_parent = record { declarations = ConDecl 10 0 ∷ []; own = Some (theory 6
 abbrev pub second_parent : Content
 second_parent = record { declarations = ConDecl 11 0 ∷ ConDecl 10 0 ∷ []; own = Some (theory 62 2); ancestors = theory 61 1 ∷ [] }
 
+abbrev pub beginning : Content
+beginning = record { declarations = ConDecl 10 0 ∷ ConDecl 11 0 ∷ []; own = Some (theory 63 3); ancestors = theory 61 1 ∷ theory 62 2 ∷ [] }
+
 abbrev pub BeginningExample : Type 0
-BeginningExample = IsBeginning (theory 63 3) (first_parent ∷ second_parent ∷ [])
-    (record { declarations = ConDecl 10 0 ∷ ConDecl 11 0 ∷ []; own = Some (theory 63 3); ancestors = theory 61 1 ∷ theory 62 2 ∷ [] })
+BeginningExample = IsBeginning (theory 63 3) (first_parent ∷ second_parent ∷ []) beginning × HasTheoriesApart beginning
+
+-- Its ancestors stand so in whichever order the parents come, since the second parent has the first for an ancestor; of a parent that is named twice the first place counts.
+abbrev pub AncestorsExample : Type 0
+AncestorsExample = (ancestors_of (second_parent ∷ first_parent ∷ []) ≡ theory 61 1 ∷ theory 62 2 ∷ [])
+    × (ancestors_of (first_parent ∷ beginning ∷ second_parent ∷ []) ≡ theory 61 1 ∷ theory 62 2 ∷ theory 63 3 ∷ [])
+
+-- Ancestors of one index and two names, or of one name and two indexes, aren't told apart; nor is a theory with an ancestor of its name, or of its index or a greater one.
+abbrev pub in_theory : TheoryId → List TheoryId → Content
+in_theory own ancestors = record { declarations = []; own = Some own; ancestors = ancestors }
+
+abbrev pub NotApartExample : Type 0
+NotApartExample = (¬ HasTheoriesApart (in_theory (theory 63 3) (theory 61 1 ∷ theory 62 1 ∷ []))) × (¬ HasTheoriesApart (in_theory (theory 63 3) (theory 61 1 ∷ theory 61 2 ∷ [])))
+    × (¬ HasTheoriesApart (in_theory (theory 61 3) (theory 61 1 ∷ []))) × (¬ HasTheoriesApart (in_theory (theory 63 1) (theory 61 1 ∷ []))) × (¬ HasTheoriesApart (in_theory (theory 63 1) (theory 61 2 ∷ [])))
 
 -- Over unrelated classes c, d and e, one parent declares `k :: (c) e` and the other `k :: (d) e`. Each is a content, and they have no merge.
 abbrev pub classes : List Decl
@@ -59,6 +53,20 @@ with_arity domain = content_of (classes ++ ArityDecl (arity domain e) ∷ [])
 
 abbrev pub NoMergeExample : Type 0
 NoMergeExample = IsContent (with_arity c) × IsContent (with_arity d) × ((merged : List Decl) → ¬ IsMerge (with_arity c ∷ with_arity d ∷ []) merged)
+
+-- Classes c and d stand below e. Three parents declare `k :: (c) c`, `k :: (d) d` and `k :: (e) e`. Each is a content, and all three together are coregular;
+-- yet they have no merge in this order, since the first two together aren't coregular.
+abbrev pub fork_declarations : List Decl
+fork_declarations = ClassDecl (class_above e []) ∷ ClassDecl (class_above c (e ∷ [])) ∷ ClassDecl (class_above d (e ∷ [])) ∷ ConDecl k 1 ∷ []
+
+abbrev pub with_square : ℕ → Content
+with_square class = content_of (fork_declarations ++ ArityDecl (arity class class) ∷ [])
+
+abbrev pub MiddleMergeExample : Type 0
+MiddleMergeExample = IsContent (with_square c) × IsContent (with_square d) × IsContent (with_square e)
+    × (¬ IsCoregular (algebra_of (fork_declarations ++ ArityDecl (arity c c) ∷ ArityDecl (arity d d) ∷ [])))
+    × IsCoregular (algebra_of (fork_declarations ++ ArityDecl (arity c c) ∷ ArityDecl (arity d d) ∷ ArityDecl (arity e e) ∷ []))
+    × ((merged : List Decl) → ¬ IsMerge (with_square c ∷ with_square d ∷ with_square e ∷ []) merged)
 
 -- No content has two classes, type constructors or constants of one name that differ, an axiom and a promise of one name, or two promises with one label.
 abbrev pub NamedTwiceExample : Type 0

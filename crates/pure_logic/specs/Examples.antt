@@ -1,0 +1,4 @@
+-- What the definitions mean, by example.
+pub mod Theory
+pub mod Contents
+pub mod Nodes

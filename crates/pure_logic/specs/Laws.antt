@@ -1,0 +1,6 @@
+-- What the definitions mean: the statements of the laws.
+pub mod Contents
+pub mod Derivable
+pub mod Tree
+pub mod Conclusion
+pub mod Parts
