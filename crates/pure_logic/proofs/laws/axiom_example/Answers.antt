@@ -1,4 +1,4 @@
-use Rattle.pure_logic.proofs.NodeExamples.{axiom_example, promise_example, no_axiom_example, no_map_example}
+use Rattle.pure_logic.proofs.NodeExamples.{axiom_example, own_type_example, promise_example, no_axiom_example, no_map_example}
 use Rattle.pure_logic.proofs.laws.axiom_example.Goals as goal
 
 pub returns-clause-axiom : goal.returns-clause-axiom
@@ -12,3 +12,6 @@ returns-clause-unknown c = no_axiom_example
 
 pub returns-clause-maps : goal.returns-clause-maps
 returns-clause-maps c = no_map_example
+
+pub returns-clause-own_type : goal.returns-clause-own_type
+returns-clause-own_type c = own_type_example
