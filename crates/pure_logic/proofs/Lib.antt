@@ -15,4 +15,5 @@ pub mod MergeLaws
 pub mod AncestorLaws
 pub mod CoregularLaws
 pub mod DerivableLaws
+pub mod ProvesLaws
 pub mod ContentExamples

@@ -22,16 +22,22 @@ use Rattle.pure_logic.proofs.ConnectiveLaws.{certified_of, imp-parts, eq-parts, 
 use Rattle.pure_logic.proofs.InstanceLaws.{parts-instance}
 use Rattle.pure_logic.proofs.PartsLaws.{typ-certified}
 
-each-append : (P : Term → Type 0) (xs ys : List Term) → Each P xs → Each P ys → Each P (xs ++ ys)
+pub each-append : {A : Type 0} (P : A → Type 0) (xs ys : List A) → Each P xs → Each P ys → Each P (xs ++ ys)
 each-append P [] ys h k = k
 each-append P (x ∷ xs) ys h k = (h.0, each-append P xs ys h.1 k)
 
--- In what is of type prop, the conclusion of an implication and the body of a quantification are of type prop.
+-- In what is of type prop, the premise and the conclusion of an implication and the body of a quantification are of type prop.
 conclusion-typed : (A B : Term) → HasType [] (imp A B) prop → HasType [] B prop
 conclusion-typed A B h =
     let connective : imp_typ ≡ arrow h.1.0 (arrow h.0 prop) = h.1.1 in
     let same : h.0 ≡ prop = cc in
     rw same at h.2
+
+premise-typed : (A B : Term) → HasType [] (imp A B) prop → HasType [] A prop
+premise-typed A B h =
+    let connective : imp_typ ≡ arrow h.1.0 (arrow h.0 prop) = h.1.1 in
+    let same : h.1.0 ≡ prop = cc in
+    rw same at h.1.2
 
 body-typed : (T : Typ) (B : Term) → HasType [] (all T B) prop → HasType (T ∷ []) B prop
 body-typed T B h =
@@ -44,7 +50,10 @@ module _ (Q : Content) (above : IsBelow pure_content Q) where
   imp-proposition : (A B : Term) → IsProposition Q A → IsProposition Q B → IsProposition Q (imp A B)
   imp-proposition A B h k = certified_of Q (imp A B) prop (imp-parts Q above A B h.certified.parts k.certified.parts) (prop, (prop, refl, h.typed), k.typed)
 
-  conclusion-proposition : (A B : Term) → IsProposition Q (imp A B) → IsProposition Q B
+  pub premise-proposition : (A B : Term) → IsProposition Q (imp A B) → IsProposition Q A
+  premise-proposition A B h = certified_of Q A prop h.certified.parts.0.1 (premise-typed A B h.typed)
+
+  pub conclusion-proposition : (A B : Term) → IsProposition Q (imp A B) → IsProposition Q B
   conclusion-proposition A B h = certified_of Q B prop h.certified.parts.1 (conclusion-typed A B h.typed)
 
   typ-of_certified : (t : Term) (T : Typ) → IsCertifiedOf Q t T → IsCertifiedTyp Q.declarations T
@@ -115,7 +124,7 @@ module _ (Q : Content) (q : IsContent Q) (above : IsBelow pure_content Q) where
   instance-proposition typs terms A r h =
       certified_of Q (term_instance typs terms A) prop (parts-instance Q q typs terms r A h.certified.parts) (typing-instance typs terms r.types [] A prop h.typed)
 
-  concluded-proposition : (d : Tree) (C : Term) → Concludes Q d C → IsProposition Q C
+  pub concluded-proposition : (d : Tree) (C : Term) → Concludes Q d C → IsProposition Q C
   concluded-proposition (Axiom n typs terms) C h =
       let statement = each-at (IsWellFormed Q) (AxiomDecl n h.0) Q.declarations q.well_formed h.1 in
       rw h.3 (instance-proposition typs terms h.0 h.2 statement.proposition)

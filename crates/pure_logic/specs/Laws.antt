@@ -1,6 +1,7 @@
 -- What the definitions mean: the statements of the laws.
 pub mod Contents
 pub mod Derivable
+pub mod Proves
 pub mod Tree
 pub mod Conclusion
 pub mod Parts

@@ -5,5 +5,6 @@ pub mod PureContent
 pub mod Tree
 pub mod Concludes
 pub mod Derivable
+pub mod Proves
 pub mod Laws
 pub mod Examples

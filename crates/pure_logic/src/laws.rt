@@ -1,5 +1,6 @@
 //! What the definitions mean: laws and computed examples, each carried by the contract of a function that does nothing.
 ghost use Rattle.pure_logic.specs.Laws.Derivable.{DerivableAloneExactly, DerivableExactly, PureIsContent, VariableIsProposition, ChainIsDerivable, VariableChainIsDerivable, PureIsBelowItself, TrivialIsDerivable, WeakenedIsDerivable};
+ghost use Rattle.pure_logic.specs.Laws.Proves.{DerivableIsProves, PairsAreEquations, AssumedIsProved, WeakerIsProved, ImplicationIsProved, ConclusionIsProved, ChainIsProved, EndOfChainIsProved, ProvedIsProposition, CutIsProved, InferredFromTwo, ImpliesElimIsDerivable};
 ghost use Rattle.pure_logic.specs.Laws.Tree.{OneConclusion, OneUnderPairs, WeakeningOfTrees, WeakeningOfDerivable, IdentityRespects, JoinedMapsRespect, JoinedInstance};
 ghost use Rattle.pure_logic.specs.Laws.Parts.{PartsOfInstance};
 ghost use Rattle.pure_logic.specs.Laws.Conclusion.{ConclusionIsProposition, DerivableIsProposition, DerivableAloneIsProposition};
@@ -30,6 +31,30 @@ pub fn chain_is_derivable()
 pub fn derivable_exactly()
     ensures alone { DerivableAloneExactly }
     ensures theorem { DerivableExactly }
+{}
+
+/// What is derivable is what is proved, with the equations of pairs among the hypotheses.
+pub fn derivable_is_proved()
+    ensures without_pairs { DerivableIsProves }
+    ensures pairs { PairsAreEquations }
+{}
+
+/// What is proved: hypotheses, implications and chains of them, and the cut.
+pub fn proved()
+    ensures assumed { AssumedIsProved }
+    ensures weaker { WeakerIsProved }
+    ensures implication { ImplicationIsProved }
+    ensures conclusion { ConclusionIsProved }
+    ensures chain { ChainIsProved }
+    ensures chain_end { EndOfChainIsProved }
+    ensures proposition { ProvedIsProposition }
+    ensures cut { CutIsProved }
+{}
+
+/// An inference from two theorems keeps the pairs of both; with implications for example.
+pub fn inferred_from_two()
+    ensures inferred { InferredFromTwo }
+    ensures implies_elim { ImpliesElimIsDerivable }
 {}
 
 /// A tree concludes one proposition at most.

@@ -1,0 +1,179 @@
+-- What is proved, and how inferences go.
+use Rattle.std.proofs.Common.{◌≡◌, ◌≢◌, ◌↔◌, List, [], ◌∷◌, ◌++◌, Bool, true, false, cond, inl, inr, ap, refl}
+use Rattle.pure_text.specs.Lists.{IsIn, Each, EachTwo}
+use Rattle.pure_text.proofs.ListLaws.{in-append_left, in-append_right}
+use Rattle.pure_definitions.specs.Names.{Label}
+use Rattle.pure_definitions.specs.Term.{Term, term_eq}
+use Rattle.pure_definitions.specs.Models.Equality.{term_eq-itself}
+use Rattle.pure_logic.specs.Connectives.{imp, chain, eq}
+use Rattle.pure_logic.specs.Content.{Content, IsContent, IsBelow, IsProposition}
+use Rattle.pure_logic.specs.PureContent.{pure_content}
+use Rattle.pure_logic.specs.Tree.{Assume, ImpliesIntro, ImpliesElim, without, hyps_of, rests_of}
+use Rattle.pure_logic.specs.Derivable.{Pair, Theorem, IsUnderPairs, IsDerivable}
+use Rattle.pure_logic.specs.Proves.{Proves, IsEquation, IsProved}
+use Rattle.pure_logic.specs.Laws.Proves.{IsAmong}
+use Rattle.pure_logic.proofs.AboveLaws.{each-more}
+use Rattle.pure_logic.proofs.MergeLaws.{in-append}
+use Rattle.pure_logic.proofs.PropositionLaws.{each-append, premise-proposition, conclusion-proposition, concluded-proposition}
+
+pub derivable_is_proves : (Q : Content) (hyps : List Term) (rests : List Label) (A : Term) → IsDerivable Q (record { hyps = hyps; pairs = []; prop = A; rests = rests }) ↔ Proves Q hyps rests A
+derivable_is_proves Q hyps rests A = (
+  λ h. record { tree = h.tree; concludes = rw (← h.under_pairs) h.concludes; from = h.hyps; rest_on = h.rests },
+  λ h. record { tree = h.tree; conclusion = A; concludes = h.concludes; under_pairs = refl; hyps = h.from; rests = h.rest_on },
+)
+
+-- What is among A and the hypotheses is among the hypotheses without A.
+each-discharged : (A : Term) (hyps Bs : List Term) → Each (λ B. IsIn B (A ∷ hyps)) Bs → Each (λ B. IsIn B hyps) (without A Bs)
+each-discharged A hyps [] h = tt
+each-discharged A hyps (B ∷ Bs) h = by (term_eq A B) refl (each-discharged A hyps Bs h.1)
+  where
+    other : term_eq A B ≡ false → IsIn B (A ∷ hyps) → IsIn B hyps
+    other e (inl same) = let whole : term_eq A B ≡ true = rw same (term_eq-itself A) in absurd (cc)
+    other e (inr m) = m
+
+    by : (b : Bool) → term_eq A B ≡ b → Each (λ B. IsIn B hyps) (without A Bs) → Each (λ B. IsIn B hyps) (cond b (without A Bs) (B ∷ without A Bs))
+    by true e rest = rest
+    by false e rest = (other e h.0, rest)
+
+pub assumed : (Q : Content) (hyps : List Term) (rests : List Label) (A : Term) → IsProposition Q A → IsIn A hyps → Proves Q hyps rests A
+assumed Q hyps rests A h m = record { tree = Assume A; concludes = (h, refl); from = (m, tt); rest_on = tt }
+
+pub weaker : (Q : Content) (hyps more_hyps : List Term) (rests more_rests : List Label) (A : Term) → ((B : Term) → IsIn B hyps → IsIn B more_hyps) → ((l : Label) → IsIn l rests → IsIn l more_rests)
+    → Proves Q hyps rests A → Proves Q more_hyps more_rests A
+weaker Q hyps more_hyps rests more_rests A hyps_among rests_among p = record {
+  tree = p.tree;
+  concludes = p.concludes;
+  from = each-more (λ B. IsIn B hyps) (λ B. IsIn B more_hyps) hyps_among (hyps_of p.tree) p.from;
+  rest_on = each-more (λ l. IsIn l rests) (λ l. IsIn l more_rests) rests_among (rests_of p.tree) p.rest_on;
+}
+
+pub implication_is_proved : (Q : Content) (hyps : List Term) (rests : List Label) (A B : Term) → IsProposition Q A → Proves Q (A ∷ hyps) rests B → Proves Q hyps rests (imp A B)
+implication_is_proved Q hyps rests A B h p = record { tree = ImpliesIntro A p.tree; concludes = (B, p.concludes, h, refl); from = each-discharged A hyps (hyps_of p.tree) p.from; rest_on = p.rest_on }
+
+pub conclusion_is_proved : (Q : Content) (hyps : List Term) (rests : List Label) (A B : Term) → Proves Q hyps rests (imp A B) → Proves Q hyps rests A → Proves Q hyps rests B
+conclusion_is_proved Q hyps rests A B p r = record {
+  tree = ImpliesElim p.tree r.tree;
+  concludes = (A, p.concludes, r.concludes);
+  from = each-append (λ C. IsIn C hyps) (hyps_of p.tree) (hyps_of r.tree) p.from r.from;
+  rest_on = each-append (λ l. IsIn l rests) (rests_of p.tree) (rests_of r.tree) p.rest_on r.rest_on;
+}
+
+-- A premise may stand in front of the others or behind them.
+moved : {A : Type 0} (x : A) (xs ys : List A) (y : A) → IsIn y (xs ++ x ∷ ys) → IsIn y (x ∷ (xs ++ ys))
+moved x xs ys y m = elim (in-append y xs (x ∷ ys) m) [
+  | inl n ↦ inr (in-append_left y xs ys n)
+  | inr n ↦ elim n [ inl same ↦ inl same | inr o ↦ inr (in-append_right y xs ys o) ]
+]
+
+moved_back : {A : Type 0} (x : A) (xs ys : List A) (y : A) → IsIn y (x ∷ (xs ++ ys)) → IsIn y (xs ++ x ∷ ys)
+moved_back x xs ys y (inl same) = in-append_right y xs (x ∷ ys) (inl same)
+moved_back x xs ys y (inr m) = elim (in-append y xs ys m) [ inl n ↦ in-append_left y xs (x ∷ ys) n | inr n ↦ in-append_right y xs (x ∷ ys) (inr n) ]
+
+pub chain_is_proved : (Q : Content) (premises hyps : List Term) (rests : List Label) (C : Term) → Each (IsProposition Q) premises → Proves Q (premises ++ hyps) rests C → Proves Q hyps rests (chain premises C)
+chain_is_proved Q [] hyps rests C h p = p
+chain_is_proved Q (A ∷ As) hyps rests C h p =
+    implication_is_proved Q hyps rests A (chain As C) h.0
+    (chain_is_proved Q As (A ∷ hyps) rests C h.1 (weaker Q (A ∷ (As ++ hyps)) (As ++ A ∷ hyps) rests rests C (moved_back A As hyps) (λ l m. m) p))
+
+pub end_of_chain_is_proved : (Q : Content) (premises hyps : List Term) (rests : List Label) (C : Term) → Proves Q hyps rests (chain premises C) → Each (λ A. Proves Q hyps rests A) premises → Proves Q hyps rests C
+end_of_chain_is_proved Q [] hyps rests C p each = p
+end_of_chain_is_proved Q (A ∷ As) hyps rests C p each = end_of_chain_is_proved Q As hyps rests C (conclusion_is_proved Q hyps rests A (chain As C) p each.0) each.1
+
+-- Under pairs with some equations, a tree closes the equations.
+close_pairs : (Q : Content) (pairs : List Pair) (equations hyps : List Term) (rests : List Label) (A : Term) → EachTwo IsEquation pairs equations → Each (IsProposition Q) equations
+    → Proves Q (equations ++ hyps) rests A → (C : Term) × IsUnderPairs pairs A C × Proves Q hyps rests C
+close_pairs Q [] [] hyps rests A h propositions p = (A, refl, p)
+close_pairs Q (pair ∷ pairs) (e ∷ es) hyps rests A h propositions p =
+    let rest = close_pairs Q pairs es (e ∷ hyps) rests A h.1 propositions.1 (weaker Q (e ∷ (es ++ hyps)) (es ++ e ∷ hyps) rests rests A (moved_back e es hyps) (λ l m. m) p) in
+    (imp e rest.0, (h.0.0, rest.0, h.0.1, rest.1, ap (λ t. imp t rest.0) h.0.2), implication_is_proved Q hyps rests e rest.0 propositions.0 rest.2)
+close_pairs Q [] (e ∷ es) hyps rests A h propositions p = absurd h
+close_pairs Q (pair ∷ pairs) [] hyps rests A h propositions p = absurd h
+
+-- what a proposition under pairs opens to: the equations of the pairs, and its own proposition proved from them
+pub record Opened (Q : Content) (pairs : List Pair) (A C : Term) : Type 0 where
+  pub equations : List Term
+  pub are_equations : EachTwo IsEquation pairs equations
+  pub propositions : Each (IsProposition Q) equations
+  pub opened : (hyps : List Term) (rests : List Label) → Proves Q hyps rests C → Proves Q (equations ++ hyps) rests A
+
+module _ (Q : Content) (above : IsBelow pure_content Q) where
+  open_pairs : (pairs : List Pair) (A C : Term) → IsUnderPairs pairs A C → IsProposition Q C → Opened Q pairs A C
+  open_pairs [] A C under h = record { equations = []; are_equations = tt; propositions = tt; opened = λ hyps rests p. rw (← under) p }
+  open_pairs (pair ∷ pairs) A C under h =
+      let e = eq under.0 pair.left pair.right in
+      let whole : IsProposition Q (imp e under.1) = rw under.4 at h in
+      let rest = open_pairs pairs A under.1 under.3 (conclusion-proposition Q above e under.1 whole) in
+      let premise = premise-proposition Q above e under.1 whole in
+      record {
+        equations = e ∷ rest.equations;
+        are_equations = ((under.0, under.2, refl), rest.are_equations);
+        propositions = (premise, rest.propositions);
+        opened = λ hyps rests p.
+            let implication : Proves Q (e ∷ hyps) rests (imp e under.1) = weaker Q hyps (e ∷ hyps) rests rests (imp e under.1) (λ B m. inr m) (λ l m. m) (rw under.4 at p) in
+            let body = conclusion_is_proved Q (e ∷ hyps) rests e under.1 implication (assumed Q (e ∷ hyps) rests e premise (inl refl)) in
+            weaker Q (rest.equations ++ e ∷ hyps) (e ∷ (rest.equations ++ hyps)) rests rests A (moved e rest.equations hyps) (λ l m. m) (rest.opened (e ∷ hyps) rests body);
+      }
+
+module _ (Q : Content) (q : IsContent Q) (above : IsBelow pure_content Q) where
+  derivable-proved : (th : Theorem) → IsDerivable Q th → IsProved Q th
+  derivable-proved th h =
+      let open_ = open_pairs Q above th.pairs th.prop h.conclusion h.under_pairs (concluded-proposition Q q above h.tree h.conclusion h.concludes) in
+      record {
+        equations = open_.equations;
+        are_equations = open_.are_equations;
+        propositions = open_.propositions;
+        proves = open_.opened th.hyps th.rests (record { tree = h.tree; concludes = h.concludes; from = h.hyps; rest_on = h.rests });
+      }
+
+  proved-derivable : (th : Theorem) → IsProved Q th → IsDerivable Q th
+  proved-derivable th h =
+      let closed = close_pairs Q th.pairs h.equations th.hyps th.rests th.prop h.are_equations h.propositions h.proves in
+      record { tree = closed.2.tree; conclusion = closed.0; concludes = closed.2.concludes; under_pairs = closed.1; hyps = closed.2.from; rests = closed.2.rest_on }
+
+pub pairs_are_equations : (Q : Content) → IsContent Q → IsBelow pure_content Q → (th : Theorem) → IsDerivable Q th ↔ IsProved Q th
+pairs_are_equations Q q above th = (derivable-proved Q q above th, proved-derivable Q q above th)
+
+pub proved_is_proposition : (Q : Content) → IsContent Q → IsBelow pure_content Q → (hyps : List Term) (rests : List Label) (A : Term) → Proves Q hyps rests A → IsProposition Q A
+proved_is_proposition Q q above hyps rests A p = concluded-proposition Q q above p.tree A p.concludes
+
+pub cut_is_proved : (Q : Content) → IsContent Q → IsBelow pure_content Q → (hyps : List Term) (rests : List Label) (A B : Term) → Proves Q hyps rests A → Proves Q (A ∷ hyps) rests B → Proves Q hyps rests B
+cut_is_proved Q q above hyps rests A B p r =
+    conclusion_is_proved Q hyps rests A B (implication_is_proved Q hyps rests A B (proved_is_proposition Q q above hyps rests A p) r) p
+
+each_two-append : {A B : Type 0} (R : A → B → Type 0) (xs us : List A) (ys vs : List B) → EachTwo R xs ys → EachTwo R us vs → EachTwo R (xs ++ us) (ys ++ vs)
+each_two-append R [] us [] vs h k = k
+each_two-append R (x ∷ xs) us (y ∷ ys) vs h k = (h.0, each_two-append R xs us ys vs h.1 k)
+each_two-append R [] us (y ∷ ys) vs h k = absurd h
+each_two-append R (x ∷ xs) us [] vs h k = absurd h
+
+-- Equations and hypotheses stand among the equations of both and the hypotheses of both.
+among_left : (xs ys hyps all : List Term) → ((A : Term) → IsIn A hyps → IsIn A all) → (A : Term) → IsIn A (xs ++ hyps) → IsIn A ((xs ++ ys) ++ all)
+among_left xs ys hyps all h A m = elim (in-append A xs hyps m) [ inl n ↦ in-append_left A (xs ++ ys) all (in-append_left A xs ys n) | inr n ↦ in-append_right A (xs ++ ys) all (h A n) ]
+
+among_right : (xs ys hyps all : List Term) → ((A : Term) → IsIn A hyps → IsIn A all) → (A : Term) → IsIn A (ys ++ hyps) → IsIn A ((xs ++ ys) ++ all)
+among_right xs ys hyps all h A m = elim (in-append A ys hyps m) [ inl n ↦ in-append_left A (xs ++ ys) all (in-append_right A xs ys n) | inr n ↦ in-append_right A (xs ++ ys) all (h A n) ]
+
+pub inferred_from_two : (Q : Content) → IsContent Q → IsBelow pure_content Q → (th other : Theorem) (hyps : List Term) (rests : List Label) (B : Term) → IsAmong th hyps rests → IsAmong other hyps rests
+    → ((H : List Term) → Proves Q H rests th.prop → Proves Q H rests other.prop → Proves Q H rests B)
+    → IsDerivable Q th → IsDerivable Q other → IsDerivable Q (record { hyps = hyps; pairs = th.pairs ++ other.pairs; prop = B; rests = rests })
+inferred_from_two Q q above th other hyps rests B among also step h k =
+    let left = derivable-proved Q q above th h in
+    let right = derivable-proved Q q above other k in
+    let all = (left.equations ++ right.equations) ++ hyps in
+    let first = weaker Q (left.equations ++ th.hyps) all th.rests rests th.prop (among_left left.equations right.equations th.hyps hyps among.hyps) among.rests left.proves in
+    let second = weaker Q (right.equations ++ other.hyps) all other.rests rests other.prop (among_right left.equations right.equations other.hyps hyps also.hyps) also.rests right.proves in
+    proved-derivable Q q above (record { hyps = hyps; pairs = th.pairs ++ other.pairs; prop = B; rests = rests }) (record {
+      equations = left.equations ++ right.equations;
+      are_equations = each_two-append IsEquation th.pairs other.pairs left.equations right.equations left.are_equations right.are_equations;
+      propositions = each-append (IsProposition Q) left.equations right.equations left.propositions right.propositions;
+      proves = step all first second;
+    })
+
+pub implies_elim_is_derivable : (Q : Content) → IsContent Q → IsBelow pure_content Q → (A B : Term) (implication premise : Theorem)
+    → IsDerivable Q (record implication { prop = imp A B }) → IsDerivable Q (record premise { prop = A })
+    → IsDerivable Q (record { hyps = implication.hyps ++ premise.hyps; pairs = implication.pairs ++ premise.pairs; prop = B; rests = implication.rests ++ premise.rests })
+implies_elim_is_derivable Q q above A B implication premise h k =
+    inferred_from_two Q q above (record implication { prop = imp A B }) (record premise { prop = A }) (implication.hyps ++ premise.hyps) (implication.rests ++ premise.rests) B
+    (record { hyps = λ C m. in-append_left C implication.hyps premise.hyps m; rests = λ l m. in-append_left l implication.rests premise.rests m })
+    (record { hyps = λ C m. in-append_right C implication.hyps premise.hyps m; rests = λ l m. in-append_right l implication.rests premise.rests m })
+    (λ H p r. conclusion_is_proved Q H (implication.rests ++ premise.rests) A B p r) h k
