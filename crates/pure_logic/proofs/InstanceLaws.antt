@@ -44,7 +44,7 @@ module _ (A : Algebra) (typs : Typ → Typ) (r : IsSortRespecting A typs) where
     of_sorts-instance none (s ∷ ss) h = h
     of_sorts-instance (also t ts) [] h = h
 
-  of_sort-instance : (T : Typ) (s : List ℕ) → IsOfSort A T s → IsOfSort A (typ_instance typs T) s
+  pub of_sort-instance : (T : Typ) (s : List ℕ) → IsOfSort A T s → IsOfSort A (typ_instance typs T) s
   of_sort-instance T s h = each-more (IsOfClass A T) (IsOfClass A (typ_instance typs T)) (of_class-instance T) s h
 
 -- the map that makes an instance of an instance of a schematic type; fixed type variables stay

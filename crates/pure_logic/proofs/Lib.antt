@@ -16,4 +16,6 @@ pub mod AncestorLaws
 pub mod CoregularLaws
 pub mod DerivableLaws
 pub mod ProvesLaws
+pub mod FreshLaws
+pub mod SubstitutionLaws
 pub mod ContentExamples

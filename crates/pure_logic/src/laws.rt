@@ -1,6 +1,7 @@
 //! What the definitions mean: laws and computed examples, each carried by the contract of a function that does nothing.
 ghost use Rattle.pure_logic.specs.Laws.Derivable.{DerivableAloneExactly, DerivableExactly, PureIsContent, VariableIsProposition, ChainIsDerivable, VariableChainIsDerivable, PureIsBelowItself, TrivialIsDerivable, WeakenedIsDerivable};
 ghost use Rattle.pure_logic.specs.Laws.Proves.{DerivableIsProves, PairsAreEquations, AssumedIsProved, WeakerIsProved, ImplicationIsProved, ConclusionIsProved, ChainIsProved, EndOfChainIsProved, ProvedIsProposition, CutIsProved, InferredFromTwo, ImpliesElimIsDerivable};
+ghost use Rattle.pure_logic.specs.Laws.Substitution.{SubstitutionOfTrees, InstanceIsProved, InstanceIsDerivable};
 ghost use Rattle.pure_logic.specs.Laws.Tree.{OneConclusion, OneUnderPairs, WeakeningOfTrees, WeakeningOfDerivable, IdentityRespects, JoinedMapsRespect, JoinedInstance};
 ghost use Rattle.pure_logic.specs.Laws.Parts.{PartsOfInstance};
 ghost use Rattle.pure_logic.specs.Laws.Conclusion.{ConclusionIsProposition, DerivableIsProposition, DerivableAloneIsProposition};
@@ -55,6 +56,13 @@ pub fn proved()
 pub fn inferred_from_two()
     ensures inferred { InferredFromTwo }
     ensures implies_elim { ImpliesElimIsDerivable }
+{}
+
+/// Each instance by respecting maps of what is concluded, proved or derivable is so too.
+pub fn substitution_is_admissible()
+    ensures trees { SubstitutionOfTrees }
+    ensures proved { InstanceIsProved }
+    ensures derivable { InstanceIsDerivable }
 {}
 
 /// A tree concludes one proposition at most.
