@@ -19,3 +19,4 @@ pub mod ProvesLaws
 pub mod FreshLaws
 pub mod SubstitutionLaws
 pub mod ContentExamples
+pub mod UnderivableExamples

@@ -2,3 +2,4 @@
 pub mod Theory
 pub mod Contents
 pub mod Nodes
+pub mod Underivable

@@ -8,6 +8,7 @@ ghost use Rattle.pure_logic.specs.Laws.Conclusion.{ConclusionIsProposition, Deri
 ghost use Rattle.pure_logic.specs.Laws.Contents.{MergeHasDeclarations, MergeHasNoRepeats, OneMerge, BeginningIsContent, ParentsAreBelow, OneBeginning, AncestorsAreTheParents, AncestorsHaveNoRepeats, BeginningHasTheoriesApart, TheoriesAreToldApart};
 ghost use Rattle.pure_logic.specs.Examples.Contents.{BeginningExample, AncestorsExample, NotApartExample, NoMergeExample, MiddleMergeExample, NamedTwiceExample, IllFormedExample, SchematicExample, BelowExample, DefinitionExample};
 ghost use Rattle.pure_logic.specs.Examples.Nodes.{ExampleIsContent, AxiomExample, OwnTypeExample, PromiseExample, RestsExample, NoAxiomExample, NoMapExample, AssumeExample, AllIntroExample, NoAllIntroExample, AllElimExample, NoAllElimExample, ImpliesIntroExample, TwiceAssumedExample, ImpliesElimExample, BetaExample, ReflExample, SubstExample, SymmetricExample, ExtExample, IffExample, PairsExample, DerivableExample, OpenHypothesisExample, OpenPromiseExample, NoPropositionExample};
+ghost use Rattle.pure_logic.specs.Examples.Underivable.{UnderivableExample};
 
 /// Pure's content is a content, and below itself.
 pub fn pure_is_content()
@@ -168,12 +169,13 @@ pub fn equality_example()
     ensures iff { IffExample }
 {}
 
-/// A theorem with hypotheses, a pair and a promise; and trees that leave a hypothesis or a promise open, or conclude what is no proposition.
+/// A theorem with hypotheses, a pair and a promise; trees that leave a hypothesis or a promise open; a proposition that isn't derivable; and a conclusion that is no proposition.
 pub fn derivable_example()
     ensures pairs { PairsExample }
     ensures derivable { DerivableExample }
     ensures open_hypothesis { OpenHypothesisExample }
     ensures open_promise { OpenPromiseExample }
+    ensures underivable { UnderivableExample }
     ensures without_pure { NoPropositionExample }
 {}
 

@@ -1,3 +1,4 @@
+use Rattle.pure_logic.proofs.UnderivableExamples.{underivable_example}
 use Rattle.pure_logic.proofs.NodeExamples.{derivable_example as derivable, open_hypothesis_example, open_promise_example, no_proposition_example}
 use Rattle.pure_logic.proofs.laws.derivable_example.Goals as goal
 
@@ -12,3 +13,6 @@ returns-clause-open_promise c = open_promise_example
 
 pub returns-clause-without_pure : goal.returns-clause-without_pure
 returns-clause-without_pure c = no_proposition_example
+
+pub returns-clause-underivable : goal.returns-clause-underivable
+returns-clause-underivable c = underivable_example
