@@ -1,5 +1,4 @@
 use Rattle.pure_logic.proofs.AncestorLaws.{ancestors_are_the_parents as parents, ancestors_have_no_repeats, beginning_has_theories_apart, theories_are_told_apart}
-use Rattle.pure_logic.proofs.ContentExamples.{ancestors_example, not_apart_example}
 use Rattle.pure_logic.proofs.laws.ancestors_are_the_parents.Goals as goal
 
 pub returns-clause-parents : goal.returns-clause-parents
@@ -13,6 +12,3 @@ returns-clause-apart c = beginning_has_theories_apart
 
 pub returns-clause-own : goal.returns-clause-own
 returns-clause-own c = theories_are_told_apart
-
-pub returns-clause-not_apart : goal.returns-clause-not_apart
-returns-clause-not_apart c = not_apart_example

@@ -1,5 +1,5 @@
 use Rattle.pure_logic.proofs.ContentExamples.{named_twice_example, ill_formed_example, schematic_example, below_example}
-use Rattle.pure_logic.proofs.laws.content_example.Goals as goal
+use Rattle.pure_logic.proofs.examples.content_example.Goals as goal
 
 pub returns-clause-twice : goal.returns-clause-twice
 returns-clause-twice c = named_twice_example

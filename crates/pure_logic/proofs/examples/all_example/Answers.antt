@@ -1,5 +1,5 @@
 use Rattle.pure_logic.proofs.NodeExamples.{all_intro_example, no_all_intro_example, all_elim_example, no_all_elim_example}
-use Rattle.pure_logic.proofs.laws.all_example.Goals as goal
+use Rattle.pure_logic.proofs.examples.all_example.Goals as goal
 
 pub returns-clause-intro : goal.returns-clause-intro
 returns-clause-intro c = all_intro_example

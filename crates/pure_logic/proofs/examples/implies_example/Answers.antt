@@ -1,5 +1,5 @@
 use Rattle.pure_logic.proofs.NodeExamples.{assume_example, implies_intro_example, twice_assumed_example, implies_elim_example}
-use Rattle.pure_logic.proofs.laws.implies_example.Goals as goal
+use Rattle.pure_logic.proofs.examples.implies_example.Goals as goal
 
 pub returns-clause-assume : goal.returns-clause-assume
 returns-clause-assume c = assume_example

@@ -1,5 +1,5 @@
 use Rattle.pure_logic.proofs.NodeExamples.{beta_example, refl_example, subst_example, symmetric_example, ext_example, iff_example}
-use Rattle.pure_logic.proofs.laws.equality_example.Goals as goal
+use Rattle.pure_logic.proofs.examples.equality_example.Goals as goal
 
 pub returns-clause-beta : goal.returns-clause-beta
 returns-clause-beta c = beta_example

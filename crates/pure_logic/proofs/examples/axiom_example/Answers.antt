@@ -1,5 +1,5 @@
 use Rattle.pure_logic.proofs.NodeExamples.{axiom_example, own_type_example, promise_example, no_axiom_example, no_map_example}
-use Rattle.pure_logic.proofs.laws.axiom_example.Goals as goal
+use Rattle.pure_logic.proofs.examples.axiom_example.Goals as goal
 
 pub returns-clause-axiom : goal.returns-clause-axiom
 returns-clause-axiom c = axiom_example
