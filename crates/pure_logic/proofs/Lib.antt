@@ -20,3 +20,4 @@ pub mod FreshLaws
 pub mod SubstitutionLaws
 pub mod ContentExamples
 pub mod UnderivableExamples
+pub mod PromiseLaws

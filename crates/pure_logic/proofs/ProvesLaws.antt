@@ -1,18 +1,25 @@
 -- What is proved, and how inferences go.
-use Rattle.std.proofs.Common.{◌≡◌, ◌≢◌, ◌↔◌, List, [], ◌∷◌, ◌++◌, Bool, true, false, cond, inl, inr, ap, refl}
+use Rattle.std.proofs.Common.{◌≡◌, ◌≢◌, ◌↔◌, List, [], ◌∷◌, ◌++◌, ℕ, Bool, true, false, cond, inl, inr, ap, refl, sym, arith}
 use Rattle.pure_text.specs.Lists.{IsIn, Each, EachTwo}
 use Rattle.pure_text.proofs.ListLaws.{in-append_left, in-append_right}
 use Rattle.pure_definitions.specs.Names.{Label}
-use Rattle.pure_definitions.specs.Term.{Term, term_eq}
+use Rattle.pure_definitions.specs.Typ.{Typ}
+use Rattle.pure_definitions.specs.Term.{Term, Free, term_eq}
+use Rattle.pure_definitions.specs.Bounds.{subst_bound, Occurs}
+use Rattle.pure_definitions.specs.Certified.{IsCertifiedTyp}
 use Rattle.pure_definitions.specs.Models.Equality.{term_eq-itself}
-use Rattle.pure_logic.specs.Connectives.{imp, chain, eq}
-use Rattle.pure_logic.specs.Content.{Content, IsContent, IsBelow, IsProposition}
+use Rattle.pure_logic.specs.Connectives.{all, imp, chain, eq}
+use Rattle.pure_logic.specs.Content.{Content, IsContent, IsBelow, IsCertifiedOf, IsProposition}
 use Rattle.pure_logic.specs.PureContent.{pure_content}
-use Rattle.pure_logic.specs.Tree.{Assume, ImpliesIntro, ImpliesElim, without, hyps_of, rests_of}
+use Rattle.pure_logic.specs.Tree.{Assume, AllIntro, AllElim, ImpliesIntro, ImpliesElim, without, hyps_of, rests_of}
 use Rattle.pure_logic.specs.Derivable.{Pair, Theorem, IsUnderPairs, IsDerivable}
 use Rattle.pure_logic.specs.Proves.{Proves, IsEquation, IsProved}
 use Rattle.pure_logic.specs.Laws.Proves.{IsAmong}
 use Rattle.pure_logic.proofs.AboveLaws.{each-more}
+use Rattle.pure_term_laws.proofs.BoundLaws.{bind-subst}
+use Rattle.pure_logic.proofs.ChainLaws.{each-at}
+use Rattle.pure_logic.proofs.ConnectiveLaws.{certified_of}
+use Rattle.pure_logic.proofs.FreshLaws.{above_all, fresh-above_all}
 use Rattle.pure_logic.proofs.MergeLaws.{in-append}
 use Rattle.pure_logic.proofs.PropositionLaws.{each-append, premise-proposition, conclusion-proposition, concluded-proposition}
 
@@ -78,6 +85,29 @@ chain_is_proved Q (A ∷ As) hyps rests C h p =
 pub end_of_chain_is_proved : (Q : Content) (premises hyps : List Term) (rests : List Label) (C : Term) → Proves Q hyps rests (chain premises C) → Each (λ A. Proves Q hyps rests A) premises → Proves Q hyps rests C
 end_of_chain_is_proved Q [] hyps rests C p each = p
 end_of_chain_is_proved Q (A ∷ As) hyps rests C p each = end_of_chain_is_proved Q As hyps rests C (conclusion_is_proved Q hyps rests A (chain As C) p each.0) each.1
+
+-- The variable has a name above all in the body and the hypotheses.
+pub quantification_is_proved : (Q : Content) (hyps : List Term) (rests : List Label) (T : Typ) (B : Term) → IsCertifiedTyp Q.declarations T → ((n : ℕ) → Proves Q hyps rests (subst_bound B (Free n T))) → Proves Q hyps rests (all T B)
+quantification_is_proved Q hyps rests T B c each =
+    let apart = fresh-above_all (above_all (B ∷ hyps)) T (B ∷ hyps) (omega arith) in
+    let p = each (above_all (B ∷ hyps)) in
+    record {
+      tree = AllIntro (Free (above_all (B ∷ hyps)) T) p.tree;
+      concludes = (
+        T,
+        subst_bound B (Free (above_all (B ∷ hyps)) T),
+        p.concludes,
+        tt,
+        certified_of Q (Free (above_all (B ∷ hyps)) T) T c refl,
+        each-more (λ A. IsIn A hyps) (λ A. ¬ Occurs (Free (above_all (B ∷ hyps)) T) A) (λ A m. each-at (λ C. ¬ Occurs (Free (above_all (B ∷ hyps)) T) C) A hyps apart.1 m) (hyps_of p.tree) p.from,
+        ap (all T) (sym (bind-subst 0 (Free (above_all (B ∷ hyps)) T) B tt apart.0)),
+      );
+      from = p.from;
+      rest_on = p.rest_on;
+    }
+
+pub instance_of_body_is_proved : (Q : Content) (hyps : List Term) (rests : List Label) (T : Typ) (B t : Term) → IsCertifiedOf Q t T → Proves Q hyps rests (all T B) → Proves Q hyps rests (subst_bound B t)
+instance_of_body_is_proved Q hyps rests T B t c p = record { tree = AllElim t p.tree; concludes = (T, B, p.concludes, c, refl); from = p.from; rest_on = p.rest_on }
 
 -- Under pairs with some equations, a tree closes the equations.
 close_pairs : (Q : Content) (pairs : List Pair) (equations hyps : List Term) (rests : List Label) (A : Term) → EachTwo IsEquation pairs equations → Each (IsProposition Q) equations

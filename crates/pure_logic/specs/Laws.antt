@@ -3,6 +3,7 @@ pub mod Contents
 pub mod Derivable
 pub mod Proves
 pub mod Substitution
+pub mod Promises
 pub mod Tree
 pub mod Conclusion
 pub mod Parts

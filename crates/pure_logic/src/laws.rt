@@ -1,7 +1,8 @@
 //! What the definitions mean: laws, each carried by the contract of a function that does nothing.
 ghost use Rattle.pure_logic.specs.Laws.Derivable.{DerivableAloneExactly, DerivableExactly, PureIsContent, VariableIsProposition, ChainIsDerivable, VariableChainIsDerivable, PureIsBelowItself, TrivialIsDerivable, WeakenedIsDerivable};
-ghost use Rattle.pure_logic.specs.Laws.Proves.{DerivableIsProves, PairsAreEquations, AssumedIsProved, WeakerIsProved, ImplicationIsProved, ConclusionIsProved, ChainIsProved, EndOfChainIsProved, ProvedIsProposition, CutIsProved, InferredFromTwo, ImpliesElimIsDerivable};
+ghost use Rattle.pure_logic.specs.Laws.Proves.{DerivableIsProves, PairsAreEquations, AssumedIsProved, WeakerIsProved, ImplicationIsProved, ConclusionIsProved, ChainIsProved, EndOfChainIsProved, QuantificationIsProved, InstanceOfBodyIsProved, ProvedIsProposition, CutIsProved, InferredFromTwo, ImpliesElimIsDerivable};
 ghost use Rattle.pure_logic.specs.Laws.Substitution.{SubstitutionOfTrees, InstanceIsProved, InstanceIsDerivable};
+ghost use Rattle.pure_logic.specs.Laws.Promises.{CutOfPromises, SettledIsDerivable};
 ghost use Rattle.pure_logic.specs.Laws.Tree.{OneConclusion, OneUnderPairs, WeakeningOfTrees, WeakeningOfDerivable, IdentityRespects, JoinedMapsRespect, JoinedInstance};
 ghost use Rattle.pure_logic.specs.Laws.Parts.{PartsOfInstance};
 ghost use Rattle.pure_logic.specs.Laws.Conclusion.{ConclusionIsProposition, DerivableIsProposition, DerivableAloneIsProposition};
@@ -38,7 +39,7 @@ pub fn derivable_is_proved()
     ensures pairs { PairsAreEquations }
 {}
 
-/// What is proved: hypotheses, implications and chains of them, and the cut.
+/// What is proved: hypotheses, implications and chains of them, quantifications, and the cut.
 pub fn proved()
     ensures assumed { AssumedIsProved }
     ensures weaker { WeakerIsProved }
@@ -46,6 +47,8 @@ pub fn proved()
     ensures conclusion { ConclusionIsProved }
     ensures chain { ChainIsProved }
     ensures chain_end { EndOfChainIsProved }
+    ensures quantification { QuantificationIsProved }
+    ensures body { InstanceOfBodyIsProved }
     ensures proposition { ProvedIsProposition }
     ensures cut { CutIsProved }
 {}
@@ -61,6 +64,12 @@ pub fn substitution_is_admissible()
     ensures trees { SubstitutionOfTrees }
     ensures proved { InstanceIsProved }
     ensures derivable { InstanceIsDerivable }
+{}
+
+/// What rests on promises of which each is left open or settled rests on those left open alone.
+pub fn promises_are_cut()
+    ensures cut { CutOfPromises }
+    ensures settled { SettledIsDerivable }
 {}
 
 /// A tree concludes one proposition at most.

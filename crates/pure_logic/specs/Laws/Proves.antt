@@ -1,10 +1,13 @@
 -- Laws of what is proved: that it is what is derivable, and how inferences go.
-use Rattle.std.specs.Prelude.{◌↔◌, List, [], ◌∷◌, ◌++◌}
+use Rattle.std.specs.Prelude.{◌↔◌, ℕ, List, [], ◌∷◌, ◌++◌}
 use Rattle.pure_text.specs.Lists.{IsIn, Each}
 use Rattle.pure_definitions.specs.Names.{Label}
-use Rattle.pure_definitions.specs.Term.{Term}
-use Rattle.pure_logic.specs.Connectives.{imp, chain}
-use Rattle.pure_logic.specs.Content.{Content, IsContent, IsBelow, IsProposition}
+use Rattle.pure_definitions.specs.Typ.{Typ}
+use Rattle.pure_definitions.specs.Term.{Term, Free}
+use Rattle.pure_definitions.specs.Bounds.{subst_bound}
+use Rattle.pure_definitions.specs.Certified.{IsCertifiedTyp}
+use Rattle.pure_logic.specs.Connectives.{all, imp, chain}
+use Rattle.pure_logic.specs.Content.{Content, IsContent, IsBelow, IsCertifiedOf, IsProposition}
 use Rattle.pure_logic.specs.PureContent.{pure_content}
 use Rattle.pure_logic.specs.Derivable.{Theorem, IsDerivable}
 use Rattle.pure_logic.specs.Proves.{Proves, IsProved}
@@ -39,6 +42,13 @@ ChainIsProved = (Q : Content) (premises hyps : List Term) (rests : List Label) (
 
 abbrev pub EndOfChainIsProved : Type 0
 EndOfChainIsProved = (Q : Content) (premises hyps : List Term) (rests : List Label) (C : Term) → Proves Q hyps rests (chain premises C) → Each (λ A. Proves Q hyps rests A) premises → Proves Q hyps rests C
+
+-- A quantification is proved where its body is, for the fixed variables of the type: whoever proves it need not look for a fresh one. An instance of its body is proved from it.
+abbrev pub QuantificationIsProved : Type 0
+QuantificationIsProved = (Q : Content) (hyps : List Term) (rests : List Label) (T : Typ) (B : Term) → IsCertifiedTyp Q.declarations T → ((n : ℕ) → Proves Q hyps rests (subst_bound B (Free n T))) → Proves Q hyps rests (all T B)
+
+abbrev pub InstanceOfBodyIsProved : Type 0
+InstanceOfBodyIsProved = (Q : Content) (hyps : List Term) (rests : List Label) (T : Typ) (B t : Term) → IsCertifiedOf Q t T → Proves Q hyps rests (all T B) → Proves Q hyps rests (subst_bound B t)
 
 -- Over a content above Pure's what is proved is a proposition, and a proved hypothesis may be cut.
 abbrev pub ProvedIsProposition : Type 0

@@ -1,4 +1,4 @@
-use Rattle.pure_logic.proofs.ProvesLaws.{assumed, weaker, implication_is_proved, conclusion_is_proved, chain_is_proved, end_of_chain_is_proved, proved_is_proposition, cut_is_proved}
+use Rattle.pure_logic.proofs.ProvesLaws.{assumed, weaker, implication_is_proved, conclusion_is_proved, chain_is_proved, end_of_chain_is_proved, quantification_is_proved, instance_of_body_is_proved, proved_is_proposition, cut_is_proved}
 use Rattle.pure_logic.proofs.laws.proved.Goals as goal
 
 pub returns-clause-assumed : goal.returns-clause-assumed
@@ -24,3 +24,9 @@ returns-clause-proposition c = proved_is_proposition
 
 pub returns-clause-cut : goal.returns-clause-cut
 returns-clause-cut c = cut_is_proved
+
+pub returns-clause-quantification : goal.returns-clause-quantification
+returns-clause-quantification c = quantification_is_proved
+
+pub returns-clause-body : goal.returns-clause-body
+returns-clause-body c = instance_of_body_is_proved
