@@ -1,12 +1,12 @@
 -- The ancestors of a theory, and how theories are told apart.
-use Rattle.std.proofs.Common.{◌≡◌, ◌≢◌, ◌↔◌, ◌⊎◌, ◌<◌, List, [], ◌∷◌, ◌++◌, Bool, true, false, cond, nat_eq, inl, inr, refl, sym, ◌∙◌, arith}
+use Rattle.std.proofs.Common.{◌≡◌, ◌≢◌, ◌↔◌, ◌⊎◌, ◌<◌, List, [], ◌∷◌, Bool, true, false, cond, nat_eq, inl, inr, refl, sym, ◌∙◌, arith}
 use Rattle.std.specs.Prelude.{Option, Some, None}
 use Rattle.std.specs.Option.{option_to_list}
 use Rattle.std.specs.List.{flat_map}
 use Rattle.std.specs.Cmp.{first_so, second_so}
 use Rattle.std.specs.Cmp.Derive.{both_true}
 use Rattle.std.proofs.lemmas.Bool.{eq-eqb, eqb-true}
-use Rattle.pure_text.specs.Lists.{IsIn, Each, AnyOf, AreDistinct}
+use Rattle.pure_text.specs.Lists.{IsIn, AnyOf, AreDistinct}
 use Rattle.pure_text.proofs.ListLaws.{in-append_left, in-append_right}
 use Rattle.pure_logic.specs.Content.{TheoryId, Content}
 use Rattle.pure_logic.specs.Beginning.{theory_eq, without_theory, each_once, theories_of, ancestors_of, IsBeginning, AreToldApart, IsNewOver, HasTheoriesApart}

@@ -12,7 +12,7 @@ use Rattle.pure_logic.specs.Content.{TheoryId, IsContent, IsWellFormed, AreNamed
 use Rattle.pure_logic.specs.Beginning.{IsMerge, HasTheoriesApart}
 use Rattle.pure_logic.specs.PureContent.{pure_declarations, proposition_variable}
 use Rattle.pure_logic.specs.Examples.Theory.{promised, example}
-use Rattle.pure_logic.specs.Examples.Contents.{content_of, theory, in_theory, beginning, BeginningExample, AncestorsExample, NotApartExample, classes, with_arity, NoMergeExample, fork_declarations, with_square, MiddleMergeExample, NamedTwiceExample, IllFormedExample, SchematicExample, BelowExample}
+use Rattle.pure_logic.specs.Examples.Contents.{content_of, theory, beginning, BeginningExample, AncestorsExample, NotApartExample, classes, with_arity, NoMergeExample, fork_declarations, with_square, MiddleMergeExample, NamedTwiceExample, IllFormedExample, SchematicExample, BelowExample}
 use Rattle.pure_text.proofs.ListLaws.{in-append_left, in-append_right}
 use Rattle.pure_logic.proofs.ChainLaws.{each-at}
 use Rattle.pure_logic.proofs.ContentLaws.{named_alike, both_promises, named_alike-so, both_promises-so, apart-once}
@@ -154,7 +154,7 @@ in-rest x front ys zs h m = elim (in-append x front ys m) [ inl n ↦ in-append_
 all_squares_are_coregular : IsCoregular (algebra_of (fork_declarations ++ three_squares))
 all_squares_are_coregular =
     coregular-same (fork_declarations ++ three_squares) (fork_declarations ++ three_from_top) (λ x m. in-rest x fork_declarations three_squares three_from_top (up x) m)
-        (λ x m. in-rest x fork_declarations three_from_top three_squares (down x) m) joined_fork_is_coregular
+    (λ x m. in-rest x fork_declarations three_from_top three_squares (down x) m) joined_fork_is_coregular
   where
     up : (x : Decl) → IsIn x three_squares → IsIn x three_from_top
     up x (inl h) = inr (inl h)
@@ -172,7 +172,7 @@ all_squares_are_coregular =
 no_middle : (merged : List Decl) → IsMerge (with_square c ∷ with_square d ∷ []) merged → ⊥
 no_middle merged h =
     open_fork_is_not_coregular (coregular-same (fork_declarations ++ both_squares) merged (λ x m. (has x).1 (up x (in-append x fork_declarations both_squares m))) (λ x m. down x ((has x).0 m))
-        (merged-coregular (with_square c) (with_square d) merged h))
+    (merged-coregular (with_square c) (with_square d) merged h))
   where
     has : (x : Decl) → IsIn x merged ↔ AnyOf (λ Q. IsIn x Q.declarations) (with_square c ∷ with_square d ∷ [])
     has x = merge_has_declarations (with_square c ∷ with_square d ∷ []) merged h x

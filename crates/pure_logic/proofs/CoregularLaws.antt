@@ -1,7 +1,7 @@
 -- Which algebras are coregular: one with a single arity, and one that declares what a coregular one does, in whatever order.
 use Rattle.std.proofs.Common.{◌≡◌, ℕ, List, [], ◌∷◌, inl, inr, refl}
 use Rattle.pure_text.specs.Lists.{IsIn, EachTwo}
-use Rattle.pure_definitions.specs.Order.{Arity, Algebra, IsClassBelow, IsSortBelow, AreCompatible, IsCoregular}
+use Rattle.pure_definitions.specs.Order.{Arity, Algebra, IsSortBelow, AreCompatible, IsCoregular}
 use Rattle.pure_definitions.specs.Decl.{Decl, ArityDecl, algebra_of}
 use Rattle.pure_definitions.proofs.OrderLaws.{sort_below-itself}
 use Rattle.pure_term_laws.proofs.DeclLaws.{declared_arities}
@@ -47,12 +47,14 @@ coregular-same ds es above back h a b m n e =
       forth = λ c. domains-above es ds back a.domains b.domains (k.forth (class_below-above ds es above c));
       back = λ c. domains-above es ds back b.domains a.domains (k.back (class_below-above ds es above c));
       joined = λ top c d.
-          let j = k.joined top (class_below-above ds es above c) (class_below-above ds es above d) in
-          (j.0, record {
-            declared = arity-above es ds back j.0 j.1.declared;
-            con = j.1.con;
-            class = class_below-above es ds back j.1.class;
-            first = domains-above es ds back a.domains j.0.domains j.1.first;
-            second = domains-above es ds back b.domains j.0.domains j.1.second;
-          });
+          let j = k.joined top (class_below-above ds es above c) (class_below-above ds es above d) in (
+            j.0,
+            record {
+              declared = arity-above es ds back j.0 j.1.declared;
+              con = j.1.con;
+              class = class_below-above es ds back j.1.class;
+              first = domains-above es ds back a.domains j.0.domains j.1.first;
+              second = domains-above es ds back b.domains j.0.domains j.1.second;
+            },
+          );
     }

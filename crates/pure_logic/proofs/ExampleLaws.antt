@@ -120,9 +120,14 @@ promise_is_statement = record {
 
 own_types_are_statement : IsStatement example (related any_left any_right (any_w any_left) (any_w any_right))
 own_types_are_statement = record {
-  proposition = certified_of example (related any_left any_right (any_w any_left) (any_w any_right)) prop
-      ((const-parts 35 (arrow any_left (arrow any_right prop)) (arrow-certified example example-above any_left (arrow any_right prop) no_class (arrow-certified example example-above any_right prop no_class (prop-certified example example-above)))
-      (inr (inr (inr (inr (inr (inr (inr (inr (inr (inr (inl refl))))))))))), no_class), no_class) (any_right, (any_left, refl, refl), refl);
+  proposition = certified_of example (related any_left any_right (any_w any_left) (any_w any_right)) prop (
+    (
+      const-parts 35 (arrow any_left (arrow any_right prop)) (arrow-certified example example-above any_left (arrow any_right prop) no_class (arrow-certified example example-above any_right prop no_class (prop-certified example example-above)))
+          (inr (inr (inr (inr (inr (inr (inr (inr (inr (inr (inl refl))))))))))),
+      no_class,
+    ),
+    no_class,
+  ) (any_right, (any_left, refl, refl), refl);
   schematic = (((tt, ((tt, (tt, tt)), tt)), tt), tt);
 }
   where

@@ -1,6 +1,6 @@
 -- Fresh variables: a name above all names in terms; a map past an abstraction over a variable that is renamed to a fresh one; and a map that is changed at a variable that doesn't occur.
-use Rattle.std.proofs.Common.{◌≡◌, ◌≢◌, ◌≤◌, ◌+◌, ℕ, List, [], ◌∷◌, map, Bool, true, false, cond, nat_lt, inl, inr, refl, ap, sym, ◌∙◌, arith}
-use Rattle.pure_text.specs.Lists.{IsIn, Each}
+use Rattle.std.proofs.Common.{◌≡◌, ◌≤◌, ◌+◌, ℕ, List, [], ◌∷◌, map, Bool, true, false, cond, nat_lt, inl, inr, refl, ap, sym, ◌∙◌, arith}
+use Rattle.pure_text.specs.Lists.{Each}
 use Rattle.pure_definitions.specs.Typ.{Typ}
 use Rattle.pure_definitions.specs.Term.{Term, Const, Free, Var, Bound, Abs, App, term_eq}
 use Rattle.pure_definitions.specs.Bounds.{IsClosed, subst_under, bind_under, Occurs}

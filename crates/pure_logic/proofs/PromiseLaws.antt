@@ -1,12 +1,10 @@
 -- Promises are cut: the tree of a settled statement is put, at its instance, in the place of the promise.
-use Rattle.std.proofs.Common.{◌≡◌, ◌⊎◌, ℕ, List, [], ◌∷◌, ◌++◌, map, Bool, true, false, cond, inl, inr, refl, sym}
+use Rattle.std.proofs.Common.{◌≡◌, ◌⊎◌, List, [], ◌∷◌, ◌++◌, Bool, true, false, cond, inl, inr, refl}
 use Rattle.pure_text.specs.Lists.{IsIn, Each}
 use Rattle.pure_text.proofs.ListLaws.{in-append_left, in-append_right}
 use Rattle.pure_definitions.specs.Names.{Label}
 use Rattle.pure_definitions.specs.Term.{Term, term_eq}
 use Rattle.pure_definitions.specs.Bounds.{Occurs}
-use Rattle.pure_definitions.specs.Models.Equality.{term_eq-itself}
-use Rattle.pure_definitions.specs.Subst.{term_instance}
 use Rattle.pure_logic.specs.Connectives.{all, imp}
 use Rattle.pure_logic.specs.Content.{Content, IsContent}
 use Rattle.pure_logic.specs.Tree.{Tree, Axiom, Promise, Assume, AllIntro, AllElim, ImpliesIntro, ImpliesElim, Beta, Refl, Subst, Ext, Iff, without, hyps_of, rests_of}
@@ -103,7 +101,7 @@ module _ (Q : Content) (q : IsContent Q) (left_open : List Label) where
 pub cut_of_promises : (Q : Content) → IsContent Q → (th : Theorem) (left_open : List Label) → AreOpenOrSettled Q left_open th.rests → IsDerivable Q th → IsDerivable Q (record th { rests = left_open })
 cut_of_promises Q q th left_open settled h =
     let made = cut Q q left_open h.tree h.conclusion h.concludes
-        (each-more (λ l. IsIn l th.rests) (λ l. IsIn l left_open ⊎ IsSettled Q l) (λ l m. each-at (λ k. IsIn k left_open ⊎ IsSettled Q k) l th.rests settled m) (rests_of h.tree) h.rests) in
+    (each-more (λ l. IsIn l th.rests) (λ l. IsIn l left_open ⊎ IsSettled Q l) (λ l m. each-at (λ k. IsIn k left_open ⊎ IsSettled Q k) l th.rests settled m) (rests_of h.tree) h.rests) in
     record {
       tree = made.tree;
       conclusion = h.conclusion;

@@ -1,5 +1,5 @@
 -- What is proved, and how inferences go.
-use Rattle.std.proofs.Common.{◌≡◌, ◌≢◌, ◌↔◌, List, [], ◌∷◌, ◌++◌, ℕ, Bool, true, false, cond, inl, inr, ap, refl, sym, arith}
+use Rattle.std.proofs.Common.{◌≡◌, ◌↔◌, List, [], ◌∷◌, ◌++◌, ℕ, Bool, true, false, cond, inl, inr, ap, refl, sym, arith}
 use Rattle.pure_text.specs.Lists.{IsIn, Each, EachTwo}
 use Rattle.pure_text.proofs.ListLaws.{in-append_left, in-append_right}
 use Rattle.pure_definitions.specs.Names.{Label}

@@ -7,7 +7,7 @@ use Rattle.pure_definitions.specs.Names.{Label}
 use Rattle.pure_definitions.specs.Typ.{Typ, TFree, TVar, arrow, prop}
 use Rattle.pure_definitions.specs.Term.{Term, Const, Free, Var, Bound, Abs, App, term_eq}
 use Rattle.pure_definitions.specs.Typing.{HasType}
-use Rattle.pure_definitions.specs.Bounds.{IsClosed, subst_bound, abstract_over, bind_under, Occurs}
+use Rattle.pure_definitions.specs.Bounds.{Occurs}
 use Rattle.pure_definitions.specs.Conditions.{IsVariable, variable_typ}
 use Rattle.pure_definitions.specs.Models.Equality.{term_eq-same, term_eq-itself}
 use Rattle.pure_definitions.specs.Subst.{typ_instance, term_instance}
@@ -20,8 +20,8 @@ use Rattle.pure_term_laws.proofs.TypingLaws.{typed-closed}
 use Rattle.pure_term_laws.proofs.TypingBoundLaws.{typing-instance}
 use Rattle.pure_logic.specs.Connectives.{all_of, all, imp, eq}
 use Rattle.pure_logic.specs.Content.{Content, IsContent, IsCertifiedOf}
-use Rattle.pure_logic.specs.Tree.{Tree, Axiom, Promise, Assume, AllIntro, AllElim, ImpliesIntro, ImpliesElim, Beta, Refl, Subst, Ext, Iff, without, hyps_of, rests_of}
-use Rattle.pure_logic.specs.Concludes.{AreRespecting, extensionality, Concludes}
+use Rattle.pure_logic.specs.Tree.{Tree, Axiom, Promise, Assume, AllIntro, AllElim, ImpliesIntro, ImpliesElim, Beta, Refl, Subst, Ext, Iff, without, hyps_of}
+use Rattle.pure_logic.specs.Concludes.{AreRespecting, Concludes}
 use Rattle.pure_logic.specs.Derivable.{Pair, Theorem, IsUnderPairs, IsDerivable}
 use Rattle.pure_logic.specs.Proves.{Proves}
 use Rattle.pure_logic.specs.Laws.Substitution.{IsInstanceTree, pair_instance, theorem_instance}
@@ -31,7 +31,7 @@ use Rattle.pure_logic.proofs.WeakeningLaws.{typ_instance-certified}
 use Rattle.pure_logic.proofs.InstanceLaws.{of_sort-instance, parts-instance}
 use Rattle.pure_logic.proofs.PropositionLaws.{each-append}
 use Rattle.pure_logic.proofs.MapLaws.{sent, sent-respects}
-use Rattle.pure_logic.proofs.FreshLaws.{above_all, fresh-above, fresh-above_all, instance-renamed, instances-unchanged}
+use Rattle.pure_logic.proofs.FreshLaws.{above_all, fresh-above_all, instance-renamed, instances-unchanged}
 
 -- Type maps one after the other are one type map.
 typ-again : (first second : Typ → Typ) (T : Typ) → typ_instance second (typ_instance first T) ≡ typ_instance (λ v. typ_instance second (first v)) T
@@ -178,8 +178,13 @@ module _ (Q : Content) (q : IsContent Q) where
       let rest = substitution_of_trees d (all h.0 h.1) h.2 typs terms r in
       record {
         tree = AllElim (term_instance typs terms t) rest.tree;
-        concludes = (typ_instance typs h.0, term_instance typs terms h.1, rest.concludes, certified_of-instance typs terms r t h.0 h.3,
-          ap (term_instance typs terms) h.4 ∙ instance-subst typs terms (images_closed Q typs terms r) 0 t h.1);
+        concludes = (
+          typ_instance typs h.0,
+          term_instance typs terms h.1,
+          rest.concludes,
+          certified_of-instance typs terms r t h.0 h.3,
+          ap (term_instance typs terms) h.4 ∙ instance-subst typs terms (images_closed Q typs terms r) 0 t h.1,
+        );
         hyps = rest.hyps;
         rests = rest.rests;
       }
@@ -202,8 +207,15 @@ module _ (Q : Content) (q : IsContent Q) where
       }
   substitution_of_trees (Beta redex) C h typs terms r = record {
     tree = Beta (term_instance typs terms redex);
-    concludes = (typ_instance typs h.0, typ_instance typs h.1, term_instance typs terms h.2, term_instance typs terms h.3, ap (term_instance typs terms) h.4, certified_of-instance typs terms r redex h.1 h.5,
-      ap (term_instance typs terms) h.6 ∙ ap (eq (typ_instance typs h.1) (term_instance typs terms redex)) (instance-subst typs terms (images_closed Q typs terms r) 0 h.3 h.2));
+    concludes = (
+      typ_instance typs h.0,
+      typ_instance typs h.1,
+      term_instance typs terms h.2,
+      term_instance typs terms h.3,
+      ap (term_instance typs terms) h.4,
+      certified_of-instance typs terms r redex h.1 h.5,
+      ap (term_instance typs terms) h.6 ∙ ap (eq (typ_instance typs h.1) (term_instance typs terms redex)) (instance-subst typs terms (images_closed Q typs terms r) 0 h.3 h.2),
+    );
     hyps = tt;
     rests = refl;
   }
@@ -218,9 +230,15 @@ module _ (Q : Content) (q : IsContent Q) where
       let right = instance-subst typs terms (images_closed Q typs terms r) 0 y h.1 in
       record {
         tree = Subst (term_instance typs terms f) (term_instance typs terms x) (term_instance typs terms y);
-        concludes = (typ_instance typs h.0, term_instance typs terms h.1, ap (term_instance typs terms) h.2, certified_of-instance typs terms r f (arrow h.0 prop) h.3, certified_of-instance typs terms r x h.0 h.4,
+        concludes = (
+          typ_instance typs h.0,
+          term_instance typs terms h.1,
+          ap (term_instance typs terms) h.2,
+          certified_of-instance typs terms r f (arrow h.0 prop) h.3,
+          certified_of-instance typs terms r x h.0 h.4,
           certified_of-instance typs terms r y h.0 h.5,
-          ap (term_instance typs terms) h.6 ∙ (λ l. imp (eq (typ_instance typs h.0) (term_instance typs terms x) (term_instance typs terms y)) (imp (left l) (right l))));
+          ap (term_instance typs terms) h.6 ∙ (λ l. imp (eq (typ_instance typs h.0) (term_instance typs terms x) (term_instance typs terms y)) (imp (left l) (right l))),
+        );
         hyps = tt;
         rests = refl;
       }

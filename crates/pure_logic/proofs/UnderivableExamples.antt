@@ -1,13 +1,12 @@
 -- A proposition that isn't derivable alone: over a content without connectives each certified term may be taken as false, and then what a tree concludes from true hypotheses without promises is true.
-use Rattle.std.proofs.Common.{◌≡◌, ℕ, List, [], ◌∷◌, ◌++◌, Bool, true, false, not, ◌||◌, cond, nat_eq, nat_lt, inl, inr, refl, ap, sym, ◌∙◌, arith}
+use Rattle.std.proofs.Common.{◌≡◌, ℕ, List, [], ◌∷◌, ◌++◌, Bool, true, false, not, ◌||◌, cond, nat_eq, nat_lt, inl, inr, refl, ap, sym, ◌∙◌}
 use Rattle.std.specs.Prelude.{◌+◌, ◌-◌, if◌then◌else◌}
 use Rattle.pure_text.specs.Lists.{IsIn, Each}
 use Rattle.pure_definitions.specs.Names.{Label, all_name, imp_name, eq_name}
 use Rattle.pure_definitions.specs.Typ.{Typ, prop}
 use Rattle.pure_definitions.specs.Term.{Term, Const, Free, Var, Bound, Abs, App, term_eq}
-use Rattle.pure_definitions.specs.Bounds.{lift_term, place_at, subst_under, subst_bound, bind_under}
-use Rattle.pure_definitions.specs.Conditions.{variable_typ}
-use Rattle.pure_definitions.specs.Decl.{ConstDecl, PromiseDecl, AxiomDecl}
+use Rattle.pure_definitions.specs.Bounds.{lift_term, subst_under, subst_bound, bind_under}
+use Rattle.pure_definitions.specs.Decl.{ConstDecl, AxiomDecl}
 use Rattle.pure_definitions.specs.Certified.{HasCertifiedParts}
 use Rattle.pure_definitions.specs.Models.Equality.{term_eq-same}
 use Rattle.pure_definitions.proofs.BindLemmas.{abstract_over-variable}

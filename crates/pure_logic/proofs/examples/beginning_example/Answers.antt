@@ -1,4 +1,4 @@
-use Rattle.pure_logic.proofs.ContentExamples.{beginning_example as begins, ancestors_example, not_apart_example}
+use Rattle.pure_logic.proofs.ContentExamples.{beginning_example as begins, not_apart_example}
 use Rattle.pure_logic.proofs.examples.beginning_example.Goals as goal
 
 pub returns-clause-beginning : goal.returns-clause-beginning
