@@ -21,3 +21,4 @@ pub mod SubstitutionLaws
 pub mod ContentExamples
 pub mod UnderivableExamples
 pub mod PromiseLaws
+pub mod EqualityLaws

@@ -56,7 +56,7 @@ module _ (Q : Content) (above : IsBelow pure_content Q) where
   pub conclusion-proposition : (A B : Term) → IsProposition Q (imp A B) → IsProposition Q B
   conclusion-proposition A B h = certified_of Q B prop h.certified.parts.1 (conclusion-typed A B h.typed)
 
-  typ-of_certified : (t : Term) (T : Typ) → IsCertifiedOf Q t T → IsCertifiedTyp Q.declarations T
+  pub typ-of_certified : (t : Term) (T : Typ) → IsCertifiedOf Q t T → IsCertifiedTyp Q.declarations T
   typ-of_certified t T h = typ-certified Q above [] t T tt h.certified.parts h.typed
 
   eq-proposition : (T : Typ) (t u : Term) → IsCertifiedOf Q t T → IsCertifiedOf Q u T → IsProposition Q (eq T t u)

@@ -2,6 +2,7 @@
 pub mod Contents
 pub mod Derivable
 pub mod Proves
+pub mod Equality
 pub mod Substitution
 pub mod Promises
 pub mod Tree

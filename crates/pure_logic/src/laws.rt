@@ -1,6 +1,7 @@
 //! What the definitions mean: laws, each carried by the contract of a function that does nothing.
 ghost use Rattle.pure_logic.specs.Laws.Derivable.{DerivableAloneExactly, DerivableExactly, PureIsContent, VariableIsProposition, ChainIsDerivable, VariableChainIsDerivable, PureIsBelowItself, TrivialIsDerivable, WeakenedIsDerivable};
 ghost use Rattle.pure_logic.specs.Laws.Proves.{DerivableIsProves, PairsAreEquations, AssumedIsProved, WeakerIsProved, ImplicationIsProved, ConclusionIsProved, ChainIsProved, EndOfChainIsProved, QuantificationIsProved, InstanceOfBodyIsProved, ProvedIsProposition, CutIsProved, InferredFromTwo, ImpliesElimIsDerivable};
+ghost use Rattle.pure_logic.specs.Laws.Equality.{ReflexiveEquality, SymmetricEquality, TransitiveEquality, EqualsAreReplaced, EqualApplications, EqualPropositions, EqualIsProved, EqualFunctions, BetaEquality, EtaEquality, EqualAbstractions};
 ghost use Rattle.pure_logic.specs.Laws.Substitution.{SubstitutionOfTrees, InstanceIsProved, InstanceIsDerivable};
 ghost use Rattle.pure_logic.specs.Laws.Promises.{CutOfPromises, SettledIsDerivable};
 ghost use Rattle.pure_logic.specs.Laws.Tree.{OneConclusion, OneUnderPairs, WeakeningOfTrees, WeakeningOfDerivable, IdentityRespects, JoinedMapsRespect, JoinedInstance};
@@ -57,6 +58,25 @@ pub fn proved()
 pub fn inferred_from_two()
     ensures inferred { InferredFromTwo }
     ensures implies_elim { ImpliesElimIsDerivable }
+{}
+
+/// Equality is an equivalence, and equals may be put for one another.
+pub fn equality_is_congruence()
+    ensures reflexive { ReflexiveEquality }
+    ensures symmetric { SymmetricEquality }
+    ensures transitive { TransitiveEquality }
+    ensures replaced { EqualsAreReplaced }
+    ensures applications { EqualApplications }
+    ensures propositions { EqualPropositions }
+    ensures proved { EqualIsProved }
+{}
+
+/// Functions that are equal at each argument are equal; beta and eta.
+pub fn equality_of_functions()
+    ensures functions { EqualFunctions }
+    ensures beta { BetaEquality }
+    ensures eta { EtaEquality }
+    ensures abstractions { EqualAbstractions }
 {}
 
 /// Each instance by respecting maps of what is concluded, proved or derivable is so too.
