@@ -1,6 +1,6 @@
 -- What is certified over a content is certified over each content above it.
-use Rattle.std.proofs.Common.{ℕ, List, [], ◌∷◌, inl, inr}
-use Rattle.pure_text.specs.Lists.{IsIn, Each, AnyOf}
+use Rattle.std.proofs.Common.{ℕ, List, [], ◌∷◌}
+use Rattle.pure_text.specs.Lists.{IsIn}
 use Rattle.pure_definitions.specs.Typ.{Typ, TFree, TVar, Con, Typs, none, also, typs_count}
 use Rattle.pure_definitions.specs.Term.{Term, Const, Free, Var, Bound, Abs, App}
 use Rattle.pure_definitions.specs.Order.{IsInclusion, IsClassBelow, itself, along, HasClassBelow, IsSortBelow, IsOfClass, AreOfSorts, IsOfSort}
@@ -9,14 +9,7 @@ use Rattle.pure_definitions.specs.Decl.{Decl, ClassDecl, ConDecl, ArityDecl, Con
 use Rattle.pure_definitions.specs.Certified.{IsCertifiedSort, IsCertifiedTyp, AreCertifiedTyps, IsInstance, HasCertifiedParts}
 use Rattle.pure_term_laws.proofs.DeclLaws.{declared_classes, declared_arities}
 use Rattle.pure_logic.specs.Content.{Content, IsBelow, IsCertifiedOf}
-
-pub each-more : {A : Type 0} (P Q : A → Type 0) → ((x : A) → P x → Q x) → (xs : List A) → Each P xs → Each Q xs
-each-more P Q more [] h = tt
-each-more P Q more (x ∷ xs) h = (more x h.0, each-more P Q more xs h.1)
-
-pub any-more : {A : Type 0} (P Q : A → Type 0) → ((x : A) → P x → Q x) → (xs : List A) → AnyOf P xs → AnyOf Q xs
-any-more P Q more [] h = h
-any-more P Q more (x ∷ xs) h = elim h [ inl p ↦ inl (more x p) | inr q ↦ inr (any-more P Q more xs q) ]
+use Rattle.pure_logic.proofs.EachLaws.{each-more, any-more}
 
 module _ (ds es : List Decl) (above : (d : Decl) → IsIn d ds → IsIn d es) where
   inclusion-above : (c d : ℕ) → IsInclusion (algebra_of ds) c d → IsInclusion (algebra_of es) c d

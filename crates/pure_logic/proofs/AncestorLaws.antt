@@ -10,8 +10,8 @@ use Rattle.pure_text.specs.Lists.{IsIn, AnyOf, AreDistinct}
 use Rattle.pure_text.proofs.ListLaws.{in-append_left, in-append_right}
 use Rattle.pure_logic.specs.Content.{TheoryId, Content}
 use Rattle.pure_logic.specs.Beginning.{theory_eq, without_theory, each_once, theories_of, ancestors_of, IsBeginning, AreToldApart, IsNewOver, HasTheoriesApart}
-use Rattle.pure_logic.proofs.ChainLaws.{each-at}
-use Rattle.pure_logic.proofs.MergeLaws.{in-append, one_merge}
+use Rattle.pure_logic.proofs.MergeLaws.{one_merge}
+use Rattle.pure_logic.proofs.EachLaws.{each-at, in-append}
 
 theory_eq-same : (t u : TheoryId) → theory_eq t u ≡ true → t ≡ u
 theory_eq-same t u h =

@@ -14,11 +14,11 @@ use Rattle.pure_logic.specs.PureContent.{pure_declarations, proposition_variable
 use Rattle.pure_logic.specs.Examples.Theory.{promised, example}
 use Rattle.pure_logic.specs.Examples.Contents.{content_of, theory, beginning, BeginningExample, AncestorsExample, NotApartExample, classes, with_arity, NoMergeExample, fork_declarations, with_square, MiddleMergeExample, NamedTwiceExample, IllFormedExample, SchematicExample, BelowExample}
 use Rattle.pure_text.proofs.ListLaws.{in-append_left, in-append_right}
-use Rattle.pure_logic.proofs.ChainLaws.{each-at}
 use Rattle.pure_logic.proofs.ContentLaws.{named_alike, both_promises, named_alike-so, both_promises-so, apart-once}
 use Rattle.pure_logic.proofs.CoregularLaws.{lone_arity, coregular-same}
 use Rattle.pure_logic.proofs.ExampleLaws.{example-above, none_passes, is_con}
-use Rattle.pure_logic.proofs.MergeLaws.{in-append, merge_has_declarations, merged-coregular}
+use Rattle.pure_logic.proofs.MergeLaws.{merge_has_declarations, merged-coregular}
+use Rattle.pure_logic.proofs.EachLaws.{each-at, in-append}
 
 no_arities : (ds : List Decl) → (algebra_of ds).arities ≡ [] → IsCoregular (algebra_of ds)
 no_arities ds none b d m = absurd (rw none at m)

@@ -1,19 +1,14 @@
 -- What is derivable, in words of trees.
-use Rattle.std.proofs.Common.{◌≡◌, ◌↔◌, List, [], ◌∷◌, refl}
+use Rattle.std.proofs.Common.{◌≡◌, ◌↔◌, [], refl}
 use Rattle.pure_definitions.specs.Names.{Label}
 use Rattle.pure_definitions.specs.Term.{Term}
-use Rattle.pure_text.specs.Lists.{IsIn, Each}
+use Rattle.pure_text.specs.Lists.{IsIn}
 use Rattle.pure_text.proofs.ListLaws.{each_of}
 use Rattle.pure_logic.specs.Content.{Content}
 use Rattle.pure_logic.specs.Tree.{Tree, hyps_of, rests_of}
 use Rattle.pure_logic.specs.Concludes.{Concludes}
 use Rattle.pure_logic.specs.Derivable.{Theorem, IsUnderPairs, IsDerivable, IsDerivableAlone}
-use Rattle.pure_logic.proofs.ChainLaws.{each-at}
-
--- A list whose elements are all among none is empty.
-none_in : {A : Type 0} (xs : List A) → Each (λ x. IsIn x []) xs → xs ≡ []
-none_in [] h = refl
-none_in (x ∷ xs) h = absurd h.0
+use Rattle.pure_logic.proofs.EachLaws.{each-at, none_in}
 
 pub derivable_alone_exactly : (Q : Content) (A : Term) → IsDerivableAlone Q A ↔ ((d : Tree) × Concludes Q d A × (hyps_of d ≡ []) × (rests_of d ≡ []))
 derivable_alone_exactly Q A = (

@@ -4,7 +4,7 @@ use Rattle.pure_definitions.specs.Names.{Label}
 use Rattle.pure_definitions.specs.Typ.{Typ, arrow, prop}
 use Rattle.pure_definitions.specs.Term.{Term, Free, Bound, Abs, App}
 use Rattle.pure_definitions.specs.Typing.{HasType}
-use Rattle.pure_definitions.specs.Bounds.{lift_term, subst_under, subst_bound}
+use Rattle.pure_definitions.specs.Bounds.{subst_under, subst_bound}
 use Rattle.pure_definitions.specs.Certified.{IsCertifiedTyp, HasCertifiedParts}
 use Rattle.pure_definitions.proofs.LiftLaws.{subst-lift}
 use Rattle.pure_term_laws.proofs.BoundLaws.{lift-zero}
@@ -145,8 +145,8 @@ module _ (Q : Content) (q : IsContent Q) (above : IsBelow pure_content Q) (hyps 
       equal_functions T U f g h k
       (quantification_is_proved Q hyps rests T (eq U (App f (Bound 0)) (App g (Bound 0))) (typ-of f (arrow T U) h).1.0
       (λ n. along (eq U (App f (Free n T)) (App g (Free n T))) (subst_bound (eq U (App f (Bound 0)) (App g (Bound 0))) (Free n T))
-        (λ l. eq U (App (sym (still 0 (Free n T) f (arrow T U) h.typed) l) (Free n T)) (App (sym (still 0 (Free n T) g (arrow T U) k.typed) l) (Free n T)))
-        (each n)))
+      (λ l. eq U (App (sym (still 0 (Free n T) f (arrow T U) h.typed) l) (Free n T)) (App (sym (still 0 (Free n T) g (arrow T U) k.typed) l) (Free n T)))
+      (each n)))
 
   variable-certified : (T U : Typ) (f : Term) (n : ℕ) → IsCertifiedOf Q f (arrow T U) → IsCertifiedOf Q (Free n T) T
   variable-certified T U f n h = certified_of Q (Free n T) T (typ-of f (arrow T U) h).1.0 refl

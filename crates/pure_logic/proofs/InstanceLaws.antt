@@ -9,9 +9,8 @@ use Rattle.pure_definitions.specs.Certified.{IsCertifiedTyp, IsInstance, HasCert
 use Rattle.pure_definitions.proofs.OrderLaws.{sort_below-itself}
 use Rattle.pure_logic.specs.Content.{Content, IsContent, IsWellFormed, IsSchematicTyp, AreSchematicTyps}
 use Rattle.pure_logic.specs.Concludes.{AreRespecting}
-use Rattle.pure_logic.proofs.AboveLaws.{each-more, any-more}
-use Rattle.pure_logic.proofs.ChainLaws.{each-at}
 use Rattle.pure_logic.proofs.WeakeningLaws.{typ_instance-certified}
+use Rattle.pure_logic.proofs.EachLaws.{each-more, any-more, each-at}
 
 class_below-below : (A : Algebra) {b c d : ℕ} → IsClassBelow A b c → IsClassBelow A c d → IsClassBelow A b d
 class_below-below A itself k = k

@@ -1,3 +1,5 @@
+pub mod EachLaws
+pub mod DischargeLaws
 pub mod ChainLaws
 pub mod ConnectiveLaws
 pub mod ContentLaws

@@ -13,8 +13,8 @@ use Rattle.pure_term_laws.proofs.SubstLaws.{identity-respects_sorts, identity-re
 use Rattle.pure_logic.specs.Content.{Content, IsCertifiedOf}
 use Rattle.pure_logic.specs.Tree.{joined_terms}
 use Rattle.pure_logic.specs.Concludes.{AreRespecting}
-use Rattle.pure_logic.proofs.AboveLaws.{each-more}
 use Rattle.pure_logic.proofs.WeakeningLaws.{typ_instance-certified}
+use Rattle.pure_logic.proofs.EachLaws.{each-more}
 
 pub identity_respects : (Q : Content) → AreRespecting Q (λ T. T) (λ t. t)
 identity_respects Q = record {

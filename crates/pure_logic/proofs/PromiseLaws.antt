@@ -1,21 +1,20 @@
 -- Promises are cut: the tree of a settled statement is put, at its instance, in the place of the promise.
-use Rattle.std.proofs.Common.{◌≡◌, ◌⊎◌, List, [], ◌∷◌, ◌++◌, Bool, true, false, cond, inl, inr, refl}
+use Rattle.std.proofs.Common.{◌⊎◌, List, [], ◌++◌, inl, inr, refl}
 use Rattle.pure_text.specs.Lists.{IsIn, Each}
 use Rattle.pure_text.proofs.ListLaws.{in-append_left, in-append_right}
 use Rattle.pure_definitions.specs.Names.{Label}
-use Rattle.pure_definitions.specs.Term.{Term, term_eq}
+use Rattle.pure_definitions.specs.Term.{Term}
 use Rattle.pure_definitions.specs.Bounds.{Occurs}
 use Rattle.pure_logic.specs.Connectives.{all, imp}
 use Rattle.pure_logic.specs.Content.{Content, IsContent}
-use Rattle.pure_logic.specs.Tree.{Tree, Axiom, Promise, Assume, AllIntro, AllElim, ImpliesIntro, ImpliesElim, Beta, Refl, Subst, Ext, Iff, without, hyps_of, rests_of}
+use Rattle.pure_logic.specs.Tree.{Tree, Axiom, Promise, Assume, AllIntro, AllElim, ImpliesIntro, ImpliesElim, Beta, Refl, Subst, Ext, Iff, hyps_of, rests_of}
 use Rattle.pure_logic.specs.Concludes.{Concludes}
 use Rattle.pure_logic.specs.Derivable.{Theorem, IsDerivable}
 use Rattle.pure_logic.specs.Laws.Promises.{IsSettled, AreOpenOrSettled}
-use Rattle.pure_logic.proofs.AboveLaws.{each-more}
-use Rattle.pure_logic.proofs.ChainLaws.{each-at}
 use Rattle.pure_logic.proofs.DerivableLaws.{derivable_alone_exactly}
-use Rattle.pure_logic.proofs.PropositionLaws.{each-append}
 use Rattle.pure_logic.proofs.SubstitutionLaws.{substitution_of_trees}
+use Rattle.pure_logic.proofs.EachLaws.{each-more, each-at, each-append, each-left, each-right}
+use Rattle.pure_logic.proofs.DischargeLaws.{without-among}
 
 -- a tree for what d concludes, from hypotheses of d, that rests on the promises left open
 record IsCut (Q : Content) (left_open : List Label) (d : Tree) (C : Term) : Type 0 where
@@ -23,37 +22,6 @@ record IsCut (Q : Content) (left_open : List Label) (d : Tree) (C : Term) : Type
   pub concludes : Concludes Q tree C
   pub hyps : Each (λ A. IsIn A (hyps_of d)) (hyps_of tree)
   pub rests : Each (λ l. IsIn l left_open) (rests_of tree)
-
-each-left : {A : Type 0} (P : A → Type 0) (xs ys : List A) → Each P (xs ++ ys) → Each P xs
-each-left P [] ys h = tt
-each-left P (x ∷ xs) ys h = (h.0, each-left P xs ys h.1)
-
-each-right : {A : Type 0} (P : A → Type 0) (xs ys : List A) → Each P (xs ++ ys) → Each P ys
-each-right P [] ys h = h
-each-right P (x ∷ xs) ys h = each-right P xs ys h.1
-
-all-in : (As : List Term) → Each (λ A. IsIn A As) As
-all-in [] = tt
-all-in (A ∷ As) = (inl refl, each-more (λ B. IsIn B As) (λ B. IsIn B (A ∷ As)) (λ B m. inr m) As (all-in As))
-
--- What differs from A and is a hypothesis is one of those without A.
-stays : (A B : Term) (hyps : List Term) → term_eq A B ≡ false → IsIn B hyps → IsIn B (without A hyps)
-stays A B [] other m = m
-stays A B (C ∷ Cs) other m = by (term_eq A C) refl (stays A B Cs other) m
-  where
-    by : (b : Bool) → term_eq A C ≡ b → (IsIn B Cs → IsIn B (without A Cs)) → IsIn B (C ∷ Cs) → IsIn B (cond b (without A Cs) (C ∷ without A Cs))
-    by true e later (inl same) = (let same_test : term_eq A B ≡ true = rw same e in absurd (cc))
-    by true e later (inr n) = later n
-    by false e later (inl same) = inl same
-    by false e later (inr n) = inr (later n)
-
-without-among : (A : Term) (hyps Bs : List Term) → Each (λ B. IsIn B hyps) Bs → Each (λ B. IsIn B (without A hyps)) (without A Bs)
-without-among A hyps [] h = tt
-without-among A hyps (B ∷ Bs) h = by (term_eq A B) refl (without-among A hyps Bs h.1)
-  where
-    by : (b : Bool) → term_eq A B ≡ b → Each (λ B. IsIn B (without A hyps)) (without A Bs) → Each (λ B. IsIn B (without A hyps)) (cond b (without A Bs) (B ∷ without A Bs))
-    by true e rest = rest
-    by false e rest = (stays A B hyps e h.0, rest)
 
 module _ (Q : Content) (q : IsContent Q) (left_open : List Label) where
   cut : (d : Tree) (C : Term) → Concludes Q d C → AreOpenOrSettled Q left_open (rests_of d) → IsCut Q left_open d C

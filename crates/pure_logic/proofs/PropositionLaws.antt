@@ -1,5 +1,5 @@
 -- What a tree concludes is a proposition of the content, and so are its hypotheses.
-use Rattle.std.proofs.Common.{◌≡◌, List, [], ◌∷◌, ◌++◌, refl}
+use Rattle.std.proofs.Common.{◌≡◌, List, [], ◌∷◌, refl}
 use Rattle.pure_text.specs.Lists.{Each}
 use Rattle.pure_definitions.specs.Typ.{Typ, arrow, prop}
 use Rattle.pure_definitions.specs.Term.{Term, Const, Free, Var, Bound, Abs, App}
@@ -17,14 +17,11 @@ use Rattle.pure_logic.specs.PureContent.{pure_content}
 use Rattle.pure_logic.specs.Tree.{Tree, Axiom, Promise, Assume, AllIntro, AllElim, ImpliesIntro, ImpliesElim, Beta, Refl, Subst, Ext, Iff, hyps_of}
 use Rattle.pure_logic.specs.Concludes.{AreRespecting, extensionality, Concludes}
 use Rattle.pure_logic.specs.Derivable.{Pair, Theorem, IsUnderPairs, IsDerivable, IsDerivableAlone}
-use Rattle.pure_logic.proofs.ChainLaws.{each-at, each-without}
 use Rattle.pure_logic.proofs.ConnectiveLaws.{certified_of, imp-parts, eq-parts, all-parts}
 use Rattle.pure_logic.proofs.InstanceLaws.{parts-instance}
 use Rattle.pure_logic.proofs.PartsLaws.{typ-certified}
-
-pub each-append : {A : Type 0} (P : A → Type 0) (xs ys : List A) → Each P xs → Each P ys → Each P (xs ++ ys)
-each-append P [] ys h k = k
-each-append P (x ∷ xs) ys h k = (h.0, each-append P xs ys h.1 k)
+use Rattle.pure_logic.proofs.EachLaws.{each-at, each-append}
+use Rattle.pure_logic.proofs.DischargeLaws.{each-without}
 
 -- In what is of type prop, the premise and the conclusion of an implication and the body of a quantification are of type prop.
 conclusion-typed : (A B : Term) → HasType [] (imp A B) prop → HasType [] B prop

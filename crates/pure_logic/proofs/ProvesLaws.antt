@@ -1,46 +1,31 @@
 -- What is proved, and how inferences go.
-use Rattle.std.proofs.Common.{◌≡◌, ◌↔◌, List, [], ◌∷◌, ◌++◌, ℕ, Bool, true, false, cond, inl, inr, ap, refl, sym, arith}
+use Rattle.std.proofs.Common.{◌↔◌, List, [], ◌∷◌, ◌++◌, ℕ, inl, inr, ap, refl, sym, arith}
 use Rattle.pure_text.specs.Lists.{IsIn, Each, EachTwo}
 use Rattle.pure_text.proofs.ListLaws.{in-append_left, in-append_right}
 use Rattle.pure_definitions.specs.Names.{Label}
 use Rattle.pure_definitions.specs.Typ.{Typ}
-use Rattle.pure_definitions.specs.Term.{Term, Free, term_eq}
+use Rattle.pure_definitions.specs.Term.{Term, Free}
 use Rattle.pure_definitions.specs.Bounds.{subst_bound, Occurs}
 use Rattle.pure_definitions.specs.Certified.{IsCertifiedTyp}
-use Rattle.pure_definitions.specs.Models.Equality.{term_eq-itself}
 use Rattle.pure_logic.specs.Connectives.{all, imp, chain, eq}
 use Rattle.pure_logic.specs.Content.{Content, IsContent, IsBelow, IsCertifiedOf, IsProposition}
 use Rattle.pure_logic.specs.PureContent.{pure_content}
-use Rattle.pure_logic.specs.Tree.{Assume, AllIntro, AllElim, ImpliesIntro, ImpliesElim, without, hyps_of, rests_of}
+use Rattle.pure_logic.specs.Tree.{Assume, AllIntro, AllElim, ImpliesIntro, ImpliesElim, hyps_of, rests_of}
 use Rattle.pure_logic.specs.Derivable.{Pair, Theorem, IsUnderPairs, IsDerivable}
 use Rattle.pure_logic.specs.Proves.{Proves, IsEquation, IsProved}
 use Rattle.pure_logic.specs.Laws.Proves.{IsAmong}
-use Rattle.pure_logic.proofs.AboveLaws.{each-more}
 use Rattle.pure_term_laws.proofs.BoundLaws.{bind-subst}
-use Rattle.pure_logic.proofs.ChainLaws.{each-at}
 use Rattle.pure_logic.proofs.ConnectiveLaws.{certified_of}
 use Rattle.pure_logic.proofs.FreshLaws.{above_all, fresh-above_all}
-use Rattle.pure_logic.proofs.MergeLaws.{in-append}
-use Rattle.pure_logic.proofs.PropositionLaws.{each-append, premise-proposition, conclusion-proposition, concluded-proposition}
+use Rattle.pure_logic.proofs.PropositionLaws.{premise-proposition, conclusion-proposition, concluded-proposition}
+use Rattle.pure_logic.proofs.EachLaws.{each-more, each-at, each-append, in-append, moved, moved_back, each_two-append}
+use Rattle.pure_logic.proofs.DischargeLaws.{each-discharged}
 
 pub derivable_is_proves : (Q : Content) (hyps : List Term) (rests : List Label) (A : Term) → IsDerivable Q (record { hyps = hyps; pairs = []; prop = A; rests = rests }) ↔ Proves Q hyps rests A
 derivable_is_proves Q hyps rests A = (
   λ h. record { tree = h.tree; concludes = rw (← h.under_pairs) h.concludes; from = h.hyps; rest_on = h.rests },
   λ h. record { tree = h.tree; conclusion = A; concludes = h.concludes; under_pairs = refl; hyps = h.from; rests = h.rest_on },
 )
-
--- What is among A and the hypotheses is among the hypotheses without A.
-each-discharged : (A : Term) (hyps Bs : List Term) → Each (λ B. IsIn B (A ∷ hyps)) Bs → Each (λ B. IsIn B hyps) (without A Bs)
-each-discharged A hyps [] h = tt
-each-discharged A hyps (B ∷ Bs) h = by (term_eq A B) refl (each-discharged A hyps Bs h.1)
-  where
-    other : term_eq A B ≡ false → IsIn B (A ∷ hyps) → IsIn B hyps
-    other e (inl same) = let whole : term_eq A B ≡ true = rw same (term_eq-itself A) in absurd (cc)
-    other e (inr m) = m
-
-    by : (b : Bool) → term_eq A B ≡ b → Each (λ B. IsIn B hyps) (without A Bs) → Each (λ B. IsIn B hyps) (cond b (without A Bs) (B ∷ without A Bs))
-    by true e rest = rest
-    by false e rest = (other e h.0, rest)
 
 pub assumed : (Q : Content) (hyps : List Term) (rests : List Label) (A : Term) → IsProposition Q A → IsIn A hyps → Proves Q hyps rests A
 assumed Q hyps rests A h m = record { tree = Assume A; concludes = (h, refl); from = (m, tt); rest_on = tt }
@@ -64,17 +49,6 @@ conclusion_is_proved Q hyps rests A B p r = record {
   from = each-append (λ C. IsIn C hyps) (hyps_of p.tree) (hyps_of r.tree) p.from r.from;
   rest_on = each-append (λ l. IsIn l rests) (rests_of p.tree) (rests_of r.tree) p.rest_on r.rest_on;
 }
-
--- A premise may stand in front of the others or behind them.
-moved : {A : Type 0} (x : A) (xs ys : List A) (y : A) → IsIn y (xs ++ x ∷ ys) → IsIn y (x ∷ (xs ++ ys))
-moved x xs ys y m = elim (in-append y xs (x ∷ ys) m) [
-  | inl n ↦ inr (in-append_left y xs ys n)
-  | inr n ↦ elim n [ inl same ↦ inl same | inr o ↦ inr (in-append_right y xs ys o) ]
-]
-
-moved_back : {A : Type 0} (x : A) (xs ys : List A) (y : A) → IsIn y (x ∷ (xs ++ ys)) → IsIn y (xs ++ x ∷ ys)
-moved_back x xs ys y (inl same) = in-append_right y xs (x ∷ ys) (inl same)
-moved_back x xs ys y (inr m) = elim (in-append y xs ys m) [ inl n ↦ in-append_left y xs (x ∷ ys) n | inr n ↦ in-append_right y xs (x ∷ ys) (inr n) ]
 
 pub chain_is_proved : (Q : Content) (premises hyps : List Term) (rests : List Label) (C : Term) → Each (IsProposition Q) premises → Proves Q (premises ++ hyps) rests C → Proves Q hyps rests (chain premises C)
 chain_is_proved Q [] hyps rests C h p = p
@@ -169,12 +143,6 @@ proved_is_proposition Q q above hyps rests A p = concluded-proposition Q q above
 pub cut_is_proved : (Q : Content) → IsContent Q → IsBelow pure_content Q → (hyps : List Term) (rests : List Label) (A B : Term) → Proves Q hyps rests A → Proves Q (A ∷ hyps) rests B → Proves Q hyps rests B
 cut_is_proved Q q above hyps rests A B p r =
     conclusion_is_proved Q hyps rests A B (implication_is_proved Q hyps rests A B (proved_is_proposition Q q above hyps rests A p) r) p
-
-each_two-append : {A B : Type 0} (R : A → B → Type 0) (xs us : List A) (ys vs : List B) → EachTwo R xs ys → EachTwo R us vs → EachTwo R (xs ++ us) (ys ++ vs)
-each_two-append R [] us [] vs h k = k
-each_two-append R (x ∷ xs) us (y ∷ ys) vs h k = (h.0, each_two-append R xs us ys vs h.1 k)
-each_two-append R [] us (y ∷ ys) vs h k = absurd h
-each_two-append R (x ∷ xs) us [] vs h k = absurd h
 
 -- Equations and hypotheses stand among the equations of both and the hypotheses of both.
 among_left : (xs ys hyps all : List Term) → ((A : Term) → IsIn A hyps → IsIn A all) → (A : Term) → IsIn A (xs ++ hyps) → IsIn A ((xs ++ ys) ++ all)

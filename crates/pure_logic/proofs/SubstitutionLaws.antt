@@ -1,15 +1,14 @@
 -- Substitution is admissible: what a tree concludes, a tree concludes of each instance.
-use Rattle.std.proofs.Common.{◌≡◌, ◌≢◌, ◌≤◌, ℕ, List, [], ◌∷◌, ◌++◌, map, Bool, true, false, cond, inl, inr, refl, ap, sym, ◌∙◌, arith}
+use Rattle.std.proofs.Common.{◌≡◌, ◌≤◌, ℕ, List, [], ◌∷◌, ◌++◌, map, inl, inr, refl, ap, ◌∙◌, arith}
 use Rattle.std.proofs.lemmas.List.{map-append}
 use Rattle.pure_text.specs.Lists.{IsIn, Each}
 use Rattle.pure_text.proofs.ListLaws.{in-map, in-append_left, in-append_right}
 use Rattle.pure_definitions.specs.Names.{Label}
 use Rattle.pure_definitions.specs.Typ.{Typ, TFree, TVar, arrow, prop}
-use Rattle.pure_definitions.specs.Term.{Term, Const, Free, Var, Bound, Abs, App, term_eq}
+use Rattle.pure_definitions.specs.Term.{Term, Const, Free, Var, Bound, Abs, App}
 use Rattle.pure_definitions.specs.Typing.{HasType}
 use Rattle.pure_definitions.specs.Bounds.{Occurs}
 use Rattle.pure_definitions.specs.Conditions.{IsVariable, variable_typ}
-use Rattle.pure_definitions.specs.Models.Equality.{term_eq-same, term_eq-itself}
 use Rattle.pure_definitions.specs.Subst.{typ_instance, term_instance}
 use Rattle.pure_definitions.specs.Decl.{algebra_of}
 use Rattle.pure_definitions.specs.Certified.{IsCertifiedTyp}
@@ -20,18 +19,17 @@ use Rattle.pure_term_laws.proofs.TypingLaws.{typed-closed}
 use Rattle.pure_term_laws.proofs.TypingBoundLaws.{typing-instance}
 use Rattle.pure_logic.specs.Connectives.{all_of, all, imp, eq}
 use Rattle.pure_logic.specs.Content.{Content, IsContent, IsCertifiedOf}
-use Rattle.pure_logic.specs.Tree.{Tree, Axiom, Promise, Assume, AllIntro, AllElim, ImpliesIntro, ImpliesElim, Beta, Refl, Subst, Ext, Iff, without, hyps_of}
+use Rattle.pure_logic.specs.Tree.{Tree, Axiom, Promise, Assume, AllIntro, AllElim, ImpliesIntro, ImpliesElim, Beta, Refl, Subst, Ext, Iff, hyps_of}
 use Rattle.pure_logic.specs.Concludes.{AreRespecting, Concludes}
 use Rattle.pure_logic.specs.Derivable.{Pair, Theorem, IsUnderPairs, IsDerivable}
 use Rattle.pure_logic.specs.Proves.{Proves}
 use Rattle.pure_logic.specs.Laws.Substitution.{IsInstanceTree, pair_instance, theorem_instance}
-use Rattle.pure_logic.proofs.AboveLaws.{each-more}
-use Rattle.pure_logic.proofs.ChainLaws.{each-at}
 use Rattle.pure_logic.proofs.WeakeningLaws.{typ_instance-certified}
 use Rattle.pure_logic.proofs.InstanceLaws.{of_sort-instance, parts-instance}
-use Rattle.pure_logic.proofs.PropositionLaws.{each-append}
 use Rattle.pure_logic.proofs.MapLaws.{sent, sent-respects}
 use Rattle.pure_logic.proofs.FreshLaws.{above_all, fresh-above_all, instance-renamed, instances-unchanged}
+use Rattle.pure_logic.proofs.EachLaws.{each-more, each-at, each-append}
+use Rattle.pure_logic.proofs.DischargeLaws.{discharged}
 
 -- Type maps one after the other are one type map.
 typ-again : (first second : Typ → Typ) (T : Typ) → typ_instance second (typ_instance first T) ≡ typ_instance (λ v. typ_instance second (first v)) T
@@ -50,25 +48,6 @@ variable-typed (Const c V) T is h = absurd is
 variable-typed (Bound n) T is h = absurd is
 variable-typed (Abs V b) T is h = absurd is
 variable-typed (App f a) T is h = absurd is
-
--- An instance of a hypothesis that is not the instance of the discharged one is the instance of one that stays.
-map-without : (f : Term → Term) (A : Term) (hyps : List Term) (B : Term) → (f A ≢ B) → IsIn B (map f hyps) → IsIn B (map f (without A hyps))
-map-without f A [] B other m = m
-map-without f A (C ∷ Cs) B other m = by (term_eq A C) refl (map-without f A Cs B other) m
-  where
-    by : (b : Bool) → term_eq A C ≡ b → (IsIn B (map f Cs) → IsIn B (map f (without A Cs))) → IsIn B (f C ∷ map f Cs) → IsIn B (map f (cond b (without A Cs) (C ∷ without A Cs)))
-    by true e later (inl same) = absurd (other (ap f (term_eq-same A C e) ∙ sym same))
-    by true e later (inr n) = later n
-    by false e later (inl same) = inl same
-    by false e later (inr n) = inr (later n)
-
-discharged : (f : Term → Term) (A : Term) (hyps Bs : List Term) → Each (λ B. IsIn B (map f hyps)) Bs → Each (λ B. IsIn B (map f (without A hyps))) (without (f A) Bs)
-discharged f A hyps [] h = tt
-discharged f A hyps (B ∷ Bs) h = by (term_eq (f A) B) refl (discharged f A hyps Bs h.1)
-  where
-    by : (b : Bool) → term_eq (f A) B ≡ b → Each (λ B. IsIn B (map f (without A hyps))) (without (f A) Bs) → Each (λ B. IsIn B (map f (without A hyps))) (cond b (without (f A) Bs) (B ∷ without (f A) Bs))
-    by true e rest = rest
-    by false e rest = (map-without f A hyps B (λ same. (let whole : term_eq (f A) B ≡ true = rw (← same) (term_eq-itself (f A)) in absurd (cc))) h.0, rest)
 
 -- The instances of the hypotheses of two trees are those of the one and of the other.
 joined : (f : Term → Term) (hyps others Bs Cs : List Term) → Each (λ B. IsIn B (map f hyps)) Bs → Each (λ B. IsIn B (map f others)) Cs → Each (λ B. IsIn B (map f (hyps ++ others))) (Bs ++ Cs)

@@ -8,11 +8,10 @@ use Rattle.pure_definitions.specs.Term.{Term, Const, Free, Var, Bound, Abs, App,
 use Rattle.pure_definitions.specs.Bounds.{lift_term, subst_under, subst_bound, bind_under}
 use Rattle.pure_definitions.specs.Decl.{ConstDecl, AxiomDecl}
 use Rattle.pure_definitions.specs.Certified.{HasCertifiedParts}
-use Rattle.pure_definitions.specs.Models.Equality.{term_eq-same}
 use Rattle.pure_definitions.proofs.BindLemmas.{abstract_over-variable}
 use Rattle.pure_logic.specs.Connectives.{all_of, all, imp, eq}
 use Rattle.pure_logic.specs.Content.{IsContent, IsProposition, AreNamedAlike, AreLabelledAlike}
-use Rattle.pure_logic.specs.Tree.{Tree, Axiom, Promise, Assume, AllIntro, AllElim, ImpliesIntro, ImpliesElim, Beta, Refl, Subst, Ext, Iff, without, hyps_of, rests_of}
+use Rattle.pure_logic.specs.Tree.{Tree, Axiom, Promise, Assume, AllIntro, AllElim, ImpliesIntro, ImpliesElim, Beta, Refl, Subst, Ext, Iff, hyps_of, rests_of}
 use Rattle.pure_logic.specs.Concludes.{Concludes}
 use Rattle.pure_logic.specs.Examples.Theory.{promised}
 use Rattle.pure_logic.specs.Examples.Underivable.{stated, bare, UnderivableExample}
@@ -21,6 +20,8 @@ use Rattle.pure_logic.proofs.ConnectiveLaws.{certified_of, itself-instance}
 use Rattle.pure_logic.proofs.ContentLaws.{named_alike, both_promises, named_alike-so, both_promises-so, apart-once}
 use Rattle.pure_logic.proofs.DerivableLaws.{derivable_alone_exactly}
 use Rattle.pure_logic.proofs.MapLaws.{identity_respects}
+use Rattle.pure_logic.proofs.EachLaws.{each-left, each-right}
+use Rattle.pure_logic.proofs.DischargeLaws.{restored}
 
 -- what a term is worth: a connective that waits for its arguments, or a truth value
 data Worth : Type 0 where
@@ -110,23 +111,6 @@ certified-false (App f a) h = rw (certified-false f h.0) refl
 abbrev IsTrueTerm : Term → Type 0
 IsTrueTerm A = truth (worth A) ≡ true
 
--- Where A and the hypotheses without A are true, all are.
-restored : (A : Term) (hyps : List Term) → IsTrueTerm A → Each IsTrueTerm (without A hyps) → Each IsTrueTerm hyps
-restored A [] h k = tt
-restored A (B ∷ Bs) h k = by (term_eq A B) refl (restored A Bs h) k
-  where
-    by : (b : Bool) → term_eq A B ≡ b → (Each IsTrueTerm (without A Bs) → Each IsTrueTerm Bs) → Each IsTrueTerm (cond b (without A Bs) (B ∷ without A Bs)) → IsTrueTerm B × Each IsTrueTerm Bs
-    by true e later k = (rw (term_eq-same A B e) at h, later k)
-    by false e later k = (k.0, later k.1)
-
-each-left : (xs ys : List Term) → Each IsTrueTerm (xs ++ ys) → Each IsTrueTerm xs
-each-left [] ys h = tt
-each-left (x ∷ xs) ys h = (h.0, each-left xs ys h.1)
-
-each-right : (xs ys : List Term) → Each IsTrueTerm (xs ++ ys) → Each IsTrueTerm ys
-each-right [] ys h = h
-each-right (x ∷ xs) ys h = each-right xs ys h.1
-
 none-left : (xs ys : List Label) → (xs ++ ys) ≡ [] → xs ≡ []
 none-left [] ys h = refl
 none-left (x ∷ xs) ys h = absurd (cc)
@@ -154,10 +138,10 @@ sound (AllIntro x d) C h hyps rests =
 sound (AllElim t d) C h hyps rests =
     ap (λ u. truth (worth u)) h.4 ∙ (ap truth (worth-subst 0 t h.1 (certified-false t h.3.certified.parts)) ∙ sound d (all h.0 h.1) h.2 hyps rests)
 sound (ImpliesIntro A d) C h hyps rests =
-    ap (λ u. truth (worth u)) h.3 ∙ implied (truth (worth A)) (truth (worth h.0)) (λ holds. sound d h.0 h.1 (restored A (hyps_of d) holds hyps) rests)
+    ap (λ u. truth (worth u)) h.3 ∙ implied (truth (worth A)) (truth (worth h.0)) (λ holds. sound d h.0 h.1 (restored IsTrueTerm A (hyps_of d) holds hyps) rests)
 sound (ImpliesElim d e) C h hyps rests =
-    eliminated (truth (worth h.0)) (truth (worth C)) (sound d (imp h.0 C) h.1 (each-left (hyps_of d) (hyps_of e) hyps) (none-left (rests_of d) (rests_of e) rests))
-    (sound e h.0 h.2 (each-right (hyps_of d) (hyps_of e) hyps) (none-right (rests_of d) (rests_of e) rests))
+    eliminated (truth (worth h.0)) (truth (worth C)) (sound d (imp h.0 C) h.1 (each-left IsTrueTerm (hyps_of d) (hyps_of e) hyps) (none-left (rests_of d) (rests_of e) rests))
+    (sound e h.0 h.2 (each-right IsTrueTerm (hyps_of d) (hyps_of e) hyps) (none-right (rests_of d) (rests_of e) rests))
 sound (Beta redex) C h hyps rests = ap (λ u. truth (worth u)) h.6
 sound (Refl t) C h hyps rests = ap (λ u. truth (worth u)) h.2
 sound (Subst f x y) C h hyps rests =

@@ -1,5 +1,5 @@
 -- Laws of equality, on what is proved: that it is an equivalence, that equals may be put for one another, and extensionality.
-use Rattle.std.specs.Prelude.{ℕ, List, []}
+use Rattle.std.specs.Prelude.{ℕ, List}
 use Rattle.pure_definitions.specs.Names.{Label}
 use Rattle.pure_definitions.specs.Typ.{Typ, arrow, prop}
 use Rattle.pure_definitions.specs.Term.{Term, Free, Bound, Abs, App}
