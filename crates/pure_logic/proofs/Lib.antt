@@ -18,6 +18,7 @@ pub mod AncestorLaws
 pub mod CoregularLaws
 pub mod DerivableLaws
 pub mod ProvesLaws
+pub mod InferenceLaws
 pub mod FreshLaws
 pub mod SubstitutionLaws
 pub mod ContentExamples

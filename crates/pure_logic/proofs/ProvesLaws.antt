@@ -1,7 +1,6 @@
 -- What is proved, and how inferences go.
 use Rattle.std.proofs.Common.{◌↔◌, List, [], ◌∷◌, ◌++◌, ℕ, inl, inr, ap, refl, sym, arith}
 use Rattle.pure_text.specs.Lists.{IsIn, Each, EachTwo}
-use Rattle.pure_text.proofs.ListLaws.{in-append_left, in-append_right}
 use Rattle.pure_definitions.specs.Names.{Label}
 use Rattle.pure_definitions.specs.Typ.{Typ}
 use Rattle.pure_definitions.specs.Term.{Term, Free}
@@ -13,12 +12,11 @@ use Rattle.pure_logic.specs.PureContent.{pure_content}
 use Rattle.pure_logic.specs.Tree.{Assume, AllIntro, AllElim, ImpliesIntro, ImpliesElim, hyps_of, rests_of}
 use Rattle.pure_logic.specs.Derivable.{Pair, Theorem, IsUnderPairs, IsDerivable}
 use Rattle.pure_logic.specs.Proves.{Proves, IsEquation, IsProved}
-use Rattle.pure_logic.specs.Laws.Proves.{IsAmong}
 use Rattle.pure_term_laws.proofs.BoundLaws.{bind-subst}
 use Rattle.pure_logic.proofs.ConnectiveLaws.{certified_of}
 use Rattle.pure_logic.proofs.FreshLaws.{above_all, fresh-above_all}
 use Rattle.pure_logic.proofs.PropositionLaws.{premise-proposition, conclusion-proposition, concluded-proposition}
-use Rattle.pure_logic.proofs.EachLaws.{each-more, each-at, each-append, in-append, moved, moved_back, each_two-append}
+use Rattle.pure_logic.proofs.EachLaws.{each-more, each-at, each-append, moved, moved_back}
 use Rattle.pure_logic.proofs.DischargeLaws.{each-discharged}
 
 pub derivable_is_proves : (Q : Content) (hyps : List Term) (rests : List Label) (A : Term) → IsDerivable Q (record { hyps = hyps; pairs = []; prop = A; rests = rests }) ↔ Proves Q hyps rests A
@@ -119,7 +117,7 @@ module _ (Q : Content) (above : IsBelow pure_content Q) where
       }
 
 module _ (Q : Content) (q : IsContent Q) (above : IsBelow pure_content Q) where
-  derivable-proved : (th : Theorem) → IsDerivable Q th → IsProved Q th
+  pub derivable-proved : (th : Theorem) → IsDerivable Q th → IsProved Q th
   derivable-proved th h =
       let open_ = open_pairs Q above th.pairs th.prop h.conclusion h.under_pairs (concluded-proposition Q q above h.tree h.conclusion h.concludes) in
       record {
@@ -129,7 +127,7 @@ module _ (Q : Content) (q : IsContent Q) (above : IsBelow pure_content Q) where
         proves = open_.opened th.hyps th.rests (record { tree = h.tree; concludes = h.concludes; from = h.hyps; rest_on = h.rests });
       }
 
-  proved-derivable : (th : Theorem) → IsProved Q th → IsDerivable Q th
+  pub proved-derivable : (th : Theorem) → IsProved Q th → IsDerivable Q th
   proved-derivable th h =
       let closed = close_pairs Q th.pairs h.equations th.hyps th.rests th.prop h.are_equations h.propositions h.proves in
       record { tree = closed.2.tree; conclusion = closed.0; concludes = closed.2.concludes; under_pairs = closed.1; hyps = closed.2.from; rests = closed.2.rest_on }
@@ -143,35 +141,3 @@ proved_is_proposition Q q above hyps rests A p = concluded-proposition Q q above
 pub cut_is_proved : (Q : Content) → IsContent Q → IsBelow pure_content Q → (hyps : List Term) (rests : List Label) (A B : Term) → Proves Q hyps rests A → Proves Q (A ∷ hyps) rests B → Proves Q hyps rests B
 cut_is_proved Q q above hyps rests A B p r =
     conclusion_is_proved Q hyps rests A B (implication_is_proved Q hyps rests A B (proved_is_proposition Q q above hyps rests A p) r) p
-
--- Equations and hypotheses stand among the equations of both and the hypotheses of both.
-among_left : (xs ys hyps all : List Term) → ((A : Term) → IsIn A hyps → IsIn A all) → (A : Term) → IsIn A (xs ++ hyps) → IsIn A ((xs ++ ys) ++ all)
-among_left xs ys hyps all h A m = elim (in-append A xs hyps m) [ inl n ↦ in-append_left A (xs ++ ys) all (in-append_left A xs ys n) | inr n ↦ in-append_right A (xs ++ ys) all (h A n) ]
-
-among_right : (xs ys hyps all : List Term) → ((A : Term) → IsIn A hyps → IsIn A all) → (A : Term) → IsIn A (ys ++ hyps) → IsIn A ((xs ++ ys) ++ all)
-among_right xs ys hyps all h A m = elim (in-append A ys hyps m) [ inl n ↦ in-append_left A (xs ++ ys) all (in-append_right A xs ys n) | inr n ↦ in-append_right A (xs ++ ys) all (h A n) ]
-
-pub inferred_from_two : (Q : Content) → IsContent Q → IsBelow pure_content Q → (th other : Theorem) (hyps : List Term) (rests : List Label) (B : Term) → IsAmong th hyps rests → IsAmong other hyps rests
-    → ((H : List Term) → Proves Q H rests th.prop → Proves Q H rests other.prop → Proves Q H rests B)
-    → IsDerivable Q th → IsDerivable Q other → IsDerivable Q (record { hyps = hyps; pairs = th.pairs ++ other.pairs; prop = B; rests = rests })
-inferred_from_two Q q above th other hyps rests B among also step h k =
-    let left = derivable-proved Q q above th h in
-    let right = derivable-proved Q q above other k in
-    let all = (left.equations ++ right.equations) ++ hyps in
-    let first = weaker Q (left.equations ++ th.hyps) all th.rests rests th.prop (among_left left.equations right.equations th.hyps hyps among.hyps) among.rests left.proves in
-    let second = weaker Q (right.equations ++ other.hyps) all other.rests rests other.prop (among_right left.equations right.equations other.hyps hyps also.hyps) also.rests right.proves in
-    proved-derivable Q q above (record { hyps = hyps; pairs = th.pairs ++ other.pairs; prop = B; rests = rests }) (record {
-      equations = left.equations ++ right.equations;
-      are_equations = each_two-append IsEquation th.pairs other.pairs left.equations right.equations left.are_equations right.are_equations;
-      propositions = each-append (IsProposition Q) left.equations right.equations left.propositions right.propositions;
-      proves = step all first second;
-    })
-
-pub implies_elim_is_derivable : (Q : Content) → IsContent Q → IsBelow pure_content Q → (A B : Term) (implication premise : Theorem)
-    → IsDerivable Q (record implication { prop = imp A B }) → IsDerivable Q (record premise { prop = A })
-    → IsDerivable Q (record { hyps = implication.hyps ++ premise.hyps; pairs = implication.pairs ++ premise.pairs; prop = B; rests = implication.rests ++ premise.rests })
-implies_elim_is_derivable Q q above A B implication premise h k =
-    inferred_from_two Q q above (record implication { prop = imp A B }) (record premise { prop = A }) (implication.hyps ++ premise.hyps) (implication.rests ++ premise.rests) B
-    (record { hyps = λ C m. in-append_left C implication.hyps premise.hyps m; rests = λ l m. in-append_left l implication.rests premise.rests m })
-    (record { hyps = λ C m. in-append_right C implication.hyps premise.hyps m; rests = λ l m. in-append_right l implication.rests premise.rests m })
-    (λ H p r. conclusion_is_proved Q H (implication.rests ++ premise.rests) A B p r) h k

@@ -2,6 +2,7 @@
 pub mod Contents
 pub mod Derivable
 pub mod Proves
+pub mod Inferences
 pub mod Equality
 pub mod Substitution
 pub mod Promises

@@ -1,6 +1,7 @@
 //! What the definitions mean: laws, each carried by the contract of a function that does nothing.
 ghost use Rattle.pure_logic.specs.Laws.Derivable.{DerivableAloneExactly, DerivableExactly, PureIsContent, VariableIsProposition, ChainIsDerivable, VariableChainIsDerivable, PureIsBelowItself, TrivialIsDerivable, WeakenedIsDerivable};
-ghost use Rattle.pure_logic.specs.Laws.Proves.{DerivableIsProves, PairsAreEquations, AssumedIsProved, WeakerIsProved, ImplicationIsProved, ConclusionIsProved, ChainIsProved, EndOfChainIsProved, QuantificationIsProved, InstanceOfBodyIsProved, ProvedIsProposition, CutIsProved, InferredFromTwo, ImpliesElimIsDerivable};
+ghost use Rattle.pure_logic.specs.Laws.Proves.{DerivableIsProves, PairsAreEquations, AssumedIsProved, WeakerIsProved, ImplicationIsProved, ConclusionIsProved, ChainIsProved, EndOfChainIsProved, QuantificationIsProved, InstanceOfBodyIsProved, ProvedIsProposition, CutIsProved};
+ghost use Rattle.pure_logic.specs.Laws.Inferences.{InferredFromOne, InferredFromTwo, ImpliesElimIsDerivable, ImpliesIntroIsDerivable, AllElimIsDerivable, AllIntroIsDerivable};
 ghost use Rattle.pure_logic.specs.Laws.Equality.{ReflexiveEquality, SymmetricEquality, TransitiveEquality, EqualsAreReplaced, EqualApplications, EqualPropositions, EqualIsProved, EqualFunctions, BetaEquality, EtaEquality, EqualAbstractions};
 ghost use Rattle.pure_logic.specs.Laws.Substitution.{SubstitutionOfTrees, InstanceIsProved, InstanceIsDerivable};
 ghost use Rattle.pure_logic.specs.Laws.Promises.{CutOfPromises, SettledIsDerivable};
@@ -54,10 +55,14 @@ pub fn proved()
     ensures cut { CutIsProved }
 {}
 
-/// An inference from two theorems keeps the pairs of both; with implications for example.
-pub fn inferred_from_two()
-    ensures inferred { InferredFromTwo }
+/// Inferences on theorems keep their pairs: implications and quantifications are introduced and eliminated.
+pub fn inferences()
+    ensures from_one { InferredFromOne }
+    ensures from_two { InferredFromTwo }
     ensures implies_elim { ImpliesElimIsDerivable }
+    ensures implies_intro { ImpliesIntroIsDerivable }
+    ensures all_elim { AllElimIsDerivable }
+    ensures all_intro { AllIntroIsDerivable }
 {}
 
 /// Equality is an equivalence, and equals may be put for one another.

@@ -56,20 +56,3 @@ ProvedIsProposition = (Q : Content) → IsContent Q → IsBelow pure_content Q �
 
 abbrev pub CutIsProved : Type 0
 CutIsProved = (Q : Content) → IsContent Q → IsBelow pure_content Q → (hyps : List Term) (rests : List Label) (A B : Term) → Proves Q hyps rests A → Proves Q (A ∷ hyps) rests B → Proves Q hyps rests B
-
--- The hypotheses and the promises of a theorem are among these.
-pub record IsAmong (th : Theorem) (all_hyps : List Term) (all_rests : List Label) : Type 0 where
-  pub hyps : (A : Term) → IsIn A th.hyps → IsIn A all_hyps
-  pub rests : (l : Label) → IsIn l th.rests → IsIn l all_rests
-
--- An inference from two theorems: where B is proved from any hypotheses from which both propositions are, then the theorem with B, the pairs of both, and hypotheses and promises that have those of both, is derivable where both theorems are.
-abbrev pub InferredFromTwo : Type 0
-InferredFromTwo = (Q : Content) → IsContent Q → IsBelow pure_content Q → (th other : Theorem) (hyps : List Term) (rests : List Label) (B : Term) → IsAmong th hyps rests → IsAmong other hyps rests
-    → ((H : List Term) → Proves Q H rests th.prop → Proves Q H rests other.prop → Proves Q H rests B)
-    → IsDerivable Q th → IsDerivable Q other → IsDerivable Q (record { hyps = hyps; pairs = th.pairs ++ other.pairs; prop = B; rests = rests })
-
--- So from derivable theorems of `A ==> B` and of A that of B is derivable, with the hypotheses, pairs and promises of both.
-abbrev pub ImpliesElimIsDerivable : Type 0
-ImpliesElimIsDerivable = (Q : Content) → IsContent Q → IsBelow pure_content Q → (A B : Term) (implication premise : Theorem)
-    → IsDerivable Q (record implication { prop = imp A B }) → IsDerivable Q (record premise { prop = A })
-    → IsDerivable Q (record { hyps = implication.hyps ++ premise.hyps; pairs = implication.pairs ++ premise.pairs; prop = B; rests = implication.rests ++ premise.rests })
