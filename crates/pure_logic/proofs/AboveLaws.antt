@@ -1,33 +1,29 @@
 -- What is certified over a content is certified over each content above it.
-use Rattle.std.proofs.Common.{ℕ, List, [], ◌∷◌, inl, inr}
-use Rattle.pure_text.specs.Lists.{IsIn, Each, AnyOf}
+use Rattle.std.proofs.Common.{ℕ, List, [], ◌∷◌}
+use Rattle.pure_text.specs.Lists.{IsIn}
 use Rattle.pure_definitions.specs.Typ.{Typ, TFree, TVar, Con, Typs, none, also, typs_count}
 use Rattle.pure_definitions.specs.Term.{Term, Const, Free, Var, Bound, Abs, App}
-use Rattle.pure_definitions.specs.Order.{IsInclusion, IsClassBelow, itself, along, HasClassBelow, IsOfClass, AreOfSorts, IsOfSort}
+use Rattle.pure_definitions.specs.Order.{IsInclusion, IsClassBelow, itself, along, HasClassBelow, IsSortBelow, IsOfClass, AreOfSorts, IsOfSort}
 use Rattle.pure_definitions.specs.Subst.{IsSortRespecting}
 use Rattle.pure_definitions.specs.Decl.{Decl, ClassDecl, ConDecl, ArityDecl, ConstDecl, algebra_of, IsDeclaredClass}
 use Rattle.pure_definitions.specs.Certified.{IsCertifiedSort, IsCertifiedTyp, AreCertifiedTyps, IsInstance, HasCertifiedParts}
 use Rattle.pure_term_laws.proofs.DeclLaws.{declared_classes, declared_arities}
 use Rattle.pure_logic.specs.Content.{Content, IsBelow, IsCertifiedOf}
-
-pub each-more : {A : Type 0} (P Q : A → Type 0) → ((x : A) → P x → Q x) → (xs : List A) → Each P xs → Each Q xs
-each-more P Q more [] h = tt
-each-more P Q more (x ∷ xs) h = (more x h.0, each-more P Q more xs h.1)
-
-pub any-more : {A : Type 0} (P Q : A → Type 0) → ((x : A) → P x → Q x) → (xs : List A) → AnyOf P xs → AnyOf Q xs
-any-more P Q more [] h = h
-any-more P Q more (x ∷ xs) h = elim h [ inl p ↦ inl (more x p) | inr q ↦ inr (any-more P Q more xs q) ]
+use Rattle.pure_logic.proofs.EachLaws.{each-more, any-more}
 
 module _ (ds es : List Decl) (above : (d : Decl) → IsIn d ds → IsIn d es) where
   inclusion-above : (c d : ℕ) → IsInclusion (algebra_of ds) c d → IsInclusion (algebra_of es) c d
   inclusion-above c d h = (h.0, (declared_classes es h.0).1 (above (ClassDecl h.0) ((declared_classes ds h.0).0 h.1)), h.2, h.3)
 
-  class_below-above : {c d : ℕ} → IsClassBelow (algebra_of ds) c d → IsClassBelow (algebra_of es) c d
+  pub class_below-above : {c d : ℕ} → IsClassBelow (algebra_of ds) c d → IsClassBelow (algebra_of es) c d
   class_below-above itself = itself
   class_below-above (along {c = c} {b = b} i h) = along (inclusion-above c b i) (class_below-above h)
 
   has_class-above : (s : List ℕ) (c : ℕ) → HasClassBelow (algebra_of ds) s c → HasClassBelow (algebra_of es) s c
   has_class-above s c h = any-more (λ b. IsClassBelow (algebra_of ds) b c) (λ b. IsClassBelow (algebra_of es) b c) (λ b k. class_below-above k) s h
+
+  pub sort_below-above : (s r : List ℕ) → IsSortBelow (algebra_of ds) s r → IsSortBelow (algebra_of es) s r
+  sort_below-above s r h = each-more (HasClassBelow (algebra_of ds) s) (HasClassBelow (algebra_of es) s) (has_class-above s) r h
 
   mutual
     of_class-above : (T : Typ) (c : ℕ) → IsOfClass (algebra_of ds) T c → IsOfClass (algebra_of es) T c

@@ -1,34 +1,18 @@
 -- A chain of propositions whose conclusion is among its premises.
-use Rattle.std.proofs.Common.{◌≡◌, ℕ, map, List, [], ◌∷◌, inl, inr, refl, cond, Bool, true, false}
+use Rattle.std.proofs.Common.{◌≡◌, ℕ, map, List, [], ◌∷◌, inl, inr, refl}
 use Rattle.pure_text.specs.Lists.{IsIn, Each}
-use Rattle.pure_definitions.specs.Term.{Term, term_eq}
-use Rattle.pure_definitions.specs.Models.Equality.{term_eq-itself}
+use Rattle.pure_definitions.specs.Term.{Term}
 use Rattle.pure_logic.specs.Connectives.{chain}
 use Rattle.pure_definitions.specs.Typ.{prop}
 use Rattle.pure_text.proofs.ListLaws.{in-map}
 use Rattle.pure_logic.specs.PureContent.{pure_content, proposition_variable}
 use Rattle.pure_logic.proofs.ConnectiveLaws.{pure-below_itself, certified_of, prop-certified}
 use Rattle.pure_logic.specs.Content.{Content, IsProposition}
-use Rattle.pure_logic.specs.Tree.{Tree, Assume, ImpliesIntro, without, hyps_of, rests_of}
+use Rattle.pure_logic.specs.Tree.{Tree, Assume, ImpliesIntro, hyps_of, rests_of}
 use Rattle.pure_logic.specs.Concludes.{Concludes}
 use Rattle.pure_logic.specs.Derivable.{IsDerivableAlone}
-
-pub each-at : {A : Type 0} (P : A → Type 0) (x : A) (xs : List A) → Each P xs → IsIn x xs → P x
-each-at P x [] h m = absurd m
-each-at P x (y ∷ ys) h m = elim m [ inl e ↦ rw e h.0 | inr n ↦ each-at P x ys h.1 n ]
-
-pub each-without : (P : Term → Type 0) (A : Term) (hyps : List Term) → Each P hyps → Each P (without A hyps)
-each-without P A [] h = tt
-each-without P A (B ∷ Bs) h = by (term_eq A B) (each-without P A Bs h.1)
-  where
-    by : (b : Bool) → Each P (without A Bs) → Each P (cond b (without A Bs) (B ∷ without A Bs))
-    by true rest = rest
-    by false rest = (h.0, rest)
-
--- Where all hypotheses are A, none is left without it.
-pub without-all : (A : Term) (hyps : List Term) → Each (λ B. B ≡ A) hyps → without A hyps ≡ []
-without-all A [] h = refl
-without-all A (B ∷ Bs) h = rw (h.0, term_eq-itself A) (without-all A Bs h.1)
+use Rattle.pure_logic.proofs.EachLaws.{each-at}
+use Rattle.pure_logic.proofs.DischargeLaws.{each-without, without-all}
 
 -- the tree that assumes the conclusion and introduces the premises, the last first
 abbrev pub chain_tree : List Term → Term → Tree

@@ -1,83 +1,102 @@
 -- The examples of contents.
-use Rattle.std.proofs.Common.{◌≡◌, ◌⊎◌, ℕ, List, [], ◌∷◌, ◌++◌, inl, inr, refl, sym, arith, ap}
-use Rattle.std.specs.Prelude.{Some}
+use Rattle.std.proofs.Common.{◌≡◌, ◌↔◌, ◌⊎◌, ℕ, List, [], ◌∷◌, ◌++◌, inl, inr, refl, sym, ◌∙◌, arith, ap}
 use Rattle.pure_text.specs.Lists.{IsIn, Each, AnyOf}
 use Rattle.pure_definitions.specs.Typ.{prop}
 use Rattle.pure_definitions.specs.Term.{Free}
-use Rattle.pure_definitions.specs.Order.{Class, Arity, Algebra, IsInclusion, IsClassBelow, itself, along, AreCompatible, AreDomainsBelow, IsCoregular}
+use Rattle.pure_definitions.specs.Order.{Class, Algebra, IsInclusion, IsClassBelow, itself, along, IsCoregular}
 use Rattle.pure_definitions.specs.Decl.{Decl, ClassDecl, ConDecl, ArityDecl, ConstDecl, AxiomDecl, PromiseDecl, algebra_of}
 use Rattle.pure_term_laws.specs.LawsExamples.{i, j, c, d, e, arity, class_above}
 use Rattle.pure_term_laws.proofs.DeclLaws.{declared_classes, declared_arities}
-use Rattle.pure_term_laws.proofs.OrderExamples.{crossing_is_not_coregular}
-use Rattle.pure_definitions.proofs.OrderLaws.{sort_below-itself}
-use Rattle.pure_logic.specs.Content.{TheoryId, IsContent, IsMerge, IsWellFormed, AreNamedAlike, AreLabelledAlike}
+use Rattle.pure_term_laws.proofs.OrderExamples.{crossing_is_not_coregular, open_fork_is_not_coregular, joined_fork_is_coregular}
+use Rattle.pure_logic.specs.Content.{TheoryId, IsContent, IsWellFormed, AreNamedAlike, AreLabelledAlike}
+use Rattle.pure_logic.specs.Beginning.{IsMerge, HasTheoriesApart}
 use Rattle.pure_logic.specs.PureContent.{pure_declarations, proposition_variable}
-use Rattle.pure_logic.specs.ExampleContent.{promised, example}
-use Rattle.pure_logic.specs.LawsContent.{content_of, theory, first_parent, second_parent, BeginningExample, classes, with_arity, NoMergeExample, NamedTwiceExample, IllFormedExample, SchematicExample, BelowExample}
-use Rattle.pure_logic.proofs.ChainLaws.{each-at}
+use Rattle.pure_logic.specs.Examples.Theory.{promised, example}
+use Rattle.pure_logic.specs.Examples.Contents.{content_of, theory, beginning, BeginningExample, AncestorsExample, NotApartExample, classes, with_arity, NoMergeExample, fork_declarations, with_square, MiddleMergeExample, NamedTwiceExample, IllFormedExample, SchematicExample, BelowExample}
+use Rattle.pure_text.proofs.ListLaws.{in-append_left, in-append_right}
 use Rattle.pure_logic.proofs.ContentLaws.{named_alike, both_promises, named_alike-so, both_promises-so, apart-once}
+use Rattle.pure_logic.proofs.CoregularLaws.{lone_arity, coregular-same}
 use Rattle.pure_logic.proofs.ExampleLaws.{example-above, none_passes, is_con}
 use Rattle.pure_logic.proofs.MergeLaws.{merge_has_declarations, merged-coregular}
+use Rattle.pure_logic.proofs.EachLaws.{each-at, in-append}
 
 no_arities : (ds : List Decl) → (algebra_of ds).arities ≡ [] → IsCoregular (algebra_of ds)
 no_arities ds none b d m = absurd (rw none at m)
 
-pub beginning_example : BeginningExample
-beginning_example = record {
-  some_parent = λ none. cc;
-  merge = (
-    ConDecl 10 0 ∷ [],
-    inr (λ m. m, refl),
-    no_arities (ConDecl 10 0 ∷ []) refl,
-    (ConDecl 10 0 ∷ ConDecl 11 0 ∷ [], inr (apart, inl (inl refl, refl)), no_arities (ConDecl 10 0 ∷ ConDecl 11 0 ∷ []) refl, refl),
-  );
-  own = refl;
-  ancestors = λ t. (forth t, back t);
+-- The ancestors of the example are told apart, and the theory itself is new.
+apart_in_example : HasTheoriesApart beginning
+apart_in_example = record {
+  ancestors = record { by_name = named; by_index = indexed };
+  own = λ own e. (let same : own ≡ theory 63 3 = cc in rw same (record { index = (omega arith, (omega arith, tt)); name = (λ e. absurd (omega arith), (λ e. absurd (omega arith), tt)) }));
 }
+  where
+    named : (t u : TheoryId) → IsIn t beginning.ancestors → IsIn u beginning.ancestors → t.name ≡ u.name → t ≡ u
+    named t u (inl p) (inl r) e = p ∙ sym r
+    named t u (inl p) (inr (inl r)) e = let left = ap (λ (v : TheoryId). v.name) p in let right = ap (λ (v : TheoryId). v.name) r in absurd (omega arith)
+    named t u (inr (inl p)) (inl r) e = let left = ap (λ (v : TheoryId). v.name) p in let right = ap (λ (v : TheoryId). v.name) r in absurd (omega arith)
+    named t u (inr (inl p)) (inr (inl r)) e = p ∙ sym r
+    named t u (inr (inr absent)) m e = absurd absent
+    named t u m (inr (inr absent)) e = absurd absent
+
+    indexed : (t u : TheoryId) → IsIn t beginning.ancestors → IsIn u beginning.ancestors → t.index ≡ u.index → t ≡ u
+    indexed t u (inl p) (inl r) e = p ∙ sym r
+    indexed t u (inl p) (inr (inl r)) e = let left = ap (λ (v : TheoryId). v.index) p in let right = ap (λ (v : TheoryId). v.index) r in absurd (omega arith)
+    indexed t u (inr (inl p)) (inl r) e = let left = ap (λ (v : TheoryId). v.index) p in let right = ap (λ (v : TheoryId). v.index) r in absurd (omega arith)
+    indexed t u (inr (inl p)) (inr (inl r)) e = p ∙ sym r
+    indexed t u (inr (inr absent)) m e = absurd absent
+    indexed t u m (inr (inr absent)) e = absurd absent
+
+pub beginning_example : BeginningExample
+beginning_example = (
+  record {
+    some_parent = λ none. cc;
+    merge = (
+      ConDecl 10 0 ∷ [],
+      inr (λ m. m, refl),
+      no_arities (ConDecl 10 0 ∷ []) refl,
+      (ConDecl 10 0 ∷ ConDecl 11 0 ∷ [], inr (apart, inl (inl refl, refl)), no_arities (ConDecl 10 0 ∷ ConDecl 11 0 ∷ []) refl, refl),
+    );
+    own = refl;
+    ancestors = refl;
+  },
+  apart_in_example,
+)
   where
     apart : ¬ IsIn (ConDecl 11 0) (ConDecl 10 0 ∷ [])
     apart m = none_passes (is_con 11) (ConDecl 11 0) (ConDecl 10 0 ∷ []) refl refl m
 
-    forth : (t : TheoryId) → IsIn t (theory 61 1 ∷ theory 62 2 ∷ []) → AnyOf (λ P. (P.own ≡ Some t) ⊎ IsIn t P.ancestors) (first_parent ∷ second_parent ∷ [])
-    forth t (inl same) = inl (inl (λ l. Some (sym same l)))
-    forth t (inr (inl same)) = inr (inl (inl (λ l. Some (sym same l))))
-    forth t (inr (inr absent)) = absurd absent
+pub ancestors_example : AncestorsExample
+ancestors_example = (refl, refl)
 
-    back : (t : TheoryId) → AnyOf (λ P. (P.own ≡ Some t) ⊎ IsIn t P.ancestors) (first_parent ∷ second_parent ∷ []) → IsIn t (theory 61 1 ∷ theory 62 2 ∷ [])
-    back t (inl (inl same)) = inl (cc)
-    back t (inl (inr absent)) = absurd absent
-    back t (inr (inl (inl same))) = inr (inl (cc))
-    back t (inr (inl (inr (inl same)))) = inl same
-    back t (inr (inl (inr (inr absent)))) = absurd absent
-    back t (inr (inr absent)) = absurd absent
+pub not_apart_example : NotApartExample
+not_apart_example = (
+  λ h. (let same = ap (λ (v : TheoryId). v.name) (h.ancestors.by_index (theory 61 1) (theory 62 1) (inl refl) (inr (inl refl)) refl) in let names : ◌≡◌ {A = ℕ} 61 62 = same in absurd (omega arith)),
+  λ h. (let same = ap (λ (v : TheoryId). v.index) (h.ancestors.by_name (theory 61 1) (theory 61 2) (inl refl) (inr (inl refl)) refl) in let indexes : ◌≡◌ {A = ℕ} 1 2 = same in absurd (omega arith)),
+  λ h. (h.own (theory 61 3) refl).name.0 refl,
+  λ h. (let below = (h.own (theory 63 1) refl).index.0 in absurd (omega arith)),
+  λ h. (let below = (h.own (theory 63 1) refl).index.0 in absurd (omega arith)),
+)
 
 -- What has no class above it is below itself alone.
 below-top : (A : Algebra) {b t : ℕ} → ((u : ℕ) → ¬ IsInclusion A b u) → IsClassBelow A b t → b ≡ t
 below-top A top itself = refl
 below-top A top (along {b = u} h below) = absurd (top u h)
 
--- one arity alone is coregular
 one_arity : (domain : ℕ) → IsContent (with_arity domain)
 one_arity domain = record {
   named_once = apart-once AreNamedAlike named_alike named_alike-so (classes ++ ArityDecl (arity domain e) ∷ []) refl;
   labelled_once = apart-once AreLabelledAlike both_promises both_promises-so (classes ++ ArityDecl (arity domain e) ∷ []) refl;
   well_formed = (tt, (tt, (tt, (tt, (tt, tt)))));
-  coregular = alone;
+  coregular = lone_arity (algebra_of (classes ++ ArityDecl (arity domain e) ∷ [])) (arity domain e) refl;
 }
-  where
-    same : (b g : Arity) → b ≡ arity domain e → g ≡ arity domain e → AreCompatible (algebra_of (classes ++ ArityDecl (arity domain e) ∷ [])) b g
-    same b g p r =
-        let domains : AreDomainsBelow (algebra_of (classes ++ ArityDecl (arity domain e) ∷ [])) (arity domain e) (arity domain e) = (sort_below-itself (algebra_of (classes ++ ArityDecl (arity domain e) ∷ [])) (domain ∷ []), tt) in
-        record {
-          forth = λ h. rw (p, r) domains;
-          back = λ h. rw (p, r) domains;
-          joined = λ top h l. (arity domain e, record { declared = inl refl; con = rw p refl; class = rw p at h; first = rw p domains; second = rw r domains });
-        }
 
-    alone : IsCoregular (algebra_of (classes ++ ArityDecl (arity domain e) ∷ []))
-    alone b g (inl p) (inl r) o = same b g p r
-    alone b g (inl p) (inr absent) o = absurd absent
-    alone b g (inr absent) n o = absurd absent
+one_square : (class : ℕ) → IsContent (with_square class)
+one_square class = record {
+  named_once = apart-once AreNamedAlike named_alike named_alike-so (fork_declarations ++ ArityDecl (arity class class) ∷ []) refl;
+  labelled_once = apart-once AreLabelledAlike both_promises both_promises-so (fork_declarations ++ ArityDecl (arity class class) ∷ []) refl;
+  well_formed = (tt, (tt, (tt, (tt, (tt, tt)))));
+  coregular = lone_arity (algebra_of (fork_declarations ++ ArityDecl (arity class class) ∷ [])) (arity class class) refl;
+}
 
 -- A declared class has no class above it.
 abbrev IsLone : Decl → Type 0
@@ -117,6 +136,60 @@ no_merge merged h = clash (below-top (algebra_of merged) top class)
 
 pub no_merge_example : NoMergeExample
 no_merge_example = (one_arity c, one_arity d, no_merge)
+
+-- the squares of c and of d, and then that of e behind them or before them
+abbrev both_squares : List Decl
+both_squares = ArityDecl (arity c c) ∷ ArityDecl (arity d d) ∷ []
+
+abbrev three_squares : List Decl
+three_squares = ArityDecl (arity c c) ∷ ArityDecl (arity d d) ∷ ArityDecl (arity e e) ∷ []
+
+abbrev three_from_top : List Decl
+three_from_top = ArityDecl (arity e e) ∷ ArityDecl (arity c c) ∷ ArityDecl (arity d d) ∷ []
+
+-- Behind one front, what is in the one rest is in the other.
+in-rest : (x : Decl) (front ys zs : List Decl) → (IsIn x ys → IsIn x zs) → IsIn x (front ++ ys) → IsIn x (front ++ zs)
+in-rest x front ys zs h m = elim (in-append x front ys m) [ inl n ↦ in-append_left x front zs n | inr n ↦ in-append_right x front zs (h n) ]
+
+all_squares_are_coregular : IsCoregular (algebra_of (fork_declarations ++ three_squares))
+all_squares_are_coregular =
+    coregular-same (fork_declarations ++ three_squares) (fork_declarations ++ three_from_top) (λ x m. in-rest x fork_declarations three_squares three_from_top (up x) m)
+    (λ x m. in-rest x fork_declarations three_from_top three_squares (down x) m) joined_fork_is_coregular
+  where
+    up : (x : Decl) → IsIn x three_squares → IsIn x three_from_top
+    up x (inl h) = inr (inl h)
+    up x (inr (inl h)) = inr (inr (inl h))
+    up x (inr (inr (inl h))) = inl h
+    up x (inr (inr (inr absent))) = absurd absent
+
+    down : (x : Decl) → IsIn x three_from_top → IsIn x three_squares
+    down x (inl h) = inr (inr (inl h))
+    down x (inr (inl h)) = inl h
+    down x (inr (inr (inl h))) = inr (inl h)
+    down x (inr (inr (inr absent))) = absurd absent
+
+-- The merge of the first two has exactly the declarations of both.
+no_middle : (merged : List Decl) → IsMerge (with_square c ∷ with_square d ∷ []) merged → ⊥
+no_middle merged h =
+    open_fork_is_not_coregular (coregular-same (fork_declarations ++ both_squares) merged (λ x m. (has x).1 (up x (in-append x fork_declarations both_squares m))) (λ x m. down x ((has x).0 m))
+    (merged-coregular (with_square c) (with_square d) merged h))
+  where
+    has : (x : Decl) → IsIn x merged ↔ AnyOf (λ Q. IsIn x Q.declarations) (with_square c ∷ with_square d ∷ [])
+    has x = merge_has_declarations (with_square c ∷ with_square d ∷ []) merged h x
+
+    up : (x : Decl) → IsIn x fork_declarations ⊎ IsIn x both_squares → AnyOf (λ Q. IsIn x Q.declarations) (with_square c ∷ with_square d ∷ [])
+    up x (inl m) = inl (in-append_left x fork_declarations (ArityDecl (arity c c) ∷ []) m)
+    up x (inr (inl same)) = inl (in-append_right x fork_declarations (ArityDecl (arity c c) ∷ []) (inl same))
+    up x (inr (inr (inl same))) = inr (inl (in-append_right x fork_declarations (ArityDecl (arity d d) ∷ []) (inl same)))
+    up x (inr (inr (inr absent))) = absurd absent
+
+    down : (x : Decl) → AnyOf (λ Q. IsIn x Q.declarations) (with_square c ∷ with_square d ∷ []) → IsIn x (fork_declarations ++ both_squares)
+    down x (inl m) = in-rest x fork_declarations (ArityDecl (arity c c) ∷ []) both_squares (λ n. elim n [ inl same ↦ inl same | inr absent ↦ absurd absent ]) m
+    down x (inr (inl m)) = in-rest x fork_declarations (ArityDecl (arity d d) ∷ []) both_squares (λ n. elim n [ inl same ↦ inr (inl same) | inr absent ↦ absurd absent ]) m
+    down x (inr (inr absent)) = absurd absent
+
+pub middle_merge_example : MiddleMergeExample
+middle_merge_example = (one_square c, one_square d, one_square e, open_fork_is_not_coregular, all_squares_are_coregular, λ merged h. no_middle h.3.0 (h.0, h.1, h.2, (h.3.0, h.3.1, h.3.2, refl)))
 
 pub named_twice_example : NamedTwiceExample
 named_twice_example = (

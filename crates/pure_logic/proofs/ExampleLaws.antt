@@ -3,16 +3,17 @@ use Rattle.std.proofs.Common.{◌≡◌, ℕ, List, [], ◌∷◌, Bool, true, f
 use Rattle.pure_text.specs.Lists.{IsIn}
 use Rattle.pure_definitions.specs.Typ.{Typ, arrow, prop}
 use Rattle.pure_definitions.specs.Term.{Term, Const}
-use Rattle.pure_definitions.specs.Order.{itself, IsOfSort, IsCoregular}
+use Rattle.pure_definitions.specs.Order.{itself, IsOfSort}
 use Rattle.pure_definitions.specs.Decl.{Decl, ClassDecl, ConDecl, ConstDecl, AxiomDecl, PromiseDecl, algebra_of}
-use Rattle.pure_definitions.specs.Certified.{IsCertifiedTyp, HasCertifiedParts}
+use Rattle.pure_definitions.specs.Certified.{IsCertifiedSort, IsCertifiedTyp, HasCertifiedParts}
 use Rattle.pure_term_laws.specs.LawsExamples.{i, j, c, a, f, x, y, any_x, sort_of, class_above}
 use Rattle.pure_text.proofs.ListLaws.{in-append_left, in-append_right}
 use Rattle.pure_logic.specs.Content.{IsCertifiedOf, IsProposition, IsBelow, IsContent, AreNamedAlike, AreLabelledAlike, IsStatement}
 use Rattle.pure_logic.specs.PureContent.{pure_content, pure_declarations, protect_axiom}
 use Rattle.pure_logic.proofs.AboveLaws.{certified_of-above}
-use Rattle.pure_logic.specs.ExampleContent.{less, holds, any_c, any_z, h, i_arity, example_declarations, example}
+use Rattle.pure_logic.specs.Examples.Theory.{less, holds, any_c, any_z, any_left, any_right, any_w, related, h, i_arity, example_declarations, example}
 use Rattle.pure_logic.proofs.ConnectiveLaws.{certified_of, itself-instance, arrow-certified, prop-certified}
+use Rattle.pure_logic.proofs.CoregularLaws.{lone_arity}
 use Rattle.pure_logic.proofs.ContentLaws.{named_alike, both_promises, named_alike-so, both_promises-so, apart-once, protect_is_statement}
 
 pub example-above : IsBelow pure_content example
@@ -117,21 +118,28 @@ promise_is_statement = record {
   schematic = (((tt, ((tt, (tt, tt)), tt)), tt), tt);
 }
 
-coregular : IsCoregular (algebra_of example.declarations)
-coregular b d (inl p) (inl r) e = record {
-  forth = λ k. rw (p, r) tt;
-  back = λ k. rw (p, r) tt;
-  joined = λ top k l. (i_arity, record { declared = inl refl; con = rw p refl; class = rw p at k; first = rw p tt; second = rw r tt });
+own_types_are_statement : IsStatement example (related any_left any_right (any_w any_left) (any_w any_right))
+own_types_are_statement = record {
+  proposition = certified_of example (related any_left any_right (any_w any_left) (any_w any_right)) prop (
+    (
+      const-parts 35 (arrow any_left (arrow any_right prop)) (arrow-certified example example-above any_left (arrow any_right prop) no_class (arrow-certified example example-above any_right prop no_class (prop-certified example example-above)))
+          (inr (inr (inr (inr (inr (inr (inr (inr (inr (inr (inl refl))))))))))),
+      no_class,
+    ),
+    no_class,
+  ) (any_right, (any_left, refl, refl), refl);
+  schematic = (((tt, ((tt, (tt, tt)), tt)), tt), tt);
 }
-coregular b d (inl p) (inr n) e = absurd n
-coregular b d (inr m) n e = absurd m
+  where
+    no_class : IsCertifiedSort example.declarations []
+    no_class = (λ k below. absurd (omega arith), tt)
 
 pub example_is_content : IsContent example
 example_is_content = record {
   named_once = apart-once AreNamedAlike named_alike named_alike-so example.declarations refl;
   labelled_once = apart-once AreLabelledAlike both_promises both_promises-so example.declarations refl;
-  well_formed = (tt, (tt, (((tt, (tt, tt)), (tt, tt)), (two_arrows, (two_arrows, ((tt, (tt, tt)), (protect_above, (tt, (tt, (tt, (tt, (tt, ((tt, (tt, tt)), (two_arrows, ((tt, (tt, tt)), (axiom_is_statement, (promise_is_statement, tt)))))))))))))))));
-  coregular = coregular;
+  well_formed = (tt, (tt, (((tt, (tt, tt)), (tt, tt)), (two_arrows, (two_arrows, ((tt, (tt, tt)), (protect_above, (tt, (tt, (tt, (tt, (tt, ((tt, (tt, tt)), (two_arrows, ((tt, (tt, tt)), (axiom_is_statement, (promise_is_statement, (two_arrows, (own_types_are_statement, tt)))))))))))))))))));
+  coregular = lone_arity (algebra_of example.declarations) i_arity refl;
 }
   where
     two_arrows : Unit {0} × ((Unit {0} × (Unit {0} × Unit {0})) × Unit {0})

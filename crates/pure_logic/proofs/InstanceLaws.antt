@@ -9,9 +9,8 @@ use Rattle.pure_definitions.specs.Certified.{IsCertifiedTyp, IsInstance, HasCert
 use Rattle.pure_definitions.proofs.OrderLaws.{sort_below-itself}
 use Rattle.pure_logic.specs.Content.{Content, IsContent, IsWellFormed, IsSchematicTyp, AreSchematicTyps}
 use Rattle.pure_logic.specs.Concludes.{AreRespecting}
-use Rattle.pure_logic.proofs.AboveLaws.{each-more, any-more}
-use Rattle.pure_logic.proofs.ChainLaws.{each-at}
 use Rattle.pure_logic.proofs.WeakeningLaws.{typ_instance-certified}
+use Rattle.pure_logic.proofs.EachLaws.{each-more, any-more, each-at}
 
 class_below-below : (A : Algebra) {b c d : ℕ} → IsClassBelow A b c → IsClassBelow A c d → IsClassBelow A b d
 class_below-below A itself k = k
@@ -44,7 +43,7 @@ module _ (A : Algebra) (typs : Typ → Typ) (r : IsSortRespecting A typs) where
     of_sorts-instance none (s ∷ ss) h = h
     of_sorts-instance (also t ts) [] h = h
 
-  of_sort-instance : (T : Typ) (s : List ℕ) → IsOfSort A T s → IsOfSort A (typ_instance typs T) s
+  pub of_sort-instance : (T : Typ) (s : List ℕ) → IsOfSort A T s → IsOfSort A (typ_instance typs T) s
   of_sort-instance T s h = each-more (IsOfClass A T) (IsOfClass A (typ_instance typs T)) (of_class-instance T) s h
 
 -- the map that makes an instance of an instance of a schematic type; fixed type variables stay

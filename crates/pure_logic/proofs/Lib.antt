@@ -1,3 +1,5 @@
+pub mod EachLaws
+pub mod DischargeLaws
 pub mod ChainLaws
 pub mod ConnectiveLaws
 pub mod ContentLaws
@@ -12,4 +14,14 @@ pub mod MapLaws
 pub mod ExampleLaws
 pub mod NodeExamples
 pub mod MergeLaws
+pub mod AncestorLaws
+pub mod CoregularLaws
+pub mod DerivableLaws
+pub mod ProvesLaws
+pub mod InferenceLaws
+pub mod FreshLaws
+pub mod SubstitutionLaws
 pub mod ContentExamples
+pub mod UnderivableExamples
+pub mod PromiseLaws
+pub mod EqualityLaws

@@ -5,14 +5,16 @@ use Rattle.pure_definitions.specs.Typ.{Typ, TFree, TVar, typ_eq}
 use Rattle.pure_definitions.specs.Term.{Term, Const, Free, Var, Bound, Abs, App, term_eq}
 use Rattle.pure_definitions.specs.Typing.{HasType}
 use Rattle.pure_definitions.specs.Subst.{TypBind, TermBind, typ_variable, term_variable, typ_image, term_image, typ_instance, term_instance, inst_typ, inst_term, AreSortRespecting, IsTypeRespecting}
+use Rattle.pure_definitions.specs.Conditions.{variable_typ}
+use Rattle.pure_definitions.specs.Models.Equality.{term_eq-same}
 use Rattle.pure_definitions.specs.Decl.{Decl, algebra_of}
 use Rattle.pure_definitions.specs.Certified.{IsCertifiedSort, IsCertifiedTyp, HasCertifiedParts, AreImagesCertified}
 use Rattle.pure_term_laws.proofs.SubstLaws.{identity-respects_sorts, identity-respects_types, entries-respect_sorts, entries-respect_types, typ_instance-identity}
 use Rattle.pure_logic.specs.Content.{Content, IsCertifiedOf}
 use Rattle.pure_logic.specs.Tree.{joined_terms}
 use Rattle.pure_logic.specs.Concludes.{AreRespecting}
-use Rattle.pure_logic.proofs.AboveLaws.{each-more}
 use Rattle.pure_logic.proofs.WeakeningLaws.{typ_instance-certified}
+use Rattle.pure_logic.proofs.EachLaws.{each-more}
 
 pub identity_respects : (Q : Content) → AreRespecting Q (λ T. T) (λ t. t)
 identity_respects Q = record {
@@ -21,17 +23,18 @@ identity_respects Q = record {
   certified = record { fixed_typ = λ x s c. c; schematic_typ = λ x i s c. c; fixed = λ x T c. c; schematic = λ x i T c. c };
 }
 
-cond-has : {A : Type 0} (P : A → Type 0) (b : Bool) (x y : A) → P x → P y → P (cond b x y)
-cond-has P true x y h k = h
+-- What holds of the first where the test holds, and of the second, holds of the chosen one.
+pub cond-has : {A : Type 0} (P : A → Type 0) (b : Bool) (x y : A) → (b ≡ true → P x) → P y → P (cond b x y)
+cond-has P true x y h k = h refl
 cond-has P false x y h k = k
 
 typ_image-certified : (ds : List Decl) (binds : List TypBind) → Each (λ b. IsCertifiedTyp ds b.image) binds → (v : Typ) → IsCertifiedTyp ds v → IsCertifiedTyp ds (typ_image binds v)
 typ_image-certified ds [] h v c = c
-typ_image-certified ds (b ∷ bs) h v c = cond-has (IsCertifiedTyp ds) (typ_eq (typ_variable b) v) b.image (typ_image bs v) h.0 (typ_image-certified ds bs h.1 v c)
+typ_image-certified ds (b ∷ bs) h v c = cond-has (IsCertifiedTyp ds) (typ_eq (typ_variable b) v) b.image (typ_image bs v) (λ e. h.0) (typ_image-certified ds bs h.1 v c)
 
 term_image-parts : (ds : List Decl) (binds : List TermBind) → Each (λ b. HasCertifiedParts ds b.image) binds → (v : Term) → HasCertifiedParts ds v → HasCertifiedParts ds (term_image binds v)
 term_image-parts ds [] h v c = c
-term_image-parts ds (b ∷ bs) h v c = cond-has (HasCertifiedParts ds) (term_eq (term_variable b) v) b.image (term_image bs v) h.0 (term_image-parts ds bs h.1 v c)
+term_image-parts ds (b ∷ bs) h v c = cond-has (HasCertifiedParts ds) (term_eq (term_variable b) v) b.image (term_image bs v) (λ e. h.0) (term_image-parts ds bs h.1 v c)
 
 module _ (Q : Content) (typs : List TypBind) (terms : List TermBind) where
   joined-types : Each (λ b. IsCertifiedOf Q b.image b.typ) terms → IsTypeRespecting (typ_image typs) (joined_terms typs terms)
@@ -71,3 +74,23 @@ joined_instance typs terms (Var x i T) = refl
 joined_instance typs terms (Bound n) = refl
 joined_instance typs terms (Abs T b) = ap (Abs (typ_instance (typ_image typs) T)) (joined_instance typs terms b)
 joined_instance typs terms (App f a) = λ l. App (joined_instance typs terms f l) (joined_instance typs terms a l)
+
+-- the term map that gives one variable this image, and each other what it gave before
+abbrev pub sent : (v image : Term) → (Term → Term) → Term → Term
+sent v image terms u = cond (term_eq v u) image (terms u)
+
+-- Respecting maps stay so where one variable is given another certified image of its type under the type map.
+pub sent-respects : (Q : Content) (typs : Typ → Typ) (terms : Term → Term) (v image : Term) → AreRespecting Q typs terms → IsCertifiedOf Q image (typ_instance typs (variable_typ v)) → AreRespecting Q typs (sent v image terms)
+sent-respects Q typs terms v image r h = record {
+  sorts = r.sorts;
+  types = record {
+    fixed = λ x T. cond-has (λ t. HasType [] t (typ_instance typs T)) (term_eq v (Free x T)) image (terms (Free x T)) (λ e. rw (ap variable_typ (term_eq-same v (Free x T) e)) at h.typed) (r.types.fixed x T);
+    schematic = λ x i T. cond-has (λ t. HasType [] t (typ_instance typs T)) (term_eq v (Var x i T)) image (terms (Var x i T)) (λ e. rw (ap variable_typ (term_eq-same v (Var x i T) e)) at h.typed) (r.types.schematic x i T);
+  };
+  certified = record {
+    fixed_typ = r.certified.fixed_typ;
+    schematic_typ = r.certified.schematic_typ;
+    fixed = λ x T c. cond-has (HasCertifiedParts Q.declarations) (term_eq v (Free x T)) image (terms (Free x T)) (λ e. h.certified.parts) (r.certified.fixed x T c);
+    schematic = λ x i T c. cond-has (HasCertifiedParts Q.declarations) (term_eq v (Var x i T)) image (terms (Var x i T)) (λ e. h.certified.parts) (r.certified.schematic x i T c);
+  };
+}

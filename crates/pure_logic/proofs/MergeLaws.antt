@@ -6,22 +6,11 @@ use Rattle.pure_definitions.specs.Typ.{prop}
 use Rattle.pure_definitions.specs.Term.{Term}
 use Rattle.pure_definitions.specs.Decl.{Decl, ClassDecl, ConDecl, ArityDecl, ConstDecl, AxiomDecl, PromiseDecl, algebra_of}
 use Rattle.pure_text.proofs.ListLaws.{each_of, in-append_left, in-append_right}
-use Rattle.pure_logic.specs.Content.{TheoryId, Content, IsStatement, IsWellFormed, IsContent, IsBelow, IsBeginning, IsAdded, IsMergeAfter, IsMerge}
-use Rattle.pure_logic.specs.LawsContent.{AreAgreed}
-use Rattle.pure_logic.proofs.ChainLaws.{each-at}
+use Rattle.pure_logic.specs.Content.{TheoryId, Content, IsStatement, IsWellFormed, IsContent, IsBelow}
+use Rattle.pure_logic.specs.Beginning.{IsBeginning, IsAdded, IsMergeAfter, IsMerge}
+use Rattle.pure_logic.specs.Laws.Contents.{AreAgreed}
 use Rattle.pure_logic.proofs.AboveLaws.{certified_of-above}
-
-pub in-append : {A : Type 0} (x : A) (xs ys : List A) → IsIn x (xs ++ ys) → IsIn x xs ⊎ IsIn x ys
-in-append x [] ys m = inr m
-in-append x (z ∷ zs) ys (inl e) = inl (inl e)
-in-append x (z ∷ zs) ys (inr m) = elim (in-append x zs ys m) [ inl n ↦ inl (inr n) | inr n ↦ inr n ]
-
-distinct-append : {A : Type 0} (x : A) (xs : List A) → AreDistinct xs → ¬ IsIn x xs → AreDistinct (xs ++ x ∷ [])
-distinct-append x [] h apart = ((λ m. m), tt)
-distinct-append x (y ∷ ys) h apart = (
-  λ m. elim (in-append y ys (x ∷ []) m) [ inl n ↦ h.0 n | inr n ↦ elim n [ inl e ↦ apart (inl (sym e)) | inr absent ↦ absent ] ],
-  distinct-append x ys h.1 (λ m. apart (inr m)),
-)
+use Rattle.pure_logic.proofs.EachLaws.{each-at, in-append, distinct-append}
 
 -- What is added has the declarations of both lists.
 added-has : (before added after : List Decl) → IsAdded before added after → (x : Decl) → IsIn x before ⊎ IsIn x added → IsIn x after

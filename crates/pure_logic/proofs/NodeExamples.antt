@@ -1,21 +1,25 @@
 -- What each node concludes over the content of the examples, and where it concludes nothing.
-use Rattle.std.proofs.Common.{◌≡◌, ℕ, [], ◌∷◌, inl, inr, refl, arith}
-use Rattle.pure_text.specs.Lists.{IsIn}
-use Rattle.pure_definitions.specs.Typ.{arrow, prop}
-use Rattle.pure_definitions.specs.Term.{Term, Const, Free, Bound, Abs, App}
+use Rattle.std.proofs.Common.{◌≡◌, ◌≢◌, ℕ, List, [], ◌∷◌, inl, inr, refl, arith}
+use Rattle.pure_text.specs.Lists.{IsIn, Each}
+use Rattle.pure_definitions.specs.Typ.{Typ, arrow, prop}
+use Rattle.pure_definitions.specs.Term.{Term, Const, Free, Var, Bound, Abs, App}
 use Rattle.pure_definitions.specs.Order.{Arity}
 use Rattle.pure_definitions.specs.Bounds.{Occurs}
+use Rattle.pure_definitions.specs.Subst.{typ_image, retyped_variable}
 use Rattle.pure_definitions.specs.Decl.{ConDecl, ConstDecl, AxiomDecl, PromiseDecl}
 use Rattle.pure_definitions.specs.Certified.{HasCertifiedParts}
 use Rattle.pure_term_laws.specs.LawsExamples.{i, j, c, a, f, x, y, any_x, sort_of}
 use Rattle.pure_term_laws.specs.LawsSubst.{for_a}
 use Rattle.pure_logic.specs.Connectives.{all, imp, eq}
-use Rattle.pure_logic.specs.Content.{IsCertifiedOf, IsProposition}
-use Rattle.pure_logic.specs.Tree.{Assume, ImpliesIntro}
-use Rattle.pure_logic.specs.ExampleContent.{less, holds, any_c, any_z, i_arity, promised, example}
-use Rattle.pure_logic.specs.LawsNodes.{for_z, AxiomExample, PromiseExample, NoAxiomExample, NoMapExample, AssumeExample, AllIntroExample, NoAllIntroExample, AllElimExample, NoAllElimExample, ImpliesIntroExample, ImpliesElimExample, BetaExample, ReflExample, SubstExample, SymmetricExample, ExtExample, IffExample, DerivableExample}
+use Rattle.pure_logic.specs.Content.{IsContent, IsCertifiedOf, IsProposition}
+use Rattle.pure_logic.specs.Tree.{Tree, Promise, Assume, ImpliesIntro, ImpliesElim, joined_terms, hyps_of, rests_of}
+use Rattle.pure_logic.specs.Concludes.{AreRespecting, Concludes}
+use Rattle.pure_logic.specs.PureContent.{any_typ}
+use Rattle.pure_logic.specs.Examples.Contents.{content_of}
+use Rattle.pure_logic.specs.Examples.Theory.{less, holds, any_c, any_z, any_left, any_right, any_w, related, i_arity, promised, example}
+use Rattle.pure_logic.specs.Examples.Nodes.{for_z, both_to_i, image_of_own, AxiomExample, OwnTypeExample, PromiseExample, NoAxiomExample, NoMapExample, AssumeExample, AllIntroExample, NoAllIntroExample, AllElimExample, NoAllElimExample, ImpliesIntroExample, TwiceAssumedExample, ImpliesElimExample, BetaExample, ReflExample, SubstExample, SymmetricExample, ExtExample, IffExample, DerivableExample, OpenHypothesisExample, OpenPromiseExample, NoPropositionExample}
 use Rattle.pure_logic.proofs.ConnectiveLaws.{certified_of, imp-parts, all-parts, eq-parts}
-use Rattle.pure_logic.proofs.MapLaws.{identity_respects, joined_respect}
+use Rattle.pure_logic.proofs.MapLaws.{identity_respects, joined_respect, sent, sent-respects}
 use Rattle.pure_logic.proofs.ExampleLaws.{example-above, example-has, none_passes, is_const, is_con, is_axiom, is_promised_part, i-certified, j-certified, any_c-certified, i-of_c, x-of, y-of, a-of, f-of, h-of, a-parts, f-parts, less-parts, less-of}
 
 pub axiom_example : AxiomExample
@@ -23,6 +27,20 @@ axiom_example = (
   (holds any_c any_z, example-has (AxiomDecl 50 (holds any_c any_z)) (inr (inr (inr (inr (inr (inr (inr (inr (inl refl))))))))), joined_respect example (for_a i ∷ []) (for_z a ∷ []) (i-of_c, tt) (i-certified, tt) (a-of, tt), refl),
   refl,
 )
+
+pub own_type_example : OwnTypeExample
+own_type_example = (
+  ((related any_left any_right (any_w any_left) (any_w any_right), example-has (AxiomDecl 52 (related any_left any_right (any_w any_left) (any_w any_right))) (inr (inr (inr (inr (inr (inr (inr (inr (inr (inr (inr (inl refl)))))))))))), respecting, refl), refl),
+  λ terms. (joined_terms both_to_i terms (any_w any_left), refl),
+)
+  where
+    typs_alone : AreRespecting example (typ_image both_to_i) (retyped_variable (typ_image both_to_i))
+    typs_alone = joined_respect example both_to_i [] (tt, (tt, tt)) (i-certified, (i-certified, tt)) tt
+
+    respecting : AreRespecting example (typ_image both_to_i) image_of_own
+    respecting =
+        sent-respects example (typ_image both_to_i) (sent (any_w any_right) x (retyped_variable (typ_image both_to_i))) (any_w any_left) a
+        (sent-respects example (typ_image both_to_i) (retyped_variable (typ_image both_to_i)) (any_w any_right) x typs_alone x-of) a-of
 
 pub promise_example : PromiseExample
 promise_example = (
@@ -114,6 +132,19 @@ swap-of : IsProposition example (imp (less x y) (less y x))
 swap-of = let k = less-of x y x-of y-of in let l = less-of y x y-of x-of in
     certified_of example (imp (less x y) (less y x)) prop (imp-parts example example-above (less x y) (less y x) k.certified.parts l.certified.parts) (prop, (prop, refl, k.typed), l.typed)
 
+pub twice_assumed_example : TwiceAssumedExample
+twice_assumed_example = (
+  (twice, refl),
+  ((less y x, twice, less-of x y x-of y-of, refl), refl),
+)
+  where
+    step-of : IsProposition example (imp (less x y) (imp (less x y) (less y x)))
+    step-of = let k = less-of x y x-of y-of in
+        certified_of example (imp (less x y) (imp (less x y) (less y x))) prop (imp-parts example example-above (less x y) (imp (less x y) (less y x)) k.certified.parts swap-of.certified.parts) (prop, (prop, refl, k.typed), swap-of.typed)
+
+    twice : Concludes example (ImpliesElim (ImpliesElim (Assume (imp (less x y) (imp (less x y) (less y x)))) (Assume (less x y))) (Assume (less x y))) (less y x)
+    twice = let k = less-of x y x-of y-of in (less x y, (less x y, (step-of, refl), (k, refl)), (k, refl))
+
 pub implies_elim_example : ImpliesElimExample
 implies_elim_example = (
   ((less x y, (swap-of, refl), (less-of x y x-of y-of, refl)), refl),
@@ -185,3 +216,42 @@ derivable_example = record {
   hyps = (inr (inl refl), tt);
   rests = tt;
 }
+
+-- No tree whose hypotheses are among none is this one.
+no_such_tree : (hyps : List Term) (A : Term) (tree : Tree) → ¬ IsIn A hyps → Each (λ B. IsIn B hyps) (hyps_of tree) → tree ≢ Assume A
+no_such_tree hyps A tree absent h same = let head = rw same at h in absent head.0
+
+no_such_promise : (tree : Tree) (typs : Typ → Typ) (terms : Term → Term) → Each (λ l. IsIn l []) (rests_of tree) → tree ≢ Promise promised typs terms
+no_such_promise tree typs terms h same = let head = rw same at h in head.0
+
+pub open_hypothesis_example : OpenHypothesisExample
+open_hypothesis_example = (
+  ((less-of x y x-of y-of, refl), refl),
+  λ none. cc,
+  record { tree = Assume (less x y); conclusion = less x y; concludes = (less-of x y x-of y-of, refl); under_pairs = refl; hyps = (inl refl, tt); rests = tt },
+  λ h. no_such_tree [] (less x y) h.tree (λ m. m) h.hyps,
+  λ h. no_such_tree (less y x ∷ []) (less x y) h.tree (λ m. elim m [ inl same ↦ differs same | inr absent ↦ absent ]) h.hyps,
+)
+  where
+    differs : ¬ (less x y ≡ less y x)
+    differs same = let names : ◌≡◌ {A = ℕ} 40 41 = cc in absurd (omega arith)
+
+pub open_promise_example : OpenPromiseExample
+open_promise_example = (
+  λ none. cc,
+  record {
+    tree = Promise promised (λ T. T) (λ t. t);
+    conclusion = less any_x any_x;
+    concludes = (51, less any_x any_x, example-has (PromiseDecl 51 promised (less any_x any_x)) (inr (inr (inr (inr (inr (inr (inr (inr (inr (inl refl)))))))))), identity_respects example, refl);
+    under_pairs = refl;
+    hyps = tt;
+    rests = (inl refl, tt);
+  },
+  λ h. no_such_promise h.tree (λ T. T) (λ t. t) h.rests,
+)
+
+pub no_proposition_example : NoPropositionExample
+no_proposition_example = (empty, (any_typ, certified_of (content_of []) (Var 0 0 any_typ) any_typ (λ k h. omega arith, tt) refl, refl), λ h. h.certified.parts.0.0.0.0)
+  where
+    empty : IsContent (content_of [])
+    empty = record { named_once = λ d e m. absurd m; labelled_once = λ d e m. absurd m; well_formed = tt; coregular = λ a b m. absurd m }

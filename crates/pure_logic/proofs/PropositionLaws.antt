@@ -1,5 +1,5 @@
 -- What a tree concludes is a proposition of the content, and so are its hypotheses.
-use Rattle.std.proofs.Common.{◌≡◌, List, [], ◌∷◌, ◌++◌, refl, arith}
+use Rattle.std.proofs.Common.{◌≡◌, List, [], ◌∷◌, refl}
 use Rattle.pure_text.specs.Lists.{Each}
 use Rattle.pure_definitions.specs.Typ.{Typ, arrow, prop}
 use Rattle.pure_definitions.specs.Term.{Term, Const, Free, Var, Bound, Abs, App}
@@ -13,27 +13,28 @@ use Rattle.pure_term_laws.proofs.TypingBoundLaws.{typing-subst, typing-weaken, t
 use Rattle.pure_term_laws.proofs.CertifiedLaws.{parts-subst, parts-bind}
 use Rattle.pure_logic.specs.Connectives.{all_typ, imp_typ, all_of, all, imp, eq}
 use Rattle.pure_logic.specs.Content.{Content, IsContent, IsBelow, IsWellFormed, IsCertifiedOf, IsProposition}
-use Rattle.pure_logic.specs.PureContent.{pure_content, any_typ}
+use Rattle.pure_logic.specs.PureContent.{pure_content}
 use Rattle.pure_logic.specs.Tree.{Tree, Axiom, Promise, Assume, AllIntro, AllElim, ImpliesIntro, ImpliesElim, Beta, Refl, Subst, Ext, Iff, hyps_of}
 use Rattle.pure_logic.specs.Concludes.{AreRespecting, extensionality, Concludes}
 use Rattle.pure_logic.specs.Derivable.{Pair, Theorem, IsUnderPairs, IsDerivable, IsDerivableAlone}
-use Rattle.pure_logic.specs.LawsContent.{content_of}
-use Rattle.pure_logic.specs.LawsConclusion.{NoPropositionExample}
-use Rattle.pure_logic.proofs.ChainLaws.{each-at, each-without}
 use Rattle.pure_logic.proofs.ConnectiveLaws.{certified_of, imp-parts, eq-parts, all-parts}
 use Rattle.pure_logic.proofs.InstanceLaws.{parts-instance}
 use Rattle.pure_logic.proofs.PartsLaws.{typ-certified}
+use Rattle.pure_logic.proofs.EachLaws.{each-at, each-append}
+use Rattle.pure_logic.proofs.DischargeLaws.{each-without}
 
-each-append : (P : Term → Type 0) (xs ys : List Term) → Each P xs → Each P ys → Each P (xs ++ ys)
-each-append P [] ys h k = k
-each-append P (x ∷ xs) ys h k = (h.0, each-append P xs ys h.1 k)
-
--- In what is of type prop, the conclusion of an implication and the body of a quantification are of type prop.
+-- In what is of type prop, the premise and the conclusion of an implication and the body of a quantification are of type prop.
 conclusion-typed : (A B : Term) → HasType [] (imp A B) prop → HasType [] B prop
 conclusion-typed A B h =
     let connective : imp_typ ≡ arrow h.1.0 (arrow h.0 prop) = h.1.1 in
     let same : h.0 ≡ prop = cc in
     rw same at h.2
+
+premise-typed : (A B : Term) → HasType [] (imp A B) prop → HasType [] A prop
+premise-typed A B h =
+    let connective : imp_typ ≡ arrow h.1.0 (arrow h.0 prop) = h.1.1 in
+    let same : h.1.0 ≡ prop = cc in
+    rw same at h.1.2
 
 body-typed : (T : Typ) (B : Term) → HasType [] (all T B) prop → HasType (T ∷ []) B prop
 body-typed T B h =
@@ -46,10 +47,13 @@ module _ (Q : Content) (above : IsBelow pure_content Q) where
   imp-proposition : (A B : Term) → IsProposition Q A → IsProposition Q B → IsProposition Q (imp A B)
   imp-proposition A B h k = certified_of Q (imp A B) prop (imp-parts Q above A B h.certified.parts k.certified.parts) (prop, (prop, refl, h.typed), k.typed)
 
-  conclusion-proposition : (A B : Term) → IsProposition Q (imp A B) → IsProposition Q B
+  pub premise-proposition : (A B : Term) → IsProposition Q (imp A B) → IsProposition Q A
+  premise-proposition A B h = certified_of Q A prop h.certified.parts.0.1 (premise-typed A B h.typed)
+
+  pub conclusion-proposition : (A B : Term) → IsProposition Q (imp A B) → IsProposition Q B
   conclusion-proposition A B h = certified_of Q B prop h.certified.parts.1 (conclusion-typed A B h.typed)
 
-  typ-of_certified : (t : Term) (T : Typ) → IsCertifiedOf Q t T → IsCertifiedTyp Q.declarations T
+  pub typ-of_certified : (t : Term) (T : Typ) → IsCertifiedOf Q t T → IsCertifiedTyp Q.declarations T
   typ-of_certified t T h = typ-certified Q above [] t T tt h.certified.parts h.typed
 
   eq-proposition : (T : Typ) (t u : Term) → IsCertifiedOf Q t T → IsCertifiedOf Q u T → IsProposition Q (eq T t u)
@@ -117,7 +121,7 @@ module _ (Q : Content) (q : IsContent Q) (above : IsBelow pure_content Q) where
   instance-proposition typs terms A r h =
       certified_of Q (term_instance typs terms A) prop (parts-instance Q q typs terms r A h.certified.parts) (typing-instance typs terms r.types [] A prop h.typed)
 
-  concluded-proposition : (d : Tree) (C : Term) → Concludes Q d C → IsProposition Q C
+  pub concluded-proposition : (d : Tree) (C : Term) → Concludes Q d C → IsProposition Q C
   concluded-proposition (Axiom n typs terms) C h =
       let statement = each-at (IsWellFormed Q) (AxiomDecl n h.0) Q.declarations q.well_formed h.1 in
       rw h.3 (instance-proposition typs terms h.0 h.2 statement.proposition)
@@ -162,9 +166,3 @@ derivable_is_proposition Q q above th h = under_pairs-proposition Q above th.pai
 
 pub derivable_alone_is_proposition : (Q : Content) → IsContent Q → IsBelow pure_content Q → (A : Term) → IsDerivableAlone Q A → IsProposition Q A
 derivable_alone_is_proposition Q q above A h = derivable_is_proposition Q q above (record { hyps = []; pairs = []; prop = A; rests = [] }) h
-
-pub no_proposition_example : NoPropositionExample
-no_proposition_example = (empty, (any_typ, certified_of (content_of []) (Var 0 0 any_typ) any_typ (λ k h. omega arith, tt) refl, refl), λ h. h.certified.parts.0.0.0.0)
-  where
-    empty : IsContent (content_of [])
-    empty = record { named_once = λ d e m. absurd m; labelled_once = λ d e m. absurd m; well_formed = tt; coregular = λ a b m. absurd m }

@@ -13,9 +13,9 @@ use Rattle.pure_logic.specs.Content.{Content, IsContent, IsBelow, IsWellFormed}
 use Rattle.pure_logic.specs.Tree.{Tree, Axiom, Promise, Assume, AllIntro, AllElim, ImpliesIntro, ImpliesElim, Beta, Refl, Subst, Ext, Iff, without, hyps_of, rests_of}
 use Rattle.pure_logic.specs.Concludes.{AreRespecting, Concludes}
 use Rattle.pure_logic.specs.Derivable.{Theorem, IsDerivable}
-use Rattle.pure_logic.proofs.ChainLaws.{each-at}
 use Rattle.pure_logic.proofs.AboveLaws.{respecting-above, typ-above, parts-above, certified_of-above}
 use Rattle.pure_logic.proofs.KnownLaws.{chosen-has, decided_sort, decided_typ, known-certified, restricted_typs, restricted_terms, typ_instance-restricted, term_instance-restricted}
+use Rattle.pure_logic.proofs.EachLaws.{each-at}
 
 typs_count-instance : (typs : Typ → Typ) (ts : Typs) → typs_count (typs_instance typs ts) ≡ typs_count ts
 typs_count-instance typs none = refl

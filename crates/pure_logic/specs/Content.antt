@@ -1,6 +1,6 @@
 -- Contents of theories (Isabelle/Isar Implementation manual, sections 2.1 to 2.3): what is declared, and nothing of how.
-use Rattle.std.specs.Prelude.{◌≡◌, ◌↔◌, ◌⊎◌, ℕ, List, [], ◌∷◌, ◌++◌, Option, Some}
-use Rattle.pure_text.specs.Lists.{IsIn, Each, AnyOf}
+use Rattle.std.specs.Prelude.{◌≡◌, ℕ, List, [], ◌∷◌, Option}
+use Rattle.pure_text.specs.Lists.{IsIn, Each}
 use Rattle.pure_definitions.specs.Typ.{Typ, TFree, TVar, Con, Typs, none, also, prop}
 use Rattle.pure_definitions.specs.Term.{Term, Const, Free, Var, Bound, Abs, App}
 use Rattle.pure_definitions.specs.Typing.{HasType}
@@ -89,27 +89,6 @@ pub record IsContent (Q : Content) : Type 0 where
 -- Q is below R: each declaration of Q, with all its data, is one of R.
 abbrev pub IsBelow : Content → Content → Type 0
 IsBelow Q R = (d : Decl) → IsIn d Q.declarations → IsIn d R.declarations
-
--- A list is added to another without repeats: of its declarations, in order, each that isn't there yet is put at the end.
-abbrev pub IsAdded : (before added after : List Decl) → Type 0
-IsAdded before [] after = after ≡ before
-IsAdded before (d ∷ ds) after = (IsIn d before × IsAdded before ds after) ⊎ ((¬ IsIn d before) × IsAdded (before ++ d ∷ []) ds after)
-
--- The parents' lists are added one after the other, in order, and the list after each of them is coregular.
-abbrev pub IsMergeAfter : (before : List Decl) → (parents : List Content) → (merged : List Decl) → Type 0
-IsMergeAfter before [] merged = merged ≡ before
-IsMergeAfter before (Q ∷ Qs) merged = (after : List Decl) × IsAdded before Q.declarations after × IsCoregular (algebra_of after) × IsMergeAfter after Qs merged
-
--- The list is the merge of the parents: with it a theory begins.
-abbrev pub IsMerge : (parents : List Content) → (merged : List Decl) → Type 0
-IsMerge parents merged = IsMergeAfter [] parents merged
-
--- The content with which a theory begins, over the contents of its parents, of which there is one at least: their merge. Its ancestors are the parents' theories and the parents' ancestors.
-pub record IsBeginning (theory : TheoryId) (parents : List Content) (Q : Content) : Type 0 where
-  pub some_parent : ¬ (parents ≡ [])
-  pub merge : IsMerge parents Q.declarations
-  pub own : Q.own ≡ Some theory
-  pub ancestors : (t : TheoryId) → IsIn t Q.ancestors ↔ AnyOf (λ P. (P.own ≡ Some t) ⊎ IsIn t P.ancestors) parents
 
 -- the schematic type variable, with the index 0, in place of a fixed one
 abbrev pub schematic_typ_variable : Typ → Typ

@@ -1,13 +1,10 @@
 pub mod Connectives
 pub mod Content
+pub mod Beginning
 pub mod PureContent
 pub mod Tree
 pub mod Concludes
 pub mod Derivable
-pub mod ExampleContent
-pub mod LawsDerivable
-pub mod LawsTree
-pub mod LawsConclusion
-pub mod LawsContent
-pub mod LawsNodes
-pub mod LawsParts
+pub mod Proves
+pub mod Laws
+pub mod Examples

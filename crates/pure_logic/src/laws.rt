@@ -1,10 +1,14 @@
-//! What the definitions mean: laws and computed examples, each carried by the contract of a function that does nothing.
-ghost use Rattle.pure_logic.specs.LawsDerivable.{PureIsContent, VariableIsProposition, ChainIsDerivable, VariableChainIsDerivable, PureIsBelowItself, TrivialIsDerivable, WeakenedIsDerivable};
-ghost use Rattle.pure_logic.specs.LawsTree.{OneConclusion, OneUnderPairs, WeakeningOfTrees, WeakeningOfDerivable, IdentityRespects, JoinedMapsRespect, JoinedInstance};
-ghost use Rattle.pure_logic.specs.LawsParts.{PartsOfInstance};
-ghost use Rattle.pure_logic.specs.LawsConclusion.{ConclusionIsProposition, DerivableIsProposition, DerivableAloneIsProposition, NoPropositionExample};
-ghost use Rattle.pure_logic.specs.LawsContent.{MergeHasDeclarations, MergeHasNoRepeats, OneMerge, BeginningIsContent, ParentsAreBelow, BeginningExample, NoMergeExample, NamedTwiceExample, IllFormedExample, SchematicExample, BelowExample, DefinitionExample};
-ghost use Rattle.pure_logic.specs.LawsNodes.{ExampleIsContent, AxiomExample, PromiseExample, RestsExample, NoAxiomExample, NoMapExample, AssumeExample, AllIntroExample, NoAllIntroExample, AllElimExample, NoAllElimExample, ImpliesIntroExample, ImpliesElimExample, BetaExample, ReflExample, SubstExample, SymmetricExample, ExtExample, IffExample, PairsExample, DerivableExample};
+//! What the definitions mean: laws, each carried by the contract of a function that does nothing.
+ghost use Rattle.pure_logic.specs.Laws.Derivable.{DerivableAloneExactly, DerivableExactly, PureIsContent, VariableIsProposition, ChainIsDerivable, VariableChainIsDerivable, PureIsBelowItself, TrivialIsDerivable, WeakenedIsDerivable};
+ghost use Rattle.pure_logic.specs.Laws.Proves.{DerivableIsProves, PairsAreEquations, AssumedIsProved, WeakerIsProved, ImplicationIsProved, ConclusionIsProved, ChainIsProved, EndOfChainIsProved, QuantificationIsProved, InstanceOfBodyIsProved, ProvedIsProposition, CutIsProved};
+ghost use Rattle.pure_logic.specs.Laws.Inferences.{InferredFromOne, InferredFromTwo, ImpliesElimIsDerivable, ImpliesIntroIsDerivable, AllElimIsDerivable, AllIntroIsDerivable};
+ghost use Rattle.pure_logic.specs.Laws.Equality.{ReflexiveEquality, SymmetricEquality, TransitiveEquality, EqualsAreReplaced, EqualApplications, EqualPropositions, EqualIsProved, EqualFunctions, BetaEquality, EtaEquality, EqualAbstractions};
+ghost use Rattle.pure_logic.specs.Laws.Substitution.{SubstitutionOfTrees, InstanceIsProved, InstanceIsDerivable};
+ghost use Rattle.pure_logic.specs.Laws.Promises.{CutOfPromises, SettledIsDerivable};
+ghost use Rattle.pure_logic.specs.Laws.Tree.{OneConclusion, OneUnderPairs, WeakeningOfTrees, WeakeningOfDerivable, IdentityRespects, JoinedMapsRespect, JoinedInstance};
+ghost use Rattle.pure_logic.specs.Laws.Parts.{PartsOfInstance};
+ghost use Rattle.pure_logic.specs.Laws.Conclusion.{ConclusionIsProposition, DerivableIsProposition, DerivableAloneIsProposition};
+ghost use Rattle.pure_logic.specs.Laws.Contents.{MergeHasDeclarations, MergeHasNoRepeats, OneMerge, BeginningIsContent, ParentsAreBelow, OneBeginning, AncestorsAreTheParents, AncestorsHaveNoRepeats, BeginningHasTheoriesApart, TheoriesAreToldApart};
 
 /// Pure's content is a content, and below itself.
 pub fn pure_is_content()
@@ -25,6 +29,74 @@ pub fn chain_is_derivable()
     ensures weakened { WeakenedIsDerivable }
 {}
 
+/// What is derivable, in words of trees: exactly where a tree concludes it from what the theorem allows.
+pub fn derivable_exactly()
+    ensures alone { DerivableAloneExactly }
+    ensures theorem { DerivableExactly }
+{}
+
+/// What is derivable is what is proved, with the equations of pairs among the hypotheses.
+pub fn derivable_is_proved()
+    ensures without_pairs { DerivableIsProves }
+    ensures pairs { PairsAreEquations }
+{}
+
+/// What is proved: hypotheses, implications and chains of them, quantifications, and the cut.
+pub fn proved()
+    ensures assumed { AssumedIsProved }
+    ensures weaker { WeakerIsProved }
+    ensures implication { ImplicationIsProved }
+    ensures conclusion { ConclusionIsProved }
+    ensures chain { ChainIsProved }
+    ensures chain_end { EndOfChainIsProved }
+    ensures quantification { QuantificationIsProved }
+    ensures body { InstanceOfBodyIsProved }
+    ensures proposition { ProvedIsProposition }
+    ensures cut { CutIsProved }
+{}
+
+/// Inferences on theorems keep their pairs: implications and quantifications are introduced and eliminated.
+pub fn inferences()
+    ensures from_one { InferredFromOne }
+    ensures from_two { InferredFromTwo }
+    ensures implies_elim { ImpliesElimIsDerivable }
+    ensures implies_intro { ImpliesIntroIsDerivable }
+    ensures all_elim { AllElimIsDerivable }
+    ensures all_intro { AllIntroIsDerivable }
+{}
+
+/// Equality is an equivalence, and equals may be put for one another.
+pub fn equality_is_congruence()
+    ensures reflexive { ReflexiveEquality }
+    ensures symmetric { SymmetricEquality }
+    ensures transitive { TransitiveEquality }
+    ensures replaced { EqualsAreReplaced }
+    ensures applications { EqualApplications }
+    ensures propositions { EqualPropositions }
+    ensures proved { EqualIsProved }
+{}
+
+/// Functions that are equal at each argument are equal; beta and eta.
+pub fn equality_of_functions()
+    ensures functions { EqualFunctions }
+    ensures beta { BetaEquality }
+    ensures eta { EtaEquality }
+    ensures abstractions { EqualAbstractions }
+{}
+
+/// Each instance by respecting maps of what is concluded, proved or derivable is so too.
+pub fn substitution_is_admissible()
+    ensures trees { SubstitutionOfTrees }
+    ensures proved { InstanceIsProved }
+    ensures derivable { InstanceIsDerivable }
+{}
+
+/// What rests on promises of which each is left open or settled rests on those left open alone.
+pub fn promises_are_cut()
+    ensures cut { CutOfPromises }
+    ensures settled { SettledIsDerivable }
+{}
+
 /// A tree concludes one proposition at most.
 pub fn one_conclusion()
     ensures tree { OneConclusion }
@@ -36,7 +108,6 @@ pub fn conclusion_is_proposition()
     ensures tree { ConclusionIsProposition }
     ensures derivable { DerivableIsProposition }
     ensures alone { DerivableAloneIsProposition }
-    ensures without_pure { NoPropositionExample }
 {}
 
 /// What is concluded or derivable over a content is so over each content above it.
@@ -52,69 +123,26 @@ pub fn respecting_maps()
     ensures instance { JoinedInstance }
 {}
 
-/// A merge has its parents' declarations, each once.
+/// A merge has its parents' declarations, each once, and there is one at most.
 pub fn merge_has_declarations()
     ensures has { MergeHasDeclarations }
     ensures distinct { MergeHasNoRepeats }
     ensures one { OneMerge }
+{}
+
+/// With what a theory begins: one content at most, which has the parents below it.
+pub fn beginning_is_content()
     ensures content { BeginningIsContent }
     ensures below { ParentsAreBelow }
-    ensures example { BeginningExample }
-    ensures none { NoMergeExample }
+    ensures one { OneBeginning }
 {}
 
-/// Declarations that make no content, contents below others, and what a definition declares.
-pub fn content_example()
-    ensures twice { NamedTwiceExample }
-    ensures ill_formed { IllFormedExample }
-    ensures schematic { SchematicExample }
-    ensures below { BelowExample }
-    ensures definition { DefinitionExample }
-{}
-
-/// The content of the examples is one.
-pub fn example_is_content()
-    ensures { ExampleIsContent }
-{}
-
-/// Axioms and promises at an instance, and where they give nothing.
-pub fn axiom_example()
-    ensures axiom { AxiomExample }
-    ensures promise { PromiseExample }
-    ensures rests { RestsExample }
-    ensures unknown { NoAxiomExample }
-    ensures maps { NoMapExample }
-{}
-
-/// Quantification, and where its side conditions fail.
-pub fn all_example()
-    ensures intro { AllIntroExample }
-    ensures no_intro { NoAllIntroExample }
-    ensures elim { AllElimExample }
-    ensures no_elim { NoAllElimExample }
-{}
-
-/// Assumption and implication, and where their side conditions fail.
-pub fn implies_example()
-    ensures assume { AssumeExample }
-    ensures intro { ImpliesIntroExample }
-    ensures elim { ImpliesElimExample }
-{}
-
-/// The axioms of equality, and where their side conditions fail.
-pub fn equality_example()
-    ensures beta { BetaExample }
-    ensures refl { ReflExample }
-    ensures subst { SubstExample }
-    ensures symmetric { SymmetricExample }
-    ensures ext { ExtExample }
-    ensures iff { IffExample }
-{}
-
-/// A theorem with hypotheses, a pair and a promise.
-pub fn derivable_example()
-    ensures pairs { PairsExample }
-    ensures derivable { DerivableExample }
+/// The ancestors of a theory, and how it and they are told apart.
+pub fn ancestors_are_the_parents()
+    ensures parents { AncestorsAreTheParents }
+    ensures distinct { AncestorsHaveNoRepeats }
+    ensures apart { BeginningHasTheoriesApart }
+    ensures own { TheoriesAreToldApart }
 {}
 
 /// A term's parts stay certified under respecting maps.

@@ -1,4 +1,5 @@
 //! The logic: contents, derivation trees, and what is derivable.
 #![tactic(auto)]
 
+pub mod examples;
 pub mod laws;

@@ -1,4 +1,4 @@
-use Rattle.pure_logic.proofs.PropositionLaws.{conclusion_is_proposition as propositions, derivable_is_proposition, derivable_alone_is_proposition, no_proposition_example}
+use Rattle.pure_logic.proofs.PropositionLaws.{conclusion_is_proposition as propositions, derivable_is_proposition, derivable_alone_is_proposition}
 use Rattle.pure_logic.proofs.laws.conclusion_is_proposition.Goals as goal
 
 pub returns-clause-tree : goal.returns-clause-tree
@@ -9,6 +9,3 @@ returns-clause-derivable c = derivable_is_proposition
 
 pub returns-clause-alone : goal.returns-clause-alone
 returns-clause-alone c = derivable_alone_is_proposition
-
-pub returns-clause-without_pure : goal.returns-clause-without_pure
-returns-clause-without_pure c = no_proposition_example

@@ -1,5 +1,4 @@
-use Rattle.pure_logic.proofs.MergeLaws.{merge_has_declarations as has_declarations, merge_has_no_repeats, one_merge, beginning_is_content, parents_are_below}
-use Rattle.pure_logic.proofs.ContentExamples.{beginning_example, no_merge_example}
+use Rattle.pure_logic.proofs.MergeLaws.{merge_has_declarations as has_declarations, merge_has_no_repeats, one_merge}
 use Rattle.pure_logic.proofs.laws.merge_has_declarations.Goals as goal
 
 pub returns-clause-has : goal.returns-clause-has
@@ -10,15 +9,3 @@ returns-clause-distinct c = merge_has_no_repeats
 
 pub returns-clause-one : goal.returns-clause-one
 returns-clause-one c = one_merge
-
-pub returns-clause-example : goal.returns-clause-example
-returns-clause-example c = beginning_example
-
-pub returns-clause-none : goal.returns-clause-none
-returns-clause-none c = no_merge_example
-
-pub returns-clause-content : goal.returns-clause-content
-returns-clause-content c = beginning_is_content
-
-pub returns-clause-below : goal.returns-clause-below
-returns-clause-below c = parents_are_below

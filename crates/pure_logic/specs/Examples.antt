@@ -1,0 +1,5 @@
+-- What the definitions mean, by example.
+pub mod Theory
+pub mod Contents
+pub mod Nodes
+pub mod Underivable

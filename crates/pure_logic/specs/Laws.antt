@@ -1,0 +1,11 @@
+-- What the definitions mean: the statements of the laws.
+pub mod Contents
+pub mod Derivable
+pub mod Proves
+pub mod Inferences
+pub mod Equality
+pub mod Substitution
+pub mod Promises
+pub mod Tree
+pub mod Conclusion
+pub mod Parts
