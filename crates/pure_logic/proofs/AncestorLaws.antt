@@ -9,6 +9,7 @@ use Rattle.std.proofs.lemmas.Bool.{eq-eqb, eqb-true}
 use Rattle.pure_text.specs.Lists.{IsIn, AnyOf, AreDistinct}
 use Rattle.pure_text.proofs.ListLaws.{in-append_left, in-append_right}
 use Rattle.pure_logic.specs.Content.{TheoryId, Content}
+use Rattle.pure_logic.specs.PureContent.{pure_content}
 use Rattle.pure_logic.specs.Beginning.{theory_eq, without_theory, each_once, theories_of, ancestors_of, IsBeginning, AreToldApart, IsNewOver, HasTheoriesApart}
 use Rattle.pure_logic.proofs.MergeLaws.{one_merge}
 use Rattle.pure_logic.proofs.EachLaws.{each-at, in-append}
@@ -142,3 +143,6 @@ theories_are_told_apart Q h = record {
     indexed t u (inl own) (inr m) e = absurd (new-indexed t u Q.ancestors (h.own t own) m (sym e))
     indexed t u (inr m) (inl own) e = absurd (new-indexed u t Q.ancestors (h.own u own) m e)
     indexed t u (inr m) (inr n) e = h.ancestors.by_index t u m n e
+
+pub pure_has_theories_apart : HasTheoriesApart pure_content
+pure_has_theories_apart = record { ancestors = record { by_name = λ t u m. absurd m; by_index = λ t u m. absurd m }; own = λ theory e. absurd (cc) }

@@ -12,7 +12,7 @@ use Rattle.pure_logic.specs.Content.{TheoryId, IsContent, IsWellFormed, AreNamed
 use Rattle.pure_logic.specs.Beginning.{IsMerge, HasTheoriesApart}
 use Rattle.pure_logic.specs.PureContent.{pure_declarations, proposition_variable}
 use Rattle.pure_logic.specs.Examples.Theory.{promised, example}
-use Rattle.pure_logic.specs.Examples.Contents.{content_of, theory, beginning, BeginningExample, AncestorsExample, NotApartExample, classes, with_arity, NoMergeExample, fork_declarations, with_square, MiddleMergeExample, NamedTwiceExample, IllFormedExample, SchematicExample, BelowExample}
+use Rattle.pure_logic.specs.Examples.Contents.{content_of, theory, beginning, BeginningExample, NotApartExample, classes, with_arity, NoMergeExample, fork_declarations, with_square, MiddleMergeExample, NamedTwiceExample, IllFormedExample, SchematicExample, BelowExample}
 use Rattle.pure_text.proofs.ListLaws.{in-append_left, in-append_right}
 use Rattle.pure_logic.proofs.ContentLaws.{named_alike, both_promises, named_alike-so, both_promises-so, apart-once}
 use Rattle.pure_logic.proofs.CoregularLaws.{lone_arity, coregular-same}
@@ -64,9 +64,6 @@ beginning_example = (
   where
     apart : ¬ IsIn (ConDecl 11 0) (ConDecl 10 0 ∷ [])
     apart m = none_passes (is_con 11) (ConDecl 11 0) (ConDecl 10 0 ∷ []) refl refl m
-
-pub ancestors_example : AncestorsExample
-ancestors_example = (refl, refl)
 
 pub not_apart_example : NotApartExample
 not_apart_example = (

@@ -1,6 +1,7 @@
 -- Equality on what is proved.
-use Rattle.std.proofs.Common.{◌≡◌, ℕ, List, [], ◌∷◌, refl, ap, sym, ◌∙◌}
-use Rattle.pure_definitions.specs.Names.{Label}
+use Rattle.std.proofs.Common.{◌≡◌, ◌↔◌, inl, inr, ℕ, List, [], ◌∷◌, refl, ap, sym, ◌∙◌}
+use Rattle.pure_definitions.specs.Names.{Label, protect_name}
+use Rattle.pure_definitions.specs.Decl.{AxiomDecl}
 use Rattle.pure_definitions.specs.Typ.{Typ, arrow, prop}
 use Rattle.pure_definitions.specs.Term.{Term, Free, Bound, Abs, App}
 use Rattle.pure_definitions.specs.Typing.{HasType}
@@ -10,13 +11,14 @@ use Rattle.pure_definitions.proofs.LiftLaws.{subst-lift}
 use Rattle.pure_term_laws.proofs.BoundLaws.{lift-zero}
 use Rattle.pure_term_laws.proofs.TypingLaws.{typed-closed, lift-closed}
 use Rattle.pure_term_laws.proofs.TypingBoundLaws.{typing-weaken}
-use Rattle.pure_logic.specs.Connectives.{eq_typ, all, imp, eq}
+use Rattle.pure_logic.specs.Connectives.{eq_typ, all, imp, eq, protect}
 use Rattle.pure_logic.specs.Content.{Content, IsContent, IsBelow, IsCertifiedOf, IsProposition}
-use Rattle.pure_logic.specs.PureContent.{pure_content}
-use Rattle.pure_logic.specs.Tree.{Beta, Refl, Subst, Ext, Iff}
+use Rattle.pure_logic.specs.PureContent.{pure_content, proposition_variable, protect_axiom}
+use Rattle.pure_logic.specs.Tree.{Axiom, Beta, Refl, Subst, Ext, Iff}
 use Rattle.pure_logic.specs.Concludes.{extensionality}
 use Rattle.pure_logic.specs.Proves.{Proves}
 use Rattle.pure_logic.proofs.ConnectiveLaws.{certified_of, eq-parts, prop-certified}
+use Rattle.pure_logic.proofs.MapLaws.{identity_respects, sent, sent-respects}
 use Rattle.pure_logic.proofs.PropositionLaws.{typ-of_certified}
 use Rattle.pure_logic.proofs.ProvesLaws.{conclusion_is_proved, proved_is_proposition, quantification_is_proved}
 
@@ -174,3 +176,18 @@ module _ (Q : Content) (q : IsContent Q) (above : IsBelow pure_content Q) (hyps 
           along (eq U (App (Abs T (App f (Bound 0))) (Free n T)) (subst_bound (App f (Bound 0)) (Free n T))) (eq U (App (Abs T (App f (Bound 0))) (Free n T)) (App f (Free n T)))
           (λ l. eq U (App (Abs T (App f (Bound 0))) (Free n T)) (App (still 0 (Free n T) f (arrow T U) h.typed l) (Free n T)))
           (beta_equality T U (App f (Bound 0)) (Free n T) (applied-certified T U (Abs T (App f (Bound 0))) (Free n T) abstraction (variable-certified T U f n h)))
+
+  -- the axiom of Pure at A
+  mark_axiom : (A : Term) → IsProposition Q A → Proves Q hyps rests (eq prop (protect A) A)
+  mark_axiom A h = record {
+    tree = Axiom protect_name (λ T. T) (sent (proposition_variable 0) A (λ t. t));
+    concludes = (protect_axiom, above (AxiomDecl protect_name protect_axiom) (inr (inr (inr (inr (inr (inr (inl refl))))))), sent-respects Q (λ T. T) (λ t. t) (proposition_variable 0) A (identity_respects Q) h, refl);
+    from = tt;
+    rest_on = tt;
+  }
+
+  pub mark_means_nothing : (A : Term) → IsProposition Q A → Proves Q hyps rests (protect A) ↔ Proves Q hyps rests A
+  mark_means_nothing A h = (
+    λ p. equal_is_proved (protect A) A (mark_axiom A h) p,
+    λ p. equal_is_proved A (protect A) (symmetric_equality prop (protect A) A (mark_axiom A h)) p,
+  )

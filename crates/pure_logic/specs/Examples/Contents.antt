@@ -31,7 +31,7 @@ beginning = record { declarations = ConDecl 10 0 ∷ ConDecl 11 0 ∷ []; own = 
 abbrev pub BeginningExample : Type 0
 BeginningExample = IsBeginning (theory 63 3) (first_parent ∷ second_parent ∷ []) beginning × HasTheoriesApart beginning
 
--- Its ancestors stand so in whichever order the parents come, since the second parent has the first for an ancestor; of a parent that is named twice the first place counts.
+-- Its ancestors stand so in whichever order the parents come, since the second parent has the first for an ancestor. Where a theory is named twice its first place counts.
 abbrev pub AncestorsExample : Type 0
 AncestorsExample = (ancestors_of (second_parent ∷ first_parent ∷ []) ≡ theory 61 1 ∷ theory 62 2 ∷ [])
     × (ancestors_of (first_parent ∷ beginning ∷ second_parent ∷ []) ≡ theory 61 1 ∷ theory 62 2 ∷ theory 63 3 ∷ [])

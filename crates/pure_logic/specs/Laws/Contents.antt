@@ -3,6 +3,7 @@ use Rattle.std.specs.Prelude.{◌≡◌, ◌↔◌, ◌⊎◌, List, Some}
 use Rattle.pure_text.specs.Lists.{IsIn, Each, AnyOf, AreDistinct}
 use Rattle.pure_definitions.specs.Decl.{Decl}
 use Rattle.pure_logic.specs.Content.{TheoryId, Content, AreNamedAlike, AreLabelledAlike, IsContent, IsBelow}
+use Rattle.pure_logic.specs.PureContent.{pure_content}
 use Rattle.pure_logic.specs.Beginning.{IsMerge, theories_of, ancestors_of, IsBeginning, AreToldApart, IsNewOver, HasTheoriesApart}
 
 -- A merge has exactly the declarations of the parents, each once, and there is one merge at most.
@@ -44,3 +45,7 @@ BeginningHasTheoriesApart = (id : TheoryId) (parents : List Content) (Q : Conten
 
 abbrev pub TheoriesAreToldApart : Type 0
 TheoriesAreToldApart = (Q : Content) → HasTheoriesApart Q → AreToldApart (theories_of Q)
+
+-- Pure's content, with which all theories begin, has its theories apart: it has none.
+abbrev pub PureHasTheoriesApart : Type 0
+PureHasTheoriesApart = HasTheoriesApart pure_content

@@ -1,10 +1,10 @@
 -- Laws of equality, on what is proved: that it is an equivalence, that equals may be put for one another, and extensionality.
-use Rattle.std.specs.Prelude.{ℕ, List}
+use Rattle.std.specs.Prelude.{◌↔◌, ℕ, List}
 use Rattle.pure_definitions.specs.Names.{Label}
 use Rattle.pure_definitions.specs.Typ.{Typ, arrow, prop}
 use Rattle.pure_definitions.specs.Term.{Term, Free, Bound, Abs, App}
 use Rattle.pure_definitions.specs.Bounds.{subst_bound}
-use Rattle.pure_logic.specs.Connectives.{all, imp, eq}
+use Rattle.pure_logic.specs.Connectives.{all, imp, eq, protect}
 use Rattle.pure_logic.specs.Content.{Content, IsContent, IsBelow, IsCertifiedOf, IsProposition}
 use Rattle.pure_logic.specs.PureContent.{pure_content}
 use Rattle.pure_logic.specs.Proves.{Proves}
@@ -54,3 +54,7 @@ EtaEquality = Everywhere (λ Q Proved. (T U : Typ) (f : Term) → IsCertifiedOf 
 abbrev pub EqualAbstractions : Type 0
 EqualAbstractions = Everywhere (λ Q Proved. (T U : Typ) (b c : Term) → IsCertifiedOf Q (Abs T b) (arrow T U) → IsCertifiedOf Q (Abs T c) (arrow T U)
     → ((n : ℕ) → Proved (eq U (subst_bound b (Free n T)) (subst_bound c (Free n T)))) → Proved (eq (arrow T U) (Abs T b) (Abs T c)))
+
+-- The mark of a goal means nothing: `# A` is proved exactly where A is.
+abbrev pub MarkMeansNothing : Type 0
+MarkMeansNothing = Everywhere (λ Q Proved. (A : Term) → IsProposition Q A → Proved (protect A) ↔ Proved A)

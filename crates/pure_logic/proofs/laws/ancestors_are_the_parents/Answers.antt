@@ -1,4 +1,4 @@
-use Rattle.pure_logic.proofs.AncestorLaws.{ancestors_are_the_parents as parents, ancestors_have_no_repeats, beginning_has_theories_apart, theories_are_told_apart}
+use Rattle.pure_logic.proofs.AncestorLaws.{ancestors_are_the_parents as parents, ancestors_have_no_repeats, beginning_has_theories_apart, theories_are_told_apart, pure_has_theories_apart}
 use Rattle.pure_logic.proofs.laws.ancestors_are_the_parents.Goals as goal
 
 pub returns-clause-parents : goal.returns-clause-parents
@@ -12,3 +12,6 @@ returns-clause-apart c = beginning_has_theories_apart
 
 pub returns-clause-own : goal.returns-clause-own
 returns-clause-own c = theories_are_told_apart
+
+pub returns-clause-pure : goal.returns-clause-pure
+returns-clause-pure c = pure_has_theories_apart

@@ -1,4 +1,4 @@
-use Rattle.pure_logic.proofs.EqualityLaws.{reflexive_equality, symmetric_equality, transitive_equality, equals_are_replaced, equal_applications, equal_propositions, equal_is_proved}
+use Rattle.pure_logic.proofs.EqualityLaws.{reflexive_equality, symmetric_equality, transitive_equality, equals_are_replaced, equal_applications, equal_propositions, equal_is_proved, mark_means_nothing}
 use Rattle.pure_logic.proofs.laws.equality_is_congruence.Goals as goal
 
 pub returns-clause-reflexive : goal.returns-clause-reflexive
@@ -21,3 +21,6 @@ returns-clause-propositions c = equal_propositions
 
 pub returns-clause-proved : goal.returns-clause-proved
 returns-clause-proved c = equal_is_proved
+
+pub returns-clause-mark : goal.returns-clause-mark
+returns-clause-mark c = mark_means_nothing
