@@ -107,10 +107,9 @@ fn names_of_opened<R: Files + Drop, I: Iterator<Item = io::Result<DirEntry<R, Gl
     requires ends { IfOk opened (λ entries. IsFinite (I.remaining entries)) }
     ensures unopened { IfErr opened (λ error. result ≡ Err (list_fault_of (error_kind error))) }
     ensures all { IfOk opened (λ entries. IfOk result (λ names.
-        ListsWithin ⟦<NamedEntries<I> as Iterator>⟧.next_gives (record { entries = entries; alloc = alloc }) MAX_ENTRIES names.items)) }
+        ListsWithin (names_steps I.next_gives) entries MAX_ENTRIES names.items)) }
     ensures failed { IfOk opened (λ entries.
-        result ≡ Err LibFault.Failed
-        → ListsPast ⟦<NamedEntries<I> as Iterator>⟧.next_gives (record { entries = entries; alloc = alloc }) MAX_ENTRIES) }
+        result ≡ Err LibFault.Failed → ListsPast (names_steps I.next_gives) entries MAX_ENTRIES) }
 {
     let entries = match opened {
         Ok(entries) => entries,
@@ -127,8 +126,7 @@ struct NamedEntries<I> {
 }
 
 impl<R: Files + Drop, I: Iterator<Item = io::Result<DirEntry<R, Global>>>> Iterator
-    for NamedEntries<I>
-{
+    for NamedEntries<I> {
     type Item = Result<Option<Text>, LibFault>;
 
     ghost can_next = { λ s. I.can_next s.entries };

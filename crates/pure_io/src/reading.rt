@@ -55,11 +55,7 @@ fn read_opened<F: Read + Drop>(
 }
 
 /// The first `limit + 1` bytes of the file, or all of them where it has fewer. Reads no others.
-fn read_start<F: Read>(
-    alloc: Global,
-    file: &mut F,
-    limit: u32,
-) -> Result<Text, ReadFault>
+fn read_start<F: Read>(alloc: Global, file: &mut F, limit: u32) -> Result<Text, ReadFault>
     ensures text { IfOk result (λ t. Consumes (F.remaining file.old) (F.remaining file.new) t) }
     ensures short { IfOk result (λ t. length t ≤ limit + 1) }
     ensures whole { IfOk result (λ t. length t < limit + 1 → IsAtEnd (F.remaining file.new)) }
