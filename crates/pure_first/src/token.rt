@@ -48,7 +48,9 @@ pub(crate) fn is_word(bytes: &[u8]) -> bool
 {
     match bytes.split_first() {
         None => false,
-        Some((first, rest)) => { is_letter(*first) && are_word_bytes(rest) && rest.len() < MOST_WORD_BYTES }
+        Some((first, rest)) => {
+            is_letter(*first) && are_word_bytes(rest) && rest.len() < MOST_WORD_BYTES
+        }
     }
 }
 
