@@ -1,79 +1,77 @@
 //! The program: the theories of the current directory are checked, and the table goes to standard output.
 #![tactic(auto)]
 
-ghost use Rattle.std.specs.Prelude.{◌≡◌, option_copied};
+ghost use Rattle.std.specs.Prelude.{◌≡◌, ◌≢◌, ◌≤◌, true, false, IfOk, IfErr, option_copied};
+ghost use Rattle.std.specs.IoError.{error_kind};
+ghost use Rattle.std.specs.Process.{exit_status};
+ghost use Rattle.pure_io.specs.Outside.{Rose};
+ghost use Rattle.pure_check.specs.Answer.{takes_words, IsTableOf, Wrote, IsComplete, OnSilent, exit_number};
 ghost use Rattle.pure_app.specs.Message.{message_text};
+ghost use Rattle.pure_app.specs.Words.{words_given, unread_status, UsageIsRight};
 
 use pure_check::{Status, pure};
-use pure_io::{DirLibrary, OpenGate, StdSink};
+use pure_io::{DirLibrary, Library, OpenGate, Sink, StdSink};
 use pure_text::Text;
 use std::alloc::{AllocError, Global};
-use std::env::{Args, Env};
+use std::env::Args;
+use std::io::Eprint;
 use std::process::ExitCode;
 use std::rt::Files;
 use std::sync::Wait;
 use std::thread::Threads;
 use std::{env, io};
 
-/// Why the words weren't read.
-#[derive(Clone, Copy, Debug, PartialEq, Eq)]
-enum WordsFault {
-    Usage,
-    Memory,
-}
-
-impl From<AllocError> for WordsFault {
-    fn from(_error: AllocError) -> WordsFault {
-        WordsFault::Memory
-    }
-}
-
-/// The system's error on reading the words: want of memory, or a word that isn't UTF-8.
-fn words_fault(error: &io::Error) -> WordsFault {
+/// The status where the system didn't give the words: want of memory, or a word that isn't UTF-8.
+fn unread(error: &io::Error) -> Status
+    ensures { result ≡ unread_status (error_kind error.now) }
+{
     match error.kind() {
-        io::ErrorKind::OutOfMemory => WordsFault::Memory,
-        _ => WordsFault::Usage,
+        io::ErrorKind::OutOfMemory => Status::Memory,
+        _ => Status::Usage,
     }
 }
 
-/// The words after the program's name.
-fn words_of(alloc: Global, args: Args) -> Result<Vec<Text>, WordsFault> {
+/// The words behind the program's name, all of them and in their order.
+fn words_of(alloc: Global, args: Args) -> Result<Vec<Text>, AllocError>
+    ensures { IfOk result (λ words. words.items ≡ words_given args) }
+{
     let mut words = Vec::new(alloc);
-    for arg in args.skip(1) {
-        words
-            .push(Text::make(alloc, arg.as_bytes())?)
-            .map_err(AllocError::from)?;
+    let mut rest = args;
+    let _program = rest.next();
+    for arg in rest {
+        words.push(Text::make(alloc, arg.as_bytes())?)?;
     }
     Ok(words)
 }
 
-fn run<R: Files + Print + AllocGlobal + Env + Threads + Wait + Sync>(rt: &R) -> Status {
-    let args = match env::args(rt) {
+/// What the program does with the arguments that the system gave, a library and a sink: `pure` on all words
+/// behind the program's name. Beside what `pure` says, the status is `Memory` where these words found no
+/// memory, and where the system gave no arguments it is `unread_status`, with nothing looked at or written.
+fn run<R: Files + Print + AllocGlobal + Threads + Wait + Sync, L: Library, S: Sink>(
+    rt: &R,
+    args: io::Result<Args>,
+    library: &mut L,
+    out: &mut S,
+) -> Status
+    ensures unread { IfErr args (λ error. result ≡ unread_status (error_kind error)) }
+    ensures usage { IfOk args (λ given. UsageIsRight result (takes_words (words_given given))) }
+    ensures unlooked { result ≡ Status.Usage → library.new ≡ library.old }
+    ensures unwritten { OnSilent result (out.new ≡ out.old) }
+    ensures wrote { Wrote result (IsTableOf (L.files library.old)) (S.written out.old) (S.written out.new) }
+    ensures read_fault { result ≡ Status.ReadFault → Rose (L.faults library.old) (L.faults library.new) }
+    ensures write_fault { result ≡ Status.WriteFault → Rose (S.faults out.old) (S.faults out.new) }
+    ensures complete { IfOk args (λ given. takes_words (words_given given) ≡ true
+        → ¬ Rose (L.faults library.old) (L.faults library.new) → ¬ Rose (S.faults out.old) (S.faults out.new)
+        → IsComplete result) }
+{
+    let args = match args {
         Ok(args) => args,
-        Err(error) => return status_of(words_fault(&error)),
+        Err(error) => return unread(&error),
     };
-    let words = match words_of(rt.alloc(), args) {
-        Ok(words) => words,
-        Err(fault) => return status_of(fault),
+    let Ok(words) = words_of(rt.alloc(), args) else {
+        return Status::Memory;
     };
-    let mut library = DirLibrary::make();
-    let mut out = StdSink::make();
-    let ended = pure(
-        rt,
-        rt.alloc(),
-        &words,
-        &mut library,
-        &mut out,
-        &OpenGate::make(),
-    );
-    ended.status
-}
-
-fn status_of(fault: WordsFault) -> Status {
-    match fault {
-        WordsFault::Usage => Status::Usage,
-        WordsFault::Memory => Status::Memory,
-    }
+    pure(rt, rt.alloc(), &words, library, out, &OpenGate::make()).status
 }
 
 /// The line on standard error, for the statuses that have one.
@@ -89,11 +87,20 @@ fn message(status: Status) -> Option<&'static str>
     }
 }
 
-fn main(rt: HostRuntime) -> ExitCode {
-    let status = run(&rt);
+/// Writes the status's line to standard error, and hands out its number as the exit status. Where standard
+/// error can't be written to, that number still tells.
+fn report<R: Eprint>(rt: &R, status: Status) -> ExitCode
+    ensures { exit_status result ≡ exit_number status }
+{
     if let Some(line) = message(status) {
-        // Where standard error can't be written to, the status still tells.
         let _ = eprintln!(rt; "{line}");
     }
     ExitCode::from(status.number())
+}
+
+fn main(rt: HostRuntime) -> ExitCode {
+    let mut library = DirLibrary::make();
+    let mut out = StdSink::make();
+    let status = run(&rt, env::args(&rt), &mut library, &mut out);
+    report(&rt, status)
 }

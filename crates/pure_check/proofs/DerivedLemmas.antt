@@ -1,5 +1,5 @@
 -- Each row that is proved is a theorem.
-use Rattle.std.proofs.Common.{◌≡◌, ◌⊎◌, inl, inr, ℕ, Bool, true, false, ◌||◌, List, [], ◌∷◌, map, refl, sym, ◌∙◌, ap, subst, Option, Some, None, cond, rules}
+use Rattle.std.proofs.Common.{◌≡◌, inl, inr, ℕ, Bool, true, false, ◌||◌, List, [], ◌∷◌, map, refl, sym, ap, Option, Some, None, cond, rules}
 use Rattle.std.specs.List.{list_any, AllByRecursion}
 use Rattle.std.specs.Cmp.Lexicographic.{same_text}
 use Rattle.pure_text.specs.Lists.{IsIn, Each}
@@ -8,10 +8,10 @@ use Rattle.pure_logic.specs.Content.{IsProposition}
 use Rattle.pure_logic.specs.PureContent.{pure_content, proposition_variable}
 use Rattle.pure_logic.proofs.ChainLaws.{chain_is_derivable}
 use Rattle.pure_first.specs.Token.{same}
-use Rattle.pure_first.specs.Theory.{Lemma, IsFirstForm, is_by_assumption}
+use Rattle.pure_first.specs.Theory.{Lemma, is_by_assumption}
 use Rattle.pure_check.specs.Row.{Row, RefusedTheory, ProvedLemma, FailedLemma, lemma_row}
 use Rattle.pure_check.specs.Table.{FileRows, RowsOf, form_text}
-use Rattle.pure_check.specs.Derived.{statement, IsDerived}
+use Rattle.pure_check.specs.Derived.{IsDerived}
 
 among_or : (c p : List ℕ) (number : List ℕ → ℕ) (others : List Term) (b rest : Bool) → b ≡ same c p → (b || rest) ≡ true → (rest ≡ true → IsIn (proposition_variable (number c)) others)
     → IsIn (proposition_variable (number c)) (proposition_variable (number p) ∷ others)

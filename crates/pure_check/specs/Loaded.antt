@@ -1,5 +1,6 @@
 -- What was read of a library: its theories and, where there is one alone, the first bytes of its file.
-use Rattle.std.specs.Prelude.{◌≡◌, ℕ, List, [], ◌∷◌, take, map, Option, Some, None, Result, Ok, Err}
+use Rattle.std.specs.Prelude.{◌≡◌, ℕ, ◌+◌, List, [], ◌∷◌, take, map, Option, Some, None, Result, Ok, Err}
+use Rattle.pure_first.specs.Limits.{most_bytes}
 use Rattle.pure_io.specs.declared.library.File.{File}
 use Rattle.pure_io.specs.Outside.{text_named}
 use Rattle.pure_io.specs.declared.library.ReadFault.{ReadFault}
@@ -12,7 +13,7 @@ use Rattle.pure_check.specs.Table.{AreTheories, RowsOf, file_name}
 -- one byte more than a theory may have, or all bytes of a shorter file; or there is no such file
 abbrev pub IsRead : Option (List ℕ) → Option (List ℕ) → Type 0
 IsRead told None = told ≡ None
-IsRead told (Some text) = (bytes : List ℕ) × (told ≡ Some bytes) × (text ≡ take 262145 bytes)
+IsRead told (Some text) = (bytes : List ℕ) × (told ≡ Some bytes) × (text ≡ take (most_bytes + 1) bytes)
 
 -- what was read of the one theory that is alone
 abbrev pub IsSource : List File → List (List ℕ) → Option (List ℕ) → Type 0

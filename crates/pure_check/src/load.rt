@@ -38,6 +38,7 @@ pub(crate) struct Loaded {
 /// The most bytes that a theory may have; one more is read, to see that a file has more.
 const MOST_BYTES: u32 = 262_144;
 
+/// The name of a theory's file.
 fn file_of(alloc: Global, theory: &Text) -> Result<Text, AllocError>
     ensures { IfOk result (λ file. file ≡ file_name theory.now) }
 {
@@ -46,6 +47,7 @@ fn file_of(alloc: Global, theory: &Text) -> Result<Text, AllocError>
     Ok(Text::from(name))
 }
 
+/// The names of the library's files.
 fn list<R: Files + Print + AllocGlobal, L: Library>(
     rt: &R,
     alloc: Global,
@@ -75,6 +77,7 @@ fn source_of(answer: Result<Text, ReadFault>) -> Result<Option<Text>, LoadFault>
     }
 }
 
+/// The text of a theory's file, or none where the library doesn't have it.
 fn read_source<R: Files + Print + AllocGlobal, L: Library>(
     rt: &R,
     alloc: Global,

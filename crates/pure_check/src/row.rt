@@ -37,36 +37,42 @@ pub(crate) fn lemma_row<'t>(theory: &'t [u8], lemma: Lemma<'t>) -> Row<'t>
     }
 }
 
+/// Whether a row is a theory's refusal.
 fn is_refused(row: &Row<'_>) -> bool
     ensures { result ≡ spec.is_refused (seen_row row.now) }
 {
     matches!(row, Row::Refused { .. })
 }
 
+/// Whether a row is a proved lemma.
 fn is_proved(row: &Row<'_>) -> bool
     ensures { result ≡ spec.is_proved (seen_row row.now) }
 {
     matches!(row, Row::Proved { .. })
 }
 
+/// Whether a row is a failed lemma.
 fn is_failed(row: &Row<'_>) -> bool
     ensures { result ≡ spec.is_failed (seen_row row.now) }
 {
     matches!(row, Row::Failed { .. })
 }
 
+/// How many rows are refusals.
 fn refused_count(rows: &[Row<'_>]) -> usize
     ensures { result ≡ count_by (λ r. spec.is_refused (seen_row r)) rows.now }
 {
     rows.iter().filter(|row| is_refused(row)).count()
 }
 
+/// How many rows are proved lemmas.
 fn proved_count(rows: &[Row<'_>]) -> usize
     ensures { result ≡ count_by (λ r. spec.is_proved (seen_row r)) rows.now }
 {
     rows.iter().filter(|row| is_proved(row)).count()
 }
 
+/// How many rows are failed lemmas.
 fn failed_count(rows: &[Row<'_>]) -> usize
     ensures { result ≡ count_by (λ r. spec.is_failed (seen_row r)) rows.now }
 {
@@ -80,6 +86,7 @@ pub(crate) fn are_proved(rows: &[Row<'_>]) -> bool
     rows.iter().all(|row| is_proved(row))
 }
 
+/// Writes a variable as a schematic one.
 fn push_variable(text: &mut Vec<u8>, variable: &[u8]) -> Result<(), AllocError>
     ensures { OnOk result (text.new.items ≡ text.old.items ++ spec.variable_text variable.now) }
 {
@@ -88,6 +95,7 @@ fn push_variable(text: &mut Vec<u8>, variable: &[u8]) -> Result<(), AllocError>
     Ok(())
 }
 
+/// Writes a lemma's statement, each variable schematic.
 fn push_statement(
     text: &mut Vec<u8>,
     premises: &[&[u8]],
@@ -103,6 +111,7 @@ fn push_statement(
     Ok(())
 }
 
+/// Writes a lemma's full name.
 fn push_name(text: &mut Vec<u8>, theory: &[u8], lemma: &Lemma<'_>) -> Result<(), AllocError>
     ensures { OnOk result (text.new.items ≡ text.old.items ++ spec.full_name theory.now (seen lemma.now)) }
 {
@@ -112,6 +121,7 @@ fn push_name(text: &mut Vec<u8>, theory: &[u8], lemma: &Lemma<'_>) -> Result<(),
     Ok(())
 }
 
+/// Writes why a theory is refused.
 #[tactic(auto, unfolding(crate::specs::Table::form_text, crate::specs::Table::no_file_text))]
 fn push_reason(text: &mut Vec<u8>, theory: &[u8], reason: Reason) -> Result<(), AllocError>
     ensures { OnOk result (text.new.items ≡ text.old.items ++ reason_text theory.now reason) }
@@ -125,6 +135,7 @@ fn push_reason(text: &mut Vec<u8>, theory: &[u8], reason: Reason) -> Result<(), 
     }
 }
 
+/// Writes a row's line, without its line feed.
 #[tactic(auto, unfolding(crate::specs::Row::refused_theory_text, crate::specs::Row::proved_text, crate::specs::Row::failed_text, crate::specs::Row::colon_text, crate::specs::Row::no_hypothesis_text))]
 fn push_row(text: &mut Vec<u8>, row: &Row<'_>) -> Result<(), AllocError>
     ensures { OnOk result (text.new.items ≡ text.old.items ++ spec.row_text (seen_row row.now)) }
@@ -153,6 +164,7 @@ fn push_row(text: &mut Vec<u8>, row: &Row<'_>) -> Result<(), AllocError>
     }
 }
 
+/// Writes a number by its decimal digits.
 fn push_number(alloc: Global, text: &mut Vec<u8>, number: usize) -> Result<(), AllocError>
     ensures { OnOk result (text.new.items ≡ text.old.items ++ decimal number) }
 {
@@ -160,6 +172,7 @@ fn push_number(alloc: Global, text: &mut Vec<u8>, number: usize) -> Result<(), A
     text.extend_from_slice(digits.as_bytes())
 }
 
+/// Writes the last line.
 fn push_total(
     alloc: Global,
     text: &mut Vec<u8>,

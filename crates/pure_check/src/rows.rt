@@ -11,6 +11,7 @@ use pure_first::{Lemma, read_theory};
 use pure_text::Text;
 use std::alloc::{AllocError, Global};
 
+/// A row for each lemma of a theory, in their order.
 fn lemma_rows<'t>(
     alloc: Global,
     theory: &'t [u8],
@@ -25,6 +26,7 @@ fn lemma_rows<'t>(
     Ok(rows)
 }
 
+/// The one row of a theory that is refused.
 fn refusal<'t>(alloc: Global, theory: &'t [u8], reason: Reason) -> Result<Vec<Row<'t>>, AllocError>
     ensures { IfOk result (λ rows. seen_rows rows.items ≡ spec.RefusedTheory theory.now (reason_text theory.now reason) ∷ []) }
 {
@@ -47,6 +49,7 @@ fn file_rows<'t>(
     lemma_rows(alloc, theory, lemmas)
 }
 
+/// Each theory refused for its form, as where there are several.
 fn refusals<'t>(alloc: Global, theories: &'t [Text]) -> Result<Vec<Row<'t>>, AllocError>
     ensures { IfOk result (λ rows. seen_rows rows.items ≡ map (λ t. spec.RefusedTheory t form_text) theories.now) }
 {

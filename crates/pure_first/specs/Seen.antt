@@ -2,6 +2,7 @@
 use Rattle.std.specs.Prelude.{ℕ, ◌≤◌, List, map, length}
 use Rattle.std.specs.List.{AllByRecursion, IsDistinct}
 use Rattle.std.specs.Borrow.{Bor}
+use Rattle.pure_first.specs.Limits.{most_lemmas}
 use Rattle.pure_first.specs.Token.{Spells, same}
 use Rattle.pure_first.specs.Theory.{IsLemma, lemmas_tokens}
 use Rattle.pure_first.specs.Theory as theory
@@ -16,6 +17,6 @@ seen_all = map seen
 -- the bytes behind a theory's header are these lemmas and the end
 pub record AreLemmas (body : List ℕ) (lemmas : List theory.Lemma) : Type 0 where
   pub spelled : Spells (lemmas_tokens lemmas) body
-  pub few : length lemmas ≤ 512
+  pub few : length lemmas ≤ most_lemmas
   pub distinct : IsDistinct same (map (λ (l : theory.Lemma). l.name) lemmas)
   pub each : AllByRecursion IsLemma lemmas

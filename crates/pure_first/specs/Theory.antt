@@ -1,6 +1,7 @@
 -- Which bytes are a theory file in first form: a theory of propositional lemmas, each proved by assumption.
 use Rattle.std.specs.Prelude.{◌≡◌, ℕ, ◌≤◌, Bool, true, false, List, [], ◌∷◌, ◌++◌, length, map, codes}
 use Rattle.std.specs.List.{AllByRecursion, IsDistinct, list_any}
+use Rattle.pure_first.specs.Limits.{most_bytes, most_lemmas, most_statement_tokens}
 use Rattle.pure_first.specs.Token.{Token, Word, Quote, Colon, Arrow, Spells, is_identifier, same}
 
 -- a lemma: its name, its quoted text, and the propositional variables that the text has
@@ -15,10 +16,10 @@ abbrev pub statement_tokens : List (List ℕ) → List ℕ → List Token
 statement_tokens [] c = Word c ∷ []
 statement_tokens (p ∷ ps) c = Word p ∷ Arrow ∷ statement_tokens ps c
 
--- A quoted text states this: at most 200 tokens spell it. Keywords are identifiers here.
+-- A quoted text states this: at most most_statement_tokens tokens spell it. Keywords are identifiers here.
 pub record IsStatement (text : List ℕ) (premises : List (List ℕ)) (conclusion : List ℕ) : Type 0 where
   pub spelled : Spells (statement_tokens premises conclusion) text
-  pub small : length (statement_tokens premises conclusion) ≤ 200
+  pub small : length (statement_tokens premises conclusion) ≤ most_statement_tokens
 
 unfoldable pub lemma_word : List ℕ
 lemma_word = codes "lemma"
@@ -58,14 +59,14 @@ pub record IsLemma (l : Lemma) : Type 0 where
   pub named : is_identifier l.name ≡ true
   pub states : IsStatement l.text l.premises l.conclusion
 
--- The bytes are the theory of this name in first form, with these lemmas: at most 262,144 bytes, spelled by the tokens
--- of the theory, whose name is an identifier and isn't Pure; at most 512 lemmas, no two of one name.
+-- The bytes are the theory of this name in first form, with these lemmas: at most most_bytes bytes, spelled by the tokens
+-- of the theory, whose name is an identifier and isn't Pure; at most most_lemmas lemmas, no two of one name.
 pub record IsFirstForm (theory bytes : List ℕ) (lemmas : List Lemma) : Type 0 where
-  pub short : length bytes ≤ 262144
+  pub short : length bytes ≤ most_bytes
   pub spelled : Spells (theory_tokens theory lemmas) bytes
   pub named : is_identifier theory ≡ true
   pub not_pure : same theory (codes "Pure") ≡ false
-  pub few : length lemmas ≤ 512
+  pub few : length lemmas ≤ most_lemmas
   pub distinct : IsDistinct same (map (λ (l : Lemma). l.name) lemmas)
   pub each : AllByRecursion IsLemma lemmas
 

@@ -3,6 +3,7 @@
 use Rattle.std.specs.Prelude.{◌≡◌, ℕ, Bool, true, false, not, ◌||◌, ◌&&◌, List, [], ◌∷◌, ◌++◌, length, codes, nat_eq, nat_lt, nat_le, ◌==◌}
 use Rattle.std.specs.List.{list_all}
 use Rattle.std.specs.Cmp.Lexicographic.{pointwise}
+use Rattle.pure_first.specs.Limits.{most_word_bytes}
 
 -- whether two texts have the same bytes
 abbrev pub same : List ℕ → List ℕ → Bool
@@ -20,10 +21,10 @@ is_letter b = (nat_le 65 b && nat_le b 90) || (nat_le 97 b && nat_le b 122)
 abbrev pub is_word_byte : ℕ → Bool
 is_word_byte b = is_letter b || ((nat_le 48 b && nat_le b 57) || ((b == 95) || (b == 39)))
 
--- a letter, then letters, digits, underscores and apostrophes, at most 64 bytes in all
+-- a letter, then letters, digits, underscores and apostrophes, at most most_word_bytes bytes in all
 abbrev pub is_word : List ℕ → Bool
 is_word [] = false
-is_word (b ∷ bs) = is_letter b && (list_all is_word_byte bs && nat_le (length bs) 63)
+is_word (b ∷ bs) = is_letter b && (list_all is_word_byte bs && nat_lt (length bs) most_word_bytes)
 
 -- ASCII, but no quotation mark
 abbrev pub is_quoted : ℕ → Bool

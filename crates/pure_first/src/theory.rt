@@ -32,16 +32,20 @@ struct Front<'t> {
     rest: &'t [u8],
 }
 
+/// The most bytes that a theory may have.
 const MOST_BYTES: usize = 262_144;
 
+/// The most lemmas that a theory may have.
 const MOST_LEMMAS: usize = 512;
 
+/// Whether two texts have the same bytes.
 fn equals(bytes: &[u8], text: &[u8]) -> bool
     ensures { result ≡ spec.same bytes.now text.now }
 {
     bytes == text
 }
 
+/// Whether a word is one of a theory's frame.
 #[tactic(auto, unfolding(crate::specs::Token::is_frame_keyword))]
 fn is_frame_keyword(word: &[u8]) -> bool
     ensures { result ≡ spec.is_frame_keyword word.now }
@@ -52,6 +56,7 @@ fn is_frame_keyword(word: &[u8]) -> bool
         || equals(word, b"end")
 }
 
+/// Whether a word begins a command.
 #[tactic(auto, unfolding(crate::specs::Token::is_command_keyword))]
 fn is_command_keyword(word: &[u8]) -> bool
     ensures { result ≡ spec.is_command_keyword word.now }
@@ -66,6 +71,7 @@ fn is_command_keyword(word: &[u8]) -> bool
         || equals(word, b"theorem")
 }
 
+/// Whether a word is reserved for the inside of commands.
 #[tactic(auto, unfolding(crate::specs::Token::is_inner_keyword))]
 fn is_inner_keyword(word: &[u8]) -> bool
     ensures { result ≡ spec.is_inner_keyword word.now }
@@ -89,6 +95,7 @@ pub fn is_identifier(bytes: &[u8]) -> bool
         && !(is_frame_keyword(bytes) || is_command_keyword(bytes) || is_inner_keyword(bytes))
 }
 
+/// Whether a text is one of these.
 fn is_among(text: &[u8], texts: &[&[u8]]) -> bool
     ensures { result ≡ list_any (λ t. spec.same text.now t.now) texts.now }
 {

@@ -4,42 +4,53 @@ ghost use Rattle.std.specs.List.{take_while, list_all};
 ghost use Rattle.pure_first.specs.Token as spec;
 ghost use Rattle.pure_first.specs.Reading.{SameTokens, Takes, TakesNo, TakesOne};
 
+/// The most bytes that a word may have.
+const MOST_WORD_BYTES: usize = 64;
+
+/// Space, tab, carriage return or line feed.
 fn is_blank(byte: u8) -> bool
     ensures { result ≡ spec.is_blank byte }
 {
     byte == b' ' || byte == b'\t' || byte == b'\r' || byte == b'\n'
 }
 
+/// A letter of ASCII.
 fn is_letter(byte: u8) -> bool
     ensures { result ≡ spec.is_letter byte }
 {
     (b'A' <= byte && byte <= b'Z') || (b'a' <= byte && byte <= b'z')
 }
 
+/// A letter, a digit, an underscore or an apostrophe.
 fn is_word_byte(byte: u8) -> bool
     ensures { result ≡ spec.is_word_byte byte }
 {
     is_letter(byte) || (b'0' <= byte && byte <= b'9') || byte == b'_' || byte == b'\''
 }
 
+/// A byte that may stand between quotation marks: ASCII, and no quotation mark.
 fn is_quoted(byte: u8) -> bool
     ensures { result ≡ spec.is_quoted byte }
 {
     byte < 128 && byte != b'"'
 }
 
+/// Whether all may stand in a word.
 fn are_word_bytes(bytes: &[u8]) -> bool
     ensures { result ≡ list_all spec.is_word_byte bytes.now }
 {
     bytes.iter().all(|b| is_word_byte(*b))
 }
 
+/// Whether the bytes are one word: a letter, and then bytes of words, `MOST_WORD_BYTES` in all at most.
 pub(crate) fn is_word(bytes: &[u8]) -> bool
     ensures { result ≡ spec.is_word bytes.now }
 {
     match bytes.split_first() {
         None => false,
-        Some((first, rest)) => { is_letter(*first) && are_word_bytes(rest) && rest.len() <= 63 }
+        Some((first, rest)) => {
+            is_letter(*first) && are_word_bytes(rest) && rest.len() < MOST_WORD_BYTES
+        }
     }
 }
 
@@ -58,12 +69,14 @@ fn skip_blanks(bytes: &[u8]) -> &[u8]
     rest
 }
 
+/// How many bytes at the front may stand in a word.
 fn word_len(bytes: &[u8]) -> usize
     ensures { result ≡ length (take_while spec.is_word_byte bytes.now) }
 {
     bytes.iter().take_while(|b| is_word_byte(**b)).count()
 }
 
+/// How many bytes at the front may stand between quotation marks.
 fn quoted_len(bytes: &[u8]) -> usize
     ensures { result ≡ length (take_while spec.is_quoted bytes.now) }
 {

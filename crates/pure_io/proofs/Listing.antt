@@ -6,7 +6,7 @@ use Rattle.std.proofs.iter.Next.{Yields-more}
 use Rattle.std.proofs.lemmas.List.{length_push}
 use Rattle.std.proofs.lemmas.List.Elements.{Contains-push}
 use Rattle.pure_io.specs.declared.library.LibFault.TheVariants.{Failed}
-use Rattle.pure_io.specs.Entries.{Entry, ListsPast, names_in}
+use Rattle.pure_io.specs.Entries.{Entry, ListsWithin, ListsPast, names_in}
 
 -- a list that begins with a name has others behind it
 option_map-cons : (name : List ℕ) (o : Option (List (List ℕ))) (names : List (List ℕ))
@@ -48,4 +48,30 @@ ListsPast-more steps start limit given middle last rest before step (inr failed)
   rest = rest;
   given = Yields-more steps start given middle last rest before step;
   cause = inr (rw (← failed) (Contains-push given last));
+}
+
+-- what an iterator gives that steps as another one inside it
+Yields-inside : {S T A : Type 0} (inside : T → S) (steps : S → Option A → S → Type 0) (s t : T) (xs : List A)
+    → Yields (λ u x v. steps (inside u) x (inside v)) s xs t → Yields steps (inside s) xs (inside t)
+Yields-inside inside steps s t [] same = ap inside same
+Yields-inside inside steps s t (x ∷ xs) (middle, step, rest) = (inside middle, step, Yields-inside inside steps middle t xs rest)
+
+-- a listing that an iterator gives so
+pub ListsWithin-inside : {S T : Type 0} (inside : T → S) (steps : S → Option Entry → S → Type 0) (start : T) (limit : ℕ) (names : List (List ℕ))
+    → ListsWithin (λ u x v. steps (inside u) x (inside v)) start limit names → ListsWithin steps (inside start) limit names
+ListsWithin-inside inside steps start limit names lists = record {
+  entries = lists.entries;
+  drained = (inside lists.drained.0, (inside lists.drained.1.0, Yields-inside inside steps start lists.drained.1.0 lists.entries lists.drained.1.1, lists.drained.1.2));
+  within = lists.within;
+  named = lists.named;
+}
+
+-- a listing past its limit, or with a fault, that an iterator gives so
+pub ListsPast-inside : {S T : Type 0} (inside : T → S) (steps : S → Option Entry → S → Type 0) (start : T) (limit : ℕ)
+    → ListsPast (λ u x v. steps (inside u) x (inside v)) start limit → ListsPast steps (inside start) limit
+ListsPast-inside inside steps start limit past = record {
+  entries = past.entries;
+  rest = inside past.rest;
+  given = Yields-inside inside steps start past.rest past.entries past.given;
+  cause = past.cause;
 }

@@ -1,5 +1,5 @@
 -- Reading the first bytes of a file, and what the errors of the system mean.
-use Rattle.std.specs.Prelude.{◌≡◌, ℕ, ◌≤◌, List, length, Option, Some, None, Result, Ok, Err, MatchResult}
+use Rattle.std.specs.Prelude.{◌≡◌, ℕ, ◌≤◌, List, length, Option, Some, None, Result, Ok, Err, MatchResult, MatchOption, IsSomeAnd}
 use Rattle.std.specs.Fs.{dir_entry_name}
 use Rattle.std.specs.Io.KnownBytes.{Consumes}
 use Rattle.std.specs.IoError.{error_kind}
@@ -36,3 +36,11 @@ unnamed_entry_of kind = Err (list_fault_of kind)
 abbrev pub NamesEntry : {R A F D : Type 0} → Result (DirEntry R A F D) Error → Result (Option (List ℕ)) LibFault → Type 0
 NamesEntry (Ok entry) answer = MatchResult answer (λ name. name ≡ Some (dir_entry_name entry)) (λ fault. fault ≡ listing.Memory)
 NamesEntry (Err error) answer = answer ≡ unnamed_entry_of (error_kind error)
+
+-- what the system's next answer on a directory gives: nothing at the end, and else an entry, also where the answer is an error
+abbrev pub NamesNext : {R A F D : Type 0} → Option (Result (DirEntry R A F D) Error) → Option (Result (Option (List ℕ)) LibFault) → Type 0
+NamesNext next answer = MatchOption next (answer ≡ None) (λ entry. IsSomeAnd answer (λ name. NamesEntry entry name))
+
+-- the steps of a listing by names, by those of the listing that the system gives
+abbrev pub names_steps : {R A F D S : Type 0} → (S → Option (Result (DirEntry R A F D) Error) → S → Type 0) → S → Option (Result (Option (List ℕ)) LibFault) → S → Type 0
+names_steps {R} {A} {F} {D} steps old answer new = (next : Option (Result (DirEntry R A F D) Error)) × steps old next new × NamesNext next answer

@@ -1,17 +1,17 @@
 //! The current directory as a library.
 ghost use Rattle.std.specs.Prelude.{◌≡◌, ◌≤◌, ◌+◌, length, IfOk, IfErr, IsSomeAnd, MatchOption, MatchResult};
-ghost use Rattle.std.specs.Iterator.{at_most};
-ghost use Rattle.std.specs.Io.Iter.{read_dir_left};
+ghost use Rattle.std.specs.Iterator.{IsFinite};
 ghost use Rattle.std.specs.Fs.{dir_entry_name};
 ghost use Rattle.std.specs.IoError.{error_kind};
-ghost use Rattle.pure_io.specs.Reading.{list_fault_of, unnamed_entry_of, NamesEntry};
+ghost use Rattle.pure_io.specs.Entries.{ListsWithin, ListsPast};
+ghost use Rattle.pure_io.specs.Reading.{list_fault_of, unnamed_entry_of, NamesEntry, NamesNext, names_steps};
 
 use crate::entries::names_within;
 use crate::library::{LibFault, Library, ReadFault};
-use crate::reading::read_opened;
+use crate::reading::read_regular;
 use pure_text::Text;
 use std::alloc::Global;
-use std::fs::{DirEntry, ReadDir};
+use std::fs::DirEntry;
 use std::io::ErrorKind;
 use std::marker::Model;
 use std::rt::Files;
@@ -20,7 +20,8 @@ use std::{fs, io};
 /// How many entries a directory may have.
 const MAX_ENTRIES: usize = 100_000;
 
-/// The files of the current directory. Tells none of them. Contracts see it as its count of faults.
+/// The files of the current directory, of which only regular ones are read: a folder, a pipe or a device of
+/// a file's name is a fault. Tells none of them. Contracts see it as its count of faults.
 #[derive(Debug, Drop)]
 pub struct DirLibrary {
     faults: u64,
@@ -96,12 +97,19 @@ fn directory_names<R: Files + AllocGlobal>(rt: &R, alloc: Global) -> Result<Vec<
     names_of_opened(alloc, fs::read_dir(&rt, "."))
 }
 
-/// The names of the entries of a directory that the system opened, or what its error says.
-fn names_of_opened<R: Files + Clone + Drop>(
+/// The names of the entries of a directory that the system opened, or what its error says. Fails past
+/// `MAX_ENTRIES` entries, those counted whose names aren't UTF-8.
+fn names_of_opened<R: Files + Drop, I: Iterator<Item = io::Result<DirEntry<R, Global>>>>(
     alloc: Global,
-    opened: io::Result<ReadDir<R, Global>>,
+    opened: io::Result<I>,
 ) -> Result<Vec<Text>, LibFault>
+    requires can { IfOk opened (λ entries. I.can_next entries) }
+    requires ends { IfOk opened (λ entries. IsFinite (I.remaining entries)) }
     ensures unopened { IfErr opened (λ error. result ≡ Err (list_fault_of (error_kind error))) }
+    ensures all { IfOk opened (λ entries. IfOk result (λ names.
+        ListsWithin (names_steps I.next_gives) entries MAX_ENTRIES names.items)) }
+    ensures failed { IfOk opened (λ entries.
+        result ≡ Err LibFault.Failed → ListsPast (names_steps I.next_gives) entries MAX_ENTRIES) }
 {
     let entries = match opened {
         Ok(entries) => entries,
@@ -112,15 +120,20 @@ fn names_of_opened<R: Files + Clone + Drop>(
 
 /// The entries of a directory, each with its name as a text.
 #[derive(Drop)]
-struct NamedEntries<R: Files> {
-    entries: ReadDir<R, Global>,
+struct NamedEntries<I> {
+    entries: I,
     alloc: Global,
 }
 
-impl<R: Files + Clone + Drop> Iterator for NamedEntries<R> {
+impl<R: Files + Drop, I: Iterator<Item = io::Result<DirEntry<R, Global>>>> Iterator
+    for NamedEntries<I> {
     type Item = Result<Option<Text>, LibFault>;
 
-    ghost remaining = { λ s. at_most (read_dir_left s.entries) };
+    ghost can_next = { λ s. I.can_next s.entries };
+
+    ghost next_gives = { λ s item t. names_steps I.next_gives s.entries item t.entries };
+
+    ghost remaining = { λ s. I.remaining s.entries };
 
     fn next(&mut self) -> Option<Result<Option<Text>, LibFault>> {
         next_name(self.alloc, self.entries.next())
@@ -133,7 +146,7 @@ fn next_name<R: Files + Drop>(
     alloc: Global,
     next: Option<io::Result<DirEntry<R, Global>>>,
 ) -> Option<Result<Option<Text>, LibFault>>
-    ensures { MatchOption next (result ≡ None) (λ entry. IsSomeAnd result (λ name. NamesEntry entry name)) }
+    ensures { NamesNext next result }
 {
     let entry = next?;
     Some(entry_name(alloc, entry))
@@ -164,14 +177,15 @@ fn unnamed_entry(error: &io::Error) -> Result<Option<Text>, LibFault>
     }
 }
 
-/// The first bytes of the file of that name in the current directory.
+/// The first `limit + 1` bytes of the regular file of that name in the current directory. A name that isn't
+/// UTF-8 is no file's.
 fn read_named<R: Files>(rt: &R, alloc: Global, name: &Text, limit: u32) -> Result<Text, ReadFault>
     ensures short { IfOk result (λ t. length t ≤ limit + 1) }
 {
     let Ok(path) = std::str::from_utf8(name.bytes()) else {
         return Err(ReadFault::Missing);
     };
-    read_opened(alloc, fs::open(rt, path), limit)
+    read_regular(rt, alloc, path, fs::metadata(rt, path), limit)
 }
 
 /// What an error of the system means for a listing.

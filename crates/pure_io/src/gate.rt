@@ -16,7 +16,7 @@ pub trait Gate: Sync {
 pub struct OpenGate;
 
 impl OpenGate {
-    /// A gate that does nothing.
+    /// A gate that does nothing. There is one alone, so that no clause could say more of it.
     pub fn make() -> OpenGate {
         OpenGate
     }

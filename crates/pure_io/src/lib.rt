@@ -19,6 +19,3 @@ pub use mem_library::MemLibrary;
 pub use mem_sink::MemSink;
 pub use sink::{Failed, Sink, write_all};
 pub use std_sink::StdSink;
-
-#[cfg(test)]
-mod tests;

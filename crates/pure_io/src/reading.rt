@@ -1,20 +1,44 @@
 //! Reading the first bytes of a file.
 ghost use Rattle.std.specs.Prelude.{◌≡◌, ℕ, ◌+◌, ◌<◌, ◌≤◌, List, length, take, IfOk, IfErr, IfSome};
 ghost use Rattle.std.specs.Io.KnownBytes.{Consumes, IsAtEnd};
+ghost use Rattle.std.specs.Fs.{IsFile, file_type};
 ghost use Rattle.std.specs.IoError.{error_kind};
 ghost use Rattle.pure_io.specs.Reading.{read_fault_of, ConsumesAtMost};
 
 use crate::library::ReadFault;
 use pure_text::Text;
 use std::alloc::Global;
-use std::io;
+use std::fs::Metadata;
 use std::io::{ErrorKind, Read};
+use std::rt::Files;
+use std::{fs, io};
 
+/// How many bytes are asked of the system at once, at most.
 const CHUNK: usize = 4096;
+
+/// The first `limit + 1` bytes of the file at a path, of which the system told this. Only a regular file is
+/// opened: to open a pipe may wait for ever, and a device may give bytes without end.
+pub(crate) fn read_regular<R: Files>(
+    rt: &R,
+    alloc: Global,
+    path: &str,
+    told: io::Result<Metadata>,
+    limit: u32,
+) -> Result<Text, ReadFault>
+    ensures untold { IfErr told (λ error. result ≡ Err (read_fault_of (error_kind error))) }
+    ensures irregular { IfOk told (λ metadata. ¬ IsFile (file_type metadata) → result ≡ Err ReadFault.Failed) }
+    ensures short { IfOk result (λ t. length t ≤ limit + 1) }
+{
+    match told {
+        Ok(metadata) if metadata.is_file() => read_opened(alloc, fs::open(rt, path), limit),
+        Ok(_) => Err(ReadFault::Failed),
+        Err(error) => Err(read_fault(&error)),
+    }
+}
 
 /// The first `limit + 1` bytes of a file that the system opened, or all of them where it has fewer, or
 /// what its error says.
-pub(crate) fn read_opened<F: Read + Drop>(
+fn read_opened<F: Read + Drop>(
     alloc: Global,
     opened: io::Result<F>,
     limit: u32,
@@ -31,11 +55,7 @@ pub(crate) fn read_opened<F: Read + Drop>(
 }
 
 /// The first `limit + 1` bytes of the file, or all of them where it has fewer. Reads no others.
-pub(crate) fn read_start<F: Read>(
-    alloc: Global,
-    file: &mut F,
-    limit: u32,
-) -> Result<Text, ReadFault>
+fn read_start<F: Read>(alloc: Global, file: &mut F, limit: u32) -> Result<Text, ReadFault>
     ensures text { IfOk result (λ t. Consumes (F.remaining file.old) (F.remaining file.new) t) }
     ensures short { IfOk result (λ t. length t ≤ limit + 1) }
     ensures whole { IfOk result (λ t. length t < limit + 1 → IsAtEnd (F.remaining file.new)) }

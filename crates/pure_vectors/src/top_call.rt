@@ -152,6 +152,75 @@ fn filled(
     Ok(text)
 }
 
+/// A variable of 64 bytes, with a digit in front of the last three so that a part of it is unlike it.
+const LONG: &[u8] = b"VVVVVVVVVVVVVVVVVVVVVVVVVVVVVVVVVVVVVVVVVVVVVVVVVVVVVVVVVVVV1VVV";
+
+/// How many lemmas of six premises with a `LONG` variable nearly fill a file.
+const LARGE_LEMMAS: u32 = 512;
+
+/// A theory of `LARGE_LEMMAS` lemmas, each with seven `LONG` variables.
+fn large_theory(alloc: Global) -> Result<Vec<u8>, AllocError> {
+    let mut text = Vec::from_slice(alloc, b"theory A begin")?;
+    for number in 0..LARGE_LEMMAS {
+        text.extend_from_slice(b"\nlemma a")?;
+        text.extend_from_slice(number.to_string(alloc)?.as_bytes())?;
+        text.extend_from_slice(b":\"")?;
+        for _ in 0..6 {
+            text.extend_from_slice(LONG)?;
+            text.extend_from_slice(b"==>")?;
+        }
+        text.extend_from_slice(LONG)?;
+        text.extend_from_slice(b"\"by assumption")?;
+    }
+    text.extend_from_slice(b" end")?;
+    Ok(text)
+}
+
+/// The table of that theory.
+fn large_table(alloc: Global) -> Result<Vec<u8>, AllocError> {
+    let mut text = Vec::new(alloc);
+    for number in 0..LARGE_LEMMAS {
+        text.extend_from_slice(b"proved A.a")?;
+        text.extend_from_slice(number.to_string(alloc)?.as_bytes())?;
+        text.extend_from_slice(b": ?")?;
+        for _ in 0..6 {
+            text.extend_from_slice(LONG)?;
+            text.extend_from_slice(b" ==> ?")?;
+        }
+        text.extend_from_slice(LONG)?;
+        text.push(b'\n')?;
+    }
+    text.extend_from_slice(
+        b"total: 1 theories, 0 declared, 0 refused, 512 proved, 0 failed, 0 tainted, 0 cancelled, 0 unsettled\n",
+    )?;
+    Ok(text)
+}
+
+#[test]
+fn prints_a_large_table(rt: HostRuntime) -> Result<(), Fail> {
+    let alloc = rt.alloc();
+    let text = large_theory(alloc)?;
+    assert!(rt;
+        250_000 < text.len() && text.len() <= 262_144,
+        "{} bytes",
+        text.len()
+    );
+    let wanted = large_table(alloc)?;
+    for width in [4096, 1_000_000] {
+        let mut large = empty_world(alloc);
+        add_file(alloc, &mut large, b"A.thy", &text)?;
+        large.capacity = 1_000_000;
+        large.width = width;
+        let answer = run(&rt, alloc, large)?;
+        assert_eq!(rt; answer.status, Status::Clean);
+        assert!(rt;
+            answer.bytes.as_slice() == wanted.as_slice(),
+            "pieces of {width} bytes"
+        );
+    }
+    Ok(())
+}
+
 /// Files named `A.thy` that aren't the theory A in first form.
 const NOT_FIRST_FORM: [&[u8]; 40] = [
     // a byte above 127 in each kind of place

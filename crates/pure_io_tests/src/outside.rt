@@ -1,5 +1,5 @@
 //! Each public call once, with ample memory. Expected values come from the rules.
-use crate::{
+use pure_io::{
     DirLibrary, Failed, File, Gate, LibFault, Library, MemLibrary, MemSink, OpenGate, ReadFault,
     Sink, StdSink, write_all,
 };
@@ -88,13 +88,30 @@ fn writes_to_memory(rt: HostRuntime) -> Result<(), Fail> {
 }
 
 #[test]
-fn writes_to_standard_output(rt: HostRuntime) {
+fn writes_to_standard_output(rt: HostRuntime) -> Result<(), Fail> {
     let mut sink = StdSink::make();
     assert_eq!(rt; write_all(&rt, &mut sink, b"a line of a test\n"), Ok(()));
     assert_eq!(rt; sink.write(&rt, b""), Ok(0));
+    let large = numbered_lines(rt.alloc(), 100_000)?;
+    assert_eq!(rt; write_all(&rt, &mut sink, &large), Ok(()));
     let gate = OpenGate::make();
     gate.enter(&rt, 0);
     gate.left(&rt, 0);
+    Ok(())
+}
+
+/// So many bytes of numbered lines, each unlike the others; the last one may be cut short.
+fn numbered_lines(alloc: Global, count: usize) -> Result<Vec<u8>, AllocError> {
+    let mut text = Vec::new(alloc);
+    for number in 0..u32::MAX {
+        if text.len() >= count {
+            break;
+        }
+        text.extend_from_slice(number.to_string(alloc)?.as_bytes())?;
+        text.push(b'\n')?;
+    }
+    text.truncate(count);
+    Ok(text)
 }
 
 /// A new folder of this process, in which the test goes on.
@@ -147,6 +164,47 @@ fn reads_a_directory(rt: HostRuntime) -> Result<(), Fail> {
     let is_root = fs::metadata(&rt, "A.thy")?.uid() == 0;
     let refused = is_root || is_shut_refused(&rt, folder.as_path())?;
     assert!(rt; refused, "a shut file or a shut folder");
+    fs::remove_dir_all(&rt, folder.as_path())?;
+    Ok(())
+}
+
+/// Limits below a large file's length, at it and above it.
+const LIMITS: [u32; 7] = [0, 4095, 4096, 4999, 9998, 9999, 262_144];
+
+#[test]
+fn reads_a_large_file_under_a_long_name(rt: HostRuntime) -> Result<(), Fail> {
+    let alloc = rt.alloc();
+    let folder = enter_folder(&rt, process::id(rt.process()))?;
+    let bytes = numbered_lines(alloc, 10_000)?;
+    let name =
+        "a_name_of_more_than_64_bytes_________________________________________________________________.thy";
+    fs::write(&rt, name, &bytes)?;
+    let name = Text::make(alloc, name.as_bytes())?;
+    let mut library = DirLibrary::make();
+    for limit in LIMITS {
+        let wanted = &bytes[..bytes.len().min(limit as usize + 1)];
+        let got = library.read(&rt, alloc, &name, limit);
+        assert!(rt; is_answer(&got, Ok(wanted)), "up to {limit}");
+    }
+    fs::remove_dir_all(&rt, folder.as_path())?;
+    Ok(())
+}
+
+#[test]
+fn reads_no_device(rt: HostRuntime) -> Result<(), Fail> {
+    let alloc = rt.alloc();
+    let folder = enter_folder(&rt, process::id(rt.process()))?;
+    symlink(&rt, "/dev/zero", "Z.thy")?;
+    symlink(&rt, "/dev/null", "N.thy")?;
+    let mut library = DirLibrary::make();
+    for name in [b"Z.thy".as_slice(), b"N.thy"] {
+        let name = Text::make(alloc, name)?;
+        let got = library.read(&rt, alloc, &name, 9);
+        assert!(rt;
+            is_answer(&got, Err(ReadFault::Failed)),
+            "{name:?}: {got:?}"
+        );
+    }
     fs::remove_dir_all(&rt, folder.as_path())?;
     Ok(())
 }
