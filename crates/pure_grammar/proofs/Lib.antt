@@ -13,3 +13,4 @@ pub mod InnerAround
 pub mod InnerReadLemmas
 pub mod InnerFaultLemmas
 pub mod InnerEndLemmas
+pub mod RawTextLemmas
