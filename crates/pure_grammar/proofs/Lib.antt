@@ -1,4 +1,6 @@
 pub mod Fronts
+pub mod Indexed
+pub mod Places
 pub mod Gaps
 pub mod Classes
 pub mod Readings

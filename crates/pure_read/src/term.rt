@@ -21,6 +21,7 @@ pub(crate) struct TermPart {
     pub(crate) stack: Stack,
 }
 
+/// A name or a variable as a term.
 fn leaf(written: Written) -> Raw
     ensures { result ≡ spec.leaf (seen_one written) }
 {
@@ -197,6 +198,7 @@ pub(crate) fn con_ends(
     part_ends(alloc, reduced(alloc, 1, at, term, stack)?, l)
 }
 
+/// Behind an application, which a type may follow.
 fn after_leaf(
     alloc: Global,
     at: u32,
