@@ -8,8 +8,8 @@ use Rattle.pure_grammar.specs.Lexeme.{Lexeme, Ends, lexeme, lexemes}
 use Rattle.pure_grammar.specs.Spelling.{IsSlice, AreSlices}
 use Rattle.pure_grammar.specs.Outer.{SpellsTheory, HasSyntaxFault, place_of}
 use Rattle.pure_grammar.specs.Reader as spec
-use Rattle.pure_grammar.specs.Reader.{AtStart, AtLast, Through, Stuck, goes_on, next, run, expected, is_last}
-use Rattle.pure_grammar.proofs.FaultLemmas.{Wrong, goes-wrong, Gets-IsTheory}
+use Rattle.pure_grammar.specs.Reader.{AtStart, AtLast, Through, Stuck, goes_on, next, run, expected}
+use Rattle.pure_grammar.proofs.FaultLemmas.{Wrong, goes-wrong, Gets-IsTheory, is_last}
 use Rattle.pure_grammar.proofs.Places.{place_of-token, place_of-end}
 pub use Rattle.pure_grammar.proofs.Places.{slice-at}
 use Rattle.pure_script.specs.States.{seen_state, IsNext}

@@ -235,7 +235,13 @@ fn exactly_a_thousand_tokens_are_read(rt: HostRuntime) -> Result<(), Fail> {
     let as_typ = shown(rt.alloc(), &text, true)?;
     assert!(rt; as_typ.starts_with(b"0:f<0:f<0:f<0:f<"));
     let longer = names(rt.alloc(), MAX_TOKENS + 1)?;
-    assert_eq!(rt; shown(rt.alloc(), &longer, false)?.as_slice(), b"too long");
-    assert_eq!(rt; shown(rt.alloc(), &longer, true)?.as_slice(), b"too long");
+    assert_eq!(rt;
+        shown(rt.alloc(), &longer, false)?.as_slice(),
+        b"too long".as_slice()
+    );
+    assert_eq!(rt;
+        shown(rt.alloc(), &longer, true)?.as_slice(),
+        b"too long".as_slice()
+    );
     Ok(())
 }
