@@ -9,7 +9,7 @@ use Rattle.pure_grammar.specs.TheoryText.{Span, Command, TypeDecl, TheoryText}
 use Rattle.pure_grammar.specs.Lexeme.{Lexeme, Reserved, Signed, Plain, Variable, Numeral, Quoted, Ends, same, kind_of}
 use Rattle.pure_grammar.specs.PhraseText.{assumption_word}
 use Rattle.pure_grammar.specs.Outer.{IsTheory, BeginsTheory, MayFollow, GoesWrong}
-use Rattle.pure_grammar.specs.Reader.{Header, State, AtStart, AtTheoryName, AfterTheoryName, AtImport, AfterImport, InBody, AtLast, Outcome, Through, Stuck, AtStep, AtNumber, AtMethod, AtBasic, AfterBasic, AtFact, AtUnfolded, AfterUnfolded, Place, AtCommand, AfterEnd, AtClassName, AfterClassName, AtAbove, AfterAbove, AtParams, AtParam, AfterParam, AtTypeName, AtConstructor, AfterConstructor, AtDomains, AtSort, AfterSort, AtFirstClass, AtNextClass, AfterClass, AtArityClass, AtItem, AfterItem, AtItemType, AfterItemType, AtWhere, AtAxiom, AfterAxiom, AtAxiomText, AfterAxiomText, AtDefinition, AfterDefinition, AtDefinitionType, AfterDefinitionType, AtDefinitionText, AtLemma, AfterLemma, AtLemmaText, InProof, goes_on, next, run, expected, is_last}
+use Rattle.pure_grammar.specs.Reader.{Header, State, AtStart, AtTheoryName, AfterTheoryName, AtImport, AfterImport, InBody, AtLast, Outcome, Through, Stuck, AtStep, AtNumber, AtMethod, AtBasic, AfterBasic, AtFact, AtUnfolded, AfterUnfolded, Place, AtCommand, AfterEnd, AtClassName, AfterClassName, AtAbove, AfterAbove, AtParams, AtParam, AfterParam, AtTypeName, AtConstructor, AfterConstructor, AtDomains, AtSort, AfterSort, AtFirstClass, AtNextClass, AfterClass, AtArityClass, AtItem, AfterItem, AtItemType, AfterItemType, AtWhere, AtAxiom, AfterAxiom, AtAxiomText, AfterAxiomText, AtDefinition, AfterDefinition, AtDefinitionType, AfterDefinitionType, AtDefinitionText, AtLemma, AfterLemma, AtLemmaText, InProof, goes_on, next, run, expected}
 use Rattle.pure_grammar.proofs.OuterLemmas.{run-IsTheory}
 use Rattle.pure_grammar.proofs.ReadLemmas.{Gets, none, got-file}
 
@@ -111,6 +111,11 @@ goes-body h cs (InProof x p script (AtFact false method)) = record { one = Plain
 goes-body h cs (InProof x p script (AtUnfolded false)) = record { one = Plain (codes "a") nowhere; rest = Signed sign.CloseParenthesis ∷ Reserved keyword.Done ∷ the_end; theory = _; is_kind = refl; gets = refl }
 goes-body h cs (InProof x p script (AfterUnfolded false facts)) = record { one = Signed sign.CloseParenthesis; rest = Reserved keyword.Done ∷ the_end; theory = _; is_kind = refl; gets = refl }
 goes-body h cs (AtParam xs) = record { one = Variable (fresh xs) nowhere; rest = Signed sign.CloseParenthesis ∷ Plain (codes "a") nowhere ∷ the_end; theory = record { name = h.name; imports = h.imports; commands = cs ++ TypeDecl (codes "a") (length (xs ++ fresh xs ∷ [])) ∷ [] }; is_kind = refl; gets = rw (list_any-fresh xs) refl }
+
+-- the source has ended
+abbrev pub is_last : State → Bool
+is_last (AtLast t) = true
+is_last _ = false
 
 goes : (s : State) → is_last s ≡ false → GoesOn s
 goes AtStart e = record { one = Reserved keyword.Theory; rest = Plain (codes "a") nowhere ∷ Reserved keyword.Begin ∷ the_end; theory = _; is_kind = refl; gets = refl }

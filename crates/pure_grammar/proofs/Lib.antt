@@ -1,4 +1,7 @@
+pub mod Distinct
 pub mod Fronts
+pub mod Indexed
+pub mod Places
 pub mod Gaps
 pub mod Classes
 pub mod Readings
@@ -13,3 +16,4 @@ pub mod InnerAround
 pub mod InnerReadLemmas
 pub mod InnerFaultLemmas
 pub mod InnerEndLemmas
+pub mod RawTextLemmas

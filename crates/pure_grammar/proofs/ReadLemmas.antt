@@ -5,13 +5,13 @@ use Rattle.std.specs.Prelude.{Bool, true, false, Option, Some, None, map, if◌t
 use Rattle.std.specs.List.{list_any, AllByRecursion, fold}
 use Rattle.pure_grammar.specs.declared.lexeme.Keyword.TheVariants as keyword
 use Rattle.pure_grammar.specs.declared.lexeme.Sign.TheVariants as sign
-use Rattle.std.specs.Cmp.Lexicographic.{same_text}
 use Rattle.pure_grammar.specs.TheoryText.{Span, Step, Command, TheoryText}
 use Rattle.pure_grammar.specs.TheoryText as tree
 use Rattle.pure_grammar.specs.Lexeme.{Lexeme, Reserved, Signed, Plain, Dotted, Variable, Numeral, Quoted, Ends, same}
 use Rattle.pure_grammar.specs.Phrase.{Ident, Name, Simple, Full, TypeVariable, QuotedType, NamedType, VariableType, OneClass, NoClass, Classes, BasicPhrase, ByAssumption, ByRule, ByErule, ByDrule, ByUnfold, Alone, Together, ApplyStep, PreferStep, DeferStep, DoneEnd, ByEnd, ProofPhrase, NoneAbove, Above, NoParam, OneParam, Params, DomainsPhrase, NoDomain, Domains, AxiomPhrase, LemmaWritten, TheoremWritten, CommandPhrase, ClassCommand, TypedeclCommand, AritiesCommand, ConstsCommand, AxiomsCommand, DefinitionCommand, LemmaCommand, NoImport, Imports, FilePhrase}
 use Rattle.pure_grammar.specs.PhraseText.{each, each_comma, name_text, ident_text, variable_text, type_text, sort_text, basic_text, method_text, step_text, end_text, proof_text, domains_text, item_text, axiom_text, and_axiom_text, command_text, file_text, assumption_word, rule_word, erule_word, drule_word, unfold_word}
-use Rattle.pure_grammar.specs.PhraseTree.{all_of, name_of, type_span, sort_of, basic_step, method_steps, step_steps, end_steps, proof_steps, domains_of, item_command, axiom_command, phrase_commands, commands_of, with_text, mentions, imports_of, file_tree, AreNew, IsCommandPhrase}
+use Rattle.pure_grammar.specs.PhraseTree.{all_of, name_of, type_span, sort_of, basic_step, method_steps, step_steps, end_steps, proof_steps, domains_of, item_command, axiom_command, phrase_commands, commands_of, with_text, mentions, imports_of, file_tree, IsCommandPhrase}
+use Rattle.pure_grammar.proofs.Distinct.{same-is, AreNew, new-distinct}
 use Rattle.pure_grammar.proofs.ReaderLemmas.{after}
 use Rattle.pure_grammar.specs.Reader.{Header, State, InBody, AtStart, AfterImport, AtLast, Outcome, Through, Stuck, FactMethod, OfRule, OfErule, OfDrule, fact_step, AtStep, AtMethod, AtBasic, AfterBasic, AtFact, AtUnfolded, AfterUnfolded, Place, AtCommand, AtClassName, AfterAbove, AtParams, AfterParam, AtConstructor, AtDomains, AtSort, AfterSort, AfterClass, AtArityClass, AtItem, AtItemType, AfterItemType, AtWhere, AtAxiom, AfterAxiomText, AtDefinition, AtDefinitionType, AfterDefinitionType, AtLemma, InProof, Moves, Refuses, command_begun, leave, leave_with, goes_on, body_state, run}
 
@@ -33,9 +33,6 @@ pub record One {A : Type 0} (text : A → List Lexeme → List Lexeme) (s : A �
   pub is : r ≡ text item behind
   pub gets : Gets (s item) behind t
   pub less : length behind < length r
-
-same-is : (w v : List ℕ) → same w v ≡ true → w ≡ v
-same-is w v e = same_text w v (sym e)
 
 -- ---- lists of phrases
 record Each {A B : Type 0} (text : A → List Lexeme → List Lexeme) (more : B → A → B) (out : B → List Lexeme → Type 0) (before : B) (r : List Lexeme) : Type 0 where
@@ -300,14 +297,14 @@ got-typedecl h cs t [] g = absurd (none g refl)
 got-typedecl h cs t (Plain x at ∷ r) g = record { command = TypedeclCommand NoParam (record { text = x; at = at }); distinct = tt; behind = r; is = refl; gets = g; less = omega arith }
 got-typedecl h cs t (Variable y at ∷ []) g = absurd (none g refl)
 got-typedecl h cs t (Variable y at ∷ Plain x at' ∷ r) g =
-    record { command = TypedeclCommand (OneParam (record { text = y; at = at })) (record { text = x; at = at' }); distinct = (refl, tt); behind = r; is = refl; gets = g; less = omega arith }
+    record { command = TypedeclCommand (OneParam (record { text = y; at = at })) (record { text = x; at = at' }); distinct = (λ m. m, tt); behind = r; is = refl; gets = g; less = omega arith }
 got-typedecl h cs t (Variable y at ∷ l ∷ r) g = absurd (none g refl)
 got-typedecl h cs t (Signed sign.OpenParenthesis ∷ []) g = absurd (none g refl)
 got-typedecl h cs t (Signed sign.OpenParenthesis ∷ Variable y at ∷ r) g =
     let m = got-params h cs t (y ∷ []) r g in
     record {
       command = TypedeclCommand (Params (record { text = y; at = at }) m.more) m.name;
-      distinct = (refl, m.new);
+      distinct = new-distinct (y ∷ map (λ (y : TypeVariable). y.text) m.more) (refl, m.new);
       behind = m.behind;
       is = ap (λ z. Reserved keyword.Typedecl ∷ Signed sign.OpenParenthesis ∷ Variable y at ∷ z) m.is;
       gets = m.gets;

@@ -15,4 +15,5 @@ pub mod InnerText
 pub mod RawTree
 pub mod InnerTree
 pub mod Inner
+pub mod RawTexts
 pub mod InnerReader

@@ -1,6 +1,7 @@
 -- What each phrase of the grammar means, as a part of the theory's tree.
-use Rattle.std.specs.Prelude.{◌≡◌, false, ℕ, List, [], ◌∷◌, ◌++◌, map, length, if◌then◌else◌, codes}
+use Rattle.std.specs.Prelude.{ℕ, List, [], ◌∷◌, ◌++◌, map, length, if◌then◌else◌, codes}
 use Rattle.std.specs.List.{list_any}
+use Rattle.pure_text.specs.Lists.{AreDistinct}
 use Rattle.pure_grammar.specs.TheoryText.{Span, Step, Command, TheoryText}
 use Rattle.pure_grammar.specs.TheoryText as tree
 use Rattle.pure_grammar.specs.Lexeme.{same}
@@ -109,12 +110,7 @@ imports_of (Imports x xs) = mentions (x.text ∷ []) xs
 abbrev pub file_tree : FilePhrase → TheoryText
 file_tree f = record { name = f.name.text; imports = imports_of f.imports; commands = commands_of f.commands }
 
--- each text is other than those before it, and those of `known`
-abbrev pub AreNew : List (List ℕ) → List (List ℕ) → Type 0
-AreNew known [] = Unit {0}
-AreNew known (x ∷ xs) = (list_any (same x) known ≡ false) × AreNew (known ++ x ∷ []) xs
-
 -- the type variables of a typedecl are distinct
 abbrev pub IsCommandPhrase : CommandPhrase → Type 0
-IsCommandPhrase (TypedeclCommand params x) = AreNew [] (params_of params)
+IsCommandPhrase (TypedeclCommand params x) = AreDistinct (params_of params)
 IsCommandPhrase _ = Unit {0}

@@ -374,8 +374,3 @@ expected (AtImport x) = kind.Ident
 expected (AfterImport h) = kind.Word
 expected (InBody h cs place) = kind_at place
 expected (AtLast t) = kind.End
-
--- the source has ended
-abbrev pub is_last : State → Bool
-is_last (AtLast t) = true
-is_last _ = false

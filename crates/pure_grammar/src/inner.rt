@@ -1,3 +1,5 @@
+//! The signs of terms and types.
+
 /// The signs with which a part of a term or a type begins: `!!`, `%`, `[|`, `(` and `[`.
 #[derive(Clone, Copy, Debug, PartialEq, Eq)]
 pub enum Opening {

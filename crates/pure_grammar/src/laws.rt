@@ -1,6 +1,7 @@
 //! Laws of the definitions. Each function has no body: its contract is the law.
 ghost use Rattle.pure_grammar.specs.Inner.{OneTerm, OneType};
 ghost use Rattle.pure_grammar.specs.Outer.{OneTheory};
+ghost use Rattle.pure_grammar.specs.RawTexts.{TermIsWritten, TypeIsWritten};
 ghost use Rattle.pure_grammar.specs.Spelling.{OneList, ListOrFault, OneFault, QuoteHasMarks, TokensAreSlices};
 
 /// No source is spelled by two lists of tokens.
@@ -41,4 +42,14 @@ pub fn one_term()
 /// No tokens of a source spell two trees of a type.
 pub fn one_type()
     ensures { OneType }
+{}
+
+/// Each name and variable in the tree of a term is the text of a token of its kind, but for the constants of the notation.
+pub fn term_is_written()
+    ensures { TermIsWritten }
+{}
+
+/// Each name and variable in the tree of a type is the text of a token of its kind, but for the name of functions.
+pub fn type_is_written()
+    ensures { TypeIsWritten }
 {}

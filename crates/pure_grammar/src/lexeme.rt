@@ -1,3 +1,5 @@
+//! The words and signs of theories.
+
 /// The words that the grammar of theories reserves.
 #[derive(Clone, Copy, Debug, PartialEq, Eq)]
 pub enum Keyword {

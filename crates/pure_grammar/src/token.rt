@@ -1,3 +1,5 @@
+//! Tokens and their kinds.
+
 /// The kinds of tokens. `End` is the end of the source, only as what was expected.
 #[derive(Clone, Copy, Debug, PartialEq, Eq)]
 pub enum TokenKind {

@@ -1,12 +1,13 @@
 -- What is read where the mark of a variable stands.
-use Rattle.std.proofs.Common.{◌≡◌, ℕ, zero, suc, ◌+◌, ◌-◌, ◌<◌, ◌≤◌, Bool, true, false, ◌||◌, ◌==◌, List, [], ◌∷◌, ◌++◌, length, take, drop, get_or, refl, sym, ap, ◌∙◌, inl, inr, arith, append_assoc, length-append, add-one}
+use Rattle.std.proofs.Common.{◌≡◌, ℕ, zero, suc, ◌+◌, ◌-◌, ◌<◌, ◌≤◌, Bool, true, false, ◌==◌, List, [], ◌∷◌, ◌++◌, length, take, drop, get_or, refl, sym, ap, ◌∙◌, inl, inr, arith, append_assoc, length-append, add-one}
 use Rattle.std.proofs.lemmas.Bool.{and_parts, and_right, or_cases, or_left, or_right, both_ways, false_from_ne_true, eqb-true, eq-eqb}
 use Rattle.std.proofs.lemmas.List.{take-append-drop, length-take-le, length-drop}
-use Rattle.pure_grammar.specs.Bytes.{is_letter, is_digit, is_name_byte, head_is, marked, behind}
+use Rattle.pure_grammar.specs.Bytes.{is_letter, is_digit, is_name_byte, head_is, marked}
 use Rattle.pure_grammar.specs.Token.{is_spelling, is_number, is_indexed, is_schematic, is_long, first_identifier}
 use Rattle.pure_grammar.specs.Spelling.{IsFirst, HasNoFirst, IsFault}
 use Rattle.pure_grammar.specs.declared.token.TokenKind.TheVariants.{TypeVar, Schem}
 use Rattle.pure_grammar.proofs.Fronts.{marked-is}
+use Rattle.pure_grammar.proofs.Indexed.{name_or_type, letter-not_mark, indexed-head, not-indexed, not-marked}
 use Rattle.pure_grammar.proofs.Classes.{class_of}
 use Rattle.pure_lex.specs.Fronts.{IsCut, IsRun, IsDigits, IsFront, IsLongest, IsTaken, is_index, HasMarks}
 use Rattle.pure_lex.specs.Fronts.HasMarks.{one, two}
@@ -21,7 +22,7 @@ letter-zero : is_letter 0 ≡ false
 unfolding is_letter
 letter-zero = refl
 
-digit-zero : is_digit 0 ≡ false
+pub digit-zero : is_digit 0 ≡ false
 unfolding is_digit
 digit-zero = refl
 
@@ -141,26 +142,7 @@ class-schematic : class_of 63 ≡ 2
 unfolding class_of is_letter is_digit
 class-schematic = refl
 
-abbrev name_or_type : List ℕ → Bool
-name_or_type name = is_indexed name || marked 39 is_indexed name
-
-letter-not_mark : is_letter 39 ≡ false
-unfolding is_letter
-letter-not_mark = refl
-
-indexed-head : (bs : List ℕ) → is_indexed bs ≡ true → head_is is_letter bs ≡ true
-indexed-head bs p = (and_parts (head_is is_letter bs) (is_index (behind is_name_byte bs)) p).0
-
--- no name begins with the mark of a type variable
-not-indexed : (bs : List ℕ) → is_indexed (39 ∷ bs) ≡ true → ⊥
-not-indexed bs p = both_ways (is_letter 39) letter-not_mark (indexed-head (39 ∷ bs) p)
-
-not-marked : (bs : List ℕ) → head_is is_letter bs ≡ true → marked 39 is_indexed bs ≡ true → ⊥
-not-marked bs letter p =
-    let mark = marked-is 39 is_indexed bs p in
-    both_ways (is_letter 39) letter-not_mark (sym (ap (λ x. head_is is_letter x) mark.is) ∙ letter)
-
-longest-one : (here rest : List ℕ) → IsLongest is_indexed here rest → IsLongest is_schematic (63 ∷ here) rest
+pub longest-one : (here rest : List ℕ) → IsLongest is_indexed here rest → IsLongest is_schematic (63 ∷ here) rest
 longest-one here rest l = longest-marked 63 name_or_type here rest (record {
   passes = or_left (is_indexed here) (marked 39 is_indexed here) l.passes;
   longest = λ more left e p. elim (or_cases (is_indexed (here ++ more)) (marked 39 is_indexed (here ++ more)) p) [
@@ -169,7 +151,7 @@ longest-one here rest l = longest-marked 63 name_or_type here rest (record {
   ];
 })
 
-longest-two : (here rest : List ℕ) → IsLongest is_indexed here rest → IsLongest is_schematic (63 ∷ 39 ∷ here) rest
+pub longest-two : (here rest : List ℕ) → IsLongest is_indexed here rest → IsLongest is_schematic (63 ∷ 39 ∷ here) rest
 longest-two here rest l = longest-marked 63 name_or_type (39 ∷ here) rest (record {
   passes = or_right (is_indexed (39 ∷ here)) (marked 39 is_indexed (39 ∷ here)) l.passes;
   longest = λ more left e p. elim (or_cases (is_indexed (39 ∷ (here ++ more))) (marked 39 is_indexed (39 ∷ (here ++ more))) p) [

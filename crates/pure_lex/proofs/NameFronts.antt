@@ -42,10 +42,10 @@ long-second kind bs p q = rw (p, q) refl
 
 -- Words and identifiers
 
-name_kind-identifier : (name : List ℕ) → first_identifier (name_kind name) name ≡ name
+pub name_kind-identifier : (name : List ℕ) → first_identifier (name_kind name) name ≡ name
 name_kind-identifier name = elim (cases_Bool (is_keyword name)) [ inl keyword ↦ rw keyword refl | inr other ↦ rw other refl ]
 
-name_kind-second : (name : List ℕ) → second_identifier (name_kind name) name ≡ []
+pub name_kind-second : (name : List ℕ) → second_identifier (name_kind name) name ≡ []
 name_kind-second name = elim (cases_Bool (is_keyword name)) [ inl keyword ↦ rw keyword refl | inr other ↦ rw other refl ]
 
 name-first : (text : List ℕ) (len : ℕ) → head_is is_letter text ≡ true → IsRun is_name_byte text len → marked 46 (head_is is_letter) (drop len text) ≡ false → IsFirst (name_kind (take len text)) (take len text) (drop len text)

@@ -16,11 +16,7 @@ use Rattle.pure_lex.specs.Fronts.{IsCut, IsRun, IsDigits, IsLongest, IsTaken, be
 use Rattle.pure_lex.proofs.Runs.{cut}
 use Rattle.pure_lex.proofs.Longest.{head_is-front, behind-is, longest-marked, number-head}
 use Rattle.pure_lex.proofs.Firsts.{first-longest, no_first-kind, no_first-opening, no_first, group-longer}
-use Rattle.pure_lex.proofs.MarkFronts.{digits-longest, cut-mark, no_first-text, head_is-get}
-
-digit-zero : is_digit 0 ≡ false
-unfolding is_digit
-digit-zero = refl
+use Rattle.pure_lex.proofs.MarkFronts.{digit-zero, digits-longest, cut-mark, no_first-text, head_is-get}
 
 pub digit-get : (text : List ℕ) → is_digit (get_or text 0 0) ≡ head_is is_digit text
 digit-get text = head_is-get is_digit text digit-zero

@@ -4,6 +4,9 @@ ghost use Rattle.pure_grammar.specs.Bytes.{is_letter, is_digit, is_name_byte, is
 ghost use Rattle.pure_grammar.specs.Token.{is_quotable};
 ghost use Rattle.pure_lex.specs.Fronts.{IsRun, IsDigits};
 
+/// How many digits a number, an index or a bound name may have.
+const MOST_DIGITS: usize = 9;
+
 /// The byte at this index, or 0 behind the end.
 pub fn byte_at(text: &[u8], index: usize) -> u8
     ensures { result ≡ slice_index text.now index }
@@ -20,6 +23,7 @@ pub fn rest_from(text: &[u8], at: usize) -> &[u8]
     &text[at..]
 }
 
+/// `A` to `Z` and `a` to `z`.
 #[tactic(auto, unfolding(pure_grammar::specs::Bytes::is_letter))]
 pub fn is_letter(b: u8) -> bool
     ensures { result ≡ is_letter b }
@@ -27,6 +31,7 @@ pub fn is_letter(b: u8) -> bool
     b.is_ascii_alphabetic()
 }
 
+/// `0` to `9`.
 #[tactic(auto, unfolding(pure_grammar::specs::Bytes::is_digit))]
 pub fn is_digit(b: u8) -> bool
     ensures { result ≡ is_digit b }
@@ -34,6 +39,7 @@ pub fn is_digit(b: u8) -> bool
     b.is_ascii_digit()
 }
 
+/// A letter, a digit, `_` or `'`.
 #[tactic(auto, unfolding(pure_grammar::specs::Bytes::is_name_byte))]
 pub fn is_name_byte(b: u8) -> bool
     ensures { result ≡ is_name_byte b }
@@ -41,6 +47,7 @@ pub fn is_name_byte(b: u8) -> bool
     is_letter(b) || is_digit(b) || b == b'_' || b == b'\''
 }
 
+/// A space, a tab, a carriage return or a line feed.
 #[tactic(auto, unfolding(pure_grammar::specs::Bytes::is_blank))]
 pub fn is_blank(b: u8) -> bool
     ensures { result ≡ is_blank b }
@@ -48,6 +55,7 @@ pub fn is_blank(b: u8) -> bool
     b == b' ' || b == b'\t' || b == b'\r' || b == b'\n'
 }
 
+/// Any ASCII byte but the quotation mark.
 #[tactic(auto, unfolding(pure_grammar::specs::Token::is_quotable))]
 pub fn is_quotable(b: u8) -> bool
     ensures { result ≡ is_quotable b }
@@ -79,12 +87,12 @@ pub fn quotable_length(text: &[u8]) -> usize
     text.len()
 }
 
-/// How many digits stand at the front, of which nine are counted at most.
+/// How many digits stand at the front, of which `MOST_DIGITS` are counted at most.
 pub fn digit_count(text: &[u8]) -> usize
     ensures { IsDigits text.now result }
 {
     for (i, b) in text.iter().enumerate() {
-        if i == 9 {
+        if i == MOST_DIGITS {
             return i;
         }
         if !is_digit(*b) {

@@ -10,6 +10,7 @@ use crate::gaps::opens_comment;
 use crate::names::{name, schematic, type_variable};
 use pure_grammar::TokenKind;
 
+/// Whether the text begins with a digit.
 fn begins_digit(text: &[u8]) -> bool
     ensures { result ≡ head_is is_digit text.now }
 {
@@ -58,6 +59,7 @@ fn quote(text: &[u8]) -> Result<Front, usize>
     })
 }
 
+/// A symbol of one byte.
 #[tactic(auto, unfolding(pure_grammar::specs::Token::is_single))]
 fn is_single(b: u8) -> bool
     ensures { result ≡ is_single b }
@@ -65,6 +67,7 @@ fn is_single(b: u8) -> bool
     b"%.,;:()[]{}<|+".contains(&b)
 }
 
+/// `!!`, `==`, `=>`, `::`, `[|` and `|]`.
 #[tactic(auto, unfolding(pure_grammar::specs::Token::is_pair))]
 fn is_pair(b: u8, c: u8) -> bool
     ensures { result ≡ is_pair b c }
@@ -79,6 +82,7 @@ fn is_pair(b: u8, c: u8) -> bool
     }
 }
 
+/// `==>`.
 #[tactic(auto, unfolding(pure_grammar::specs::Token::is_triple))]
 fn is_triple(b: u8, c: u8, d: u8) -> bool
     ensures { result ≡ is_triple b c d }
@@ -86,6 +90,7 @@ fn is_triple(b: u8, c: u8, d: u8) -> bool
     b == b'=' && c == b'=' && d == b'>'
 }
 
+/// How many of these three bytes are the longest symbol, 0 standing for the end of the text.
 fn symbol_length(b: u8, c: u8, d: u8) -> usize
     ensures { result ≡ symbol_length b c d }
 {

@@ -5,18 +5,21 @@ ghost use Rattle.pure_lex.specs.Fronts.{IsComment, HasNoComment, IsGap};
 
 use crate::bytes::{byte_at, is_blank, rest_from};
 
+/// `(*`.
 fn is_opening(b: u8, c: u8) -> bool
     ensures { result ≡ is_opening b c }
 {
     b == b'(' && c == b'*'
 }
 
+/// `*)`.
 fn is_closing(b: u8, c: u8) -> bool
     ensures { result ≡ is_closing b c }
 {
     b == b'*' && c == b')'
 }
 
+/// Whether the text begins with the mark that opens a comment.
 pub fn opens_comment(text: &[u8]) -> bool
     ensures { result ≡ opens_comment text.now }
 {

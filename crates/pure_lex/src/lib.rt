@@ -13,6 +13,3 @@ mod reading;
 pub use lines::line_col;
 pub use pure_grammar::{Token, TokenKind};
 pub use reading::{LexFault, tokens};
-
-#[cfg(test)]
-mod tests;

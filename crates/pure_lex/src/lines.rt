@@ -1,3 +1,4 @@
+//! Lines and columns of a source.
 ghost use Rattle.std.specs.Prelude.{◌≡◌, ◌<◌, ◌≤◌, ◌-◌, ◌^◌, length, take};
 ghost use Rattle.pure_lex.specs.Lines.{line_behind, column_behind};
 

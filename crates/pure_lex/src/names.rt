@@ -11,6 +11,7 @@ use pure_grammar::TokenKind;
 /// How many bytes an identifier may have.
 const LONGEST: usize = 64;
 
+/// The words that the grammar of theories reserves.
 const KEYWORDS: [&[u8]; 21] = [
     b"theory",
     b"imports",
@@ -35,6 +36,7 @@ const KEYWORDS: [&[u8]; 21] = [
     b"version",
 ];
 
+/// Whether the text is a keyword.
 fn is_keyword(text: &[u8]) -> bool
     ensures { result ≡ is_keyword text.now }
 {
@@ -52,18 +54,21 @@ fn name_kind(text: &[u8]) -> TokenKind
     }
 }
 
+/// Whether the text begins with a letter.
 pub fn begins_letter(text: &[u8]) -> bool
     ensures { result ≡ head_is is_letter text.now }
 {
     is_letter(byte_at(text, 0))
 }
 
+/// Whether the text begins with a dot and a letter.
 fn begins_dotted_letter(text: &[u8]) -> bool
     ensures { result ≡ marked dot (head_is is_letter) text.now }
 {
     byte_at(text, 0) == b'.' && is_letter(byte_at(text, 1))
 }
 
+/// Whether the text begins with a dot and a digit.
 fn begins_dotted_digit(text: &[u8]) -> bool
     ensures { result ≡ marked dot (head_is is_digit) text.now }
 {

@@ -11,12 +11,13 @@ use Rattle.pure_grammar.specs.declared.token.TokenKind.TheVariants.{Word, Ident,
 use Rattle.pure_grammar.specs.Bytes.{is_letter, is_digit, is_name_byte, is_empty, head_is, marked, behind}
 use Rattle.pure_grammar.specs.Token.{is_spelling, is_qualified, is_number, is_indexed, is_schematic, is_long, is_keyword, long_identifier, first_identifier, second_identifier, tail}
 use Rattle.pure_grammar.specs.Spelling.{IsFirst}
-use Rattle.pure_grammar.proofs.Fronts.{marked-is}
+use Rattle.pure_grammar.proofs.Indexed.{letter-not_mark}
 use Rattle.pure_grammar.proofs.Classes.{one_kind}
 use Rattle.pure_lex.specs.Fronts.{IsLongest, is_index, name_kind}
 use Rattle.pure_lex.proofs.Longest.{head_is-front, behind-is, longest-marked, longest-named, longest-number, longest-index, longest-no_index, is_long-short}
 use Rattle.pure_lex.proofs.Firsts.{first-longest, first-name, first-qualified, spelling-name, dot-stops}
-use Rattle.pure_lex.proofs.NameFronts.{long-none, all-short}
+use Rattle.pure_lex.proofs.NameFronts.{name_kind-identifier, name_kind-second, long-none, all-short}
+use Rattle.pure_lex.proofs.MarkFronts.{longest-one, longest-two}
 use Rattle.pure_print.specs.NameText.{index_text}
 use Rattle.pure_print.specs.Readable.{IsIdentifier, IsShortIndex}
 use Rattle.pure_print.proofs.Bits.{goes_on, Stops}
@@ -62,12 +63,6 @@ identifier-spelled name h =
 
 pub identifier-first : (name rest : List ℕ) → IsSpelled name → Stops rest → IsFirst (name_kind name) name rest
 identifier-first name rest s h = first-name name rest s.letter s.all (stops-name rest h) (stops-dotted (head_is is_letter) rest h)
-
-name_kind-identifier : (name : List ℕ) → first_identifier (name_kind name) name ≡ name
-name_kind-identifier name = elim (cases_Bool (is_keyword name)) [ inl keyword ↦ rw keyword refl | inr other ↦ rw other refl ]
-
-name_kind-second : (name : List ℕ) → second_identifier (name_kind name) name ≡ []
-name_kind-second name = elim (cases_Bool (is_keyword name)) [ inl keyword ↦ rw keyword refl | inr other ↦ rw other refl ]
 
 pub identifier-short : (name : List ℕ) → IsSpelled name → long_identifier (name_kind name) name ≡ None
 identifier-short name s =
@@ -153,42 +148,6 @@ index-stops i rest h = elim (cases_Bool (nat_eq i 0)) [
 
 indexed-longest : (name rest : List ℕ) (i : ℕ) → IsSpelled name → IsShortIndex i → Stops rest → IsLongest is_indexed (name ++ index_text i) rest
 indexed-longest name rest i s short h = longest-named is_index name (index_text i) rest s.letter s.all (index-stops i rest h) (index-longest i rest short h)
-
-letter-not_mark : is_letter 39 ≡ false
-unfolding is_letter
-letter-not_mark = refl
-
-indexed-head : (bs : List ℕ) → is_indexed bs ≡ true → head_is is_letter bs ≡ true
-indexed-head bs p = (and_parts (head_is is_letter bs) (is_index (behind is_name_byte bs)) p).0
-
-not-indexed : (bs : List ℕ) → is_indexed (39 ∷ bs) ≡ true → ⊥
-not-indexed bs p = both_ways (is_letter 39) letter-not_mark (indexed-head (39 ∷ bs) p)
-
-not-marked : (bs : List ℕ) → head_is is_letter bs ≡ true → marked 39 is_indexed bs ≡ true → ⊥
-not-marked bs letter p =
-    let mark = marked-is 39 is_indexed bs p in
-    both_ways (is_letter 39) letter-not_mark (sym (ap (λ x. head_is is_letter x) mark.is) ∙ letter)
-
-abbrev name_or_type : List ℕ → Bool
-name_or_type name = is_indexed name || marked 39 is_indexed name
-
-longest-one : (here rest : List ℕ) → IsLongest is_indexed here rest → IsLongest is_schematic (63 ∷ here) rest
-longest-one here rest l = longest-marked 63 name_or_type here rest (record {
-  passes = or_left (is_indexed here) (marked 39 is_indexed here) l.passes;
-  longest = λ more left e p. elim (or_cases (is_indexed (here ++ more)) (marked 39 is_indexed (here ++ more)) p) [
-    | inl name ↦ l.longest more left e name
-    | inr mark ↦ absurd (not-marked (here ++ more) (head_is-front is_letter here more (indexed-head here l.passes)) mark)
-  ];
-})
-
-longest-two : (here rest : List ℕ) → IsLongest is_indexed here rest → IsLongest is_schematic (63 ∷ 39 ∷ here) rest
-longest-two here rest l = longest-marked 63 name_or_type (39 ∷ here) rest (record {
-  passes = or_right (is_indexed (39 ∷ here)) (marked 39 is_indexed (39 ∷ here)) l.passes;
-  longest = λ more left e p. elim (or_cases (is_indexed (39 ∷ (here ++ more))) (marked 39 is_indexed (39 ∷ (here ++ more))) p) [
-    | inl name ↦ absurd (not-indexed (here ++ more) name)
-    | inr mark ↦ l.longest more left e mark
-  ];
-})
 
 pub schematic-first : (name rest : List ℕ) (i : ℕ) → IsSpelled name → IsShortIndex i → Stops rest → IsFirst Schem (63 ∷ (name ++ index_text i)) rest
 schematic-first name rest i s short h =

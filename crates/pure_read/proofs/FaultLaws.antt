@@ -1,9 +1,10 @@
 -- Faults of syntax exclude a tree, and one another.
-use Rattle.std.proofs.Common.{◌≡◌, ℕ, zero, suc, ◌+◌, ◌<◌, List, [], ◌∷◌, ◌++◌, length, refl, sym, ◌∙◌, ap, subst, append_assoc, arith}
+use Rattle.std.proofs.Common.{◌≡◌, ℕ, ◌<◌, List, [], ◌∷◌, ◌++◌, length, sym, ◌∙◌, ap, subst, append_assoc}
 use Rattle.pure_grammar.specs.declared.token.Token.{Token}
 use Rattle.pure_grammar.specs.Outer.{place_of}
 use Rattle.pure_grammar.specs.InnerLexeme.{InnerLexeme}
 use Rattle.pure_grammar.specs.Inner.{IsTerm, IsType, BeginsTerm, BeginsType, InnerGoesWrong, HasInnerFault}
+use Rattle.pure_grammar.proofs.Places.{goes-on-behind, same-number}
 use Rattle.pure_read.specs.Laws.{TermOrFault, TypeOrFault, OneTermFault, OneTypeFault}
 
 pub term_or_fault : TermOrFault
@@ -13,35 +14,6 @@ term_or_fault source tokens term at spells fault =
 pub type_or_fault : TypeOrFault
 type_or_fault source tokens typ at spells fault =
     fault.wrong.stops (fault.rest, typ, subst (λ z. IsType z typ) (fault.wrong.parts ∙ sym (append_assoc fault.before (fault.found ∷ []) fault.rest)) spells)
-
-head_or : InnerLexeme → List InnerLexeme → InnerLexeme
-head_or l [] = l
-head_or l (x ∷ xs) = x
-
-tail_of : List InnerLexeme → List InnerLexeme
-tail_of [] = []
-tail_of (x ∷ xs) = xs
-
-same-head : (x y : InnerLexeme) (r q : List InnerLexeme) → x ∷ r ≡ y ∷ q → x ≡ y
-unfolding head_or
-same-head x y r q e = ap (head_or x) e
-
-same-tail : (x y : InnerLexeme) (r q : List InnerLexeme) → x ∷ r ≡ y ∷ q → r ≡ q
-unfolding tail_of
-same-tail x y r q e = ap tail_of e
-
--- the longer front goes on behind the shorter one
-record GoesOnBehind (b c : List InnerLexeme) (x : InnerLexeme) : Type 0 where
-  more : List InnerLexeme
-  is : c ≡ b ++ x ∷ more
-
-goes-on-behind : (b c : List InnerLexeme) (x y : InnerLexeme) (r q : List InnerLexeme) → b ++ x ∷ r ≡ c ++ y ∷ q → length b < length c → GoesOnBehind b c x
-goes-on-behind [] [] x y r q e l = absurd (omega (arith, l))
-goes-on-behind [] (z ∷ c) x y r q e l = record { more = c; is = ap (λ w. w ∷ c) (sym (same-head x z r (c ++ y ∷ q) e)) }
-goes-on-behind (u ∷ b) [] x y r q e l = absurd (omega (arith, l))
-goes-on-behind (u ∷ b) (z ∷ c) x y r q e l =
-    let m = goes-on-behind b c x y r q (same-tail u z (b ++ x ∷ r) (c ++ y ∷ q) e) (omega (arith, l)) in
-    record { more = m.more; is = ap (λ w. w ∷ c) (sym (same-head u z (b ++ x ∷ r) (c ++ y ∷ q) e)) ∙ ap (λ w. u ∷ w) m.is }
 
 -- each front of what begins a text begins one
 AreFrontsToo : (List InnerLexeme → Type 0) → Type 0
@@ -64,12 +36,6 @@ unfolding AreFrontsToo
 not-behind begins fronts ls b c x y r q first second l =
     let m = goes-on-behind b c x y r q (sym first.parts ∙ second.parts) l in
     first.stops (fronts b m.more x (subst begins m.is second.goes))
-
-same-number : (m n : ℕ) → (m < n → ⊥) → (n < m → ⊥) → m ≡ n
-same-number zero zero up down = refl
-same-number zero (suc n) up down = absurd (up (omega arith))
-same-number (suc m) zero up down = absurd (down (omega arith))
-same-number (suc m) (suc n) up down = ap suc (same-number m n (λ l. up (omega (arith, l))) (λ l. down (omega (arith, l))))
 
 one-place : (begins : List InnerLexeme → Type 0) → AreFrontsToo begins → (source : List ℕ) (tokens : List Token) (first second : ℕ)
     → HasInnerFault begins source tokens first → HasInnerFault begins source tokens second → first ≡ second

@@ -1,13 +1,13 @@
 -- What is read so far, and what it says in the end.
-use Rattle.std.proofs.Common.{◌≡◌, ℕ, zero, suc, ◌<◌, ◌≤◌, List, [], ◌∷◌, ◌++◌, length, drop, get_or, refl, sym, ◌∙◌, ap, subst, arith}
+use Rattle.std.proofs.Common.{◌≡◌, ℕ, zero, suc, ◌<◌, ◌≤◌, List, [], ◌∷◌, ◌++◌, length, drop, get_or, refl, sym, ◌∙◌, ap, arith}
 use Rattle.std.specs.Prelude.{Some, None}
 use Rattle.pure_grammar.specs.declared.token.Token.{Token}
-use Rattle.pure_grammar.specs.Spelling.{IsSlice, AreSlices}
 use Rattle.pure_grammar.specs.Outer.{place_of}
 use Rattle.pure_grammar.specs.InnerLexeme.{InnerLexeme, Ends, inner, inners}
 use Rattle.pure_grammar.specs.Inner.{HasTermFault, HasTypeFault}
 use Rattle.pure_grammar.specs.InnerReader.{AtTerm, AtType, State, In, goes_on, next, run}
 use Rattle.pure_grammar.proofs.InnerFaultLemmas.{run-append, run-begins-term, run-begins-type, stuck-term, stuck-type}
+use Rattle.pure_grammar.proofs.Places.{place_of-token, place_of-end}
 use Rattle.pure_read.specs.Stuck.{IsStuck}
 
 -- the first n tokens
@@ -43,15 +43,6 @@ length-lexed-all source [] zero past = refl
 length-lexed-all source [] (suc i) past = refl
 length-lexed-all source (u ∷ ts) zero past = absurd (omega (arith, past))
 length-lexed-all source (u ∷ ts) (suc i) past = ap suc (length-lexed-all source ts i (omega (arith, past)))
-
-place_of-token : (ts : List Token) (len i : ℕ) (d t : Token) → i < length ts → t ≡ get_or ts i d → t.from ≡ place_of ts len i
-place_of-token [] len i d t below at = absurd (omega (arith, below))
-place_of-token (u ∷ ts) len zero d t below at = ap (λ (z : Token). z.from) at
-place_of-token (u ∷ ts) len (suc i) d t below at = place_of-token ts len i d t (omega (arith, below)) at
-
-place_of-end : (ts : List Token) (len : ℕ) → len ≡ place_of ts len (length ts)
-place_of-end [] len = refl
-place_of-end (u ∷ ts) len = place_of-end ts len
 
 -- one token more is read
 pub reads-more : (source : List ℕ) (ts : List Token) (i j : ℕ) (start s u : State) (d t : Token) → j ≡ suc i → i < length ts → t ≡ get_or ts i d → run start (lexed source i ts) ≡ Some s
@@ -95,7 +86,7 @@ stuck-end source ts i start s past reads stops =
       parts = inners-end source ts i past;
       reads = reads;
       stops = stops;
-      at_place = place_of-end ts (length source) ∙ ap (place_of ts (length source)) (sym (length-lexed-all source ts i past));
+      at_place = place_of-end ts (length source) (length (lexed source i ts)) (length-lexed-all source ts i past);
     }
 
 -- where the reader stops, the first fault stands
@@ -118,8 +109,3 @@ type-fault source ts at stuck =
       wrong = record { parts = stuck.parts; goes = run-begins-type stuck.before stuck.state stuck.reads; stops = stuck-type stuck.before stuck.found stuck.state stuck.reads stuck.stops };
       at_place = stuck.at_place;
     }
-
-pub slice-at : (source : List ℕ) (to : ℕ) (ts : List Token) (from i : ℕ) (d t : Token) → AreSlices source from to ts → i < length ts → t ≡ get_or ts i d → IsSlice source t
-slice-at source to [] from i d t are below at = absurd (omega (arith, below))
-slice-at source to (u ∷ ts) from zero d t are below at = subst (IsSlice source) (sym at) are.1
-slice-at source to (u ∷ ts) from (suc i) d t are below at = slice-at source to ts u.to i d t are.2 (omega (arith, below)) at

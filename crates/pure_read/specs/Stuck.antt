@@ -25,11 +25,15 @@ IsStuckAs start source tokens TooLong = ⊥
 IsStuckAs start source tokens (Syntax at) = IsStuck start source tokens at
 IsStuckAs start source tokens Memory = Unit {0}
 
+-- how many tokens are read at most
+abbrev pub most_tokens : ℕ
+most_tokens = 1000
+
 -- There are too many tokens to be read.
 abbrev pub IsTooLong : List Token → Type 0
-IsTooLong tokens = 1000 < length tokens
+IsTooLong tokens = most_tokens < length tokens
 
--- What a fault says of the tokens of a term. There are more than 1,000 of them; or the first fault stands where it says.
+-- What a fault says of the tokens of a term. There are too many of them; or the first fault stands where it says.
 -- Want of memory says nothing more.
 abbrev pub IsTermFaultOf : List ℕ → List Token → RawFault → Type 0
 IsTermFaultOf source tokens TooLong = IsTooLong tokens

@@ -93,6 +93,7 @@ pub(crate) enum Popped {
 }
 
 impl Stack {
+    /// Nothing stands open.
     pub(crate) fn empty(alloc: Global) -> Stack
         ensures { seen_stack result ≡ [] }
     {
@@ -109,6 +110,7 @@ impl Stack {
         Ok(Stack { frames })
     }
 
+    /// Takes the innermost frame off.
     pub(crate) fn pop(self) -> Popped
         ensures { seen_stack self ≡ seen_popped result }
     {

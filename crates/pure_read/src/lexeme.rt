@@ -35,6 +35,7 @@ pub(crate) struct Written {
     pub(crate) text: Text,
 }
 
+/// A number for each opening.
 fn opening_number(opening: Opening) -> u8
     ensures { result ≡ reader.opening_number opening }
 {
@@ -47,6 +48,7 @@ fn opening_number(opening: Opening) -> u8
     }
 }
 
+/// A number for each mark.
 fn mark_number(mark: Mark) -> u8
     ensures { result ≡ reader.mark_number mark }
 {
@@ -92,6 +94,7 @@ pub(crate) fn is_mark(mark: Mark, lexeme: Lexeme<'_>) -> bool
     }
 }
 
+/// Whether it is the end of the tokens.
 pub(crate) fn is_end(lexeme: Lexeme<'_>) -> bool
     ensures { result ≡ reader.is_end (seen_lexeme lexeme.entry) }
 {
@@ -101,6 +104,7 @@ pub(crate) fn is_end(lexeme: Lexeme<'_>) -> bool
     }
 }
 
+/// The name or variable with its text.
 fn with_text(
     alloc: Global,
     kind: TokenKind,
@@ -193,6 +197,7 @@ fn is_marked_as_type(text: &[u8]) -> bool
     }
 }
 
+/// A schematic variable of terms, or of types where an apostrophe stands behind its question mark.
 fn schematic_lexeme<'s>(text: &'s [u8], at: u32) -> Lexeme<'s>
     ensures { seen_lexeme result ≡ spec.schematic_lexeme text.now at }
 {
@@ -203,18 +208,21 @@ fn schematic_lexeme<'s>(text: &'s [u8], at: u32) -> Lexeme<'s>
     }
 }
 
+/// Whether both are one text.
 fn equals(bytes: &[u8], text: &[u8]) -> bool
     ensures { result ≡ same bytes.now text.now }
 {
     bytes == text
 }
 
+/// An opening at its place.
 fn opens<'s>(opening: Opening, at: u32) -> Lexeme<'s>
     ensures { seen_lexeme result ≡ spec.Opens opening at }
 {
     Lexeme::Opens { opening, at }
 }
 
+/// A sign that begins nothing.
 fn signed<'s>(mark: Mark) -> Lexeme<'s>
     ensures { seen_lexeme result ≡ spec.Signed mark }
 {

@@ -14,7 +14,4 @@ mod turn;
 mod typ;
 
 pub use raw::{Raw, RawClass, RawNode, RawTyp, RawTypNode};
-pub use read::{RawFault, read_raw, read_raw_typ};
-
-#[cfg(test)]
-mod tests;
+pub use read::{MAX_TOKENS, RawFault, read_raw, read_raw_typ};

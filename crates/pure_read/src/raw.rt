@@ -137,6 +137,7 @@ impl Raw {
         }
     }
 
+    /// An abstraction.
     pub(crate) fn abs(
         alloc: Global,
         at: u32,
@@ -152,6 +153,7 @@ impl Raw {
         })
     }
 
+    /// `fun arg`.
     pub(crate) fn app(alloc: Global, at: u32, fun: Raw, arg: Raw) -> Result<Raw, AllocError>
         ensures { IfOk result (λ t. t ≡ tree.App at fun arg) }
     {
@@ -162,6 +164,7 @@ impl Raw {
         })
     }
 
+    /// `term :: typ`.
     pub(crate) fn typed(alloc: Global, at: u32, term: Raw, typ: RawTyp) -> Result<Raw, AllocError>
         ensures { IfOk result (λ t. t ≡ tree.Typed at term typ) }
     {
@@ -171,6 +174,7 @@ impl Raw {
         })
     }
 
+    /// A constant of the notation.
     fn constant(alloc: Global, at: u32, name: &[u8]) -> Result<Raw, AllocError>
         ensures { IfOk result (λ t. t ≡ tree.constant at name.now) }
     {
@@ -225,6 +229,7 @@ impl Raw {
 }
 
 impl RawTyp {
+    /// A variable with its classes.
     pub(crate) fn var(at: u32, kind: TokenKind, text: Text, sort: Vec<RawClass>) -> RawTyp
         ensures { result ≡ tree.Var at kind text sort.items }
     {
@@ -238,6 +243,7 @@ impl RawTyp {
         }
     }
 
+    /// A constructor with its arguments.
     pub(crate) fn con(at: u32, name: Text, args: Vec<RawTyp>) -> RawTyp
         ensures { result ≡ tree.Con at name (tree.raw_typs_of args.items) }
     {

@@ -15,7 +15,10 @@ use crate::turn::next;
 use pure_grammar::Token;
 use std::alloc::{AllocError, Global};
 
-/// Why tokens have no tree: there are more than 1,000 of them, or where their first fault of syntax stands. `Memory` is
+/// How many tokens a text may have.
+pub const MAX_TOKENS: usize = 1000;
+
+/// Why tokens have no tree: there are more than `MAX_TOKENS` of them, or where their first fault of syntax stands. `Memory` is
 /// want of memory.
 #[derive(Clone, Copy, Debug, PartialEq, Eq)]
 pub enum RawFault {
@@ -68,7 +71,7 @@ fn run(alloc: Global, start: State, source: &[u8], tokens: &[Token]) -> Result<S
 }
 
 /// The tree of the term that the tokens of the source spell, or where the first fault stands: the first token with which
-/// no term goes on, or the source's end. More than 1,000 tokens are not read.
+/// no term goes on, or the source's end. More than `MAX_TOKENS` are not read.
 pub fn read_raw(alloc: Global, source: &[u8], tokens: &[Token]) -> Result<Raw, RawFault>
     requires small { length source.now < 4294967296 }
     requires slices { AreSlices source.now 0 (length source.now) tokens.now }
@@ -76,7 +79,7 @@ pub fn read_raw(alloc: Global, source: &[u8], tokens: &[Token]) -> Result<Raw, R
     ensures ok { IfOk result (λ raw. SpellsTerm source.now tokens.now raw) }
     ensures fault { IfErr result (IsTermFaultOf source.now tokens.now) }
 {
-    if tokens.len() > 1000 {
+    if tokens.len() > MAX_TOKENS {
         return Err(RawFault::TooLong);
     }
     let place = Place::AtTerm;
@@ -90,7 +93,7 @@ pub fn read_raw(alloc: Global, source: &[u8], tokens: &[Token]) -> Result<Raw, R
 }
 
 /// The tree of the type that the tokens of the source spell, or where the first fault stands: the first token with which
-/// no type goes on, or the source's end. More than 1,000 tokens are not read.
+/// no type goes on, or the source's end. More than `MAX_TOKENS` are not read.
 pub fn read_raw_typ(alloc: Global, source: &[u8], tokens: &[Token]) -> Result<RawTyp, RawFault>
     requires small { length source.now < 4294967296 }
     requires slices { AreSlices source.now 0 (length source.now) tokens.now }
@@ -98,7 +101,7 @@ pub fn read_raw_typ(alloc: Global, source: &[u8], tokens: &[Token]) -> Result<Ra
     ensures ok { IfOk result (λ typ. SpellsType source.now tokens.now typ) }
     ensures fault { IfErr result (IsTypeFaultOf source.now tokens.now) }
 {
-    if tokens.len() > 1000 {
+    if tokens.len() > MAX_TOKENS {
         return Err(RawFault::TooLong);
     }
     let place = Place::AtType;

@@ -21,6 +21,7 @@ pub(crate) struct TermPart {
     pub(crate) stack: Stack,
 }
 
+/// A name or a variable as a term.
 fn leaf(written: Written) -> Raw
     ensures { result ≡ spec.leaf (seen_one written) }
 {
@@ -45,26 +46,29 @@ pub(crate) fn reduced(
 ) -> Result<TermPart, AllocError>
     ensures { IfOk result (λ part. seen_term_part part ≡ spec.reduced level at term (seen_stack stack)) }
 {
-    match stack.pop() {
-        Popped::Nothing => {
+    let mut at = at;
+    let mut term = term;
+    let mut stack = stack;
+    'joins: loop {
+        let Popped::Open { frame, below } = stack.pop() else {
             let stack = Stack::empty(alloc);
-            Ok(TermPart { at, term, stack })
-        }
-        Popped::Open { frame, below } => match frame {
+            return Ok(TermPart { at, term, stack });
+        };
+        match frame {
             Frame::Joined { join } => {
-                if level <= join.level() {
-                    let whole = join.at();
-                    let term = join.term(alloc, term)?;
-                    return reduced(alloc, level, whole, term, below);
+                if level > join.level() {
+                    return kept(at, term, below, Frame::Joined { join });
                 }
-                kept(at, term, below, Frame::Joined { join })
+                at = join.at();
+                term = join.term(alloc, term)?;
+                stack = below;
             }
-            Frame::InTerm { around } => kept(at, term, below, Frame::InTerm { around }),
+            Frame::InTerm { around } => return kept(at, term, below, Frame::InTerm { around }),
             Frame::Range { at: whole, domain } => {
-                kept(at, term, below, Frame::Range { at: whole, domain })
+                return kept(at, term, below, Frame::Range { at: whole, domain });
             }
-            Frame::InType { around } => kept(at, term, below, Frame::InType { around }),
-        },
+            Frame::InType { around } => return kept(at, term, below, Frame::InType { around }),
+        }
     }
 }
 
@@ -194,6 +198,7 @@ pub(crate) fn con_ends(
     part_ends(alloc, reduced(alloc, 1, at, term, stack)?, l)
 }
 
+/// Behind an application, which a type may follow.
 fn after_leaf(
     alloc: Global,
     at: u32,

@@ -43,20 +43,24 @@ fn kept(at: u32, typ: RawTyp, below: Stack, frame: Frame) -> Result<TypePart, Al
 fn ranged(alloc: Global, at: u32, typ: RawTyp, stack: Stack) -> Result<TypePart, AllocError>
     ensures { IfOk result (λ part. seen_type_part part ≡ spec.ranged at typ (seen_stack stack)) }
 {
-    match stack.pop() {
-        Popped::Nothing => {
+    let mut at = at;
+    let mut typ = typ;
+    let mut stack = stack;
+    'arrows: loop {
+        let Popped::Open { frame, below } = stack.pop() else {
             let stack = Stack::empty(alloc);
-            Ok(TypePart { at, typ, stack })
-        }
-        Popped::Open { frame, below } => match frame {
-            Frame::Joined { join } => kept(at, typ, below, Frame::Joined { join }),
-            Frame::InTerm { around } => kept(at, typ, below, Frame::InTerm { around }),
+            return Ok(TypePart { at, typ, stack });
+        };
+        match frame {
+            Frame::Joined { join } => return kept(at, typ, below, Frame::Joined { join }),
+            Frame::InTerm { around } => return kept(at, typ, below, Frame::InTerm { around }),
             Frame::Range { at: whole, domain } => {
-                let arrow = RawTyp::arrow(alloc, whole, domain, typ)?;
-                ranged(alloc, whole, arrow, below)
+                at = whole;
+                typ = RawTyp::arrow(alloc, whole, domain, typ)?;
+                stack = below;
             }
-            Frame::InType { around } => kept(at, typ, below, Frame::InType { around }),
-        },
+            Frame::InType { around } => return kept(at, typ, below, Frame::InType { around }),
+        }
     }
 }
 

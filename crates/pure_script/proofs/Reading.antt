@@ -8,8 +8,10 @@ use Rattle.pure_grammar.specs.Lexeme.{Lexeme, Ends, lexeme, lexemes}
 use Rattle.pure_grammar.specs.Spelling.{IsSlice, AreSlices}
 use Rattle.pure_grammar.specs.Outer.{SpellsTheory, HasSyntaxFault, place_of}
 use Rattle.pure_grammar.specs.Reader as spec
-use Rattle.pure_grammar.specs.Reader.{AtStart, AtLast, Through, Stuck, goes_on, next, run, expected, is_last}
-use Rattle.pure_grammar.proofs.FaultLemmas.{Wrong, goes-wrong, Gets-IsTheory}
+use Rattle.pure_grammar.specs.Reader.{AtStart, AtLast, Through, Stuck, goes_on, next, run, expected}
+use Rattle.pure_grammar.proofs.FaultLemmas.{Wrong, goes-wrong, Gets-IsTheory, is_last}
+use Rattle.pure_grammar.proofs.Places.{place_of-token, place_of-end}
+pub use Rattle.pure_grammar.proofs.Places.{slice-at}
 use Rattle.pure_script.specs.States.{seen_state, IsNext}
 use Rattle.pure_script.specs.declared.state.State.{State}
 use Rattle.pure_script.specs.declared.state.State.TheVariants as state
@@ -40,17 +42,6 @@ reads-more source ts i s u d t below at reads on =
 length-lexemes : (source : List ℕ) (ts : List Token) → length (lexemes source ts) ≡ suc (length ts)
 length-lexemes source [] = refl
 length-lexemes source (t ∷ ts) = ap suc (length-lexemes source ts)
-
-place_of-token : (ts : List Token) (len i : ℕ) (d t : Token) → i < length ts → t ≡ get_or ts i d → t.from ≡ place_of ts len i
-place_of-token [] len i d t below at = absurd (omega (arith, below))
-place_of-token (u ∷ ts) len zero d t below at = ap (λ (z : Token). z.from) at
-place_of-token (u ∷ ts) len (suc i) d t below at = place_of-token ts len i d t (omega (arith, below)) at
-
-place_of-end : (ts : List Token) (len i : ℕ) → i ≡ length ts → len ≡ place_of ts len i
-place_of-end [] len zero is = refl
-place_of-end [] len (suc i) is = refl
-place_of-end (u ∷ ts) len zero is = absurd (omega (arith, is))
-place_of-end (u ∷ ts) len (suc i) is = place_of-end ts len i (omega (arith, is))
 
 -- the place of what stops the reader, by what is left behind it
 before-length : (source : List ℕ) (ts : List Token) (s : spec.State) (found : Lexeme) (rest : List Lexeme) (w : Wrong (lexemes source ts) s found rest) → length w.before + suc (length rest) ≡ suc (length ts)
@@ -96,8 +87,3 @@ fault-end source ts i s past reads stuck last =
 pub spells-end : (source : List ℕ) (ts : List Token) (i : ℕ) (s : spec.State) (t : TheoryText) → length ts ≤ i → run AtStart (lexemes source ts) ≡ run s (lexemes source (drop i ts))
     → next s Ends ≡ Some (AtLast t) → SpellsTheory source ts t
 spells-end source ts i s t past reads on = Gets-IsTheory (lexemes source ts) t (reads ∙ ap (λ z. run s (lexemes source z)) (drop_all i ts past) ∙ ap (λ z. goes_on z (Stuck s Ends []) (λ u. run u [])) on)
-
-pub slice-at : (source : List ℕ) (to : ℕ) (ts : List Token) (from i : ℕ) (d t : Token) → AreSlices source from to ts → i < length ts → t ≡ get_or ts i d → IsSlice source t
-slice-at source to [] from i d t are below at = absurd (omega (arith, below))
-slice-at source to (u ∷ ts) from zero d t are below at = subst (IsSlice source) (sym at) are.1
-slice-at source to (u ∷ ts) from (suc i) d t are below at = slice-at source to ts u.to i d t are.2 (omega (arith, below)) at

@@ -2,7 +2,8 @@ use Rattle.std.proofs.Common.{◌+◌, length, refl, arith, sym, ◌∙◌, ap, 
 use Rattle.pure_grammar.specs.declared.token.TokenKind.TheVariants.{Word}
 use Rattle.pure_grammar.specs.InnerReader.{next}
 use Rattle.pure_read.specs.States.{seen_state, seen_next}
-use Rattle.pure_read.proofs.Reading.{reads-more, reads-end, stuck-token, stuck-end, slice-at}
+use Rattle.pure_read.proofs.Reading.{reads-more, reads-end, stuck-token, stuck-end}
+use Rattle.pure_grammar.proofs.Places.{slice-at}
 use Rattle.pure_grammar.proofs.InnerEndLemmas.{next-done}
 use Rattle.pure_read.proofs.read.run.Goals as goal
 

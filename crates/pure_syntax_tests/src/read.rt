@@ -2,15 +2,16 @@
 
 mod tables;
 
-use super::*;
 use pure_grammar::TokenKind;
 use pure_lex::tokens;
+use pure_read::{MAX_TOKENS, Raw, RawFault, RawNode, RawTyp, RawTypNode, read_raw, read_raw_typ};
 use pure_text::Text;
 use std::alloc::Global;
 use std::process::Abort;
 use std::test::Fail;
 use tables::*;
 
+/// Writes more text.
 fn say(shown: &mut Vec<u8>, text: &str) -> Result<(), Fail> {
     shown.extend_from_slice(text.as_bytes())?;
     Ok(())
@@ -196,7 +197,8 @@ fn terms_have_their_trees(rt: HostRuntime) -> Result<(), Fail> {
 
 #[test]
 fn types_have_their_trees(rt: HostRuntime) -> Result<(), Fail> {
-    check_rows(&rt, &TYPES, true)
+    check_rows(&rt, &TYPES, true)?;
+    check_rows(&rt, &WIDE_TYPES, true)
 }
 
 #[test]
@@ -213,4 +215,33 @@ fn more_than_a_thousand_tokens_are_too_long(rt: HostRuntime) -> Result<(), Fail>
     check_enclosed(&rt, 499, true, b"499:f")?;
     check_enclosed(&rt, 501, false, b"too long")?;
     check_enclosed(&rt, 501, true, b"too long")
+}
+
+/// This many names, one behind another.
+fn names(alloc: Global, count: usize) -> Result<Vec<u8>, Fail> {
+    let mut text = Vec::new(alloc);
+    for _ in 0..count {
+        say(&mut text, "f ")?;
+    }
+    Ok(text)
+}
+
+#[test]
+fn exactly_a_thousand_tokens_are_read(rt: HostRuntime) -> Result<(), Fail> {
+    let text = names(rt.alloc(), MAX_TOKENS)?;
+    let as_term = shown(rt.alloc(), &text, false)?;
+    assert!(rt; as_term.starts_with(b"(0 (0 (0 (0 "));
+    assert!(rt; as_term.ends_with(b" 1996:f) 1998:f)"));
+    let as_typ = shown(rt.alloc(), &text, true)?;
+    assert!(rt; as_typ.starts_with(b"0:f<0:f<0:f<0:f<"));
+    let longer = names(rt.alloc(), MAX_TOKENS + 1)?;
+    assert_eq!(rt;
+        shown(rt.alloc(), &longer, false)?.as_slice(),
+        b"too long".as_slice()
+    );
+    assert_eq!(rt;
+        shown(rt.alloc(), &longer, true)?.as_slice(),
+        b"too long".as_slice()
+    );
+    Ok(())
 }

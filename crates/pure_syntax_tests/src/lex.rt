@@ -1,13 +1,11 @@
 //! The tokens of sources, and the places of their faults, by hand from the rules.
 
-use super::*;
+use pure_lex::{LexFault, line_col, tokens};
 use std::alloc::Global;
 use std::process::Abort;
 use std::test::Fail;
 
-// Each row is a source, and its tokens with their spans or where its first fault stands.
-
-/// Blanks and words.
+/// Blanks and words. Each row is a source, and its tokens with their spans or where its first fault stands.
 static WORDS: [(&[u8], &str); 5] = [
     (b"", ""),
     (b" \t\r\n", ""),
@@ -243,6 +241,30 @@ static COMMENTS: [(&[u8], &str); 19] = [
     ),
 ];
 
+/// Tokens of exactly the lengths that are allowed, and one byte longer.
+static LIMITS: [(&[u8], &str); 5] = [
+    (
+        b"aaaaaaaaaaaaaaaaaaaaaaaaaaaaaaaaaaaaaaaaaaaaaaaaaaaaaaaaaaaaaaaa.bbbbbbbbbbbbbbbbbbbbbbbbbbbbbbbbbbbbbbbbbbbbbbbbbbbbbbbbbbbbbbbb 'aaaaaaaaaaaaaaaaaaaaaaaaaaaaaaaaaaaaaaaaaaaaaaaaaaaaaaaaaaaaaaaa ?aaaaaaaaaaaaaaaaaaaaaaaaaaaaaaaaaaaaaaaaaaaaaaaaaaaaaaaaaaaaaaaa.123456789",
+        "Qualified 0-129, TypeVar 130-195, Schem 196-271",
+    ),
+    (
+        b"?'aaaaaaaaaaaaaaaaaaaaaaaaaaaaaaaaaaaaaaaaaaaaaaaaaaaaaaaaaaaaaaaa.123456789 _123456789 123456789",
+        "Schem 0-76, BoundName 77-87, Number 88-97",
+    ),
+    (
+        b"?aaaaaaaaaaaaaaaaaaaaaaaaaaaaaaaaaaaaaaaaaaaaaaaaaaaaaaaaaaaaaaaa.1234567890",
+        "Schem 0-75, Number 75-76",
+    ),
+    (
+        b"?'aaaaaaaaaaaaaaaaaaaaaaaaaaaaaaaaaaaaaaaaaaaaaaaaaaaaaaaaaaaaaaaaa.1",
+        "at 0",
+    ),
+    (
+        b"f ?aaaaaaaaaaaaaaaaaaaaaaaaaaaaaaaaaaaaaaaaaaaaaaaaaaaaaaaaaaaaaaaaa.123456789",
+        "at 2",
+    ),
+];
+
 /// A source, a range of it, and its tokens.
 static RANGES: [(&[u8], u32, u32, &str); 17] = [
     (b"theory", 1, 6, "Ident 1-6"),
@@ -283,6 +305,7 @@ static PLACES: [(&[u8], u32, u32, u32); 10] = [
     (b"theory A begin lemma id: \"A ==>", 25, 1, 26),
 ];
 
+/// The tokens of the range with their spans, or where its first fault stands.
 fn shown(alloc: Global, source: &[u8], from: u32, to: u32) -> Result<String, Fail> {
     if from > to || to as usize > source.len() {
         return Ok("no range".to_string(alloc)?);
@@ -356,6 +379,10 @@ fn check_numbers<R: Abort + AllocGlobal>(rt: &R) -> Result<(), Fail> {
     check_sources(rt, &NUMBERS)
 }
 
+fn check_limits<R: Abort + AllocGlobal>(rt: &R) -> Result<(), Fail> {
+    check_sources(rt, &LIMITS)
+}
+
 fn check_quotes<R: Abort + AllocGlobal>(rt: &R) -> Result<(), Fail> {
     check_sources(rt, &QUOTES)
 }
@@ -376,6 +403,7 @@ fn sources_have_their_tokens(rt: HostRuntime) -> Result<(), Fail> {
     check_type_variables(&rt)?;
     check_schematic(&rt)?;
     check_numbers(&rt)?;
+    check_limits(&rt)?;
     check_quotes(&rt)?;
     check_symbols(&rt)?;
     check_comments(&rt)?;

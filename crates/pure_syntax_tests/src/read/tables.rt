@@ -214,6 +214,23 @@ pub(crate) static TYPES: [(&[u8], &[u8]); 29] = [
     (b"(a, b) k => c", b"0:Pure.fun<0:k<1:a 4:b > 12:c >"),
 ];
 
+/// Constructors with more than three arguments.
+pub(crate) static WIDE_TYPES: [(&[u8], &[u8]); 4] = [
+    (b"(a, b, c, d) k", b"0:k<1:a 4:b 7:c 10:d >"),
+    (
+        b"('a, 'b, 'c, 'd, 'e) A.k",
+        b"0:A.k<'1:'a '5:'b '9:'c '13:'d '17:'e >",
+    ),
+    (
+        b"(a, (b, c, d, e) k, f => g, h i) l",
+        b"0:l<1:a 4:k<5:b 8:c 11:d 14:e > 20:Pure.fun<20:f 25:g > 28:i<28:h > >",
+    ),
+    (
+        b"(a, b, c, d, e, f, g, h) k => i",
+        b"0:Pure.fun<0:k<1:a 4:b 7:c 10:d 13:e 16:f 19:g 22:h > 30:i >",
+    ),
+];
+
 /// Where terms go wrong.
 pub(crate) static TERM_FAULTS: [(&[u8], &[u8]); 30] = [
     (b"f )", b"at 2"),

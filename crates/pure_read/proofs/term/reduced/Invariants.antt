@@ -1,0 +1,10 @@
+use Rattle.std.proofs.Common.{◌≡◌, length}
+use Rattle.pure_grammar.specs.InnerReader.{reduced}
+use Rattle.pure_read.specs.Frames.{seen_stack}
+use Rattle.pure_read.proofs.term.reduced.Given as goal
+
+abbrev pub invariant-joins : goal.invariant-joins
+invariant-joins l = reduced l.level l.at l.term (seen_stack l.stack) ≡ reduced l.level l.fn.at l.fn.term (seen_stack l.fn.stack)
+
+abbrev pub decreases-joins : goal.decreases-joins
+decreases-joins l = length (seen_stack l.stack)
