@@ -1,5 +1,3 @@
-pub mod ListMore
-pub mod NameLaws
 pub mod MapLaws
 pub mod BelowLaws
 pub mod ClassTableLaws

@@ -6,7 +6,7 @@ ghost use Rattle.pure_order_tables.specs.Classes.{Agree, Follows, IsDeclared, of
 ghost use Rattle.pure_order_tables.specs.Checks.{IsDecided};
 ghost use Rattle.pure_order_tables.specs.ClassTable.{AreAllAbove};
 
-use crate::names::{has, is_same, put, put_all};
+use crate::names::{has, put, put_all};
 use crate::room::push_in_room;
 use pure_typ::Name;
 use std::alloc::{AllocError, Global};
@@ -79,7 +79,7 @@ impl ClassTable {
         ensures { IsTrue result ↔ IsClassBelow (of_classes self.now) first second }
     {
         match self.above(first) {
-            None => is_same(first, second),
+            None => first == second,
             Some(names) => has(names, second),
         }
     }

@@ -1,1 +1,4 @@
+pub mod AnswerLaws
+pub mod AscendingLaws
 pub mod ListLaws
+pub mod LoopLaws

@@ -1,6 +1,6 @@
 use Rattle.std.proofs.Common.{take_all, refl, inl, inr}
 use Rattle.pure_order_tables.specs.Checks.{IsCovered}
-use Rattle.pure_order_tables.proofs.ListMore.{kept_turn}
+use Rattle.pure_text.proofs.LoopLaws.{kept_turn}
 use Rattle.pure_order_tables.proofs.tables.Tables.unsettled.Goals as goal
 use Rattle.pure_order_tables.proofs.tables.Tables.unsettled.Goals.{then-not-is_covered+in_ok-push, else-not-is_covered}
 
