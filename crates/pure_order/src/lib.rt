@@ -4,8 +4,6 @@
 mod fault;
 mod order;
 mod places;
-#[cfg(test)]
-mod tests;
 mod walk;
 
 pub use fault::OrderFault;

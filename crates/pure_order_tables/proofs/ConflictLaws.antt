@@ -9,7 +9,7 @@ use Rattle.pure_definitions.specs.Order.{Arity, Algebra, IsClassBelow, AreDomain
 use Rattle.pure_text.proofs.AscendingLaws.{place_in, in_at}
 use Rattle.pure_text.proofs.ListLaws.{each_of, any_of, in-append_left, in-append_right, in_split, any_some, each_at, each-append, in_or_not}
 use Rattle.pure_order_tables.specs.Arities.{IsArityBelow, IsGreatestIfAny}
-use Rattle.pure_order_tables.specs.Checks.{IsAboveBoth, Pass, IsDirected, IsBelowOf, PassesWith, Fails, IsInConflict, IsNotAfter, IsLeastConflict, IsLeastFailing, FindsPair, IsLeastPair, HasNoConflict}
+use Rattle.pure_order_tables.specs.Checks.{IsAboveBoth, Pass, IsDirected, IsBelowOf, PassesWith, Fails, IsInConflict, IsNotAfter, IsLeastConflict, IsLeastFailing, FindsPair, IsLeastPair}
 use Rattle.pure_definitions.proofs.OrderLaws.{domains_same}
 use Rattle.pure_order_tables.proofs.CoregularLaws.{compatible_back}
 
@@ -115,6 +115,10 @@ pair_found A k ds bs o e c p con fails within one f = record {
     before (Some q) one f a b m n at h = lex_trans p.0 p.1 q.0 q.1 a.class b.class one.0 (f.least a b m n at h)
 
 -- the constructors gone through in order
+
+-- No two arities of the constructor are in conflict.
+abbrev pub HasNoConflict : Algebra → ℕ → Type 0
+HasNoConflict A k = (a b : Arity) → IsIn a A.arities → IsIn b A.arities → a.con ≡ k → b.con ≡ a.con → AreCompatible A a b
 
 pub no_pair : (A : Algebra) (k : ℕ) (ds : List ℕ) → ((d : ℕ) → IsDirected A k d ⊎ IsIn d ds) → Each (λ a. a.con ≡ k → Each (PassesWith A a ds) A.arities) A.arities → HasNoConflict A k
 no_pair A k ds rest all a b m n at con = pass_compatible A a b ds (λ d. rw at (rest d)) m n con (each_at (PassesWith A a ds) A.arities (each_at (λ a. a.con ≡ k → Each (PassesWith A a ds) A.arities) A.arities all a m at) b n con)

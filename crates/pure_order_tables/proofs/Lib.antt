@@ -7,3 +7,4 @@ pub mod CoregularLaws
 pub mod UnknownLaws
 pub mod UnionLaws
 pub mod ConflictLaws
+pub mod AgreeLaws

@@ -1,3 +1,4 @@
+//! The test of a new arity: which classes it would be in conflict at.
 ghost use Rattle.std.specs.Prelude.{◌≡◌, ◌↔◌, ◌⊎◌, ℕ, IsTrue, IfOk, MatchBool, MatchOption};
 ghost use Rattle.std.specs.Bool.{OnTrue};
 ghost use Rattle.pure_text.specs.Lists.{IsIn, AnyOf, EachTwo};

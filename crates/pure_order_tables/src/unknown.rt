@@ -1,3 +1,4 @@
+//! What is declared of the names in a declaration.
 ghost use Rattle.std.specs.Prelude.{◌≡◌, ◌↔◌, IsTrue, MatchOption};
 ghost use Rattle.pure_text.specs.Lists.{Each};
 ghost use Rattle.pure_order_tables.specs.Classes.{IsDeclared};

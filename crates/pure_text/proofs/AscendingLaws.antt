@@ -55,9 +55,9 @@ Finds xs x r = MatchResult r (λ i. (i < length xs) × (get_or xs i 0 ≡ x)) (�
 
 pub finds : (xs : List ℕ) (x : ℕ) (r : Result ℕ ℕ) → IsStrictlyIncreasing xs → IsBinarySearchResult (λ y. nat_cmp y x) xs r → Finds xs x r
 finds xs x r up found = searched xs x r found (λ i j le within. elim (below_or_same i j le) [
-    | inl less ↦ (let far = AllPairs-from_increasing xs up i j 0 less within in omega arith)
-    | inr same ↦ rw same (omega arith)
-  ])
+  | inl less ↦ (let far = AllPairs-from_increasing xs up i j 0 less within in omega arith)
+  | inr same ↦ rw same (omega arith)
+])
   where
     below_or_same : (i j : ℕ) → i ≤ j → (i < j) ⊎ (i ≡ j)
     below_or_same i j h = grind arith

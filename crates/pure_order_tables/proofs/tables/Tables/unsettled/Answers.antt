@@ -13,4 +13,4 @@ loop-class-preserved c = kept_turn (λ d. IsCovered c.args.self.now c.args.arity
     c.loop-class.invariant
 
 pub returns : goal.returns
-returns c d h = rw (take_all c.loop-class.class-index c.in-Some.above.now c.loop-class-test.false) at (c.loop-class.invariant d) ((c.in-Some.ensures d).1 h)
+returns c d h = rw (take_all c.loop-class.class-index c.in-Some.above.now c.loop-class-test.false) at (c.loop-class.invariant d) ((c.in-Some.ensures.are d).1 h)
