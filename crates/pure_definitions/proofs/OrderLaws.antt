@@ -6,7 +6,8 @@ use Rattle.std.specs.Cmp.{first_so, second_so}
 use Rattle.pure_text.specs.Lists.{IsIn, Each, EachTwo}
 use Rattle.pure_definitions.specs.Typ.{Typ, TFree, TVar, Con, Typs, none, also}
 use Rattle.pure_definitions.specs.Order.{Class, Arity, Algebra, IsClassBelow, itself, along, HasClassBelow, IsSortBelow, AreDomainsBelow, IsOfClass, IsOfSort, AreOfSorts}
-use Rattle.pure_text.proofs.ListLaws.{each_of, any_of, any_some, any_imply, each_at, in-append_left, in-append_right, is_in, in-is_in, is_in-in}
+use Rattle.pure_definitions.specs.Subst.{typ_instance, typs_instance, IsSortRespecting}
+use Rattle.pure_text.proofs.ListLaws.{each_of, any_of, any_some, any_imply, each_at, each_imply, in-append_left, in-append_right, is_in, in-is_in, is_in-in}
 
 pub below-trans : {A : Algebra} {c d e : ℕ} → IsClassBelow A c d → IsClassBelow A d e → IsClassBelow A c e
 below-trans itself k = k
@@ -78,6 +79,47 @@ of_sorts_up A none (s ∷ ss) rs h k = absurd h
 of_sorts_up A (also t ts) [] rs h k = absurd h
 of_sorts_up A (also t ts) (s ∷ ss) [] h k = k
 of_sorts_up A (also t ts) (s ∷ ss) (r ∷ rs) h k = (of_sort_up A t s r h.0 k.0, of_sorts_up A ts ss rs h.1 k.1)
+
+-- A type of a sort is of each class that has one of the sort below it.
+pub of_class_up_from : (A : Algebra) (t : Typ) (s : List ℕ) (c : ℕ) → IsOfSort A t s → HasClassBelow A s c → IsOfClass A t c
+of_class_up_from A t s c h k = let b = any_some (λ b. IsClassBelow A b c) s k in of_class_up A t b.0 c (each_at (IsOfClass A t) s h b.0 b.1) b.2
+
+-- A map that respects sorts makes of a type of a sort another of that sort.
+module _ (A : Algebra) (typs : Typ → Typ) (r : IsSortRespecting A typs) where
+  mutual
+    pub of_class-instance : (t : Typ) (c : ℕ) → IsOfClass A t c → IsOfClass A (typ_instance typs t) c
+    of_class-instance (TFree x s) c h = of_class_up_from A (typs (TFree x s)) s c (r.fixed x s) h
+    of_class-instance (TVar x i s) c h = of_class_up_from A (typs (TVar x i s)) s c (r.schematic x i s) h
+    of_class-instance (Con k ts) c h = (h.0, h.1, h.2, h.3, of_sorts-instance ts h.0.domains h.4)
+
+    pub of_sorts-instance : (ts : Typs) (ss : List (List ℕ)) → AreOfSorts A ts ss → AreOfSorts A (typs_instance typs ts) ss
+    of_sorts-instance none [] h = tt
+    of_sorts-instance none (s ∷ ss) h = h
+    of_sorts-instance (also t ts) [] h = h
+    of_sorts-instance (also t ts) (s ∷ ss) h = (each_imply (IsOfClass A t) (IsOfClass A (typ_instance typs t)) s (of_class-instance t) h.0, of_sorts-instance ts ss h.1)
+
+  pub of_sort-instance : (t : Typ) (s : List ℕ) → IsOfSort A t s → IsOfSort A (typ_instance typs t) s
+  of_sort-instance t s h = each_imply (IsOfClass A t) (IsOfClass A (typ_instance typs t)) s (of_class-instance t) h
+
+-- With more declarations more is below and of a sort.
+pub sort_below-more : (A B : Algebra) → HasMore A B → (s r : List ℕ) → IsSortBelow A s r → IsSortBelow B s r
+sort_below-more A B more s r h = each_imply (HasClassBelow A s) (HasClassBelow B s) r (λ d. any_imply (λ b. IsClassBelow A b d) (λ b. IsClassBelow B b d) s (λ b k. below-more A B more k)) h
+
+module _ (A B : Algebra) (more : HasMore A B) (arities : (a : Arity) → IsIn a A.arities → IsIn a B.arities) where
+  mutual
+    pub of_class-more : (t : Typ) (c : ℕ) → IsOfClass A t c → IsOfClass B t c
+    of_class-more (TFree x s) c h = any_imply (λ b. IsClassBelow A b c) (λ b. IsClassBelow B b c) s (λ b k. below-more A B more k) h
+    of_class-more (TVar x i s) c h = any_imply (λ b. IsClassBelow A b c) (λ b. IsClassBelow B b c) s (λ b k. below-more A B more k) h
+    of_class-more (Con k ts) c h = (h.0, arities h.0 h.1, h.2, below-more A B more h.3, of_sorts-more ts h.0.domains h.4)
+
+    pub of_sorts-more : (ts : Typs) (ss : List (List ℕ)) → AreOfSorts A ts ss → AreOfSorts B ts ss
+    of_sorts-more none [] h = tt
+    of_sorts-more none (s ∷ ss) h = h
+    of_sorts-more (also t ts) [] h = h
+    of_sorts-more (also t ts) (s ∷ ss) h = (each_imply (IsOfClass A t) (IsOfClass B t) s (of_class-more t) h.0, of_sorts-more ts ss h.1)
+
+  pub of_sort-more : (t : Typ) (s : List ℕ) → IsOfSort A t s → IsOfSort B t s
+  of_sort-more t s h = each_imply (IsOfClass A t) (IsOfClass B t) s (of_class-more t) h
 
 -- the classes that are declared to be above a class
 abbrev pub directly_above : List Class → ℕ → List ℕ

@@ -52,6 +52,10 @@ pub any_imply : {A : Type 0} (P Q : A → Type 0) (xs : List A) → ((x : A) →
 any_imply P Q [] f h = h
 any_imply P Q (x ∷ xs) f h = elim h [ inl p ↦ inl (f x p) | inr t ↦ inr (any_imply P Q xs f t) ]
 
+pub each_imply : {A : Type 0} (P Q : A → Type 0) (xs : List A) → ((x : A) → P x → Q x) → Each P xs → Each Q xs
+each_imply P Q [] f h = h
+each_imply P Q (x ∷ xs) f h = (f x h.0, each_imply P Q xs f h.1)
+
 pub each_at : {A : Type 0} (P : A → Type 0) (xs : List A) → Each P xs → (x : A) → IsIn x xs → P x
 each_at P [] h x m = absurd m
 each_at P (y ∷ ys) h x m = elim m [ inl e ↦ rw e h.0 | inr n ↦ each_at P ys h.1 x n ]
