@@ -3,3 +3,4 @@ pub mod FaultLaws
 pub mod ReduceLaws
 pub mod PlaceLaws
 pub mod WalkLaws
+pub mod AlgebraLaws

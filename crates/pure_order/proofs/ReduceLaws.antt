@@ -1,40 +1,15 @@
 -- One turn of the loop that reduces a sort.
-use Rattle.std.proofs.Common.{◌≡◌, ℕ, ◌+◌, ◌<◌, ◌≤◌, List, [], ◌∷◌, ◌++◌, length, get_or, take, inl, inr, ◌⊎◌, ◌↔◌, arith, length-append, length-take, get_or-take, sym, ◌∙◌}
-use Rattle.std.proofs.Math.ListN.{get_or-append}
-use Rattle.std.proofs.Math.Seq.{get_or-append_seam}
-use Rattle.std.proofs.lemmas.Grind.{get_or_default_zero}
+use Rattle.std.proofs.Common.{◌≡◌, ℕ, ◌+◌, ◌<◌, List, [], ◌∷◌, ◌++◌, length, get_or, take, inl, inr, ◌↔◌}
 use Rattle.std.specs.List.Sorted.{IsStrictlyIncreasing}
 use Rattle.pure_text.specs.Lists.{IsIn}
-use Rattle.pure_text.proofs.ListLaws.{in-append_left, in-append_right}
-use Rattle.pure_order_tables.proofs.ListMore.{in_split, in_turn}
-use Rattle.pure_order_tables.proofs.NameLaws.{increasing_far, place_in, in_at_place}
+use Rattle.pure_text.proofs.ListLaws.{in-append_left, in-append_right, in_split}
+use Rattle.pure_text.proofs.AscendingLaws.{below_next, push_ascends}
+use Rattle.pure_text.proofs.LoopLaws.{in_turn}
 
 -- These are the elements of an ascending list that have the property, in order.
 pub record AreKept (P : ℕ → Type 0) (xs kept : List ℕ) : Type 0 where
   pub ascend : IsStrictlyIncreasing kept
   pub are : (c : ℕ) → IsIn c kept ↔ (IsIn c xs × P c)
-
-push_ascends : (kept : List ℕ) (r : ℕ) → IsStrictlyIncreasing kept → ((x : ℕ) → IsIn x kept → x < r) → IsStrictlyIncreasing (kept ++ r ∷ [])
-push_ascends kept r up below k within =
-    let long = length-append kept (r ∷ []) in
-    elim (inside_or_last k (length kept) (omega arith)) [
-      | inl inside ↦ rw (get_or-append kept (r ∷ []) 0 k (omega arith), get_or-append kept (r ∷ []) 0 (k + 1) inside) (up k inside)
-      | inr last ↦ (let here : k < length kept = omega arith in
-          let at : get_or (kept ++ r ∷ []) (k + 1) 0 ≡ r = rw last (get_or-append_seam kept r [] 0) in
-          rw (get_or-append kept (r ∷ []) 0 k here, at) (below (get_or kept k 0) (in_at_place kept k here)))
-    ]
-  where
-    inside_or_last : (k n : ℕ) → k < n → (k + 1 < n) ⊎ (k + 1 ≡ n)
-    inside_or_last k n h = grind arith
-
-below_next : (xs : List ℕ) (i r x : ℕ) → IsStrictlyIncreasing xs → i < length xs → r ≡ get_or xs i r → IsIn x (take i xs) → x < r
-below_next xs i r x up within read m =
-    let w = place_in x (take i xs) m in
-    let short : length (take i xs) ≤ i = omega (arith, length-take i xs) in
-    let there : get_or xs w.0 0 ≡ x = sym (get_or-take i xs w.0 0 (omega arith)) ∙ w.2 in
-    let far = increasing_far xs up w.0 i (omega arith) within in
-    let zeroed = get_or_default_zero xs i r within in
-    omega arith
 
 pub kept_one : (P : ℕ → Type 0) (xs kept : List ℕ) (i r : ℕ) → IsStrictlyIncreasing xs → i < length xs → r ≡ get_or xs i r → P r → AreKept P (take i xs) kept → AreKept P (take (i + 1) xs) (kept ++ r ∷ [])
 kept_one P xs kept i r up within read p k = record {

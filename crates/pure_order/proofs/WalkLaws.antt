@@ -5,11 +5,11 @@ use Rattle.std.proofs.lemmas.List.{get_or_default}
 use Rattle.pure_text.specs.Lists.{EachTwo}
 use Rattle.pure_definitions.specs.Typ.{Typ, Con, typs_of}
 use Rattle.pure_definitions.specs.Order.{Algebra, IsOfClass, IsOfSort}
-use Rattle.pure_text.proofs.ListLaws.{each_of}
+use Rattle.pure_text.proofs.ListLaws.{each_of, each_at, two_long, two_read}
+use Rattle.pure_text.proofs.LoopLaws.{each_turn, in_turn, two_turn, two_full}
 use Rattle.pure_order_tables.specs.Arities.{IsGreatest}
 use Rattle.pure_order_tables.specs.ArityTable.{IsPlace}
 use Rattle.pure_order_tables.specs.Checks.{IsDecided}
-use Rattle.pure_order_tables.proofs.ListMore.{each_at, each_turn, in_turn, two_long, two_read, two_turn, two_full}
 use Rattle.pure_order_tables.proofs.CoregularLaws.{directed, candidate_greatest}
 use Rattle.pure_order.specs.Places.{Holds}
 use Rattle.pure_order.specs.Walk.{IsWalkable, no_arity, arity_at, domains_at, domain_at, HasDomain, IsGreatestPlace, HaveDomain, HaveDomains, IsOfDomain, AreOfDomains, AsksMore}

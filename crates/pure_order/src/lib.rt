@@ -2,10 +2,9 @@
 #![tactic(auto)]
 
 mod fault;
+pub mod laws;
 mod order;
 mod places;
-#[cfg(test)]
-mod tests;
 mod walk;
 
 pub use fault::OrderFault;

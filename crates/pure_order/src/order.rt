@@ -1,4 +1,6 @@
-ghost use Rattle.std.specs.Prelude.{◌≡◌, ◌↔◌, ℕ, [], ◌∷◌, IsTrue, OnOk, OnErr, IfOk, IfErr, MatchOption};
+//! The algebra of declared classes and arities, its questions and its declarations.
+ghost use Rattle.std.specs.Prelude.{◌≡◌, ◌↔◌, ℕ, [], ◌∷◌, IsTrue, OnOk, OnErr, IfOk, IfErr, IfSome, MatchOption};
+ghost use Rattle.std.specs.List.Sorted.{IsStrictlyIncreasing};
 ghost use Rattle.pure_text.specs.Lists.{IsIn, Each, AnyOf};
 ghost use Rattle.pure_definitions.specs.Typ.{Typs, Con};
 ghost use Rattle.pure_definitions.specs.Order.{Arity, IsClassBelow, IsSortBelow, IsOfClass, IsOfSort, AreOfSorts, IsCoregular};
@@ -48,6 +50,31 @@ impl Order {
         ensures { IsTrue result ↔ IsClassBelow self.now first second }
     {
         self.tables.below(first, second)
+    }
+
+    /// Whether the class is declared.
+    pub fn is_declared(&self, class: Name) -> bool
+        ensures { IsTrue result ↔ IsDeclared self.now.classes class }
+    {
+        self.tables.is_declared(class)
+    }
+
+    /// The classes above a declared class, itself among them, ascending; none where the class isn't declared.
+    pub fn above(&self, class: Name) -> Option<&[Name]>
+        ensures are { MatchOption result (¬ IsDeclared self.now.classes class) (λ names. (d : ℕ) → IsIn d names.now ↔ IsClassBelow self.now class d) }
+        ensures ascend { IfSome result (λ names. IsStrictlyIncreasing names.now) }
+    {
+        match self.tables.above(class) {
+            None => None,
+            Some(names) => Some(names),
+        }
+    }
+
+    /// Whether a class that both orders declare has the same classes declared above it in both. Only such orders can be merged.
+    pub fn agrees(&self, other: &Order) -> bool
+        ensures { IsTrue result ↔ Agree self.now.classes other.now.classes }
+    {
+        self.tables.agrees(&other.tables)
     }
 
     /// Whether the first sort is below the second.
@@ -193,6 +220,7 @@ impl Order {
         false
     }
 
+    /// Whether the first class is another one than the second, and below it.
     fn is_other_below(&self, other: Name, class: Name) -> bool
         ensures { IsTrue result ↔ ((¬ (other ≡ class)) × IsClassBelow self.now other class) }
     {

@@ -1,3 +1,4 @@
+//! Sets of places of arities.
 ghost use Rattle.std.specs.Prelude.{◌≡◌, ◌↔◌, ◌⊎◌, ◌<◌, ◌≤◌, ℕ, IsTrue};
 ghost use Rattle.pure_order.specs.Places.{Holds};
 

@@ -1,3 +1,4 @@
+//! The walk that asks a type's arguments once for all that a sort asks of them.
 ghost use Rattle.std.specs.Prelude.{◌≡◌, ◌↔◌, ◌<◌, ℕ, List, IsTrue, MatchBool, MatchOption, length};
 ghost use Rattle.pure_definitions.specs.Typ as tree;
 ghost use Rattle.pure_definitions.specs.Typ.{Con, typs_of};

@@ -2,52 +2,15 @@
 use Rattle.std.proofs.Common.{◌≡◌, ℕ, List, [], ◌∷◌, length, get_or, refl, inl, inr, ◌⊎◌, Option, Some, None, MatchOption, arith, length-append}
 use Rattle.std.proofs.Math.ListN.{get_or-append}
 use Rattle.std.proofs.Math.Seq.{get_or-append_seam}
-use Rattle.pure_text.specs.Lists.{IsIn, Each, AnyOf, EachTwo}
+use Rattle.pure_text.specs.Lists.{IsIn, Each, EachTwo}
 use Rattle.pure_definitions.specs.Order.{Class, Arity, Algebra, IsClassBelow, IsSortBelow, HasClassBelow, AreDomainsBelow}
-use Rattle.pure_text.proofs.ListLaws.{each_of, any_of, in-append_left, in-append_right}
-use Rattle.pure_definitions.proofs.OrderLaws.{sort_below-itself}
+use Rattle.pure_text.proofs.ListLaws.{each_of, any_of, in-append_left, in-append_right, in_split, any_some, each_at, any-append_left, any_decided, each_decided}
+use Rattle.pure_definitions.proofs.OrderLaws.{below-more, domains_same, two_imply, HasMore, domains-more}
 use Rattle.pure_order_tables.specs.Classes.{IsDeclared, Follows}
 use Rattle.pure_order_tables.specs.Arities.{IsArityBelow, IsGreatest, IsGreatestIfAny, IsKnown, with_class, with_arity}
 use Rattle.pure_order_tables.specs.Checks.{IsDecided}
 use Rattle.pure_order_tables.specs.ArityTable.{IsPlace, ArePlaces}
-use Rattle.pure_order_tables.proofs.ListMore.{in_split, any_some, each_at, any-append_left, any_imply}
-use Rattle.pure_order_tables.proofs.BelowLaws.{below-trans, below-more, below-one_more}
-
-pub sort_below-trans : (A : Algebra) (s r t : List ℕ) → IsSortBelow A s r → IsSortBelow A r t → IsSortBelow A s t
-sort_below-trans A s r t h k = each_of (HasClassBelow A s) t (λ d m.
-    let c = any_some (λ b. IsClassBelow A b d) r (each_at (HasClassBelow A r) t k d m) in
-    let b = any_some (λ x. IsClassBelow A x c.0) s (each_at (HasClassBelow A s) r h c.0 c.1) in
-    any_of (λ x. IsClassBelow A x d) b.0 s b.1 (below-trans b.2 c.2))
-
-pub two_same : (A : Algebra) (ss : List (List ℕ)) → EachTwo (IsSortBelow A) ss ss
-two_same A [] = tt
-two_same A (s ∷ ss) = (sort_below-itself A s, two_same A ss)
-
-pub domains_same : (A : Algebra) (a : Arity) → AreDomainsBelow A a a
-domains_same A a = two_same A a.domains
-
-pub two-trans : (A : Algebra) (ss rs ts : List (List ℕ)) → EachTwo (IsSortBelow A) ss rs → EachTwo (IsSortBelow A) rs ts → EachTwo (IsSortBelow A) ss ts
-two-trans A [] [] ts h k = k
-two-trans A [] (r ∷ rs) ts h k = absurd h
-two-trans A (s ∷ ss) [] ts h k = absurd h
-two-trans A (s ∷ ss) (r ∷ rs) [] h k = absurd k
-two-trans A (s ∷ ss) (r ∷ rs) (t ∷ ts) h k = (sort_below-trans A s r t h.0 k.0, two-trans A ss rs ts h.1 k.1)
-
-pub domains-trans : (A : Algebra) (a b c : Arity) → AreDomainsBelow A a b → AreDomainsBelow A b c → AreDomainsBelow A a c
-domains-trans A a b c h k = two-trans A a.domains b.domains c.domains h k
-
-two_imply : (A B : Algebra) (ss rs : List (List ℕ)) (ok : List ℕ → Type 0) → Each ok ss → ((s r : List ℕ) → ok s → IsSortBelow A s r → IsSortBelow B s r) → EachTwo (IsSortBelow A) ss rs → EachTwo (IsSortBelow B) ss rs
-two_imply A B [] [] ok each f h = tt
-two_imply A B [] (r ∷ rs) ok each f h = absurd h
-two_imply A B (s ∷ ss) [] ok each f h = absurd h
-two_imply A B (s ∷ ss) (r ∷ rs) ok each f h = (f s r each.0 h.0, two_imply A B ss rs ok each.1 f h.1)
-
--- The classes of one algebra are among those of another.
-abbrev pub HasMore : Algebra → Algebra → Type 0
-HasMore A B = (k : Class) → IsIn k A.classes → IsIn k B.classes
-
-pub domains-more : (A B : Algebra) → HasMore A B → (a b : Arity) → AreDomainsBelow A a b → AreDomainsBelow B a b
-domains-more A B more a b h = two_imply A B a.domains b.domains (λ s. Unit {0}) (each_of (λ s. Unit {0}) a.domains (λ s m. tt)) (λ s r t k. each_of (HasClassBelow B s) r (λ d m. any_imply (λ x. IsClassBelow A x d) (λ x. IsClassBelow B x d) s (λ x w. below-more A B more w) (each_at (HasClassBelow A s) r k d m))) h
+use Rattle.pure_order_tables.proofs.BelowLaws.{below-one_more}
 
 -- with one more arity
 
@@ -163,14 +126,6 @@ abbrev pub IsDone : Algebra → Arity → ℕ → Type 0 → Option ℕ → Type
 IsDone A a d passed o = MatchOption o ((q : Arity) → ¬ IsArityBelow (with_arity A a) a.con d q) (IsPlace (with_arity A a) a.con d) ⊎ ((¬ passed) × MatchOption o ((q : Arity) → ¬ IsArityBelow A a.con d q) (IsPlace A a.con d))
 
 -- Where the order of classes is decided, so is that of domains.
-
-any_decided : {A : Type 0} (P : A → Type 0) → ((x : A) → P x ⊎ ¬ P x) → (xs : List A) → AnyOf P xs ⊎ ¬ AnyOf P xs
-any_decided P d [] = inr (λ h. h)
-any_decided P d (x ∷ xs) = elim (d x) [ inl p ↦ inl (inl p) | inr n ↦ elim (any_decided P d xs) [ inl t ↦ inl (inr t) | inr m ↦ inr (λ h. elim h [ inl p ↦ n p | inr t ↦ m t ]) ] ]
-
-each_decided : {A : Type 0} (P : A → Type 0) → ((x : A) → P x ⊎ ¬ P x) → (xs : List A) → Each P xs ⊎ ¬ Each P xs
-each_decided P d [] = inl tt
-each_decided P d (x ∷ xs) = elim (d x) [ inl p ↦ elim (each_decided P d xs) [ inl t ↦ inl (p, t) | inr m ↦ inr (λ h. m h.1) ] | inr n ↦ inr (λ h. n h.0) ]
 
 pub two_decided : (A : Algebra) → IsDecided A → (ss rs : List (List ℕ)) → EachTwo (IsSortBelow A) ss rs ⊎ ¬ EachTwo (IsSortBelow A) ss rs
 two_decided A d [] [] = inl tt

@@ -12,11 +12,12 @@ use Rattle.std.proofs.lemmas.Bool.Decides.{eqb_tells}
 use Rattle.pure_order_tables.specs.declared.tables.ArityEntry.{ArityEntry}
 use Rattle.pure_order_tables.specs.ArityView.{arity_of, arities_of, algebra_of}
 use Rattle.pure_order_tables.specs.ClassTable.{AreAllAbove}
+use Rattle.pure_definitions.proofs.OrderLaws.{two-trans}
 use Rattle.pure_order_tables.proofs.BelowLaws.{below-classes}
 use Rattle.pure_order_tables.specs.ArityTable.{IsPlace, ArePlaces, places_in, IsArityTable}
-use Rattle.pure_order_tables.proofs.ListMore.{each-append}
+use Rattle.pure_text.proofs.ListLaws.{each-append}
 use Rattle.pure_order_tables.proofs.MapLaws.{get_after}
-use Rattle.pure_order_tables.proofs.ArityLaws.{IsDone, two-trans, same_order_back, new_place, not_greatest, kept_place, known_after, places_after, kept_apart}
+use Rattle.pure_order_tables.proofs.ArityLaws.{IsDone, same_order_back, new_place, not_greatest, kept_place, known_after, places_after, kept_apart}
 
 pub no_place : (A B : Algebra) (slots : BTreeMap ℕ (BTreeMap ℕ ℕ)) (k l d : ℕ) → A ≡ B → l ≡ k → IsArityTable A slots → None ≡ get nat_cmp slots l → (q : Arity) → ¬ IsArityBelow B k d q
 no_place A B slots k l d same name t none =

@@ -3,18 +3,9 @@ use Rattle.std.proofs.Common.{◌≡◌, ℕ, List, [], ◌∷◌, ◌++◌, ref
 use Rattle.pure_order_tables.specs.Checks.{IsDecided}
 use Rattle.pure_text.specs.Lists.{IsIn, Each}
 use Rattle.pure_definitions.specs.Order.{Class, Algebra, IsClassBelow, itself, along}
-use Rattle.pure_text.proofs.ListLaws.{any_of}
+use Rattle.pure_text.proofs.ListLaws.{any_of, in_split, each_at, any-append_left}
+use Rattle.pure_definitions.proofs.OrderLaws.{below-more}
 use Rattle.pure_order_tables.specs.Classes.{IsDeclared, Follows, of_classes}
-use Rattle.pure_order_tables.proofs.ListMore.{in_split, each_at, any-append_left}
-
-pub below-trans : {A : Algebra} {c d e : ℕ} → IsClassBelow A c d → IsClassBelow A d e → IsClassBelow A c e
-below-trans itself k = k
-below-trans (along i h) k = along i (below-trans h k)
-
--- More classes put more classes below others.
-pub below-more : (A B : Algebra) → ((k : Class) → IsIn k A.classes → IsIn k B.classes) → {c d : ℕ} → IsClassBelow A c d → IsClassBelow B c d
-below-more A B more itself = itself
-below-more A B more (along i h) = along (i.0, more i.0 i.1, i.2, i.3) (below-more A B more h)
 
 pub declared : (cs : List Class) (k : Class) (c : ℕ) → IsIn k cs → k.name ≡ c → IsDeclared cs c
 declared cs k c m e = any_of (λ l. l.name ≡ c) k cs m e
@@ -49,9 +40,6 @@ below-one_more A B k e f fresh c d other (along {b = b} i h) =
 pub follows-one_more : (done ks : List Class) (k : Class) → Follows done ks → ¬ IsDeclared (done ++ ks) k.name → Each (IsDeclared (done ++ ks)) k.above → Follows done (ks ++ k ∷ [])
 follows-one_more done [] k f fresh known = (rw append-nil at fresh, rw append-nil at known, tt)
 follows-one_more done (l ∷ ls) k f fresh known = (f.0, f.1, follows-one_more (done ++ l ∷ []) ls k f.2 (rw (append_assoc done (l ∷ []) ls) fresh) (rw (append_assoc done (l ∷ []) ls) known))
-
-pub below_same : (A : Algebra) (c d : ℕ) → c ≡ d → IsClassBelow A c d
-below_same A c d e = rw e itself
 
 -- The order is that of the classes alone.
 pub below-classes : (A : Algebra) (c d : ℕ) → IsClassBelow (of_classes A.classes) c d ↔ IsClassBelow A c d

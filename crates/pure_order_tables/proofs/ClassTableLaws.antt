@@ -6,17 +6,17 @@ use Rattle.std.specs.declared.alloc.Global.{Global}
 use Rattle.std.specs.Ordering.{nat_cmp}
 use Rattle.pure_text.specs.Lists.{IsIn, Each, AnyOf}
 use Rattle.pure_definitions.specs.Order.{Class, IsClassBelow, itself, along}
-use Rattle.pure_text.proofs.ListLaws.{any_of, in-append_left, in-append_right}
+use Rattle.pure_text.proofs.ListLaws.{any_of, in-append_left, in-append_right, in_split, in_or_not, any_split, any_some, each_at, any-append_left, any-append_right}
 use Rattle.std.proofs.lemmas.List.{map-append}
 use Rattle.pure_order_tables.specs.declared.classes.ClassEntry.{ClassEntry}
 use Rattle.pure_order_tables.specs.ClassView.{class_of, classes_of}
 use Rattle.pure_order_tables.specs.Classes.{IsDeclared, Follows, of_classes}
 use Rattle.pure_order_tables.specs.ClassTable.{AreAllAbove, IsClassTable}
-use Rattle.pure_order_tables.proofs.ListMore.{in_split, in_or_not, any_split, any_some, each_at, any-append_left, any-append_right}
 use Rattle.std.proofs.lemmas.Bool.Decides.{eqb_tells}
 use Rattle.pure_order_tables.specs.Checks.{IsDecided}
 use Rattle.pure_order_tables.proofs.MapLaws.{get_after}
-use Rattle.pure_order_tables.proofs.BelowLaws.{below-more, below-one_more, below-undeclared, below_same, follows-one_more, declared}
+use Rattle.pure_definitions.proofs.OrderLaws.{below-more, below_same}
+use Rattle.pure_order_tables.proofs.BelowLaws.{below-one_more, below-undeclared, follows-one_more, declared}
 
 from_new : (cs : List Class) (k : Class) → Follows [] cs → ¬ IsDeclared cs k.name → Each (IsDeclared cs) k.above → (c d : ℕ) → c ≡ k.name → IsClassBelow (of_classes (cs ++ k ∷ [])) c d → (d ≡ k.name) ⊎ AnyOf (λ b. IsClassBelow (of_classes cs) b d) k.above
 from_new cs k f fresh known c d e itself = inl e

@@ -2,15 +2,15 @@
 use Rattle.std.proofs.Common.{◌≡◌, ℕ, ◌≤◌, ◌<◌, List, [], ◌∷◌, ◌++◌, refl, sym, ap, inl, inr, ◌⊎◌, ◌↔◌, ◌∙◌, Bool, true, false, Option, Some, None, MatchOption, arith, take, length, get_or, length-take-le, get_or-take}
 use Rattle.std.specs.List.Sorted.{IsStrictlyIncreasing}
 use Rattle.std.proofs.lemmas.Grind.{get_or_default_zero}
+use Rattle.std.proofs.lemmas.List.Kept.{AllPairs-from_increasing}
 use Rattle.std.specs.Bool.{OnTrue}
 use Rattle.pure_text.specs.Lists.{IsIn, Each, AnyOf}
 use Rattle.pure_definitions.specs.Order.{Arity, Algebra, IsClassBelow, AreDomainsBelow, IsJoin, AreCompatible, IsCoregular}
-use Rattle.pure_text.proofs.ListLaws.{each_of, any_of, in-append_left, in-append_right}
+use Rattle.pure_text.proofs.AscendingLaws.{place_in, in_at}
+use Rattle.pure_text.proofs.ListLaws.{each_of, any_of, in-append_left, in-append_right, in_split, any_some, each_at, each-append, in_or_not}
 use Rattle.pure_order_tables.specs.Arities.{IsArityBelow, IsGreatestIfAny}
-use Rattle.pure_order_tables.specs.Checks.{IsAboveBoth, Pass, IsDirected, IsBelowOf, PassesWith, Fails, IsInConflict, IsNotAfter, IsLeastConflict, IsLeastFailing, FindsPair, IsLeastPair, HasNoConflict}
-use Rattle.pure_order_tables.proofs.ListMore.{in_split, any_some, each_at, each-append, in_or_not}
-use Rattle.pure_order_tables.proofs.NameLaws.{place_in, in_at, increasing_far}
-use Rattle.pure_order_tables.proofs.ArityLaws.{domains_same}
+use Rattle.pure_order_tables.specs.Checks.{IsAboveBoth, Pass, IsDirected, IsBelowOf, PassesWith, Fails, IsInConflict, IsNotAfter, IsLeastConflict, IsLeastFailing, FindsPair, IsLeastPair}
+use Rattle.pure_definitions.proofs.OrderLaws.{domains_same}
 use Rattle.pure_order_tables.proofs.CoregularLaws.{compatible_back}
 
 pub on_true_then : (b : Bool) (P Q : Type 0) → (P → Q) → OnTrue b P → OnTrue b Q
@@ -116,6 +116,10 @@ pair_found A k ds bs o e c p con fails within one f = record {
 
 -- the constructors gone through in order
 
+-- No two arities of the constructor are in conflict.
+abbrev pub HasNoConflict : Algebra → ℕ → Type 0
+HasNoConflict A k = (a b : Arity) → IsIn a A.arities → IsIn b A.arities → a.con ≡ k → b.con ≡ a.con → AreCompatible A a b
+
 pub no_pair : (A : Algebra) (k : ℕ) (ds : List ℕ) → ((d : ℕ) → IsDirected A k d ⊎ IsIn d ds) → Each (λ a. a.con ≡ k → Each (PassesWith A a ds) A.arities) A.arities → HasNoConflict A k
 no_pair A k ds rest all a b m n at con = pass_compatible A a b ds (λ d. rw at (rest d)) m n con (each_at (PassesWith A a ds) A.arities (each_at (λ a. a.con ≡ k → Each (PassesWith A a ds) A.arities) A.arities all a m at) b n con)
 
@@ -134,7 +138,7 @@ later_or_here cons i k l up within read m not =
       | inl before ↦ absurd (not (in_at (take i cons) w.0 l (omega (arith, length-take-le i cons (omega arith))) (get_or-take i cons w.0 0 before ∙ w.2)))
       | inr v ↦ elim v [
         | inl same ↦ inr (read ∙ zeroed ∙ rw (← same) w.2)
-        | inr after ↦ inl (let far = increasing_far cons up i w.0 after w.1 in omega (arith, w.2))
+        | inr after ↦ inl (let far = AllPairs-from_increasing cons up i w.0 0 after w.1 in omega (arith, w.2))
       ]
     ]
   where

@@ -6,13 +6,13 @@ use Rattle.pure_order_tables.specs.ArityView.{arity_of, arities_of}
 use Rattle.std.proofs.lemmas.Bool.Decides.{eqb_tells}
 use Rattle.pure_text.specs.Lists.{IsIn, Each, AnyOf}
 use Rattle.pure_definitions.specs.Order.{Class, Arity, Algebra, IsClassBelow, AreDomainsBelow, IsJoin, AreCompatible, IsCoregular}
-use Rattle.pure_text.proofs.ListLaws.{each_of, any_of, in-append_left, in-append_right}
+use Rattle.pure_text.proofs.ListLaws.{each_of, any_of, in-append_left, in-append_right, in_split, any_some, any_imply, each_at, each-append, any-append_left, any-append_right}
+use Rattle.pure_text.proofs.LoopLaws.{longer_by}
 use Rattle.pure_order_tables.specs.Arities.{IsArityBelow, IsGreatest, IsGreatestIfAny, IsKnown, with_class, with_arity}
 use Rattle.pure_order_tables.specs.Checks.{IsAboveBoth, Pass, IsCovered, IsDirected, IsDecided, PassesWith, Fails, FindsFailing, IsLeastInConflict}
-use Rattle.pure_order_tables.proofs.ListMore.{longer_by, in_split, any_some, any_imply, each_at, each-append, any-append_left, any-append_right}
-use Rattle.pure_order_tables.proofs.ArityLaws.{domains_same, domains-trans, same_order, same_order_back, same_domains, same_domains_back, two_decided, domains-more, has_more, below_before}
+use Rattle.pure_definitions.proofs.OrderLaws.{domains_same, domains-trans, domains-more, below-more}
+use Rattle.pure_order_tables.proofs.ArityLaws.{same_order, same_order_back, same_domains, same_domains_back, two_decided, has_more, below_before}
 use Rattle.pure_order_tables.specs.Classes.{IsDeclared, Follows}
-use Rattle.pure_order_tables.proofs.BelowLaws.{below-more}
 
 -- In a coregular algebra the arities of a constructor for classes below a class are directed.
 pub directed : (A : Algebra) → IsCoregular A → (k d : ℕ) → IsDirected A k d

@@ -1,5 +1,3 @@
-pub mod ListMore
-pub mod NameLaws
 pub mod MapLaws
 pub mod BelowLaws
 pub mod ClassTableLaws
@@ -9,3 +7,4 @@ pub mod CoregularLaws
 pub mod UnknownLaws
 pub mod UnionLaws
 pub mod ConflictLaws
+pub mod AgreeLaws

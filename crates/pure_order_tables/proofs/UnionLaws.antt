@@ -3,12 +3,12 @@ use Rattle.std.proofs.Common.{◌≡◌, ℕ, ◌+◌, ◌<◌, List, [], ◌∷
 use Rattle.std.proofs.lemmas.List.{map-append}
 use Rattle.pure_text.specs.Lists.{IsIn, Each}
 use Rattle.pure_definitions.specs.Order.{Class, Arity}
-use Rattle.pure_text.proofs.ListLaws.{each_of, in-map}
+use Rattle.pure_text.proofs.ListLaws.{each_of, in-map, any_some, each_at, read_in, split_at}
+use Rattle.pure_text.proofs.LoopLaws.{grown_put, grown_kept, longer_by}
 use Rattle.pure_order_tables.specs.declared.classes.ClassEntry.{ClassEntry}
 use Rattle.pure_order_tables.specs.ClassView.{class_of, classes_of}
 use Rattle.pure_order_tables.specs.Classes.{IsDeclared, Follows, Agree}
 use Rattle.pure_order_tables.specs.Arities.{IsKnown}
-use Rattle.pure_order_tables.proofs.ListMore.{grown_put, grown_kept, any_some, each_at, longer_by, read_in, split_at}
 use Rattle.pure_order_tables.proofs.BelowLaws.{declared}
 
 -- What an ordered list says of one of its classes.

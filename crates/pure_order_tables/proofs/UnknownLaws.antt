@@ -4,7 +4,7 @@ use Rattle.pure_text.specs.Lists.{Each}
 use Rattle.pure_definitions.specs.Order.{Class}
 use Rattle.pure_order_tables.specs.Classes.{IsDeclared}
 use Rattle.pure_order_tables.specs.Unknown.{IsFirstUnknown, joined}
-use Rattle.pure_order_tables.proofs.ListMore.{split_at, each-append}
+use Rattle.pure_text.proofs.ListLaws.{split_at, each-append}
 
 joined-append : (xs ys : List (List ℕ)) → joined (xs ++ ys) ≡ joined xs ++ joined ys
 joined-append [] ys = refl

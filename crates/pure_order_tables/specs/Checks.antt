@@ -88,7 +88,3 @@ pub record IsLeastPair (A : Algebra) (k : ℕ) (ds : List ℕ) (bs : List Arity)
 -- What a look for such a pair finds.
 abbrev pub FindsPair : Algebra → ℕ → List ℕ → List Arity → Option (ℕ × ℕ) → Type 0
 FindsPair A k ds bs found = MatchOption found (Each (λ a. a.con ≡ k → Each (PassesWith A a ds) A.arities) bs) (λ p. IsLeastPair A k ds bs p.0 p.1)
-
--- No two arities of the constructor are in conflict.
-abbrev pub HasNoConflict : Algebra → ℕ → Type 0
-HasNoConflict A k = (a b : Arity) → IsIn a A.arities → IsIn b A.arities → a.con ≡ k → b.con ≡ a.con → AreCompatible A a b

@@ -16,6 +16,10 @@ Follows done (k ∷ ks) = (¬ IsDeclared done k.name) × Each (IsDeclared done) 
 abbrev pub of_classes : List Class → Algebra
 of_classes cs = record { classes = cs; arities = [] }
 
+-- The second declaration is the same as the first, if it is of the same class.
+abbrev pub IsSameIfNamed : Class → Class → Type 0
+IsSameIfNamed c k = c.name ≡ k.name → c ≡ k
+
 -- A class that both lists declare has the same classes declared above it in both.
 abbrev pub Agree : List Class → List Class → Type 0
 Agree cs ks = (c k : Class) → IsIn c cs → IsIn k ks → c.name ≡ k.name → c ≡ k

@@ -1,3 +1,4 @@
+//! The test of a new arity: which classes it would be in conflict at.
 ghost use Rattle.std.specs.Prelude.{◌≡◌, ◌↔◌, ◌⊎◌, ℕ, IsTrue, IfOk, MatchBool, MatchOption};
 ghost use Rattle.std.specs.Bool.{OnTrue};
 ghost use Rattle.pure_text.specs.Lists.{IsIn, AnyOf, EachTwo};
@@ -7,7 +8,7 @@ ghost use Rattle.pure_order_tables.specs.Classes.{IsDeclared};
 ghost use Rattle.pure_order_tables.specs.ArityView.{arity_of};
 ghost use Rattle.pure_order_tables.specs.Checks.{AreJoined, Fails, FindsFailing, IsAboveBoth, IsCovered, IsLeastInConflict, Pass, PassesWith};
 
-use crate::names::{is_same, lesser};
+use crate::names::lesser;
 use crate::tables::{ArityEntry, Tables};
 use pure_typ::{Name, Sort};
 use std::alloc::{AllocError, Global};
@@ -24,7 +25,7 @@ impl Tables {
     ) -> bool
         ensures { MatchBool result (IsAboveBoth self.now con class first.now second.now (arity_of arity.now)) (¬ IsAboveBoth self.now con class first.now second.now (arity_of arity.now)) }
     {
-        is_same(arity.con, con)
+        arity.con == con
             && self.below(arity.class, class)
             && self.domains_below(first, arity.domains.as_slice())
             && self.domains_below(second, arity.domains.as_slice())
@@ -111,7 +112,7 @@ impl Tables {
     fn fails(&self, first: &ArityEntry, second: &ArityEntry, classes: &[Name]) -> bool
         ensures { MatchBool result (Fails self.now (arity_of first.now) classes.now (arity_of second.now)) (PassesWith self.now (arity_of first.now) classes.now (arity_of second.now)) }
     {
-        is_same(second.con, first.con) && !self.pass(first, second, classes)
+        second.con == first.con && !self.pass(first, second, classes)
     }
 
     /// The least class of a declared arity that fails the test with this one.

@@ -1,12 +1,14 @@
+//! The declared classes, and for each those above it.
 ghost use Rattle.std.specs.Prelude.{◌≡◌, ◌↔◌, ◌⊎◌, ℕ, [], ◌∷◌, ◌++◌, IsTrue, OnOk, OnErr, IfOk, MatchOption};
 ghost use Rattle.std.specs.List.Sorted.{IsStrictlyIncreasing};
 ghost use Rattle.pure_text.specs.Lists.{IsIn, Each, AnyOf};
 ghost use Rattle.pure_definitions.specs.Order.{Class, IsClassBelow};
-ghost use Rattle.pure_order_tables.specs.Classes.{Agree, Follows, IsDeclared, of_classes};
+ghost use Rattle.pure_order_tables.specs.Classes.{Agree, Follows, IsDeclared, IsSameIfNamed, of_classes};
 ghost use Rattle.pure_order_tables.specs.Checks.{IsDecided};
 ghost use Rattle.pure_order_tables.specs.ClassTable.{AreAllAbove};
+ghost use Rattle.pure_order_tables.specs.ClassView.{class_of, classes_of};
 
-use crate::names::{has, is_same, put, put_all};
+use crate::names::{has, put, put_all};
 use crate::room::push_in_room;
 use pure_typ::Name;
 use std::alloc::{AllocError, Global};
@@ -27,6 +29,13 @@ pub struct ClassTable {
     up: BTreeMap<u32, Vec<Name>>,
 }
 
+/// Whether the entries are the same, if they are of one class.
+fn are_same_if_named(first: &ClassEntry, second: &ClassEntry) -> bool
+    ensures { IsTrue result ↔ IsSameIfNamed (class_of first.now) (class_of second.now) }
+{
+    first.name != second.name || first.above.as_slice() == second.above.as_slice()
+}
+
 impl Model for ClassTable {
     ghost use Rattle.std.specs.Prelude.{List};
     ghost use Rattle.pure_definitions.specs.Order.{Class};
@@ -42,8 +51,6 @@ impl Model for ClassTable {
 }
 
 impl ClassTable {
-    ghost use Rattle.pure_order_tables.specs.ClassView.{classes_of};
-
     /// No classes.
     pub fn empty(alloc: Global) -> ClassTable
         ensures { result ≡ [] }
@@ -79,7 +86,7 @@ impl ClassTable {
         ensures { IsTrue result ↔ IsClassBelow (of_classes self.now) first second }
     {
         match self.above(first) {
-            None => is_same(first, second),
+            None => first == second,
             Some(names) => has(names, second),
         }
     }
@@ -147,6 +154,30 @@ impl ClassTable {
             }
         }
         Ok(())
+    }
+
+    /// Whether the table declares the class as the entry does, if it declares it.
+    fn agrees_at(&self, entry: &ClassEntry) -> bool
+        ensures { IsTrue result ↔ Each (IsSameIfNamed (class_of entry.now)) self.now }
+    {
+        for own in self.entries.as_slice() {
+            if !are_same_if_named(entry, own) {
+                return false;
+            }
+        }
+        true
+    }
+
+    /// Whether a class that both tables declare has the same classes declared above it in both.
+    pub(crate) fn agrees(&self, other: &ClassTable) -> bool
+        ensures { IsTrue result ↔ Agree self.now other.now }
+    {
+        for entry in self.entries.as_slice() {
+            if !other.agrees_at(entry) {
+                return false;
+            }
+        }
+        true
     }
 
     /// The classes of both tables.

@@ -1,3 +1,4 @@
+//! The conflicts among the declared arities, and the least of them.
 ghost use Rattle.std.specs.Prelude.{◌≡◌, ◌↔◌, ◌⊎◌, ◌≤◌, ◌<◌, ℕ, IsTrue, IfOk, MatchOption};
 ghost use Rattle.std.specs.Bool.{OnTrue};
 ghost use Rattle.std.specs.List.Sorted.{IsStrictlyIncreasing};
@@ -7,7 +8,7 @@ ghost use Rattle.pure_order_tables.specs.ArityView.{arity_of};
 ghost use Rattle.pure_order_tables.specs.Arities.{IsArityBelow};
 ghost use Rattle.pure_order_tables.specs.Checks.{FindsPair, IsBelowOf, IsDirected, IsLeastConflict};
 
-use crate::names::{is_same, lesser_pair, put};
+use crate::names::{lesser_pair, put};
 use crate::tables::{ArityEntry, Tables};
 use pure_typ::{Name, Sort};
 use std::alloc::{AllocError, Global};
@@ -17,7 +18,7 @@ impl Tables {
     fn is_below_of(&self, arity: &ArityEntry, con: Name, class: Name, domains: &[Sort]) -> bool
         ensures { OnTrue result (IsBelowOf self.now con class domains.now (arity_of arity.now)) }
     {
-        !is_same(arity.con, con)
+        arity.con != con
             || !self.below(arity.class, class)
             || self.domains_below(arity.domains.as_slice(), domains)
     }
@@ -50,7 +51,7 @@ impl Tables {
     {
         let mut classes = Vec::new(alloc);
         for arity in self.arities() {
-            if is_same(arity.con, con) {
+            if arity.con == con {
                 self.put_above(&mut classes, arity.class)?;
             }
         }
@@ -77,7 +78,7 @@ impl Tables {
     {
         let mut least = None;
         for arity in self.arities() {
-            if is_same(arity.con, con) {
+            if arity.con == con {
                 if let Some(second) = self.least_failing(arity, classes) {
                     least = Some(lesser_pair(least, arity.class, second));
                 }

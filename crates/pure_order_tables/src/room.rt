@@ -1,3 +1,4 @@
+//! Appending where there is room.
 ghost use Rattle.std.specs.Prelude.{◌≡◌, ◌≤◌, ◌+◌, ◌∷◌, [], ◌++◌, vec_len, vec_capacity};
 
 /// Appends an item where there is room for it, which can't fail.

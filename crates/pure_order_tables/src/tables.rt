@@ -1,4 +1,5 @@
-ghost use Rattle.std.specs.Prelude.{◌≡◌, ◌↔◌, ◌⊎◌, ℕ, [], ◌∷◌, ◌++◌, IsTrue, OnOk, OnErr, IfOk, MatchBool, MatchOption, length};
+//! The declared classes and arities, and the place of the greatest arity of each constructor for each class.
+ghost use Rattle.std.specs.Prelude.{◌≡◌, ◌↔◌, ◌⊎◌, ℕ, [], ◌∷◌, ◌++◌, IsTrue, OnOk, OnErr, IfOk, IfSome, MatchBool, MatchOption, length};
 ghost use Rattle.std.specs.BTreeMap.{get};
 ghost use Rattle.std.specs.Ordering.{nat_cmp};
 ghost use Rattle.std.specs.List.Sorted.{IsStrictlyIncreasing};
@@ -17,7 +18,7 @@ use std::alloc::{AllocError, Global};
 use std::collections::BTreeMap;
 use std::marker::Model;
 
-/// A declared arity.
+/// A declared arity: applied to types of the domains, the constructor makes a type of the class.
 #[derive(Drop)]
 pub struct ArityEntry {
     pub con: Name,
@@ -72,14 +73,22 @@ impl Tables {
         self.classes.below(first, second)
     }
 
-    /// The classes above a declared class, itself among them.
-    pub(crate) fn above(&self, class: Name) -> Option<&[Name]>
-        ensures { MatchOption result (¬ IsDeclared self.now.classes class) (λ names. (d : ℕ) → IsIn d names.now ↔ IsClassBelow self.now class d) }
+    /// The classes above a declared class, itself among them, ascending.
+    pub fn above(&self, class: Name) -> Option<&[Name]>
+        ensures are { MatchOption result (¬ IsDeclared self.now.classes class) (λ names. (d : ℕ) → IsIn d names.now ↔ IsClassBelow self.now class d) }
+        ensures ascend { IfSome result (λ names. IsStrictlyIncreasing names.now) }
     {
         match self.classes.above(class) {
             None => None,
             Some(names) => Some(names),
         }
+    }
+
+    /// Whether a class that both tables declare has the same classes declared above it in both.
+    pub fn agrees(&self, other: &Tables) -> bool
+        ensures { IsTrue result ↔ Agree self.now.classes other.now.classes }
+    {
+        self.classes.agrees(&other.classes)
     }
 
     /// Puts the classes above this one among the names.
@@ -267,6 +276,7 @@ impl Tables {
     }
 }
 
+/// A map with the same places.
 fn copied(places: &BTreeMap<u32, usize>) -> Result<BTreeMap<u32, usize>, AllocError>
     ensures { IfOk result (λ copy. (q : ℕ) → get nat_cmp copy q ≡ get nat_cmp places.now q) }
 {

@@ -1,52 +1,27 @@
+//! The arities of two tables united.
 ghost use Rattle.std.specs.Prelude.{◌≡◌, ◌↔◌, ◌⊎◌, IsTrue, OnOk, IfOk};
 ghost use Rattle.pure_text.specs.Lists.{IsIn, Each};
 ghost use Rattle.pure_definitions.specs.Order.{Arity, Class};
 ghost use Rattle.pure_order_tables.specs.ArityView.{arity_of, arities_of};
 ghost use Rattle.pure_order_tables.specs.Arities.{IsKnown};
 
-use crate::names::is_same;
 use crate::tables::{ArityEntry, Tables};
 use pure_typ::{Name, Sort};
 use std::alloc::{AllocError, Global};
-
-/// Whether the names are the same.
-fn are_same_names(first: &[Name], second: &[Name]) -> bool
-    ensures { IsTrue result ↔ (first.now ≡ second.now) }
-{
-    if first.len() != second.len() {
-        return false;
-    }
-    for i in 0..first.len() {
-        if !is_same(first[i], second[i]) {
-            return false;
-        }
-    }
-    true
-}
 
 /// Whether the sorts are the same.
 fn are_same_sorts(first: &[Sort], second: &[Sort]) -> bool
     ensures { IsTrue result ↔ (first.now ≡ second.now) }
 {
-    if first.len() != second.len() {
-        return false;
-    }
-    for i in 0..first.len() {
-        let left = &first[i];
-        let right = &second[i];
-        if !are_same_names(left.classes(), right.classes()) {
-            return false;
-        }
-    }
-    true
+    first == second
 }
 
 /// Whether the arities are the same.
 fn is_same_arity(first: &ArityEntry, second: &ArityEntry) -> bool
     ensures { IsTrue result ↔ (arity_of first.now ≡ arity_of second.now) }
 {
-    is_same(first.con, second.con)
-        && is_same(first.class, second.class)
+    first.con == second.con
+        && first.class == second.class
         && are_same_sorts(first.domains.as_slice(), second.domains.as_slice())
 }
 

@@ -1,9 +1,9 @@
+//! What is declared of the names in a declaration.
 ghost use Rattle.std.specs.Prelude.{◌≡◌, ◌↔◌, IsTrue, MatchOption};
 ghost use Rattle.pure_text.specs.Lists.{Each};
 ghost use Rattle.pure_order_tables.specs.Classes.{IsDeclared};
 ghost use Rattle.pure_order_tables.specs.Unknown.{HasArityFor, IsFirstUnknown, joined};
 
-use crate::names::is_same;
 use crate::tables::{ArityEntry, Tables};
 use pure_typ::{Name, Sort};
 
@@ -11,7 +11,7 @@ use pure_typ::{Name, Sort};
 fn is_for(arity: &ArityEntry, con: Name, class: Name) -> bool
     ensures { IsTrue result ↔ ((arity.now.con ≡ con) × (arity.now.class ≡ class)) }
 {
-    is_same(arity.con, con) && is_same(arity.class, class)
+    arity.con == con && arity.class == class
 }
 
 impl Tables {

@@ -1,2 +1,5 @@
+pub mod AnswerLaws
+pub mod AscendingLaws
 pub mod ListLaws
 pub mod Joins
+pub mod LoopLaws

@@ -1,7 +1,7 @@
 use Rattle.std.proofs.Common.{length, arith}
 use Rattle.pure_definitions.specs.Typ.{Con, typs_of}
 use Rattle.pure_definitions.proofs.TypsLemmas.{typ_depth-item}
-use Rattle.pure_order_tables.proofs.ListMore.{no_as, test_fails}
+use Rattle.pure_text.proofs.AnswerLaws.{no_as, test_fails}
 use Rattle.pure_order.specs.Walk.{IsOfDomain}
 use Rattle.pure_order.proofs.WalkLaws.{grown_answer, have_domain, so_far_turn, domain_of_all}
 use Rattle.pure_order.proofs.walk.+is_of_domain.Goals as goal

@@ -1,10 +1,15 @@
-use Rattle.pure_order_tables.proofs.NameLaws.{insert_increases, in-insert, has_not}
+use Rattle.std.proofs.Common.{Ok, Err, inl, inr}
+use Rattle.pure_text.proofs.AscendingLaws.{finds, found-in, in-insert, insert_ascends}
 use Rattle.pure_order_tables.proofs.names.put.Goals as goal
 
-pub returns-clause-ascend : goal.returns-clause-ascend
-returns-clause-ascend c =
-    let items = c.in_ok-insert.ensures.items in
-    rw items (rw c.as_slice-2.ensures.value at (insert_increases c.as_slice-2.result.now c.place_of-place.result c.args.name (rw c.as_slice-2.ensures.value c.requires) c.place_of-place.ensures.within c.place_of-place.ensures.before c.place_of-place.ensures.from (rw c.as_slice-2.ensures.value (rw c.as_slice.ensures.value at (has_not _ c.has.result c.has.ensures c.if-has.false)))))
+pub returns-in-Ok-clause-has : goal.returns-in-Ok-clause-has
+returns-in-Ok-clause-has c x =
+    let found = found-in c.args.names.now.items c.args.name c.in-Ok.field-0 (finds c.args.names.now.items c.args.name (Ok c.in-Ok.field-0) c.requires (rw c.deref.ensures.value at c.in-Ok.ensures.position)) in
+    (λ m. inr m, λ m. elim m [ inl e ↦ rw e found | inr n ↦ n ])
 
-pub returns-clause-has : goal.returns-clause-has
-returns-clause-has c = rw c.in_ok-insert.ensures.items (in-insert c.args.names.now.items c.place_of-place.result c.args.name)
+pub returns-in_ok-insert-in-Err-clause-ascend : goal.returns-in_ok-insert-in-Err-clause-ascend
+returns-in_ok-insert-in-Err-clause-ascend c = rw c.in_ok-insert-in-Err.ensures.items
+    (insert_ascends c.args.names.now.items c.in-Err.place c.args.name c.requires (finds c.args.names.now.items c.args.name (Err c.in-Err.place) c.requires (rw c.deref.ensures.value at c.in-Err.ensures.position)))
+
+pub returns-in_ok-insert-in-Err-clause-has : goal.returns-in_ok-insert-in-Err-clause-has
+returns-in_ok-insert-in-Err-clause-has c = rw c.in_ok-insert-in-Err.ensures.items (in-insert c.args.names.now.items c.in-Err.place c.args.name)

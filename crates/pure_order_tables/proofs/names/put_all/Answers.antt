@@ -1,5 +1,5 @@
 use Rattle.std.proofs.Common.{take_all}
-use Rattle.pure_order_tables.proofs.ListMore.{in_turn, turned}
+use Rattle.pure_text.proofs.LoopLaws.{in_turn, turned}
 use Rattle.pure_order_tables.proofs.names.put_all.Goals as goal
 
 pub loop-name-preserved : goal.loop-name-preserved

@@ -1,6 +1,8 @@
 use Rattle.std.proofs.Common.{true, false, take_all}
 use Rattle.pure_definitions.specs.Order.{IsOfSort, IsOfClass}
-use Rattle.pure_order_tables.proofs.ListMore.{two_long, two_read, two_turn, two_full, each_read, no_as, yes_as, test_fails}
+use Rattle.pure_text.proofs.AnswerLaws.{no_as, yes_as, test_fails}
+use Rattle.pure_text.proofs.ListLaws.{two_long, two_read, each_read}
+use Rattle.pure_text.proofs.LoopLaws.{two_turn, two_full}
 use Rattle.pure_order.proofs.DomainLaws.{con_answer}
 use Rattle.pure_order.proofs.order.Order.+of_class.Goals as goal
 

@@ -1,5 +1,5 @@
 use Rattle.std.proofs.Common.{refl}
-use Rattle.pure_order_tables.proofs.ListMore.{test_fails}
+use Rattle.pure_text.proofs.AnswerLaws.{test_fails}
 use Rattle.pure_order.proofs.FaultLaws.{unknown_class, known_arity}
 use Rattle.pure_order.proofs.order.Order.add_arity.Goals as goal
 

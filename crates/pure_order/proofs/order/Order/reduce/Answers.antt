@@ -1,5 +1,5 @@
 use Rattle.std.proofs.Common.{take_all}
-use Rattle.pure_order_tables.proofs.ListMore.{test_fails}
+use Rattle.pure_text.proofs.AnswerLaws.{test_fails}
 use Rattle.pure_order.specs.Domains.{IsAboveAnother}
 use Rattle.pure_order.proofs.ReduceLaws.{kept_one, dropped_one}
 use Rattle.pure_order.proofs.order.Order.reduce.Goals as goal

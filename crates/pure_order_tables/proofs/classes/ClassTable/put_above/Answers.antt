@@ -1,7 +1,8 @@
 use Rattle.std.proofs.Common.{sym}
 use Rattle.pure_order_tables.specs.Classes.{of_classes}
-use Rattle.pure_order_tables.proofs.ListMore.{on_ok_then, in_other_words}
-use Rattle.pure_order_tables.proofs.BelowLaws.{below-undeclared, below_same}
+use Rattle.pure_text.proofs.AnswerLaws.{on_ok_then, in_other_words}
+use Rattle.pure_definitions.proofs.OrderLaws.{below_same}
+use Rattle.pure_order_tables.proofs.BelowLaws.{below-undeclared}
 use Rattle.pure_order_tables.proofs.classes.ClassTable.put_above.Goals as goal
 
 pub returns-in-None-clause-has : goal.returns-in-None-clause-has

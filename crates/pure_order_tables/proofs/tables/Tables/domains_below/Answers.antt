@@ -1,5 +1,7 @@
 use Rattle.pure_definitions.specs.Order.{IsSortBelow}
-use Rattle.pure_order_tables.proofs.ListMore.{two_long, two_read, two_turn, no_as, test_fails}
+use Rattle.pure_text.proofs.AnswerLaws.{no_as, test_fails}
+use Rattle.pure_text.proofs.ListLaws.{two_long, two_read}
+use Rattle.pure_text.proofs.LoopLaws.{two_turn}
 use Rattle.pure_order_tables.proofs.tables.Tables.domains_below.Goals as goal
 
 pub returns-then-first-second : goal.returns-then-first-second

@@ -1,5 +1,6 @@
 use Rattle.std.proofs.Common.{take, drop, ◌+◌}
-use Rattle.pure_order_tables.proofs.ListMore.{split_at, test_fails}
+use Rattle.pure_text.proofs.AnswerLaws.{test_fails}
+use Rattle.pure_text.proofs.ListLaws.{split_at}
 use Rattle.pure_order_tables.proofs.tables.Tables.first_unknown.Goals as goal
 
 pub returns-then-not-is_declared : goal.returns-then-not-is_declared

@@ -2,7 +2,9 @@ use Rattle.std.proofs.Common.{◌≡◌, take_all, inl, inr}
 use Rattle.pure_definitions.specs.Order.{Arity}
 use Rattle.pure_order_tables.specs.ArityView.{arity_of}
 use Rattle.pure_order_tables.specs.declared.tables.ArityEntry.{ArityEntry}
-use Rattle.pure_order_tables.proofs.ListMore.{any-map, any_read, any_turn, yes_as, no_as, test_fails}
+use Rattle.pure_text.proofs.AnswerLaws.{yes_as, no_as, test_fails}
+use Rattle.pure_text.proofs.ListLaws.{any-map, any_read}
+use Rattle.pure_text.proofs.LoopLaws.{any_turn}
 use Rattle.pure_order_tables.proofs.tables.Tables.has_arity.Goals as goal
 
 pub returns-then-is_for : goal.returns-then-is_for

@@ -1,7 +1,7 @@
 use Rattle.std.proofs.Common.{◌∷◌, [], take, inl, inr}
 use Rattle.pure_order_tables.specs.ArityView.{arity_of, arities_of}
-use Rattle.pure_text.proofs.ListLaws.{in-map}
-use Rattle.pure_order_tables.proofs.ListMore.{in_split, read_in, yes_as, test_fails}
+use Rattle.pure_text.proofs.AnswerLaws.{yes_as, test_fails}
+use Rattle.pure_text.proofs.ListLaws.{in-map, in_split, read_in}
 use Rattle.pure_order_tables.proofs.CoregularLaws.{one_more_arity}
 use Rattle.pure_order_tables.proofs.tables.Tables.has_same.Goals as goal
 

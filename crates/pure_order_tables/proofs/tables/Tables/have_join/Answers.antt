@@ -1,7 +1,8 @@
 use Rattle.std.proofs.Common.{take_all, inl, inr}
 use Rattle.pure_order_tables.specs.ArityView.{arity_of}
 use Rattle.pure_order_tables.specs.Checks.{IsAboveBoth}
-use Rattle.pure_order_tables.proofs.ListMore.{any-map, any_read, any_turn}
+use Rattle.pure_text.proofs.ListLaws.{any-map, any_read}
+use Rattle.pure_text.proofs.LoopLaws.{any_turn}
 use Rattle.pure_order_tables.proofs.tables.Tables.have_join.Goals as goal
 
 pub returns-then-is_above_both : goal.returns-then-is_above_both

@@ -1,6 +1,6 @@
 use Rattle.std.proofs.Common.{take_all}
-use Rattle.pure_order_tables.specs.Checks.{HasNoConflict}
-use Rattle.pure_order_tables.proofs.ListMore.{each_turn}
+use Rattle.pure_order_tables.proofs.ConflictLaws.{HasNoConflict}
+use Rattle.pure_text.proofs.LoopLaws.{each_turn}
 use Rattle.pure_order_tables.proofs.ConflictLaws.{no_pair, no_conflict_coregular, least_found}
 use Rattle.pure_order_tables.proofs.tables.Tables.least_conflict.Goals as goal
 

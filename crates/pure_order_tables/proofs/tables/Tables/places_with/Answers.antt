@@ -3,7 +3,8 @@ use Rattle.std.specs.BTreeMap.{get}
 use Rattle.std.specs.Ordering.{nat_cmp}
 use Rattle.pure_text.specs.Lists.{IsIn}
 use Rattle.pure_order_tables.specs.ArityView.{arity_of}
-use Rattle.pure_order_tables.proofs.ListMore.{in_turn, read_in}
+use Rattle.pure_text.proofs.ListLaws.{read_in}
+use Rattle.pure_text.proofs.LoopLaws.{in_turn}
 use Rattle.pure_order_tables.proofs.MapLaws.{get_after}
 use Rattle.pure_order_tables.proofs.ArityTableLaws.{above_in, turn_put, turn_kept, all_done}
 use Rattle.pure_order_tables.proofs.tables.Tables.places_with.Goals as goal

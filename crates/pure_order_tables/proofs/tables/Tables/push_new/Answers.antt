@@ -1,9 +1,9 @@
 use Rattle.std.proofs.Common.{◌∷◌, [], ◌++◌, take, take_all, ap, ◌∙◌}
 use Rattle.pure_definitions.specs.Order.{Algebra}
-use Rattle.pure_text.proofs.ListLaws.{in-map}
+use Rattle.pure_text.proofs.ListLaws.{in-map, each_at, read_in}
+use Rattle.pure_text.proofs.LoopLaws.{grown_put, grown_kept}
 use Rattle.pure_order_tables.specs.Arities.{IsKnown}
 use Rattle.pure_order_tables.specs.ArityView.{arity_of, arities_of}
-use Rattle.pure_order_tables.proofs.ListMore.{grown_put, grown_kept, each_at, read_in}
 use Rattle.pure_order_tables.proofs.CoregularLaws.{one_more_arity}
 use Rattle.pure_order_tables.proofs.tables.Tables.push_new.Goals as goal
 use Rattle.pure_order_tables.proofs.tables.Tables.push_new.Goals.{then-not-has_same+in_ok-copy_arity+in_ok-push_arity, else-not-has_same}

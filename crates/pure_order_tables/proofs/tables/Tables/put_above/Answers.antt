@@ -1,5 +1,5 @@
 use Rattle.pure_order_tables.specs.ArityView.{algebra_of}
-use Rattle.pure_order_tables.proofs.ListMore.{in_other_words}
+use Rattle.pure_text.proofs.AnswerLaws.{in_other_words}
 use Rattle.pure_order_tables.proofs.BelowLaws.{below_iff}
 use Rattle.pure_order_tables.proofs.tables.Tables.put_above.Goals as goal
 

@@ -1,6 +1,8 @@
 use Rattle.pure_definitions.specs.Order.{IsClassBelow}
 use Rattle.std.proofs.Common.{inl, inr}
-use Rattle.pure_order_tables.proofs.ListMore.{any_read, any_turn, yes_as, test_fails}
+use Rattle.pure_text.proofs.AnswerLaws.{yes_as, test_fails}
+use Rattle.pure_text.proofs.ListLaws.{any_read}
+use Rattle.pure_text.proofs.LoopLaws.{any_turn}
 use Rattle.pure_order_tables.proofs.tables.Tables.some_below.Goals as goal
 
 pub returns-then-below : goal.returns-then-below

@@ -1,6 +1,6 @@
 use Rattle.std.proofs.Common.{take_all, refl, inl, inr}
 use Rattle.pure_order_tables.specs.Checks.{IsDirected}
-use Rattle.pure_order_tables.proofs.ListMore.{kept_turn}
+use Rattle.pure_text.proofs.LoopLaws.{kept_turn}
 use Rattle.pure_order_tables.proofs.ConflictLaws.{undirected_or_in}
 use Rattle.pure_order_tables.proofs.tables.Tables.undirected.Goals as goal
 use Rattle.pure_order_tables.proofs.tables.Tables.undirected.Goals.{then-not-is_directed+in_ok-push, else-not-is_directed}

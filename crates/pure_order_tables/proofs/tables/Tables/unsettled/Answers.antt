@@ -1,6 +1,6 @@
 use Rattle.std.proofs.Common.{take_all, refl, inl, inr}
 use Rattle.pure_order_tables.specs.Checks.{IsCovered}
-use Rattle.pure_order_tables.proofs.ListMore.{kept_turn}
+use Rattle.pure_text.proofs.LoopLaws.{kept_turn}
 use Rattle.pure_order_tables.proofs.tables.Tables.unsettled.Goals as goal
 use Rattle.pure_order_tables.proofs.tables.Tables.unsettled.Goals.{then-not-is_covered+in_ok-push, else-not-is_covered}
 
@@ -13,4 +13,4 @@ loop-class-preserved c = kept_turn (λ d. IsCovered c.args.self.now c.args.arity
     c.loop-class.invariant
 
 pub returns : goal.returns
-returns c d h = rw (take_all c.loop-class.class-index c.in-Some.above.now c.loop-class-test.false) at (c.loop-class.invariant d) ((c.in-Some.ensures d).1 h)
+returns c d h = rw (take_all c.loop-class.class-index c.in-Some.above.now c.loop-class-test.false) at (c.loop-class.invariant d) ((c.in-Some.ensures.are d).1 h)

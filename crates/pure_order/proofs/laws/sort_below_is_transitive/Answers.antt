@@ -1,0 +1,5 @@
+use Rattle.pure_definitions.proofs.OrderLaws.{sort_below-trans}
+use Rattle.pure_order.proofs.laws.sort_below_is_transitive.Goals as goal
+
+pub returns : goal.returns
+returns c = sort_below-trans
