@@ -1,7 +1,7 @@
 -- Membership in lists.
-use Rattle.std.proofs.Common.{map, ap, ◌≡◌, ℕ, List, [], ◌∷◌, ◌++◌, inl, inr, Bool, true, false, ◌||◌, refl, nat_eq}
+use Rattle.std.proofs.Common.{map, ap, sym, subst, ◌⊎◌, ◌≡◌, ℕ, List, [], ◌∷◌, ◌++◌, inl, inr, Bool, true, false, ◌||◌, refl, nat_eq}
 use Rattle.std.proofs.lemmas.Bool.{eq-eqb, eqb-true}
-use Rattle.pure_text.specs.Lists.{IsIn, Each, AnyOf}
+use Rattle.pure_text.specs.Lists.{IsIn, Each, AnyOf, AreDistinct}
 
 pub each_of : {A : Type 0} (P : A → Type 0) (xs : List A) → ((x : A) → IsIn x xs → P x) → Each P xs
 each_of P [] h = tt
@@ -22,6 +22,25 @@ in-append_right x (z ∷ xs) ys m = inr (in-append_right x xs ys m)
 pub in-map : {A B : Type 0} (f : A → B) (x : A) (xs : List A) → IsIn x xs → IsIn (f x) (map f xs)
 in-map f x [] m = m
 in-map f x (y ∷ ys) m = elim m [ inl e ↦ inl (ap f e) | inr n ↦ inr (in-map f x ys n) ]
+
+-- A new element at the end of a list of distinct ones.
+in-append : {A : Type 0} (x : A) (xs ys : List A) → IsIn x (xs ++ ys) → IsIn x xs ⊎ IsIn x ys
+in-append x [] ys m = inr m
+in-append x (z ∷ xs) ys m = elim m [ inl e ↦ inl (inl e) | inr n ↦ elim (in-append x xs ys n) [ inl a ↦ inl (inr a) | inr b ↦ inr b ] ]
+
+pub distinct-snoc : {A : Type 0} (xs : List A) (x : A) → AreDistinct xs → (¬ IsIn x xs) → AreDistinct (xs ++ x ∷ [])
+distinct-snoc [] x d new = ((λ m. m), tt)
+distinct-snoc (y ∷ ys) x d new = (
+  λ m. elim (in-append y ys (x ∷ []) m) [ inl n ↦ d.0 n | inr n ↦ elim n [ inl e ↦ new (inl (sym e)) | inr none ↦ absurd none ] ],
+  distinct-snoc ys x d.1 (λ m. new (inr m)),
+)
+
+pub distinct-map_snoc : {A B : Type 0} (f : A → B) (xs : List A) (x : A) → AreDistinct (map f xs) → (¬ IsIn (f x) (map f xs)) → AreDistinct (map f (xs ++ x ∷ []))
+distinct-map_snoc f xs x d new = subst AreDistinct (sym (ends f xs x)) (distinct-snoc (map f xs) (f x) d new)
+  where
+    ends : {A B : Type 0} (f : A → B) (xs : List A) (x : A) → map f (xs ++ x ∷ []) ≡ map f xs ++ f x ∷ []
+    ends f [] x = refl
+    ends f (y ∷ ys) x = ap (λ zs. f y ∷ zs) (ends f ys x)
 
 -- whether a number is in a list
 abbrev pub is_in : ℕ → List ℕ → Bool

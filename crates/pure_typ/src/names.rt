@@ -1,9 +1,9 @@
 //! The texts of names.
-ghost use Rattle.std.specs.Prelude.{◌≡◌, ◌<◌, ℕ, ◌∷◌, ◌++◌, MatchOption, slice_get, Some, None};
+ghost use Rattle.std.specs.Prelude.{◌≡◌, ◌<◌, ℕ, ◌∷◌, ◌++◌, ◌↔◌, IsTrue, length, MatchOption, slice_get, Some, None};
 ghost use Rattle.std.specs.Ordering.{nat_cmp};
 ghost use Rattle.std.specs.Cmp.Lexicographic.{slice_cmp};
 ghost use Rattle.pure_definitions.specs.Names.{builtin_count};
-ghost use Rattle.pure_typ.specs.NameTexts.{builtin_texts, name_texts, HasText, DoAscend, AreSessionTexts, IsFound};
+ghost use Rattle.pure_typ.specs.NameTexts.{builtin_texts, name_texts, HasText, DoAscend, AreSessionTexts, IsFound, HasBase, NameHasBase, IsNextWithBase};
 
 use crate::name::{BUILTIN_COUNT, Name};
 use pure_text::Text;
@@ -64,6 +64,35 @@ impl Names {
         }
     }
 
+    /// The first number that has no text: the names of fresh variables begin there.
+    pub fn first_fresh(&self) -> u32
+        ensures { result ≡ length (name_texts self.now) }
+    {
+        self.texts.len() as u32 + BUILTIN_COUNT
+    }
+
+    /// The least name at or above `from` whose text is `theory.base`, where `theory` has no dot. It takes no memory.
+    pub fn next_with_base(&self, base: &[u8], from: Name) -> Option<Name>
+        ensures { IsNextWithBase self.now base.now from result }
+    {
+        for number in from.0..self.first_fresh() {
+            if self.has_base_at(base, Name(number)) {
+                return Some(Name(number));
+            }
+        }
+        None
+    }
+
+    /// Whether the name has a text with this base.
+    fn has_base_at(&self, base: &[u8], name: Name) -> bool
+        ensures { IsTrue result ↔ NameHasBase self.now base.now name }
+    {
+        match self.text(name) {
+            Some(text) => has_base(text, base),
+            None => false,
+        }
+    }
+
     /// The name with the three texts, one after another.
     fn find_joined(&self, a: &[u8], b: &[u8], c: &[u8]) -> Option<Name>
         ensures { IsFound (name_texts self.now) (a.now ++ (b.now ++ c.now)) result }
@@ -93,6 +122,19 @@ fn builtin(number: u32) -> &'static [u8]
         5 => b"Pure.protect",
         _ => unreachable!(),
     }
+}
+
+/// Whether the text has this base: what stands behind its first dot.
+fn has_base(text: &[u8], base: &[u8]) -> bool
+    ensures { IsTrue result ↔ HasBase base.now text.now }
+{
+    for (at, byte) in text.iter().enumerate() {
+        if *byte == b'.' {
+            let rest = &text[at + 1..];
+            return rest == base;
+        }
+    }
+    false
 }
 
 /// The number of the name of Pure with the three texts, one after another.

@@ -1,4 +1,4 @@
-use Rattle.std.proofs.Common.{◌≡◌, ◌++◌, ◌≤◌, ◌-◌, take, drop, sym, ap, ◌∙◌, length, inl, inr}
+use Rattle.std.proofs.Common.{◌++◌, ◌≤◌, ◌-◌, take, drop, ap, ◌∙◌, length, inl, inr}
 use Rattle.std.specs.Prelude.{◌⊎◌}
 use Rattle.pure_typ.proofs.MergeLemmas.{merges-all}
 use Rattle.pure_typ.proofs.sort.merged.Goals as goal
