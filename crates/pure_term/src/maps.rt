@@ -1,11 +1,13 @@
 //! Finite maps of schematic variables.
-ghost use Rattle.std.specs.Prelude.{◌≡◌, MatchOption};
+ghost use Rattle.std.specs.Prelude.{◌≡◌, List, [], ◌∷◌, ◌++◌, map, MatchOption, MatchResult};
+ghost use Rattle.pure_text.specs.Lists.{IsIn};
 ghost use Rattle.pure_definitions.specs.Term as term_tree;
 ghost use Rattle.pure_definitions.specs.Term.{term_eq};
 ghost use Rattle.pure_definitions.specs.Subst.{IsTermMap, term_variable, term_image};
 
 use crate::term::Term;
 use pure_typ::{Name, Typ};
+use std::alloc::{AllocError, Global};
 use std::marker::Model;
 
 /// An entry of a term map, which replaces a schematic variable.
@@ -57,6 +59,33 @@ impl TermMap {
         ensures { result ≡ binds.items }
     {
         TermMap { binds }
+    }
+
+    /// The map without entries. It takes no memory.
+    pub fn empty(alloc: Global) -> TermMap
+        ensures { result ≡ [] }
+    {
+        TermMap {
+            binds: Vec::new(alloc),
+        }
+    }
+
+    /// Adds an entry at the end, for a variable that no entry replaces yet. The map stays as it is where memory runs out.
+    pub fn push(&mut self, bind: TermBind) -> Result<(), AllocError>
+        requires { ¬ IsIn (term_variable bind) (map term_variable self.old) }
+        ensures { MatchResult result (λ _. self.new ≡ self.old ++ bind ∷ []) (λ _. self.new ≡ self.old) }
+    {
+        self.binds.push(bind)?;
+        Ok(())
+    }
+
+    /// The image of a schematic variable, where an entry replaces it. It takes no memory.
+    pub fn find(&self, name: Name, index: u32, typ: &Typ) -> Option<&Term>
+        ensures { MatchOption result
+            (term_image self.now (term_tree.Var name index typ.now) ≡ term_tree.Var name index typ.now)
+            (λ t. term_image self.now (term_tree.Var name index typ.now) ≡ t.now) }
+    {
+        find_term(self.binds(), name, index, typ)
     }
 
     /// The entries.

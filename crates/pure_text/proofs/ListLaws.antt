@@ -1,8 +1,8 @@
 -- Elements of lists: what some, each, or each two of them have.
-use Rattle.std.proofs.Common.{map, ap, sym, ◌≡◌, ◌∙◌, ℕ, ◌+◌, ◌<◌, List, [], ◌∷◌, ◌++◌, length, get_or, take, drop, drop-cons, take-append-drop, add-one, zero, suc, inl, inr, ◌⊎◌, ◌↔◌, Bool, true, false, ◌||◌, refl, nat_eq, arith}
+use Rattle.std.proofs.Common.{map, ap, sym, ◌≡◌, ◌∙◌, ℕ, ◌+◌, ◌<◌, List, [], ◌∷◌, ◌++◌, length, get_or, take, drop, drop-cons, take-append-drop, add-one, zero, suc, inl, inr, ◌⊎◌, ◌↔◌, Bool, true, false, ◌||◌, refl, nat_eq, arith, subst}
 use Rattle.std.proofs.lemmas.Bool.{eq-eqb, eqb-true}
 use Rattle.std.proofs.lemmas.Bool.Decides.{eqb_tells}
-use Rattle.pure_text.specs.Lists.{IsIn, Each, AnyOf, EachTwo}
+use Rattle.pure_text.specs.Lists.{IsIn, Each, AnyOf, EachTwo, AreDistinct}
 
 pub each_of : {A : Type 0} (P : A → Type 0) (xs : List A) → ((x : A) → IsIn x xs → P x) → Each P xs
 each_of P [] h = tt
@@ -134,3 +134,17 @@ is_in-in n (m ∷ ms) h = by (nat_eq n m) refl (is_in-in n ms) h
     by : (b : Bool) → nat_eq n m ≡ b → (is_in n ms ≡ true → IsIn n ms) → (b || is_in n ms) ≡ true → IsIn n (m ∷ ms)
     by true e later k = inl (eqb-true n m e)
     by false e later k = inr (later k)
+
+pub distinct-snoc : {A : Type 0} (xs : List A) (x : A) → AreDistinct xs → (¬ IsIn x xs) → AreDistinct (xs ++ x ∷ [])
+distinct-snoc [] x d new = ((λ m. m), tt)
+distinct-snoc (y ∷ ys) x d new = (
+  λ m. elim (in-append y ys (x ∷ []) m) [ inl n ↦ d.0 n | inr n ↦ elim n [ inl e ↦ new (inl (sym e)) | inr none ↦ absurd none ] ],
+  distinct-snoc ys x d.1 (λ m. new (inr m)),
+)
+
+pub distinct-map_snoc : {A B : Type 0} (f : A → B) (xs : List A) (x : A) → AreDistinct (map f xs) → (¬ IsIn (f x) (map f xs)) → AreDistinct (map f (xs ++ x ∷ []))
+distinct-map_snoc f xs x d new = subst AreDistinct (sym (ends f xs x)) (distinct-snoc (map f xs) (f x) d new)
+  where
+    ends : {A B : Type 0} (f : A → B) (xs : List A) (x : A) → map f (xs ++ x ∷ []) ≡ map f xs ++ f x ∷ []
+    ends f [] x = refl
+    ends f (y ∷ ys) x = ap (λ zs. f y ∷ zs) (ends f ys x)

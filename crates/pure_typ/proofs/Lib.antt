@@ -1,1 +1,4 @@
 pub mod NamesLemmas
+pub mod MergeLemmas
+pub mod Constants
+pub mod BaseLemmas

@@ -1,8 +1,9 @@
 -- The texts of names: those that Pure itself declares have the first six, the session's the next, and greater names have none.
-use Rattle.std.specs.Prelude.{◌≡◌, ◌≢◌, ℕ, ◌<◌, List, [], ◌∷◌, ◌++◌, length, codes, Option, Some, None, slice_get, slice_index_or}
+use Rattle.std.specs.Prelude.{◌≡◌, ◌≢◌, ℕ, ◌<◌, ◌≤◌, List, [], ◌∷◌, ◌++◌, length, codes, Option, Some, None, slice_get, slice_index_or}
 use Rattle.std.specs.declared.cmp.Ordering.TheVariants.{Less}
 use Rattle.std.specs.Ordering.{nat_cmp}
 use Rattle.std.specs.Cmp.Lexicographic.{slice_cmp}
+use Rattle.pure_text.specs.Lists.{IsIn}
 
 -- the texts of the names 0 to 5
 unfoldable pub builtin_texts : List (List ℕ)
@@ -30,3 +31,16 @@ pub record AreSessionTexts (texts : List (List ℕ)) : Type 0 where
 abbrev pub IsFound : (texts : List (List ℕ)) → (text : List ℕ) → Option ℕ → Type 0
 IsFound texts text (Some n) = slice_get texts n ≡ Some text
 IsFound texts text None = (n : ℕ) → slice_get texts n ≢ Some text
+
+-- The text is `theory.base` for the text of some theory, which has no dot (46).
+abbrev pub HasBase : (base text : List ℕ) → Type 0
+HasBase base text = (theory : List ℕ) × (¬ IsIn 46 theory) × (text ≡ theory ++ 46 ∷ base)
+
+-- Name n has a text with this base.
+abbrev pub NameHasBase : (texts : List (List ℕ)) → (base : List ℕ) → (n : ℕ) → Type 0
+NameHasBase texts base n = (text : List ℕ) × HasText texts n text × HasBase base text
+
+-- The answer to the question which name at or above `from` is the least whose text has the base: that name, or none where no such name has it.
+abbrev pub IsNextWithBase : (texts : List (List ℕ)) → (base : List ℕ) → (from : ℕ) → Option ℕ → Type 0
+IsNextWithBase texts base from (Some n) = (from ≤ n) × NameHasBase texts base n × ((m : ℕ) → from ≤ m → m < n → ¬ NameHasBase texts base m)
+IsNextWithBase texts base from None = (n : ℕ) → from ≤ n → ¬ NameHasBase texts base n

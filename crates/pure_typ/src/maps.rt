@@ -1,5 +1,6 @@
 //! Finite maps of schematic type variables.
-ghost use Rattle.std.specs.Prelude.{◌≡◌, MatchOption};
+ghost use Rattle.std.specs.Prelude.{◌≡◌, List, [], ◌∷◌, ◌++◌, map, MatchOption, MatchResult};
+ghost use Rattle.pure_text.specs.Lists.{IsIn};
 ghost use Rattle.pure_definitions.specs.Typ as typ_tree;
 ghost use Rattle.pure_definitions.specs.Typ.{typ_eq};
 ghost use Rattle.pure_definitions.specs.Subst.{IsTypMap, typ_variable, typ_image};
@@ -7,6 +8,7 @@ ghost use Rattle.pure_definitions.specs.Subst.{IsTypMap, typ_variable, typ_image
 use crate::name::Name;
 use crate::sort::Sort;
 use crate::typ::Typ;
+use std::alloc::{AllocError, Global};
 use std::marker::Model;
 
 /// An entry of a type map, which replaces a schematic type variable.
@@ -58,6 +60,33 @@ impl TypMap {
         ensures { result ≡ binds.items }
     {
         TypMap { binds }
+    }
+
+    /// The map without entries. It takes no memory.
+    pub fn empty(alloc: Global) -> TypMap
+        ensures { result ≡ [] }
+    {
+        TypMap {
+            binds: Vec::new(alloc),
+        }
+    }
+
+    /// Adds an entry at the end, for a variable that no entry replaces yet. The map stays as it is where memory runs out.
+    pub fn push(&mut self, bind: TypBind) -> Result<(), AllocError>
+        requires { ¬ IsIn (typ_variable bind) (map typ_variable self.old) }
+        ensures { MatchResult result (λ _. self.new ≡ self.old ++ bind ∷ []) (λ _. self.new ≡ self.old) }
+    {
+        self.binds.push(bind)?;
+        Ok(())
+    }
+
+    /// The image of a schematic type variable, where an entry replaces it. It takes no memory.
+    pub fn find(&self, name: Name, index: u32, sort: &Sort) -> Option<&Typ>
+        ensures { MatchOption result
+            (typ_image self.now (typ_tree.TVar name index sort.now) ≡ typ_tree.TVar name index sort.now)
+            (λ t. typ_image self.now (typ_tree.TVar name index sort.now) ≡ t.now) }
+    {
+        find_typ(self.binds(), name, index, sort)
     }
 
     /// The entries.
