@@ -135,13 +135,15 @@ is_in-in n (m ∷ ms) h = by (nat_eq n m) refl (is_in-in n ms) h
     by true e later k = inl (eqb-true n m e)
     by false e later k = inr (later k)
 
+-- one element more that is new
 pub distinct-snoc : {A : Type 0} (xs : List A) (x : A) → AreDistinct xs → (¬ IsIn x xs) → AreDistinct (xs ++ x ∷ [])
 distinct-snoc [] x d new = ((λ m. m), tt)
 distinct-snoc (y ∷ ys) x d new = (
-  λ m. elim (in-append y ys (x ∷ []) m) [ inl n ↦ d.0 n | inr n ↦ elim n [ inl e ↦ new (inl (sym e)) | inr none ↦ absurd none ] ],
+  λ m. elim (in_split y ys (x ∷ []) m) [ inl n ↦ d.0 n | inr n ↦ elim n [ inl e ↦ new (inl (sym e)) | inr none ↦ absurd none ] ],
   distinct-snoc ys x d.1 (λ m. new (inr m)),
 )
 
+-- and the same of the images under a function
 pub distinct-map_snoc : {A B : Type 0} (f : A → B) (xs : List A) (x : A) → AreDistinct (map f xs) → (¬ IsIn (f x) (map f xs)) → AreDistinct (map f (xs ++ x ∷ []))
 distinct-map_snoc f xs x d new = subst AreDistinct (sym (ends f xs x)) (distinct-snoc (map f xs) (f x) d new)
   where
