@@ -1,3 +1,4 @@
+//! The type of a constant or a variable applied to arguments.
 ghost use Rattle.std.specs.Prelude.{◌≡◌, ◌≢◌, Some, None, MatchOption};
 ghost use Rattle.pure_definitions.specs.Typ as tree;
 ghost use Rattle.pure_term.specs.Scope.{scope_typs};
@@ -5,7 +6,7 @@ ghost use Rattle.pure_eta.specs.LongTerm.{range_typ, front_typ};
 
 use pure_term::{Scope, Term, TermNode, Typ, TypNode, typ_at};
 
-// The domain and the range of a type of functions.
+/// The domain and the range of a type of functions.
 pub fn arrow_of(typ: &Typ) -> Option<(&Typ, &Typ)>
     ensures { MatchOption result ((A B : tree.Typ) → typ.now ≢ tree.arrow A B) (λ parts. typ.now ≡ tree.arrow parts.0.now parts.1.now) }
 {
@@ -23,7 +24,7 @@ pub fn arrow_of(typ: &Typ) -> Option<(&Typ, &Typ)>
     }
 }
 
-// The type of a typed term whose front is a constant or a variable, as it stands in the term or in its scope.
+/// The type of a typed term whose front is a constant or a variable, as it stands in the term or in its scope.
 pub fn front_typ_of<'t>(t: &'t Term, scope: &Scope<'_, 't>) -> Option<&'t Typ>
     ensures { MatchOption result (front_typ (scope_typs scope.now) t.now ≡ None) (λ typ. front_typ (scope_typs scope.now) t.now ≡ Some typ.now) }
 {
