@@ -45,6 +45,7 @@ const NAMES: [(&[u8], u32); 31] = [
 /// How many names Pure declares itself.
 const BUILTIN: usize = 6;
 
+/// The texts of the rows. What it ensures is there for `Names::make`, which asks that the texts ascend.
 fn texts(alloc: Global, rows: &[(&[u8], u32)]) -> Result<Vec<Text>, AllocError>
     ensures { IfOk result (λ v. v.items ≡ map (λ row. row.0.now) rows.now) }
 {
