@@ -12,6 +12,9 @@ arrow-args k items U V e =
     let args : typs_of items ≡ also U (also V none) = cc in
     sym (typ_list-typs_of items) ∙ ap typ_list args
 
+pub arrow-count : (k : ℕ) (items : List Typ) (U V : Typ) → Con k (typs_of items) ≡ arrow U V → length items ≡ 2
+arrow-count k items U V e = ap length (arrow-args k items U V e)
+
 pub takes-count : (k : ℕ) (items : List Typ) (U : Typ) → (length items ≢ 2) → ¬ Takes (Con k (typs_of items)) U
 takes-count k items U other (V, e) = other (ap length (arrow-args k items U V e))
 

@@ -1,7 +1,8 @@
 -- Lists of types, gone over one type after another.
-use Rattle.std.proofs.Common.{◌≡◌, ℕ, zero, suc, ◌+◌, ◌<◌, ◌≤◌, List, [], ◌∷◌, length, get_or, take, drop, max, refl, arith, ap, add-one, drop-cons, sym}
+use Rattle.std.proofs.Common.{◌≡◌, ℕ, zero, suc, ◌+◌, ◌<◌, ◌≤◌, List, [], ◌∷◌, length, get_or, take, drop, max, refl, arith, ap, add-one, drop-cons, sym, subst, inl, inr, ◌≢◌, ◌↔◌}
 use Rattle.std.specs.declared.cmp.Ordering.TheVariants.{Less}
-use Rattle.pure_definitions.specs.Typ.{Typ, TFree, TVar, Con, none, typ_size, typs_size, typ_depth, typs_depth, typs_of}
+use Rattle.pure_definitions.specs.Typ.{Typ, TFree, TVar, Con, Typs, none, typ_size, typs_size, typ_depth, typs_depth, typs_of}
+use Rattle.pure_definitions.specs.Occurs.{OccursInTyp, OccursInTyps}
 use Rattle.pure_definitions.specs.Models.Comparison.{typs_cmp}
 
 -- no type of a list is deeper than the list
@@ -70,3 +71,26 @@ pub typ_depth-some : (T : Typ) → 0 < typ_depth T
 typ_depth-some (TFree x s) = omega arith
 typ_depth-some (TVar x i s) = omega arith
 typ_depth-some (Con k ts) = omega arith
+
+-- A type occurs in itself, and in a list where it occurs in a type of the list.
+pub occurs-itself : (v t : Typ) → v ≡ t → OccursInTyp v t
+occurs-itself v (TFree x s) e = e
+occurs-itself v (TVar x i s) e = e
+occurs-itself v (Con k ts) e = inl e
+
+pub occurs-con : (v t : Typ) (k : ℕ) (ts : Typs) → t ≡ Con k ts → (v ≢ t) → OccursInTyp v t ↔ OccursInTyps v ts
+occurs-con v t k ts e other = rw e (λ o. elim o [ inl same ↦ absurd (other (rw e same)) | inr inside ↦ inside ], λ inside. inr inside)
+
+pub occurs-item : (v : Typ) (ts : List Typ) (i : ℕ) (t : Typ) → i < length ts → t ≡ get_or ts i t → OccursInTyp v t → OccursInTyps v (typs_of ts)
+occurs-item v [] i t h e o = absurd (omega arith)
+occurs-item v (u ∷ us) zero t h e o = inl (subst (OccursInTyp v) e o)
+occurs-item v (u ∷ us) (suc i) t h e o = inr (occurs-item v us i t (omega arith) e o)
+
+pub occurs-next : (v : Typ) (ts : List Typ) (i : ℕ) (t : Typ) → i < length ts → t ≡ get_or ts i t → (¬ OccursInTyps v (typs_of (take i ts))) → (¬ OccursInTyp v t)
+    → ¬ OccursInTyps v (typs_of (take (i + 1) ts))
+occurs-next v [] i t h e before here o = absurd (omega arith)
+occurs-next v (u ∷ us) zero t h e before here o = elim o [ inl m ↦ here (subst (OccursInTyp v) (sym e) m) | inr n ↦ before n ]
+occurs-next v (u ∷ us) (suc i) t h e before here o =
+    let next : suc i + 1 ≡ suc (i + 1) = omega arith in
+    let split = rw next at o in
+    elim split [ inl m ↦ before (inl m) | inr n ↦ occurs-next v us i t (omega arith) e (λ m. before (inr m)) here n ]

@@ -2,6 +2,7 @@ pub mod Names
 pub mod Typ
 pub mod Term
 pub mod Limits
+pub mod Occurs
 pub mod Bounds
 pub mod Conditions
 pub mod Order

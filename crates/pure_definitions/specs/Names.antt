@@ -21,6 +21,10 @@ eq_name = 4
 abbrev pub protect_name : ℕ
 protect_name = 5
 
+-- how many names Pure itself declares
+abbrev pub builtin_count : ℕ
+builtin_count = 6
+
 -- a promise's theory, the command in it, and the part of the command, each by its number
 pub record Label : Type 0 where
   pub theory : ℕ

@@ -1,5 +1,5 @@
 -- Types (Isabelle/Isar Implementation manual, section 2.1). A sort is a list of names of classes, and stands for their intersection; in certified types the names ascend.
-use Rattle.std.specs.Prelude.{ℕ, ◌+◌, max, Bool, true, false, ◌&&◌, nat_eq, List, [], ◌∷◌}
+use Rattle.std.specs.Prelude.{◌≢◌, ℕ, ◌+◌, max, Bool, true, false, ◌&&◌, nat_eq, List, [], ◌∷◌}
 use Rattle.std.specs.Cmp.Lexicographic.{pointwise}
 use Rattle.pure_definitions.specs.Names.{fun_name, prop_name}
 
@@ -36,6 +36,10 @@ typs_count (also t ts) = 1 + typs_count ts
 -- the type of functions from one type to another
 abbrev pub arrow : Typ → Typ → Typ
 arrow domain range = Con fun_name (also domain (also range none))
+
+-- The type isn't one of functions.
+abbrev pub IsNoArrow : Typ → Type 0
+IsNoArrow t = (domain range : Typ) → t ≢ arrow domain range
 
 -- the type of propositions
 abbrev pub prop : Typ

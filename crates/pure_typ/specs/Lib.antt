@@ -1,3 +1,5 @@
 pub mod NameTexts
 pub mod TypView
 pub mod TypFalls
+pub mod TypGrown
+pub mod SortUnion

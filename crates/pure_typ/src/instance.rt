@@ -3,11 +3,24 @@ ghost use Rattle.std.specs.Prelude.{◌≡◌, IfOk};
 ghost use Rattle.pure_definitions.specs.Typ.{typ_size, typ_depth};
 ghost use Rattle.pure_definitions.specs.Subst.{typ_image, typ_instance};
 ghost use Rattle.pure_definitions.specs.Limits.{Leaves};
+ghost use Rattle.pure_typ.specs.TypGrown.{IsTypGrown};
 
-use crate::maps::{TypBind, find_typ};
-use crate::measure::typ_leaves;
+use crate::grow::Grow;
+use crate::maps::{TypBind, TypMap, find_typ};
+use crate::measure::{MAX_DEPTH, MAX_SIZE, typ_leaves};
 use crate::typ::{Typ, TypNode};
 use std::alloc::{AllocError, Global};
+
+/// The type with the image of each variable in its place, all at once: `Big` exactly where it isn't within the limits.
+pub fn instance_of_typ(alloc: Global, t: &Typ, map: &TypMap) -> Result<Typ, Grow>
+    ensures { IsTypGrown (typ_instance (typ_image map.now) t.now) result }
+{
+    let binds = map.binds();
+    let Some(_) = instance_leaves(t, binds, MAX_SIZE, MAX_DEPTH) else {
+        return Err(Grow::Big);
+    };
+    Ok(instance_of(alloc, t, binds)?)
+}
 
 /// What is left of room when the instance of the type is put in.
 pub fn instance_leaves(t: &Typ, binds: &[TypBind], left: u32, room: u32) -> Option<u32>

@@ -7,15 +7,19 @@ mod maps;
 mod measure;
 mod name;
 mod names;
+mod occurs;
 mod sort;
 mod typ;
 
 pub use grow::Grow;
-pub use instance::{instance_leaves, instance_of};
+pub use instance::{instance_leaves, instance_of, instance_of_typ};
 pub use maps::{TypBind, TypMap};
-pub use measure::{MAX_DEPTH, MAX_SIZE, depth_of_typ, node_leaves, size_of_typ, typ_leaves};
-pub use name::{Label, Name};
+pub use measure::{
+    MAX_DEPTH, MAX_SIZE, depth_of_typ, is_typ_within, node_leaves, size_of_typ, typ_leaves,
+};
+pub use name::{BUILTIN_COUNT, Label, Name};
 pub use names::Names;
+pub use occurs::occurs_in_typ;
 pub use pure_text::Text;
 pub use sort::Sort;
 pub use typ::{Typ, TypNode};

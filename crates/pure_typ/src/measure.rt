@@ -1,7 +1,7 @@
 //! The limits, the size and depth of types, and what fits into a room for nodes.
-ghost use Rattle.std.specs.Prelude.{◌≡◌};
+ghost use Rattle.std.specs.Prelude.{◌≡◌, ◌↔◌, IsTrue};
 ghost use Rattle.pure_definitions.specs.Typ.{typ_size, typ_depth};
-ghost use Rattle.pure_definitions.specs.Limits.{cut_off, Leaves};
+ghost use Rattle.pure_definitions.specs.Limits.{cut_off, Leaves, IsWithinTyp};
 
 use crate::typ::{Typ, TypNode};
 
@@ -70,4 +70,14 @@ pub fn typ_leaves(t: &Typ, left: u32, room: u32) -> Option<u32>
         }
     }
     Some(rest)
+}
+
+/// Whether the type is within the limits.
+pub fn is_typ_within(t: &Typ) -> bool
+    ensures { IsTrue result ↔ IsWithinTyp t.now }
+{
+    match typ_leaves(t, MAX_SIZE, MAX_DEPTH) {
+        Some(_) => true,
+        None => false,
+    }
 }

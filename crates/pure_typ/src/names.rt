@@ -2,9 +2,10 @@
 ghost use Rattle.std.specs.Prelude.{◌≡◌, ◌<◌, ℕ, ◌∷◌, ◌++◌, MatchOption, slice_get, Some, None};
 ghost use Rattle.std.specs.Ordering.{nat_cmp};
 ghost use Rattle.std.specs.Cmp.Lexicographic.{slice_cmp};
+ghost use Rattle.pure_definitions.specs.Names.{builtin_count};
 ghost use Rattle.pure_typ.specs.NameTexts.{builtin_texts, name_texts, HasText, DoAscend, AreSessionTexts, IsFound};
 
-use crate::name::Name;
+use crate::name::{BUILTIN_COUNT, Name};
 use pure_text::Text;
 use std::cmp::Ordering;
 use std::marker::Model;
@@ -54,16 +55,16 @@ impl Names {
         ensures { MatchOption result (slice_get (name_texts self.now) name ≡ None) (λ text. HasText self.now name text.now) }
     {
         let number = name.0;
-        if number < 6 {
+        if number < BUILTIN_COUNT {
             return Some(builtin(number));
         }
-        match self.texts.get((number - 6) as usize) {
+        match self.texts.get((number - BUILTIN_COUNT) as usize) {
             Some(text) => Some(text.bytes()),
             None => None,
         }
     }
 
-    // The name with the three texts, one after another.
+    /// The name with the three texts, one after another.
     fn find_joined(&self, a: &[u8], b: &[u8], c: &[u8]) -> Option<Name>
         ensures { IsFound (name_texts self.now) (a.now ++ (b.now ++ c.now)) result }
     {
@@ -71,16 +72,16 @@ impl Names {
             return Some(Name(number));
         }
         match find_text(self.texts.as_slice(), a, b, c) {
-            Some(index) => Some(Name(index as u32 + 6)),
+            Some(index) => Some(Name(index as u32 + BUILTIN_COUNT)),
             None => None,
         }
     }
 }
 
-// The text of a name that Pure itself declares.
+/// The text of a name that Pure itself declares.
 #[tactic(auto, unfolding(crate::specs::NameTexts::builtin_texts))]
 fn builtin(number: u32) -> &'static [u8]
-    requires { number < 6 }
+    requires { number < builtin_count }
     ensures { slice_get builtin_texts number ≡ Some result.now }
 {
     match number {
@@ -94,10 +95,11 @@ fn builtin(number: u32) -> &'static [u8]
     }
 }
 
+/// The number of the name of Pure with the three texts, one after another.
 fn find_builtin(a: &[u8], b: &[u8], c: &[u8]) -> Option<u32>
     ensures { IsFound builtin_texts (a.now ++ (b.now ++ c.now)) result }
 {
-    for number in 0..6u32 {
+    for number in 0..BUILTIN_COUNT {
         if compare_joined(builtin(number), a, b, c).is_eq() {
             return Some(number);
         }
@@ -105,6 +107,7 @@ fn find_builtin(a: &[u8], b: &[u8], c: &[u8]) -> Option<u32>
     None
 }
 
+/// The place of the three texts, one after another, among texts that ascend.
 fn find_text(texts: &[Text], a: &[u8], b: &[u8], c: &[u8]) -> Option<usize>
     requires { DoAscend texts.now }
     ensures { IsFound texts.now (a.now ++ (b.now ++ c.now)) result }
@@ -123,7 +126,7 @@ fn find_text(texts: &[Text], a: &[u8], b: &[u8], c: &[u8]) -> Option<usize>
     None
 }
 
-// The byte at this place of three texts, one after another.
+/// The byte at this place of three texts, one after another.
 fn byte_at(a: &[u8], b: &[u8], c: &[u8], at: usize) -> Option<u8>
     ensures { result ≡ slice_get (a.now ++ (b.now ++ c.now)) at }
 {
@@ -137,7 +140,7 @@ fn byte_at(a: &[u8], b: &[u8], c: &[u8], at: usize) -> Option<u8>
     c.get(at - b.len()).copied()
 }
 
-// The order of a text and three texts, one after another.
+/// The order of a text and three texts, one after another.
 fn compare_joined(text: &[u8], a: &[u8], b: &[u8], c: &[u8]) -> Ordering
     ensures { result ≡ slice_cmp nat_cmp text.now (a.now ++ (b.now ++ c.now)) }
 {

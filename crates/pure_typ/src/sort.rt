@@ -1,10 +1,12 @@
 //! Sorts.
-ghost use Rattle.std.specs.Prelude.{◌≡◌, IfOk, refl, Some};
+ghost use Rattle.std.specs.Prelude.{◌≡◌, IfOk, refl, Some, true};
 ghost use Rattle.std.specs.Ordering.{nat_cmp};
 ghost use Rattle.std.specs.Cmp.Lexicographic.{slice_cmp, nat_list_eq_equiv, nat_list_cmp_total, texts_ties, texts_po};
 ghost use Rattle.std.specs.Cmp.{partial_equiv_from_equiv};
 ghost use Rattle.std.specs.List.Sorted.{IsStrictlyIncreasing};
+ghost use Rattle.std.specs.Set.{sorted_merge};
 ghost use Rattle.pure_definitions.specs.Typ.{sort_eq};
+ghost use Rattle.pure_typ.specs.SortUnion.{IsSortUnion};
 
 use crate::name::Name;
 use std::alloc::{AllocError, Global};
@@ -45,6 +47,14 @@ impl Sort {
         self.classes.as_slice()
     }
 
+    /// The sort of the classes of both.
+    pub fn union(&self, alloc: Global, other: &Sort) -> Result<Sort, AllocError>
+        ensures { IfOk result (λ s. IsSortUnion self.now other.now s) }
+    {
+        let classes = merged(alloc, self.classes(), other.classes())?;
+        Ok(Sort { classes })
+    }
+
     /// An equal sort.
     pub fn copy(&self, alloc: Global) -> Result<Sort, AllocError>
         ensures { IfOk result (λ s. s ≡ self.now) }
@@ -52,6 +62,35 @@ impl Sort {
         let classes = Vec::from_slice(alloc, self.classes())?;
         Ok(Sort { classes })
     }
+}
+
+/// Two ascending lists of classes, merged.
+fn merged(alloc: Global, left: &[Name], right: &[Name]) -> Result<Vec<Name>, AllocError>
+    ensures { IfOk result (λ classes. classes.items ≡ sorted_merge nat_cmp true left.now right.now) }
+{
+    let mut classes = Vec::new(alloc);
+    let (mut i, mut j) = (0, 0);
+    while i < left.len() && j < right.len() {
+        let (first, second) = (left[i], right[j]);
+        match first.cmp(&second) {
+            Ordering::Less => {
+                classes.push(first)?;
+                i += 1;
+            }
+            Ordering::Greater => {
+                classes.push(second)?;
+                j += 1;
+            }
+            Ordering::Equal => {
+                classes.push(first)?;
+                i += 1;
+                j += 1;
+            }
+        }
+    }
+    classes.extend_from_slice(&left[i..])?;
+    classes.extend_from_slice(&right[j..])?;
+    Ok(classes)
 }
 
 impl PartialEq for Sort {

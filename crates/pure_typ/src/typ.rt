@@ -1,8 +1,8 @@
 //! Types, their copies and their order.
-ghost use Rattle.std.specs.Prelude.{◌≡◌, ℕ, IfOk, refl};
+ghost use Rattle.std.specs.Prelude.{◌≡◌, ℕ, IfOk, refl, MatchOption};
 ghost use Rattle.std.specs.Cmp.{partial_equiv_from_equiv, po};
 ghost use Rattle.std.specs.Ordering.{as_partial_cmp};
-ghost use Rattle.pure_definitions.specs.Typ.{typ_eq, typs_of, arrow};
+ghost use Rattle.pure_definitions.specs.Typ.{typ_eq, typs_of, arrow, IsNoArrow};
 ghost use Rattle.pure_definitions.specs.Models.Equality.{typ_eq-equiv};
 ghost use Rattle.pure_definitions.specs.Models.Comparison.{typ_rank, typ_cmp, typs_cmp, typ_cmp-total, typ_cmp-ties};
 
@@ -55,10 +55,27 @@ impl Typ {
         let mut args = Vec::with_capacity(alloc, 2)?;
         args.push(domain)?;
         args.push(range)?;
-        let name = Name(0);
+        let name = Name::FUN;
         Ok(Typ {
             node: TypNode::Con { name, args },
         })
+    }
+
+    /// The domain and the range of a type of functions; none exactly where the type isn't one.
+    pub fn as_arrow(&self) -> Option<(&Typ, &Typ)>
+        ensures { MatchOption result (IsNoArrow self.now) (λ parts. self.now ≡ arrow parts.0.now parts.1.now) }
+    {
+        let TypNode::Con { name, args } = &self.node else {
+            return None;
+        };
+        let args = args.as_slice();
+        if *name != Name::FUN {
+            return None;
+        }
+        if args.len() != 2 {
+            return None;
+        }
+        Some((&args[0], &args[1]))
     }
 
     /// An equal type.
@@ -85,7 +102,7 @@ impl Typ {
     }
 }
 
-// Equal types.
+/// Equal types.
 #[cycle(copied_typ)]
 fn copied_types(alloc: Global, types: &[Typ]) -> Result<Vec<Typ>, AllocError>
     ensures { IfOk result (λ ts. ts.items ≡ types.now) }
@@ -97,7 +114,7 @@ fn copied_types(alloc: Global, types: &[Typ]) -> Result<Vec<Typ>, AllocError>
     Ok(copied)
 }
 
-// The place of the type's kind among the kinds.
+/// The place of the type's kind among the kinds.
 fn typ_rank_of(t: &Typ) -> u8
     ensures { result ≡ typ_rank t.now }
 {
@@ -108,6 +125,7 @@ fn typ_rank_of(t: &Typ) -> u8
     }
 }
 
+/// The order of two types.
 #[cycle(compare_typ)]
 fn compare_typs(t: &Typ, u: &Typ) -> Ordering
     ensures { result ≡ typ_cmp t.now u.now }
@@ -137,6 +155,7 @@ fn compare_typs(t: &Typ, u: &Typ) -> Ordering
     }
 }
 
+/// The order of two lists of types.
 #[cycle(compare_typ)]
 fn compare_args(ts: &[Typ], us: &[Typ]) -> Ordering
     ensures { result ≡ typs_cmp (typs_of ts.now) (typs_of us.now) }
