@@ -6,7 +6,7 @@ ghost use Rattle.pure_term.specs.Scope.{scope_typs};
 ghost use Rattle.pure_eta.specs.LongTerm.{front_typ, long_term};
 ghost use Rattle.pure_eta.specs.Fits.{Fits, added_size, expanded_depth, added_at, depth_at};
 
-use crate::front::{arrow_of, front_typ_of};
+use crate::front::front_typ_of;
 use pure_term::{MAX_DEPTH, Scope, Term, TermNode, Typ, TypNode};
 
 /// How many nodes are left when something was put in, and how deep that is.
@@ -64,7 +64,7 @@ fn expansion_fits(typ: &Typ, left: u32, depth: u32) -> Option<Room>
     requires { depth ≤ max_depth }
     ensures { Fits left (added_size typ.now) (expanded_depth typ.now depth) result }
 {
-    let Some((domain, range)) = arrow_of(typ) else {
+    let Some((domain, range)) = typ.as_arrow() else {
         return Some(Room { left, depth });
     };
     let Some(binder) = typ_fits(domain, left) else {

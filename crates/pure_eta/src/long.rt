@@ -10,7 +10,7 @@ ghost use Rattle.pure_eta.specs.LongTerm.{front_typ, expanded, expanded_at, long
 ghost use Rattle.pure_eta.specs.Answer.{IsLongAnswer};
 
 use crate::fits::long_fits;
-use crate::front::{arrow_of, front_typ_of};
+use crate::front::front_typ_of;
 use pure_term::{Grow, MAX_SIZE, Scope, Term, TermNode, Typ};
 use std::alloc::{AllocError, Global};
 
@@ -79,7 +79,7 @@ fn application(alloc: Global, function: Term, argument: Term) -> Result<Term, Al
 fn expand(alloc: Global, typ: &Typ, mut t: Term) -> Result<Term, AllocError>
     ensures { IfOk result (λ u. u ≡ expanded typ.now t) }
 {
-    let Some((domain, range)) = arrow_of(typ) else {
+    let Some((domain, range)) = typ.as_arrow() else {
         return Ok(t);
     };
     raise(&mut t, 0)?;
