@@ -7,3 +7,4 @@ pub mod ArrowLemmas
 pub mod GrownLemmas
 pub mod BindLemmas
 pub mod InstanceLemmas
+pub mod NormalLemmas

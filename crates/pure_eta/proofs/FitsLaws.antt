@@ -127,8 +127,8 @@ pub second-stops : (left S D : ℕ) (function : Room) (T E : ℕ) → Fits left 
 second-stops left S D function T E h stops = λ fits. let a = h.0 in let deep : 2000 < E = stops (omega arith) in omega arith
 
 -- What fits into the room of a term within the limits is within them, and what doesn't isn't.
-pub fits-within : (t : Term) (room : Room) → Fits 200000 (term_size t) (term_depth t) (Some room) → IsWithin t
-fits-within t room h = let size = h.0 in let depth = h.2 in record { size = omega arith; depth = omega arith }
+pub room-within : (t : Term) (room : Room) → Fits 200000 (term_size t) (term_depth t) (Some room) → IsWithin t
+room-within t room h = let size = h.0 in let depth = h.2 in record { size = omega arith; depth = omega arith }
 
-pub fits-not_within : (t : Term) → Fits 200000 (term_size t) (term_depth t) None → ¬ IsWithin t
-fits-not_within t stops within = let deep : 2000 < term_depth t = stops within.size in let low = within.depth in omega arith
+pub no_room-not_within : (t : Term) → Fits 200000 (term_size t) (term_depth t) None → ¬ IsWithin t
+no_room-not_within t stops within = let deep : 2000 < term_depth t = stops within.size in let low = within.depth in omega arith

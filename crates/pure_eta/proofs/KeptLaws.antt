@@ -9,6 +9,7 @@ use Rattle.pure_definitions.specs.Decl.{Decl}
 use Rattle.pure_definitions.specs.Certified.{HasCertifiedParts}
 use Rattle.pure_definitions.specs.Beta.{IsAbs, IsBetaNormal}
 use Rattle.pure_definitions.specs.Eta.{EtaStep, EtaReduces}
+use Rattle.pure_definitions.proofs.NormalLemmas.{normal-unlift}
 use Rattle.pure_definitions.proofs.LiftLaws.{lifted, lift_term-bound, subst-lift}
 use Rattle.pure_term_laws.proofs.TypingBoundLaws.{typing-subst}
 use Rattle.pure_eta.specs.EtaForm.{is_loose}
@@ -56,22 +57,6 @@ steps_keep_parts ds t u (EtaReduces.next s r) h = steps_keep_parts ds _ u r (ste
 
 pub steps_keep_certified : StepsKeepCertified
 steps_keep_certified ds t u r h = record { parts = steps_keep_parts ds t u r h.parts; typ = h.typ; typed = steps_keep_type [] t u h.typ r h.typed }
-
-abstraction-lifted : (by from : ℕ) (t : Term) → IsAbs t → IsAbs (lift_term by from t)
-abstraction-lifted by from (Abs T b) h = tt
-abstraction-lifted by from (Const c T) h = h
-abstraction-lifted by from (Free x T) h = h
-abstraction-lifted by from (Var x i T) h = h
-abstraction-lifted by from (Bound p) h = absurd h
-abstraction-lifted by from (App f a) h = h
-
-normal-unlift : (by from : ℕ) (t : Term) → IsBetaNormal (lift_term by from t) → IsBetaNormal t
-normal-unlift by from (Abs T b) h = normal-unlift by (from + 1) b h
-normal-unlift by from (App f a) h = ((λ abs. h.0 (abstraction-lifted by from f abs)), normal-unlift by from f h.1, normal-unlift by from a h.2)
-normal-unlift by from (Const c T) h = tt
-normal-unlift by from (Free x T) h = tt
-normal-unlift by from (Var x i T) h = tt
-normal-unlift by from (Bound p) h = tt
 
 -- What has a step to an abstraction is one.
 step-abstraction : {t u : Term} → EtaStep t u → IsAbs u → IsAbs t

@@ -10,7 +10,8 @@ use Rattle.pure_definitions.specs.Eta.{EtaStep, EtaReduces, abstraction_count, a
 use Rattle.pure_term_laws.proofs.TypingBoundLaws.{typing-lift}
 use Rattle.pure_eta.specs.LongTerm.{range_typ, front_typ, expanded, expanded_at, long_term}
 use Rattle.pure_eta.proofs.EtaStepLaws.{reduces-then, reduces-body, reduces-application}
-use Rattle.pure_eta.proofs.SaturatedLaws.{reduces-lift, abstraction-unlift, normal-lift, parts-lift}
+use Rattle.pure_definitions.proofs.NormalLemmas.{abstraction-unlift, normal-lift}
+use Rattle.pure_eta.proofs.SaturatedLaws.{reduces-lift, parts-lift}
 
 -- A term of the type that reduces to t, beta-normal and no abstraction, whose parts are long.
 pub record IsFront (bs : List Typ) (t u : Term) (T : Typ) : Type 0 where

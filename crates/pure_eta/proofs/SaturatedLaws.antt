@@ -1,9 +1,8 @@
--- What is kept under lifting: abstractions, beta-normal terms, and terms whose parts have as many abstractions as their types have arrows.
+-- What is kept under lifting: eta steps, and terms whose parts have as many abstractions as their types have arrows.
 use Rattle.std.proofs.Common.{◌≡◌, ℕ, ◌+◌, List, ◌∷◌, ◌++◌, length, refl, ap, ◌∙◌, arith}
 use Rattle.pure_definitions.specs.Typ.{Typ}
 use Rattle.pure_definitions.specs.Term.{Term, Const, Free, Var, Bound, Abs, App}
 use Rattle.pure_definitions.specs.Bounds.{lift_term}
-use Rattle.pure_definitions.specs.Beta.{IsAbs, IsBetaNormal}
 use Rattle.pure_definitions.specs.Eta.{EtaReduces, abstraction_count, IsSaturated, HasSaturatedParts}
 use Rattle.pure_definitions.proofs.LiftLaws.{lift_term-bound}
 use Rattle.pure_term_laws.proofs.TypingBoundLaws.{typing-lift}
@@ -20,23 +19,6 @@ abstraction_count-lift by from (Var x i T) = refl
 abstraction_count-lift by from (Bound p) = ap abstraction_count (lift_term-bound by from p)
 abstraction_count-lift by from (Abs T b) = ap (λ n. 1 + n) (abstraction_count-lift by (from + 1) b)
 abstraction_count-lift by from (App f a) = refl
-
--- What is lifted to an abstraction is one.
-pub abstraction-unlift : (by from : ℕ) (t : Term) → IsAbs (lift_term by from t) → IsAbs t
-abstraction-unlift by from (Const c T) h = h
-abstraction-unlift by from (Free x T) h = h
-abstraction-unlift by from (Var x i T) h = h
-abstraction-unlift by from (Bound p) h = rw (lift_term-bound by from p) at h
-abstraction-unlift by from (Abs T b) h = tt
-abstraction-unlift by from (App f a) h = h
-
-pub normal-lift : (by from : ℕ) (t : Term) → IsBetaNormal t → IsBetaNormal (lift_term by from t)
-normal-lift by from (Const c T) n = tt
-normal-lift by from (Free x T) n = tt
-normal-lift by from (Var x i T) n = tt
-normal-lift by from (Bound p) n = rw (lift_term-bound by from p) tt
-normal-lift by from (Abs T b) n = normal-lift by (from + 1) b n
-normal-lift by from (App f a) n = ((λ h. n.0 (abstraction-unlift by from f h)), normal-lift by from f n.1, normal-lift by from a n.2)
 
 pub saturated-lift : (bs ds cs : List Typ) (n by : ℕ) (t : Term) → n ≡ length bs → by ≡ length ds → IsSaturated (bs ++ cs) t → IsSaturated (bs ++ (ds ++ cs)) (lift_term by n t)
 saturated-lift bs ds cs n by t e f h = (h.0, typing-lift bs ds cs n by t h.0 e f h.1, abstraction_count-lift by n t ∙ h.2)

@@ -1,3 +1,4 @@
+//! Eta-normal forms.
 ghost use Rattle.std.specs.Prelude.{◌≡◌, ◌↔◌, IsTrue, IfOk};
 ghost use Rattle.pure_definitions.specs.Term.{App, Bound};
 ghost use Rattle.pure_definitions.specs.Eta.{IsEtaNormalForm};
@@ -6,13 +7,14 @@ ghost use Rattle.pure_eta.specs.EtaForm.{is_loose, lower_term, contracted, eta_f
 use pure_term::{Term, TermNode, Typ};
 use std::alloc::{AllocError, Global};
 
-/// The eta-normal form of the term: no subterm of it is `%x. f x` with x not in f (Isabelle/Isar Implementation manual, section 2.2).
+/// The eta-normal form of the term: no subterm of it is `%x. f x` with x not in f.
 pub fn eta_norm(alloc: Global, t: &Term) -> Result<Term, AllocError>
     ensures { IfOk result (λ u. IsEtaNormalForm t.now u) }
 {
     Ok(reduced(alloc, t)?)
 }
 
+/// The term, reduced by eta steps.
 fn reduced(alloc: Global, t: &Term) -> Result<Term, AllocError>
     ensures { IfOk result (λ u. u ≡ eta_form t.now) }
 {
@@ -27,7 +29,7 @@ fn reduced(alloc: Global, t: &Term) -> Result<Term, AllocError>
     Ok(Term { node })
 }
 
-// The abstraction of the body, contracted where it can be.
+/// The abstraction of the body, contracted where it can be.
 fn contract(alloc: Global, typ: &Typ, body: Term) -> Result<Term, AllocError>
     ensures { IfOk result (λ u. u ≡ contracted typ.now body) }
 {
@@ -50,6 +52,7 @@ fn contract(alloc: Global, typ: &Typ, body: Term) -> Result<Term, AllocError>
     })
 }
 
+/// Whether the term is the innermost bound variable.
 fn is_bound_0(t: &Term) -> bool
     ensures { IsTrue result ↔ (t.now ≡ Bound 0) }
 {
@@ -59,7 +62,7 @@ fn is_bound_0(t: &Term) -> bool
     }
 }
 
-// Whether the bound variable of this place is loose in the term. Below 2 ^ 32 binders, which no memory holds, it is want of memory.
+/// Whether the bound variable of this place is loose in the term. Below 2 ^ 32 binders, which no memory holds, it is want of memory.
 fn is_loose_at(t: &Term, place: u32) -> Result<bool, AllocError>
     ensures { IfOk result (λ found. found ≡ is_loose place t.now) }
 {
@@ -81,7 +84,7 @@ fn is_loose_at(t: &Term, place: u32) -> Result<bool, AllocError>
     }
 }
 
-// Lowers each loose bound variable above this place by one.
+/// Lowers each loose bound variable above this place by one.
 fn lower(t: &mut Term, place: u32) -> Result<(), AllocError>
     ensures { IfOk result (λ _. t.new ≡ lower_term place t.old) }
 {

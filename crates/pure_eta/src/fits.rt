@@ -1,3 +1,4 @@
+//! Whether a long form is within the limits, found before it is made.
 ghost use Rattle.std.specs.Prelude.{◌≡◌, ◌+◌, ◌≤◌};
 ghost use Rattle.pure_definitions.specs.Typ.{typ_size, typ_depth};
 ghost use Rattle.pure_definitions.specs.Term.{term_size, term_depth, max_depth};
@@ -5,17 +6,17 @@ ghost use Rattle.pure_term.specs.Scope.{scope_typs};
 ghost use Rattle.pure_eta.specs.LongTerm.{front_typ, long_term};
 ghost use Rattle.pure_eta.specs.Fits.{Fits, added_size, expanded_depth, added_at, depth_at};
 
-use crate::front::{arrow_of, front_typ_of};
+use crate::front::front_typ_of;
 use pure_term::{MAX_DEPTH, Scope, Term, TermNode, Typ, TypNode};
 
-// How many nodes are left when something was put in, and how deep that is.
+/// How many nodes are left when something was put in, and how deep that is.
 #[derive(Clone, Copy)]
 pub struct Room {
     pub left: u32,
     pub depth: u32,
 }
 
-// Puts a node above things of this depth.
+/// Puts a node above things of this depth.
 fn node_fits(left: u32, depth: u32) -> Option<Room>
     ensures { Fits left 1 (1 + depth) result }
 {
@@ -31,6 +32,7 @@ fn node_fits(left: u32, depth: u32) -> Option<Room>
     })
 }
 
+/// Puts in a type.
 fn typ_fits(t: &Typ, left: u32) -> Option<Room>
     ensures { Fits left (typ_size t.now) (typ_depth t.now) result }
 {
@@ -57,12 +59,12 @@ fn typ_fits(t: &Typ, left: u32) -> Option<Room>
     })
 }
 
-// Puts in what a term of this depth has more when it is expanded at the type.
+/// Puts in what a term of this depth has more when it is expanded at the type.
 fn expansion_fits(typ: &Typ, left: u32, depth: u32) -> Option<Room>
     requires { depth ≤ max_depth }
     ensures { Fits left (added_size typ.now) (expanded_depth typ.now depth) result }
 {
-    let Some((domain, range)) = arrow_of(typ) else {
+    let Some((domain, range)) = typ.as_arrow() else {
         return Some(Room { left, depth });
     };
     let Some(binder) = typ_fits(domain, left) else {
@@ -91,7 +93,7 @@ fn expansion_fits(typ: &Typ, left: u32, depth: u32) -> Option<Room>
     })
 }
 
-// Puts in a node above things of this depth, and what the term that it makes has more when it is expanded at its type, where it isn't applied.
+/// Puts in a node above things of this depth, and what the term that it makes has more when it is expanded at its type, where it isn't applied.
 fn front_fits(t: &Term, scope: &Scope, is_applied: bool, left: u32, depth: u32) -> Option<Room>
     requires { depth ≤ max_depth }
     ensures { let typ = front_typ (scope_typs scope.now) t.now in Fits left (1 + added_at is_applied typ) (depth_at is_applied typ (1 + depth)) result }
@@ -108,7 +110,7 @@ fn front_fits(t: &Term, scope: &Scope, is_applied: bool, left: u32, depth: u32) 
     }
 }
 
-// The same above the type of a constant or a variable.
+/// The same above the type of a constant or a variable.
 fn leaf_fits(typ: &Typ, t: &Term, scope: &Scope, is_applied: bool, left: u32) -> Option<Room>
     ensures { let place = front_typ (scope_typs scope.now) t.now in Fits left (1 + (typ_size typ.now + added_at is_applied place)) (depth_at is_applied place (1 + typ_depth typ.now)) result }
 {
@@ -118,7 +120,7 @@ fn leaf_fits(typ: &Typ, t: &Term, scope: &Scope, is_applied: bool, left: u32) ->
     front_fits(t, scope, is_applied, inside.left, inside.depth)
 }
 
-// Puts in the long form of the term.
+/// Puts in the long form of the term.
 pub fn long_fits(t: &Term, scope: &Scope, is_applied: bool, left: u32) -> Option<Room>
     ensures { let u = long_term is_applied (scope_typs scope.now) t.now in Fits left (term_size u) (term_depth u) result }
 {

@@ -6,8 +6,6 @@ mod fits;
 mod front;
 pub mod laws;
 mod long;
-#[cfg(test)]
-mod tests;
 
 pub use eta::eta_norm;
 pub use long::long_form;

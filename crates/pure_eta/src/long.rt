@@ -1,3 +1,4 @@
+//! Long forms.
 ghost use Rattle.std.specs.Prelude.{◌≡◌, [], IfOk};
 ghost use Rattle.pure_definitions.specs.Term as term;
 ghost use Rattle.pure_definitions.specs.Bounds.{lift_term};
@@ -9,11 +10,11 @@ ghost use Rattle.pure_eta.specs.LongTerm.{front_typ, expanded, expanded_at, long
 ghost use Rattle.pure_eta.specs.Answer.{IsLongAnswer};
 
 use crate::fits::long_fits;
-use crate::front::{arrow_of, front_typ_of};
+use crate::front::front_typ_of;
 use pure_term::{Grow, MAX_SIZE, Scope, Term, TermNode, Typ};
 use std::alloc::{AllocError, Global};
 
-/// The long form of a beta-normal term that has a type under no binders: the beta-normal form in which every subterm that isn't applied has as many abstractions as its type has arrows (Isabelle/Isar Implementation manual, section 2.2).
+/// The long form of a beta-normal term that has a type under no binders: the beta-normal form in which every subterm that isn't applied has as many abstractions as its type has arrows.
 /// `Big` where it isn't within the limits, which is found before it is made.
 pub fn long_form(alloc: Global, t: &Term) -> Result<Term, Grow>
     requires typed { (T : tree.Typ) × HasType [] t.now T }
@@ -27,6 +28,7 @@ pub fn long_form(alloc: Global, t: &Term) -> Result<Term, Grow>
     Ok(lengthen(alloc, t, &scope, false)?)
 }
 
+/// The long form of the term in its scope, as a function that is applied or not.
 fn lengthen(alloc: Global, t: &Term, scope: &Scope, is_applied: bool) -> Result<Term, AllocError>
     ensures { IfOk result (λ u. u ≡ long_term is_applied (scope_typs scope.now) t.now) }
 {
@@ -51,6 +53,7 @@ fn lengthen(alloc: Global, t: &Term, scope: &Scope, is_applied: bool) -> Result<
     }
 }
 
+/// The abstraction of the body over the type.
 fn abstraction(alloc: Global, typ: &Typ, body: Term) -> Result<Term, AllocError>
     ensures { IfOk result (λ u. u ≡ term.Abs typ.now body) }
 {
@@ -61,6 +64,7 @@ fn abstraction(alloc: Global, typ: &Typ, body: Term) -> Result<Term, AllocError>
     })
 }
 
+/// The application of the function.
 fn application(alloc: Global, function: Term, argument: Term) -> Result<Term, AllocError>
     ensures { IfOk result (λ u. u ≡ term.App function argument) }
 {
@@ -71,11 +75,11 @@ fn application(alloc: Global, function: Term, argument: Term) -> Result<Term, Al
     })
 }
 
-// The term under an abstraction for each arrow of the type, and applied to their variables, each expanded at its own type.
+/// The term under an abstraction for each arrow of the type, and applied to their variables, each expanded at its own type.
 fn expand(alloc: Global, typ: &Typ, mut t: Term) -> Result<Term, AllocError>
     ensures { IfOk result (λ u. u ≡ expanded typ.now t) }
 {
-    let Some((domain, range)) = arrow_of(typ) else {
+    let Some((domain, range)) = typ.as_arrow() else {
         return Ok(t);
     };
     raise(&mut t, 0)?;
@@ -88,7 +92,7 @@ fn expand(alloc: Global, typ: &Typ, mut t: Term) -> Result<Term, AllocError>
     abstraction(alloc, domain, body)
 }
 
-// Raises each loose bound variable from this place on by one. Below 2 ^ 32 binders, which no memory holds, it is want of memory.
+/// Raises each loose bound variable from this place on by one. Below 2 ^ 32 binders, which no memory holds, it is want of memory.
 fn raise(t: &mut Term, from: u32) -> Result<(), AllocError>
     ensures { IfOk result (λ _. t.new ≡ lift_term 1 from t.old) }
 {

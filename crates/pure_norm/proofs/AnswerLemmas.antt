@@ -5,16 +5,13 @@ use Rattle.pure_text.specs.Lists.{Each}
 use Rattle.pure_definitions.specs.Term.{Term, IsWithin, term_size, max_size}
 use Rattle.pure_definitions.specs.Limits.{cut_off}
 use Rattle.pure_definitions.specs.Beta.{IsBetaNormal, beta_step, IsBetaSequence, TooLarge, NormalForm, TooManySteps, max_steps, IsBetaAnswer}
-use Rattle.pure_term_laws.proofs.BetaLaws.{normal-no_step}
+use Rattle.pure_term_laws.proofs.BetaLaws.{step-not_normal}
 use Rattle.pure_norm.specs.declared.walk.Until.TheVariants.{Normal}
 use Rattle.pure_norm.specs.declared.walk.Walk.{Walk}
 use Rattle.pure_norm.specs.declared.fault.NormFault.{NormFault}
 use Rattle.pure_norm.specs.declared.fault.NormFault.TheVariants.{Steps, Big, Memory}
 use Rattle.pure_norm.specs.Walk.{Fits, Leads, nodes_at, Walked, Outgrows, RunsOut, Fails}
 use Rattle.pure_norm.specs.NormAnswer.{IsNormAnswer}
-
-step-not_normal : (t u : Term) → beta_step t ≡ Some u → ¬ IsBetaNormal t
-step-not_normal t u e normal = let none = normal-no_step t normal in cc
 
 fits-within : (t : Term) → Fits max_size 0 t → IsWithin t
 fits-within t h = let low = h.shallow in record { size = h.few; depth = omega arith }

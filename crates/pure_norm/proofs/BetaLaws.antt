@@ -1,14 +1,14 @@
 -- Beta steps keep types, certification and closedness; and normal forms.
-use Rattle.std.proofs.Common.{◌≡◌, ℕ, ◌+◌, List, [], ◌∷◌, refl, subst, arith}
+use Rattle.std.proofs.Common.{◌≡◌, List, [], ◌∷◌, refl, subst, arith}
 use Rattle.std.specs.Prelude.{Some}
 use Rattle.pure_definitions.specs.Typ.{Typ, arrow}
-use Rattle.pure_definitions.specs.Term.{Term, Const, Free, Var, Bound, Abs, App, IsWithin}
+use Rattle.pure_definitions.specs.Term.{Term, Abs, App, IsWithin}
 use Rattle.pure_definitions.specs.Typing.{HasType}
-use Rattle.pure_definitions.specs.Bounds.{IsClosedUnder, lift_term, subst_under}
+use Rattle.pure_definitions.specs.Bounds.{IsClosedUnder, subst_under}
 use Rattle.pure_definitions.specs.Decl.{Decl}
 use Rattle.pure_definitions.specs.Certified.{HasCertifiedParts, IsCertified}
-use Rattle.pure_definitions.specs.Beta.{IsAbs, IsBetaNormal, beta_step, IsBetaSequence, IsBetaAnswer, NormalForm}
-use Rattle.pure_definitions.proofs.LiftLaws.{lift_term-bound}
+use Rattle.pure_definitions.specs.Beta.{IsBetaNormal, beta_step, IsBetaSequence, IsBetaAnswer, NormalForm}
+use Rattle.pure_definitions.proofs.NormalLemmas.{normal-lift, normal-unlift}
 use Rattle.pure_term_laws.proofs.BetaLaws.{one_beta_sequence_to_normal}
 use Rattle.pure_term_laws.proofs.TypingBoundLaws.{typing-subst}
 use Rattle.pure_term_laws.proofs.CertifiedLaws.{parts-subst}
@@ -77,37 +77,5 @@ one_normal_form t u v vs a s normal =
 pub normal_form-of_normal : NormalFormOfNormal
 normal_form-of_normal t within normal = record { before = []; last = t; sequence = refl; undecided = tt; in_time = omega arith; decided = (within, normal, refl) }
 
-abs-of_lift : (by from : ℕ) (t : Term) → IsAbs (lift_term by from t) → IsAbs t
-abs-of_lift by from (Bound p) h = rw (lift_term-bound by from p) at h
-abs-of_lift by from (Abs T b) h = tt
-abs-of_lift by from (Const c T) h = h
-abs-of_lift by from (Free x T) h = h
-abs-of_lift by from (Var x i T) h = h
-abs-of_lift by from (App f a) h = h
-
-abs-lift : (by from : ℕ) (t : Term) → IsAbs t → IsAbs (lift_term by from t)
-abs-lift by from (Abs T b) h = tt
-abs-lift by from (Const c T) h = absurd h
-abs-lift by from (Free x T) h = absurd h
-abs-lift by from (Var x i T) h = absurd h
-abs-lift by from (Bound p) h = absurd h
-abs-lift by from (App f a) h = absurd h
-
-normal-lift : (by from : ℕ) (t : Term) → IsBetaNormal t → IsBetaNormal (lift_term by from t)
-normal-lift by from (Const c T) h = tt
-normal-lift by from (Free x T) h = tt
-normal-lift by from (Var x i T) h = tt
-normal-lift by from (Bound p) h = rw (lift_term-bound by from p) tt
-normal-lift by from (Abs T b) h = normal-lift by (from + 1) b h
-normal-lift by from (App f a) h = ((λ is. h.0 (abs-of_lift by from f is)), normal-lift by from f h.1, normal-lift by from a h.2)
-
-normal-of_lift : (by from : ℕ) (t : Term) → IsBetaNormal (lift_term by from t) → IsBetaNormal t
-normal-of_lift by from (Const c T) h = tt
-normal-of_lift by from (Free x T) h = tt
-normal-of_lift by from (Var x i T) h = tt
-normal-of_lift by from (Bound p) h = tt
-normal-of_lift by from (Abs T b) h = normal-of_lift by (from + 1) b h
-normal-of_lift by from (App f a) h = ((λ is. h.0 (abs-lift by from f is)), normal-of_lift by from f h.1, normal-of_lift by from a h.2)
-
 pub normal_under_lift : NormalUnderLift
-normal_under_lift by from t = (normal-lift by from t, normal-of_lift by from t)
+normal_under_lift by from t = (normal-lift by from t, normal-unlift by from t)

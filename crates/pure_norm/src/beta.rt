@@ -1,3 +1,4 @@
+//! The call, and its limit of steps.
 ghost use Rattle.pure_definitions.specs.Bounds.{IsClosed};
 ghost use Rattle.pure_norm.specs.NormAnswer.{IsNormAnswer};
 
@@ -9,7 +10,7 @@ use std::alloc::Global;
 /// The greatest number of steps.
 pub const MAX_STEPS: u32 = 10_000;
 
-/// The beta-normal form, by leftmost-outermost steps (Isabelle/Isar Implementation manual, section 2.2). The answer is decided at the first term of the sequence that is too large,
+/// The beta-normal form, by leftmost-outermost steps. The answer is decided at the first term of the sequence that is too large,
 /// `Big`; or is normal; or stands after 10,000 steps and isn't, `Steps`.
 pub fn beta_norm(alloc: Global, t: &Term) -> Result<Term, NormFault>
     requires { IsClosed t.now }

@@ -1,3 +1,4 @@
+//! Why a term has no normal form.
 use std::alloc::AllocError;
 
 /// Why a term has no answer: too many steps, a term that isn't within the limits, or memory ran out.

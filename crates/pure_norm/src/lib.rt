@@ -4,8 +4,6 @@
 mod beta;
 mod fault;
 pub mod laws;
-#[cfg(test)]
-mod tests;
 mod walk;
 
 pub use beta::{MAX_STEPS, beta_norm};

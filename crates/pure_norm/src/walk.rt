@@ -1,3 +1,4 @@
+//! The walk through a term, in which steps are taken in place.
 ghost use Rattle.std.specs.Prelude.{◌≡◌, ◌+◌, ◌<◌, ◌≤◌, IfOk, IfErr};
 ghost use Rattle.pure_definitions.specs.Term.{App};
 ghost use Rattle.pure_norm.specs.Walk.{CanWalk, Walked, Fails, IsOver, Descended, IsContracted, CannotContract};
@@ -40,7 +41,7 @@ pub fn reduce(
     Ok(())
 }
 
-// Goes down through the term once, function first, to what is looked for. Where that makes a redex of the term itself, the answer is what it is contracted to.
+/// Goes down through the term once, function first, to what is looked for. Where that makes a redex of the term itself, the answer is what it is contracted to.
 #[cycle(walk)]
 fn descend(
     alloc: Global,
@@ -71,14 +72,14 @@ fn descend(
     Ok(None)
 }
 
-// A call of its own, so that the term that is let go is no part of a loop's proof.
+/// A call of its own, so that the term that is let go is no part of a loop's proof.
 fn set(t: &mut Term, u: Term)
     ensures { t.new ≡ u }
 {
     *t = u;
 }
 
-// The function's body with the argument in place of its bound variable, where the function is an abstraction. What it costs is the redex and what comes of it, whatever the size of the whole term.
+/// The function's body with the argument in place of its bound variable, where the function is an abstraction. What it costs is the redex and what comes of it, whatever the size of the whole term.
 fn contractum(
     alloc: Global,
     fun: &Term,

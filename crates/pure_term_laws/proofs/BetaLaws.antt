@@ -108,7 +108,7 @@ normal_or_step t = by (beta_step t) refl
     by None e = inl (no_step-normal t e)
     by (Some u) e = inr (u, e)
 
-step-not_normal : (t u : Term) → beta_step t ≡ Some u → ¬ IsBetaNormal t
+pub step-not_normal : (t u : Term) → beta_step t ≡ Some u → ¬ IsBetaNormal t
 step-not_normal t u e n = let none = normal-no_step t n in cc
 
 -- the terms of the sequence from the term after n steps on, up to the first that decides an answer

@@ -11,6 +11,7 @@ use Rattle.pure_definitions.specs.Eta.{EtaStep, EtaReduces, IsEtaNormal, abstrac
 use Rattle.pure_term_laws.specs.LawsExamples.{i as typ_i, f as const_f, p as const_p}
 use Rattle.pure_term_laws.specs.LawsNormal.{EtaExample, LongFormExample, OneLongForm, TwoArrowsExample}
 use Rattle.pure_term_laws.proofs.TypingLaws.{typed-once}
+use Rattle.pure_definitions.proofs.NormalLemmas.{normal-unlift}
 use Rattle.pure_definitions.proofs.LiftLaws.{lift-lift, lifted, lift_term-bound}
 
 -- The first term reduces to the second by eta steps, by recursion on the first: its parts reduce, and then an abstraction may be contracted.
@@ -63,22 +64,6 @@ abstraction-contracts bound h = h
 abstraction-contracts (under k) h = tt
 abstraction-contracts (applied k l) h = h
 abstraction-contracts (contracted k e) h = tt
-
-abstraction-lift : (by from : ℕ) (t : Term) → IsAbs t → IsAbs (lift_term by from t)
-abstraction-lift by from (Abs T b) h = tt
-abstraction-lift by from (Const c T) h = h
-abstraction-lift by from (Free x T) h = h
-abstraction-lift by from (Var x i T) h = h
-abstraction-lift by from (Bound n) h = absurd h
-abstraction-lift by from (App f a) h = h
-
-normal-unlift : (by from : ℕ) (t : Term) → IsBetaNormal (lift_term by from t) → IsBetaNormal t
-normal-unlift by from (Abs T b) h = normal-unlift by (from + 1) b h
-normal-unlift by from (App f a) h = ((λ abs. h.0 (abstraction-lift by from f abs)), normal-unlift by from f h.1, normal-unlift by from a h.2)
-normal-unlift by from (Const c T) h = tt
-normal-unlift by from (Free x T) h = tt
-normal-unlift by from (Var x i T) h = tt
-normal-unlift by from (Bound n) h = tt
 
 contracts-normal : {t u : Term} → Contracts t u → IsBetaNormal t → IsBetaNormal u
 contracts-normal constant n = n

@@ -4,6 +4,7 @@ ghost use Rattle.pure_definitions.specs.Conditions.{IsLiftable, IsPuttable, IsVa
 
 use pure_term::{Term, TermNode};
 
+/// Whether the term can be lifted by so much from this place.
 pub(crate) fn can_lift(t: &Term, by: u32, from: u32) -> bool
     ensures { IsTrue result → IsLiftable by from t.now }
 {
@@ -15,6 +16,7 @@ pub(crate) fn can_lift(t: &Term, by: u32, from: u32) -> bool
     }
 }
 
+/// Whether the argument can be put for the bound variable of this place.
 pub(crate) fn can_put(place: u32, arg: &Term, body: &Term) -> bool
     ensures { IsTrue result → IsPuttable place arg.now body.now }
 {
@@ -26,6 +28,7 @@ pub(crate) fn can_put(place: u32, arg: &Term, body: &Term) -> bool
     }
 }
 
+/// Whether the term is a free or schematic variable.
 pub(crate) fn is_variable(t: &Term) -> bool
     ensures { IsTrue result → IsVariable t.now }
 {

@@ -1,6 +1,6 @@
 //! Each call on terms against its answers, by hand from the rules, and on both sides of its limits.
 use crate::asked::{can_lift, can_put, is_variable};
-use crate::notation::{Reader, read};
+use pure_notation::{Parts, read, read_term, read_typ};
 use pure_term::{
     Grow, Term, TermBind, TermMap, TermNode, Typ, TypBind, TypMap, TypNode, TypeFault,
     abstract_over, depth, inst_term, inst_typ, lift, occurs, size, subst_bound, typ_of,
@@ -19,263 +19,367 @@ enum Call {
     MapTyps,
 }
 
-// A row has what a call takes, and what it answers: a term in the notation, its size where that is enough, or `Big`;
-// for a type the type in the notation, or the place of the first node at fault.
+/// What a call answers: a term in the notation, or its size where that is enough; or `Big`.
+#[derive(Clone, Copy)]
+enum Wanted {
+    Term(&'static [u8]),
+    Size(u32),
+    Big,
+}
+
+/// What is said of a term's type: the type in the notation, or the place of the first node at fault.
+#[derive(Clone, Copy)]
+enum WantedTyp {
+    Typ(&'static [u8]),
+    Fault(u32),
+}
 
 /// The type of a term.
-static TYPES: [(&[u8], &[u8]); 20] = [
-    (b"@ f8 >ii f9 i", b"i"),
-    (b"f9 p", b"p"),
-    (b"c9 >ip", b">ip"),
-    (b"v9 t1", b"t1"),
-    (b"l i b0", b">ii"),
-    (b"l p l i b1", b">p >ip"),
-    (b"l p l i b0", b">p >ii"),
-    (b"l >ii l i @ b1 b0", b">>ii >ii"),
-    (b"@ c7 >i >pi f9 i", b">pi"),
+static TYPES: [(&[u8], WantedTyp); 20] = [
+    (b"@ -f -a", WantedTyp::Typ(b"i")),
+    (b"-a: Pure.prop", WantedTyp::Typ(b"Pure.prop")),
+    (b"=a: > i Pure.prop", WantedTyp::Typ(b"> i Pure.prop")),
+    (b"?a: 's", WantedTyp::Typ(b"'s")),
+    (b"% _0", WantedTyp::Typ(b"> i i")),
+    (
+        b"%: Pure.prop % _1",
+        WantedTyp::Typ(b"> Pure.prop > i Pure.prop"),
+    ),
+    (b"%: Pure.prop % _0", WantedTyp::Typ(b"> Pure.prop > i i")),
+    (b"%: > i i % @ _1 _0", WantedTyp::Typ(b"> > i i > i i")),
+    (
+        b"@ =p: > i > Pure.prop i -a",
+        WantedTyp::Typ(b"> Pure.prop i"),
+    ),
     // A loose bound, and a function that doesn't take its argument.
-    (b"b0", b"0"),
-    (b"l i b1", b"1"),
-    (b"@ f9 i f10 i", b"0"),
-    (b"@ f8 >ii f9 p", b"0"),
-    (b"@ c7 w2 f9 i", b"0"),
-    (b"@ f8 >s1 i f9 S1", b"0"),
+    (b"_0", WantedTyp::Fault(0)),
+    (b"% _1", WantedTyp::Fault(1)),
+    (b"@ -a -b", WantedTyp::Fault(0)),
+    (b"@ -f -a: Pure.prop", WantedTyp::Fault(0)),
+    (b"@ =p: k//2 i -a", WantedTyp::Fault(0)),
+    (b"@ -f: > ?'s i -a: ?'s:A.c", WantedTyp::Fault(0)),
     // The first in postorder is not the first in preorder.
-    (b"@ @ f9 i f10 i f11 i", b"1"),
-    (b"@ @ f8 >ii f9 i @ f9 i f10 i", b"4"),
-    (b"@ @ f9 i f10 i b0", b"1"),
-    (b"@ b3 b4", b"1"),
-    (b"l i @ @ f8 >ii b0 @ f8 >ii b1", b"7"),
+    (b"@ @ -a -b -c", WantedTyp::Fault(1)),
+    (b"@ @ -f -a @ -a -b", WantedTyp::Fault(4)),
+    (b"@ @ -a -b _0", WantedTyp::Fault(1)),
+    (b"@ _3 _4", WantedTyp::Fault(1)),
+    (b"% @ @ -f _0 @ -f _1", WantedTyp::Fault(7)),
 ];
 
 /// Lifting: the term.
-static LIFTS: [(Call, &[u8], &[u8]); 14] = [
-    (Call::Lift { by: 2, from: 0 }, b"b0", b"b2"),
-    (Call::Lift { by: 2, from: 1 }, b"b0", b"b0"),
-    (Call::Lift { by: 2, from: 1 }, b"b1", b"b3"),
-    (Call::Lift { by: 0, from: 0 }, b"b7", b"b7"),
+static LIFTS: [(Call, &[u8], Wanted); 14] = [
+    (Call::Lift { by: 2, from: 0 }, b"_0", Wanted::Term(b"_2")),
+    (Call::Lift { by: 2, from: 1 }, b"_0", Wanted::Term(b"_0")),
+    (Call::Lift { by: 2, from: 1 }, b"_1", Wanted::Term(b"_3")),
+    (Call::Lift { by: 0, from: 0 }, b"_7", Wanted::Term(b"_7")),
     (
         Call::Lift { by: 3, from: 0 },
-        b"l i @ b0 b1",
-        b"l i @ b0 b4",
+        b"% @ _0 _1",
+        Wanted::Term(b"% @ _0 _4"),
     ),
     (
         Call::Lift { by: 3, from: 1 },
-        b"l i @ b1 b2",
-        b"l i @ b1 b5",
+        b"% @ _1 _2",
+        Wanted::Term(b"% @ _1 _5"),
     ),
     (
         Call::Lift { by: 1, from: 0 },
-        b"@ b0 l p l i @ b1 b2",
-        b"@ b1 l p l i @ b1 b3",
+        b"@ _0 %: Pure.prop % @ _1 _2",
+        Wanted::Term(b"@ _1 %: Pure.prop % @ _1 _3"),
     ),
     (
         Call::Lift {
             by: 4294967295,
             from: 0,
         },
-        b"b0",
-        b"b4294967295",
+        b"_0",
+        Wanted::Term(b"_4294967295"),
     ),
-    (Call::Lift { by: 1, from: 0 }, b"f9 w199998", b"200000"),
-    (Call::Lift { by: 1, from: 0 }, b"f9 w199999", b"Big"),
     (
         Call::Lift { by: 1, from: 0 },
-        b"A1999 b1999",
-        b"A1999 b2000",
+        b"-a: k//199998 i",
+        Wanted::Size(200000),
     ),
-    (Call::Lift { by: 1, from: 0 }, b"A2000 b1999", b"Big"),
-    (Call::Lift { by: 1, from: 0 }, b"f9 d1998 i", b"f9 d1998 i"),
-    (Call::Lift { by: 1, from: 0 }, b"f9 d1999 i", b"Big"),
+    (
+        Call::Lift { by: 1, from: 0 },
+        b"-a: k//199999 i",
+        Wanted::Big,
+    ),
+    (
+        Call::Lift { by: 1, from: 0 },
+        b"%*1999 _1999",
+        Wanted::Term(b"%*1999 _2000"),
+    ),
+    (Call::Lift { by: 1, from: 0 }, b"%*2000 _1999", Wanted::Big),
+    (
+        Call::Lift { by: 1, from: 0 },
+        b"-a: k*1998 i",
+        Wanted::Term(b"-a: k*1998 i"),
+    ),
+    (Call::Lift { by: 1, from: 0 }, b"-a: k*1999 i", Wanted::Big),
 ];
 
 /// Putting in for the outermost bound variable: the body and the argument.
-static SUBSTITUTIONS: [(Call, &[u8], &[u8]); 17] = [
-    (Call::Put, b"b0, f9 i", b"f9 i"),
-    (Call::Put, b"b1, f9 i", b"b0"),
-    (Call::Put, b"l i b0, f9 i", b"l i b0"),
-    (Call::Put, b"l i b1, b0", b"l i b1"),
-    (Call::Put, b"l i b2, f9 i", b"l i b1"),
+static SUBSTITUTIONS: [(Call, &[u8], Wanted); 17] = [
+    (Call::Put, b"_0, -a", Wanted::Term(b"-a")),
+    (Call::Put, b"_1, -a", Wanted::Term(b"_0")),
+    (Call::Put, b"% _0, -a", Wanted::Term(b"% _0")),
+    (Call::Put, b"% _1, _0", Wanted::Term(b"% _1")),
+    (Call::Put, b"% _2, -a", Wanted::Term(b"% _1")),
     (
         Call::Put,
-        b"l i l i @ b2 b3, @ b0 l i b1",
-        b"l i l i @ @ b2 l i b3 b2",
+        b"% % @ _2 _3, @ _0 % _1",
+        Wanted::Term(b"% % @ @ _2 % _3 _2"),
     ),
-    (Call::Put, b"@ b0 @ l i b1 b0, b4", b"@ b4 @ l i b5 b4"),
-    (Call::Put, b"@ f8 >ii b0, l i b0", b"@ f8 >ii l i b0"),
-    (Call::Put, b"@ @ c7 >i >ii b0 b0, f9 w99994", b"200000"),
-    (Call::Put, b"@ @ c7 >i >ii b0 b0, f9 w99998", b"Big"),
-    (Call::Put, b"@ f8 >ii b0, f9 w199993", b"200000"),
-    (Call::Put, b"@ f8 >ii b0, f9 w199994", b"Big"),
-    (Call::Put, b"A1000 b1000, A998 f9 i", b"A1998 f9 i"),
-    (Call::Put, b"A1000 b1000, A999 f9 i", b"Big"),
-    (Call::Put, b"A2000 b1999, f9 i", b"Big"),
+    (
+        Call::Put,
+        b"@ _0 @ % _1 _0, _4",
+        Wanted::Term(b"@ _4 @ % _5 _4"),
+    ),
+    (Call::Put, b"@ -f _0, % _0", Wanted::Term(b"@ -f % _0")),
+    (
+        Call::Put,
+        b"@ @ =p _0 _0, -a: k//99994 i",
+        Wanted::Size(200000),
+    ),
+    (Call::Put, b"@ @ =p _0 _0, -a: k//99998 i", Wanted::Big),
+    (Call::Put, b"@ -f _0, -a: k//199993 i", Wanted::Size(200000)),
+    (Call::Put, b"@ -f _0, -a: k//199994 i", Wanted::Big),
+    (
+        Call::Put,
+        b"%*1000 _1000, %*998 -a",
+        Wanted::Term(b"%*1998 -a"),
+    ),
+    (Call::Put, b"%*1000 _1000, %*999 -a", Wanted::Big),
+    (Call::Put, b"%*2000 _1999, -a", Wanted::Big),
     // The argument is beyond the limits, but stands nowhere.
-    (Call::Put, b"b1, f9 w300000", b"b0"),
-    (Call::Put, b"b1, A2500 f9 i", b"b0"),
+    (Call::Put, b"_1, -a: k//300000 i", Wanted::Term(b"_0")),
+    (Call::Put, b"_1, %*2500 -a", Wanted::Term(b"_0")),
 ];
 
 /// Abstraction: the term and the variable.
-static ABSTRACTIONS: [(Call, &[u8], &[u8]); 17] = [
-    (Call::Abstract, b"@ f8 >ii f9 i, f9 i", b"l i @ f8 >ii b0"),
-    (Call::Abstract, b"f9 i, f9 i", b"l i b0"),
-    (Call::Abstract, b"f9 p, f9 i", b"l i f9 p"),
-    (Call::Abstract, b"@ v9 i u9 i, u9 i", b"l i @ v9 i b0"),
-    (Call::Abstract, b"@ c9 i v9 i, f9 i", b"l i @ c9 i v9 i"),
-    (Call::Abstract, b"l p @ b0 f9 i, f9 i", b"l i l p @ b0 b1"),
+static ABSTRACTIONS: [(Call, &[u8], Wanted); 17] = [
+    (Call::Abstract, b"@ -f -a, -a", Wanted::Term(b"% @ -f _0")),
+    (Call::Abstract, b"-a, -a", Wanted::Term(b"% _0")),
     (
         Call::Abstract,
-        b"@ b0 l p @ b1 b0, f9 i",
-        b"l i @ b1 l p @ b2 b0",
+        b"-a: Pure.prop, -a",
+        Wanted::Term(b"% -a: Pure.prop"),
     ),
-    (Call::Abstract, b"l i f9 i, f9 i", b"l i l i b1"),
-    (Call::Abstract, b"f10 w199996, f9 i", b"200000"),
-    (Call::Abstract, b"f10 w199997, f9 i", b"Big"),
-    (Call::Abstract, b"f9 w199997, f9 w199997", b"200000"),
-    (Call::Abstract, b"f9 w199998, f9 w199998", b"Big"),
-    (Call::Abstract, b"A1997 f10 i, f9 i", b"A1998 f10 i"),
-    (Call::Abstract, b"A1998 f10 i, f9 i", b"Big"),
-    (Call::Abstract, b"f9 d1999 i, f9 d1999 i", b"Big"),
+    (
+        Call::Abstract,
+        b"@ ?a ?a^1, ?a^1",
+        Wanted::Term(b"% @ ?a _0"),
+    ),
+    (Call::Abstract, b"@ =a ?a, -a", Wanted::Term(b"% @ =a ?a")),
+    (
+        Call::Abstract,
+        b"%: Pure.prop @ _0 -a, -a",
+        Wanted::Term(b"% %: Pure.prop @ _0 _1"),
+    ),
+    (
+        Call::Abstract,
+        b"@ _0 %: Pure.prop @ _1 _0, -a",
+        Wanted::Term(b"% @ _1 %: Pure.prop @ _2 _0"),
+    ),
+    (Call::Abstract, b"% -a, -a", Wanted::Term(b"% % _1")),
+    (Call::Abstract, b"-b: k//199996 i, -a", Wanted::Size(200000)),
+    (Call::Abstract, b"-b: k//199997 i, -a", Wanted::Big),
+    (
+        Call::Abstract,
+        b"-a: k//199997 i, -a: k//199997 i",
+        Wanted::Size(200000),
+    ),
+    (
+        Call::Abstract,
+        b"-a: k//199998 i, -a: k//199998 i",
+        Wanted::Big,
+    ),
+    (Call::Abstract, b"%*1997 -b, -a", Wanted::Term(b"%*1998 -b")),
+    (Call::Abstract, b"%*1998 -b, -a", Wanted::Big),
+    (Call::Abstract, b"-a: k*1999 i, -a: k*1999 i", Wanted::Big),
     // The term is beyond the limits, its abstraction within them.
     (
         Call::Abstract,
-        b"@ f9 w150000 f9 w150000, f9 w150000",
-        b"l w150000 @ b0 b0",
+        b"@ -a: k//150000 i -a: k//150000 i, -a: k//150000 i",
+        Wanted::Term(b"%: k//150000 i @ _0 _0"),
     ),
     (
         Call::Abstract,
-        b"@ f9 d1998 i f9 d1998 i, f9 d1998 i",
-        b"l d1998 i @ b0 b0",
+        b"@ -a: k*1998 i -a: k*1998 i, -a: k*1998 i",
+        Wanted::Term(b"%: k*1998 i @ _0 _0"),
     ),
 ];
 
 /// Term maps: the term, and two variables that are replaced, each before its image.
-static TERM_MAPS: [(Call, &[u8], &[u8]); 13] = [
+static TERM_MAPS: [(Call, &[u8], Wanted); 13] = [
     (
         Call::MapTerms,
-        b"@ f8 >ii v9 i, v9 i c5 i v1 i c6 i",
-        b"@ f8 >ii c5 i",
+        b"@ -f ?a, ?a, =v, ?x, =w",
+        Wanted::Term(b"@ -f =v"),
     ),
     (
         Call::MapTerms,
-        b"@ v1 i v2 i, v1 i v2 i v2 i v1 i",
-        b"@ v2 i v1 i",
+        b"@ ?x ?y', ?x, ?y', ?y', ?x",
+        Wanted::Term(b"@ ?y' ?x"),
     ),
     (
         Call::MapTerms,
-        b"@ v1 i v2 i, v1 i @ v1 i v2 i v2 i f9 i",
-        b"@ @ v1 i v2 i f9 i",
+        b"@ ?x ?y', ?x, @ ?x ?y', ?y', -a",
+        Wanted::Term(b"@ @ ?x ?y' -a"),
     ),
     (
         Call::MapTerms,
-        b"@ v1 i u1 i, u1 i c5 i v2 i c6 i",
-        b"@ v1 i c5 i",
+        b"@ ?x ?x^1, ?x^1, =v, ?y', =w",
+        Wanted::Term(b"@ ?x =v"),
     ),
     (
         Call::MapTerms,
-        b"@ v1 i v1 p, v1 p c5 p v2 i c6 i",
-        b"@ v1 i c5 p",
+        b"@ ?x ?x: Pure.prop, ?x: Pure.prop, =v: Pure.prop, ?y', =w",
+        Wanted::Term(b"@ ?x =v: Pure.prop"),
     ),
     (
         Call::MapTerms,
-        b"@ f1 i c1 i, v1 i c5 i v2 i c6 i",
-        b"@ f1 i c1 i",
+        b"@ -x =x, ?x, =v, ?y', =w",
+        Wanted::Term(b"@ -x =x"),
     ),
     (
         Call::MapTerms,
-        b"l i @ v1 i b0, v1 i c5 i v2 i c6 i",
-        b"l i @ c5 i b0",
+        b"% @ ?x _0, ?x, =v, ?y', =w",
+        Wanted::Term(b"% @ =v _0"),
     ),
     (
         Call::MapTerms,
-        b"@ v1 >ii f9 i, v1 >ii l i b0 v2 i c6 i",
-        b"@ l i b0 f9 i",
+        b"@ ?x: > i i -a, ?x: > i i, % _0, ?y', =w",
+        Wanted::Term(b"@ % _0 -a"),
     ),
     (
         Call::MapTerms,
-        b"v1 i, v1 i f9 w199998 v2 i c6 i",
-        b"200000",
-    ),
-    (Call::MapTerms, b"v1 i, v1 i f9 w199999 v2 i c6 i", b"Big"),
-    (
-        Call::MapTerms,
-        b"@ v1 i f9 i, v1 i A1997 f9 i v2 i c6 i",
-        b"@ A1997 f9 i f9 i",
+        b"?x, ?x, -a: k//199998 i, ?y', =w",
+        Wanted::Size(200000),
     ),
     (
         Call::MapTerms,
-        b"@ v1 i f9 i, v1 i A1998 f9 i v2 i c6 i",
-        b"Big",
+        b"?x, ?x, -a: k//199999 i, ?y', =w",
+        Wanted::Big,
+    ),
+    (
+        Call::MapTerms,
+        b"@ ?x -a, ?x, %*1997 -a, ?y', =w",
+        Wanted::Term(b"@ %*1997 -a -a"),
+    ),
+    (
+        Call::MapTerms,
+        b"@ ?x -a, ?x, %*1998 -a, ?y', =w",
+        Wanted::Big,
     ),
     // The term is beyond the limits, its instance within them.
     (
         Call::MapTerms,
-        b"v1 w300000, v1 w300000 c5 i v2 i c6 i",
-        b"c5 i",
+        b"?x: k//300000 i, ?x: k//300000 i, =v, ?y', =w",
+        Wanted::Term(b"=v"),
     ),
 ];
 
 /// Type maps: the term, and two type variables that are replaced, each before its image.
-static TYP_MAPS: [(Call, &[u8], &[u8]); 12] = [
-    (Call::MapTyps, b"f9 s1, s1 i s2 p", b"f9 i"),
-    (Call::MapTyps, b"v9 >s1 s2, s1 s2 s2 s1", b"v9 >s2 s1"),
-    (Call::MapTyps, b"c9 >s1 s2, s1 >s1 s2 s2 i", b"c9 >>s1 s2 i"),
+static TYP_MAPS: [(Call, &[u8], Wanted); 12] = [
     (
         Call::MapTyps,
-        b"l s1 @ b0 f9 S1, s1 i s2 p",
-        b"l i @ b0 f9 S1",
+        b"-a: ?'s, ?'s, i, ?'t, Pure.prop",
+        Wanted::Term(b"-a"),
     ),
     (
         Call::MapTyps,
-        b"l s1 @ b0 f9 S1, S1 i s2 p",
-        b"l s1 @ b0 f9 i",
+        b"?a: > ?'s ?'t, ?'s, ?'t, ?'t, ?'s",
+        Wanted::Term(b"?a: > ?'t ?'s"),
     ),
-    (Call::MapTyps, b"f9 t1, s1 i s2 p", b"f9 t1"),
-    (Call::MapTyps, b"@ v9 s1 v9 s2, s1 i s2 i", b"@ v9 i v9 i"),
-    (Call::MapTyps, b"f9 d2 s1, s1 d3 i s2 i", b"f9 d5 i"),
-    (Call::MapTyps, b"f9 s1, s1 w199998 s2 i", b"200000"),
-    (Call::MapTyps, b"f9 s1, s1 w199999 s2 i", b"Big"),
-    (Call::MapTyps, b"f9 d1000 s1, s1 d998 i s2 i", b"f9 d1998 i"),
-    (Call::MapTyps, b"f9 d1000 s1, s1 d999 i s2 i", b"Big"),
+    (
+        Call::MapTyps,
+        b"=a: > ?'s ?'t, ?'s, > ?'s ?'t, ?'t, i",
+        Wanted::Term(b"=a: > > ?'s ?'t i"),
+    ),
+    (
+        Call::MapTyps,
+        b"%: ?'s @ _0 -a: ?'s:A.c, ?'s, i, ?'t, Pure.prop",
+        Wanted::Term(b"% @ _0 -a: ?'s:A.c"),
+    ),
+    (
+        Call::MapTyps,
+        b"%: ?'s @ _0 -a: ?'s:A.c, ?'s:A.c, i, ?'t, Pure.prop",
+        Wanted::Term(b"%: ?'s @ _0 -a"),
+    ),
+    (
+        Call::MapTyps,
+        b"-a: 's, ?'s, i, ?'t, Pure.prop",
+        Wanted::Term(b"-a: 's"),
+    ),
+    (
+        Call::MapTyps,
+        b"@ ?a: ?'s ?a: ?'t, ?'s, i, ?'t, i",
+        Wanted::Term(b"@ ?a ?a"),
+    ),
+    (
+        Call::MapTyps,
+        b"-a: k*2 ?'s, ?'s, k*3 i, ?'t, i",
+        Wanted::Term(b"-a: k*5 i"),
+    ),
+    (
+        Call::MapTyps,
+        b"-a: ?'s, ?'s, k//199998 i, ?'t, i",
+        Wanted::Size(200000),
+    ),
+    (
+        Call::MapTyps,
+        b"-a: ?'s, ?'s, k//199999 i, ?'t, i",
+        Wanted::Big,
+    ),
+    (
+        Call::MapTyps,
+        b"-a: k*1000 ?'s, ?'s, k*998 i, ?'t, i",
+        Wanted::Term(b"-a: k*1998 i"),
+    ),
+    (
+        Call::MapTyps,
+        b"-a: k*1000 ?'s, ?'s, k*999 i, ?'t, i",
+        Wanted::Big,
+    ),
 ];
 
 /// Size and depth of a term.
 static MEASURES: [(&[u8], u32, u32); 9] = [
-    (b"b5", 1, 1),
-    (b"f9 i", 2, 2),
-    (b"c9 >ii", 4, 3),
-    (b"v9 s1", 2, 2),
-    (b"l >ii b0", 5, 3),
-    (b"@ f8 >ii f9 i", 7, 4),
-    (b"@ b0 l i f9 i", 6, 4),
-    (b"f9 w199998", 200_000, 3),
-    (b"A2000 b0", 4001, 2001),
+    (b"_5", 1, 1),
+    (b"-a", 2, 2),
+    (b"=a: > i i", 4, 3),
+    (b"?a: ?'s", 2, 2),
+    (b"%: > i i _0", 5, 3),
+    (b"@ -f -a", 7, 4),
+    (b"@ _0 % -a", 6, 4),
+    (b"-a: k//199998 i", 200_000, 3),
+    (b"%*2000 _0", 4001, 2001),
 ];
 
 /// Whether the first term occurs in the second.
 static OCCURRENCES: [(&[u8], bool); 12] = [
-    (b"f9 i, f9 i", true),
-    (b"f9 i, f9 p", false),
-    (b"f9 i, c9 i", false),
-    (b"v9 i, u9 i", false),
-    (b"f9 i, @ f8 >ii f9 i", true),
-    (b"f8 >ii, @ f8 >ii f9 i", true),
-    (b"f9 i, l i l i @ b0 f9 i", true),
-    (b"f9 i, l i @ b0 f9 p", false),
-    (b"@ f8 >ii f9 i, @ f8 >ii @ f8 >ii f9 i", true),
-    (b"l i b0, @ l i b0 f9 i", true),
-    (b"b0, l i b0", true),
-    (b"b0, l i b1", false),
+    (b"-a, -a", true),
+    (b"-a, -a: Pure.prop", false),
+    (b"-a, =a", false),
+    (b"?a, ?a^1", false),
+    (b"-a, @ -f -a", true),
+    (b"-f, @ -f -a", true),
+    (b"-a, % % @ _0 -a", true),
+    (b"-a, % @ _0 -a: Pure.prop", false),
+    (b"@ -f -a, @ -f @ -f -a", true),
+    (b"% _0, @ % _0 -a", true),
+    (b"_0, % _0", true),
+    (b"_0, % _1", false),
 ];
 
-// A text is read from its end, so what stands first in it comes last in what was read.
-
-/// The type map of the last four types, two variables each before its image, where the names differ.
+/// The type map of four types, two variables each before its image, where the names differ.
 fn typ_map(alloc: Global, typs: &[Typ]) -> Result<Option<TypMap>, AllocError> {
-    let Some(second) = typ_bind(alloc, typs.get(1), typs.first())? else {
+    let Some(second) = typ_bind(alloc, typs.get(2), typs.get(3))? else {
         return Ok(None);
     };
-    let Some(first) = typ_bind(alloc, typs.get(3), typs.get(2))? else {
+    let Some(first) = typ_bind(alloc, typs.first(), typs.get(1))? else {
         return Ok(None);
     };
     if first.name == second.name {
@@ -284,6 +388,7 @@ fn typ_map(alloc: Global, typs: &[Typ]) -> Result<Option<TypMap>, AllocError> {
     Ok(Some(TypMap::make(vec![in alloc; first, second]?)))
 }
 
+/// The bind of the variable to its image.
 fn typ_bind(
     alloc: Global,
     v: Option<&Typ>,
@@ -306,12 +411,12 @@ fn typ_bind(
     }
 }
 
-/// The term map of the last four terms, two variables each before its image, where the names differ.
+/// The term map of the terms behind the first, two variables each before its image, where the names differ.
 fn term_map(alloc: Global, terms: &[Term]) -> Result<Option<TermMap>, AllocError> {
-    let Some(second) = term_bind(alloc, terms.get(1), terms.first())? else {
+    let Some(second) = term_bind(alloc, terms.get(3), terms.get(4))? else {
         return Ok(None);
     };
-    let Some(first) = term_bind(alloc, terms.get(3), terms.get(2))? else {
+    let Some(first) = term_bind(alloc, terms.get(1), terms.get(2))? else {
         return Ok(None);
     };
     if first.name == second.name {
@@ -320,6 +425,7 @@ fn term_map(alloc: Global, terms: &[Term]) -> Result<Option<TermMap>, AllocError
     Ok(Some(TermMap::make(vec![in alloc; first, second]?)))
 }
 
+/// The bind of the variable to its image.
 fn term_bind(
     alloc: Global,
     v: Option<&Term>,
@@ -342,6 +448,7 @@ fn term_bind(
     }
 }
 
+/// `lift`, where it may be asked.
 fn lifted(alloc: Global, t: &Term, by: u32, from: u32) -> Result<Term, Grow> {
     if can_lift(t, by, from) {
         lift(alloc, t, by, from)
@@ -350,6 +457,7 @@ fn lifted(alloc: Global, t: &Term, by: u32, from: u32) -> Result<Term, Grow> {
     }
 }
 
+/// `subst_bound`, where it may be asked.
 fn put(alloc: Global, body: &Term, arg: &Term) -> Result<Term, Grow> {
     if can_put(0, arg, body) {
         subst_bound(alloc, body, arg)
@@ -358,6 +466,7 @@ fn put(alloc: Global, body: &Term, arg: &Term) -> Result<Term, Grow> {
     }
 }
 
+/// `abstract_over`, where it may be asked.
 fn abstracted(alloc: Global, t: &Term, v: &Term) -> Result<Term, Grow> {
     if is_variable(v) && can_lift(t, 1, 0) {
         abstract_over(alloc, t, v)
@@ -366,8 +475,9 @@ fn abstracted(alloc: Global, t: &Term, v: &Term) -> Result<Term, Grow> {
     }
 }
 
+/// `inst_term` of the first term by the map of the others.
 fn under_terms(alloc: Global, terms: &[Term]) -> Result<Term, Grow> {
-    let Some(t) = terms.get(4) else {
+    let Some(t) = terms.first() else {
         return Err(Grow::Memory);
     };
     match term_map(alloc, terms)? {
@@ -376,6 +486,7 @@ fn under_terms(alloc: Global, terms: &[Term]) -> Result<Term, Grow> {
     }
 }
 
+/// `inst_typ` by the map of the types.
 fn under_typs(alloc: Global, t: &Term, typs: &[Typ]) -> Result<Term, Grow> {
     match typ_map(alloc, typs)? {
         Some(map) => inst_typ(alloc, t, &map),
@@ -384,83 +495,97 @@ fn under_typs(alloc: Global, t: &Term, typs: &[Typ]) -> Result<Term, Grow> {
 }
 
 /// What the call answers for the terms and types that were read; `Memory` where it may not be asked.
-fn answer(alloc: Global, call: Call, reader: &Reader) -> Result<Term, Grow> {
-    let Some(last) = reader.terms.first() else {
+fn answer(alloc: Global, call: Call, parts: &Parts) -> Result<Term, Grow> {
+    let Some(first) = parts.terms.first() else {
         return Err(Grow::Memory);
     };
-    let before = reader.terms.get(1).unwrap_or(last);
+    let second = parts.terms.get(1).unwrap_or(first);
     match call {
-        Call::Lift { by, from } => lifted(alloc, last, by, from),
-        Call::Put => put(alloc, before, last),
-        Call::Abstract => abstracted(alloc, before, last),
-        Call::MapTerms => under_terms(alloc, &reader.terms),
-        Call::MapTyps => under_typs(alloc, last, &reader.typs),
+        Call::Lift { by, from } => lifted(alloc, first, by, from),
+        Call::Put => put(alloc, first, second),
+        Call::Abstract => abstracted(alloc, first, second),
+        Call::MapTerms => under_terms(alloc, &parts.terms),
+        Call::MapTyps => under_typs(alloc, first, &parts.typs),
     }
 }
 
-fn is_answer(found: &Result<Term, Grow>, wanted: &[u8], reader: &Reader) -> bool {
-    let wants_big = wanted == b"Big".as_slice();
-    match found {
-        Ok(term) => match reader.terms.first() {
-            Some(other) => *term == *other,
-            None => !wants_big && size(term) == reader.number,
-        },
-        Err(fault) => wants_big && *fault == Grow::Big,
-    }
-}
-
-fn check_row(alloc: Global, call: Call, text: &[u8], wanted: &[u8]) -> Result<bool, AllocError> {
-    let reader = read(alloc, text)?;
-    let expected = read(alloc, wanted)?;
-    Ok(is_answer(&answer(alloc, call, &reader), wanted, &expected))
-}
-
-fn is_typ(found: &Result<Typ, TypeFault>, reader: &Reader) -> bool {
-    match found {
-        Ok(typ) => match reader.typs.first() {
-            Some(other) => *typ == *other,
-            None => false,
-        },
-        Err(TypeFault::NotTyped { place }) => reader.typs.is_empty() && *place == reader.number,
-        Err(TypeFault::Memory) => false,
-    }
-}
-
-fn has_typ(alloc: Global, terms: &[Term], reader: &Reader) -> bool {
-    match terms.first() {
-        Some(t) => is_typ(&typ_of(alloc, t), reader),
-        None => false,
-    }
-}
-
-fn check_typ(alloc: Global, text: &[u8], wanted: &[u8]) -> Result<bool, AllocError> {
-    let reader = read(alloc, text)?;
-    let expected = read(alloc, wanted)?;
-    Ok(has_typ(alloc, &reader.terms, &expected))
-}
-
-fn check_measure(alloc: Global, text: &[u8], nodes: u32, path: u32) -> Result<bool, AllocError> {
-    let reader = read(alloc, text)?;
-    Ok(match reader.terms.first() {
-        Some(t) => size(t) == nodes && depth(t) == path,
-        None => false,
+/// Whether the answer is the term of this text.
+fn is_term(alloc: Global, found: &Result<Term, Grow>, text: &[u8]) -> Result<bool, Fail> {
+    let other = read_term(alloc, text)?;
+    Ok(match found {
+        Ok(term) => *term == other,
+        Err(_) => false,
     })
 }
 
-fn check_occurrence(alloc: Global, text: &[u8], wanted: bool) -> Result<bool, AllocError> {
-    let reader = read(alloc, text)?;
-    let Some(t) = reader.terms.first() else {
+/// Whether the answer is a term of this size.
+fn is_of_size(found: &Result<Term, Grow>, nodes: u32) -> bool {
+    match found {
+        Ok(term) => size(term) == nodes,
+        Err(_) => false,
+    }
+}
+
+/// Whether the answer is `Big`.
+fn is_big(found: &Result<Term, Grow>) -> bool {
+    match found {
+        Ok(_) => false,
+        Err(fault) => *fault == Grow::Big,
+    }
+}
+
+/// Whether the answer is what is wanted.
+fn is_answer(alloc: Global, found: &Result<Term, Grow>, wanted: Wanted) -> Result<bool, Fail> {
+    match wanted {
+        Wanted::Term(text) => is_term(alloc, found, text),
+        Wanted::Size(nodes) => Ok(is_of_size(found, nodes)),
+        Wanted::Big => Ok(is_big(found)),
+    }
+}
+
+/// Whether the call answers what is wanted for the text.
+fn check_row(alloc: Global, call: Call, text: &[u8], wanted: Wanted) -> Result<bool, Fail> {
+    let parts = read(alloc, text)?;
+    is_answer(alloc, &answer(alloc, call, &parts), wanted)
+}
+
+/// Whether what is said of a type is what is wanted.
+fn is_typ(alloc: Global, found: &Result<Typ, TypeFault>, wanted: WantedTyp) -> Result<bool, Fail> {
+    Ok(match (found, wanted) {
+        (Ok(typ), WantedTyp::Typ(text)) => *typ == read_typ(alloc, text)?,
+        (Err(TypeFault::NotTyped { place }), WantedTyp::Fault(other)) => *place == other,
+        _ => false,
+    })
+}
+
+/// Whether the term of the text has the type that is wanted.
+fn check_typ(alloc: Global, text: &[u8], wanted: WantedTyp) -> Result<bool, Fail> {
+    let t = read_term(alloc, text)?;
+    is_typ(alloc, &typ_of(alloc, &t), wanted)
+}
+
+/// Whether the term of the text has this size and depth.
+fn check_measure(alloc: Global, text: &[u8], nodes: u32, path: u32) -> Result<bool, Fail> {
+    let t = read_term(alloc, text)?;
+    Ok(size(&t) == nodes && depth(&t) == path)
+}
+
+/// Whether the first term of the text occurs in the second exactly where it is wanted to.
+fn check_occurrence(alloc: Global, text: &[u8], wanted: bool) -> Result<bool, Fail> {
+    let parts = read(alloc, text)?;
+    let Some(v) = parts.terms.first() else {
         return Ok(false);
     };
-    let Some(v) = reader.terms.get(1) else {
+    let Some(t) = parts.terms.get(1) else {
         return Ok(false);
     };
     Ok(occurs(v, t) == wanted)
 }
 
-fn check_rows<R: Abort + AllocGlobal>(rt: &R, rows: &[(Call, &[u8], &[u8])]) -> Result<(), Fail> {
+/// Checks each row.
+fn check_rows<R: Abort + AllocGlobal>(rt: &R, rows: &[(Call, &[u8], Wanted)]) -> Result<(), Fail> {
     for (row, (call, text, wanted)) in rows.iter().enumerate() {
-        assert!(rt; check_row(rt.alloc(), *call, text, wanted)?, "row {row}");
+        assert!(rt; check_row(rt.alloc(), *call, text, *wanted)?, "row {row}");
     }
     Ok(())
 }
@@ -481,7 +606,7 @@ fn maps(rt: HostRuntime) -> Result<(), Fail> {
 #[test]
 fn types(rt: HostRuntime) -> Result<(), Fail> {
     for (row, (text, wanted)) in TYPES.iter().enumerate() {
-        assert!(rt; check_typ(rt.alloc(), text, wanted)?, "row {row}");
+        assert!(rt; check_typ(rt.alloc(), text, *wanted)?, "row {row}");
     }
     Ok(())
 }

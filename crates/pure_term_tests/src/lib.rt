@@ -5,5 +5,3 @@
 mod asked;
 #[cfg(test)]
 mod calls;
-#[cfg(test)]
-mod notation;
