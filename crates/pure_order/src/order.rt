@@ -70,6 +70,16 @@ impl Order {
         }
     }
 
+    /// The domains of a declared arity of the constructor for the class itself, the first one; none where there is none.
+    pub fn arity(&self, con: Name, class: Name) -> Option<&[Sort]>
+        ensures { MatchOption result (¬ HasArityFor self.now con class) (λ domains. IsIn (record { con = con; domains = domains.now; class = class }) self.now.arities) }
+    {
+        match self.tables.arity(con, class) {
+            None => None,
+            Some(domains) => Some(domains),
+        }
+    }
+
     /// Whether a class that both orders declare has the same classes declared above it in both. Only such orders can be merged.
     pub fn agrees(&self, other: &Order) -> bool
         ensures { IsTrue result ↔ Agree self.now.classes other.now.classes }
