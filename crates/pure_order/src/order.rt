@@ -1,14 +1,14 @@
 //! The algebra of declared classes and arities, its questions and its declarations.
-ghost use Rattle.std.specs.Prelude.{◌≡◌, ◌↔◌, ℕ, [], ◌∷◌, IsTrue, OnOk, OnErr, IfOk, IfErr, IfSome, MatchOption};
+ghost use Rattle.std.specs.Prelude.{◌≡◌, ◌↔◌, ℕ, [], IsTrue, OnOk, OnErr, IfOk, IfErr, IfSome, MatchOption};
 ghost use Rattle.std.specs.List.Sorted.{IsStrictlyIncreasing};
-ghost use Rattle.pure_text.specs.Lists.{IsIn, Each, AnyOf};
+ghost use Rattle.pure_text.specs.Lists.{IsIn, Each};
 ghost use Rattle.pure_definitions.specs.Typ.{Typs, Con};
 ghost use Rattle.pure_definitions.specs.Order.{Arity, IsClassBelow, IsSortBelow, IsOfClass, IsOfSort, AreOfSorts, IsCoregular};
 ghost use Rattle.pure_order_tables.specs.Classes.{Agree, IsAntisymmetric, IsDeclared};
 ghost use Rattle.pure_order_tables.specs.Arities.{IsArityBelow, IsKnown, IsUnion, with_class, with_arity};
 ghost use Rattle.pure_order_tables.specs.Checks.{IsDirected};
 ghost use Rattle.pure_order.specs.Domains.{AreGreatestDomains, IsAboveAnother, IsReduced};
-ghost use Rattle.pure_order_tables.specs.Unknown.{IsFirstUnknown, HasArityFor, joined, names_of};
+ghost use Rattle.pure_order_tables.specs.Unknown.{HasArityFor};
 ghost use Rattle.pure_order.specs.FaultView.{IsClassFault, IsArityFault, IsMergeFault};
 
 use crate::fault::OrderFault;
