@@ -1,13 +1,70 @@
 -- Reduced sorts, and algebras with the same declarations.
-use Rattle.std.proofs.Common.{◌≡◌, ◌↔◌, ℕ, List, sym, inl, inr}
+use Rattle.std.proofs.Common.{◌≡◌, ◌↔◌, ◌⊎◌, ℕ, List, [], ◌∷◌, refl, sym, inl, inr}
 use Rattle.std.proofs.lemmas.Bool.Decides.{eqb_tells}
 use Rattle.pure_text.specs.Lists.{IsIn}
-use Rattle.pure_text.proofs.ListLaws.{any_of, any_some, each_at}
+use Rattle.pure_text.proofs.ListLaws.{any_of, any_some, any_decided, each_of, each_at}
 use Rattle.pure_definitions.specs.Typ.{Typ}
-use Rattle.pure_definitions.specs.Order.{Arity, Algebra, IsClassBelow, HasClassBelow, IsSortBelow, IsOfSort, AreCompatible, IsCoregular}
+use Rattle.pure_definitions.specs.Order.{Algebra, IsClassBelow, itself, HasClassBelow, IsSortBelow, IsOfSort, AreCompatible, IsCoregular}
 use Rattle.pure_definitions.proofs.OrderLaws.{below-trans, below-more, HasMore, domains-more, sort_below-more, of_sort-more}
 use Rattle.pure_order.specs.Domains.{IsAboveAnother, IsReduced}
-use Rattle.pure_order.specs.Laws.{IsAntisymmetric, HaveSame}
+use Rattle.pure_order_tables.specs.Classes.{IsAntisymmetric}
+use Rattle.pure_order_tables.specs.Checks.{IsDecided}
+use Rattle.pure_order.specs.Laws.{HaveSame}
+
+-- Each class of a sort has one of it below it that has no other of it below it.
+least_below : (A : Algebra) → IsDecided A → IsAntisymmetric A → (s : List ℕ) (c : ℕ) → IsIn c s → (b : ℕ) × IsIn b s × (¬ IsAboveAnother A s b) × IsClassBelow A b c
+least_below A decided anti [] c m = absurd m
+least_below A decided anti (x ∷ xs) c m = elim m [
+  | inl e ↦ rw e (from_first (λ y n. least_below A decided anti xs y n))
+  | inr later ↦ beside (λ y n. least_below A decided anti xs y n) (least_below A decided anti xs c later)
+]
+  where
+    is_other_below : (d b : ℕ) → ((¬ (b ≡ d)) × IsClassBelow A b d) ⊎ ¬ ((¬ (b ≡ d)) × IsClassBelow A b d)
+    is_other_below d b = elim (eqb_tells b d) [
+      | inl w ↦ inr (λ h. h.0 w.1)
+      | inr w ↦ elim (decided b d) [ inl k ↦ inl (w.1, k) | inr n ↦ inr (λ h. n h.1) ]
+    ]
+
+    Least : ℕ → Type 0
+    Least d = (b : ℕ) × IsIn b (x ∷ xs) × (¬ IsAboveAnother A (x ∷ xs) b) × IsClassBelow A b d
+
+    -- Where y is another class below x, a least one below y is one below x.
+    under : (y : ℕ) → ¬ (y ≡ x) → IsClassBelow A y x → ((b : ℕ) × IsIn b xs × (¬ IsAboveAnother A xs b) × IsClassBelow A b y) → Least x
+    under y other below w = (
+      w.0,
+      inr w.1,
+      (λ h. elim h [
+        | inl k ↦ other (anti y x below (below-trans k.1 w.3))
+        | inr k ↦ w.2 k
+      ]),
+      below-trans w.3 below,
+    )
+
+    from_first : ((y : ℕ) → IsIn y xs → (b : ℕ) × IsIn b xs × (¬ IsAboveAnother A xs b) × IsClassBelow A b y) → Least x
+    from_first rest = elim (any_decided (λ b. (¬ (b ≡ x)) × IsClassBelow A b x) (is_other_below x) xs) [
+      | inl some ↦ (let y = any_some (λ b. (¬ (b ≡ x)) × IsClassBelow A b x) xs some in under y.0 y.2.0 y.2.1 (rest y.0 y.1))
+      | inr none ↦ (x, inl refl, (λ h. elim h [ inl k ↦ k.0 refl | inr k ↦ none k ]), itself)
+    ]
+
+    beside : ((y : ℕ) → IsIn y xs → (b : ℕ) × IsIn b xs × (¬ IsAboveAnother A xs b) × IsClassBelow A b y) → ((b : ℕ) × IsIn b xs × (¬ IsAboveAnother A xs b) × IsClassBelow A b c) → Least c
+    beside rest w = elim (is_other_below w.0 x) [
+      | inl k ↦ (let l = from_first rest in (l.0, l.1, l.2, below-trans l.3 (below-trans k.1 w.3)))
+      | inr n ↦ (w.0, inr w.1, (λ h. elim h [ inl k ↦ n k | inr k ↦ w.2 k ]), w.3)
+    ]
+
+-- A reduced sort and the sort are each below the other.
+pub reduced_equivalent : (A : Algebra) → IsDecided A → IsAntisymmetric A → (s r : List ℕ) → IsReduced A s r → IsSortBelow A r s × IsSortBelow A s r
+reduced_equivalent A decided anti s r reduced = (
+  each_of (HasClassBelow A r) s (λ c m. (let w = least_below A decided anti s c m in any_of (λ b. IsClassBelow A b c) w.0 r ((reduced w.0).1 (w.1, w.2)) w.3)),
+  each_of (HasClassBelow A s) r (λ c m. any_of (λ b. IsClassBelow A b c) c s ((reduced c).0 m).0 itself),
+)
+
+-- No class of a reduced sort is above another one of it.
+pub reduced_least : (A : Algebra) (s r : List ℕ) → IsReduced A s r → (b c : ℕ) → IsIn b r → IsIn c r → IsClassBelow A b c → b ≡ c
+reduced_least A s r reduced b c m n below = elim (eqb_tells b c) [
+  | inl w ↦ w.1
+  | inr w ↦ absurd (((reduced c).0 n).1 (any_of (λ x. (¬ (x ≡ c)) × IsClassBelow A x c) b s ((reduced b).0 m).0 (w.1, below)))
+]
 
 -- A class of s that has no other of s below it is in each sort r with which s is below each other.
 least_in_both : (A : Algebra) → IsAntisymmetric A → (s r : List ℕ) → IsSortBelow A s r → IsSortBelow A r s → (c : ℕ) → IsIn c s → ¬ IsAboveAnother A s c → IsIn c r

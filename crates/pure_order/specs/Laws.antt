@@ -1,9 +1,10 @@
 -- Laws of the order of classes and sorts, of the types of a sort, and of the algebras of declarations.
-use Rattle.std.specs.Prelude.{◌≡◌, ◌↔◌, ℕ, List}
+use Rattle.std.specs.Prelude.{◌↔◌, ℕ, List, []}
 use Rattle.pure_text.specs.Lists.{IsIn}
 use Rattle.pure_definitions.specs.Typ.{Typ}
 use Rattle.pure_definitions.specs.Order.{Class, Arity, Algebra, IsClassBelow, IsSortBelow, IsOfClass, IsOfSort, IsCoregular}
 use Rattle.pure_definitions.specs.Subst.{typ_instance, IsSortRespecting}
+use Rattle.pure_order_tables.specs.Classes.{Follows, IsAntisymmetric, of_classes}
 use Rattle.pure_order.specs.Domains.{IsReduced}
 
 -- What is below a class that is below another is below the other.
@@ -28,9 +29,9 @@ OfSortGoesUp = (A : Algebra) (t : Typ) (s r : List ℕ) → IsOfSort A t s → I
 abbrev pub OfSortUnderMap : Type 0
 OfSortUnderMap = (A : Algebra) (typs : Typ → Typ) → IsSortRespecting A typs → (t : Typ) (s : List ℕ) → IsOfSort A t s → IsOfSort A (typ_instance typs t) s
 
--- No two classes are below each other.
-abbrev pub IsAntisymmetric : Algebra → Type 0
-IsAntisymmetric A = (c d : ℕ) → IsClassBelow A c d → IsClassBelow A d c → c ≡ d
+-- Where each class is declared once, and after those above it, no two classes are below each other.
+abbrev pub DeclaredInOrderIsAntisymmetric : Type 0
+DeclaredInOrderIsAntisymmetric = (cs : List Class) → Follows [] cs → IsAntisymmetric (of_classes cs)
 
 -- Where no two classes are below each other, sorts that are below each other have the same classes once they are reduced.
 abbrev pub ReducedIsOne : Type 0

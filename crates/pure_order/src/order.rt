@@ -1,14 +1,14 @@
 //! The algebra of declared classes and arities, its questions and its declarations.
-ghost use Rattle.std.specs.Prelude.{◌≡◌, ◌↔◌, ℕ, [], ◌∷◌, IsTrue, OnOk, OnErr, IfOk, IfErr, IfSome, MatchOption};
+ghost use Rattle.std.specs.Prelude.{◌≡◌, ◌↔◌, ℕ, [], IsTrue, OnOk, OnErr, IfOk, IfErr, IfSome, MatchOption};
 ghost use Rattle.std.specs.List.Sorted.{IsStrictlyIncreasing};
-ghost use Rattle.pure_text.specs.Lists.{IsIn, Each, AnyOf};
+ghost use Rattle.pure_text.specs.Lists.{IsIn, Each};
 ghost use Rattle.pure_definitions.specs.Typ.{Typs, Con};
 ghost use Rattle.pure_definitions.specs.Order.{Arity, IsClassBelow, IsSortBelow, IsOfClass, IsOfSort, AreOfSorts, IsCoregular};
-ghost use Rattle.pure_order_tables.specs.Classes.{Agree, IsDeclared};
+ghost use Rattle.pure_order_tables.specs.Classes.{Agree, IsAntisymmetric, IsDeclared};
 ghost use Rattle.pure_order_tables.specs.Arities.{IsArityBelow, IsKnown, IsUnion, with_class, with_arity};
 ghost use Rattle.pure_order_tables.specs.Checks.{IsDirected};
 ghost use Rattle.pure_order.specs.Domains.{AreGreatestDomains, IsAboveAnother, IsReduced};
-ghost use Rattle.pure_order_tables.specs.Unknown.{IsFirstUnknown, HasArityFor, joined, names_of};
+ghost use Rattle.pure_order_tables.specs.Unknown.{HasArityFor};
 ghost use Rattle.pure_order.specs.FaultView.{IsClassFault, IsArityFault, IsMergeFault};
 
 use crate::fault::OrderFault;
@@ -67,6 +67,16 @@ impl Order {
         match self.tables.above(class) {
             None => None,
             Some(names) => Some(names),
+        }
+    }
+
+    /// The domains of a declared arity of the constructor for the class itself, the first one; none where there is none.
+    pub fn arity(&self, con: Name, class: Name) -> Option<&[Sort]>
+        ensures { MatchOption result (¬ HasArityFor self.now con class) (λ domains. IsIn (record { con = con; domains = domains.now; class = class }) self.now.arities) }
+    {
+        match self.tables.arity(con, class) {
+            None => None,
+            Some(domains) => Some(domains),
         }
     }
 
@@ -227,10 +237,16 @@ impl Order {
         other.0 != class.0 && self.below(other, class)
     }
 
-    /// The sort without its classes that are above another one.
+    /// The sort without its classes that are above another one. It is below the sort and above it, and none of its
+    /// classes is above another, since no two classes are below each other.
     pub fn reduce(&self, alloc: Global, s: &Sort) -> Result<Sort, AllocError>
-        ensures { IfOk result (IsReduced self.now s.now) }
+        ensures reduced { IfOk result (IsReduced self.now s.now) }
+        ensures below { IfOk result (λ r. IsSortBelow self.now r s.now × IsSortBelow self.now s.now r) }
+        ensures least { IfOk result (λ r. (b c : ℕ) → IsIn b r → IsIn c r → IsClassBelow self.now b c → b ≡ c) }
+        ensures antisymmetric { IsAntisymmetric self.now }
     {
+        self.tables.order_is_decided();
+        self.tables.classes_are_apart();
         let mut classes = Vec::new(alloc);
         for class in s.classes() {
             if !self.is_above_another(s.classes(), *class) {

@@ -82,3 +82,7 @@ pub entries-one_arity : (cs : List Class) (es es' : List ArityEntry) (e : ArityE
 entries-one_arity cs es es' e B old new places same longer t known right updates =
     let is : IsKnown cs (arity_of e) = subst (λ (X : Algebra). IsKnown X.classes (arity_of e)) (sym same) known in
     rw (longer, map-append arity_of es (e ∷ [])) (table-one_arity (algebra_of cs es) (arity_of e) old new places t is (subst (λ (X : Algebra). ArePlaces (with_arity X (arity_of e)) e.con (get nat_cmp places)) (sym same) right) updates)
+
+-- The entry of a constructor for a class, by its parts.
+pub arity_in : (e : ArityEntry) (con class : ℕ) (domains : List (List ℕ)) (arities : List Arity) → ((e.con ≡ con) × (e.class ≡ class)) → domains ≡ e.domains.items → IsIn (arity_of e) arities → IsIn (record { con = con; domains = domains; class = class }) arities
+arity_in e con class domains arities named same m = rw (← named.0, ← named.1, same) m

@@ -1,11 +1,12 @@
 -- The class order: chains of paths, and what one more class changes.
-use Rattle.std.proofs.Common.{◌≡◌, ℕ, List, [], ◌∷◌, ◌++◌, refl, ap, sym, inl, inr, ◌↔◌, append_assoc, append-nil, ◌∙◌, subst, Bool, IsTrue}
+use Rattle.std.proofs.Common.{◌≡◌, ℕ, List, [], ◌∷◌, ◌++◌, refl, ap, sym, inl, inr, ◌⊎◌, ◌↔◌, append_assoc, append-nil, ◌∙◌, subst, Bool, IsTrue}
+use Rattle.std.proofs.lemmas.Bool.Decides.{eqb_tells}
 use Rattle.pure_order_tables.specs.Checks.{IsDecided}
 use Rattle.pure_text.specs.Lists.{IsIn, Each}
 use Rattle.pure_definitions.specs.Order.{Class, Algebra, IsClassBelow, itself, along}
 use Rattle.pure_text.proofs.ListLaws.{any_of, in_split, each_at, any-append_left}
 use Rattle.pure_definitions.proofs.OrderLaws.{below-more}
-use Rattle.pure_order_tables.specs.Classes.{IsDeclared, Follows, of_classes}
+use Rattle.pure_order_tables.specs.Classes.{IsDeclared, IsAntisymmetric, Follows, of_classes}
 
 pub declared : (cs : List Class) (k : Class) (c : ℕ) → IsIn k cs → k.name ≡ c → IsDeclared cs c
 declared cs k c m e = any_of (λ l. l.name ≡ c) k cs m e
@@ -41,6 +42,35 @@ pub follows-one_more : (done ks : List Class) (k : Class) → Follows done ks �
 follows-one_more done [] k f fresh known = (rw append-nil at fresh, rw append-nil at known, tt)
 follows-one_more done (l ∷ ls) k f fresh known = (f.0, f.1, follows-one_more (done ++ l ∷ []) ls k f.2 (rw (append_assoc done (l ∷ []) ls) fresh) (rw (append_assoc done (l ∷ []) ls) known))
 
+-- What is above a class is the class or declared.
+reaches : (A : Algebra) → Follows [] A.classes → {c d : ℕ} → IsClassBelow A c d → (c ≡ d) ⊎ IsDeclared A.classes d
+reaches A f itself = inl refl
+reaches A f (along {b = b} {d = d} i h) = elim (reaches A f h) [ inl e ↦ inr (declared_at A.classes b d e (above_declared [] A.classes i.0 b f i.1 i.3)) | inr m ↦ inr m ]
+
+-- One more class keeps any two classes from being below each other.
+antisymmetric-one_more : (cs : List Class) (k : Class) → Follows [] cs → ¬ IsDeclared cs k.name → IsAntisymmetric (of_classes cs) → IsAntisymmetric (of_classes (cs ++ k ∷ []))
+antisymmetric-one_more cs k f fresh anti c d h g = elim (eqb_tells c k.name) [
+  | inl w ↦ elim (eqb_tells d k.name) [
+    | inl v ↦ w.1 ∙ sym v.1
+    | inr v ↦ elim (reaches (of_classes cs) f (old d c v.1 g)) [ inl e ↦ sym e | inr m ↦ absurd (fresh (declared_at cs c k.name w.1 m)) ]
+  ]
+  | inr w ↦ elim (eqb_tells d k.name) [
+    | inl v ↦ elim (reaches (of_classes cs) f (old c d w.1 h)) [ inl e ↦ e | inr m ↦ absurd (fresh (declared_at cs d k.name v.1 m)) ]
+    | inr v ↦ anti c d (old c d w.1 h) (old d c v.1 g)
+  ]
+]
+  where
+    old : (c d : ℕ) → ¬ (c ≡ k.name) → IsClassBelow (of_classes (cs ++ k ∷ [])) c d → IsClassBelow (of_classes cs) c d
+    old c d other h = below-one_more (of_classes cs) (of_classes (cs ++ k ∷ [])) k refl f fresh c d other h
+
+antisymmetric-more : (done ks : List Class) → Follows [] done → Follows done ks → IsAntisymmetric (of_classes done) → IsAntisymmetric (of_classes (done ++ ks))
+antisymmetric-more done [] f g anti = rw append-nil anti
+antisymmetric-more done (k ∷ ks) f g anti = rw (sym (append_assoc done (k ∷ []) ks)) (antisymmetric-more (done ++ k ∷ []) ks (follows-one_more [] done k f g.0 g.1) g.2 (antisymmetric-one_more done k f g.0 anti))
+
+-- Classes that are declared in order, each after those above it, are not below each other.
+pub antisymmetric : (cs : List Class) → Follows [] cs → IsAntisymmetric (of_classes cs)
+antisymmetric cs f = antisymmetric-more [] cs tt f (λ c d h g. below-undeclared (of_classes []) c d (λ m. m) h)
+
 -- The order is that of the classes alone.
 pub below-classes : (A : Algebra) (c d : ℕ) → IsClassBelow (of_classes A.classes) c d ↔ IsClassBelow A c d
 below-classes A c d = (λ h. below-more (of_classes A.classes) A (λ k m. m) h, λ h. below-more A (of_classes A.classes) (λ k m. m) h)
@@ -50,6 +80,9 @@ below-at A B b c d same h = rw (← same) (λ t. (below-classes A c d).0 (h.0 t)
 
 pub decided_at : (A B : Algebra) → A ≡ B → IsDecided (of_classes A.classes) → IsDecided B
 decided_at A B same h = subst IsDecided same (λ c d. elim (h c d) [ inl k ↦ inl ((below-classes A c d).0 k) | inr n ↦ inr (λ k. n ((below-classes A c d).1 k)) ])
+
+pub antisymmetric_at : (A B : Algebra) → A ≡ B → IsAntisymmetric (of_classes A.classes) → IsAntisymmetric B
+antisymmetric_at A B same h = subst IsAntisymmetric same (λ c d k g. h c d ((below-classes A c d).1 k) ((below-classes A d c).1 g))
 
 pub below_iff : (A B : Algebra) → A ≡ B → (c d : ℕ) → IsClassBelow (of_classes A.classes) c d ↔ IsClassBelow B c d
 below_iff A B same c d = subst (λ (X : Algebra). IsClassBelow (of_classes A.classes) c d ↔ IsClassBelow X c d) same (below-classes A c d)

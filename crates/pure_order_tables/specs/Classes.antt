@@ -1,7 +1,7 @@
 -- Declared classes, in the order of their declarations.
 use Rattle.std.specs.Prelude.{◌≡◌, ℕ, List, [], ◌∷◌, ◌++◌}
 use Rattle.pure_text.specs.Lists.{IsIn, Each, AnyOf}
-use Rattle.pure_definitions.specs.Order.{Class, Algebra}
+use Rattle.pure_definitions.specs.Order.{Class, Algebra, IsClassBelow}
 
 -- The class is declared.
 abbrev pub IsDeclared : List Class → ℕ → Type 0
@@ -15,6 +15,10 @@ Follows done (k ∷ ks) = (¬ IsDeclared done k.name) × Each (IsDeclared done) 
 -- the algebra of these classes, without arities
 abbrev pub of_classes : List Class → Algebra
 of_classes cs = record { classes = cs; arities = [] }
+
+-- No two classes are below each other.
+abbrev pub IsAntisymmetric : Algebra → Type 0
+IsAntisymmetric A = (c d : ℕ) → IsClassBelow A c d → IsClassBelow A d c → c ≡ d
 
 -- The second declaration is the same as the first, if it is of the same class.
 abbrev pub IsSameIfNamed : Class → Class → Type 0

@@ -1,7 +1,7 @@
 //! The test of a new arity: which classes it would be in conflict at.
-ghost use Rattle.std.specs.Prelude.{◌≡◌, ◌↔◌, ◌⊎◌, ℕ, IsTrue, IfOk, MatchBool, MatchOption};
+ghost use Rattle.std.specs.Prelude.{◌⊎◌, ℕ, IfOk, MatchBool, MatchOption};
 ghost use Rattle.std.specs.Bool.{OnTrue};
-ghost use Rattle.pure_text.specs.Lists.{IsIn, AnyOf, EachTwo};
+ghost use Rattle.pure_text.specs.Lists.{IsIn, AnyOf};
 ghost use Rattle.pure_definitions.specs.Order.{AreDomainsBelow, IsClassBelow, IsCoregular};
 ghost use Rattle.pure_order_tables.specs.Arities.{with_arity};
 ghost use Rattle.pure_order_tables.specs.Classes.{IsDeclared};

@@ -3,7 +3,7 @@ ghost use Rattle.std.specs.Prelude.{◌≡◌, ◌↔◌, ◌⊎◌, ℕ, [], �
 ghost use Rattle.std.specs.List.Sorted.{IsStrictlyIncreasing};
 ghost use Rattle.pure_text.specs.Lists.{IsIn, Each, AnyOf};
 ghost use Rattle.pure_definitions.specs.Order.{Class, IsClassBelow};
-ghost use Rattle.pure_order_tables.specs.Classes.{Agree, Follows, IsDeclared, IsSameIfNamed, of_classes};
+ghost use Rattle.pure_order_tables.specs.Classes.{Agree, Follows, IsAntisymmetric, IsDeclared, IsSameIfNamed, of_classes};
 ghost use Rattle.pure_order_tables.specs.Checks.{IsDecided};
 ghost use Rattle.pure_order_tables.specs.ClassTable.{AreAllAbove};
 ghost use Rattle.pure_order_tables.specs.ClassView.{class_of, classes_of};
@@ -94,6 +94,13 @@ impl ClassTable {
     /// The order is decided.
     pub(crate) fn order_is_decided(&self)
         ensures { IsDecided (of_classes self.now) }
+    {
+        let _ = &self.up;
+    }
+
+    /// No two classes are below each other.
+    pub(crate) fn classes_are_apart(&self)
+        ensures { IsAntisymmetric (of_classes self.now) }
     {
         let _ = &self.up;
     }

@@ -1,11 +1,10 @@
 //! The conflicts among the declared arities, and the least of them.
-ghost use Rattle.std.specs.Prelude.{◌≡◌, ◌↔◌, ◌⊎◌, ◌≤◌, ◌<◌, ℕ, IsTrue, IfOk, MatchOption};
+ghost use Rattle.std.specs.Prelude.{◌≡◌, ◌⊎◌, ◌<◌, ℕ, IfOk, MatchOption};
 ghost use Rattle.std.specs.Bool.{OnTrue};
 ghost use Rattle.std.specs.List.Sorted.{IsStrictlyIncreasing};
-ghost use Rattle.pure_text.specs.Lists.{IsIn, Each, AnyOf, EachTwo};
-ghost use Rattle.pure_definitions.specs.Order.{Arity, IsClassBelow, IsSortBelow, IsCoregular};
+ghost use Rattle.pure_text.specs.Lists.{IsIn, Each};
+ghost use Rattle.pure_definitions.specs.Order.{IsClassBelow, IsCoregular};
 ghost use Rattle.pure_order_tables.specs.ArityView.{arity_of};
-ghost use Rattle.pure_order_tables.specs.Arities.{IsArityBelow};
 ghost use Rattle.pure_order_tables.specs.Checks.{FindsPair, IsBelowOf, IsDirected, IsLeastConflict};
 
 use crate::names::{lesser_pair, put};

@@ -1,11 +1,11 @@
 //! The declared classes and arities, and the place of the greatest arity of each constructor for each class.
-ghost use Rattle.std.specs.Prelude.{◌≡◌, ◌↔◌, ◌⊎◌, ℕ, [], ◌∷◌, ◌++◌, IsTrue, OnOk, OnErr, IfOk, IfSome, MatchBool, MatchOption, length};
+ghost use Rattle.std.specs.Prelude.{◌≡◌, ◌↔◌, ◌⊎◌, ℕ, [], IsTrue, OnOk, OnErr, IfOk, IfSome, MatchBool, MatchOption, length};
 ghost use Rattle.std.specs.BTreeMap.{get};
 ghost use Rattle.std.specs.Ordering.{nat_cmp};
 ghost use Rattle.std.specs.List.Sorted.{IsStrictlyIncreasing};
-ghost use Rattle.pure_text.specs.Lists.{IsIn, Each, AnyOf, EachTwo};
+ghost use Rattle.pure_text.specs.Lists.{IsIn, Each, EachTwo};
 ghost use Rattle.pure_definitions.specs.Order.{Arity, IsClassBelow, HasClassBelow, IsSortBelow, IsCoregular};
-ghost use Rattle.pure_order_tables.specs.Classes.{Agree, IsDeclared};
+ghost use Rattle.pure_order_tables.specs.Classes.{Agree, IsAntisymmetric, IsDeclared};
 ghost use Rattle.pure_order_tables.specs.Arities.{IsArityBelow, IsGreatestIfAny, IsAboveGreatest, IsKnown, IsNotAbove, IsUnion, with_class, with_arity};
 ghost use Rattle.pure_order_tables.specs.Checks.{IsDecided};
 ghost use Rattle.pure_order_tables.specs.ArityView.{arity_of, arities_of};
@@ -147,6 +147,13 @@ impl Tables {
         ensures { IsDecided self.now }
     {
         self.classes.order_is_decided();
+    }
+
+    /// No two classes are below each other.
+    pub fn classes_are_apart(&self)
+        ensures { IsAntisymmetric self.now }
+    {
+        self.classes.classes_are_apart();
     }
 
     /// The place of an arity of the constructor for a class below this one, the greatest if there is a greatest.

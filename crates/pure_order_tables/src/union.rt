@@ -1,12 +1,12 @@
 //! The arities of two tables united.
 ghost use Rattle.std.specs.Prelude.{◌≡◌, ◌↔◌, ◌⊎◌, IsTrue, OnOk, IfOk};
 ghost use Rattle.pure_text.specs.Lists.{IsIn, Each};
-ghost use Rattle.pure_definitions.specs.Order.{Arity, Class};
+ghost use Rattle.pure_definitions.specs.Order.{Arity};
 ghost use Rattle.pure_order_tables.specs.ArityView.{arity_of, arities_of};
 ghost use Rattle.pure_order_tables.specs.Arities.{IsKnown};
 
 use crate::tables::{ArityEntry, Tables};
-use pure_typ::{Name, Sort};
+use pure_typ::Sort;
 use std::alloc::{AllocError, Global};
 
 /// Whether the sorts are the same.

@@ -1,6 +1,6 @@
 //! What is declared of the names in a declaration.
 ghost use Rattle.std.specs.Prelude.{◌≡◌, ◌↔◌, IsTrue, MatchOption};
-ghost use Rattle.pure_text.specs.Lists.{Each};
+ghost use Rattle.pure_text.specs.Lists.{Each, IsIn};
 ghost use Rattle.pure_order_tables.specs.Classes.{IsDeclared};
 ghost use Rattle.pure_order_tables.specs.Unknown.{HasArityFor, IsFirstUnknown, joined};
 
@@ -39,15 +39,25 @@ impl Tables {
         None
     }
 
+    /// The domains of the constructor's first declared arity for the class.
+    pub fn arity(&self, con: Name, class: Name) -> Option<&[Sort]>
+        ensures { MatchOption result (¬ HasArityFor self.now con class) (λ domains. IsIn (record { con = con; domains = domains.now; class = class }) self.now.arities) }
+    {
+        for arity in self.arities() {
+            if is_for(arity, con, class) {
+                return Some(arity.domains.as_slice());
+            }
+        }
+        None
+    }
+
     /// Whether the constructor has a declared arity for the class.
     pub fn has_arity(&self, con: Name, class: Name) -> bool
         ensures { IsTrue result ↔ HasArityFor self.now con class }
     {
-        for arity in self.arities() {
-            if is_for(arity, con, class) {
-                return true;
-            }
+        match self.arity(con, class) {
+            None => false,
+            Some(_) => true,
         }
-        false
     }
 }

@@ -11,7 +11,7 @@ use std::test::Fail;
 // Asked: a declaration, with its refusal as the answer (`?g` an unknown class, `twice`, `!Kcd` a conflict of K's
 // arities for c and d, nothing where there is none); `@c` whether c is declared; `+c` the classes above c; `cd<e`
 // whether a sort is below another; `=cd` a sort reduced; `.Kc` the greatest domains of K for c, each with a `/` behind
-// it; `KI:cd` whether a type is of a sort.
+// it, and `#Kc` those of K's arity for c itself; `KI:cd` whether a type is of a sort.
 
 /// What is refused, and what isn't.
 static REFUSALS: [(&[u8], &[u8], &[u8]); 18] = [
@@ -66,12 +66,15 @@ static CLASSES: [(&[u8], &[u8], &[u8]); 24] = [
 ];
 
 /// Arities and types.
-static TYPES: [(&[u8], &[u8], &[u8]); 31] = [
+static TYPES: [(&[u8], &[u8], &[u8]); 34] = [
     (b"e< c<e d<e K:c/=c", b".Kd", b"none"),
     (b"e< c<e d<e K:c/=c", b".Ke", b"c/"),
     (b"e< c<e d<e K:c/=c K:e/=e K:d/=d", b".Ke", b"e/"),
     (b"e< c<e d<e K:c/=c K:e/=e K:d/=d", b".Kd", b"d/"),
     (b"c< P:c//=c", b".Pc", b"c//"),
+    (b"c< d<c K:d/=d", b"#Kd", b"d/"),
+    (b"c< d<c K:d/=d", b"#Kc", b"none"),
+    (b"c< d<c K:d/=d", b".Kc", b"d/"),
     // A constructor without arguments has no domain, which is not to have no arity.
     (b"c< I:=c", b".Ic", b""),
     (b"c< d< I:=c", b".Id", b"none"),
@@ -178,10 +181,17 @@ fn sorts(alloc: Global, domains: &[Sort]) -> Result<Vec<u8>, AllocError> {
 }
 
 fn domains(alloc: Global, order: &Order, asked: &[u8]) -> Result<Vec<u8>, AllocError> {
-    if asked.len() < 2 {
+    if asked.len() < 3 {
         return Ok(Vec::new(alloc));
     }
-    match order.domains(name(asked[0]), name(asked[1])) {
+    let con = name(asked[1]);
+    let class = name(asked[2]);
+    let found = if asked[0] == b'#' {
+        order.arity(con, class)
+    } else {
+        order.domains(con, class)
+    };
+    match found {
         Some(domains) => sorts(alloc, domains),
         None => Vec::from_slice(alloc, b"none"),
     }
@@ -250,7 +260,7 @@ fn answer(alloc: Global, order: &Order, asked: &[u8]) -> Result<Vec<u8>, AllocEr
         b'@' if asked.len() == 2 => yes_or_no(alloc, order.is_declared(name(asked[1]))),
         b'+' if asked.len() == 2 => above(alloc, order, asked[1]),
         b'=' => reduced(alloc, order, &asked[1..]),
-        b'.' => domains(alloc, order, &asked[1..]),
+        b'.' | b'#' => domains(alloc, order, asked),
         _ => related(alloc, order, asked),
     }
 }

@@ -1,6 +1,7 @@
 use Rattle.std.proofs.Common.{take_all}
 use Rattle.pure_text.proofs.AnswerLaws.{test_fails}
 use Rattle.pure_order.specs.Domains.{IsAboveAnother}
+use Rattle.pure_order.proofs.AlgebraLaws.{reduced_equivalent, reduced_least}
 use Rattle.pure_order.proofs.ReduceLaws.{kept_one, dropped_one}
 use Rattle.pure_order.proofs.order.Order.reduce.Goals as goal
 use Rattle.pure_order.proofs.order.Order.reduce.Goals.{then-not-is_above_another+in_ok-push, else-not-is_above_another}
@@ -13,7 +14,17 @@ loop-class-preserved c = elim c.if-not-is_above_another.branch [
       (λ n. n (rw c.classes.ensures.are at (c.is_above_another.ensures.0 w.if-not-is_above_another.false))) c.loop-class.invariant)
 ]
 
-pub returns : goal.returns
-returns c =
+pub returns-clause-reduced : goal.returns-clause-reduced
+returns-clause-reduced c =
     let all = rw (take_all c.loop-class.class-index c.classes-class-items.result.now c.loop-class-test.false, c.classes-class-items.ensures.are) at c.loop-class.invariant in
     rw c.make.ensures all.are
+
+pub returns-clause-below : goal.returns-clause-below
+returns-clause-below c =
+    let all = rw (take_all c.loop-class.class-index c.classes-class-items.result.now c.loop-class-test.false, c.classes-class-items.ensures.are) at c.loop-class.invariant in
+    rw c.make.ensures (reduced_equivalent c.args.self.now (rw c.self.view_is at c.order_is_decided.ensures) (rw c.self.view_is at c.classes_are_apart.ensures) c.args.s.now c.loop-class.classes.items all.are)
+
+pub returns-clause-least : goal.returns-clause-least
+returns-clause-least c =
+    let all = rw (take_all c.loop-class.class-index c.classes-class-items.result.now c.loop-class-test.false, c.classes-class-items.ensures.are) at c.loop-class.invariant in
+    rw c.make.ensures (reduced_least c.args.self.now c.args.s.now c.loop-class.classes.items all.are)

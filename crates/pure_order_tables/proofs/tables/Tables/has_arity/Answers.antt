@@ -1,22 +1,8 @@
-use Rattle.std.proofs.Common.{◌≡◌, take_all, inl, inr}
+use Rattle.std.proofs.Common.{◌≡◌, refl}
+use Rattle.pure_text.proofs.AnswerLaws.{yes_as}
+use Rattle.pure_text.proofs.ListLaws.{any_of}
 use Rattle.pure_definitions.specs.Order.{Arity}
-use Rattle.pure_order_tables.specs.ArityView.{arity_of}
-use Rattle.pure_order_tables.specs.declared.tables.ArityEntry.{ArityEntry}
-use Rattle.pure_text.proofs.AnswerLaws.{yes_as, no_as, test_fails}
-use Rattle.pure_text.proofs.ListLaws.{any-map, any_read}
-use Rattle.pure_text.proofs.LoopLaws.{any_turn}
 use Rattle.pure_order_tables.proofs.tables.Tables.has_arity.Goals as goal
 
-pub returns-then-is_for : goal.returns-then-is_for
-returns-then-is_for c = yes_as _ (rw c.arities-arity-items.ensures.are at ((any-map arity_of (λ (b : Arity). (b.con ≡ c.args.con) × (b.class ≡ c.args.class)) c.arities-arity-items.result.now).1
-    (any_read (λ (e : ArityEntry). (e.con ≡ c.args.con) × (e.class ≡ c.args.class)) c.arities-arity-items.result.now c.loop-arity.arity-index c.arity-item.result c.loop-arity-test.true c.arity-item.is (c.is_for.ensures.0 c.if-is_for.true))))
-
-pub loop-arity-preserved : goal.loop-arity-preserved
-loop-arity-preserved c m = elim ((any_turn (λ (e : ArityEntry). (e.con ≡ c.args.con) × (e.class ≡ c.args.class)) c.arities-arity-items.result.now c.loop-arity.arity-index c.arity-item.result c.loop-arity-test.true c.arity-item.is).0 m) [
-  | inl before ↦ c.loop-arity.invariant before
-  | inr here ↦ test_fails _ c.is_for.result c.is_for.ensures c.if-is_for.false here
-]
-
-pub returns : goal.returns
-returns c = no_as _ (λ m. c.loop-arity.invariant (rw (take_all c.loop-arity.arity-index c.arities-arity-items.result.now c.loop-arity-test.false)
-    ((any-map arity_of (λ (b : Arity). (b.con ≡ c.args.con) × (b.class ≡ c.args.class)) c.arities-arity-items.result.now).0 (rw c.arities-arity-items.ensures.are m))))
+pub returns-in-Some : goal.returns-in-Some
+returns-in-Some c = yes_as _ (any_of (λ (b : Arity). (b.con ≡ c.args.con) × (b.class ≡ c.args.class)) _ c.args.self.now.arities c.in-Some.ensures (refl, refl))
