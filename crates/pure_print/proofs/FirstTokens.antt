@@ -4,17 +4,17 @@ use Rattle.std.specs.Prelude.{None, nat_eq}
 use Rattle.std.specs.List.{list_all}
 use Rattle.std.specs.Fmt.{decimal}
 use Rattle.std.proofs.lemmas.Fmt.{decimal_by_steps, length-decimal-le}
-use Rattle.std.proofs.lemmas.Bool.{and_parts, and_from, or_parts, or_cases, or_left, or_right, both_ways, eqb-true, cases_Bool, false_from_ne_true}
+use Rattle.std.proofs.lemmas.Bool.{and_parts, and_from, or_parts, both_ways, eqb-true, cases_Bool, false_from_ne_true}
 use Rattle.std.proofs.lemmas.Bool.Decides.{nat_tests}
 use Rattle.std.proofs.lemmas.List.Folds.{list_all-append}
 use Rattle.pure_grammar.specs.declared.token.TokenKind.TheVariants.{Word, Ident, Qualified, TypeVar, Schem, BoundName}
 use Rattle.pure_grammar.specs.Bytes.{is_letter, is_digit, is_name_byte, is_empty, head_is, marked, behind}
-use Rattle.pure_grammar.specs.Token.{is_spelling, is_qualified, is_number, is_indexed, is_schematic, is_long, is_keyword, long_identifier, first_identifier, second_identifier, tail}
+use Rattle.pure_grammar.specs.Token.{is_spelling, is_qualified, is_number, is_indexed, is_long, is_keyword, long_identifier, first_identifier, second_identifier, tail}
 use Rattle.pure_grammar.specs.Spelling.{IsFirst}
 use Rattle.pure_grammar.proofs.Indexed.{letter-not_mark}
 use Rattle.pure_grammar.proofs.Classes.{one_kind}
 use Rattle.pure_lex.specs.Fronts.{IsLongest, is_index, name_kind}
-use Rattle.pure_lex.proofs.Longest.{head_is-front, behind-is, longest-marked, longest-named, longest-number, longest-index, longest-no_index, is_long-short}
+use Rattle.pure_lex.proofs.Longest.{behind-is, longest-marked, longest-named, longest-number, longest-index, longest-no_index, is_long-short}
 use Rattle.pure_lex.proofs.Firsts.{first-longest, first-name, first-qualified, spelling-name, dot-stops}
 use Rattle.pure_lex.proofs.NameFronts.{name_kind-identifier, name_kind-second, long-none, all-short}
 use Rattle.pure_lex.proofs.MarkFronts.{longest-one, longest-two}

@@ -1,11 +1,10 @@
 -- What is read so far, and what it says in the end.
-use Rattle.std.proofs.Common.{◌≡◌, ℕ, zero, suc, ◌+◌, ◌-◌, ◌<◌, ◌≤◌, List, [], ◌∷◌, length, drop, get_or, refl, sym, ◌∙◌, ap, subst, arith, drop-cons, length-drop}
+use Rattle.std.proofs.Common.{◌≡◌, ℕ, suc, ◌+◌, ◌-◌, ◌<◌, ◌≤◌, List, [], ◌∷◌, length, drop, get_or, refl, sym, ◌∙◌, ap, arith, drop-cons, length-drop}
 use Rattle.std.proofs.lemmas.List.{length-append, drop_all}
 use Rattle.std.specs.Prelude.{Bool, true, false, Option, Some, None}
 use Rattle.pure_grammar.specs.declared.token.Token.{Token}
 use Rattle.pure_grammar.specs.TheoryText.{TheoryText}
 use Rattle.pure_grammar.specs.Lexeme.{Lexeme, Ends, lexeme, lexemes}
-use Rattle.pure_grammar.specs.Spelling.{IsSlice, AreSlices}
 use Rattle.pure_grammar.specs.Outer.{SpellsTheory, HasSyntaxFault, place_of}
 use Rattle.pure_grammar.specs.Reader as spec
 use Rattle.pure_grammar.specs.Reader.{AtStart, AtLast, Through, Stuck, goes_on, next, run, expected}

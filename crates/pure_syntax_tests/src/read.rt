@@ -4,7 +4,7 @@ mod tables;
 
 use pure_grammar::TokenKind;
 use pure_lex::tokens;
-use pure_read::{MAX_TOKENS, Raw, RawFault, RawNode, RawTyp, RawTypNode, read_raw, read_raw_typ};
+use pure_read::{Raw, RawFault, RawNode, RawTyp, RawTypNode, read_raw, read_raw_typ};
 use pure_text::Text;
 use std::alloc::Global;
 use std::process::Abort;
@@ -217,31 +217,24 @@ fn more_than_a_thousand_tokens_are_too_long(rt: HostRuntime) -> Result<(), Fail>
     check_enclosed(&rt, 501, true, b"too long")
 }
 
-/// This many names, one behind another.
-fn names(alloc: Global, count: usize) -> Result<Vec<u8>, Fail> {
-    let mut text = Vec::new(alloc);
-    for _ in 0..count {
-        say(&mut text, "f ")?;
-    }
-    Ok(text)
+/// Reads a name in 499 pairs of parentheses, which are 999 tokens, with more behind them.
+fn check_behind<R: Abort + AllocGlobal>(
+    rt: &R,
+    behind: &str,
+    as_typ: bool,
+    wanted: &[u8],
+) -> Result<(), Fail> {
+    let mut text = enclosed(rt.alloc(), 499)?;
+    say(&mut text, behind)?;
+    let found = shown(rt.alloc(), &text, as_typ)?;
+    assert_eq!(rt; found.as_slice(), wanted);
+    Ok(())
 }
 
 #[test]
 fn exactly_a_thousand_tokens_are_read(rt: HostRuntime) -> Result<(), Fail> {
-    let text = names(rt.alloc(), MAX_TOKENS)?;
-    let as_term = shown(rt.alloc(), &text, false)?;
-    assert!(rt; as_term.starts_with(b"(0 (0 (0 (0 "));
-    assert!(rt; as_term.ends_with(b" 1996:f) 1998:f)"));
-    let as_typ = shown(rt.alloc(), &text, true)?;
-    assert!(rt; as_typ.starts_with(b"0:f<0:f<0:f<0:f<"));
-    let longer = names(rt.alloc(), MAX_TOKENS + 1)?;
-    assert_eq!(rt;
-        shown(rt.alloc(), &longer, false)?.as_slice(),
-        b"too long".as_slice()
-    );
-    assert_eq!(rt;
-        shown(rt.alloc(), &longer, true)?.as_slice(),
-        b"too long".as_slice()
-    );
-    Ok(())
+    check_behind(&rt, " h", false, b"(0 499:f 1000:h)")?;
+    check_behind(&rt, " h h", false, b"too long")?;
+    check_behind(&rt, " k", true, b"0:k<499:f >")?;
+    check_behind(&rt, " k k", true, b"too long")
 }
