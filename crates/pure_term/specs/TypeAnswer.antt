@@ -12,7 +12,7 @@ use Rattle.pure_term.specs.declared.typing.TypeFault.TheVariants.{NotTyped, Memo
 -- the type that was found: one that stands in the term, or one that was made
 abbrev pub found_typ : Found → Typ
 found_typ (Lent t) = t.now
-found_typ (Made t) = t
+found_typ (Made t) = t.value
 
 -- the fault, with a place so much further on
 abbrev pub deeper_fault : ℕ → TypeFault → TypeFault

@@ -1,5 +1,6 @@
 //! The type of a term, or the place of its first node at fault.
-ghost use Rattle.std.specs.Prelude.{◌≡◌, ◌↔◌, IsTrue, [], MatchOption, IfOk};
+ghost use Rattle.std.specs.Prelude.{◌≡◌, ◌↔◌, IsTrue, [], MatchBool, MatchOption, IfOk};
+ghost use Rattle.pure_definitions.specs.Typ as tree;
 ghost use Rattle.pure_definitions.specs.Typ.{arrow};
 ghost use Rattle.pure_definitions.specs.Typing.{Takes};
 ghost use Rattle.pure_term.specs.Scope.{scope_typs};
@@ -33,7 +34,7 @@ impl From<AllocError> for TypeFault {
 #[derive(Drop)]
 enum Found<'t> {
     Lent(&'t Typ),
-    Made(Typ),
+    Made(Box<Typ>),
 }
 
 /// Whether functions of the first type take arguments of the second.
@@ -74,16 +75,45 @@ fn lent_range<'t>(function: &'t Typ, argument: &Typ) -> Option<&'t Typ>
     }
 }
 
-/// What a function of the first type gives for arguments of the second, where the type was made.
-fn made_range(mut function: Typ, argument: &Typ) -> Option<Typ>
-    ensures { MatchOption result (¬ Takes function argument.now) (λ range. function ≡ arrow argument.now range) }
+/// Puts a type in the place of another.
+fn put(old: &mut Typ, new: Typ)
+    ensures { old.new ≡ new }
 {
-    if !takes(&function, argument) {
-        return None;
-    }
+    *old = new;
+}
+
+/// Takes the last argument off a type, which of a type of functions is the range.
+fn popped(function: &mut Typ) -> Option<Typ>
+    ensures { (a : tree.Typ) → Takes function.old a → MatchOption result (¬ Takes function.old a) (λ range. function.old ≡ arrow a range) }
+{
     match &mut function.node {
         TypNode::Con { args, .. } => args.pop(),
         _ => None,
+    }
+}
+
+/// Whether functions of the first type take arguments of the second; if so, the range takes the place of the type.
+fn keeps_range(function: &mut Typ, argument: &Typ) -> bool
+    ensures { MatchBool result (function.old ≡ arrow argument.now function.new) (¬ Takes function.old argument.now) }
+{
+    if !takes(function, argument) {
+        return false;
+    }
+    let Some(range) = popped(function) else {
+        return false;
+    };
+    put(function, range);
+    true
+}
+
+/// What a function of the first type gives for arguments of the second, where the type was made.
+fn made_range(mut function: Box<Typ>, argument: &Typ) -> Option<Box<Typ>>
+    ensures { MatchOption result (¬ Takes function.value argument.now) (λ range. function.value ≡ arrow argument.now range.value) }
+{
+    if keeps_range(&mut function, argument) {
+        Some(function)
+    } else {
+        None
     }
 }
 
@@ -103,7 +133,7 @@ fn owned(alloc: Global, found: Found) -> Result<Typ, AllocError>
 {
     match found {
         Found::Lent(typ) => typ.copy(alloc),
-        Found::Made(typ) => Ok(typ),
+        Found::Made(typ) => Ok(Box::into_inner(typ)),
     }
 }
 
@@ -139,12 +169,13 @@ fn deeper(fault: TypeFault, by: u32) -> TypeFault
 
 /// The type of an abstraction over a variable of the first type, of a body of the second.
 #[inline(never)]
-fn abstraction_typ(alloc: Global, domain: &Typ, range: Found) -> Result<Typ, AllocError>
-    ensures { IfOk result (λ t. t ≡ arrow domain.now (found_typ range.entry)) }
+fn abstraction_typ(alloc: Global, domain: &Typ, range: Found) -> Result<Box<Typ>, AllocError>
+    ensures { IfOk result (λ t. t.value ≡ arrow domain.now (found_typ range.entry)) }
 {
     let range = owned(alloc, range)?;
     let domain = domain.copy(alloc)?;
-    Typ::arrow(alloc, domain, range)
+    let typ = Typ::arrow(alloc, domain, range)?;
+    Ok(Box::new(alloc, typ)?)
 }
 
 /// The type of the term in the scope, or its first node at fault. What isn't recursion stands in functions of its own, so that a deep term takes little stack.
