@@ -1,1 +1,3 @@
 pub mod ListLaws
+pub mod Joins
+pub mod TextSets
