@@ -6,6 +6,7 @@ use Rattle.std.specs.Ordering.{nat_cmp, is_eq}
 use Rattle.std.specs.Cmp.Lexicographic.{slice_cmp, same_text, texts_ties, nat_list_eq_equiv}
 use Rattle.std.specs.BTreeSet.{BTreeSet, contains, Updates}
 use Rattle.std.proofs.lemmas.List.{append_cancel_right, take_more, take_all}
+use Rattle.std.proofs.Math.Bool.{and-false, or-false, or-true}
 use Rattle.std.proofs.lemmas.List.Folds.{list_any-append}
 use Rattle.pure_first.specs.Token.{same, is_identifier}
 use Rattle.pure_check.specs.Table.{AreTheories, file_name}
@@ -28,23 +29,11 @@ other_stem name stem name_is not_one t is_one = differs (file_name t) name _ ref
 pub record HasTheories (found : BTreeSet (List ℕ)) (names : List (List ℕ)) : Type 0 where
   pub has : (t : List ℕ) → contains (slice_cmp nat_cmp) found t ≡ (is_identifier t && list_any (same (file_name t)) names)
 
-and_false : (b : Bool) → (b && false) ≡ false
-and_false true = refl
-and_false false = refl
-
-or_false : (b : Bool) → (b || false) ≡ b
-or_false true = refl
-or_false false = refl
-
-or_true : (b : Bool) → (b || true) ≡ true
-or_true true = refl
-or_true false = refl
-
 pub HasTheories-none : (found : BTreeSet (List ℕ)) → found.keys ≡ [] → HasTheories found []
-HasTheories-none found none = record { has = λ t. rw none (sym (and_false (is_identifier t))) }
+HasTheories-none found none = record { has = λ t. rw none (sym (and-false (is_identifier t))) }
 
 passed_over : (b any one : Bool) → (b ≡ true → one ≡ false) → (b && any) ≡ (b && (any || one))
-passed_over true any one h = rw (h refl) (sym (or_false any))
+passed_over true any one h = rw (h refl) (sym (or-false any))
 passed_over false any one h = refl
 
 pub HasTheories-other : (found : BTreeSet (List ℕ)) (names : List (List ℕ)) (name : List ℕ) → HasTheories found names
@@ -52,7 +41,7 @@ pub HasTheories-other : (found : BTreeSet (List ℕ)) (names : List (List ℕ)) 
 HasTheories-other found names name has none = record {
   has = λ t.
       has.has t ∙ passed_over (is_identifier t) (list_any (same (file_name t)) names) (same (file_name t) name) (none t)
-      ∙ ap (λ b. is_identifier t && b) (sym (list_any-append (same (file_name t)) names (name ∷ []) ∙ ap (λ b. list_any (same (file_name t)) names || b) (or_false (same (file_name t) name))));
+      ∙ ap (λ b. is_identifier t && b) (sym (list_any-append (same (file_name t)) names (name ∷ []) ∙ ap (λ b. list_any (same (file_name t)) names || b) (or-false (same (file_name t) name))));
 }
 
 -- the theory t when one more name is that of the file of the theory u
@@ -62,11 +51,11 @@ one_more u t any has is_one before true h =
     let u_is : u ≡ t = same_text u t h in
     let t_is_one : is_identifier t ≡ true = subst (λ w. is_identifier w ≡ true) u_is is_one in
     let alike : same (file_name t) (file_name u) ≡ true = ap (λ w. same (file_name t) (file_name w)) u_is ∙ nat_list_eq_equiv.refl (file_name t) in
-    rw (t_is_one, alike) (sym (or_true any))
+    rw (t_is_one, alike) (sym (or-true any))
 one_more u t any has is_one before false h =
     let apart : same (file_name t) (file_name u) ≡ false = differs (file_name t) (file_name u) _ refl (λ e. let same_theory : t ≡ u = append_cancel_right t u _ e in
     let yes_same : same u t ≡ true = ap (same u) same_theory ∙ nat_list_eq_equiv.refl u in cc) in
-    rw (apart, or_false any) before
+    rw (apart, or-false any) before
 
 pub HasTheories-more : (old new : BTreeSet (List ℕ)) (names : List (List ℕ)) (name u key : List ℕ) → HasTheories old names → is_identifier u ≡ true → name ≡ file_name u
     → key ≡ u → Updates (slice_cmp nat_cmp) old new key true → HasTheories new (names ++ name ∷ [])
@@ -75,7 +64,7 @@ HasTheories-more old new names name u key has is_one name_is key_is updates = re
       let at : is_eq (slice_cmp nat_cmp u t) ≡ same u t = sym (texts_ties u t) in
       updates.0 t ∙ ap (λ k. cond (is_eq (slice_cmp nat_cmp k t)) true (contains (slice_cmp nat_cmp) old t)) key_is ∙ one_more u t (list_any (same (file_name t)) names) (contains (slice_cmp nat_cmp) old t) is_one (has.has t) (is_eq (slice_cmp nat_cmp u t)) at
       ∙ ap (λ n. is_identifier t && (list_any (same (file_name t)) names || same (file_name t) n)) (sym name_is)
-      ∙ ap (λ b. is_identifier t && b) (sym (list_any-append (same (file_name t)) names (name ∷ []) ∙ ap (λ b. list_any (same (file_name t)) names || b) (or_false (same (file_name t) name))));
+      ∙ ap (λ b. is_identifier t && b) (sym (list_any-append (same (file_name t)) names (name ∷ []) ∙ ap (λ b. list_any (same (file_name t)) names || b) (or-false (same (file_name t) name))));
 }
 
 list_any-same : (p q : List ℕ → Bool) → ((x : List ℕ) → p x ≡ q x) → (xs : List (List ℕ)) → list_any p xs ≡ list_any q xs

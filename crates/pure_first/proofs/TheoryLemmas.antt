@@ -7,6 +7,7 @@ use Rattle.std.specs.BTreeSet.{BTreeSet, contains, Updates}
 use Rattle.std.specs.Ordering.{nat_cmp, is_eq}
 use Rattle.std.proofs.lemmas.Map.Keys.{IsDistinct-head, IsDistinct-tail, IsDistinct-push}
 use Rattle.std.specs.List.{AllByRecursion, IsDistinct, list_any}
+use Rattle.pure_text.proofs.TextSets.{contains-more}
 use Rattle.pure_first.specs.Token.{Word, Quote, Colon, Spells, same}
 use Rattle.pure_first.specs.Theory.{Lemma, IsLemma, IsStatement, IsFirstForm, statement_tokens, lemma_tokens, lemmas_tokens, theory_tokens, header_tokens, theory_word, begin_word, end_word, lemma_word, by_word, assumption_word}
 use Rattle.pure_first.specs.Reading.{Takes, TakesNo, TakesOne, TakesHeader, TakesLemma, TakesNoLemma, IsLemmaText}
@@ -216,27 +217,9 @@ pub record HasNames (names : BTreeSet (List ℕ)) (lemmas : List Lemma) : Type 0
 pub HasNames-none : (names : BTreeSet (List ℕ)) → names.keys ≡ [] → HasNames names []
 HasNames-none names none = record { has = λ q. rw none refl }
 
-cond_or : (a b : Bool) → cond a true b ≡ (b || a)
-cond_or true true = refl
-cond_or true false = refl
-cond_or false true = refl
-cond_or false false = refl
-
-list_any-append : (p : List ℕ → Bool) (xs ys : List (List ℕ)) → list_any p (xs ++ ys) ≡ (list_any p xs || list_any p ys)
-list_any-append p [] ys = refl
-list_any-append p (x ∷ xs) ys = ap (λ b. p x || b) (list_any-append p xs ys) ∙ sym (or_assoc (p x) (list_any p xs) (list_any p ys))
-
-or_false : (b : Bool) → (b || false) ≡ b
-or_false true = refl
-or_false false = refl
-
 pub HasNames-more : (old new : BTreeSet (List ℕ)) (lemmas : List Lemma) (l : Lemma) (name : List ℕ) → HasNames old lemmas → l.name ≡ name → Updates (slice_cmp nat_cmp) old new name true → HasNames new (lemmas ++ l ∷ [])
 HasNames-more old new lemmas l name has name_is updates = record {
-  has = λ q.
-      let step : contains (slice_cmp nat_cmp) new q ≡ cond (is_eq (slice_cmp nat_cmp name q)) true (contains (slice_cmp nat_cmp) old q) = updates.0 q in
-      let at : is_eq (slice_cmp nat_cmp name q) ≡ same q l.name = sym (texts_ties name q) ∙ nat_list_eq_equiv.symm name q ∙ ap (same q) (sym name_is) in
-      rw (map-append, list_any-append (same q) (names_of lemmas) (l.name ∷ []), or_false (same q l.name))
-      (step ∙ ap (λ b. cond b true (contains (slice_cmp nat_cmp) old q)) at ∙ ap (λ b. cond (same q l.name) true b) (has.has q) ∙ cond_or (same q l.name) (list_any (same q) (names_of lemmas)));
+  has = λ q. rw map-append (contains-more old new (names_of lemmas) l.name name has.has (sym name_is) updates q);
 }
 
 not_not : (b : Bool) → not (not b) ≡ b

@@ -3,7 +3,7 @@ use Rattle.std.proofs.Common.{◌≡◌, ℕ, zero, suc, ◌+◌, ◌/◌, ◌%�
 use Rattle.std.specs.Prelude.{slice_get, Some, None}
 use Rattle.std.specs.Fmt.{decimal}
 use Rattle.std.proofs.lemmas.Fmt.{decimal_step, decimal_digit}
-use Rattle.pure_print.proofs.Joins.{joined_2}
+use Rattle.pure_text.proofs.Joins.{joined_2}
 
 -- the numeral of what stands before the last digit, and the last digit
 pub numeral-step : (n : ℕ) (old t1 t2 : List ℕ) → 10 ≤ n → n < 2 ^ 64 → t1 ≡ old ++ decimal (n / 10) → t2 ≡ t1 ++ (48 + n % 10) ∷ [] → t2 ≡ old ++ decimal n

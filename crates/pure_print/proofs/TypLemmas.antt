@@ -5,7 +5,7 @@ use Rattle.std.proofs.lemmas.List.{take_all, length-drop}
 use Rattle.pure_definitions.specs.Typ.{Typ, Con, typs_of}
 use Rattle.pure_print.specs.NameText.{typ_name_text}
 use Rattle.pure_print.specs.TypText.{is_arrow_of, is_arrow, in_parentheses, typ_text, more_typs_text}
-use Rattle.pure_print.proofs.Joins.{joined_3, joined_5}
+use Rattle.pure_text.proofs.Joins.{joined_3, joined_5}
 
 pub arrow-two : (k : ℕ) (ts : List Typ) → length ts ≡ 2 → is_arrow_of k (typs_of ts) ≡ nat_eq k 0
 arrow-two k [] e = absurd (omega arith)

@@ -3,3 +3,4 @@ pub mod AscendingLaws
 pub mod ListLaws
 pub mod Joins
 pub mod LoopLaws
+pub mod TextSets

@@ -1,5 +1,5 @@
 use Rattle.pure_check.specs.Row.{proved_text, failed_text, colon_text, no_hypothesis_text}
-use Rattle.pure_check.proofs.RowLemmas.{joined_3, joined_4}
+use Rattle.pure_text.proofs.Joins.{joined_3, joined_4}
 use Rattle.pure_check.proofs.row.push_row.Goals as goal
 
 pub returns-in_ok-push_statement-in-Proved : goal.returns-in_ok-push_statement-in-Proved

@@ -1,6 +1,7 @@
 use Rattle.pure_check.specs.Row.{is_refused, is_proved, is_failed, total_text, theories_text, refused_count_text, proved_count_text, failed_count_text}
 use Rattle.pure_check.specs.Seen.{seen_row}
-use Rattle.pure_check.proofs.RowLemmas.{joined_9, count_by-map}
+use Rattle.pure_text.proofs.Joins.{joined_9}
+use Rattle.pure_check.proofs.RowLemmas.{count_by-map}
 use Rattle.pure_check.proofs.row.push_total.Goals as goal
 
 pub returns : goal.returns
