@@ -1,6 +1,6 @@
 -- What a row that is proved claims: its statement, generalised, is a theorem of Pure.
 use Rattle.std.specs.Prelude.{ℕ, List, map}
-use Rattle.pure_definitions.specs.Term.{Term}
+use Rattle.pure_definitions.specs.Terms.Term.{Term}
 use Rattle.pure_logic.specs.Connectives.{chain}
 use Rattle.pure_logic.specs.PureContent.{pure_content, proposition_variable}
 use Rattle.pure_logic.specs.Derivable.{IsDerivableAlone}

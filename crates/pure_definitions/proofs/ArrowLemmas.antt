@@ -2,8 +2,8 @@
 use Rattle.std.proofs.Common.{◌≡◌, ◌≢◌, ℕ, List, [], ◌∷◌, ◌++◌, length, get_or, refl, sym, ap, ◌∙◌, ◌↔◌, ◌<◌, lit<, arith}
 use Rattle.std.specs.Prelude.{Option, Some, None, MatchOption, IsSome}
 use Rattle.std.specs.Option.{option_to_list}
-use Rattle.pure_definitions.specs.Typ.{Typ, Con, none, also, typs_of, typ_list, arrow}
-use Rattle.pure_definitions.specs.Typing.{Takes}
+use Rattle.pure_definitions.specs.Types.Typ.{Typ, Con, none, also, typs_of, typ_list, arrow}
+use Rattle.pure_definitions.specs.Terms.Typing.{Takes}
 use Rattle.pure_definitions.specs.Models.Equality.{typ_list-typs_of}
 
 -- the arguments of a type of functions

@@ -1,10 +1,10 @@
 -- A term with a variable bound, by its size and its depth.
 use Rattle.std.proofs.Common.{◌≡◌, ◌≢◌, ℕ, ◌+◌, max, Bool, true, false, refl, ap, sym, ◌∙◌}
 use Rattle.std.specs.Prelude.{nat_lt, if◌then◌else◌}
-use Rattle.pure_definitions.specs.Typ.{typ_size, typ_depth}
-use Rattle.pure_definitions.specs.Term.{Term, Const, Free, Var, Bound, Abs, App, term_size, term_depth, term_eq}
-use Rattle.pure_definitions.specs.Bounds.{bind_under, abstract_over}
-use Rattle.pure_definitions.specs.Conditions.{IsVariable, variable_typ}
+use Rattle.pure_definitions.specs.Types.Typ.{typ_size, typ_depth}
+use Rattle.pure_definitions.specs.Terms.Term.{Term, Const, Free, Var, Bound, Abs, App, term_size, term_depth, term_eq}
+use Rattle.pure_definitions.specs.Terms.Bounds.{bind_under, abstract_over}
+use Rattle.pure_definitions.specs.Terms.Conditions.{IsVariable, variable_typ}
 use Rattle.pure_definitions.specs.Models.Equality.{term_eq-same, term_eq-itself}
 
 -- A test of equality fails where the terms differ.

@@ -2,9 +2,9 @@
 use Rattle.std.proofs.Common.{◌≡◌, ◌≢◌, ℕ, ◌+◌, ◌-◌, ◌<◌, ◌≤◌, max, refl, ap, sym, subst, ◌∙◌, arith}
 use Rattle.std.proofs.lemmas.Bool.Decides.{nat_tests}
 use Rattle.std.specs.Prelude.{Option, Some, None, nat_eq, nat_lt, true, false}
-use Rattle.pure_definitions.specs.Term.{Term, Bound, term_size, term_depth, IsWithin}
-use Rattle.pure_definitions.specs.Bounds.{lift_term, place_at, subst_under}
-use Rattle.pure_definitions.specs.Limits.{cut_off, Leaves}
+use Rattle.pure_definitions.specs.Terms.Term.{Term, Bound, term_size, term_depth, IsWithin}
+use Rattle.pure_definitions.specs.Terms.Bounds.{lift_term, place_at, subst_under}
+use Rattle.pure_definitions.specs.Terms.Limits.{cut_off, Leaves}
 use Rattle.pure_definitions.proofs.TermLemmas.{term_size-lift, term_depth-lift, term_depth-le-size}
 
 pub leaves-within : (t : Term) (rest : ℕ) → Leaves 200000 2000 (term_size t) (term_depth t) (Some rest) → IsWithin t

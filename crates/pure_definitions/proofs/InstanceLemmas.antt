@@ -2,10 +2,10 @@
 use Rattle.std.proofs.Common.{◌≡◌, ℕ, ◌+◌, ◌-◌, ◌<◌, ◌≤◌, List, [], ◌∷◌, ◌++◌, map, take, length, get_or, refl, ap, sym, ◌∙◌}
 use Rattle.std.proofs.lemmas.List.{get_or-map, length-map, take_all, map_more}
 use Rattle.std.specs.Prelude.{Some, None}
-use Rattle.pure_definitions.specs.Typ.{Typ, TFree, also, typs_of, typ_size, typ_depth, typs_size, typs_depth}
-use Rattle.pure_definitions.specs.Term.{Free}
-use Rattle.pure_definitions.specs.Subst.{TypBind, TermBind, typ_image, term_image, typ_instance, typs_instance}
-use Rattle.pure_definitions.specs.Limits.{Leaves}
+use Rattle.pure_definitions.specs.Types.Typ.{Typ, TFree, also, typs_of, typ_size, typ_depth, typs_size, typs_depth}
+use Rattle.pure_definitions.specs.Terms.Term.{Free}
+use Rattle.pure_definitions.specs.Terms.Subst.{TypBind, TermBind, typ_image, term_image, typ_instance, typs_instance}
+use Rattle.pure_definitions.specs.Terms.Limits.{Leaves}
 use Rattle.pure_definitions.proofs.LeavesLemmas.{HasPut, put-stops, put-goes_on}
 
 pub typ_image-fixed : (binds : List TypBind) (x : ℕ) (s : List ℕ) → typ_image binds (TFree x s) ≡ TFree x s

@@ -1,7 +1,7 @@
 -- Putting the types of a list into a room for nodes, one after another.
 use Rattle.std.proofs.Common.{◌≡◌, ℕ, ◌+◌, ◌-◌, ◌<◌, ◌≤◌, List, length, get_or, take, Some, None, arith}
-use Rattle.pure_definitions.specs.Typ.{Typ, typ_size, typs_size, typ_depth, typs_depth, typs_of}
-use Rattle.pure_definitions.specs.Limits.{Leaves}
+use Rattle.pure_definitions.specs.Types.Typ.{Typ, typ_size, typs_size, typ_depth, typs_depth, typs_of}
+use Rattle.pure_definitions.specs.Terms.Limits.{Leaves}
 use Rattle.pure_definitions.proofs.TypsLemmas.{typs_size-take, typs_depth-take, typs_size-take-le, typs_depth-take-le}
 
 -- After i types of the list, so much room is left.

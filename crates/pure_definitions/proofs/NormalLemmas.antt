@@ -1,8 +1,8 @@
 -- Lifting keeps abstractions and beta-normal terms, and others not.
 use Rattle.std.proofs.Common.{ℕ, ◌+◌}
-use Rattle.pure_definitions.specs.Term.{Term, Const, Free, Var, Bound, Abs, App}
-use Rattle.pure_definitions.specs.Bounds.{lift_term}
-use Rattle.pure_definitions.specs.Beta.{IsAbs, IsBetaNormal}
+use Rattle.pure_definitions.specs.Terms.Term.{Term, Const, Free, Var, Bound, Abs, App}
+use Rattle.pure_definitions.specs.Terms.Bounds.{lift_term}
+use Rattle.pure_definitions.specs.Reduction.Beta.{IsAbs, IsBetaNormal}
 use Rattle.pure_definitions.proofs.LiftLaws.{lift_term-bound}
 
 pub abstraction-lift : (by from : ℕ) (t : Term) → IsAbs t → IsAbs (lift_term by from t)

@@ -4,9 +4,9 @@ use Rattle.std.proofs.lemmas.Bool.{eq-eqb}
 use Rattle.std.specs.List.{list_all}
 use Rattle.std.specs.Cmp.{first_so, second_so}
 use Rattle.pure_text.specs.Lists.{IsIn, Each, EachTwo}
-use Rattle.pure_definitions.specs.Typ.{Typ, TFree, TVar, Con, Typs, none, also}
-use Rattle.pure_definitions.specs.Order.{Class, Arity, Algebra, IsClassBelow, itself, along, HasClassBelow, IsSortBelow, AreDomainsBelow, IsOfClass, IsOfSort, AreOfSorts}
-use Rattle.pure_definitions.specs.Subst.{typ_instance, typs_instance, IsSortRespecting}
+use Rattle.pure_definitions.specs.Types.Typ.{Typ, TFree, TVar, Con, Typs, none, also}
+use Rattle.pure_definitions.specs.Types.Order.{Class, Arity, Algebra, IsClassBelow, itself, along, HasClassBelow, IsSortBelow, AreDomainsBelow, IsOfClass, IsOfSort, AreOfSorts}
+use Rattle.pure_definitions.specs.Terms.Subst.{typ_instance, typs_instance, IsSortRespecting}
 use Rattle.pure_text.proofs.ListLaws.{each_of, any_of, any_some, any_imply, each_at, each_imply, in-append_left, in-append_right, is_in, in-is_in, is_in-in}
 
 pub below-trans : {A : Algebra} {c d e : ℕ} → IsClassBelow A c d → IsClassBelow A d e → IsClassBelow A c e

@@ -1,8 +1,8 @@
 -- The size and the depth of terms.
 use Rattle.std.proofs.Common.{◌≡◌, ℕ, ◌+◌, ◌<◌, ◌≤◌, max, refl, ap, sym, arith}
-use Rattle.pure_definitions.specs.Typ.{Typ, TFree, TVar, Con, Typs, none, also, typ_size, typs_size, typ_depth, typs_depth}
-use Rattle.pure_definitions.specs.Term.{Term, Const, Free, Var, Bound, Abs, App, term_size, term_depth, IsWithin}
-use Rattle.pure_definitions.specs.Bounds.{lift_term}
+use Rattle.pure_definitions.specs.Types.Typ.{Typ, TFree, TVar, Con, Typs, none, also, typ_size, typs_size, typ_depth, typs_depth}
+use Rattle.pure_definitions.specs.Terms.Term.{Term, Const, Free, Var, Bound, Abs, App, term_size, term_depth, IsWithin}
+use Rattle.pure_definitions.specs.Terms.Bounds.{lift_term}
 use Rattle.pure_definitions.proofs.LiftLaws.{lift_term-bound}
 
 -- A term has a node.

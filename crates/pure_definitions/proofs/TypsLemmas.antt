@@ -1,8 +1,8 @@
 -- Lists of types, gone over one type after another.
 use Rattle.std.proofs.Common.{◌≡◌, ℕ, zero, suc, ◌+◌, ◌<◌, ◌≤◌, List, [], ◌∷◌, length, get_or, take, drop, max, refl, arith, ap, add-one, drop-cons, sym, subst, inl, inr, ◌≢◌, ◌↔◌}
 use Rattle.std.specs.declared.cmp.Ordering.TheVariants.{Less}
-use Rattle.pure_definitions.specs.Typ.{Typ, TFree, TVar, Con, Typs, none, typ_size, typs_size, typ_depth, typs_depth, typs_of}
-use Rattle.pure_definitions.specs.Occurs.{OccursInTyp, OccursInTyps}
+use Rattle.pure_definitions.specs.Types.Typ.{Typ, TFree, TVar, Con, Typs, none, typ_size, typs_size, typ_depth, typs_depth, typs_of}
+use Rattle.pure_definitions.specs.Types.Occurs.{OccursInTyp, OccursInTyps}
 use Rattle.pure_definitions.specs.Models.Comparison.{typs_cmp}
 
 -- no type of a list is deeper than the list

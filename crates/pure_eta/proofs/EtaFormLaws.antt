@@ -1,10 +1,10 @@
 -- The function gives the eta-normal form.
 use Rattle.std.proofs.Common.{◌≡◌, zero, Bool, true, false, refl, sym}
 use Rattle.std.specs.Prelude.{if◌then◌else◌}
-use Rattle.pure_definitions.specs.Typ.{Typ}
-use Rattle.pure_definitions.specs.Term.{Term, Const, Free, Var, Bound, Abs, App}
-use Rattle.pure_definitions.specs.Bounds.{lift_term}
-use Rattle.pure_definitions.specs.Eta.{EtaStep, EtaReduces, IsEtaNormal, IsEtaNormalForm}
+use Rattle.pure_definitions.specs.Types.Typ.{Typ}
+use Rattle.pure_definitions.specs.Terms.Term.{Term, Const, Free, Var, Bound, Abs, App}
+use Rattle.pure_definitions.specs.Terms.Bounds.{lift_term}
+use Rattle.pure_definitions.specs.Reduction.Eta.{EtaStep, EtaReduces, IsEtaNormal, IsEtaNormalForm}
 use Rattle.pure_eta.specs.EtaForm.{is_loose, lower_term, contracted, eta_form}
 use Rattle.pure_eta.proofs.LooseLaws.{lift-lower}
 use Rattle.pure_eta.proofs.EtaStepLaws.{reduces-then, reduces-body, reduces-application, step-lift, constant-normal, fixed-normal, schematic-normal, bound-normal, application-normal, function-normal, abstraction-normal}

@@ -1,10 +1,10 @@
 -- Eta steps inside a term and under lifting, and the terms that have none.
 use Rattle.std.proofs.Common.{◌≡◌, ℕ, ◌+◌, true, false, Bool, ap, refl, sym, ◌∙◌, arith, nat_lt}
 use Rattle.std.proofs.lemmas.Bool.{lt-ltb}
-use Rattle.pure_definitions.specs.Typ.{Typ}
-use Rattle.pure_definitions.specs.Term.{Term, Const, Free, Var, Bound, Abs, App}
-use Rattle.pure_definitions.specs.Bounds.{lift_term}
-use Rattle.pure_definitions.specs.Eta.{EtaStep, EtaReduces, IsEtaNormal}
+use Rattle.pure_definitions.specs.Types.Typ.{Typ}
+use Rattle.pure_definitions.specs.Terms.Term.{Term, Const, Free, Var, Bound, Abs, App}
+use Rattle.pure_definitions.specs.Terms.Bounds.{lift_term}
+use Rattle.pure_definitions.specs.Reduction.Eta.{EtaStep, EtaReduces, IsEtaNormal}
 use Rattle.pure_definitions.proofs.LiftLaws.{lift-lift}
 use Rattle.pure_eta.specs.EtaForm.{is_loose, lower_term}
 use Rattle.pure_eta.proofs.LooseLaws.{lift-lower, loose-lifted}

@@ -1,9 +1,9 @@
 -- Putting types and terms into a room for nodes.
 use Rattle.std.proofs.Common.{◌≡◌, ◌∙◌, sym, ℕ, zero, ◌+◌, ◌-◌, ◌<◌, ◌≤◌, max, List, length, get_or, take, Bool, false, refl, ap, arith}
 use Rattle.std.specs.Prelude.{Option, Some, None}
-use Rattle.pure_definitions.specs.Typ.{Typ, Con, none, also, typ_size, typs_size, typ_depth, typs_depth, typs_of, arrow}
-use Rattle.pure_definitions.specs.Term.{Term, Bound, App, term_size, term_depth, IsWithin}
-use Rattle.pure_definitions.specs.Bounds.{lift_term}
+use Rattle.pure_definitions.specs.Types.Typ.{Typ, Con, none, also, typ_size, typs_size, typ_depth, typs_depth, typs_of, arrow}
+use Rattle.pure_definitions.specs.Terms.Term.{Term, Bound, App, term_size, term_depth, IsWithin}
+use Rattle.pure_definitions.specs.Terms.Bounds.{lift_term}
 use Rattle.pure_definitions.proofs.TypsLemmas.{typs_size-take, typs_depth-take, typs_size-take-le, typs_depth-take-le}
 use Rattle.pure_definitions.proofs.TermLemmas.{term_size-lift, term_depth-lift}
 use Rattle.pure_eta.specs.LongTerm.{expanded, expanded_at}

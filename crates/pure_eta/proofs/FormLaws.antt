@@ -1,9 +1,9 @@
 -- Eta-normal forms and long forms exist; which terms have the same.
 use Rattle.std.proofs.Common.{false, [], refl}
-use Rattle.pure_definitions.specs.Typ.{arrow}
-use Rattle.pure_definitions.specs.Term.{Term, Free}
-use Rattle.pure_definitions.specs.Typing.{HasType}
-use Rattle.pure_definitions.specs.Eta.{EtaReduces, IsLongForm}
+use Rattle.pure_definitions.specs.Types.Typ.{arrow}
+use Rattle.pure_definitions.specs.Terms.Term.{Term, Free}
+use Rattle.pure_definitions.specs.Terms.Typing.{HasType}
+use Rattle.pure_definitions.specs.Reduction.Eta.{EtaReduces, IsLongForm}
 use Rattle.pure_term_laws.specs.LawsExamples.{i}
 use Rattle.pure_term_laws.proofs.EtaLaws.{one_long_form}
 use Rattle.pure_eta.specs.EtaForm.{eta_form}

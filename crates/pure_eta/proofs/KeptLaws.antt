@@ -1,14 +1,14 @@
 -- What eta steps keep: types, certified parts, beta-normal terms; and eta-normal terms under lifting.
 use Rattle.std.proofs.Common.{◌≡◌, ℕ, ◌+◌, List, [], ◌∷◌, true, refl, ap, sym, ◌∙◌, arith}
 use Rattle.std.proofs.lemmas.Bool.Decides.{nat_tests}
-use Rattle.pure_definitions.specs.Typ.{Typ, arrow}
-use Rattle.pure_definitions.specs.Term.{Term, Const, Free, Var, Bound, Abs, App}
-use Rattle.pure_definitions.specs.Bounds.{lift_term}
-use Rattle.pure_definitions.specs.Typing.{HasType}
-use Rattle.pure_definitions.specs.Decl.{Decl}
-use Rattle.pure_definitions.specs.Certified.{HasCertifiedParts}
-use Rattle.pure_definitions.specs.Beta.{IsAbs, IsBetaNormal}
-use Rattle.pure_definitions.specs.Eta.{EtaStep, EtaReduces}
+use Rattle.pure_definitions.specs.Types.Typ.{Typ, arrow}
+use Rattle.pure_definitions.specs.Terms.Term.{Term, Const, Free, Var, Bound, Abs, App}
+use Rattle.pure_definitions.specs.Terms.Bounds.{lift_term}
+use Rattle.pure_definitions.specs.Terms.Typing.{HasType}
+use Rattle.pure_definitions.specs.Declarations.Decl.{Decl}
+use Rattle.pure_definitions.specs.Declarations.Certified.{HasCertifiedParts}
+use Rattle.pure_definitions.specs.Reduction.Beta.{IsAbs, IsBetaNormal}
+use Rattle.pure_definitions.specs.Reduction.Eta.{EtaStep, EtaReduces}
 use Rattle.pure_definitions.proofs.NormalLemmas.{normal-unlift}
 use Rattle.pure_definitions.proofs.LiftLaws.{lifted, lift_term-bound, subst-lift}
 use Rattle.pure_term_laws.proofs.TypingBoundLaws.{typing-subst}

@@ -1,12 +1,12 @@
 -- The function gives the long form.
 use Rattle.std.proofs.Common.{◌≡◌, zero, ◌+◌, List, [], ◌∷◌, true, false, refl, ap}
 use Rattle.std.specs.Prelude.{Option, Some}
-use Rattle.pure_definitions.specs.Typ.{Typ, Con, none, also, arrow}
-use Rattle.pure_definitions.specs.Term.{Term, Const, Free, Var, Bound, Abs, App}
-use Rattle.pure_definitions.specs.Bounds.{lift_term}
-use Rattle.pure_definitions.specs.Typing.{HasType}
-use Rattle.pure_definitions.specs.Beta.{IsAbs, IsBetaNormal}
-use Rattle.pure_definitions.specs.Eta.{EtaStep, EtaReduces, abstraction_count, arrow_count, HasSaturatedParts, IsLongForm}
+use Rattle.pure_definitions.specs.Types.Typ.{Typ, Con, none, also, arrow}
+use Rattle.pure_definitions.specs.Terms.Term.{Term, Const, Free, Var, Bound, Abs, App}
+use Rattle.pure_definitions.specs.Terms.Bounds.{lift_term}
+use Rattle.pure_definitions.specs.Terms.Typing.{HasType}
+use Rattle.pure_definitions.specs.Reduction.Beta.{IsAbs, IsBetaNormal}
+use Rattle.pure_definitions.specs.Reduction.Eta.{EtaStep, EtaReduces, abstraction_count, arrow_count, HasSaturatedParts, IsLongForm}
 use Rattle.pure_term_laws.proofs.TypingBoundLaws.{typing-lift}
 use Rattle.pure_eta.specs.LongTerm.{range_typ, front_typ, expanded, expanded_at, long_term}
 use Rattle.pure_eta.proofs.EtaStepLaws.{reduces-then, reduces-body, reduces-application}

@@ -1,9 +1,9 @@
 -- What is kept under lifting: eta steps, and terms whose parts have as many abstractions as their types have arrows.
 use Rattle.std.proofs.Common.{◌≡◌, ℕ, ◌+◌, List, ◌∷◌, ◌++◌, length, refl, ap, ◌∙◌, arith}
-use Rattle.pure_definitions.specs.Typ.{Typ}
-use Rattle.pure_definitions.specs.Term.{Term, Const, Free, Var, Bound, Abs, App}
-use Rattle.pure_definitions.specs.Bounds.{lift_term}
-use Rattle.pure_definitions.specs.Eta.{EtaReduces, abstraction_count, IsSaturated, HasSaturatedParts}
+use Rattle.pure_definitions.specs.Types.Typ.{Typ}
+use Rattle.pure_definitions.specs.Terms.Term.{Term, Const, Free, Var, Bound, Abs, App}
+use Rattle.pure_definitions.specs.Terms.Bounds.{lift_term}
+use Rattle.pure_definitions.specs.Reduction.Eta.{EtaReduces, abstraction_count, IsSaturated, HasSaturatedParts}
 use Rattle.pure_definitions.proofs.LiftLaws.{lift_term-bound}
 use Rattle.pure_term_laws.proofs.TypingBoundLaws.{typing-lift}
 use Rattle.pure_eta.proofs.EtaStepLaws.{step-lift}

@@ -1,7 +1,7 @@
 -- What the call for a long form answers.
 use Rattle.std.specs.Prelude.{Result, Ok, Err}
-use Rattle.pure_definitions.specs.Term.{Term, IsWithin}
-use Rattle.pure_definitions.specs.Eta.{IsLongForm}
+use Rattle.pure_definitions.specs.Terms.Term.{Term, IsWithin}
+use Rattle.pure_definitions.specs.Reduction.Eta.{IsLongForm}
 use Rattle.pure_typ.specs.declared.grow.Grow.{Grow}
 use Rattle.pure_typ.specs.declared.grow.Grow.TheVariants.{Big, Memory}
 

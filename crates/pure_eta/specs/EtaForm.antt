@@ -1,7 +1,7 @@
 -- The eta-normal form of a term, as a function.
 use Rattle.std.specs.Prelude.{ℕ, zero, ◌+◌, ◌-◌, nat_eq, nat_lt, Bool, false, ◌||◌, if◌then◌else◌}
-use Rattle.pure_definitions.specs.Typ.{Typ}
-use Rattle.pure_definitions.specs.Term.{Term, Const, Free, Var, Bound, Abs, App}
+use Rattle.pure_definitions.specs.Types.Typ.{Typ}
+use Rattle.pure_definitions.specs.Terms.Term.{Term, Const, Free, Var, Bound, Abs, App}
 
 -- whether bound variable n is loose in the term
 abbrev pub is_loose : ℕ → Term → Bool

@@ -1,7 +1,7 @@
 -- Whether something fits into a room for nodes, and how large a term becomes that is expanded.
 use Rattle.std.specs.Prelude.{◌≡◌, ℕ, zero, ◌+◌, ◌<◌, ◌≤◌, max, Bool, false, Option, Some, None}
-use Rattle.pure_definitions.specs.Typ.{Typ, Con, none, also, typ_size, typ_depth}
-use Rattle.pure_definitions.specs.Term.{max_depth}
+use Rattle.pure_definitions.specs.Types.Typ.{Typ, Con, none, also, typ_size, typ_depth}
+use Rattle.pure_definitions.specs.Terms.Term.{max_depth}
 use Rattle.pure_eta.specs.declared.fits.Room.{Room}
 
 -- Of room for `left` nodes, a tree of this size and depth leaves so many, and is as deep as it is; nothing is left where it has more nodes or is deeper than a term within the limits.

@@ -1,13 +1,13 @@
 -- Laws of eta-normal forms and of long forms.
 use Rattle.std.specs.Prelude.{◌≡◌, ℕ, List, [], ◌++◌, length}
-use Rattle.pure_definitions.specs.Typ.{Typ, arrow}
-use Rattle.pure_definitions.specs.Term.{Term, Free, Bound, Abs, App}
-use Rattle.pure_definitions.specs.Bounds.{lift_term}
-use Rattle.pure_definitions.specs.Typing.{HasType}
-use Rattle.pure_definitions.specs.Decl.{Decl}
-use Rattle.pure_definitions.specs.Certified.{HasCertifiedParts, IsCertified}
-use Rattle.pure_definitions.specs.Beta.{IsBetaNormal}
-use Rattle.pure_definitions.specs.Eta.{EtaReduces, IsEtaNormal, IsEtaNormalForm, IsSaturated, HasSaturatedParts, IsLongForm}
+use Rattle.pure_definitions.specs.Types.Typ.{Typ, arrow}
+use Rattle.pure_definitions.specs.Terms.Term.{Term, Free, Bound, Abs, App}
+use Rattle.pure_definitions.specs.Terms.Bounds.{lift_term}
+use Rattle.pure_definitions.specs.Terms.Typing.{HasType}
+use Rattle.pure_definitions.specs.Declarations.Decl.{Decl}
+use Rattle.pure_definitions.specs.Declarations.Certified.{HasCertifiedParts, IsCertified}
+use Rattle.pure_definitions.specs.Reduction.Beta.{IsBetaNormal}
+use Rattle.pure_definitions.specs.Reduction.Eta.{EtaReduces, IsEtaNormal, IsEtaNormalForm, IsSaturated, HasSaturatedParts, IsLongForm}
 use Rattle.pure_term_laws.specs.LawsExamples.{i}
 
 -- Each term has an eta-normal form.

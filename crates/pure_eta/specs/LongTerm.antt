@@ -1,8 +1,8 @@
 -- The long form of a term, as a function.
 use Rattle.std.specs.Prelude.{zero, List, ◌∷◌, slice_get, Bool, true, false, Option, Some, None}
-use Rattle.pure_definitions.specs.Typ.{Typ, Con, none, also}
-use Rattle.pure_definitions.specs.Term.{Term, Const, Free, Var, Bound, Abs, App}
-use Rattle.pure_definitions.specs.Bounds.{lift_term}
+use Rattle.pure_definitions.specs.Types.Typ.{Typ, Con, none, also}
+use Rattle.pure_definitions.specs.Terms.Term.{Term, Const, Free, Var, Bound, Abs, App}
+use Rattle.pure_definitions.specs.Terms.Bounds.{lift_term}
 
 -- the type of what functions of the type give
 abbrev pub range_typ : Option Typ → Option Typ

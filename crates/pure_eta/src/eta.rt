@@ -1,7 +1,7 @@
 //! Eta-normal forms.
 ghost use Rattle.std.specs.Prelude.{◌≡◌, ◌↔◌, IsTrue, IfOk};
-ghost use Rattle.pure_definitions.specs.Term.{App, Bound};
-ghost use Rattle.pure_definitions.specs.Eta.{IsEtaNormalForm};
+ghost use Rattle.pure_definitions.specs.Terms.Term.{App, Bound};
+ghost use Rattle.pure_definitions.specs.Reduction.Eta.{IsEtaNormalForm};
 ghost use Rattle.pure_eta.specs.EtaForm.{is_loose, lower_term, contracted, eta_form};
 
 use pure_term::{Term, TermNode, Typ};

@@ -1,7 +1,7 @@
 //! Whether a long form is within the limits, found before it is made.
 ghost use Rattle.std.specs.Prelude.{◌≡◌, ◌+◌, ◌≤◌};
-ghost use Rattle.pure_definitions.specs.Typ.{typ_size, typ_depth};
-ghost use Rattle.pure_definitions.specs.Term.{term_size, term_depth, max_depth};
+ghost use Rattle.pure_definitions.specs.Types.Typ.{typ_size, typ_depth};
+ghost use Rattle.pure_definitions.specs.Terms.Term.{term_size, term_depth, max_depth};
 ghost use Rattle.pure_term.specs.Scope.{scope_typs};
 ghost use Rattle.pure_eta.specs.LongTerm.{front_typ, long_term};
 ghost use Rattle.pure_eta.specs.Fits.{Fits, added_size, expanded_depth, added_at, depth_at};

@@ -1,10 +1,10 @@
 //! Long forms.
 ghost use Rattle.std.specs.Prelude.{◌≡◌, [], IfOk};
-ghost use Rattle.pure_definitions.specs.Term as term;
-ghost use Rattle.pure_definitions.specs.Bounds.{lift_term};
-ghost use Rattle.pure_definitions.specs.Typing.{HasType};
-ghost use Rattle.pure_definitions.specs.Beta.{IsBetaNormal};
-ghost use Rattle.pure_definitions.specs.Typ as tree;
+ghost use Rattle.pure_definitions.specs.Terms.Term as term;
+ghost use Rattle.pure_definitions.specs.Terms.Bounds.{lift_term};
+ghost use Rattle.pure_definitions.specs.Terms.Typing.{HasType};
+ghost use Rattle.pure_definitions.specs.Reduction.Beta.{IsBetaNormal};
+ghost use Rattle.pure_definitions.specs.Types.Typ as tree;
 ghost use Rattle.pure_term.specs.Scope.{scope_typs};
 ghost use Rattle.pure_eta.specs.LongTerm.{front_typ, expanded, expanded_at, long_term};
 ghost use Rattle.pure_eta.specs.Answer.{IsLongAnswer};

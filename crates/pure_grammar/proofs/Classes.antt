@@ -4,8 +4,8 @@ use Rattle.std.specs.Prelude.{codes, nat_le}
 use Rattle.std.specs.List.{list_any, list_all}
 use Rattle.std.proofs.lemmas.Bool.{and_parts, or_cases, eqb-true, false_from_ne_true, false≢true, cond_both, not-true, cases_lt}
 use Rattle.std.proofs.lemmas.Bool.Decides.{nat_tests}
-use Rattle.pure_grammar.specs.Bytes.{is_letter, is_digit, is_name_byte, is_blank, head_is, is_empty, marked, behind}
-use Rattle.pure_grammar.specs.Token.{is_spelling, is_number, is_indexed, is_quotable, is_keyword, is_single, is_pair, is_triple, is_symbol, is_token}
+use Rattle.pure_grammar.specs.Tokens.Bytes.{is_letter, is_digit, is_name_byte, is_blank, head_is, is_empty, marked, behind}
+use Rattle.pure_grammar.specs.Tokens.Token.{is_spelling, is_number, is_indexed, is_quotable, is_keyword, is_single, is_pair, is_triple, is_symbol, is_token}
 use Rattle.pure_grammar.specs.declared.token.TokenKind.{TokenKind}
 use Rattle.pure_grammar.specs.declared.token.TokenKind.TheVariants.{Word, Ident, Qualified, TypeVar, Schem, BoundName, Number, Quote, Symbol, End}
 

@@ -5,7 +5,7 @@ use Rattle.std.specs.Cmp.Lexicographic.{same_text}
 use Rattle.std.proofs.lemmas.Bool.{and_from, or_parts, or_left, both_ways, eq-eqb, false_from_ne_true}
 use Rattle.std.proofs.lemmas.List.Folds.{list_any-append}
 use Rattle.pure_text.specs.Lists.{IsIn, AreDistinct}
-use Rattle.pure_grammar.specs.Lexeme.{same}
+use Rattle.pure_grammar.specs.Theories.Lexeme.{same}
 
 pub same-is : (w v : List ℕ) → same w v ≡ true → w ≡ v
 same-is w v e = same_text w v (sym e)

@@ -5,11 +5,11 @@ use Rattle.std.specs.List.{list_any}
 use Rattle.std.specs.Cmp.Lexicographic.{same_text}
 use Rattle.pure_grammar.specs.declared.lexeme.Keyword.TheVariants as keyword
 use Rattle.pure_grammar.specs.declared.lexeme.Sign.TheVariants as sign
-use Rattle.pure_grammar.specs.TheoryText.{Span, Command, TypeDecl, TheoryText}
-use Rattle.pure_grammar.specs.Lexeme.{Lexeme, Reserved, Signed, Plain, Variable, Numeral, Quoted, Ends, same, kind_of}
-use Rattle.pure_grammar.specs.PhraseText.{assumption_word}
-use Rattle.pure_grammar.specs.Outer.{IsTheory, BeginsTheory, MayFollow, GoesWrong}
-use Rattle.pure_grammar.specs.Reader.{Header, State, AtStart, AtTheoryName, AfterTheoryName, AtImport, AfterImport, InBody, AtLast, Outcome, Through, Stuck, AtStep, AtNumber, AtMethod, AtBasic, AfterBasic, AtFact, AtUnfolded, AfterUnfolded, Place, AtCommand, AfterEnd, AtClassName, AfterClassName, AtAbove, AfterAbove, AtParams, AtParam, AfterParam, AtTypeName, AtConstructor, AfterConstructor, AtDomains, AtSort, AfterSort, AtFirstClass, AtNextClass, AfterClass, AtArityClass, AtItem, AfterItem, AtItemType, AfterItemType, AtWhere, AtAxiom, AfterAxiom, AtAxiomText, AfterAxiomText, AtDefinition, AfterDefinition, AtDefinitionType, AfterDefinitionType, AtDefinitionText, AtLemma, AfterLemma, AtLemmaText, InProof, goes_on, next, run, expected}
+use Rattle.pure_grammar.specs.Theories.TheoryText.{Span, Command, TypeDecl, TheoryText}
+use Rattle.pure_grammar.specs.Theories.Lexeme.{Lexeme, Reserved, Signed, Plain, Variable, Numeral, Quoted, Ends, same, kind_of}
+use Rattle.pure_grammar.specs.Theories.PhraseText.{assumption_word}
+use Rattle.pure_grammar.specs.Theories.Outer.{IsTheory, BeginsTheory, MayFollow, GoesWrong}
+use Rattle.pure_grammar.specs.Theories.Reader.{Header, State, AtStart, AtTheoryName, AfterTheoryName, AtImport, AfterImport, InBody, AtLast, Outcome, Through, Stuck, AtStep, AtNumber, AtMethod, AtBasic, AfterBasic, AtFact, AtUnfolded, AfterUnfolded, Place, AtCommand, AfterEnd, AtClassName, AfterClassName, AtAbove, AfterAbove, AtParams, AtParam, AfterParam, AtTypeName, AtConstructor, AfterConstructor, AtDomains, AtSort, AfterSort, AtFirstClass, AtNextClass, AfterClass, AtArityClass, AtItem, AfterItem, AtItemType, AfterItemType, AtWhere, AtAxiom, AfterAxiom, AtAxiomText, AfterAxiomText, AtDefinition, AfterDefinition, AtDefinitionType, AfterDefinitionType, AtDefinitionText, AtLemma, AfterLemma, AtLemmaText, InProof, goes_on, next, run, expected}
 use Rattle.pure_grammar.proofs.OuterLemmas.{run-IsTheory}
 use Rattle.pure_grammar.proofs.ReadLemmas.{Gets, none, got-file}
 

@@ -1,7 +1,7 @@
 -- Two ways to cut one list.
 use Rattle.std.proofs.Common.{◌≡◌, ℕ, List, [], ◌∷◌, ◌++◌, refl, sym, ap, ◌⊎◌, inl, inr, Bool, true, ◌==◌}
 use Rattle.std.proofs.lemmas.Bool.{and_parts, eqb-true}
-use Rattle.pure_grammar.specs.Bytes.{marked}
+use Rattle.pure_grammar.specs.Tokens.Bytes.{marked}
 
 -- the first cut is within the second, and `more` lies between them
 pub record Within (a b c d : List ℕ) : Type 0 where

@@ -2,9 +2,9 @@
 use Rattle.std.proofs.Common.{◌≡◌, ℕ, zero, suc, List, [], ◌∷◌, ◌++◌, refl, sym, ◌∙◌, ap, inl, inr, Bool, true, false, append_assoc}
 use Rattle.std.proofs.lemmas.Bool.{cases_Bool, both_ways, false≢true}
 use Rattle.std.proofs.lemmas.List.{append-nil, append_cancel_left}
-use Rattle.pure_grammar.specs.Bytes.{is_blank, head_is, is_empty, marked}
-use Rattle.pure_grammar.specs.Comment.{is_opening, is_closing, closes, is_comment, opens_comment, Gap, IsSettled}
-use Rattle.pure_grammar.specs.Comment.Gap.{nothing, blank, comment}
+use Rattle.pure_grammar.specs.Tokens.Bytes.{is_blank, head_is, is_empty, marked}
+use Rattle.pure_grammar.specs.Tokens.Comment.{is_opening, is_closing, closes, is_comment, opens_comment, Gap, IsSettled}
+use Rattle.pure_grammar.specs.Tokens.Comment.Gap.{nothing, blank, comment}
 use Rattle.pure_grammar.proofs.Fronts.{cuts, marked-is}
 
 pub empty_is : (bs : List ℕ) → is_empty bs ≡ true → bs ≡ []

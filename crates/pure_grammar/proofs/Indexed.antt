@@ -1,8 +1,8 @@
 -- Names with and without an index.
 use Rattle.std.proofs.Common.{◌≡◌, ℕ, Bool, true, false, ◌||◌, List, ◌∷◌, refl, sym, ap, ◌∙◌}
 use Rattle.std.proofs.lemmas.Bool.{and_parts, both_ways}
-use Rattle.pure_grammar.specs.Bytes.{is_letter, is_name_byte, is_empty, head_is, marked, behind}
-use Rattle.pure_grammar.specs.Token.{is_number, is_indexed}
+use Rattle.pure_grammar.specs.Tokens.Bytes.{is_letter, is_name_byte, is_empty, head_is, marked, behind}
+use Rattle.pure_grammar.specs.Tokens.Token.{is_number, is_indexed}
 use Rattle.pure_grammar.proofs.Fronts.{marked-is}
 
 -- what stands behind the mark of a schematic variable

@@ -3,13 +3,13 @@ use Rattle.std.proofs.Common.{◌≡◌, ℕ, List, [], ◌∷◌, ◌++◌, map
 use Rattle.pure_grammar.specs.declared.token.TokenKind.TheVariants as kind
 use Rattle.pure_grammar.specs.declared.inner.Opening.TheVariants as opening
 use Rattle.pure_grammar.specs.declared.inner.Mark.TheVariants as mark
-use Rattle.pure_grammar.specs.InnerLexeme.{InnerLexeme, Variable, TypeSchematic, Opens, Signed, Ends}
-use Rattle.pure_grammar.specs.RawTree.{RawClassTree, RawTypTree, RawTypTrees, RawTree, raw_typs_of, implication, equation, function_type}
-use Rattle.pure_grammar.specs.RawTree as tree
-use Rattle.pure_grammar.specs.InnerPhrase.{InnerName, InnerSort, TypePhrase, DomainsType, TypePhrases, NoType, AndType, PostPhrase, Post, BasePhrase, VariableBase, SchematicBase, ArgumentsBase, VarPhrase, BinderPhrase, BindersPhrase, Binders, TermPhrase, ImpPhrase, PremisesImp, TermPhrases, AndTerm, EqPhrase, ConPhrase, AppPhrase, Application, AtomPhrases, AndAtom, AtomPhrase}
-use Rattle.pure_grammar.specs.InnerText.{each, name_text, comma_name_text, type_text, types_text, post_text, base_text, var_text, binder_text, binders_text, term_text, imp_text, terms_text, eq_text, con_text, app_text, atoms_text, atom_text}
-use Rattle.pure_grammar.specs.InnerTree.{name_of, class_raw, base_place, post_place, type_place, constructed, type_raw, functions_raw, types_raw, post_raw, base_raw, var_of, var_place, binder_var, binder_typ, binder_place, atom_place, app_place, con_place, eq_place, imp_place, term_place, term_raw, imp_raw, implications_raw, eq_raw, con_raw, app_raw, applied_raw, atom_raw}
-use Rattle.pure_grammar.specs.InnerReader.{Written, Quantifier, OfAll, OfLambda, RightSide, Conclusion, FirstPremise, NextPremise, Enclosed, Argument, Constraint, BinderType, OnlyBinderType, FirstDomain, NextDomain, EnclosedType, MoreArguments, Frame, Joined, InTerm, Range, InType, AtTerm, AtCon, AfterAtom, AtImplies, AtBinder, AfterFirstVar, AfterBinder, AtBinderVar, AfterBinderVar, AtType, AfterVariable, AtSort, AtFirstClass, AfterClass, AtNextClass, AfterPost, AtConstructor, AtArrow, State, In, DoneTerm, DoneType, reduced, ranged, bound}
+use Rattle.pure_grammar.specs.Terms.InnerLexeme.{InnerLexeme, Variable, TypeSchematic, Opens, Signed, Ends}
+use Rattle.pure_grammar.specs.Terms.RawTree.{RawClassTree, RawTypTree, RawTypTrees, RawTree, raw_typs_of, implication, equation, function_type}
+use Rattle.pure_grammar.specs.Terms.RawTree as tree
+use Rattle.pure_grammar.specs.Terms.InnerPhrase.{InnerName, InnerSort, TypePhrase, DomainsType, TypePhrases, NoType, AndType, PostPhrase, Post, BasePhrase, VariableBase, SchematicBase, ArgumentsBase, VarPhrase, BinderPhrase, BindersPhrase, Binders, TermPhrase, ImpPhrase, PremisesImp, TermPhrases, AndTerm, EqPhrase, ConPhrase, AppPhrase, Application, AtomPhrases, AndAtom, AtomPhrase}
+use Rattle.pure_grammar.specs.Terms.InnerText.{each, name_text, comma_name_text, type_text, types_text, post_text, base_text, var_text, binder_text, binders_text, term_text, imp_text, terms_text, eq_text, con_text, app_text, atoms_text, atom_text}
+use Rattle.pure_grammar.specs.Terms.InnerTree.{name_of, class_raw, base_place, post_place, type_place, constructed, type_raw, functions_raw, types_raw, post_raw, base_raw, var_of, var_place, binder_var, binder_typ, binder_place, atom_place, app_place, con_place, eq_place, imp_place, term_place, term_raw, imp_raw, implications_raw, eq_raw, con_raw, app_raw, applied_raw, atom_raw}
+use Rattle.pure_grammar.specs.Terms.InnerReader.{Written, Quantifier, OfAll, OfLambda, RightSide, Conclusion, FirstPremise, NextPremise, Enclosed, Argument, Constraint, BinderType, OnlyBinderType, FirstDomain, NextDomain, EnclosedType, MoreArguments, Frame, Joined, InTerm, Range, InType, AtTerm, AtCon, AfterAtom, AtImplies, AtBinder, AfterFirstVar, AfterBinder, AtBinderVar, AfterBinderVar, AtType, AfterVariable, AtSort, AtFirstClass, AfterClass, AtNextClass, AfterPost, AtConstructor, AtArrow, State, In, DoneTerm, DoneType, reduced, ranged, bound}
 use Rattle.pure_grammar.proofs.InnerReaderLemmas.{more_binder_frames, binder_frames, IsLoose}
 
 -- which of the two is read

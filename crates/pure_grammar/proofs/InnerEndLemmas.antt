@@ -1,10 +1,10 @@
 -- Behind the end of the tokens a whole term or a whole type is read.
 use Rattle.std.proofs.Common.{◌≡◌, ℕ, List, [], ◌∷◌, refl, sym, ◌∙◌, ap}
 use Rattle.std.specs.Prelude.{true, Some}
-use Rattle.pure_grammar.specs.InnerLexeme.{InnerLexeme, Ends}
-use Rattle.pure_grammar.specs.RawTree.{RawTypTree, RawTree}
-use Rattle.pure_grammar.specs.RawTree as tree
-use Rattle.pure_grammar.specs.InnerReader.{FirstPremise, NextPremise, Enclosed, Argument, Constraint, BinderType, OnlyBinderType, FirstDomain, NextDomain, EnclosedType, MoreArguments, Frame, Joined, InTerm, Range, InType, Place, AtTerm, AtCon, AfterAtom, AtImplies, AtBinder, AfterFirstVar, AfterBinder, AtBinderVar, AfterBinderVar, AtType, AfterVariable, AtSort, AtFirstClass, AfterClass, AtNextClass, AfterPost, AtConstructor, AtArrow, State, In, DoneTerm, DoneType, reduced, term_ends, con_ends, ranged, whole_type_ends, type_part_ends, turn, next, is_done, run}
+use Rattle.pure_grammar.specs.Terms.InnerLexeme.{InnerLexeme, Ends}
+use Rattle.pure_grammar.specs.Terms.RawTree.{RawTypTree, RawTree}
+use Rattle.pure_grammar.specs.Terms.RawTree as tree
+use Rattle.pure_grammar.specs.Terms.InnerReader.{FirstPremise, NextPremise, Enclosed, Argument, Constraint, BinderType, OnlyBinderType, FirstDomain, NextDomain, EnclosedType, MoreArguments, Frame, Joined, InTerm, Range, InType, Place, AtTerm, AtCon, AfterAtom, AtImplies, AtBinder, AfterFirstVar, AfterBinder, AtBinderVar, AfterBinderVar, AtType, AfterVariable, AtSort, AtFirstClass, AfterClass, AtNextClass, AfterPost, AtConstructor, AtArrow, State, In, DoneTerm, DoneType, reduced, term_ends, con_ends, ranged, whole_type_ends, type_part_ends, turn, next, is_done, run}
 use Rattle.pure_grammar.proofs.InnerAround.{OfTerm, OfType, Reading, ReadTerm, ReadType, reading_state}
 use Rattle.pure_grammar.proofs.InnerReadLemmas.{none-some, some-same, run-reading}
 use Rattle.pure_grammar.proofs.InnerFaultLemmas.{begun_term, begun_type, not-both, no-term, no-type}

@@ -2,13 +2,13 @@
 use Rattle.std.proofs.Common.{◌≡◌, ℕ, List, [], ◌∷◌, ◌++◌, refl, sym, ◌∙◌, ap, append_assoc, append-nil, true≢false}
 use Rattle.std.specs.Prelude.{Bool, true, false, Option, Some, None, codes}
 use Rattle.pure_grammar.specs.declared.inner.Mark.TheVariants as mark
-use Rattle.pure_grammar.specs.InnerLexeme.{InnerLexeme, Plain, Signed, Ends}
-use Rattle.pure_grammar.specs.RawTree.{RawTypTree, RawTree}
-use Rattle.pure_grammar.specs.InnerPhrase.{InnerName, Simple, InnerSort, NoSort, OneClass, NoClass, Classes, TypePhrase, DomainsType, PlainType, ArrowType, NoType, AndType, Post, NamedBase, ClosedBase, VarPhrase, NamedVar, PlainBinder, TypedBinder, BindersPhrase, OneTyped, TermPhrase, AllTerm, ImpTerm, PremisesImp, PlainImp, ArrowImp, NoTerm, AndTerm, PlainEq, BothEq, ConPhrase, LambdaCon, PlainCon, TypedCon, Application, NoAtom, NamedAtom, ClosedAtom}
-use Rattle.pure_grammar.specs.InnerText.{sort_text, type_text, base_text, binders_text, term_text, con_text}
-use Rattle.pure_grammar.specs.InnerTree.{term_raw, type_raw}
-use Rattle.pure_grammar.specs.Inner.{IsTerm, IsType, BeginsTerm, BeginsType}
-use Rattle.pure_grammar.specs.InnerReader.{AtTerm, AtType, State, In, DoneTerm, DoneType, next, goes_on, run}
+use Rattle.pure_grammar.specs.Terms.InnerLexeme.{InnerLexeme, Plain, Signed, Ends}
+use Rattle.pure_grammar.specs.Terms.RawTree.{RawTypTree, RawTree}
+use Rattle.pure_grammar.specs.Terms.InnerPhrase.{InnerName, Simple, InnerSort, NoSort, OneClass, NoClass, Classes, TypePhrase, DomainsType, PlainType, ArrowType, NoType, AndType, Post, NamedBase, ClosedBase, VarPhrase, NamedVar, PlainBinder, TypedBinder, BindersPhrase, OneTyped, TermPhrase, AllTerm, ImpTerm, PremisesImp, PlainImp, ArrowImp, NoTerm, AndTerm, PlainEq, BothEq, ConPhrase, LambdaCon, PlainCon, TypedCon, Application, NoAtom, NamedAtom, ClosedAtom}
+use Rattle.pure_grammar.specs.Terms.InnerText.{sort_text, type_text, base_text, binders_text, term_text, con_text}
+use Rattle.pure_grammar.specs.Terms.InnerTree.{term_raw, type_raw}
+use Rattle.pure_grammar.specs.Terms.Inner.{IsTerm, IsType, BeginsTerm, BeginsType}
+use Rattle.pure_grammar.specs.Terms.InnerReader.{AtTerm, AtType, State, In, DoneTerm, DoneType, next, goes_on, run}
 use Rattle.pure_grammar.proofs.InnerLemmas.{run-IsTerm, run-IsType}
 use Rattle.pure_grammar.proofs.InnerAround.{Goal, OfTerm, OfType, AppChain, AndArgument, app_chain_text, chain_app, chain_app-text, chain_imp, chain_imp-text, chain_domains, chain_domains-text, PostChain, Base, post_chain_text, chain_post, chain_post-text, chain_base, chain_base-text, BinderChain, Binder, binder_chain_text, chain_binders, chain_binders-text, Before, NoneBefore, SomeBefore, and_binder, TermAround, OnBase, UnderAll, AfterPremises, BehindImplies, TermBase, WholeTerm, InFirstPremise, InNextPremise, InParentheses, InArgument, ConAround, OnSide, UnderLambda, Side, LeftSide, OnRight, BodyAround, AllBodyIn, LambdaBodyIn, TypeAround, OnTypeBase, BehindDomains, BehindArrow, TypeBase, WholeType, InConstraint, InBinder, InOnlyBinder, InFirstDomain, InNextDomain, InTypeParentheses, InArguments, term_around_text, term_base_text, con_around_text, side_text, body_text, type_around_text, type_base_text, VariablePhrase, Fixed, Unknown, variable_text, variable_base, Reading, ReadingTerm, ReadingCon, ReadAtom, ReadPremises, ReadSign, ReadFirstVar, ReadBinders, ReadBinderOpening, ReadBinderVar, ReadingType, ReadVariable, ReadColons, ReadBrace, ReadClasses, ReadClassComma, ReadPost, ReadArguments, ReadDomains, ReadTerm, ReadType, reading_text, reading_state}
 use Rattle.pure_grammar.proofs.InnerReadLemmas.{none-some, classes-text, run-reading}

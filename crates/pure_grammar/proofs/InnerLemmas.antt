@@ -1,10 +1,10 @@
 -- No tokens spell two terms or two types.
 use Rattle.std.proofs.Common.{◌≡◌, List, [], sym, ◌∙◌, ap}
 use Rattle.std.specs.Prelude.{Option, Some}
-use Rattle.pure_grammar.specs.RawTree.{RawTree, RawTypTree}
-use Rattle.pure_grammar.specs.InnerLexeme.{InnerLexeme, inners}
-use Rattle.pure_grammar.specs.Inner.{IsTerm, IsType, OneTerm, OneType}
-use Rattle.pure_grammar.specs.InnerReader.{AtTerm, AtType, State, In, DoneTerm, DoneType, run}
+use Rattle.pure_grammar.specs.Terms.RawTree.{RawTree, RawTypTree}
+use Rattle.pure_grammar.specs.Terms.InnerLexeme.{InnerLexeme, inners}
+use Rattle.pure_grammar.specs.Terms.Inner.{IsTerm, IsType, OneTerm, OneType}
+use Rattle.pure_grammar.specs.Terms.InnerReader.{AtTerm, AtType, State, In, DoneTerm, DoneType, run}
 use Rattle.pure_grammar.proofs.InnerReaderLemmas.{run-term_text, run-type_text}
 
 -- what the reader has read, when it has read a term, or a type

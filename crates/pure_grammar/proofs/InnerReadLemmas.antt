@@ -3,13 +3,13 @@ use Rattle.std.proofs.Common.{◌≡◌, ℕ, List, [], ◌∷◌, ◌++◌, map
 use Rattle.std.specs.Prelude.{Bool, true, false, nat_le, Option, Some, None}
 use Rattle.pure_grammar.specs.declared.inner.Opening.TheVariants as opening
 use Rattle.pure_grammar.specs.declared.inner.Mark.TheVariants as mark
-use Rattle.pure_grammar.specs.InnerLexeme.{InnerLexeme, Plain, Dotted, Variable, Schematic, TypeSchematic, Bound, Opens, Signed, Ends}
-use Rattle.pure_grammar.specs.RawTree.{RawTypTree, RawTree, raw_typs_of}
-use Rattle.pure_grammar.specs.RawTree as tree
-use Rattle.pure_grammar.specs.InnerPhrase.{InnerName, Simple, Full, NoSort, OneClass, NoClass, Classes, TypePhrase, PlainType, ArrowType, NoType, VariableBase, SchematicBase, NamedBase, ClosedBase, VarPhrase, NamedVar, BoundVar, PlainBinder, TypedBinder, OneTyped, TermPhrase, AllTerm, ImpTerm, PlainImp, ArrowImp, NoTerm, EqPhrase, PlainEq, BothEq, ConPhrase, LambdaCon, PlainCon, TypedCon, NoAtom, NamedAtom, SchematicAtom, BoundAtom, ClosedAtom}
-use Rattle.pure_grammar.specs.InnerText.{each, name_text, comma_name_text, type_text, term_text, eq_text, con_text}
-use Rattle.pure_grammar.specs.InnerTree.{name_of, class_raw, type_place, type_raw, con_place, eq_place, term_place, term_raw, eq_raw, con_raw}
-use Rattle.pure_grammar.specs.InnerReader.{OfAll, OfLambda, AtTerm, AtCon, AfterPost, State, In, reduced, equals, implies, part_ends, con_ends, ranged, type_part_ends, next, goes_on, run}
+use Rattle.pure_grammar.specs.Terms.InnerLexeme.{InnerLexeme, Plain, Dotted, Variable, Schematic, TypeSchematic, Bound, Opens, Signed, Ends}
+use Rattle.pure_grammar.specs.Terms.RawTree.{RawTypTree, RawTree, raw_typs_of}
+use Rattle.pure_grammar.specs.Terms.RawTree as tree
+use Rattle.pure_grammar.specs.Terms.InnerPhrase.{InnerName, Simple, Full, NoSort, OneClass, NoClass, Classes, TypePhrase, PlainType, ArrowType, NoType, VariableBase, SchematicBase, NamedBase, ClosedBase, VarPhrase, NamedVar, BoundVar, PlainBinder, TypedBinder, OneTyped, TermPhrase, AllTerm, ImpTerm, PlainImp, ArrowImp, NoTerm, EqPhrase, PlainEq, BothEq, ConPhrase, LambdaCon, PlainCon, TypedCon, NoAtom, NamedAtom, SchematicAtom, BoundAtom, ClosedAtom}
+use Rattle.pure_grammar.specs.Terms.InnerText.{each, name_text, comma_name_text, type_text, term_text, eq_text, con_text}
+use Rattle.pure_grammar.specs.Terms.InnerTree.{name_of, class_raw, type_place, type_raw, con_place, eq_place, term_place, term_raw, eq_raw, con_raw}
+use Rattle.pure_grammar.specs.Terms.InnerReader.{OfAll, OfLambda, AtTerm, AtCon, AfterPost, State, In, reduced, equals, implies, part_ends, con_ends, ranged, type_part_ends, next, goes_on, run}
 use Rattle.pure_grammar.proofs.InnerReaderLemmas.{reduced-lambdas, reduced-alls, IsLoose, loose-alls, equals-loose, implies-loose}
 use Rattle.pure_grammar.proofs.InnerAround.{Goal, AppChain, Function, AndArgument, app_chain_text, app_chain_place, app_chain_raw, chain_app, chain_app-text, chain_app-place, chain_app-raw, PremiseChain, Premise, AndPremise, chain_imp, chain_imp-text, chain_imp-reduced, chain-loose, DomainChain, Domain, AndDomain, chain_domains, chain_domains-text, chain_domains-ranged, PostChain, Base, AndConstructor, post_chain_text, post_chain_place, post_chain_raw, chain_post, chain_post-text, chain_post-place, chain_post-raw, ArgumentChain, OneArgument, AndTypeArgument, argument_chain_text, argument_chain_list, chain_base, chain_base-text, chain_base-place, chain_base-raw, BinderChain, Binder, AndBinder, chain_binders, chain_binders-text, chain_binders-frames, Before, NoneBefore, SomeBefore, TermAround, OnBase, UnderAll, AfterPremises, BehindImplies, TermBase, WholeTerm, InFirstPremise, InNextPremise, InParentheses, InArgument, ConAround, OnSide, UnderLambda, Side, LeftSide, OnRight, BodyAround, AllBodyIn, LambdaBodyIn, TypeAround, OnTypeBase, BehindDomains, BehindArrow, TypeBase, WholeType, InConstraint, InBinder, InOnlyBinder, InFirstDomain, InNextDomain, InTypeParentheses, InArguments, term_around_text, term_base_text, con_around_text, side_text, body_text, type_around_text, type_base_text, term_stack, term_base_stack, con_stack, side_stack, type_stack, type_base_stack, VariablePhrase, Fixed, Unknown, variable_text, Reading, ReadingTerm, ReadingCon, ReadAtom, ReadPremises, ReadSign, ReadFirstVar, ReadBinders, ReadBinderOpening, ReadBinderVar, ReadingType, ReadVariable, ReadColons, ReadBrace, ReadClasses, ReadClassComma, ReadPost, ReadArguments, ReadDomains, ReadTerm, ReadType, reading_text, reading_state}
 

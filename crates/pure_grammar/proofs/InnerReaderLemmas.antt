@@ -2,13 +2,13 @@
 use Rattle.std.proofs.Common.{◌≡◌, ℕ, List, [], ◌∷◌, ◌++◌, map, refl, sym, ◌∙◌, ap, append_assoc, append-nil}
 use Rattle.std.specs.Prelude.{true, nat_le, Option, Some, None}
 use Rattle.pure_grammar.specs.declared.inner.Mark.TheVariants as mark
-use Rattle.pure_grammar.specs.InnerLexeme.{InnerLexeme, Plain, Dotted, Signed, Ends}
-use Rattle.pure_grammar.specs.RawTree.{RawClassTree, RawTypTree, RawTree, raw_typs_of, implication, equation, generality, function_type}
-use Rattle.pure_grammar.specs.RawTree as tree
-use Rattle.pure_grammar.specs.InnerPhrase.{InnerName, Simple, Full, NoSort, OneClass, NoClass, Classes, TypePhrase, DomainsType, PlainType, ArrowType, TypePhrases, NoType, AndType, PostPhrase, Post, BasePhrase, VariableBase, SchematicBase, NamedBase, ClosedBase, ArgumentsBase, NamedVar, BoundVar, BinderPhrase, PlainBinder, TypedBinder, BindersPhrase, OneTyped, Binders, TermPhrase, AllTerm, ImpTerm, ImpPhrase, PremisesImp, PlainImp, ArrowImp, TermPhrases, NoTerm, AndTerm, EqPhrase, PlainEq, BothEq, ConPhrase, LambdaCon, PlainCon, TypedCon, AppPhrase, Application, AtomPhrases, NoAtom, AndAtom, AtomPhrase, NamedAtom, SchematicAtom, BoundAtom, ClosedAtom}
-use Rattle.pure_grammar.specs.InnerText.{each, name_text, comma_name_text, type_text, types_text, post_text, base_text, binder_text, binders_text, term_text, imp_text, terms_text, eq_text, con_text, app_text, atoms_text, atom_text}
-use Rattle.pure_grammar.specs.InnerTree.{class_raw, base_place, post_place, type_place, constructed, type_raw, functions_raw, types_raw, post_raw, base_raw, var_of, var_place, binder_var, binder_typ, binder_place, inner_lambdas, lambda_raw, inner_alls, all_raw, atom_place, app_place, con_place, eq_place, imp_place, term_place, term_raw, imp_raw, implications_raw, eq_raw, con_raw, app_raw, applied_raw, atom_raw}
-use Rattle.pure_grammar.specs.InnerReader.{Written, Quantifier, OfAll, OfLambda, LambdaBody, RightSide, Conclusion, AllBody, FirstPremise, NextPremise, Enclosed, Argument, Constraint, BinderType, OnlyBinderType, FirstDomain, NextDomain, EnclosedType, MoreArguments, Frame, Joined, InTerm, Range, InType, AtTerm, AtCon, AfterAtom, AtBinder, AfterFirstVar, AfterBinder, AtType, AfterVariable, AfterClass, AfterPost, AtConstructor, In, DoneTerm, DoneType, reduced, equals, implies, premise_ends, part_ends, con_ends, after_atom, bound, body_place, variable_type, ranged, domain_ends, type_part_ends, type_ends, after_post, after_variable, goes_on, run}
+use Rattle.pure_grammar.specs.Terms.InnerLexeme.{InnerLexeme, Plain, Dotted, Signed, Ends}
+use Rattle.pure_grammar.specs.Terms.RawTree.{RawClassTree, RawTypTree, RawTree, raw_typs_of, implication, equation, generality, function_type}
+use Rattle.pure_grammar.specs.Terms.RawTree as tree
+use Rattle.pure_grammar.specs.Terms.InnerPhrase.{InnerName, Simple, Full, NoSort, OneClass, NoClass, Classes, TypePhrase, DomainsType, PlainType, ArrowType, TypePhrases, NoType, AndType, PostPhrase, Post, BasePhrase, VariableBase, SchematicBase, NamedBase, ClosedBase, ArgumentsBase, NamedVar, BoundVar, BinderPhrase, PlainBinder, TypedBinder, BindersPhrase, OneTyped, Binders, TermPhrase, AllTerm, ImpTerm, ImpPhrase, PremisesImp, PlainImp, ArrowImp, TermPhrases, NoTerm, AndTerm, EqPhrase, PlainEq, BothEq, ConPhrase, LambdaCon, PlainCon, TypedCon, AppPhrase, Application, AtomPhrases, NoAtom, AndAtom, AtomPhrase, NamedAtom, SchematicAtom, BoundAtom, ClosedAtom}
+use Rattle.pure_grammar.specs.Terms.InnerText.{each, name_text, comma_name_text, type_text, types_text, post_text, base_text, binder_text, binders_text, term_text, imp_text, terms_text, eq_text, con_text, app_text, atoms_text, atom_text}
+use Rattle.pure_grammar.specs.Terms.InnerTree.{class_raw, base_place, post_place, type_place, constructed, type_raw, functions_raw, types_raw, post_raw, base_raw, var_of, var_place, binder_var, binder_typ, binder_place, inner_lambdas, lambda_raw, inner_alls, all_raw, atom_place, app_place, con_place, eq_place, imp_place, term_place, term_raw, imp_raw, implications_raw, eq_raw, con_raw, app_raw, applied_raw, atom_raw}
+use Rattle.pure_grammar.specs.Terms.InnerReader.{Written, Quantifier, OfAll, OfLambda, LambdaBody, RightSide, Conclusion, AllBody, FirstPremise, NextPremise, Enclosed, Argument, Constraint, BinderType, OnlyBinderType, FirstDomain, NextDomain, EnclosedType, MoreArguments, Frame, Joined, InTerm, Range, InType, AtTerm, AtCon, AfterAtom, AtBinder, AfterFirstVar, AfterBinder, AtType, AfterVariable, AfterClass, AfterPost, AtConstructor, In, DoneTerm, DoneType, reduced, equals, implies, premise_ends, part_ends, con_ends, after_atom, bound, body_place, variable_type, ranged, domain_ends, type_part_ends, type_ends, after_post, after_variable, goes_on, run}
 
 -- ---- what may stand behind phrases
 

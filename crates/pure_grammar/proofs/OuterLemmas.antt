@@ -1,9 +1,9 @@
 -- No tokens spell two trees.
 use Rattle.std.proofs.Common.{◌≡◌, List, sym, ◌∙◌, ap}
-use Rattle.pure_grammar.specs.TheoryText.{TheoryText}
-use Rattle.pure_grammar.specs.Lexeme.{Lexeme, lexemes}
-use Rattle.pure_grammar.specs.Outer.{IsTheory, OneTheory}
-use Rattle.pure_grammar.specs.Reader.{AtStart, AtLast, Outcome, Through, run}
+use Rattle.pure_grammar.specs.Theories.TheoryText.{TheoryText}
+use Rattle.pure_grammar.specs.Theories.Lexeme.{Lexeme, lexemes}
+use Rattle.pure_grammar.specs.Theories.Outer.{IsTheory, OneTheory}
+use Rattle.pure_grammar.specs.Theories.Reader.{AtStart, AtLast, Outcome, Through, run}
 use Rattle.pure_grammar.proofs.ReaderLemmas.{run-file_text}
 
 -- what the reader has read, when it is through

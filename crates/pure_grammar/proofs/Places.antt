@@ -2,8 +2,8 @@
 use Rattle.std.proofs.Common.{◌≡◌, ℕ, zero, suc, ◌<◌, List, [], ◌∷◌, ◌++◌, length, get_or, inl, inr, refl, sym, ◌∙◌, ap, subst, arith}
 use Rattle.std.proofs.lemmas.Bool.{cases_lt}
 use Rattle.pure_grammar.specs.declared.token.Token.{Token}
-use Rattle.pure_grammar.specs.Spelling.{IsSlice, AreSlices}
-use Rattle.pure_grammar.specs.Outer.{place_of}
+use Rattle.pure_grammar.specs.Tokens.Spelling.{IsSlice, AreSlices}
+use Rattle.pure_grammar.specs.Theories.Outer.{place_of}
 
 -- the longer front goes on behind the shorter one
 pub record GoesOnBehind {A : Type 0} (b c : List A) (x : A) : Type 0 where

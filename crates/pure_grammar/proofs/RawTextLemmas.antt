@@ -10,14 +10,14 @@ use Rattle.pure_grammar.specs.declared.token.TokenKind.{TokenKind}
 use Rattle.pure_grammar.specs.declared.token.TokenKind.TheVariants as kind
 use Rattle.pure_grammar.specs.declared.inner.Opening.TheVariants as opening
 use Rattle.pure_grammar.specs.declared.inner.Mark.TheVariants as mark
-use Rattle.pure_grammar.specs.Lexeme.{same}
-use Rattle.pure_grammar.specs.InnerLexeme.{InnerLexeme, Plain, Schematic, TypeSchematic, Bound, Opens, Signed, Other, Ends, mark_lexeme, sign_lexeme, inner_of, inners}
-use Rattle.pure_grammar.specs.RawTree.{RawTypTree, RawTree, implication, equation, generality, function_type}
-use Rattle.pure_grammar.specs.RawTree as tree
-use Rattle.pure_grammar.specs.InnerPhrase.{InnerName, Simple, Full, InnerSort, NoSort, OneClass, NoClass, Classes, TypePhrase, DomainsType, PlainType, ArrowType, TypePhrases, NoType, AndType, PostPhrase, Post, BasePhrase, VariableBase, SchematicBase, NamedBase, ClosedBase, ArgumentsBase, VarPhrase, NamedVar, BoundVar, BinderPhrase, PlainBinder, TypedBinder, BindersPhrase, OneTyped, Binders, TermPhrase, AllTerm, ImpTerm, ImpPhrase, PremisesImp, PlainImp, ArrowImp, TermPhrases, NoTerm, AndTerm, EqPhrase, PlainEq, BothEq, ConPhrase, LambdaCon, PlainCon, TypedCon, AppPhrase, Application, AtomPhrases, NoAtom, AndAtom, AtomPhrase, NamedAtom, SchematicAtom, BoundAtom, ClosedAtom}
-use Rattle.pure_grammar.specs.InnerText.{each, name_text, comma_name_text, sort_text, type_text, types_text, post_text, base_text, var_text, binder_text, binders_text, term_text, imp_text, terms_text, eq_text, con_text, app_text, atoms_text, atom_text}
-use Rattle.pure_grammar.specs.InnerTree.{name_of, name_place, class_raw, sort_raw, base_place, post_place, type_place, var_place, binder_place, atom_place, con_place, eq_place, term_place, constructed, type_raw, functions_raw, types_raw, post_raw, base_raw, var_of, binder_var, binder_typ, inner_lambdas, lambda_raw, inner_alls, all_raw, name_raw, term_raw, imp_raw, implications_raw, eq_raw, con_raw, app_raw, applied_raw, atom_raw}
-use Rattle.pure_grammar.specs.RawTexts.{SomeToken, has_apostrophe, IsWritten, NameAt, ClassAt, EachInType, EachInTypes, EachInTerm, TermIsWritten, TypeIsWritten}
+use Rattle.pure_grammar.specs.Theories.Lexeme.{same}
+use Rattle.pure_grammar.specs.Terms.InnerLexeme.{InnerLexeme, Plain, Schematic, TypeSchematic, Bound, Opens, Signed, Other, Ends, mark_lexeme, sign_lexeme, inner_of, inners}
+use Rattle.pure_grammar.specs.Terms.RawTree.{RawTypTree, RawTree, implication, equation, generality, function_type}
+use Rattle.pure_grammar.specs.Terms.RawTree as tree
+use Rattle.pure_grammar.specs.Terms.InnerPhrase.{InnerName, Simple, Full, InnerSort, NoSort, OneClass, NoClass, Classes, TypePhrase, DomainsType, PlainType, ArrowType, TypePhrases, NoType, AndType, PostPhrase, Post, BasePhrase, VariableBase, SchematicBase, NamedBase, ClosedBase, ArgumentsBase, VarPhrase, NamedVar, BoundVar, BinderPhrase, PlainBinder, TypedBinder, BindersPhrase, OneTyped, Binders, TermPhrase, AllTerm, ImpTerm, ImpPhrase, PremisesImp, PlainImp, ArrowImp, TermPhrases, NoTerm, AndTerm, EqPhrase, PlainEq, BothEq, ConPhrase, LambdaCon, PlainCon, TypedCon, AppPhrase, Application, AtomPhrases, NoAtom, AndAtom, AtomPhrase, NamedAtom, SchematicAtom, BoundAtom, ClosedAtom}
+use Rattle.pure_grammar.specs.Terms.InnerText.{each, name_text, comma_name_text, sort_text, type_text, types_text, post_text, base_text, var_text, binder_text, binders_text, term_text, imp_text, terms_text, eq_text, con_text, app_text, atoms_text, atom_text}
+use Rattle.pure_grammar.specs.Terms.InnerTree.{name_of, name_place, class_raw, sort_raw, base_place, post_place, type_place, var_place, binder_place, atom_place, con_place, eq_place, term_place, constructed, type_raw, functions_raw, types_raw, post_raw, base_raw, var_of, binder_var, binder_typ, inner_lambdas, lambda_raw, inner_alls, all_raw, name_raw, term_raw, imp_raw, implications_raw, eq_raw, con_raw, app_raw, applied_raw, atom_raw}
+use Rattle.pure_grammar.specs.Terms.RawTexts.{SomeToken, has_apostrophe, IsWritten, NameAt, ClassAt, EachInType, EachInTypes, EachInTerm, TermIsWritten, TypeIsWritten}
 
 -- ---- names
 

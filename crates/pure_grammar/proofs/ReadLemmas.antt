@@ -5,15 +5,15 @@ use Rattle.std.specs.Prelude.{Bool, true, false, Option, Some, None, map, if◌t
 use Rattle.std.specs.List.{list_any, AllByRecursion, fold}
 use Rattle.pure_grammar.specs.declared.lexeme.Keyword.TheVariants as keyword
 use Rattle.pure_grammar.specs.declared.lexeme.Sign.TheVariants as sign
-use Rattle.pure_grammar.specs.TheoryText.{Span, Step, Command, TheoryText}
-use Rattle.pure_grammar.specs.TheoryText as tree
-use Rattle.pure_grammar.specs.Lexeme.{Lexeme, Reserved, Signed, Plain, Dotted, Variable, Numeral, Quoted, Ends, same}
-use Rattle.pure_grammar.specs.Phrase.{Ident, Name, Simple, Full, TypeVariable, QuotedType, NamedType, VariableType, OneClass, NoClass, Classes, BasicPhrase, ByAssumption, ByRule, ByErule, ByDrule, ByUnfold, Alone, Together, ApplyStep, PreferStep, DeferStep, DoneEnd, ByEnd, ProofPhrase, NoneAbove, Above, NoParam, OneParam, Params, DomainsPhrase, NoDomain, Domains, AxiomPhrase, LemmaWritten, TheoremWritten, CommandPhrase, ClassCommand, TypedeclCommand, AritiesCommand, ConstsCommand, AxiomsCommand, DefinitionCommand, LemmaCommand, NoImport, Imports, FilePhrase}
-use Rattle.pure_grammar.specs.PhraseText.{each, each_comma, name_text, ident_text, variable_text, type_text, sort_text, basic_text, method_text, step_text, end_text, proof_text, domains_text, item_text, axiom_text, and_axiom_text, command_text, file_text, assumption_word, rule_word, erule_word, drule_word, unfold_word}
-use Rattle.pure_grammar.specs.PhraseTree.{all_of, name_of, type_span, sort_of, basic_step, method_steps, step_steps, end_steps, proof_steps, domains_of, item_command, axiom_command, phrase_commands, commands_of, with_text, mentions, imports_of, file_tree, IsCommandPhrase}
+use Rattle.pure_grammar.specs.Theories.TheoryText.{Span, Step, Command, TheoryText}
+use Rattle.pure_grammar.specs.Theories.TheoryText as tree
+use Rattle.pure_grammar.specs.Theories.Lexeme.{Lexeme, Reserved, Signed, Plain, Dotted, Variable, Numeral, Quoted, Ends, same}
+use Rattle.pure_grammar.specs.Theories.Phrase.{Ident, Name, Simple, Full, TypeVariable, QuotedType, NamedType, VariableType, OneClass, NoClass, Classes, BasicPhrase, ByAssumption, ByRule, ByErule, ByDrule, ByUnfold, Alone, Together, ApplyStep, PreferStep, DeferStep, DoneEnd, ByEnd, ProofPhrase, NoneAbove, Above, NoParam, OneParam, Params, DomainsPhrase, NoDomain, Domains, AxiomPhrase, LemmaWritten, TheoremWritten, CommandPhrase, ClassCommand, TypedeclCommand, AritiesCommand, ConstsCommand, AxiomsCommand, DefinitionCommand, LemmaCommand, NoImport, Imports, FilePhrase}
+use Rattle.pure_grammar.specs.Theories.PhraseText.{each, each_comma, name_text, ident_text, variable_text, type_text, sort_text, basic_text, method_text, step_text, end_text, proof_text, domains_text, item_text, axiom_text, and_axiom_text, command_text, file_text, assumption_word, rule_word, erule_word, drule_word, unfold_word}
+use Rattle.pure_grammar.specs.Theories.PhraseTree.{all_of, name_of, type_span, sort_of, basic_step, method_steps, step_steps, end_steps, proof_steps, domains_of, item_command, axiom_command, phrase_commands, commands_of, with_text, mentions, imports_of, file_tree, IsCommandPhrase}
 use Rattle.pure_grammar.proofs.Distinct.{same-is, AreNew, new-distinct}
 use Rattle.pure_grammar.proofs.ReaderLemmas.{after}
-use Rattle.pure_grammar.specs.Reader.{Header, State, InBody, AtStart, AfterImport, AtLast, Outcome, Through, Stuck, FactMethod, OfRule, OfErule, OfDrule, fact_step, AtStep, AtMethod, AtBasic, AfterBasic, AtFact, AtUnfolded, AfterUnfolded, Place, AtCommand, AtClassName, AfterAbove, AtParams, AfterParam, AtConstructor, AtDomains, AtSort, AfterSort, AfterClass, AtArityClass, AtItem, AtItemType, AfterItemType, AtWhere, AtAxiom, AfterAxiomText, AtDefinition, AtDefinitionType, AfterDefinitionType, AtLemma, InProof, Moves, Refuses, command_begun, leave, leave_with, goes_on, body_state, run}
+use Rattle.pure_grammar.specs.Theories.Reader.{Header, State, InBody, AtStart, AfterImport, AtLast, Outcome, Through, Stuck, FactMethod, OfRule, OfErule, OfDrule, fact_step, AtStep, AtMethod, AtBasic, AfterBasic, AtFact, AtUnfolded, AfterUnfolded, Place, AtCommand, AtClassName, AfterAbove, AtParams, AfterParam, AtConstructor, AtDomains, AtSort, AfterSort, AfterClass, AtArityClass, AtItem, AtItemType, AfterItemType, AtWhere, AtAxiom, AfterAxiomText, AtDefinition, AtDefinitionType, AfterDefinitionType, AtLemma, InProof, Moves, Refuses, command_begun, leave, leave_with, goes_on, body_state, run}
 
 -- the reader reads all, and the theory is this
 abbrev pub Gets : State → List Lexeme → TheoryText → Type 0

@@ -6,14 +6,14 @@ use Rattle.std.specs.List.{list_any, AllByRecursion}
 use Rattle.pure_grammar.specs.declared.lexeme.Keyword.{Keyword}
 use Rattle.pure_grammar.specs.declared.lexeme.Keyword.TheVariants as keyword
 use Rattle.pure_grammar.specs.declared.lexeme.Sign.TheVariants as sign
-use Rattle.pure_grammar.specs.TheoryText.{Span, Step, Command, TheoryText}
-use Rattle.pure_grammar.specs.TheoryText as tree
-use Rattle.pure_grammar.specs.Lexeme.{Lexeme, Reserved, Signed, Quoted, Ends, same, is_word}
-use Rattle.pure_grammar.specs.Phrase.{Ident, Name, Simple, Full, TypeVariable, TypePhrase, QuotedType, NamedType, VariableType, SortPhrase, OneClass, NoClass, Classes, BasicPhrase, ByAssumption, ByRule, ByErule, ByDrule, ByUnfold, MethodPhrase, Alone, Together, StepPhrase, ApplyStep, PreferStep, DeferStep, EndPhrase, DoneEnd, ByEnd, ProofPhrase, AbovePhrase, NoneAbove, Above, ParamsPhrase, NoParam, OneParam, Params, DomainsPhrase, NoDomain, Domains, ItemPhrase, AxiomPhrase, LemmaWritten, TheoremWritten, CommandPhrase, ClassCommand, TypedeclCommand, AritiesCommand, ConstsCommand, AxiomsCommand, DefinitionCommand, LemmaCommand, ImportsPhrase, NoImport, Imports, FilePhrase}
-use Rattle.pure_grammar.specs.PhraseText.{each, each_comma, name_text, ident_text, variable_text, type_text, sort_text, basic_text, method_text, step_text, end_text, proof_text, above_text, params_text, domains_text, item_text, and_axiom_text, command_text, file_text}
-use Rattle.pure_grammar.specs.PhraseTree.{all_of, name_of, names_of, type_span, sort_of, basic_step, method_steps, step_steps, end_steps, steps_of, proof_steps, above_of, params_of, domains_of, item_command, axiom_command, phrase_commands, commands_of, with_text, mentions, imports_of, file_tree, IsCommandPhrase}
+use Rattle.pure_grammar.specs.Theories.TheoryText.{Span, Step, Command, TheoryText}
+use Rattle.pure_grammar.specs.Theories.TheoryText as tree
+use Rattle.pure_grammar.specs.Theories.Lexeme.{Lexeme, Reserved, Signed, Quoted, Ends, same, is_word}
+use Rattle.pure_grammar.specs.Theories.Phrase.{Ident, Name, Simple, Full, TypeVariable, TypePhrase, QuotedType, NamedType, VariableType, SortPhrase, OneClass, NoClass, Classes, BasicPhrase, ByAssumption, ByRule, ByErule, ByDrule, ByUnfold, MethodPhrase, Alone, Together, StepPhrase, ApplyStep, PreferStep, DeferStep, EndPhrase, DoneEnd, ByEnd, ProofPhrase, AbovePhrase, NoneAbove, Above, ParamsPhrase, NoParam, OneParam, Params, DomainsPhrase, NoDomain, Domains, ItemPhrase, AxiomPhrase, LemmaWritten, TheoremWritten, CommandPhrase, ClassCommand, TypedeclCommand, AritiesCommand, ConstsCommand, AxiomsCommand, DefinitionCommand, LemmaCommand, ImportsPhrase, NoImport, Imports, FilePhrase}
+use Rattle.pure_grammar.specs.Theories.PhraseText.{each, each_comma, name_text, ident_text, variable_text, type_text, sort_text, basic_text, method_text, step_text, end_text, proof_text, above_text, params_text, domains_text, item_text, and_axiom_text, command_text, file_text}
+use Rattle.pure_grammar.specs.Theories.PhraseTree.{all_of, name_of, names_of, type_span, sort_of, basic_step, method_steps, step_steps, end_steps, steps_of, proof_steps, above_of, params_of, domains_of, item_command, axiom_command, phrase_commands, commands_of, with_text, mentions, imports_of, file_tree, IsCommandPhrase}
 use Rattle.pure_grammar.proofs.Distinct.{AreNew, distinct-new}
-use Rattle.pure_grammar.specs.Reader.{Header, State, InBody, AtStart, AfterImport, AtLast, Through, FactMethod, OfRule, OfErule, OfDrule, fact_step, AtStep, AtMethod, AtBasic, AfterBasic, AtFact, AtUnfolded, AfterUnfolded, Place, AtCommand, AfterClassName, AtAbove, AfterAbove, AtParams, AtParam, AfterParam, AtConstructor, AtDomains, AtSort, AfterSort, AtFirstClass, AfterClass, AtArityClass, AtItem, AtItemType, AfterItemType, AfterAxiomText, AtDefinitionType, AfterDefinitionType, InProof, command_begun, run}
+use Rattle.pure_grammar.specs.Theories.Reader.{Header, State, InBody, AtStart, AfterImport, AtLast, Through, FactMethod, OfRule, OfErule, OfDrule, fact_step, AtStep, AtMethod, AtBasic, AfterBasic, AtFact, AtUnfolded, AfterUnfolded, Place, AtCommand, AfterClassName, AtAbove, AfterAbove, AtParams, AtParam, AfterParam, AtConstructor, AtDomains, AtSort, AfterSort, AtFirstClass, AfterClass, AtArityClass, AtItem, AtItemType, AfterItemType, AfterAxiomText, AtDefinitionType, AfterDefinitionType, InProof, command_begun, run}
 
 -- ---- lists of phrases
 pub run-each : {A B : Type 0} (text : A → List Lexeme → List Lexeme) (given : A → B) (s : List B → State)

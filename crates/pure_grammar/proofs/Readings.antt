@@ -2,9 +2,9 @@
 use Rattle.std.proofs.Common.{◌≡◌, ℕ, ◌+◌, ◌<◌, List, [], ◌∷◌, ◌++◌, length, refl, sym, ◌∙◌, ap, inl, inr, true, Some, None, arith}
 use Rattle.std.proofs.lemmas.Bool.{both_ways, false_from_ne_true}
 use Rattle.std.proofs.lemmas.List.{append-nil}
-use Rattle.pure_grammar.specs.Comment.{Gap, IsSettled, is_comment, opens_comment}
-use Rattle.pure_grammar.specs.Token.{is_token, long_identifier}
-use Rattle.pure_grammar.specs.Spelling.{IsFirst, Begins, Leaves, IsFault, HasFault, OneList, ListOrFault, OneFault}
+use Rattle.pure_grammar.specs.Tokens.Comment.{Gap, IsSettled, is_comment, opens_comment}
+use Rattle.pure_grammar.specs.Tokens.Token.{is_token, long_identifier}
+use Rattle.pure_grammar.specs.Tokens.Spelling.{IsFirst, Begins, Leaves, IsFault, HasFault, OneList, ListOrFault, OneFault}
 use Rattle.pure_grammar.specs.declared.token.Token.{Token}
 use Rattle.pure_grammar.specs.declared.token.TokenKind.{TokenKind}
 use Rattle.pure_grammar.proofs.Fronts.{Within, cuts}

@@ -3,8 +3,8 @@ use Rattle.std.proofs.Common.{◌==◌, false, ◌≡◌, ℕ, ◌+◌, ◌-◌,
 use Rattle.std.specs.Prelude.{slice_range}
 use Rattle.std.proofs.Math.Seq.{take-append_seam, drop-append_seam}
 use Rattle.std.proofs.lemmas.List.{take-append-drop, length-take, length-take-le, length-drop}
-use Rattle.pure_grammar.specs.Token.{is_token}
-use Rattle.pure_grammar.specs.Spelling.{Begins, Leaves, IsSlice, AreSlices, QuoteHasMarks, TokensAreSlices}
+use Rattle.pure_grammar.specs.Tokens.Token.{is_token}
+use Rattle.pure_grammar.specs.Tokens.Spelling.{Begins, Leaves, IsSlice, AreSlices, QuoteHasMarks, TokensAreSlices}
 use Rattle.pure_grammar.specs.declared.token.Token.{Token}
 use Rattle.pure_grammar.specs.declared.token.TokenKind.{TokenKind}
 use Rattle.pure_grammar.specs.declared.token.TokenKind.TheVariants.{Quote}

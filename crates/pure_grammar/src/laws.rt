@@ -1,8 +1,8 @@
 //! Laws of the definitions. Each function has no body: its contract is the law.
-ghost use Rattle.pure_grammar.specs.Inner.{OneTerm, OneType};
-ghost use Rattle.pure_grammar.specs.Outer.{OneTheory};
-ghost use Rattle.pure_grammar.specs.RawTexts.{TermIsWritten, TypeIsWritten};
-ghost use Rattle.pure_grammar.specs.Spelling.{OneList, ListOrFault, OneFault, QuoteHasMarks, TokensAreSlices};
+ghost use Rattle.pure_grammar.specs.Terms.Inner.{OneTerm, OneType};
+ghost use Rattle.pure_grammar.specs.Theories.Outer.{OneTheory};
+ghost use Rattle.pure_grammar.specs.Terms.RawTexts.{TermIsWritten, TypeIsWritten};
+ghost use Rattle.pure_grammar.specs.Tokens.Spelling.{OneList, ListOrFault, OneFault, QuoteHasMarks, TokensAreSlices};
 
 /// No source is spelled by two lists of tokens.
 pub fn one_list()

@@ -2,7 +2,7 @@
 use Rattle.std.proofs.Common.{◌≡◌, ℕ, zero, suc, ◌+◌, ◌-◌, ◌<◌, ◌≤◌, true, false, List, [], ◌∷◌, ◌++◌, length, get_or, drop, refl, sym, ap, ◌∙◌, ◌==◌, inl, inr, arith, drop-cons, Option, Some, None, if◌then◌else◌}
 use Rattle.std.proofs.lemmas.Bool.{cases_Bool, and_parts, eqb-true, false_from_ne_true, false≢true}
 use Rattle.std.proofs.lemmas.List.{length-append, length-drop}
-use Rattle.pure_grammar.specs.Comment.{is_opening, is_closing, closes, is_comment, opens_comment}
+use Rattle.pure_grammar.specs.Tokens.Comment.{is_opening, is_closing, closes, is_comment, opens_comment}
 use Rattle.pure_grammar.proofs.Gaps.{opened, empty_is}
 use Rattle.pure_lex.specs.Fronts.{IsComment, HasNoComment}
 

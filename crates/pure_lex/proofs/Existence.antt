@@ -4,11 +4,11 @@ use Rattle.std.specs.List.{list_all}
 use Rattle.std.proofs.Math.Seq.{take-add}
 use Rattle.std.proofs.lemmas.Bool.{cases_Bool, cases_lt, cases_eq, and_parts, and_from, or_from, eqb-true}
 use Rattle.std.proofs.lemmas.List.{length-drop, drop-drop}
-use Rattle.pure_grammar.specs.Bytes.{is_letter, is_digit, is_name_byte, is_blank, head_is, marked}
-use Rattle.pure_grammar.specs.Comment.{Gap, IsSettled, opens_comment}
-use Rattle.pure_grammar.specs.Comment.Gap.{nothing, blank}
-use Rattle.pure_grammar.specs.Token.{is_quotable}
-use Rattle.pure_grammar.specs.Spelling.{Spells, HasFault, IsFault, SomeReading}
+use Rattle.pure_grammar.specs.Tokens.Bytes.{is_letter, is_digit, is_name_byte, is_blank, head_is, marked}
+use Rattle.pure_grammar.specs.Tokens.Comment.{Gap, IsSettled, opens_comment}
+use Rattle.pure_grammar.specs.Tokens.Comment.Gap.{nothing, blank}
+use Rattle.pure_grammar.specs.Tokens.Token.{is_quotable}
+use Rattle.pure_grammar.specs.Tokens.Spelling.{Spells, HasFault, IsFault, SomeReading}
 use Rattle.pure_grammar.specs.declared.token.Token.{Token}
 use Rattle.pure_grammar.specs.declared.token.TokenKind.{TokenKind}
 use Rattle.pure_grammar.specs.declared.token.TokenKind.TheVariants.{Qualified, TypeVar, Schem, BoundName, Number, Quote, Symbol}

@@ -3,10 +3,10 @@ use Rattle.std.proofs.Common.{◌≡◌, ℕ, ◌<◌, true, false, not, ◌==�
 use Rattle.std.specs.List.{list_all}
 use Rattle.std.proofs.lemmas.Bool.{and_parts, and_from, both_ways, false_from_ne_true, false≢true, cases_Bool, not_from_false}
 use Rattle.std.proofs.lemmas.List.{append-nil}
-use Rattle.pure_grammar.specs.Bytes.{is_letter, is_digit, is_name_byte, is_empty, head_is, marked, behind}
-use Rattle.pure_grammar.specs.Comment.{opens_comment}
-use Rattle.pure_grammar.specs.Token.{is_spelling, is_qualified, is_keyword, is_token}
-use Rattle.pure_grammar.specs.Spelling.{IsFirst, HasNoFirst}
+use Rattle.pure_grammar.specs.Tokens.Bytes.{is_letter, is_digit, is_name_byte, is_empty, head_is, marked, behind}
+use Rattle.pure_grammar.specs.Tokens.Comment.{opens_comment}
+use Rattle.pure_grammar.specs.Tokens.Token.{is_spelling, is_qualified, is_keyword, is_token}
+use Rattle.pure_grammar.specs.Tokens.Spelling.{IsFirst, HasNoFirst}
 use Rattle.pure_grammar.specs.declared.token.TokenKind.{TokenKind}
 use Rattle.pure_grammar.specs.declared.token.TokenKind.TheVariants.{Word, Ident, Qualified, TypeVar, Schem, BoundName, Number, Quote, Symbol, End}
 use Rattle.pure_grammar.proofs.Fronts.{marked-is}

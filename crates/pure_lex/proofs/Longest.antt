@@ -4,8 +4,8 @@ use Rattle.std.specs.Prelude.{nat_le}
 use Rattle.std.specs.List.{list_all}
 use Rattle.std.proofs.lemmas.Bool.{and_parts, and_from, or_cases, both_ways, eq-eqb, leb-true, le-leb, lt-ltb, le-ltb}
 use Rattle.std.proofs.lemmas.List.Folds.{list_all-append}
-use Rattle.pure_grammar.specs.Bytes.{is_letter, is_digit, is_name_byte, is_empty, head_is, marked, behind}
-use Rattle.pure_grammar.specs.Token.{is_number, is_long}
+use Rattle.pure_grammar.specs.Tokens.Bytes.{is_letter, is_digit, is_name_byte, is_empty, head_is, marked, behind}
+use Rattle.pure_grammar.specs.Tokens.Token.{is_number, is_long}
 use Rattle.pure_grammar.proofs.Fronts.{marked-is}
 use Rattle.pure_grammar.proofs.Gaps.{empty_is}
 use Rattle.pure_lex.specs.Fronts.{IsLongest, is_index}

@@ -2,9 +2,9 @@
 use Rattle.std.proofs.Common.{◌≡◌, ℕ, zero, suc, ◌+◌, ◌-◌, ◌<◌, ◌≤◌, Bool, true, false, ◌==◌, List, [], ◌∷◌, ◌++◌, length, take, drop, get_or, refl, sym, ap, ◌∙◌, inl, inr, arith, append_assoc, length-append, add-one}
 use Rattle.std.proofs.lemmas.Bool.{and_parts, and_right, or_cases, or_left, or_right, both_ways, false_from_ne_true, eqb-true, eq-eqb}
 use Rattle.std.proofs.lemmas.List.{take-append-drop, length-take-le, length-drop}
-use Rattle.pure_grammar.specs.Bytes.{is_letter, is_digit, is_name_byte, head_is, marked}
-use Rattle.pure_grammar.specs.Token.{is_spelling, is_number, is_indexed, is_schematic, is_long, first_identifier}
-use Rattle.pure_grammar.specs.Spelling.{IsFirst, HasNoFirst, IsFault}
+use Rattle.pure_grammar.specs.Tokens.Bytes.{is_letter, is_digit, is_name_byte, head_is, marked}
+use Rattle.pure_grammar.specs.Tokens.Token.{is_spelling, is_number, is_indexed, is_schematic, is_long, first_identifier}
+use Rattle.pure_grammar.specs.Tokens.Spelling.{IsFirst, HasNoFirst, IsFault}
 use Rattle.pure_grammar.specs.declared.token.TokenKind.TheVariants.{TypeVar, Schem}
 use Rattle.pure_grammar.proofs.Fronts.{marked-is}
 use Rattle.pure_grammar.proofs.Indexed.{name_or_type, letter-not_mark, indexed-head, not-indexed, not-marked}

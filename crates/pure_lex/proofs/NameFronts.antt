@@ -3,9 +3,9 @@ use Rattle.std.proofs.Common.{◌≡◌, ℕ, zero, suc, ◌+◌, ◌-◌, ◌<�
 use Rattle.std.specs.List.{list_all}
 use Rattle.std.proofs.lemmas.Bool.{or_left, both_ways, cases_Bool}
 use Rattle.std.proofs.lemmas.List.{append-nil, take-append-drop, length-take-le, length-drop, drop-drop}
-use Rattle.pure_grammar.specs.Bytes.{is_letter, is_digit, is_name_byte, head_is, marked}
-use Rattle.pure_grammar.specs.Token.{is_keyword, is_long, long_identifier, first_identifier, second_identifier, tail}
-use Rattle.pure_grammar.specs.Spelling.{IsFirst, IsFault}
+use Rattle.pure_grammar.specs.Tokens.Bytes.{is_letter, is_digit, is_name_byte, head_is, marked}
+use Rattle.pure_grammar.specs.Tokens.Token.{is_keyword, is_long, long_identifier, first_identifier, second_identifier, tail}
+use Rattle.pure_grammar.specs.Tokens.Spelling.{IsFirst, IsFault}
 use Rattle.pure_grammar.specs.declared.token.TokenKind.{TokenKind}
 use Rattle.pure_grammar.specs.declared.token.TokenKind.TheVariants.{Qualified}
 use Rattle.pure_grammar.proofs.Fronts.{marked-is}

@@ -3,10 +3,10 @@ use Rattle.std.proofs.Common.{◌≡◌, ℕ, suc, ◌+◌, ◌-◌, ◌<◌, Bo
 use Rattle.std.specs.List.{list_all}
 use Rattle.std.proofs.lemmas.Bool.{and_parts, or_parts, both_ways, false≢true, eqb-true, cond_both, cases_lt, cases_Bool}
 use Rattle.std.proofs.lemmas.List.{take-append-drop, length-take-le, length-drop, get_or_past}
-use Rattle.pure_grammar.specs.Bytes.{is_letter, is_digit, is_empty, head_is, marked, behind}
-use Rattle.pure_grammar.specs.Comment.{opens_comment}
-use Rattle.pure_grammar.specs.Token.{is_number, is_quotable, is_quote, is_single, is_pair, is_triple, is_symbol, is_token}
-use Rattle.pure_grammar.specs.Spelling.{IsFirst, IsFault}
+use Rattle.pure_grammar.specs.Tokens.Bytes.{is_letter, is_digit, is_empty, head_is, marked, behind}
+use Rattle.pure_grammar.specs.Tokens.Comment.{opens_comment}
+use Rattle.pure_grammar.specs.Tokens.Token.{is_number, is_quotable, is_quote, is_single, is_pair, is_triple, is_symbol, is_token}
+use Rattle.pure_grammar.specs.Tokens.Spelling.{IsFirst, IsFault}
 use Rattle.pure_grammar.specs.declared.token.TokenKind.{TokenKind}
 use Rattle.pure_grammar.specs.declared.token.TokenKind.TheVariants.{BoundName, Number, Quote, Symbol}
 use Rattle.pure_grammar.proofs.Fronts.{marked-is}

@@ -3,9 +3,9 @@ use Rattle.std.proofs.Common.{◌≡◌, ℕ, ◌+◌, ◌-◌, ◌<◌, ◌≤�
 use Rattle.std.proofs.Math.Seq.{take-suc, take-append_seam, take-add}
 use Rattle.std.proofs.lemmas.Bool.{false_from_ne_true, both_ways}
 use Rattle.std.proofs.lemmas.List.{append-nil, drop_all, length-drop}
-use Rattle.pure_grammar.specs.Bytes.{is_blank, head_is}
-use Rattle.pure_grammar.specs.Comment.{is_comment, opens_comment, Gap, IsSettled}
-use Rattle.pure_grammar.specs.Comment.Gap.{nothing, blank, comment}
+use Rattle.pure_grammar.specs.Tokens.Bytes.{is_blank, head_is}
+use Rattle.pure_grammar.specs.Tokens.Comment.{is_comment, opens_comment, Gap, IsSettled}
+use Rattle.pure_grammar.specs.Tokens.Comment.Gap.{nothing, blank, comment}
 use Rattle.pure_grammar.proofs.Gaps.{opens_comment-front, settled-nothing}
 use Rattle.pure_lex.specs.Fronts.{IsComment, HasNoComment, IsGap}
 use Rattle.pure_lex.proofs.Comments.{opened-text}

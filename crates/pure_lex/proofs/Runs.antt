@@ -3,7 +3,7 @@ use Rattle.std.proofs.Common.{◌≡◌, ℕ, ◌<◌, ◌≤◌, Bool, true, fa
 use Rattle.std.specs.List.{list_all}
 use Rattle.std.proofs.lemmas.Bool.{cases_lt}
 use Rattle.std.proofs.lemmas.List.{take-append-drop, length-take-le, drop_all, take_all}
-use Rattle.pure_grammar.specs.Bytes.{head_is, is_digit}
+use Rattle.pure_grammar.specs.Tokens.Bytes.{head_is, is_digit}
 use Rattle.pure_lex.specs.Fronts.{IsCut, IsRun, IsDigits}
 
 -- a list is cut at each of its places

@@ -4,9 +4,9 @@ use Rattle.std.specs.Prelude.{slice_range}
 use Rattle.std.proofs.lemmas.Bool.{cond_both}
 use Rattle.std.proofs.lemmas.List.{take-append-drop, length-take-le, length-drop, drop-drop, take_all}
 use Rattle.std.proofs.lemmas.List.Prefix.{front_rest}
-use Rattle.pure_grammar.specs.Comment.{Gap}
-use Rattle.pure_grammar.specs.Token.{is_token, is_long, long_identifier, first_identifier, second_identifier}
-use Rattle.pure_grammar.specs.Spelling.{Begins, Leaves, Spells, HasFault, IsFault}
+use Rattle.pure_grammar.specs.Tokens.Comment.{Gap}
+use Rattle.pure_grammar.specs.Tokens.Token.{is_token, is_long, long_identifier, first_identifier, second_identifier}
+use Rattle.pure_grammar.specs.Tokens.Spelling.{Begins, Leaves, Spells, HasFault, IsFault}
 use Rattle.pure_grammar.specs.declared.token.Token.{Token}
 use Rattle.pure_grammar.specs.declared.token.TokenKind.{TokenKind}
 use Rattle.pure_grammar.proofs.Classes.{token-nothing}

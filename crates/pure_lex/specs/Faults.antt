@@ -1,6 +1,6 @@
 -- What a fault of the tokens says of its source.
 use Rattle.std.specs.Prelude.{ℕ, List}
-use Rattle.pure_grammar.specs.Spelling.{HasFault}
+use Rattle.pure_grammar.specs.Tokens.Spelling.{HasFault}
 use Rattle.pure_lex.specs.declared.reading.LexFault.{LexFault}
 use Rattle.pure_lex.specs.declared.reading.LexFault.TheVariants.{At, Memory}
 

@@ -1,10 +1,10 @@
 -- What stands at the front of a text.
 use Rattle.std.specs.Prelude.{◌≡◌, ℕ, ◌<◌, ◌≤◌, Bool, true, false, ◌||◌, ◌==◌, List, [], ◌∷◌, ◌++◌, take, drop, length, if◌then◌else◌, None, Result, MatchResult}
 use Rattle.std.specs.List.{list_all}
-use Rattle.pure_grammar.specs.Bytes.{dot, apostrophe, question_mark, underscore, quotation_mark, head_is, is_letter, is_digit, is_empty, marked}
-use Rattle.pure_grammar.specs.Comment.{Gap, IsSettled, is_comment}
-use Rattle.pure_grammar.specs.Token.{is_single, is_pair, is_triple, long_identifier, is_number, is_keyword}
-use Rattle.pure_grammar.specs.Spelling.{IsFirst, IsFault}
+use Rattle.pure_grammar.specs.Tokens.Bytes.{dot, apostrophe, question_mark, underscore, quotation_mark, head_is, is_letter, is_digit, is_empty, marked}
+use Rattle.pure_grammar.specs.Tokens.Comment.{Gap, IsSettled, is_comment}
+use Rattle.pure_grammar.specs.Tokens.Token.{is_single, is_pair, is_triple, long_identifier, is_number, is_keyword}
+use Rattle.pure_grammar.specs.Tokens.Spelling.{IsFirst, IsFault}
 use Rattle.pure_grammar.specs.declared.token.TokenKind.{TokenKind}
 use Rattle.pure_grammar.specs.declared.token.TokenKind.TheVariants.{Word, Ident}
 use Rattle.pure_lex.specs.declared.front.Front.{Front}

@@ -1,7 +1,7 @@
 //! Classes of bytes, and how many bytes of a class stand at the front of a text.
 ghost use Rattle.std.specs.Prelude.{◌≡◌, ◌≤◌, length, drop, slice_index};
-ghost use Rattle.pure_grammar.specs.Bytes.{is_letter, is_digit, is_name_byte, is_blank};
-ghost use Rattle.pure_grammar.specs.Token.{is_quotable};
+ghost use Rattle.pure_grammar.specs.Tokens.Bytes.{is_letter, is_digit, is_name_byte, is_blank};
+ghost use Rattle.pure_grammar.specs.Tokens.Token.{is_quotable};
 ghost use Rattle.pure_lex.specs.Fronts.{IsRun, IsDigits};
 
 /// How many digits a number, an index or a bound name may have.
@@ -24,7 +24,7 @@ pub fn rest_from(text: &[u8], at: usize) -> &[u8]
 }
 
 /// `A` to `Z` and `a` to `z`.
-#[tactic(auto, unfolding(pure_grammar::specs::Bytes::is_letter))]
+#[tactic(auto, unfolding(pure_grammar::specs::Tokens::Bytes::is_letter))]
 pub fn is_letter(b: u8) -> bool
     ensures { result ≡ is_letter b }
 {
@@ -32,7 +32,7 @@ pub fn is_letter(b: u8) -> bool
 }
 
 /// `0` to `9`.
-#[tactic(auto, unfolding(pure_grammar::specs::Bytes::is_digit))]
+#[tactic(auto, unfolding(pure_grammar::specs::Tokens::Bytes::is_digit))]
 pub fn is_digit(b: u8) -> bool
     ensures { result ≡ is_digit b }
 {
@@ -40,7 +40,7 @@ pub fn is_digit(b: u8) -> bool
 }
 
 /// A letter, a digit, `_` or `'`.
-#[tactic(auto, unfolding(pure_grammar::specs::Bytes::is_name_byte))]
+#[tactic(auto, unfolding(pure_grammar::specs::Tokens::Bytes::is_name_byte))]
 pub fn is_name_byte(b: u8) -> bool
     ensures { result ≡ is_name_byte b }
 {
@@ -48,7 +48,7 @@ pub fn is_name_byte(b: u8) -> bool
 }
 
 /// A space, a tab, a carriage return or a line feed.
-#[tactic(auto, unfolding(pure_grammar::specs::Bytes::is_blank))]
+#[tactic(auto, unfolding(pure_grammar::specs::Tokens::Bytes::is_blank))]
 pub fn is_blank(b: u8) -> bool
     ensures { result ≡ is_blank b }
 {
@@ -56,7 +56,7 @@ pub fn is_blank(b: u8) -> bool
 }
 
 /// Any ASCII byte but the quotation mark.
-#[tactic(auto, unfolding(pure_grammar::specs::Token::is_quotable))]
+#[tactic(auto, unfolding(pure_grammar::specs::Tokens::Token::is_quotable))]
 pub fn is_quotable(b: u8) -> bool
     ensures { result ≡ is_quotable b }
 {

@@ -1,7 +1,7 @@
 //! The first token of a text that begins with neither a blank nor a comment.
 ghost use Rattle.std.specs.Prelude.{◌≡◌, ◌<◌, length, slice_index, true, false};
-ghost use Rattle.pure_grammar.specs.Bytes.{underscore, quotation_mark, head_is, is_digit};
-ghost use Rattle.pure_grammar.specs.Token.{is_single, is_pair, is_triple};
+ghost use Rattle.pure_grammar.specs.Tokens.Bytes.{underscore, quotation_mark, head_is, is_digit};
+ghost use Rattle.pure_grammar.specs.Tokens.Token.{is_single, is_pair, is_triple};
 ghost use Rattle.pure_lex.specs.Fronts.{IsRead, begins_other, symbol_length};
 
 use crate::bytes::{byte_at, digit_count, is_digit, is_letter, quotable_length, rest_from};
@@ -60,7 +60,7 @@ fn quote(text: &[u8]) -> Result<Front, usize>
 }
 
 /// A symbol of one byte.
-#[tactic(auto, unfolding(pure_grammar::specs::Token::is_single))]
+#[tactic(auto, unfolding(pure_grammar::specs::Tokens::Token::is_single))]
 fn is_single(b: u8) -> bool
     ensures { result ≡ is_single b }
 {
@@ -68,7 +68,7 @@ fn is_single(b: u8) -> bool
 }
 
 /// `!!`, `==`, `=>`, `::`, `[|` and `|]`.
-#[tactic(auto, unfolding(pure_grammar::specs::Token::is_pair))]
+#[tactic(auto, unfolding(pure_grammar::specs::Tokens::Token::is_pair))]
 fn is_pair(b: u8, c: u8) -> bool
     ensures { result ≡ is_pair b c }
 {
@@ -83,7 +83,7 @@ fn is_pair(b: u8, c: u8) -> bool
 }
 
 /// `==>`.
-#[tactic(auto, unfolding(pure_grammar::specs::Token::is_triple))]
+#[tactic(auto, unfolding(pure_grammar::specs::Tokens::Token::is_triple))]
 fn is_triple(b: u8, c: u8, d: u8) -> bool
     ensures { result ≡ is_triple b c d }
 {

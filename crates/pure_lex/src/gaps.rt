@@ -1,6 +1,6 @@
 //! Blanks and comments.
 ghost use Rattle.std.specs.Prelude.{◌≡◌, MatchOption, true};
-ghost use Rattle.pure_grammar.specs.Comment.{opens_comment, is_opening, is_closing};
+ghost use Rattle.pure_grammar.specs.Tokens.Comment.{opens_comment, is_opening, is_closing};
 ghost use Rattle.pure_lex.specs.Fronts.{IsComment, HasNoComment, IsGap};
 
 use crate::bytes::{byte_at, is_blank, rest_from};

@@ -1,7 +1,7 @@
 //! Tokens that are names: words, identifiers, qualified names, type variables and schematic variables.
 ghost use Rattle.std.specs.Prelude.{◌≡◌, drop, slice_index, true};
-ghost use Rattle.pure_grammar.specs.Bytes.{dot, apostrophe, question_mark, is_letter, is_digit, is_name_byte, head_is, marked};
-ghost use Rattle.pure_grammar.specs.Token.{is_keyword};
+ghost use Rattle.pure_grammar.specs.Tokens.Bytes.{dot, apostrophe, question_mark, is_letter, is_digit, is_name_byte, head_is, marked};
+ghost use Rattle.pure_grammar.specs.Tokens.Token.{is_keyword};
 ghost use Rattle.pure_lex.specs.Fronts.{IsFront, IsRead, IsRun, is_index, name_kind, HasMarks};
 
 use crate::bytes::{byte_at, digit_count, is_digit, is_letter, name_length, rest_from};

@@ -1,6 +1,6 @@
 //! The tokens of a source.
 ghost use Rattle.std.specs.Prelude.{◌≡◌, ◌≤◌, length, slice_range, IfOk, IfErr};
-ghost use Rattle.pure_grammar.specs.Spelling.{Spells, AreSlices};
+ghost use Rattle.pure_grammar.specs.Tokens.Spelling.{Spells, AreSlices};
 ghost use Rattle.pure_lex.specs.Faults.{IsFaultOf};
 
 use crate::bytes::rest_from;

@@ -1,9 +1,9 @@
 -- A chain of propositions whose conclusion is among its premises.
 use Rattle.std.proofs.Common.{◌≡◌, ℕ, map, List, [], ◌∷◌, inl, inr, refl}
 use Rattle.pure_text.specs.Lists.{IsIn, Each}
-use Rattle.pure_definitions.specs.Term.{Term}
+use Rattle.pure_definitions.specs.Terms.Term.{Term}
 use Rattle.pure_logic.specs.Connectives.{chain}
-use Rattle.pure_definitions.specs.Typ.{prop}
+use Rattle.pure_definitions.specs.Types.Typ.{prop}
 use Rattle.pure_text.proofs.ListLaws.{in-map}
 use Rattle.pure_logic.specs.PureContent.{pure_content, proposition_variable}
 use Rattle.pure_logic.proofs.ConnectiveLaws.{pure-below_itself, certified_of, prop-certified}

@@ -1,10 +1,10 @@
 -- A tree concludes one proposition at most.
 use Rattle.std.proofs.Common.{◌≡◌, List, ◌∷◌, [], ap, refl, sym, ◌∙◌}
-use Rattle.pure_definitions.specs.Typ.{Typ, arrow}
-use Rattle.pure_definitions.specs.Term.{Term}
-use Rattle.pure_definitions.specs.Bounds.{subst_bound, abstract_over}
-use Rattle.pure_definitions.specs.Subst.{term_instance}
-use Rattle.pure_definitions.specs.Decl.{AxiomDecl, PromiseDecl}
+use Rattle.pure_definitions.specs.Types.Typ.{Typ, arrow}
+use Rattle.pure_definitions.specs.Terms.Term.{Term}
+use Rattle.pure_definitions.specs.Terms.Bounds.{subst_bound, abstract_over}
+use Rattle.pure_definitions.specs.Terms.Subst.{term_instance}
+use Rattle.pure_definitions.specs.Declarations.Decl.{AxiomDecl, PromiseDecl}
 use Rattle.pure_term_laws.proofs.TypingLaws.{typed-once}
 use Rattle.pure_logic.specs.Connectives.{all_of, all, imp, eq}
 use Rattle.pure_logic.specs.Content.{Content, IsContent, IsCertifiedOf}

@@ -1,12 +1,12 @@
 -- Connectives of certified terms are certified, over each content above Pure's.
 use Rattle.std.proofs.Common.{[], ◌∷◌, inl, inr, refl}
 use Rattle.pure_definitions.specs.Names.{fun_name, prop_name, all_name, imp_name, eq_name, protect_name}
-use Rattle.pure_definitions.specs.Typ.{Typ, arrow, prop}
-use Rattle.pure_definitions.specs.Term.{Term, Const}
-use Rattle.pure_definitions.specs.Typing.{HasType}
-use Rattle.pure_definitions.specs.Subst.{TypBind, typ_image}
-use Rattle.pure_definitions.specs.Decl.{ConDecl, ConstDecl, algebra_of}
-use Rattle.pure_definitions.specs.Certified.{IsCertifiedTyp, IsInstance, HasCertifiedParts}
+use Rattle.pure_definitions.specs.Types.Typ.{Typ, arrow, prop}
+use Rattle.pure_definitions.specs.Terms.Term.{Term, Const}
+use Rattle.pure_definitions.specs.Terms.Typing.{HasType}
+use Rattle.pure_definitions.specs.Terms.Subst.{TypBind, typ_image}
+use Rattle.pure_definitions.specs.Declarations.Decl.{ConDecl, ConstDecl, algebra_of}
+use Rattle.pure_definitions.specs.Declarations.Certified.{IsCertifiedTyp, IsInstance, HasCertifiedParts}
 use Rattle.pure_term_laws.proofs.SubstLaws.{entries-respect_sorts, entries-keep_fixed_typs, identity-respects_sorts, typ_instance-identity}
 use Rattle.pure_logic.specs.Connectives.{all_typ, imp_typ, eq_typ, protect_typ, all, imp, eq, protect}
 use Rattle.pure_logic.specs.Content.{Content, IsCertifiedOf, IsBelow}

@@ -1,10 +1,10 @@
 -- The examples of contents.
 use Rattle.std.proofs.Common.{◌≡◌, ◌↔◌, ◌⊎◌, ℕ, List, [], ◌∷◌, ◌++◌, inl, inr, refl, sym, ◌∙◌, arith, ap}
 use Rattle.pure_text.specs.Lists.{IsIn, Each, AnyOf}
-use Rattle.pure_definitions.specs.Typ.{prop}
-use Rattle.pure_definitions.specs.Term.{Free}
-use Rattle.pure_definitions.specs.Order.{Class, Algebra, IsInclusion, IsClassBelow, itself, along, IsCoregular}
-use Rattle.pure_definitions.specs.Decl.{Decl, ClassDecl, ConDecl, ArityDecl, ConstDecl, AxiomDecl, PromiseDecl, algebra_of}
+use Rattle.pure_definitions.specs.Types.Typ.{prop}
+use Rattle.pure_definitions.specs.Terms.Term.{Free}
+use Rattle.pure_definitions.specs.Types.Order.{Class, Algebra, IsInclusion, IsClassBelow, itself, along, IsCoregular}
+use Rattle.pure_definitions.specs.Declarations.Decl.{Decl, ClassDecl, ConDecl, ArityDecl, ConstDecl, AxiomDecl, PromiseDecl, algebra_of}
 use Rattle.pure_term_laws.specs.LawsExamples.{i, j, c, d, e, arity, class_above}
 use Rattle.pure_term_laws.proofs.DeclLaws.{declared_classes, declared_arities}
 use Rattle.pure_term_laws.proofs.OrderExamples.{crossing_is_not_coregular, open_fork_is_not_coregular, joined_fork_is_coregular}

@@ -4,9 +4,9 @@ use Rattle.std.proofs.lemmas.Bool.{eq-eqb}
 use Rattle.std.specs.Cmp.{first_so, second_so}
 use Rattle.std.specs.List.{list_all}
 use Rattle.pure_text.specs.Lists.{IsIn}
-use Rattle.pure_definitions.specs.Typ.{prop}
-use Rattle.pure_definitions.specs.Decl.{Decl, ClassDecl, ConDecl, ConstDecl, AxiomDecl, PromiseDecl}
-use Rattle.pure_definitions.specs.Certified.{HasCertifiedParts}
+use Rattle.pure_definitions.specs.Types.Typ.{prop}
+use Rattle.pure_definitions.specs.Declarations.Decl.{Decl, ClassDecl, ConDecl, ConstDecl, AxiomDecl, PromiseDecl}
+use Rattle.pure_definitions.specs.Declarations.Certified.{HasCertifiedParts}
 use Rattle.pure_logic.specs.Connectives.{all_typ, imp_typ, eq_typ, protect_typ, protect}
 use Rattle.pure_logic.specs.Content.{IsSchematicTyp, IsStatement, AreNamedAlike, AreLabelledAlike, IsContent}
 use Rattle.pure_logic.specs.PureContent.{any_typ, pure_content, pure_declarations, proposition_variable, protect_axiom}

@@ -1,8 +1,8 @@
 -- Which algebras are coregular: one with a single arity, and one that declares what a coregular one does, in whatever order.
 use Rattle.std.proofs.Common.{◌≡◌, ℕ, List, [], ◌∷◌, inl, inr, refl}
 use Rattle.pure_text.specs.Lists.{IsIn, EachTwo}
-use Rattle.pure_definitions.specs.Order.{Arity, Algebra, IsSortBelow, AreCompatible, IsCoregular}
-use Rattle.pure_definitions.specs.Decl.{Decl, ArityDecl, algebra_of}
+use Rattle.pure_definitions.specs.Types.Order.{Arity, Algebra, IsSortBelow, AreCompatible, IsCoregular}
+use Rattle.pure_definitions.specs.Declarations.Decl.{Decl, ArityDecl, algebra_of}
 use Rattle.pure_definitions.proofs.OrderLaws.{sort_below-itself}
 use Rattle.pure_term_laws.proofs.DeclLaws.{declared_arities}
 use Rattle.pure_logic.proofs.AboveLaws.{class_below-above, sort_below-above}

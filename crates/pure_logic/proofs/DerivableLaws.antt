@@ -1,7 +1,7 @@
 -- What is derivable, in words of trees.
 use Rattle.std.proofs.Common.{◌≡◌, ◌↔◌, [], refl}
 use Rattle.pure_definitions.specs.Names.{Label}
-use Rattle.pure_definitions.specs.Term.{Term}
+use Rattle.pure_definitions.specs.Terms.Term.{Term}
 use Rattle.pure_text.specs.Lists.{IsIn}
 use Rattle.pure_text.proofs.ListLaws.{each_of}
 use Rattle.pure_logic.specs.Content.{Content}

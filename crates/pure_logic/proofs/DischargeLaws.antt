@@ -1,7 +1,7 @@
 -- Hypotheses without one that is discharged.
 use Rattle.std.proofs.Common.{◌≡◌, ◌≢◌, List, [], ◌∷◌, map, Bool, true, false, cond, inl, inr, refl, ap, sym, ◌∙◌}
 use Rattle.pure_text.specs.Lists.{IsIn, Each}
-use Rattle.pure_definitions.specs.Term.{Term, term_eq}
+use Rattle.pure_definitions.specs.Terms.Term.{Term, term_eq}
 use Rattle.pure_definitions.specs.Models.Equality.{term_eq-same, term_eq-itself}
 use Rattle.pure_logic.specs.Tree.{without}
 

@@ -1,12 +1,12 @@
 -- Equality on what is proved.
 use Rattle.std.proofs.Common.{◌≡◌, ◌↔◌, inl, inr, ℕ, List, [], ◌∷◌, refl, ap, sym, ◌∙◌}
 use Rattle.pure_definitions.specs.Names.{Label, protect_name}
-use Rattle.pure_definitions.specs.Decl.{AxiomDecl}
-use Rattle.pure_definitions.specs.Typ.{Typ, arrow, prop}
-use Rattle.pure_definitions.specs.Term.{Term, Free, Bound, Abs, App}
-use Rattle.pure_definitions.specs.Typing.{HasType}
-use Rattle.pure_definitions.specs.Bounds.{subst_under, subst_bound}
-use Rattle.pure_definitions.specs.Certified.{IsCertifiedTyp, HasCertifiedParts}
+use Rattle.pure_definitions.specs.Declarations.Decl.{AxiomDecl}
+use Rattle.pure_definitions.specs.Types.Typ.{Typ, arrow, prop}
+use Rattle.pure_definitions.specs.Terms.Term.{Term, Free, Bound, Abs, App}
+use Rattle.pure_definitions.specs.Terms.Typing.{HasType}
+use Rattle.pure_definitions.specs.Terms.Bounds.{subst_under, subst_bound}
+use Rattle.pure_definitions.specs.Declarations.Certified.{IsCertifiedTyp, HasCertifiedParts}
 use Rattle.pure_definitions.proofs.LiftLaws.{subst-lift}
 use Rattle.pure_term_laws.proofs.BoundLaws.{lift-zero}
 use Rattle.pure_term_laws.proofs.TypingLaws.{typed-closed, lift-closed}

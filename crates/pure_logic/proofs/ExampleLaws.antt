@@ -1,11 +1,11 @@
 -- The content of the examples: what it declares, and not; its terms; and that it is a content.
 use Rattle.std.proofs.Common.{◌≡◌, ℕ, List, [], ◌∷◌, Bool, true, false, nat_eq, ◌||◌, inl, inr, refl, arith}
 use Rattle.pure_text.specs.Lists.{IsIn}
-use Rattle.pure_definitions.specs.Typ.{Typ, arrow, prop}
-use Rattle.pure_definitions.specs.Term.{Term, Const}
-use Rattle.pure_definitions.specs.Order.{itself, IsOfSort}
-use Rattle.pure_definitions.specs.Decl.{Decl, ClassDecl, ConDecl, ConstDecl, AxiomDecl, PromiseDecl, algebra_of}
-use Rattle.pure_definitions.specs.Certified.{IsCertifiedSort, IsCertifiedTyp, HasCertifiedParts}
+use Rattle.pure_definitions.specs.Types.Typ.{Typ, arrow, prop}
+use Rattle.pure_definitions.specs.Terms.Term.{Term, Const}
+use Rattle.pure_definitions.specs.Types.Order.{itself, IsOfSort}
+use Rattle.pure_definitions.specs.Declarations.Decl.{Decl, ClassDecl, ConDecl, ConstDecl, AxiomDecl, PromiseDecl, algebra_of}
+use Rattle.pure_definitions.specs.Declarations.Certified.{IsCertifiedSort, IsCertifiedTyp, HasCertifiedParts}
 use Rattle.pure_term_laws.specs.LawsExamples.{i, j, c, a, f, x, y, any_x, sort_of, class_above}
 use Rattle.pure_text.proofs.ListLaws.{in-append_left, in-append_right}
 use Rattle.pure_logic.specs.Content.{IsCertifiedOf, IsProposition, IsBelow, IsContent, AreNamedAlike, AreLabelledAlike, IsStatement}

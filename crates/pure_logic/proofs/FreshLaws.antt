@@ -1,11 +1,11 @@
 -- Fresh variables: a name above all names in terms; a map past an abstraction over a variable that is renamed to a fresh one; and a map that is changed at a variable that doesn't occur.
 use Rattle.std.proofs.Common.{◌≡◌, ◌≤◌, ◌+◌, ℕ, List, [], ◌∷◌, map, Bool, true, false, cond, nat_lt, inl, inr, refl, ap, sym, ◌∙◌, arith}
 use Rattle.pure_text.specs.Lists.{Each}
-use Rattle.pure_definitions.specs.Typ.{Typ}
-use Rattle.pure_definitions.specs.Term.{Term, Const, Free, Var, Bound, Abs, App, term_eq}
-use Rattle.pure_definitions.specs.Bounds.{IsClosed, subst_under, bind_under, Occurs}
-use Rattle.pure_definitions.specs.Conditions.{IsVariable}
-use Rattle.pure_definitions.specs.Subst.{typ_instance, term_instance}
+use Rattle.pure_definitions.specs.Types.Typ.{Typ}
+use Rattle.pure_definitions.specs.Terms.Term.{Term, Const, Free, Var, Bound, Abs, App, term_eq}
+use Rattle.pure_definitions.specs.Terms.Bounds.{IsClosed, subst_under, bind_under, Occurs}
+use Rattle.pure_definitions.specs.Terms.Conditions.{IsVariable}
+use Rattle.pure_definitions.specs.Terms.Subst.{typ_instance, term_instance}
 use Rattle.pure_definitions.proofs.BindLemmas.{term_eq-other, bind_under-same}
 use Rattle.pure_definitions.proofs.LiftLaws.{subst-lift}
 use Rattle.pure_term_laws.specs.LawsMaps.{AreImagesClosed}

@@ -1,11 +1,11 @@
 -- Instances of certified terms: a map that respects sorts keeps the sorts of types, and an instance of an instance of a schematic type is an instance of it.
 use Rattle.std.proofs.Common.{◌≡◌, ℕ, List, [], ◌∷◌, inl, inr, ap, refl, ◌∙◌}
-use Rattle.pure_definitions.specs.Typ.{Typ, TFree, TVar, Con, Typs, none, also}
-use Rattle.pure_definitions.specs.Term.{Term, Const, Free, Var, Bound, Abs, App}
-use Rattle.pure_definitions.specs.Order.{Algebra, IsClassBelow, itself, along, HasClassBelow, IsOfClass, AreOfSorts, IsOfSort}
-use Rattle.pure_definitions.specs.Subst.{typ_instance, typs_instance, term_instance, IsSortRespecting}
-use Rattle.pure_definitions.specs.Decl.{Decl, ConstDecl, algebra_of}
-use Rattle.pure_definitions.specs.Certified.{IsCertifiedTyp, IsInstance, HasCertifiedParts}
+use Rattle.pure_definitions.specs.Types.Typ.{Typ, TFree, TVar, Con, Typs, none, also}
+use Rattle.pure_definitions.specs.Terms.Term.{Term, Const, Free, Var, Bound, Abs, App}
+use Rattle.pure_definitions.specs.Types.Order.{Algebra, IsClassBelow, itself, along, HasClassBelow, IsOfClass, AreOfSorts, IsOfSort}
+use Rattle.pure_definitions.specs.Terms.Subst.{typ_instance, typs_instance, term_instance, IsSortRespecting}
+use Rattle.pure_definitions.specs.Declarations.Decl.{Decl, ConstDecl, algebra_of}
+use Rattle.pure_definitions.specs.Declarations.Certified.{IsCertifiedTyp, IsInstance, HasCertifiedParts}
 use Rattle.pure_definitions.proofs.OrderLaws.{sort_below-itself}
 use Rattle.pure_logic.specs.Content.{Content, IsContent, IsWellFormed, IsSchematicTyp, AreSchematicTyps}
 use Rattle.pure_logic.specs.Concludes.{AreRespecting}

@@ -2,11 +2,11 @@
 use Rattle.std.proofs.Common.{◌≡◌, ℕ, List, [], ◌∷◌, Bool, true, false, nat_eq, inl, inr, ◌⊎◌, ap, refl}
 use Rattle.std.proofs.lemmas.Bool.{eq-eqb, eqb-true}
 use Rattle.pure_text.specs.Lists.{IsIn, Each}
-use Rattle.pure_definitions.specs.Typ.{Typ, TFree, TVar, Con, Typs, none, also, typs_count}
-use Rattle.pure_definitions.specs.Term.{Term, Const, Free, Var, Bound, Abs, App}
-use Rattle.pure_definitions.specs.Subst.{typ_instance, typs_instance, term_instance}
-use Rattle.pure_definitions.specs.Decl.{Decl, ClassDecl, ConDecl, IsDeclaredClass}
-use Rattle.pure_definitions.specs.Certified.{IsCertifiedTyp, AreCertifiedTyps, HasCertifiedParts}
+use Rattle.pure_definitions.specs.Types.Typ.{Typ, TFree, TVar, Con, Typs, none, also, typs_count}
+use Rattle.pure_definitions.specs.Terms.Term.{Term, Const, Free, Var, Bound, Abs, App}
+use Rattle.pure_definitions.specs.Terms.Subst.{typ_instance, typs_instance, term_instance}
+use Rattle.pure_definitions.specs.Declarations.Decl.{Decl, ClassDecl, ConDecl, IsDeclaredClass}
+use Rattle.pure_definitions.specs.Declarations.Certified.{IsCertifiedTyp, AreCertifiedTyps, HasCertifiedParts}
 
 abbrev pub Decided : Type 0 → Type 0
 Decided P = P ⊎ (¬ P)

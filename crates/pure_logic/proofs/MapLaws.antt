@@ -1,14 +1,14 @@
 -- Maps that respect a content: the identity, and the finite maps of a call, joined.
 use Rattle.std.proofs.Common.{◌≡◌, ℕ, List, [], ◌∷◌, Bool, true, false, cond, ap, refl}
 use Rattle.pure_text.specs.Lists.{Each}
-use Rattle.pure_definitions.specs.Typ.{Typ, TFree, TVar, typ_eq}
-use Rattle.pure_definitions.specs.Term.{Term, Const, Free, Var, Bound, Abs, App, term_eq}
-use Rattle.pure_definitions.specs.Typing.{HasType}
-use Rattle.pure_definitions.specs.Subst.{TypBind, TermBind, typ_variable, term_variable, typ_image, term_image, typ_instance, term_instance, inst_typ, inst_term, AreSortRespecting, IsTypeRespecting}
-use Rattle.pure_definitions.specs.Conditions.{variable_typ}
+use Rattle.pure_definitions.specs.Types.Typ.{Typ, TFree, TVar, typ_eq}
+use Rattle.pure_definitions.specs.Terms.Term.{Term, Const, Free, Var, Bound, Abs, App, term_eq}
+use Rattle.pure_definitions.specs.Terms.Typing.{HasType}
+use Rattle.pure_definitions.specs.Terms.Subst.{TypBind, TermBind, typ_variable, term_variable, typ_image, term_image, typ_instance, term_instance, inst_typ, inst_term, AreSortRespecting, IsTypeRespecting}
+use Rattle.pure_definitions.specs.Terms.Conditions.{variable_typ}
 use Rattle.pure_definitions.specs.Models.Equality.{term_eq-same}
-use Rattle.pure_definitions.specs.Decl.{Decl, algebra_of}
-use Rattle.pure_definitions.specs.Certified.{IsCertifiedSort, IsCertifiedTyp, HasCertifiedParts, AreImagesCertified}
+use Rattle.pure_definitions.specs.Declarations.Decl.{Decl, algebra_of}
+use Rattle.pure_definitions.specs.Declarations.Certified.{IsCertifiedSort, IsCertifiedTyp, HasCertifiedParts, AreImagesCertified}
 use Rattle.pure_term_laws.proofs.SubstLaws.{identity-respects_sorts, identity-respects_types, entries-respect_sorts, entries-respect_types, typ_instance-identity}
 use Rattle.pure_logic.specs.Content.{Content, IsCertifiedOf}
 use Rattle.pure_logic.specs.Tree.{joined_terms}

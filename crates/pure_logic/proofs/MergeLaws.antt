@@ -1,10 +1,10 @@
 -- Merges of contents.
 use Rattle.std.proofs.Common.{◌≡◌, ◌↔◌, ◌⊎◌, List, [], ◌∷◌, ◌++◌, inl, inr, sym, ◌∙◌, refl}
 use Rattle.pure_text.specs.Lists.{IsIn, Each, AnyOf, AreDistinct}
-use Rattle.pure_definitions.specs.Order.{IsCoregular}
-use Rattle.pure_definitions.specs.Typ.{prop}
-use Rattle.pure_definitions.specs.Term.{Term}
-use Rattle.pure_definitions.specs.Decl.{Decl, ClassDecl, ConDecl, ArityDecl, ConstDecl, AxiomDecl, PromiseDecl, algebra_of}
+use Rattle.pure_definitions.specs.Types.Order.{IsCoregular}
+use Rattle.pure_definitions.specs.Types.Typ.{prop}
+use Rattle.pure_definitions.specs.Terms.Term.{Term}
+use Rattle.pure_definitions.specs.Declarations.Decl.{Decl, ClassDecl, ConDecl, ArityDecl, ConstDecl, AxiomDecl, PromiseDecl, algebra_of}
 use Rattle.pure_text.proofs.ListLaws.{each_of, in-append_left, in-append_right}
 use Rattle.pure_logic.specs.Content.{TheoryId, Content, IsStatement, IsWellFormed, IsContent, IsBelow}
 use Rattle.pure_logic.specs.Beginning.{IsBeginning, IsAdded, IsMergeAfter, IsMerge}

@@ -1,13 +1,13 @@
 -- What each node concludes over the content of the examples, and where it concludes nothing.
 use Rattle.std.proofs.Common.{◌≡◌, ◌≢◌, ℕ, List, [], ◌∷◌, inl, inr, refl, arith}
 use Rattle.pure_text.specs.Lists.{IsIn, Each}
-use Rattle.pure_definitions.specs.Typ.{Typ, arrow, prop}
-use Rattle.pure_definitions.specs.Term.{Term, Const, Free, Var, Bound, Abs, App}
-use Rattle.pure_definitions.specs.Order.{Arity}
-use Rattle.pure_definitions.specs.Bounds.{Occurs}
-use Rattle.pure_definitions.specs.Subst.{typ_image, retyped_variable}
-use Rattle.pure_definitions.specs.Decl.{ConDecl, ConstDecl, AxiomDecl, PromiseDecl}
-use Rattle.pure_definitions.specs.Certified.{HasCertifiedParts}
+use Rattle.pure_definitions.specs.Types.Typ.{Typ, arrow, prop}
+use Rattle.pure_definitions.specs.Terms.Term.{Term, Const, Free, Var, Bound, Abs, App}
+use Rattle.pure_definitions.specs.Types.Order.{Arity}
+use Rattle.pure_definitions.specs.Terms.Bounds.{Occurs}
+use Rattle.pure_definitions.specs.Terms.Subst.{typ_image, retyped_variable}
+use Rattle.pure_definitions.specs.Declarations.Decl.{ConDecl, ConstDecl, AxiomDecl, PromiseDecl}
+use Rattle.pure_definitions.specs.Declarations.Certified.{HasCertifiedParts}
 use Rattle.pure_term_laws.specs.LawsExamples.{i, j, c, a, f, x, y, any_x, sort_of}
 use Rattle.pure_term_laws.specs.LawsSubst.{for_a}
 use Rattle.pure_logic.specs.Connectives.{all, imp, eq}

@@ -1,14 +1,14 @@
 -- What a tree concludes is a proposition of the content, and so are its hypotheses.
 use Rattle.std.proofs.Common.{◌≡◌, List, [], ◌∷◌, refl}
 use Rattle.pure_text.specs.Lists.{Each}
-use Rattle.pure_definitions.specs.Typ.{Typ, arrow, prop}
-use Rattle.pure_definitions.specs.Term.{Term, Const, Free, Var, Bound, Abs, App}
-use Rattle.pure_definitions.specs.Typing.{HasType}
-use Rattle.pure_definitions.specs.Bounds.{subst_bound, abstract_over, bind_under}
-use Rattle.pure_definitions.specs.Subst.{term_instance}
-use Rattle.pure_definitions.specs.Decl.{AxiomDecl, PromiseDecl}
-use Rattle.pure_definitions.specs.Certified.{IsCertifiedTyp, HasCertifiedParts}
-use Rattle.pure_definitions.specs.Conditions.{IsVariable}
+use Rattle.pure_definitions.specs.Types.Typ.{Typ, arrow, prop}
+use Rattle.pure_definitions.specs.Terms.Term.{Term, Const, Free, Var, Bound, Abs, App}
+use Rattle.pure_definitions.specs.Terms.Typing.{HasType}
+use Rattle.pure_definitions.specs.Terms.Bounds.{subst_bound, abstract_over, bind_under}
+use Rattle.pure_definitions.specs.Terms.Subst.{term_instance}
+use Rattle.pure_definitions.specs.Declarations.Decl.{AxiomDecl, PromiseDecl}
+use Rattle.pure_definitions.specs.Declarations.Certified.{IsCertifiedTyp, HasCertifiedParts}
+use Rattle.pure_definitions.specs.Terms.Conditions.{IsVariable}
 use Rattle.pure_term_laws.proofs.TypingBoundLaws.{typing-subst, typing-weaken, typing-bind, typing-instance}
 use Rattle.pure_term_laws.proofs.CertifiedLaws.{parts-subst, parts-bind}
 use Rattle.pure_logic.specs.Connectives.{all_typ, imp_typ, all_of, all, imp, eq}

@@ -2,10 +2,10 @@
 use Rattle.std.proofs.Common.{◌↔◌, List, [], ◌∷◌, ◌++◌, ℕ, inl, inr, ap, refl, sym, arith}
 use Rattle.pure_text.specs.Lists.{IsIn, Each, EachTwo}
 use Rattle.pure_definitions.specs.Names.{Label}
-use Rattle.pure_definitions.specs.Typ.{Typ}
-use Rattle.pure_definitions.specs.Term.{Term, Free}
-use Rattle.pure_definitions.specs.Bounds.{subst_bound, Occurs}
-use Rattle.pure_definitions.specs.Certified.{IsCertifiedTyp}
+use Rattle.pure_definitions.specs.Types.Typ.{Typ}
+use Rattle.pure_definitions.specs.Terms.Term.{Term, Free}
+use Rattle.pure_definitions.specs.Terms.Bounds.{subst_bound, Occurs}
+use Rattle.pure_definitions.specs.Declarations.Certified.{IsCertifiedTyp}
 use Rattle.pure_logic.specs.Connectives.{all, imp, chain, eq}
 use Rattle.pure_logic.specs.Content.{Content, IsContent, IsBelow, IsCertifiedOf, IsProposition}
 use Rattle.pure_logic.specs.PureContent.{pure_content}

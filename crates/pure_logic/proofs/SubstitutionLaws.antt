@@ -4,14 +4,14 @@ use Rattle.std.proofs.lemmas.List.{map-append}
 use Rattle.pure_text.specs.Lists.{IsIn, Each}
 use Rattle.pure_text.proofs.ListLaws.{in-map, in-append_left, in-append_right}
 use Rattle.pure_definitions.specs.Names.{Label}
-use Rattle.pure_definitions.specs.Typ.{Typ, TFree, TVar, arrow, prop}
-use Rattle.pure_definitions.specs.Term.{Term, Const, Free, Var, Bound, Abs, App}
-use Rattle.pure_definitions.specs.Typing.{HasType}
-use Rattle.pure_definitions.specs.Bounds.{Occurs}
-use Rattle.pure_definitions.specs.Conditions.{IsVariable, variable_typ}
-use Rattle.pure_definitions.specs.Subst.{typ_instance, term_instance}
-use Rattle.pure_definitions.specs.Decl.{algebra_of}
-use Rattle.pure_definitions.specs.Certified.{IsCertifiedTyp}
+use Rattle.pure_definitions.specs.Types.Typ.{Typ, TFree, TVar, arrow, prop}
+use Rattle.pure_definitions.specs.Terms.Term.{Term, Const, Free, Var, Bound, Abs, App}
+use Rattle.pure_definitions.specs.Terms.Typing.{HasType}
+use Rattle.pure_definitions.specs.Terms.Bounds.{Occurs}
+use Rattle.pure_definitions.specs.Terms.Conditions.{IsVariable, variable_typ}
+use Rattle.pure_definitions.specs.Terms.Subst.{typ_instance, term_instance}
+use Rattle.pure_definitions.specs.Declarations.Decl.{algebra_of}
+use Rattle.pure_definitions.specs.Declarations.Certified.{IsCertifiedTyp}
 use Rattle.pure_definitions.proofs.BindLemmas.{abstract_over-variable}
 use Rattle.pure_term_laws.specs.LawsMaps.{AreImagesClosed}
 use Rattle.pure_term_laws.proofs.MapLaws.{instance-instance, instance-subst}

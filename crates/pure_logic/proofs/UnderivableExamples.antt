@@ -3,11 +3,11 @@ use Rattle.std.proofs.Common.{◌≡◌, ℕ, List, [], ◌∷◌, ◌++◌, Boo
 use Rattle.std.specs.Prelude.{◌+◌, ◌-◌, if◌then◌else◌}
 use Rattle.pure_text.specs.Lists.{IsIn, Each}
 use Rattle.pure_definitions.specs.Names.{Label, all_name, imp_name, eq_name}
-use Rattle.pure_definitions.specs.Typ.{Typ, prop}
-use Rattle.pure_definitions.specs.Term.{Term, Const, Free, Var, Bound, Abs, App, term_eq}
-use Rattle.pure_definitions.specs.Bounds.{lift_term, subst_under, subst_bound, bind_under}
-use Rattle.pure_definitions.specs.Decl.{ConstDecl, AxiomDecl}
-use Rattle.pure_definitions.specs.Certified.{HasCertifiedParts}
+use Rattle.pure_definitions.specs.Types.Typ.{Typ, prop}
+use Rattle.pure_definitions.specs.Terms.Term.{Term, Const, Free, Var, Bound, Abs, App, term_eq}
+use Rattle.pure_definitions.specs.Terms.Bounds.{lift_term, subst_under, subst_bound, bind_under}
+use Rattle.pure_definitions.specs.Declarations.Decl.{ConstDecl, AxiomDecl}
+use Rattle.pure_definitions.specs.Declarations.Certified.{HasCertifiedParts}
 use Rattle.pure_definitions.proofs.BindLemmas.{abstract_over-variable}
 use Rattle.pure_logic.specs.Connectives.{all_of, all, imp, eq}
 use Rattle.pure_logic.specs.Content.{IsContent, IsProposition, AreNamedAlike, AreLabelledAlike}

@@ -1,12 +1,12 @@
 -- Weakening: what a tree concludes over a content, a tree concludes over each content above it.
 use Rattle.std.proofs.Common.{◌≡◌, ℕ, List, [], ◌+◌, ◌++◌, ap, refl}
-use Rattle.pure_definitions.specs.Typ.{Typ, TFree, TVar, Con, Typs, none, also, typs_count, arrow, prop}
-use Rattle.pure_definitions.specs.Term.{Term, Free, Var}
-use Rattle.pure_definitions.specs.Typing.{HasType}
-use Rattle.pure_definitions.specs.Order.{IsOfSort}
-use Rattle.pure_definitions.specs.Subst.{typ_instance, typs_instance, IsSortRespecting, IsTypeRespecting}
-use Rattle.pure_definitions.specs.Decl.{Decl, AxiomDecl, PromiseDecl, algebra_of}
-use Rattle.pure_definitions.specs.Certified.{IsCertifiedSort, IsCertifiedTyp, AreCertifiedTyps, HasCertifiedParts, AreImagesCertified}
+use Rattle.pure_definitions.specs.Types.Typ.{Typ, TFree, TVar, Con, Typs, none, also, typs_count, arrow, prop}
+use Rattle.pure_definitions.specs.Terms.Term.{Term, Free, Var}
+use Rattle.pure_definitions.specs.Terms.Typing.{HasType}
+use Rattle.pure_definitions.specs.Types.Order.{IsOfSort}
+use Rattle.pure_definitions.specs.Terms.Subst.{typ_instance, typs_instance, IsSortRespecting, IsTypeRespecting}
+use Rattle.pure_definitions.specs.Declarations.Decl.{Decl, AxiomDecl, PromiseDecl, algebra_of}
+use Rattle.pure_definitions.specs.Declarations.Certified.{IsCertifiedSort, IsCertifiedTyp, AreCertifiedTyps, HasCertifiedParts, AreImagesCertified}
 use Rattle.pure_definitions.proofs.OrderLaws.{sort_below-itself}
 use Rattle.pure_logic.specs.Connectives.{all, imp}
 use Rattle.pure_logic.specs.Content.{Content, IsContent, IsBelow, IsWellFormed}

@@ -3,8 +3,8 @@ use Rattle.std.specs.Prelude.{◌≡◌, ◌≢◌, ◌⊎◌, ◌<◌, Bool, �
 use Rattle.std.specs.Option.{option_to_list}
 use Rattle.std.specs.List.{flat_map}
 use Rattle.pure_text.specs.Lists.{IsIn, Each}
-use Rattle.pure_definitions.specs.Order.{IsCoregular}
-use Rattle.pure_definitions.specs.Decl.{Decl, algebra_of}
+use Rattle.pure_definitions.specs.Types.Order.{IsCoregular}
+use Rattle.pure_definitions.specs.Declarations.Decl.{Decl, algebra_of}
 use Rattle.pure_logic.specs.Content.{TheoryId, Content}
 
 -- A list is added to another without repeats: of its declarations, in order, each that isn't there yet is put at the end.

@@ -1,13 +1,13 @@
 -- What a derivation tree over a content concludes, where its side conditions hold (Isabelle/Isar Implementation manual, section 2.3).
 use Rattle.std.specs.Prelude.{◌≡◌, ℕ, List}
 use Rattle.pure_text.specs.Lists.{IsIn, Each}
-use Rattle.pure_definitions.specs.Typ.{Typ, arrow, prop}
-use Rattle.pure_definitions.specs.Term.{Term, Bound, Abs, App}
-use Rattle.pure_definitions.specs.Bounds.{subst_bound, abstract_over, Occurs}
-use Rattle.pure_definitions.specs.Conditions.{IsVariable}
-use Rattle.pure_definitions.specs.Subst.{term_instance, IsSortRespecting, IsTypeRespecting}
-use Rattle.pure_definitions.specs.Decl.{AxiomDecl, PromiseDecl, algebra_of}
-use Rattle.pure_definitions.specs.Certified.{AreImagesCertified}
+use Rattle.pure_definitions.specs.Types.Typ.{Typ, arrow, prop}
+use Rattle.pure_definitions.specs.Terms.Term.{Term, Bound, Abs, App}
+use Rattle.pure_definitions.specs.Terms.Bounds.{subst_bound, abstract_over, Occurs}
+use Rattle.pure_definitions.specs.Terms.Conditions.{IsVariable}
+use Rattle.pure_definitions.specs.Terms.Subst.{term_instance, IsSortRespecting, IsTypeRespecting}
+use Rattle.pure_definitions.specs.Declarations.Decl.{AxiomDecl, PromiseDecl, algebra_of}
+use Rattle.pure_definitions.specs.Declarations.Certified.{AreImagesCertified}
 use Rattle.pure_logic.specs.Connectives.{all_of, all, imp, eq}
 use Rattle.pure_logic.specs.Content.{Content, IsCertifiedOf, IsProposition}
 use Rattle.pure_logic.specs.Tree.{Tree, Axiom, Promise, Assume, AllIntro, AllElim, ImpliesIntro, ImpliesElim, Beta, Refl, Subst, Ext, Iff, hyps_of}

@@ -1,8 +1,8 @@
 -- The connectives of Pure as terms (Isabelle/Isar Implementation manual, section 2.3): quantification `!!`, implication `==>` and equality `==`; and the mark `#` of a goal.
 use Rattle.std.specs.Prelude.{List, [], ◌∷◌}
 use Rattle.pure_definitions.specs.Names.{all_name, imp_name, eq_name, protect_name}
-use Rattle.pure_definitions.specs.Typ.{Typ, arrow, prop}
-use Rattle.pure_definitions.specs.Term.{Term, Const, Abs, App}
+use Rattle.pure_definitions.specs.Types.Typ.{Typ, arrow, prop}
+use Rattle.pure_definitions.specs.Terms.Term.{Term, Const, Abs, App}
 
 -- the types of the connectives: that of `!!` over a type, of `==>`, of `==` at a type, and of the mark
 abbrev pub all_typ : Typ → Typ

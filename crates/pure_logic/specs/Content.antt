@@ -1,13 +1,13 @@
 -- Contents of theories (Isabelle/Isar Implementation manual, sections 2.1 to 2.3): what is declared, and nothing of how.
 use Rattle.std.specs.Prelude.{◌≡◌, ℕ, List, [], ◌∷◌, Option}
 use Rattle.pure_text.specs.Lists.{IsIn, Each}
-use Rattle.pure_definitions.specs.Typ.{Typ, TFree, TVar, Con, Typs, none, also, prop}
-use Rattle.pure_definitions.specs.Term.{Term, Const, Free, Var, Bound, Abs, App}
-use Rattle.pure_definitions.specs.Typing.{HasType}
-use Rattle.pure_definitions.specs.Order.{IsCoregular}
-use Rattle.pure_definitions.specs.Subst.{typ_instance, inst_typ}
-use Rattle.pure_definitions.specs.Decl.{Decl, ClassDecl, ConDecl, ConstDecl, AxiomDecl, PromiseDecl, algebra_of}
-use Rattle.pure_definitions.specs.Certified.{IsCertified}
+use Rattle.pure_definitions.specs.Types.Typ.{Typ, TFree, TVar, Con, Typs, none, also, prop}
+use Rattle.pure_definitions.specs.Terms.Term.{Term, Const, Free, Var, Bound, Abs, App}
+use Rattle.pure_definitions.specs.Terms.Typing.{HasType}
+use Rattle.pure_definitions.specs.Types.Order.{IsCoregular}
+use Rattle.pure_definitions.specs.Terms.Subst.{typ_instance, inst_typ}
+use Rattle.pure_definitions.specs.Declarations.Decl.{Decl, ClassDecl, ConDecl, ConstDecl, AxiomDecl, PromiseDecl, algebra_of}
+use Rattle.pure_definitions.specs.Declarations.Certified.{IsCertified}
 use Rattle.pure_logic.specs.Connectives.{eq}
 
 -- a theory: its name, and its index in load order

@@ -1,9 +1,9 @@
 -- The content of Pure itself (Isabelle/Isar Implementation manual, section 2.3).
 use Rattle.std.specs.Prelude.{ℕ, List, [], ◌∷◌, None}
 use Rattle.pure_definitions.specs.Names.{fun_name, prop_name, all_name, imp_name, eq_name, protect_name}
-use Rattle.pure_definitions.specs.Typ.{Typ, TVar, prop}
-use Rattle.pure_definitions.specs.Term.{Term, Var}
-use Rattle.pure_definitions.specs.Decl.{Decl, ConDecl, ConstDecl, AxiomDecl}
+use Rattle.pure_definitions.specs.Types.Typ.{Typ, TVar, prop}
+use Rattle.pure_definitions.specs.Terms.Term.{Term, Var}
+use Rattle.pure_definitions.specs.Declarations.Decl.{Decl, ConDecl, ConstDecl, AxiomDecl}
 use Rattle.pure_logic.specs.Connectives.{all_typ, imp_typ, eq_typ, protect_typ, eq, protect}
 use Rattle.pure_logic.specs.Content.{Content}
 

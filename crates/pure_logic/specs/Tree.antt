@@ -1,9 +1,9 @@
 -- Derivation trees (Isabelle/Isar Implementation manual, section 2.3): the primitive inferences, the axioms of equality, and axioms and promises of a content at an instance.
 use Rattle.std.specs.Prelude.{ℕ, List, [], ◌∷◌, ◌++◌, if◌then◌else◌}
 use Rattle.pure_definitions.specs.Names.{Label}
-use Rattle.pure_definitions.specs.Typ.{Typ}
-use Rattle.pure_definitions.specs.Term.{Term, term_eq}
-use Rattle.pure_definitions.specs.Subst.{TypBind, TermBind, typ_image, term_image, retyped_variable}
+use Rattle.pure_definitions.specs.Types.Typ.{Typ}
+use Rattle.pure_definitions.specs.Terms.Term.{Term, term_eq}
+use Rattle.pure_definitions.specs.Terms.Subst.{TypBind, TermBind, typ_image, term_image, retyped_variable}
 
 -- A node for each inference, with the terms that it speaks of and the trees above it. An axiom or a promise has a type map and a term map, which instantiate it all at once.
 pub data Tree : Type 0 where

@@ -2,9 +2,9 @@
 use Rattle.std.proofs.Common.{◌≡◌, ℕ, zero, suc, ◌-◌, ◌≤◌, List, [], ◌∷◌, length, refl, ap, sym, subst, arith}
 use Rattle.std.specs.Prelude.{Some, Err}
 use Rattle.pure_text.specs.Lists.{Each}
-use Rattle.pure_definitions.specs.Term.{Term, IsWithin, term_size, max_size}
-use Rattle.pure_definitions.specs.Limits.{cut_off}
-use Rattle.pure_definitions.specs.Beta.{IsBetaNormal, beta_step, IsBetaSequence, TooLarge, NormalForm, TooManySteps, max_steps, IsBetaAnswer}
+use Rattle.pure_definitions.specs.Terms.Term.{Term, IsWithin, term_size, max_size}
+use Rattle.pure_definitions.specs.Terms.Limits.{cut_off}
+use Rattle.pure_definitions.specs.Reduction.Beta.{IsBetaNormal, beta_step, IsBetaSequence, TooLarge, NormalForm, TooManySteps, max_steps, IsBetaAnswer}
 use Rattle.pure_term_laws.proofs.BetaLaws.{step-not_normal}
 use Rattle.pure_norm.specs.declared.walk.Until.TheVariants.{Normal}
 use Rattle.pure_norm.specs.declared.walk.Walk.{Walk}

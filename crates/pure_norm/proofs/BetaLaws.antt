@@ -1,13 +1,13 @@
 -- Beta steps keep types, certification and closedness; and normal forms.
 use Rattle.std.proofs.Common.{◌≡◌, List, [], ◌∷◌, refl, subst, arith}
 use Rattle.std.specs.Prelude.{Some}
-use Rattle.pure_definitions.specs.Typ.{Typ, arrow}
-use Rattle.pure_definitions.specs.Term.{Term, Abs, App, IsWithin}
-use Rattle.pure_definitions.specs.Typing.{HasType}
-use Rattle.pure_definitions.specs.Bounds.{IsClosedUnder, subst_under}
-use Rattle.pure_definitions.specs.Decl.{Decl}
-use Rattle.pure_definitions.specs.Certified.{HasCertifiedParts, IsCertified}
-use Rattle.pure_definitions.specs.Beta.{IsBetaNormal, beta_step, IsBetaSequence, IsBetaAnswer, NormalForm}
+use Rattle.pure_definitions.specs.Types.Typ.{Typ, arrow}
+use Rattle.pure_definitions.specs.Terms.Term.{Term, Abs, App, IsWithin}
+use Rattle.pure_definitions.specs.Terms.Typing.{HasType}
+use Rattle.pure_definitions.specs.Terms.Bounds.{IsClosedUnder, subst_under}
+use Rattle.pure_definitions.specs.Declarations.Decl.{Decl}
+use Rattle.pure_definitions.specs.Declarations.Certified.{HasCertifiedParts, IsCertified}
+use Rattle.pure_definitions.specs.Reduction.Beta.{IsBetaNormal, beta_step, IsBetaSequence, IsBetaAnswer, NormalForm}
 use Rattle.pure_definitions.proofs.NormalLemmas.{normal-lift, normal-unlift}
 use Rattle.pure_term_laws.proofs.BetaLaws.{one_beta_sequence_to_normal}
 use Rattle.pure_term_laws.proofs.TypingBoundLaws.{typing-subst}

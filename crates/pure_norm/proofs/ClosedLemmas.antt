@@ -2,9 +2,9 @@
 use Rattle.std.proofs.Common.{◌≡◌, ℕ, ◌+◌, ◌<◌, ◌≤◌, Bool, true, false, refl, arith}
 use Rattle.std.proofs.lemmas.Bool.Decides.{nat_tests}
 use Rattle.std.specs.Prelude.{◌-◌, nat_eq, nat_lt, if◌then◌else◌}
-use Rattle.pure_definitions.specs.Term.{Term, Const, Free, Var, Bound, Abs, App, term_depth}
-use Rattle.pure_definitions.specs.Bounds.{IsClosedUnder, lift_term, place_at, subst_under}
-use Rattle.pure_definitions.specs.Conditions.{IsLiftable, IsPuttable}
+use Rattle.pure_definitions.specs.Terms.Term.{Term, Const, Free, Var, Bound, Abs, App, term_depth}
+use Rattle.pure_definitions.specs.Terms.Bounds.{IsClosedUnder, lift_term, place_at, subst_under}
+use Rattle.pure_definitions.specs.Terms.Conditions.{IsLiftable, IsPuttable}
 use Rattle.pure_definitions.proofs.LiftLaws.{lift_term-bound}
 
 -- More binders do too.

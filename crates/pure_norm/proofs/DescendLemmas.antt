@@ -8,11 +8,11 @@ use Rattle.pure_term.specs.declared.term.Term as term
 use Rattle.pure_term.specs.declared.term.TermNode.{TermNode}
 use Rattle.pure_term.specs.declared.term.TermNode.TheVariants as node
 use Rattle.pure_term.specs.TermView.{view_term}
-use Rattle.pure_definitions.specs.Typ.{Typ, typ_size}
-use Rattle.pure_definitions.specs.Term.{Term, Abs, App, term_size, term_depth}
-use Rattle.pure_definitions.specs.Bounds.{subst_bound}
-use Rattle.pure_definitions.specs.Conditions.{IsPuttable}
-use Rattle.pure_definitions.specs.Beta.{IsAbs, IsBetaNormal, beta_step}
+use Rattle.pure_definitions.specs.Types.Typ.{Typ, typ_size}
+use Rattle.pure_definitions.specs.Terms.Term.{Term, Abs, App, term_size, term_depth}
+use Rattle.pure_definitions.specs.Terms.Bounds.{subst_bound}
+use Rattle.pure_definitions.specs.Terms.Conditions.{IsPuttable}
+use Rattle.pure_definitions.specs.Reduction.Beta.{IsAbs, IsBetaNormal, beta_step}
 use Rattle.pure_norm.specs.declared.walk.Until.{Until}
 use Rattle.pure_norm.specs.declared.walk.Until.TheVariants.{Abstraction, Normal}
 use Rattle.pure_norm.specs.declared.walk.Walk.{Walk}

@@ -1,10 +1,10 @@
 -- What leads from one term to another: one walk after another, and the walk of a part as a walk of the whole.
 use Rattle.std.proofs.Common.{◌≡◌, ℕ, zero, suc, ◌+◌, ◌≤◌, sym, subst, ap, arith}
 use Rattle.std.specs.Prelude.{Some}
-use Rattle.pure_definitions.specs.Typ.{Typ, typ_size, typ_depth}
-use Rattle.pure_definitions.specs.Term.{Term, Abs, App, term_size, term_depth, max_depth}
-use Rattle.pure_definitions.specs.Bounds.{IsClosedUnder}
-use Rattle.pure_definitions.specs.Beta.{IsAbs, IsBetaNormal, beta_step}
+use Rattle.pure_definitions.specs.Types.Typ.{Typ, typ_size, typ_depth}
+use Rattle.pure_definitions.specs.Terms.Term.{Term, Abs, App, term_size, term_depth, max_depth}
+use Rattle.pure_definitions.specs.Terms.Bounds.{IsClosedUnder}
+use Rattle.pure_definitions.specs.Reduction.Beta.{IsAbs, IsBetaNormal, beta_step}
 use Rattle.pure_norm.specs.declared.walk.Until.{Until}
 use Rattle.pure_norm.specs.declared.walk.Until.TheVariants.{Abstraction, Normal}
 use Rattle.pure_norm.specs.Walk.{Pauses, Fits, Leads}

@@ -1,10 +1,10 @@
 -- One beta step: where it is taken, and how a step of a part is a step of the whole.
 use Rattle.std.proofs.Common.{◌≡◌, ◌⊎◌, inl, inr, ℕ, ◌+◌, refl, subst, arith}
 use Rattle.std.specs.Prelude.{Option, Some, None, option_map}
-use Rattle.pure_definitions.specs.Typ.{Typ}
-use Rattle.pure_definitions.specs.Term.{Term, Abs, App}
-use Rattle.pure_definitions.specs.Bounds.{IsClosedUnder, subst_bound}
-use Rattle.pure_definitions.specs.Beta.{IsAbs, IsBetaNormal, app_step, beta_step}
+use Rattle.pure_definitions.specs.Types.Typ.{Typ}
+use Rattle.pure_definitions.specs.Terms.Term.{Term, Abs, App}
+use Rattle.pure_definitions.specs.Terms.Bounds.{IsClosedUnder, subst_bound}
+use Rattle.pure_definitions.specs.Reduction.Beta.{IsAbs, IsBetaNormal, app_step, beta_step}
 use Rattle.pure_term_laws.proofs.BetaLaws.{normal-no_step}
 use Rattle.pure_norm.proofs.ClosedLemmas.{closed-subst}
 

@@ -1,6 +1,6 @@
 -- Walks with what they leave of steps and room: one after another, of a part as of the whole, and one contraction.
 use Rattle.std.proofs.Common.{◌≡◌, ℕ, ◌+◌, refl, subst, arith}
-use Rattle.pure_definitions.specs.Term.{Term}
+use Rattle.pure_definitions.specs.Terms.Term.{Term}
 use Rattle.pure_norm.specs.declared.walk.Until.{Until}
 use Rattle.pure_norm.specs.declared.walk.Walk.{Walk}
 use Rattle.pure_norm.specs.declared.fault.NormFault.{NormFault}

@@ -1,7 +1,7 @@
 -- What the normaliser's call answers.
 use Rattle.std.specs.Prelude.{Result, Ok, Err}
-use Rattle.pure_definitions.specs.Term.{Term}
-use Rattle.pure_definitions.specs.Beta.{IsBetaAnswer, NormalForm, TooLarge, TooManySteps}
+use Rattle.pure_definitions.specs.Terms.Term.{Term}
+use Rattle.pure_definitions.specs.Reduction.Beta.{IsBetaAnswer, NormalForm, TooLarge, TooManySteps}
 use Rattle.pure_norm.specs.declared.fault.NormFault.{NormFault}
 use Rattle.pure_norm.specs.declared.fault.NormFault.TheVariants.{Steps, Big, Memory}
 

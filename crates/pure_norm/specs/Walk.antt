@@ -1,9 +1,9 @@
 -- A subterm reduced in its place in a whole term: what its steps lead to within the limits of the whole. The walk knows how many nodes are on the path above the subterm,
 -- how many nodes more the whole may have, and how many steps are left.
 use Rattle.std.specs.Prelude.{◌≡◌, ℕ, zero, suc, ◌+◌, ◌<◌, ◌≤◌, Option, Some, None}
-use Rattle.pure_definitions.specs.Term.{Term, term_size, term_depth, max_size, max_depth}
-use Rattle.pure_definitions.specs.Bounds.{IsClosedUnder}
-use Rattle.pure_definitions.specs.Beta.{IsAbs, IsBetaNormal, beta_step}
+use Rattle.pure_definitions.specs.Terms.Term.{Term, term_size, term_depth, max_size, max_depth}
+use Rattle.pure_definitions.specs.Terms.Bounds.{IsClosedUnder}
+use Rattle.pure_definitions.specs.Reduction.Beta.{IsAbs, IsBetaNormal, beta_step}
 use Rattle.pure_norm.specs.declared.walk.Until.{Until}
 use Rattle.pure_norm.specs.declared.walk.Until.TheVariants.{Abstraction, Normal}
 use Rattle.pure_norm.specs.declared.walk.Walk.{Walk}

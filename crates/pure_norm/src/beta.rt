@@ -1,5 +1,5 @@
 //! The call, and its limit of steps.
-ghost use Rattle.pure_definitions.specs.Bounds.{IsClosed};
+ghost use Rattle.pure_definitions.specs.Terms.Bounds.{IsClosed};
 ghost use Rattle.pure_norm.specs.NormAnswer.{IsNormAnswer};
 
 use crate::fault::NormFault;

@@ -1,6 +1,6 @@
 //! The walk through a term, in which steps are taken in place.
 ghost use Rattle.std.specs.Prelude.{◌≡◌, ◌+◌, ◌<◌, ◌≤◌, IfOk, IfErr};
-ghost use Rattle.pure_definitions.specs.Term.{App};
+ghost use Rattle.pure_definitions.specs.Terms.Term.{App};
 ghost use Rattle.pure_norm.specs.Walk.{CanWalk, Walked, Fails, IsOver, Descended, IsContracted, CannotContract};
 
 use crate::fault::NormFault;

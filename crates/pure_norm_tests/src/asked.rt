@@ -1,7 +1,7 @@
 //! Tests of what the calls ask of the terms that they are given.
 ghost use Rattle.std.specs.Prelude.{IsTrue};
-ghost use Rattle.pure_definitions.specs.Beta.{IsAbs, IsBetaNormal};
-ghost use Rattle.pure_definitions.specs.Bounds.{IsClosedUnder};
+ghost use Rattle.pure_definitions.specs.Reduction.Beta.{IsAbs, IsBetaNormal};
+ghost use Rattle.pure_definitions.specs.Terms.Bounds.{IsClosedUnder};
 
 use pure_term::{Term, TermNode};
 

@@ -3,8 +3,8 @@ use Rattle.std.proofs.Common.{◌≡◌, ◌↔◌, ◌⊎◌, ℕ, List, [], �
 use Rattle.std.proofs.lemmas.Bool.Decides.{eqb_tells}
 use Rattle.pure_text.specs.Lists.{IsIn}
 use Rattle.pure_text.proofs.ListLaws.{any_of, any_some, any_decided, each_of, each_at}
-use Rattle.pure_definitions.specs.Typ.{Typ}
-use Rattle.pure_definitions.specs.Order.{Algebra, IsClassBelow, itself, HasClassBelow, IsSortBelow, IsOfSort, AreCompatible, IsCoregular}
+use Rattle.pure_definitions.specs.Types.Typ.{Typ}
+use Rattle.pure_definitions.specs.Types.Order.{Algebra, IsClassBelow, itself, HasClassBelow, IsSortBelow, IsOfSort, AreCompatible, IsCoregular}
 use Rattle.pure_definitions.proofs.OrderLaws.{below-trans, below-more, HasMore, domains-more, sort_below-more, of_sort-more}
 use Rattle.pure_order.specs.Domains.{IsAboveAnother, IsReduced}
 use Rattle.pure_order_tables.specs.Classes.{IsAntisymmetric}

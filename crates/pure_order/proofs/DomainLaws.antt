@@ -1,8 +1,8 @@
 -- Types under the order of sorts, and the greatest domains.
 use Rattle.std.proofs.Common.{◌≡◌, ℕ, List, [], ◌∷◌, ◌↔◌, Bool, IsTrue}
 use Rattle.pure_text.specs.Lists.{EachTwo}
-use Rattle.pure_definitions.specs.Typ.{Typ, Con, Typs, typs_of}
-use Rattle.pure_definitions.specs.Order.{Arity, Algebra, IsOfClass, IsOfSort, AreOfSorts, IsCoregular}
+use Rattle.pure_definitions.specs.Types.Typ.{Typ, Con, Typs, typs_of}
+use Rattle.pure_definitions.specs.Types.Order.{Arity, Algebra, IsOfClass, IsOfSort, AreOfSorts, IsCoregular}
 use Rattle.pure_order_tables.specs.Arities.{IsGreatestIfAny}
 use Rattle.pure_order_tables.specs.Checks.{IsDecided}
 use Rattle.pure_order_tables.proofs.CoregularLaws.{directed, candidate_greatest}

@@ -1,7 +1,7 @@
 -- What the tests of an arity find.
 use Rattle.std.proofs.Common.{◌≡◌, ℕ, List, [], ◌∷◌, ◌++◌}
 use Rattle.pure_text.specs.Lists.{Each}
-use Rattle.pure_definitions.specs.Order.{Class}
+use Rattle.pure_definitions.specs.Types.Order.{Class}
 use Rattle.pure_order_tables.specs.Classes.{IsDeclared}
 use Rattle.pure_order_tables.specs.Arities.{IsKnown}
 use Rattle.pure_order_tables.specs.Unknown.{IsFirstUnknown, joined}

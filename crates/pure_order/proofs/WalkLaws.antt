@@ -3,8 +3,8 @@ use Rattle.std.proofs.Common.{◌≡◌, ℕ, ◌+◌, ◌<◌, ◌≤◌, ◌�
 use Rattle.std.proofs.lemmas.Bool.Decides.{eqb_tells}
 use Rattle.std.proofs.lemmas.List.{get_or_default}
 use Rattle.pure_text.specs.Lists.{EachTwo}
-use Rattle.pure_definitions.specs.Typ.{Typ, Con, typs_of}
-use Rattle.pure_definitions.specs.Order.{Algebra, IsOfClass, IsOfSort}
+use Rattle.pure_definitions.specs.Types.Typ.{Typ, Con, typs_of}
+use Rattle.pure_definitions.specs.Types.Order.{Algebra, IsOfClass, IsOfSort}
 use Rattle.pure_text.proofs.ListLaws.{each_of, each_at, two_long, two_read}
 use Rattle.pure_text.proofs.LoopLaws.{each_turn, in_turn, two_turn, two_full}
 use Rattle.pure_order_tables.specs.Arities.{IsGreatest}

@@ -3,7 +3,7 @@ use Rattle.std.specs.Prelude.{◌≡◌, ℕ, List}
 use Rattle.pure_order.specs.declared.fault.OrderFault.{OrderFault}
 use Rattle.pure_order.specs.declared.fault.OrderFault.TheVariants.{UnknownClass, Duplicate, NotCoregular, Memory}
 use Rattle.pure_text.specs.Lists.{Each}
-use Rattle.pure_definitions.specs.Order.{Class, Arity, Algebra}
+use Rattle.pure_definitions.specs.Types.Order.{Class, Arity, Algebra}
 use Rattle.pure_order_tables.specs.Classes.{IsDeclared}
 use Rattle.pure_order_tables.specs.Arities.{IsKnown, IsUnion, with_arity}
 use Rattle.pure_order_tables.specs.Checks.{IsLeastConflict, IsLeastInConflict}

@@ -1,9 +1,9 @@
 -- Laws of the order of classes and sorts, of the types of a sort, and of the algebras of declarations.
 use Rattle.std.specs.Prelude.{◌↔◌, ℕ, List, []}
 use Rattle.pure_text.specs.Lists.{IsIn}
-use Rattle.pure_definitions.specs.Typ.{Typ}
-use Rattle.pure_definitions.specs.Order.{Class, Arity, Algebra, IsClassBelow, IsSortBelow, IsOfClass, IsOfSort, IsCoregular}
-use Rattle.pure_definitions.specs.Subst.{typ_instance, IsSortRespecting}
+use Rattle.pure_definitions.specs.Types.Typ.{Typ}
+use Rattle.pure_definitions.specs.Types.Order.{Class, Arity, Algebra, IsClassBelow, IsSortBelow, IsOfClass, IsOfSort, IsCoregular}
+use Rattle.pure_definitions.specs.Terms.Subst.{typ_instance, IsSortRespecting}
 use Rattle.pure_order_tables.specs.Classes.{Follows, IsAntisymmetric, of_classes}
 use Rattle.pure_order.specs.Domains.{IsReduced}
 

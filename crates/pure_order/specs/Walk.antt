@@ -1,8 +1,8 @@
 -- What the arities whose places a set holds ask of types.
 use Rattle.std.specs.Prelude.{◌≡◌, ◌↔◌, ◌<◌, ◌≤◌, ℕ, List, [], length, get_or}
 use Rattle.pure_text.specs.Lists.{EachTwo}
-use Rattle.pure_definitions.specs.Typ.{Typ}
-use Rattle.pure_definitions.specs.Order.{Arity, Algebra, IsOfSort, IsCoregular}
+use Rattle.pure_definitions.specs.Types.Typ.{Typ}
+use Rattle.pure_definitions.specs.Types.Order.{Arity, Algebra, IsOfSort, IsCoregular}
 use Rattle.pure_order_tables.specs.Arities.{IsGreatest}
 use Rattle.pure_order.specs.Places.{Holds}
 

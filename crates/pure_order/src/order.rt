@@ -2,8 +2,8 @@
 ghost use Rattle.std.specs.Prelude.{◌≡◌, ◌↔◌, ℕ, [], IsTrue, OnOk, OnErr, IfOk, IfErr, IfSome, MatchOption};
 ghost use Rattle.std.specs.List.Sorted.{IsStrictlyIncreasing};
 ghost use Rattle.pure_text.specs.Lists.{IsIn, Each};
-ghost use Rattle.pure_definitions.specs.Typ.{Typs, Con};
-ghost use Rattle.pure_definitions.specs.Order.{Arity, IsClassBelow, IsSortBelow, IsOfClass, IsOfSort, AreOfSorts, IsCoregular};
+ghost use Rattle.pure_definitions.specs.Types.Typ.{Typs, Con};
+ghost use Rattle.pure_definitions.specs.Types.Order.{Arity, IsClassBelow, IsSortBelow, IsOfClass, IsOfSort, AreOfSorts, IsCoregular};
 ghost use Rattle.pure_order_tables.specs.Classes.{Agree, IsAntisymmetric, IsDeclared};
 ghost use Rattle.pure_order_tables.specs.Arities.{IsArityBelow, IsKnown, IsUnion, with_class, with_arity};
 ghost use Rattle.pure_order_tables.specs.Checks.{IsDirected};
@@ -26,7 +26,7 @@ pub struct Order {
 }
 
 impl Model for Order {
-    ghost use Rattle.pure_definitions.specs.Order.{Algebra, IsCoregular};
+    ghost use Rattle.pure_definitions.specs.Types.Order.{Algebra, IsCoregular};
 
     ghost Value = { Algebra };
 

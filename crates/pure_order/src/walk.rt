@@ -1,8 +1,8 @@
 //! The walk that asks a type's arguments once for all that a sort asks of them.
 ghost use Rattle.std.specs.Prelude.{◌≡◌, ◌↔◌, ◌<◌, ℕ, List, IsTrue, MatchBool, MatchOption, length};
-ghost use Rattle.pure_definitions.specs.Typ as tree;
-ghost use Rattle.pure_definitions.specs.Typ.{Con, typs_of};
-ghost use Rattle.pure_definitions.specs.Order.{IsOfClass, IsOfSort, IsSortBelow};
+ghost use Rattle.pure_definitions.specs.Types.Typ as tree;
+ghost use Rattle.pure_definitions.specs.Types.Typ.{Con, typs_of};
+ghost use Rattle.pure_definitions.specs.Types.Order.{IsOfClass, IsOfSort, IsSortBelow};
 ghost use Rattle.pure_order.specs.Places.{Holds};
 ghost use Rattle.pure_order.specs.Walk.{IsWalkable, domains_at, domain_at, HasDomain, IsGreatestPlace, HaveDomain, HaveDomains, IsOfDomain, AreOfDomains, AsksMore};
 

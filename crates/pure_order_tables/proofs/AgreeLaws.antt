@@ -5,8 +5,8 @@ use Rattle.std.proofs.lemmas.Bool.Decides.{Decides-eqb}
 use Rattle.std.proofs.lemmas.Slice.Eq.{slice_eq-Decides}
 use Rattle.pure_text.specs.Lists.{IsIn, Each}
 use Rattle.pure_text.proofs.ListLaws.{each_of, each_at, read_in, in-map}
-use Rattle.pure_definitions.specs.Typ.{sort_eq}
-use Rattle.pure_definitions.specs.Order.{Class}
+use Rattle.pure_definitions.specs.Types.Typ.{sort_eq}
+use Rattle.pure_definitions.specs.Types.Order.{Class}
 use Rattle.pure_order_tables.specs.declared.classes.ClassEntry.{ClassEntry}
 use Rattle.pure_order_tables.specs.ClassView.{class_of, classes_of}
 use Rattle.pure_order_tables.specs.Classes.{Agree, IsSameIfNamed}

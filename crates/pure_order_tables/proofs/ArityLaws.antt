@@ -3,7 +3,7 @@ use Rattle.std.proofs.Common.{◌≡◌, ℕ, List, [], ◌∷◌, length, get_o
 use Rattle.std.proofs.Math.ListN.{get_or-append}
 use Rattle.std.proofs.Math.Seq.{get_or-append_seam}
 use Rattle.pure_text.specs.Lists.{IsIn, Each, EachTwo}
-use Rattle.pure_definitions.specs.Order.{Class, Arity, Algebra, IsClassBelow, IsSortBelow, HasClassBelow, AreDomainsBelow}
+use Rattle.pure_definitions.specs.Types.Order.{Class, Arity, Algebra, IsClassBelow, IsSortBelow, HasClassBelow, AreDomainsBelow}
 use Rattle.pure_text.proofs.ListLaws.{each_of, any_of, in-append_left, in-append_right, in_split, any_some, each_at, any-append_left, any_decided, each_decided}
 use Rattle.pure_definitions.proofs.OrderLaws.{below-more, domains_same, two_imply, HasMore, domains-more}
 use Rattle.pure_order_tables.specs.Classes.{IsDeclared, Follows}

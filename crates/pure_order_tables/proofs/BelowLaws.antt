@@ -3,7 +3,7 @@ use Rattle.std.proofs.Common.{◌≡◌, ℕ, List, [], ◌∷◌, ◌++◌, ref
 use Rattle.std.proofs.lemmas.Bool.Decides.{eqb_tells}
 use Rattle.pure_order_tables.specs.Checks.{IsDecided}
 use Rattle.pure_text.specs.Lists.{IsIn, Each}
-use Rattle.pure_definitions.specs.Order.{Class, Algebra, IsClassBelow, itself, along}
+use Rattle.pure_definitions.specs.Types.Order.{Class, Algebra, IsClassBelow, itself, along}
 use Rattle.pure_text.proofs.ListLaws.{any_of, in_split, each_at, any-append_left}
 use Rattle.pure_definitions.proofs.OrderLaws.{below-more}
 use Rattle.pure_order_tables.specs.Classes.{IsDeclared, IsAntisymmetric, Follows, of_classes}

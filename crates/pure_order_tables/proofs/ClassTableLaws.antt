@@ -5,7 +5,7 @@ use Rattle.std.specs.BTreeMap.{BTreeMap, get, Updates}
 use Rattle.std.specs.declared.alloc.Global.{Global}
 use Rattle.std.specs.Ordering.{nat_cmp}
 use Rattle.pure_text.specs.Lists.{IsIn, Each, AnyOf}
-use Rattle.pure_definitions.specs.Order.{Class, IsClassBelow, itself, along}
+use Rattle.pure_definitions.specs.Types.Order.{Class, IsClassBelow, itself, along}
 use Rattle.pure_text.proofs.ListLaws.{any_of, in-append_left, in-append_right, in_split, in_or_not, any_split, any_some, each_at, any-append_left, any-append_right}
 use Rattle.std.proofs.lemmas.List.{map-append}
 use Rattle.pure_order_tables.specs.declared.classes.ClassEntry.{ClassEntry}

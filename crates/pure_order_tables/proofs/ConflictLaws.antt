@@ -5,7 +5,7 @@ use Rattle.std.proofs.lemmas.Grind.{get_or_default_zero}
 use Rattle.std.proofs.lemmas.List.Kept.{AllPairs-from_increasing}
 use Rattle.std.specs.Bool.{OnTrue}
 use Rattle.pure_text.specs.Lists.{IsIn, Each, AnyOf}
-use Rattle.pure_definitions.specs.Order.{Arity, Algebra, IsClassBelow, AreDomainsBelow, IsJoin, AreCompatible, IsCoregular}
+use Rattle.pure_definitions.specs.Types.Order.{Arity, Algebra, IsClassBelow, AreDomainsBelow, IsJoin, AreCompatible, IsCoregular}
 use Rattle.pure_text.proofs.AscendingLaws.{place_in, in_at}
 use Rattle.pure_text.proofs.ListLaws.{each_of, any_of, in-append_left, in-append_right, in_split, any_some, each_at, each-append, in_or_not}
 use Rattle.pure_order_tables.specs.Arities.{IsArityBelow, IsGreatestIfAny}

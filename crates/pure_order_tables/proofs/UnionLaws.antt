@@ -2,7 +2,7 @@
 use Rattle.std.proofs.Common.{◌≡◌, ℕ, ◌+◌, ◌<◌, List, [], ◌∷◌, ◌++◌, length, get_or, take, sym, ap, inl, inr, ◌⊎◌, ◌↔◌, ◌∙◌, append_assoc, append-nil, drop}
 use Rattle.std.proofs.lemmas.List.{map-append}
 use Rattle.pure_text.specs.Lists.{IsIn, Each}
-use Rattle.pure_definitions.specs.Order.{Class, Arity}
+use Rattle.pure_definitions.specs.Types.Order.{Class, Arity}
 use Rattle.pure_text.proofs.ListLaws.{each_of, in-map, any_some, each_at, read_in, split_at}
 use Rattle.pure_text.proofs.LoopLaws.{grown_put, grown_kept, longer_by}
 use Rattle.pure_order_tables.specs.declared.classes.ClassEntry.{ClassEntry}

@@ -1,7 +1,7 @@
 -- The first unknown class of joined lists.
 use Rattle.std.proofs.Common.{◌≡◌, ℕ, ◌+◌, ◌<◌, List, [], ◌∷◌, ◌++◌, length, get_or, take, drop, refl, sym, ap, ◌∙◌, append_assoc}
 use Rattle.pure_text.specs.Lists.{Each}
-use Rattle.pure_definitions.specs.Order.{Class}
+use Rattle.pure_definitions.specs.Types.Order.{Class}
 use Rattle.pure_order_tables.specs.Classes.{IsDeclared}
 use Rattle.pure_order_tables.specs.Unknown.{IsFirstUnknown, joined}
 use Rattle.pure_text.proofs.ListLaws.{split_at, each-append}

@@ -1,7 +1,7 @@
 -- The arities of a constructor for the classes below a class, and the greatest of them.
 use Rattle.std.specs.Prelude.{◌≡◌, ◌↔◌, ◌⊎◌, ℕ, List, [], ◌∷◌, ◌++◌}
 use Rattle.pure_text.specs.Lists.{IsIn, Each, EachTwo}
-use Rattle.pure_definitions.specs.Order.{Class, Arity, Algebra, IsClassBelow, IsSortBelow, AreDomainsBelow}
+use Rattle.pure_definitions.specs.Types.Order.{Class, Arity, Algebra, IsClassBelow, IsSortBelow, AreDomainsBelow}
 use Rattle.pure_order_tables.specs.Classes.{IsDeclared}
 
 -- A declared arity of the constructor k for a class below d.

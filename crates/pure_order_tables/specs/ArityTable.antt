@@ -3,7 +3,7 @@ use Rattle.std.specs.Prelude.{ℕ, ◌<◌, length, get_or, Option, Some, None, 
 use Rattle.std.specs.BTreeMap.{BTreeMap, get}
 use Rattle.std.specs.Ordering.{nat_cmp}
 use Rattle.pure_text.specs.Lists.{Each}
-use Rattle.pure_definitions.specs.Order.{Arity, Algebra}
+use Rattle.pure_definitions.specs.Types.Order.{Arity, Algebra}
 use Rattle.pure_order_tables.specs.Arities.{IsArityBelow, IsGreatestIfAny, IsKnown}
 
 -- The place is that of an arity of k for a class below d that is a greatest one, if there is a greatest one.

@@ -1,7 +1,7 @@
 -- What a table of classes and arities is seen as.
 use Rattle.std.specs.Prelude.{List, map}
 use Rattle.pure_order_tables.specs.declared.tables.ArityEntry.{ArityEntry}
-use Rattle.pure_definitions.specs.Order.{Class, Arity, Algebra}
+use Rattle.pure_definitions.specs.Types.Order.{Class, Arity, Algebra}
 
 abbrev pub arity_of : ArityEntry → Arity
 arity_of e = record { con = e.con; domains = e.domains.items; class = e.class }

@@ -1,7 +1,7 @@
 -- What is tested of two arities, and the least that are in conflict.
 use Rattle.std.specs.Prelude.{◌≡◌, ◌≤◌, ◌<◌, ◌⊎◌, ℕ, List, Option, MatchOption}
 use Rattle.pure_text.specs.Lists.{IsIn, Each, AnyOf, EachTwo}
-use Rattle.pure_definitions.specs.Order.{Arity, Algebra, IsClassBelow, IsSortBelow, AreDomainsBelow, AreCompatible}
+use Rattle.pure_definitions.specs.Types.Order.{Arity, Algebra, IsClassBelow, IsSortBelow, AreDomainsBelow, AreCompatible}
 use Rattle.pure_order_tables.specs.Arities.{IsArityBelow, IsGreatestIfAny}
 
 -- An arity of the constructor k for a class below d whose domains are above both of these.

@@ -5,7 +5,7 @@ use Rattle.std.specs.BTreeMap.{BTreeMap, get}
 use Rattle.std.specs.declared.alloc.Global.{Global}
 use Rattle.std.specs.Ordering.{nat_cmp}
 use Rattle.pure_text.specs.Lists.{IsIn}
-use Rattle.pure_definitions.specs.Order.{Class, IsClassBelow}
+use Rattle.pure_definitions.specs.Types.Order.{Class, IsClassBelow}
 use Rattle.pure_order_tables.specs.Classes.{IsDeclared, Follows, of_classes}
 
 -- The class is declared, and these names are the classes above it, ascending.

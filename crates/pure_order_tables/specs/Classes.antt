@@ -1,7 +1,7 @@
 -- Declared classes, in the order of their declarations.
 use Rattle.std.specs.Prelude.{◌≡◌, ℕ, List, [], ◌∷◌, ◌++◌}
 use Rattle.pure_text.specs.Lists.{IsIn, Each, AnyOf}
-use Rattle.pure_definitions.specs.Order.{Class, Algebra, IsClassBelow}
+use Rattle.pure_definitions.specs.Types.Order.{Class, Algebra, IsClassBelow}
 
 -- The class is declared.
 abbrev pub IsDeclared : List Class → ℕ → Type 0

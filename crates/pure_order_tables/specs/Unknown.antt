@@ -1,7 +1,7 @@
 -- Names of classes that are not declared, and arities that are.
 use Rattle.std.specs.Prelude.{◌≡◌, ℕ, List, [], ◌∷◌, ◌++◌}
 use Rattle.pure_text.specs.Lists.{Each, AnyOf}
-use Rattle.pure_definitions.specs.Order.{Class, Arity, Algebra}
+use Rattle.pure_definitions.specs.Types.Order.{Class, Arity, Algebra}
 use Rattle.pure_order_tables.specs.Classes.{IsDeclared}
 
 -- The class is the first of these names that isn't declared.

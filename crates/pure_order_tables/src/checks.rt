@@ -2,7 +2,7 @@
 ghost use Rattle.std.specs.Prelude.{◌⊎◌, ℕ, IfOk, MatchBool, MatchOption};
 ghost use Rattle.std.specs.Bool.{OnTrue};
 ghost use Rattle.pure_text.specs.Lists.{IsIn, AnyOf};
-ghost use Rattle.pure_definitions.specs.Order.{AreDomainsBelow, IsClassBelow, IsCoregular};
+ghost use Rattle.pure_definitions.specs.Types.Order.{AreDomainsBelow, IsClassBelow, IsCoregular};
 ghost use Rattle.pure_order_tables.specs.Arities.{with_arity};
 ghost use Rattle.pure_order_tables.specs.Classes.{IsDeclared};
 ghost use Rattle.pure_order_tables.specs.ArityView.{arity_of};

@@ -2,7 +2,7 @@
 ghost use Rattle.std.specs.Prelude.{◌≡◌, ◌↔◌, ◌⊎◌, ℕ, [], ◌∷◌, ◌++◌, IsTrue, OnOk, OnErr, IfOk, MatchOption};
 ghost use Rattle.std.specs.List.Sorted.{IsStrictlyIncreasing};
 ghost use Rattle.pure_text.specs.Lists.{IsIn, Each, AnyOf};
-ghost use Rattle.pure_definitions.specs.Order.{Class, IsClassBelow};
+ghost use Rattle.pure_definitions.specs.Types.Order.{Class, IsClassBelow};
 ghost use Rattle.pure_order_tables.specs.Classes.{Agree, Follows, IsAntisymmetric, IsDeclared, IsSameIfNamed, of_classes};
 ghost use Rattle.pure_order_tables.specs.Checks.{IsDecided};
 ghost use Rattle.pure_order_tables.specs.ClassTable.{AreAllAbove};
@@ -38,7 +38,7 @@ fn are_same_if_named(first: &ClassEntry, second: &ClassEntry) -> bool
 
 impl Model for ClassTable {
     ghost use Rattle.std.specs.Prelude.{List};
-    ghost use Rattle.pure_definitions.specs.Order.{Class};
+    ghost use Rattle.pure_definitions.specs.Types.Order.{Class};
 
     ghost Value = { List Class };
 

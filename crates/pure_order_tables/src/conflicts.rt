@@ -3,7 +3,7 @@ ghost use Rattle.std.specs.Prelude.{◌≡◌, ◌⊎◌, ◌<◌, ℕ, IfOk, Ma
 ghost use Rattle.std.specs.Bool.{OnTrue};
 ghost use Rattle.std.specs.List.Sorted.{IsStrictlyIncreasing};
 ghost use Rattle.pure_text.specs.Lists.{IsIn, Each};
-ghost use Rattle.pure_definitions.specs.Order.{IsClassBelow, IsCoregular};
+ghost use Rattle.pure_definitions.specs.Types.Order.{IsClassBelow, IsCoregular};
 ghost use Rattle.pure_order_tables.specs.ArityView.{arity_of};
 ghost use Rattle.pure_order_tables.specs.Checks.{FindsPair, IsBelowOf, IsDirected, IsLeastConflict};
 

@@ -4,7 +4,7 @@ ghost use Rattle.std.specs.BTreeMap.{get};
 ghost use Rattle.std.specs.Ordering.{nat_cmp};
 ghost use Rattle.std.specs.List.Sorted.{IsStrictlyIncreasing};
 ghost use Rattle.pure_text.specs.Lists.{IsIn, Each, EachTwo};
-ghost use Rattle.pure_definitions.specs.Order.{Arity, IsClassBelow, HasClassBelow, IsSortBelow, IsCoregular};
+ghost use Rattle.pure_definitions.specs.Types.Order.{Arity, IsClassBelow, HasClassBelow, IsSortBelow, IsCoregular};
 ghost use Rattle.pure_order_tables.specs.Classes.{Agree, IsAntisymmetric, IsDeclared};
 ghost use Rattle.pure_order_tables.specs.Arities.{IsArityBelow, IsGreatestIfAny, IsAboveGreatest, IsKnown, IsNotAbove, IsUnion, with_class, with_arity};
 ghost use Rattle.pure_order_tables.specs.Checks.{IsDecided};
@@ -35,7 +35,7 @@ pub struct Tables {
 }
 
 impl Model for Tables {
-    ghost use Rattle.pure_definitions.specs.Order.{Algebra};
+    ghost use Rattle.pure_definitions.specs.Types.Order.{Algebra};
 
     ghost Value = { Algebra };
 

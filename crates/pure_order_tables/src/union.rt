@@ -1,7 +1,7 @@
 //! The arities of two tables united.
 ghost use Rattle.std.specs.Prelude.{◌≡◌, ◌↔◌, ◌⊎◌, IsTrue, OnOk, IfOk};
 ghost use Rattle.pure_text.specs.Lists.{IsIn, Each};
-ghost use Rattle.pure_definitions.specs.Order.{Arity};
+ghost use Rattle.pure_definitions.specs.Types.Order.{Arity};
 ghost use Rattle.pure_order_tables.specs.ArityView.{arity_of, arities_of};
 ghost use Rattle.pure_order_tables.specs.Arities.{IsKnown};
 

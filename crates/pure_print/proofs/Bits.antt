@@ -2,10 +2,10 @@
 use Rattle.std.proofs.Common.{◌≡◌, ℕ, ◌+◌, Bool, false, ◌||◌, ◌==◌, List, [], ◌∷◌, ◌++◌, length, refl, sym, ap, subst, ◌∙◌, arith, append_assoc, length-append}
 use Rattle.std.specs.Prelude.{None}
 use Rattle.pure_grammar.specs.declared.token.TokenKind.{TokenKind}
-use Rattle.pure_grammar.specs.Bytes.{is_letter, is_digit, is_name_byte, head_is}
-use Rattle.pure_grammar.specs.Token.{long_identifier}
-use Rattle.pure_grammar.specs.Spelling.{IsFirst}
-use Rattle.pure_grammar.specs.InnerLexeme.{InnerLexeme, inner_of}
+use Rattle.pure_grammar.specs.Tokens.Bytes.{is_letter, is_digit, is_name_byte, head_is}
+use Rattle.pure_grammar.specs.Tokens.Token.{long_identifier}
+use Rattle.pure_grammar.specs.Tokens.Spelling.{IsFirst}
+use Rattle.pure_grammar.specs.Terms.InnerLexeme.{InnerLexeme, inner_of}
 use Rattle.pure_print.proofs.Pieces.{Piece, Space, Token_of, bytes_of, lexemes_of, Fit}
 
 -- The bytes are those of pieces, which fit where what stands behind them is as needed. What they are to the grammar,

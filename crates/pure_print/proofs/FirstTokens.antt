@@ -8,9 +8,9 @@ use Rattle.std.proofs.lemmas.Bool.{and_parts, and_from, or_parts, both_ways, eqb
 use Rattle.std.proofs.lemmas.Bool.Decides.{nat_tests}
 use Rattle.std.proofs.lemmas.List.Folds.{list_all-append}
 use Rattle.pure_grammar.specs.declared.token.TokenKind.TheVariants.{Word, Ident, Qualified, TypeVar, Schem, BoundName}
-use Rattle.pure_grammar.specs.Bytes.{is_letter, is_digit, is_name_byte, is_empty, head_is, marked, behind}
-use Rattle.pure_grammar.specs.Token.{is_spelling, is_qualified, is_number, is_indexed, is_long, is_keyword, long_identifier, first_identifier, second_identifier, tail}
-use Rattle.pure_grammar.specs.Spelling.{IsFirst}
+use Rattle.pure_grammar.specs.Tokens.Bytes.{is_letter, is_digit, is_name_byte, is_empty, head_is, marked, behind}
+use Rattle.pure_grammar.specs.Tokens.Token.{is_spelling, is_qualified, is_number, is_indexed, is_long, is_keyword, long_identifier, first_identifier, second_identifier, tail}
+use Rattle.pure_grammar.specs.Tokens.Spelling.{IsFirst}
 use Rattle.pure_grammar.proofs.Indexed.{letter-not_mark}
 use Rattle.pure_grammar.proofs.Classes.{one_kind}
 use Rattle.pure_lex.specs.Fronts.{IsLongest, is_index, name_kind}

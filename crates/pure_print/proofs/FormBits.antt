@@ -2,12 +2,12 @@
 use Rattle.std.proofs.Common.{◌≡◌, ℕ, ◌+◌, List, [], ◌∷◌, ◌++◌, length, refl, ap, append_assoc}
 use Rattle.std.specs.Prelude.{codes, None}
 use Rattle.pure_grammar.specs.declared.token.TokenKind.TheVariants as kind
-use Rattle.pure_grammar.specs.Bytes.{is_digit}
-use Rattle.pure_grammar.specs.RawTree.{RawTree, Abs, App, implication, equation, generality}
-use Rattle.pure_grammar.specs.InnerLexeme.{InnerLexeme}
-use Rattle.pure_grammar.specs.InnerPhrase.{BoundVar, PlainBinder, Binders, BindersPhrase, Simple, AllTerm, ImpTerm, PlainImp, ArrowImp, PlainEq, BothEq, LambdaCon, PlainCon, AppPhrase, Application, AtomPhrases, NoAtom, AndAtom, AtomPhrase, NamedAtom, SchematicAtom, BoundAtom, ClosedAtom}
-use Rattle.pure_grammar.specs.InnerText as grammar
-use Rattle.pure_grammar.specs.InnerTree.{term_raw, imp_raw, eq_raw, con_raw, app_raw, atom_raw, app_place, applied_raw, atom_place}
+use Rattle.pure_grammar.specs.Tokens.Bytes.{is_digit}
+use Rattle.pure_grammar.specs.Terms.RawTree.{RawTree, Abs, App, implication, equation, generality}
+use Rattle.pure_grammar.specs.Terms.InnerLexeme.{InnerLexeme}
+use Rattle.pure_grammar.specs.Terms.InnerPhrase.{BoundVar, PlainBinder, Binders, BindersPhrase, Simple, AllTerm, ImpTerm, PlainImp, ArrowImp, PlainEq, BothEq, LambdaCon, PlainCon, AppPhrase, Application, AtomPhrases, NoAtom, AndAtom, AtomPhrase, NamedAtom, SchematicAtom, BoundAtom, ClosedAtom}
+use Rattle.pure_grammar.specs.Terms.InnerText as grammar
+use Rattle.pure_grammar.specs.Terms.InnerTree.{term_raw, imp_raw, eq_raw, con_raw, app_raw, atom_raw, app_place, applied_raw, atom_place}
 use Rattle.pure_print.specs.NameText.{term_name_text, index_text}
 use Rattle.pure_print.specs.Notation.{Notation, Constant, Fixed, Schematic, Numbered, ForAll, Implies, Equal, Lambda, Apply}
 use Rattle.pure_print.specs.TermText.{number_text, placed, form_text}

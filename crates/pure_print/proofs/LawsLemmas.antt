@@ -3,9 +3,9 @@ use Rattle.std.proofs.Common.{◌≡◌, ℕ, List, length, refl, sym, inr, arit
 use Rattle.std.specs.Prelude.{codes}
 use Rattle.std.proofs.lemmas.Fmt.{decimal_digit}
 use Rattle.pure_typ.specs.NameTexts.{builtin_texts}
-use Rattle.pure_definitions.specs.Typ.{Typ}
-use Rattle.pure_definitions.specs.Term.{Term}
-use Rattle.pure_grammar.specs.Bytes.{is_letter, is_digit, is_name_byte}
+use Rattle.pure_definitions.specs.Types.Typ.{Typ}
+use Rattle.pure_definitions.specs.Terms.Term.{Term}
+use Rattle.pure_grammar.specs.Tokens.Bytes.{is_letter, is_digit, is_name_byte}
 use Rattle.pure_grammar.proofs.Readings.{one_list}
 use Rattle.pure_grammar.proofs.InnerLemmas.{one_term, one_type}
 use Rattle.pure_print.specs.NameText.{term_name_text}

@@ -3,13 +3,13 @@ use Rattle.std.proofs.Common.{◌≡◌, ℕ, true, false, ◌==◌, List, [], �
 use Rattle.std.proofs.lemmas.Bool.{cases_Bool, both_ways, false_from_ne_true, eqb-true}
 use Rattle.pure_grammar.specs.declared.token.TokenKind.{TokenKind}
 use Rattle.pure_grammar.specs.declared.token.TokenKind.TheVariants.{Qualified, TypeVar, Schem, BoundName}
-use Rattle.pure_grammar.specs.Bytes.{is_letter, is_digit, head_is}
-use Rattle.pure_grammar.specs.Token.{is_keyword}
-use Rattle.pure_grammar.specs.InnerLexeme.{Plain, Dotted, Variable, Schematic, TypeSchematic, Bound, inner_of}
-use Rattle.pure_grammar.specs.InnerPhrase.{InnerName, Simple, Full}
-use Rattle.pure_grammar.specs.InnerText.{name_text}
-use Rattle.pure_grammar.specs.InnerTree.{name_of, name_raw}
-use Rattle.pure_grammar.specs.RawTree.{RawTree, Leaf}
+use Rattle.pure_grammar.specs.Tokens.Bytes.{is_letter, is_digit, head_is}
+use Rattle.pure_grammar.specs.Tokens.Token.{is_keyword}
+use Rattle.pure_grammar.specs.Terms.InnerLexeme.{Plain, Dotted, Variable, Schematic, TypeSchematic, Bound, inner_of}
+use Rattle.pure_grammar.specs.Terms.InnerPhrase.{InnerName, Simple, Full}
+use Rattle.pure_grammar.specs.Terms.InnerText.{name_text}
+use Rattle.pure_grammar.specs.Terms.InnerTree.{name_of, name_raw}
+use Rattle.pure_grammar.specs.Terms.RawTree.{RawTree, Leaf}
 use Rattle.pure_lex.specs.Fronts.{name_kind}
 use Rattle.pure_lex.proofs.Longest.{head_is-front}
 use Rattle.pure_print.specs.NameText.{index_text}

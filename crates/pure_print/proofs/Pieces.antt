@@ -4,11 +4,11 @@ use Rattle.std.specs.Prelude.{None, slice_range}
 use Rattle.std.proofs.Math.Seq.{take-append_seam, drop-append_seam}
 use Rattle.pure_grammar.specs.declared.token.TokenKind.{TokenKind}
 use Rattle.pure_grammar.specs.declared.token.Token.{Token}
-use Rattle.pure_grammar.specs.Bytes.{is_blank}
-use Rattle.pure_grammar.specs.Comment.{Gap, nothing, blank, comment}
-use Rattle.pure_grammar.specs.Token.{long_identifier}
-use Rattle.pure_grammar.specs.Spelling.{IsFirst, Begins, Spells}
-use Rattle.pure_grammar.specs.InnerLexeme.{InnerLexeme, Ends, inner_of, inners}
+use Rattle.pure_grammar.specs.Tokens.Bytes.{is_blank}
+use Rattle.pure_grammar.specs.Tokens.Comment.{Gap, nothing, blank, comment}
+use Rattle.pure_grammar.specs.Tokens.Token.{long_identifier}
+use Rattle.pure_grammar.specs.Tokens.Spelling.{IsFirst, Begins, Spells}
+use Rattle.pure_grammar.specs.Terms.InnerLexeme.{InnerLexeme, Ends, inner_of, inners}
 
 -- a blank, or a token with what it is to the grammar at each place
 pub data Piece : Type 0 where

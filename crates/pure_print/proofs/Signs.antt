@@ -5,11 +5,11 @@ use Rattle.std.proofs.lemmas.Bool.{both_ways}
 use Rattle.pure_grammar.specs.declared.token.TokenKind.TheVariants.{Symbol}
 use Rattle.pure_grammar.specs.declared.inner.Opening.TheVariants as opening
 use Rattle.pure_grammar.specs.declared.inner.Mark.TheVariants as mark
-use Rattle.pure_grammar.specs.Bytes.{head_is}
-use Rattle.pure_grammar.specs.Comment.{opens_comment}
-use Rattle.pure_grammar.specs.Token.{is_single, is_pair, is_triple, is_symbol, is_token}
-use Rattle.pure_grammar.specs.Spelling.{IsFirst}
-use Rattle.pure_grammar.specs.InnerLexeme.{InnerLexeme, Opens, Signed, sign_lexeme, mark_lexeme}
+use Rattle.pure_grammar.specs.Tokens.Bytes.{head_is}
+use Rattle.pure_grammar.specs.Tokens.Comment.{opens_comment}
+use Rattle.pure_grammar.specs.Tokens.Token.{is_single, is_pair, is_triple, is_symbol, is_token}
+use Rattle.pure_grammar.specs.Tokens.Spelling.{IsFirst}
+use Rattle.pure_grammar.specs.Terms.InnerLexeme.{InnerLexeme, Opens, Signed, sign_lexeme, mark_lexeme}
 use Rattle.pure_grammar.proofs.Classes.{same_kind}
 use Rattle.pure_lex.proofs.Firsts.{group-longer}
 use Rattle.pure_print.proofs.Bits.{Bit, Any, token-bit}

@@ -1,8 +1,8 @@
 -- Classes and sorts as they are printed, read by the grammar.
 use Rattle.std.proofs.Common.{◌≡◌, ℕ, ◌+◌, List, [], ◌∷◌, ◌++◌, length, map, refl}
-use Rattle.pure_grammar.specs.InnerPhrase.{InnerName, InnerSort, NoSort, OneClass, Classes}
-use Rattle.pure_grammar.specs.InnerText as grammar
-use Rattle.pure_grammar.specs.InnerTree.{class_raw, sort_raw}
+use Rattle.pure_grammar.specs.Terms.InnerPhrase.{InnerName, InnerSort, NoSort, OneClass, Classes}
+use Rattle.pure_grammar.specs.Terms.InnerText as grammar
+use Rattle.pure_grammar.specs.Terms.InnerTree.{class_raw, sort_raw}
 use Rattle.pure_print.specs.NameText.{typ_name_text, more_classes_text, sort_text}
 use Rattle.pure_print.specs.Readable.{AreClassNames}
 use Rattle.pure_print.specs.ReadBack.{class_name}

@@ -5,14 +5,14 @@ use Rattle.std.proofs.lemmas.Fmt.{decimal_injective}
 use Rattle.std.proofs.lemmas.Bool.{cond_both, eqb-true, lt-ltb, both_ways}
 use Rattle.std.proofs.lemmas.Bool.Decides.{nat_tests}
 use Rattle.pure_typ.specs.NameTexts.{builtin_texts}
-use Rattle.pure_definitions.specs.Term.{Term, Const, Free, Var, Bound}
-use Rattle.pure_definitions.specs.Term as term
-use Rattle.pure_definitions.specs.Bounds.{IsClosedUnder}
+use Rattle.pure_definitions.specs.Terms.Term.{Term, Const, Free, Var, Bound}
+use Rattle.pure_definitions.specs.Terms.Term as term
+use Rattle.pure_definitions.specs.Terms.Bounds.{IsClosedUnder}
 use Rattle.pure_grammar.specs.declared.token.TokenKind.TheVariants as kind
-use Rattle.pure_grammar.specs.Bytes.{is_letter, is_digit, is_name_byte, head_is}
-use Rattle.pure_grammar.specs.RawTree.{RawTree, Leaf, Abs, App}
-use Rattle.pure_grammar.specs.InnerLexeme.{Ends}
-use Rattle.pure_grammar.specs.InnerTree.{term_raw}
+use Rattle.pure_grammar.specs.Tokens.Bytes.{is_letter, is_digit, is_name_byte, head_is}
+use Rattle.pure_grammar.specs.Terms.RawTree.{RawTree, Leaf, Abs, App}
+use Rattle.pure_grammar.specs.Terms.InnerLexeme.{Ends}
+use Rattle.pure_grammar.specs.Terms.InnerTree.{term_raw}
 use Rattle.pure_print.specs.NameText.{term_name_text, index_text}
 use Rattle.pure_print.specs.Notation.{Notation, Constant, ForAll, Implies, Equal, Lambda, Apply, apply, number_of, notation}
 use Rattle.pure_print.specs.TermText.{number_text, term_text}

@@ -3,14 +3,14 @@ use Rattle.std.proofs.Common.{◌≡◌, ℕ, ◌+◌, true, false, List, [], �
 use Rattle.std.specs.Prelude.{codes, nat_eq}
 use Rattle.std.proofs.lemmas.Bool.{cases_Bool, eqb-true}
 use Rattle.pure_typ.specs.NameTexts.{builtin_texts}
-use Rattle.pure_definitions.specs.Typ.{Typ, Typs, TFree, TVar, Con, none, also}
-use Rattle.pure_grammar.specs.Bytes.{is_letter, is_digit, is_name_byte}
-use Rattle.pure_grammar.specs.RawTree.{RawTypTree, RawTypTrees}
-use Rattle.pure_grammar.specs.RawTree as raw
-use Rattle.pure_grammar.specs.InnerLexeme.{InnerLexeme}
-use Rattle.pure_grammar.specs.InnerPhrase.{InnerName, TypePhrase, PlainType, ArrowType, TypePhrases, NoType, AndType, PostPhrase, Post, VariableBase, SchematicBase, NamedBase, ClosedBase, ArgumentsBase}
-use Rattle.pure_grammar.specs.InnerText as grammar
-use Rattle.pure_grammar.specs.InnerTree.{name_of, type_raw, types_raw, post_raw, post_place, base_raw, base_place, constructed}
+use Rattle.pure_definitions.specs.Types.Typ.{Typ, Typs, TFree, TVar, Con, none, also}
+use Rattle.pure_grammar.specs.Tokens.Bytes.{is_letter, is_digit, is_name_byte}
+use Rattle.pure_grammar.specs.Terms.RawTree.{RawTypTree, RawTypTrees}
+use Rattle.pure_grammar.specs.Terms.RawTree as raw
+use Rattle.pure_grammar.specs.Terms.InnerLexeme.{InnerLexeme}
+use Rattle.pure_grammar.specs.Terms.InnerPhrase.{InnerName, TypePhrase, PlainType, ArrowType, TypePhrases, NoType, AndType, PostPhrase, Post, VariableBase, SchematicBase, NamedBase, ClosedBase, ArgumentsBase}
+use Rattle.pure_grammar.specs.Terms.InnerText as grammar
+use Rattle.pure_grammar.specs.Terms.InnerTree.{name_of, type_raw, types_raw, post_raw, post_place, base_raw, base_place, constructed}
 use Rattle.pure_print.specs.NameText.{name_text, fresh_variable, typ_name_text, typ_variable_text, index_text, sort_text}
 use Rattle.pure_print.specs.TypText.{is_arrow, in_parentheses, constant_typ_text, typ_text, more_typs_text}
 use Rattle.pure_print.specs.Readable.{IsName, IsReadableTyp, AreReadableTyps}

@@ -2,7 +2,7 @@
 use Rattle.std.proofs.Common.{◌≡◌, ℕ, ◌-◌, true, false, List, [], ◌∷◌, ◌++◌, length, get_or, take, drop, refl, ap, ◌∙◌, arith, append_assoc}
 use Rattle.std.specs.Prelude.{nat_eq, codes}
 use Rattle.std.proofs.lemmas.List.{take_all, length-drop}
-use Rattle.pure_definitions.specs.Typ.{Typ, Con, typs_of}
+use Rattle.pure_definitions.specs.Types.Typ.{Typ, Con, typs_of}
 use Rattle.pure_print.specs.NameText.{typ_name_text}
 use Rattle.pure_print.specs.TypText.{is_arrow_of, is_arrow, in_parentheses, typ_text, more_typs_text}
 use Rattle.pure_text.proofs.Joins.{joined_3, joined_5}

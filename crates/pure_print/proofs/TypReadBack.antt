@@ -1,8 +1,8 @@
 -- A readable type is read back as it was printed.
 use Rattle.std.proofs.Common.{◌≡◌, ℕ, List, [], ◌∷◌, refl, sym, ◌∙◌, append-nil}
-use Rattle.pure_definitions.specs.Typ.{Typ}
-use Rattle.pure_grammar.specs.InnerLexeme.{Ends}
-use Rattle.pure_grammar.specs.InnerTree.{type_raw}
+use Rattle.pure_definitions.specs.Types.Typ.{Typ}
+use Rattle.pure_grammar.specs.Terms.InnerLexeme.{Ends}
+use Rattle.pure_grammar.specs.Terms.InnerTree.{type_raw}
 use Rattle.pure_print.specs.TypText.{typ_text}
 use Rattle.pure_print.specs.Readable.{IsReadableTyp}
 use Rattle.pure_print.specs.ReadBack.{IsReadBackTyp}

@@ -1,6 +1,6 @@
 -- What the printer's forms of terms stand for; private contracts alone cite this.
 use Rattle.std.specs.Prelude.{ℕ, ◌+◌, max, Bool, false, nat_eq}
-use Rattle.pure_definitions.specs.Term.{Term, Const, term_depth}
+use Rattle.pure_definitions.specs.Terms.Term.{Term, Const, term_depth}
 use Rattle.pure_print.specs.Notation as notation
 use Rattle.pure_print.specs.declared.form.Form.{Form}
 use Rattle.pure_print.specs.declared.form.Form.TheVariants.{Constant, Fixed, Schematic, Bound, ForAll, Implies, Equal, Lambda, Apply}

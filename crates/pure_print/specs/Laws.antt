@@ -1,9 +1,9 @@
 -- Laws of printing.
 use Rattle.std.specs.Prelude.{◌≡◌, ℕ, List, [], codes}
 use Rattle.pure_definitions.specs.Names.{protect_name}
-use Rattle.pure_definitions.specs.Typ.{Typ, prop}
-use Rattle.pure_definitions.specs.Term.{Term, Const, Bound, Abs, App}
-use Rattle.pure_grammar.specs.RawTree.{RawTypTree, RawTree}
+use Rattle.pure_definitions.specs.Types.Typ.{Typ, prop}
+use Rattle.pure_definitions.specs.Terms.Term.{Term, Const, Bound, Abs, App}
+use Rattle.pure_grammar.specs.Terms.RawTree.{RawTypTree, RawTree}
 use Rattle.pure_print.specs.TypText.{typ_text}
 use Rattle.pure_print.specs.TermText.{term_text}
 use Rattle.pure_print.specs.Readable.{IsReadableTyp, IsReadable}

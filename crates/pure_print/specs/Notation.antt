@@ -1,7 +1,7 @@
 -- The notation of terms: which of its forms each term is written in.
 use Rattle.std.specs.Prelude.{ℕ, ◌+◌, ◌-◌, nat_eq, nat_lt, if◌then◌else◌}
 use Rattle.pure_definitions.specs.Names.{all_name, imp_name, eq_name}
-use Rattle.pure_definitions.specs.Term.{Term, Const, Free, Var, Bound, Abs, App}
+use Rattle.pure_definitions.specs.Terms.Term.{Term, Const, Free, Var, Bound, Abs, App}
 
 -- A name, of which a bound variable has its number; a quantifier or an abstraction with the number of its binder;
 -- an implication, an equation, or an application.

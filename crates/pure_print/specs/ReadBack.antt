@@ -1,17 +1,17 @@
 -- What is read of a printed text.
 use Rattle.std.specs.Prelude.{◌≡◌, ◌≢◌, ℕ, zero, suc, List, [], ◌∷◌, ◌++◌, length, map, None, if◌then◌else◌}
-use Rattle.pure_definitions.specs.Typ.{Typ, Typs, TFree, TVar}
-use Rattle.pure_definitions.specs.Typ as typ
-use Rattle.pure_definitions.specs.Term.{Term, Const, Free, Var, Bound}
-use Rattle.pure_definitions.specs.Term as term
+use Rattle.pure_definitions.specs.Types.Typ.{Typ, Typs, TFree, TVar}
+use Rattle.pure_definitions.specs.Types.Typ as typ
+use Rattle.pure_definitions.specs.Terms.Term.{Term, Const, Free, Var, Bound}
+use Rattle.pure_definitions.specs.Terms.Term as term
 use Rattle.pure_grammar.specs.declared.token.Token.{Token}
 use Rattle.pure_grammar.specs.declared.token.TokenKind.{TokenKind}
 use Rattle.pure_grammar.specs.declared.token.TokenKind.TheVariants as kind
-use Rattle.pure_grammar.specs.Token.{is_qualified}
-use Rattle.pure_grammar.specs.Spelling.{Spells}
-use Rattle.pure_grammar.specs.RawTree.{RawClassTree, RawTypTree, RawTypTrees, RawTree}
-use Rattle.pure_grammar.specs.RawTree as raw
-use Rattle.pure_grammar.specs.Inner.{SpellsTerm, SpellsType}
+use Rattle.pure_grammar.specs.Tokens.Token.{is_qualified}
+use Rattle.pure_grammar.specs.Tokens.Spelling.{Spells}
+use Rattle.pure_grammar.specs.Terms.RawTree.{RawClassTree, RawTypTree, RawTypTrees, RawTree}
+use Rattle.pure_grammar.specs.Terms.RawTree as raw
+use Rattle.pure_grammar.specs.Terms.Inner.{SpellsTerm, SpellsType}
 use Rattle.pure_print.specs.NameText.{term_name_text, typ_name_text, typ_variable_text, index_text}
 use Rattle.pure_print.specs.TypText.{constant_typ_text}
 

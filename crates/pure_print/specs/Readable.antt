@@ -1,9 +1,9 @@
 -- Which terms and types are read back as they were printed.
 use Rattle.std.specs.Prelude.{◌≡◌, ℕ, ◌+◌, ◌<◌, ◌≤◌, ◌⊎◌, max, List, [], ◌∷◌, ◌++◌, length, IsTrue}
-use Rattle.pure_definitions.specs.Typ.{Typ, Typs, TFree, TVar, Con, none, also}
-use Rattle.pure_definitions.specs.Term.{Term, Const, Free, Var, Bound, Abs, App}
-use Rattle.pure_definitions.specs.Bounds.{IsClosed}
-use Rattle.pure_grammar.specs.Token.{is_spelling}
+use Rattle.pure_definitions.specs.Types.Typ.{Typ, Typs, TFree, TVar, Con, none, also}
+use Rattle.pure_definitions.specs.Terms.Term.{Term, Const, Free, Var, Bound, Abs, App}
+use Rattle.pure_definitions.specs.Terms.Bounds.{IsClosed}
+use Rattle.pure_grammar.specs.Tokens.Token.{is_spelling}
 use Rattle.pure_print.specs.NameText.{name_text, fresh_variable, term_name_text, typ_name_text}
 
 -- A letter, then letters, digits, `_` and `'`, at most 64 bytes in all. Keywords are such spellings.

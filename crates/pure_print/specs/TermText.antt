@@ -1,7 +1,7 @@
 -- How terms are printed.
 use Rattle.std.specs.Prelude.{ℕ, List, ◌∷◌, ◌++◌, codes, nat_lt}
 use Rattle.std.specs.Fmt.{decimal}
-use Rattle.pure_definitions.specs.Term.{Term}
+use Rattle.pure_definitions.specs.Terms.Term.{Term}
 use Rattle.pure_print.specs.NameText.{term_name_text, index_text}
 use Rattle.pure_print.specs.TypText.{in_parentheses}
 use Rattle.pure_print.specs.Notation.{Notation, Constant, Fixed, Schematic, Numbered, ForAll, Implies, Equal, Lambda, Apply, notation}

@@ -1,7 +1,7 @@
 -- How types are printed.
 use Rattle.std.specs.Prelude.{ℕ, Bool, false, List, [], ◌∷◌, ◌++◌, codes, nat_eq, if◌then◌else◌}
 use Rattle.pure_definitions.specs.Names.{fun_name, prop_name}
-use Rattle.pure_definitions.specs.Typ.{Typ, Typs, TFree, TVar, Con, none, also}
+use Rattle.pure_definitions.specs.Types.Typ.{Typ, Typs, TFree, TVar, Con, none, also}
 use Rattle.pure_print.specs.NameText.{typ_name_text, typ_variable_text, index_text, sort_text}
 
 -- `Pure.fun` applied to two types is an arrow.

@@ -1,6 +1,6 @@
 //! The forms in which terms are written.
 ghost use Rattle.std.specs.Prelude.{◌≡◌, ◌≤◌, ℕ};
-ghost use Rattle.pure_definitions.specs.Term.{App, term_depth};
+ghost use Rattle.pure_definitions.specs.Terms.Term.{App, term_depth};
 ghost use Rattle.pure_print.specs.Notation.{notation};
 ghost use Rattle.pure_print.specs.TermText.{level};
 ghost use Rattle.pure_print.specs.Forms.{is_constant, seen_form, form_depth};

@@ -1,6 +1,6 @@
 //! Types as they are printed.
 ghost use Rattle.std.specs.Prelude.{◌≡◌, ◌++◌, IfOk, OnOk};
-ghost use Rattle.pure_definitions.specs.Typ.{Con, typs_of};
+ghost use Rattle.pure_definitions.specs.Types.Typ.{Con, typs_of};
 ghost use Rattle.pure_print.specs.Readable.{IsReadableTyp};
 ghost use Rattle.pure_print.specs.ReadBack.{IsReadBackTyp};
 ghost use Rattle.pure_print.specs.TypText as spec;

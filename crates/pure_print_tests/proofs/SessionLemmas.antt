@@ -10,7 +10,7 @@ use Rattle.std.proofs.lemmas.Bool.{and_parts, both_ways, not-true}
 use Rattle.std.proofs.lemmas.List.Sums.{AllPass-from_list_all}
 use Rattle.std.proofs.lemmas.Option.{slice_get_within, get_or_from_slice_get}
 use Rattle.pure_typ.specs.NameTexts.{AreSessionTexts, DoAscend, builtin_texts}
-use Rattle.pure_grammar.specs.Bytes.{head_is}
+use Rattle.pure_grammar.specs.Tokens.Bytes.{head_is}
 
 -- each text is below those after it
 abbrev pub ascend : List (List ℕ) → Bool

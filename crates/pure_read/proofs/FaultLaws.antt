@@ -1,9 +1,9 @@
 -- Faults of syntax exclude a tree, and one another.
 use Rattle.std.proofs.Common.{◌≡◌, ℕ, ◌<◌, List, [], ◌∷◌, ◌++◌, length, sym, ◌∙◌, ap, subst, append_assoc}
 use Rattle.pure_grammar.specs.declared.token.Token.{Token}
-use Rattle.pure_grammar.specs.Outer.{place_of}
-use Rattle.pure_grammar.specs.InnerLexeme.{InnerLexeme}
-use Rattle.pure_grammar.specs.Inner.{IsTerm, IsType, BeginsTerm, BeginsType, InnerGoesWrong, HasInnerFault}
+use Rattle.pure_grammar.specs.Theories.Outer.{place_of}
+use Rattle.pure_grammar.specs.Terms.InnerLexeme.{InnerLexeme}
+use Rattle.pure_grammar.specs.Terms.Inner.{IsTerm, IsType, BeginsTerm, BeginsType, InnerGoesWrong, HasInnerFault}
 use Rattle.pure_grammar.proofs.Places.{goes-on-behind, same-number}
 use Rattle.pure_read.specs.Laws.{TermOrFault, TypeOrFault, OneTermFault, OneTypeFault}
 

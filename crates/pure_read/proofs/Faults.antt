@@ -2,10 +2,10 @@
 use Rattle.std.proofs.Common.{◌≡◌, ℕ, List, [], subst}
 use Rattle.std.specs.Prelude.{Some}
 use Rattle.pure_grammar.specs.declared.token.Token.{Token}
-use Rattle.pure_grammar.specs.RawTree.{RawTree, RawTypTree}
-use Rattle.pure_grammar.specs.InnerLexeme.{inners}
-use Rattle.pure_grammar.specs.Inner.{SpellsTerm, SpellsType}
-use Rattle.pure_grammar.specs.InnerReader.{AtTerm, AtType, Frame, State, In, DoneTerm, DoneType, run}
+use Rattle.pure_grammar.specs.Terms.RawTree.{RawTree, RawTypTree}
+use Rattle.pure_grammar.specs.Terms.InnerLexeme.{inners}
+use Rattle.pure_grammar.specs.Terms.Inner.{SpellsTerm, SpellsType}
+use Rattle.pure_grammar.specs.Terms.InnerReader.{AtTerm, AtType, Frame, State, In, DoneTerm, DoneType, run}
 use Rattle.pure_grammar.proofs.InnerFaultLemmas.{run-is-term, run-is-type}
 use Rattle.pure_grammar.proofs.InnerEndLemmas.{term-is-no-type, type-is-no-term}
 use Rattle.pure_read.specs.Stuck.{IsStuckAs, IsTermFaultOf, IsTypeFaultOf}

@@ -1,7 +1,7 @@
 -- Tokens of a part of a source.
 use Rattle.std.proofs.Common.{ℕ, ◌≤◌, List, [], ◌∷◌, length, arith}
 use Rattle.pure_grammar.specs.declared.token.Token.{Token}
-use Rattle.pure_grammar.specs.Spelling.{AreSlices}
+use Rattle.pure_grammar.specs.Tokens.Spelling.{AreSlices}
 use Rattle.pure_read.specs.Laws.{PartsAreSlices}
 
 wider : (source : List ℕ) (from to : ℕ) (tokens : List Token) → to ≤ length source → AreSlices source from to tokens → AreSlices source from (length source) tokens

@@ -2,10 +2,10 @@
 use Rattle.std.proofs.Common.{◌≡◌, ℕ, zero, suc, ◌<◌, ◌≤◌, List, [], ◌∷◌, ◌++◌, length, drop, get_or, refl, sym, ◌∙◌, ap, arith}
 use Rattle.std.specs.Prelude.{Some, None}
 use Rattle.pure_grammar.specs.declared.token.Token.{Token}
-use Rattle.pure_grammar.specs.Outer.{place_of}
-use Rattle.pure_grammar.specs.InnerLexeme.{InnerLexeme, Ends, inner, inners}
-use Rattle.pure_grammar.specs.Inner.{HasTermFault, HasTypeFault}
-use Rattle.pure_grammar.specs.InnerReader.{AtTerm, AtType, State, In, goes_on, next, run}
+use Rattle.pure_grammar.specs.Theories.Outer.{place_of}
+use Rattle.pure_grammar.specs.Terms.InnerLexeme.{InnerLexeme, Ends, inner, inners}
+use Rattle.pure_grammar.specs.Terms.Inner.{HasTermFault, HasTypeFault}
+use Rattle.pure_grammar.specs.Terms.InnerReader.{AtTerm, AtType, State, In, goes_on, next, run}
 use Rattle.pure_grammar.proofs.InnerFaultLemmas.{run-append, run-begins-term, run-begins-type, stuck-term, stuck-type}
 use Rattle.pure_grammar.proofs.Places.{place_of-token, place_of-end}
 use Rattle.pure_read.specs.Stuck.{IsStuck}

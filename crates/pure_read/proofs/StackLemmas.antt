@@ -1,6 +1,6 @@
 -- A stack as a list of frames.
 use Rattle.std.proofs.Common.{◌≡◌, List, [], ◌∷◌, ◌++◌, refl, ap, ◌∙◌}
-use Rattle.pure_grammar.specs.InnerReader as spec
+use Rattle.pure_grammar.specs.Terms.InnerReader as spec
 use Rattle.pure_read.specs.declared.frame.Frame.{Frame}
 use Rattle.pure_read.specs.Frames.{seen_frame, stacked}
 

@@ -1,6 +1,6 @@
 -- What stands open, as contracts see it.
 use Rattle.std.specs.Prelude.{List, [], ◌∷◌}
-use Rattle.pure_grammar.specs.InnerReader as spec
+use Rattle.pure_grammar.specs.Terms.InnerReader as spec
 use Rattle.pure_read.specs.declared.frame.Quantifier.{Quantifier}
 use Rattle.pure_read.specs.declared.frame.Quantifier.TheVariants as quantifier
 use Rattle.pure_read.specs.declared.frame.Join.{Join}

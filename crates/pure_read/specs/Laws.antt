@@ -1,9 +1,9 @@
 -- The laws of these definitions.
 use Rattle.std.specs.Prelude.{◌≡◌, ℕ, ◌≤◌, List, length}
 use Rattle.pure_grammar.specs.declared.token.Token.{Token}
-use Rattle.pure_grammar.specs.RawTree.{RawTree, RawTypTree}
-use Rattle.pure_grammar.specs.Spelling.{AreSlices}
-use Rattle.pure_grammar.specs.Inner.{SpellsTerm, SpellsType, HasTermFault, HasTypeFault}
+use Rattle.pure_grammar.specs.Terms.RawTree.{RawTree, RawTypTree}
+use Rattle.pure_grammar.specs.Tokens.Spelling.{AreSlices}
+use Rattle.pure_grammar.specs.Terms.Inner.{SpellsTerm, SpellsType, HasTermFault, HasTypeFault}
 
 abbrev pub TermOrFault : Type 0
 TermOrFault = (source : List ℕ) (tokens : List Token) (term : RawTree) (at : ℕ) → SpellsTerm source tokens term → HasTermFault source tokens at → ⊥

@@ -1,5 +1,5 @@
 -- Parts that are read, as contracts see them.
-use Rattle.pure_grammar.specs.InnerReader as spec
+use Rattle.pure_grammar.specs.Terms.InnerReader as spec
 use Rattle.pure_read.specs.Frames.{seen_stack}
 use Rattle.pure_read.specs.declared.term.TermPart.{TermPart}
 use Rattle.pure_read.specs.declared.typ.TypePart.{TypePart}

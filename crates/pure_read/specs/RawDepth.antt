@@ -1,6 +1,6 @@
 -- How deep trees are.
 use Rattle.std.specs.Prelude.{ℕ, ◌+◌, max}
-use Rattle.pure_grammar.specs.RawTree.{RawTypTree, Var, Con, RawTypTrees, none, also, RawTree, Leaf, Abs, App, Typed}
+use Rattle.pure_grammar.specs.Terms.RawTree.{RawTypTree, Var, Con, RawTypTrees, none, also, RawTree, Leaf, Abs, App, Typed}
 
 -- the count of nodes on the longest path from the root
 abbrev mutual

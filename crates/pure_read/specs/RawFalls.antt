@@ -8,7 +8,7 @@ use Rattle.pure_read.specs.declared.raw.RawTyp.TheDeep.{deep-RawTypNode}
 use Rattle.pure_read.specs.declared.raw.RawNode.{RawNode}
 use Rattle.pure_read.specs.declared.raw.RawNode.TheVariants.{Leaf, Abs, App, Typed}
 use Rattle.pure_read.specs.declared.raw.Raw.TheDeep.{deep-RawNode}
-use Rattle.pure_grammar.specs.RawTree.{RawTypTree, raw_typs_of}
+use Rattle.pure_grammar.specs.Terms.RawTree.{RawTypTree, raw_typs_of}
 use Rattle.pure_read.specs.RawDepth.{raw_typ_depth, raw_typs_depth, raw_depth}
 use Rattle.pure_read.specs.RawView.{view_raw_typ, view_raw}
 

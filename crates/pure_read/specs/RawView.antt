@@ -3,7 +3,7 @@ use Rattle.pure_read.specs.declared.raw.RawTypNode.{RawTypNode}
 use Rattle.pure_read.specs.declared.raw.RawTypNode.TheVariants.{Var, Con}
 use Rattle.pure_read.specs.declared.raw.RawNode.{RawNode}
 use Rattle.pure_read.specs.declared.raw.RawNode.TheVariants.{Leaf, Abs, App, Typed}
-use Rattle.pure_grammar.specs.RawTree as tree
+use Rattle.pure_grammar.specs.Terms.RawTree as tree
 
 abbrev pub view_raw_typ : RawTypNode → tree.RawTypTree
 view_raw_typ (Var at kind text sort) = tree.Var at kind text sort.items

@@ -1,7 +1,7 @@
 -- Lexemes, and what they say, as contracts see them.
 use Rattle.std.specs.Prelude.{Option, Some, None}
-use Rattle.pure_grammar.specs.InnerLexeme as spec
-use Rattle.pure_grammar.specs.InnerReader as reader
+use Rattle.pure_grammar.specs.Terms.InnerLexeme as spec
+use Rattle.pure_grammar.specs.Terms.InnerReader as reader
 use Rattle.pure_read.specs.declared.lexeme.Lexeme.{Lexeme}
 use Rattle.pure_read.specs.declared.lexeme.Lexeme.TheVariants.{Plain, Dotted, Variable, Schematic, TypeSchematic, Bound, Opens, Signed, Other, Ends}
 use Rattle.pure_read.specs.declared.lexeme.Written.{Written}

@@ -1,6 +1,6 @@
 -- The places and states of the reader, as contracts see them.
 use Rattle.std.specs.Prelude.{Option, Some, None}
-use Rattle.pure_grammar.specs.InnerReader as spec
+use Rattle.pure_grammar.specs.Terms.InnerReader as spec
 use Rattle.pure_read.specs.Seen.{seen_one}
 use Rattle.pure_read.specs.Frames.{seen_quantifier, seen_stack}
 use Rattle.pure_read.specs.declared.state.Place.{Place}

@@ -1,10 +1,10 @@
 -- Where the reader of terms and types stops before the end.
 use Rattle.std.specs.Prelude.{◌≡◌, ℕ, ◌<◌, List, ◌∷◌, ◌++◌, length, Some, None}
 use Rattle.pure_grammar.specs.declared.token.Token.{Token}
-use Rattle.pure_grammar.specs.Outer.{place_of}
-use Rattle.pure_grammar.specs.InnerLexeme.{InnerLexeme, inners}
-use Rattle.pure_grammar.specs.InnerReader.{State, next, run}
-use Rattle.pure_grammar.specs.Inner.{HasTermFault, HasTypeFault}
+use Rattle.pure_grammar.specs.Theories.Outer.{place_of}
+use Rattle.pure_grammar.specs.Terms.InnerLexeme.{InnerLexeme, inners}
+use Rattle.pure_grammar.specs.Terms.InnerReader.{State, next, run}
+use Rattle.pure_grammar.specs.Terms.Inner.{HasTermFault, HasTypeFault}
 use Rattle.pure_read.specs.declared.read.RawFault.{RawFault}
 use Rattle.pure_read.specs.declared.read.RawFault.TheVariants.{TooLong, Syntax, Memory}
 

@@ -1,6 +1,6 @@
 //! Where a token of a binder leads to.
 ghost use Rattle.std.specs.Prelude.{◌≡◌, IfOk};
-ghost use Rattle.pure_grammar.specs.InnerReader as spec;
+ghost use Rattle.pure_grammar.specs.Terms.InnerReader as spec;
 ghost use Rattle.pure_read.specs.Seen.{seen_lexeme};
 ghost use Rattle.pure_read.specs.Frames.{seen_frame, seen_quantifier, seen_stack};
 ghost use Rattle.pure_read.specs.States.{seen_next, seen_place};

@@ -1,6 +1,6 @@
 //! What stands open to the left of a place in the text.
 ghost use Rattle.std.specs.Prelude.{◌≡◌, IfOk, [], ◌∷◌};
-ghost use Rattle.pure_grammar.specs.InnerReader as spec;
+ghost use Rattle.pure_grammar.specs.Terms.InnerReader as spec;
 ghost use Rattle.pure_read.specs.Frames.{seen_join, seen_frame, seen_stack, seen_popped};
 
 use crate::raw::{Raw, RawTyp};

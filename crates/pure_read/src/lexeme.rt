@@ -1,11 +1,11 @@
 //! What a token is to the grammar of terms and types.
 ghost use Rattle.std.specs.Prelude.{◌≡◌, ◌==◌, IfOk, Some};
-ghost use Rattle.pure_grammar.specs.Bytes.{apostrophe, head_is};
-ghost use Rattle.pure_grammar.specs.InnerLexeme as spec;
-ghost use Rattle.pure_grammar.specs.Lexeme.{same};
-ghost use Rattle.pure_grammar.specs.InnerReader as reader;
-ghost use Rattle.pure_grammar.specs.Spelling.{IsSlice};
-ghost use Rattle.pure_grammar.specs.Token.{tail};
+ghost use Rattle.pure_grammar.specs.Tokens.Bytes.{apostrophe, head_is};
+ghost use Rattle.pure_grammar.specs.Terms.InnerLexeme as spec;
+ghost use Rattle.pure_grammar.specs.Theories.Lexeme.{same};
+ghost use Rattle.pure_grammar.specs.Terms.InnerReader as reader;
+ghost use Rattle.pure_grammar.specs.Tokens.Spelling.{IsSlice};
+ghost use Rattle.pure_grammar.specs.Tokens.Token.{tail};
 ghost use Rattle.pure_read.specs.Seen.{seen_lexeme, seen_written};
 
 use pure_grammar::{Mark, Opening, Token, TokenKind};
@@ -230,7 +230,7 @@ fn signed<'s>(mark: Mark) -> Lexeme<'s>
 }
 
 /// The sign of these bytes, where it begins nothing.
-#[tactic(auto, unfolding(pure_grammar::specs::InnerLexeme::mark_lexeme))]
+#[tactic(auto, unfolding(pure_grammar::specs::Terms::InnerLexeme::mark_lexeme))]
 fn mark_lexeme<'s>(text: &[u8]) -> Lexeme<'s>
     ensures { seen_lexeme result ≡ spec.mark_lexeme text.now }
 {
@@ -274,7 +274,7 @@ fn mark_lexeme<'s>(text: &[u8]) -> Lexeme<'s>
 }
 
 /// The sign of these bytes.
-#[tactic(auto, unfolding(pure_grammar::specs::InnerLexeme::sign_lexeme))]
+#[tactic(auto, unfolding(pure_grammar::specs::Terms::InnerLexeme::sign_lexeme))]
 fn sign_lexeme<'s>(text: &'s [u8], at: u32) -> Lexeme<'s>
     ensures { seen_lexeme result ≡ spec.sign_lexeme text.now at }
 {

@@ -1,6 +1,6 @@
 //! The trees of terms and types as they are written.
 ghost use Rattle.std.specs.Prelude.{◌≡◌, IfOk, codes, [], ◌∷◌};
-ghost use Rattle.pure_grammar.specs.RawTree as tree;
+ghost use Rattle.pure_grammar.specs.Terms.RawTree as tree;
 
 use pure_grammar::TokenKind;
 use pure_text::Text;
@@ -15,7 +15,7 @@ pub struct RawClass {
 }
 
 impl Model for RawClass {
-    ghost use Rattle.pure_grammar.specs.RawTree.{RawClassTree};
+    ghost use Rattle.pure_grammar.specs.Terms.RawTree.{RawClassTree};
     ghost use Rattle.pure_read.specs.RawCodes.{coded_class};
 
     ghost Value = { RawClassTree };
@@ -51,7 +51,7 @@ pub enum RawTypNode {
 }
 
 impl Model for RawTyp {
-    ghost use Rattle.pure_grammar.specs.RawTree as tree;
+    ghost use Rattle.pure_grammar.specs.Terms.RawTree as tree;
     ghost use Rattle.pure_read.specs.RawCodes.{coded_raw_typ};
 
     ghost Value = { tree.RawTypTree };
@@ -107,7 +107,7 @@ pub enum RawNode {
 }
 
 impl Model for Raw {
-    ghost use Rattle.pure_grammar.specs.RawTree as tree;
+    ghost use Rattle.pure_grammar.specs.Terms.RawTree as tree;
     ghost use Rattle.pure_read.specs.RawCodes.{coded_raw};
 
     ghost Value = { tree.RawTree };

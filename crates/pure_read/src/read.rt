@@ -1,9 +1,9 @@
 //! The trees of tokens.
 ghost use Rattle.std.specs.Prelude.{◌≡◌, ◌<◌, ◌≤◌, ◌↔◌, length, IfOk, IfErr, Err, Some, true};
-ghost use Rattle.pure_grammar.specs.Inner.{SpellsTerm, SpellsType};
-ghost use Rattle.pure_grammar.specs.InnerLexeme.{inners};
-ghost use Rattle.pure_grammar.specs.InnerReader as spec;
-ghost use Rattle.pure_grammar.specs.Spelling.{AreSlices};
+ghost use Rattle.pure_grammar.specs.Terms.Inner.{SpellsTerm, SpellsType};
+ghost use Rattle.pure_grammar.specs.Terms.InnerLexeme.{inners};
+ghost use Rattle.pure_grammar.specs.Terms.InnerReader as spec;
+ghost use Rattle.pure_grammar.specs.Tokens.Spelling.{AreSlices};
 ghost use Rattle.pure_read.specs.States.{seen_state};
 ghost use Rattle.pure_read.specs.Stuck.{IsStuckAs, IsTooLong, IsTermFaultOf, IsTypeFaultOf};
 

@@ -1,6 +1,6 @@
 //! Where a token of a sort leads to.
 ghost use Rattle.std.specs.Prelude.{◌≡◌, IfOk, [], ◌∷◌, ◌++◌, Some};
-ghost use Rattle.pure_grammar.specs.InnerReader as spec;
+ghost use Rattle.pure_grammar.specs.Terms.InnerReader as spec;
 ghost use Rattle.pure_read.specs.Seen.{seen_lexeme, seen_one};
 ghost use Rattle.pure_read.specs.Frames.{seen_stack};
 ghost use Rattle.pure_read.specs.States.{seen_next};

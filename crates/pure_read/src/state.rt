@@ -1,6 +1,6 @@
 //! The places of a text of terms and types.
 ghost use Rattle.std.specs.Prelude.{◌≡◌, Some};
-ghost use Rattle.pure_grammar.specs.InnerReader as spec;
+ghost use Rattle.pure_grammar.specs.Terms.InnerReader as spec;
 ghost use Rattle.pure_read.specs.Frames.{seen_stack};
 ghost use Rattle.pure_read.specs.States.{seen_place, seen_state, seen_next};
 

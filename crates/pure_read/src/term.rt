@@ -1,6 +1,6 @@
 //! Where a token of a term leads to.
 ghost use Rattle.std.specs.Prelude.{◌≡◌, IfOk, ◌∷◌, Some};
-ghost use Rattle.pure_grammar.specs.InnerReader as spec;
+ghost use Rattle.pure_grammar.specs.Terms.InnerReader as spec;
 ghost use Rattle.pure_read.specs.Seen.{seen_lexeme, seen_one};
 ghost use Rattle.pure_read.specs.Frames.{seen_frame, seen_stack, seen_term_open};
 ghost use Rattle.pure_read.specs.States.{seen_next};

@@ -1,7 +1,7 @@
 //! Where a token of a type leads to.
 ghost use Rattle.std.specs.Prelude.{◌≡◌, IfOk, [], ◌∷◌, ◌++◌};
-ghost use Rattle.pure_grammar.specs.InnerReader as spec;
-ghost use Rattle.pure_grammar.specs.RawTree as tree;
+ghost use Rattle.pure_grammar.specs.Terms.InnerReader as spec;
+ghost use Rattle.pure_grammar.specs.Terms.RawTree as tree;
 ghost use Rattle.pure_read.specs.Seen.{seen_lexeme, seen_one};
 ghost use Rattle.pure_read.specs.Frames.{seen_frame, seen_stack, seen_type_open};
 ghost use Rattle.pure_read.specs.States.{seen_next, seen_state};

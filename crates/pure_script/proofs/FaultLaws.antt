@@ -1,7 +1,7 @@
 -- Faults of syntax exclude a tree, and one another.
 use Rattle.std.proofs.Common.{◌<◌, List, [], ◌∷◌, ◌++◌, length, sym, ◌∙◌, ap, subst, append_assoc}
-use Rattle.pure_grammar.specs.Lexeme.{Lexeme}
-use Rattle.pure_grammar.specs.Outer.{IsTheory, BeginsTheory, GoesWrong, place_of}
+use Rattle.pure_grammar.specs.Theories.Lexeme.{Lexeme}
+use Rattle.pure_grammar.specs.Theories.Outer.{IsTheory, BeginsTheory, GoesWrong, place_of}
 use Rattle.pure_grammar.proofs.Places.{goes-on-behind, same-number}
 use Rattle.pure_script.specs.Laws.{TheoryOrFault, OneFaultPlace}
 

@@ -3,11 +3,11 @@ use Rattle.std.proofs.Common.{◌≡◌, ℕ, suc, ◌+◌, ◌-◌, ◌<◌, �
 use Rattle.std.proofs.lemmas.List.{length-append, drop_all}
 use Rattle.std.specs.Prelude.{Bool, true, false, Option, Some, None}
 use Rattle.pure_grammar.specs.declared.token.Token.{Token}
-use Rattle.pure_grammar.specs.TheoryText.{TheoryText}
-use Rattle.pure_grammar.specs.Lexeme.{Lexeme, Ends, lexeme, lexemes}
-use Rattle.pure_grammar.specs.Outer.{SpellsTheory, HasSyntaxFault, place_of}
-use Rattle.pure_grammar.specs.Reader as spec
-use Rattle.pure_grammar.specs.Reader.{AtStart, AtLast, Through, Stuck, goes_on, next, run, expected}
+use Rattle.pure_grammar.specs.Theories.TheoryText.{TheoryText}
+use Rattle.pure_grammar.specs.Theories.Lexeme.{Lexeme, Ends, lexeme, lexemes}
+use Rattle.pure_grammar.specs.Theories.Outer.{SpellsTheory, HasSyntaxFault, place_of}
+use Rattle.pure_grammar.specs.Theories.Reader as spec
+use Rattle.pure_grammar.specs.Theories.Reader.{AtStart, AtLast, Through, Stuck, goes_on, next, run, expected}
 use Rattle.pure_grammar.proofs.FaultLemmas.{Wrong, goes-wrong, Gets-IsTheory, is_last}
 use Rattle.pure_grammar.proofs.Places.{place_of-token, place_of-end}
 pub use Rattle.pure_grammar.proofs.Places.{slice-at}

@@ -1,7 +1,7 @@
 -- A token isn't the end.
 use Rattle.std.proofs.Common.{◌≡◌, List, refl}
-use Rattle.pure_grammar.specs.TheoryText.{Command}
-use Rattle.pure_grammar.specs.Reader.{Header, Place, turn, body_state, body_next}
+use Rattle.pure_grammar.specs.Theories.TheoryText.{Command}
+use Rattle.pure_grammar.specs.Theories.Reader.{Header, Place, turn, body_state, body_next}
 use Rattle.pure_script.specs.declared.lexeme.Lexeme.{Lexeme}
 use Rattle.pure_script.specs.declared.lexeme.Lexeme.TheVariants.{Reserved, Signed, Plain, Dotted, Variable, Numeral, Quoted, Other}
 use Rattle.pure_script.specs.Seen.{seen_lexeme}

@@ -1,7 +1,7 @@
 -- What a fault of syntax says of its tokens.
 use Rattle.std.specs.Prelude.{ℕ, List}
 use Rattle.pure_grammar.specs.declared.token.Token.{Token}
-use Rattle.pure_grammar.specs.Outer.{HasSyntaxFault}
+use Rattle.pure_grammar.specs.Theories.Outer.{HasSyntaxFault}
 use Rattle.pure_script.specs.declared.theory.ScriptFault.{ScriptFault}
 use Rattle.pure_script.specs.declared.theory.ScriptFault.TheVariants.{Syntax, Memory}
 

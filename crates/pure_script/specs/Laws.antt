@@ -2,8 +2,8 @@
 use Rattle.std.specs.Prelude.{◌≡◌, ℕ, List}
 use Rattle.pure_grammar.specs.declared.token.Token.{Token}
 use Rattle.pure_grammar.specs.declared.token.TokenKind.{TokenKind}
-use Rattle.pure_grammar.specs.TheoryText.{TheoryText}
-use Rattle.pure_grammar.specs.Outer.{SpellsTheory, HasSyntaxFault}
+use Rattle.pure_grammar.specs.Theories.TheoryText.{TheoryText}
+use Rattle.pure_grammar.specs.Theories.Outer.{SpellsTheory, HasSyntaxFault}
 
 abbrev pub TheoryOrFault : Type 0
 TheoryOrFault =

@@ -1,8 +1,8 @@
 -- The trees, places and turns of the reader, as contracts see them.
 use Rattle.std.specs.Prelude.{ℕ, List, Option, Some, None, map}
 use Rattle.std.specs.Global.{Vec}
-use Rattle.pure_grammar.specs.TheoryText as tree
-use Rattle.pure_grammar.specs.Reader as spec
+use Rattle.pure_grammar.specs.Theories.TheoryText as tree
+use Rattle.pure_grammar.specs.Theories.Reader as spec
 use Rattle.pure_script.specs.Seen.{span}
 use Rattle.pure_script.specs.declared.theory.Step.{Step}
 use Rattle.pure_script.specs.declared.theory.Step.TheVariants.{Rule, Erule, Drule, Assumption, Unfold, Prefer, Defer, Close, Done}

@@ -1,8 +1,8 @@
 -- What the reader holds, as contracts see it.
 use Rattle.std.specs.Prelude.{ℕ, List, Option, Some, None}
 use Rattle.std.specs.Borrow.{Bor}
-use Rattle.pure_grammar.specs.TheoryText as tree
-use Rattle.pure_grammar.specs.Lexeme as spec
+use Rattle.pure_grammar.specs.Theories.TheoryText as tree
+use Rattle.pure_grammar.specs.Theories.Lexeme as spec
 use Rattle.pure_script.specs.declared.theory.Span.{Span}
 use Rattle.pure_script.specs.declared.lexeme.Lexeme.{Lexeme}
 use Rattle.pure_script.specs.declared.lexeme.Lexeme.TheVariants.{Reserved, Signed, Plain, Dotted, Variable, Numeral, Quoted, Other}

@@ -1,6 +1,6 @@
 //! Arities.
 ghost use Rattle.std.specs.Prelude.{◌≡◌, IfOk, [], ◌∷◌, ◌++◌};
-ghost use Rattle.pure_grammar.specs.Reader as spec;
+ghost use Rattle.pure_grammar.specs.Theories.Reader as spec;
 ghost use Rattle.pure_script.specs.Seen.{seen_lexeme};
 ghost use Rattle.pure_script.specs.Places.{seen_turn, sorts};
 

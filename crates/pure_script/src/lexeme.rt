@@ -1,7 +1,7 @@
 //! What a token is to the grammar.
 ghost use Rattle.std.specs.Prelude.{◌≡◌, IfOk, ℕ, ◌<◌, ◌≤◌, length, slice_range};
-ghost use Rattle.pure_grammar.specs.Lexeme as spec;
-ghost use Rattle.pure_grammar.specs.Spelling.{IsSlice};
+ghost use Rattle.pure_grammar.specs.Theories.Lexeme as spec;
+ghost use Rattle.pure_grammar.specs.Tokens.Spelling.{IsSlice};
 ghost use Rattle.pure_script.specs.Seen.{seen_lexeme, seen_text, seen_span};
 
 use crate::theory::Span;
@@ -213,7 +213,7 @@ fn equals(bytes: &[u8], text: &[u8]) -> bool
 }
 
 /// The sign of these bytes.
-#[tactic(auto, unfolding(pure_grammar::specs::Lexeme::symbol_lexeme))]
+#[tactic(auto, unfolding(pure_grammar::specs::Theories::Lexeme::symbol_lexeme))]
 fn symbol_lexeme<'s>(text: &'s [u8]) -> Lexeme<'s>
     ensures { seen_lexeme result ≡ spec.symbol_lexeme text.now }
 {
@@ -264,7 +264,7 @@ fn reserved<'s>(word: Keyword) -> Lexeme<'s>
 }
 
 /// The keyword of these bytes.
-#[tactic(auto, unfolding(pure_grammar::specs::Lexeme::word_lexeme))]
+#[tactic(auto, unfolding(pure_grammar::specs::Theories::Lexeme::word_lexeme))]
 fn word_lexeme<'s>(text: &'s [u8]) -> Lexeme<'s>
     ensures { seen_lexeme result ≡ spec.word_lexeme text.now }
 {
@@ -287,7 +287,7 @@ fn word_lexeme<'s>(text: &'s [u8]) -> Lexeme<'s>
 }
 
 /// The keyword of a command or a proof that these bytes are.
-#[tactic(auto, unfolding(pure_grammar::specs::Lexeme::command_lexeme))]
+#[tactic(auto, unfolding(pure_grammar::specs::Theories::Lexeme::command_lexeme))]
 fn command_lexeme<'s>(text: &'s [u8]) -> Lexeme<'s>
     ensures { seen_lexeme result ≡ spec.command_lexeme text.now }
 {
@@ -325,7 +325,7 @@ fn command_lexeme<'s>(text: &'s [u8]) -> Lexeme<'s>
 }
 
 /// The keyword of a proof that these bytes are.
-#[tactic(auto, unfolding(pure_grammar::specs::Lexeme::proof_lexeme))]
+#[tactic(auto, unfolding(pure_grammar::specs::Theories::Lexeme::proof_lexeme))]
 fn proof_lexeme<'s>(text: &'s [u8]) -> Lexeme<'s>
     ensures { seen_lexeme result ≡ spec.proof_lexeme text.now }
 {

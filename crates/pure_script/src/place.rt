@@ -1,7 +1,7 @@
 //! The places of a theory's text, and where a token leads to.
 ghost use Rattle.std.specs.Prelude.{◌≡◌, IfOk};
-ghost use Rattle.pure_grammar.specs.Lexeme as lexeme;
-ghost use Rattle.pure_grammar.specs.Reader as spec;
+ghost use Rattle.pure_grammar.specs.Theories.Lexeme as lexeme;
+ghost use Rattle.pure_grammar.specs.Theories.Reader as spec;
 ghost use Rattle.pure_script.specs.Seen.{seen_lexeme};
 ghost use Rattle.pure_script.specs.Places.{seen_place, seen_begun, seen_turn, seen_command};
 

@@ -1,7 +1,7 @@
 //! Lemmas and their proofs.
 ghost use Rattle.std.specs.Prelude.{◌≡◌, IfOk, [], ◌∷◌, ◌++◌};
-ghost use Rattle.pure_grammar.specs.TheoryText.{Lemma};
-ghost use Rattle.pure_grammar.specs.Reader as spec;
+ghost use Rattle.pure_grammar.specs.Theories.TheoryText.{Lemma};
+ghost use Rattle.pure_grammar.specs.Theories.Reader as spec;
 ghost use Rattle.pure_script.specs.Seen.{seen_lexeme, span};
 ghost use Rattle.pure_script.specs.Places.{seen_turn, seen_course, seen_command, seen_step, seen_steps, seen_method, seen_proof_place};
 

@@ -1,7 +1,7 @@
 //! The tree of a theory's tokens.
 ghost use Rattle.std.specs.Prelude.{◌≡◌, ◌<◌, length, IfOk, IfErr};
-ghost use Rattle.pure_grammar.specs.Outer.{SpellsTheory};
-ghost use Rattle.pure_grammar.specs.Spelling.{AreSlices};
+ghost use Rattle.pure_grammar.specs.Theories.Outer.{SpellsTheory};
+ghost use Rattle.pure_grammar.specs.Tokens.Spelling.{AreSlices};
 ghost use Rattle.pure_script.specs.Places.{seen_theory};
 ghost use Rattle.pure_script.specs.Faults.{IsFaultOf};
 

@@ -1,8 +1,8 @@
 //! The places of a whole theory's text, and where each token leads to.
 ghost use Rattle.std.specs.Prelude.{◌≡◌, IfOk, Some, [], ◌∷◌, ◌++◌};
-ghost use Rattle.pure_grammar.specs.Lexeme.{Ends};
-ghost use Rattle.pure_grammar.specs.PhraseTree.{with_text};
-ghost use Rattle.pure_grammar.specs.Reader as spec;
+ghost use Rattle.pure_grammar.specs.Theories.Lexeme.{Ends};
+ghost use Rattle.pure_grammar.specs.Theories.PhraseTree.{with_text};
+ghost use Rattle.pure_grammar.specs.Theories.Reader as spec;
 ghost use Rattle.pure_script.specs.Seen.{seen_lexeme};
 ghost use Rattle.pure_script.specs.Places.{seen_place, seen_class_place, seen_type_place, seen_arity_place, seen_item_place, seen_lemma_place, seen_proof_place, seen_turn, seen_command, seen_commands};
 ghost use Rattle.pure_script.specs.States.{seen_state, seen_front, seen_next, seen_header, seen_end, IsNext, IsLed, IsImport};

@@ -1,8 +1,8 @@
 //! Lists of different texts, in the order in which they came.
 ghost use Rattle.std.specs.Prelude.{◌≡◌, IfOk, [], ◌∷◌, length};
 ghost use Rattle.std.specs.List.{list_any};
-ghost use Rattle.pure_grammar.specs.Lexeme.{same};
-ghost use Rattle.pure_grammar.specs.PhraseTree.{with_text};
+ghost use Rattle.pure_grammar.specs.Theories.Lexeme.{same};
+ghost use Rattle.pure_grammar.specs.Theories.PhraseTree.{with_text};
 
 use pure_text::Text;
 use std::alloc::{AllocError, Global};

@@ -1,7 +1,7 @@
 //! Where a token of the commands leads to. The groups of places stay functions of their own when they are compiled, since each
 //! function pays at its entry for all its locals.
 ghost use Rattle.std.specs.Prelude.{◌≡◌, IfOk};
-ghost use Rattle.pure_grammar.specs.Reader as spec;
+ghost use Rattle.pure_grammar.specs.Theories.Reader as spec;
 ghost use Rattle.pure_script.specs.Seen.{seen_lexeme};
 ghost use Rattle.pure_script.specs.Places.{seen_place, seen_class_place, seen_type_place, seen_arity_place, seen_item_place, seen_lemma_place, seen_turn};
 

@@ -1,10 +1,10 @@
 -- What a call for a term's type answers where it fails inside the term, or at it.
 use Rattle.std.proofs.Common.{◌≡◌, ℕ, ◌+◌, List, ◌∷◌, refl, arith, inl, inr, sym, subst}
 use Rattle.std.specs.Prelude.{Err}
-use Rattle.pure_definitions.specs.Typ.{Typ}
-use Rattle.pure_definitions.specs.Term.{Term, Abs, App}
-use Rattle.pure_definitions.specs.Typing.{HasType, Takes, node_count}
-use Rattle.pure_definitions.specs.Limits.{cut_off}
+use Rattle.pure_definitions.specs.Types.Typ.{Typ}
+use Rattle.pure_definitions.specs.Terms.Term.{Term, Abs, App}
+use Rattle.pure_definitions.specs.Terms.Typing.{HasType, Takes, node_count}
+use Rattle.pure_definitions.specs.Terms.Limits.{cut_off}
 use Rattle.pure_term.specs.TypeAnswer.{IsTypeAnswer, deeper_fault}
 use Rattle.pure_term.specs.declared.typing.TypeFault.{TypeFault}
 use Rattle.pure_term.specs.declared.typing.TypeFault.TheVariants.{NotTyped, Memory}

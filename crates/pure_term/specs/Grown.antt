@@ -1,6 +1,6 @@
 -- What a call that makes a term answers.
 use Rattle.std.specs.Prelude.{◌≡◌, Result, Ok, Err}
-use Rattle.pure_definitions.specs.Term.{Term, IsWithin}
+use Rattle.pure_definitions.specs.Terms.Term.{Term, IsWithin}
 use Rattle.pure_typ.specs.declared.grow.Grow.{Grow}
 use Rattle.pure_typ.specs.declared.grow.Grow.TheVariants.{Big, Memory}
 

@@ -1,6 +1,6 @@
 -- What a scope lists.
 use Rattle.std.specs.Prelude.{List, [], ◌∷◌}
-use Rattle.pure_definitions.specs.Typ.{Typ}
+use Rattle.pure_definitions.specs.Types.Typ.{Typ}
 use Rattle.pure_term.specs.declared.scope.Scope.{Scope, Empty, Under'}
 
 -- the types of the binders that a scope lists, the innermost first

@@ -4,7 +4,7 @@ use Rattle.std.proofs.Common.{arith}
 use Rattle.pure_term.specs.declared.term.TermNode.{TermNode}
 use Rattle.pure_term.specs.declared.term.TermNode.TheVariants.{Const, Free, Var, Bound, Abs, App}
 use Rattle.pure_term.specs.declared.term.Term.TheDeep.{deep-TermNode}
-use Rattle.pure_definitions.specs.Term.{term_depth}
+use Rattle.pure_definitions.specs.Terms.Term.{term_depth}
 use Rattle.pure_term.specs.TermView.{view_term}
 
 pub depth_le-term_depth : (n : TermNode) → max (deep-TermNode n) 0 ≤ term_depth (view_term n)

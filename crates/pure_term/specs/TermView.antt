@@ -1,7 +1,7 @@
 -- What a node of a term is seen as.
 use Rattle.pure_term.specs.declared.term.TermNode.{TermNode}
 use Rattle.pure_term.specs.declared.term.TermNode.TheVariants.{Const, Free, Var, Bound, Abs, App}
-use Rattle.pure_definitions.specs.Term as tree
+use Rattle.pure_definitions.specs.Terms.Term as tree
 
 abbrev pub view_term : TermNode → tree.Term
 view_term (Const c T) = tree.Const c T

@@ -1,9 +1,9 @@
 -- What the call for a term's type answers.
 use Rattle.std.specs.Prelude.{◌≡◌, ℕ, ◌+◌, List, Result, Ok, Err}
-use Rattle.pure_definitions.specs.Typ.{Typ}
-use Rattle.pure_definitions.specs.Term.{Term}
-use Rattle.pure_definitions.specs.Typing.{HasType, IsUntypedAt}
-use Rattle.pure_definitions.specs.Limits.{cut_off}
+use Rattle.pure_definitions.specs.Types.Typ.{Typ}
+use Rattle.pure_definitions.specs.Terms.Term.{Term}
+use Rattle.pure_definitions.specs.Terms.Typing.{HasType, IsUntypedAt}
+use Rattle.pure_definitions.specs.Terms.Limits.{cut_off}
 use Rattle.pure_term.specs.declared.typing.Found.{Found}
 use Rattle.pure_term.specs.declared.typing.Found.TheVariants.{Lent, Made}
 use Rattle.pure_term.specs.declared.typing.TypeFault.{TypeFault}

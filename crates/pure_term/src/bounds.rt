@@ -1,9 +1,9 @@
 //! Lifting, putting a term for bound variable 0, and abstraction over a variable.
 ghost use Rattle.std.specs.Prelude.{◌≡◌, ◌+◌, ◌<◌, ◌≤◌, ◌^◌, IfOk};
-ghost use Rattle.pure_definitions.specs.Term.{Abs, term_size, term_depth};
-ghost use Rattle.pure_definitions.specs.Bounds.{lift_term, subst_under, subst_bound, bind_under, abstract_over};
-ghost use Rattle.pure_definitions.specs.Conditions.{IsLiftable, IsPuttable, IsVariable, variable_typ};
-ghost use Rattle.pure_definitions.specs.Limits.{cut_off, Leaves};
+ghost use Rattle.pure_definitions.specs.Terms.Term.{Abs, term_size, term_depth};
+ghost use Rattle.pure_definitions.specs.Terms.Bounds.{lift_term, subst_under, subst_bound, bind_under, abstract_over};
+ghost use Rattle.pure_definitions.specs.Terms.Conditions.{IsLiftable, IsPuttable, IsVariable, variable_typ};
+ghost use Rattle.pure_definitions.specs.Terms.Limits.{cut_off, Leaves};
 ghost use Rattle.pure_term.specs.Grown.{IsGrown};
 
 use crate::measure::{are_same, depth, is_within, size, term_leaves};

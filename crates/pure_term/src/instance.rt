@@ -1,8 +1,8 @@
 //! Instances of terms by finite maps.
 ghost use Rattle.std.specs.Prelude.{◌≡◌, IfOk};
-ghost use Rattle.pure_definitions.specs.Term.{term_size, term_depth};
-ghost use Rattle.pure_definitions.specs.Subst.{typ_image, term_image, inst_typ, inst_term};
-ghost use Rattle.pure_definitions.specs.Limits.{Leaves};
+ghost use Rattle.pure_definitions.specs.Terms.Term.{term_size, term_depth};
+ghost use Rattle.pure_definitions.specs.Terms.Subst.{typ_image, term_image, inst_typ, inst_term};
+ghost use Rattle.pure_definitions.specs.Terms.Limits.{Leaves};
 ghost use Rattle.pure_term.specs.Grown.{IsGrown};
 
 use crate::maps::{TermBind, TermMap, find_term};

@@ -1,9 +1,9 @@
 //! Finite maps of schematic variables.
 ghost use Rattle.std.specs.Prelude.{◌≡◌, List, [], ◌∷◌, ◌++◌, map, MatchOption, MatchResult};
 ghost use Rattle.pure_text.specs.Lists.{IsIn};
-ghost use Rattle.pure_definitions.specs.Term as term_tree;
-ghost use Rattle.pure_definitions.specs.Term.{term_eq};
-ghost use Rattle.pure_definitions.specs.Subst.{IsTermMap, term_variable, term_image};
+ghost use Rattle.pure_definitions.specs.Terms.Term as term_tree;
+ghost use Rattle.pure_definitions.specs.Terms.Term.{term_eq};
+ghost use Rattle.pure_definitions.specs.Terms.Subst.{IsTermMap, term_variable, term_image};
 
 use crate::term::Term;
 use pure_typ::{Name, Typ};
@@ -20,7 +20,7 @@ pub struct TermBind {
 }
 
 impl Model for TermBind {
-    ghost use Rattle.pure_definitions.specs.Subst as maps;
+    ghost use Rattle.pure_definitions.specs.Terms.Subst as maps;
     ghost use Rattle.pure_definitions.specs.Models.Codes.{coded_term_bind};
 
     ghost Value = { maps.TermBind };
@@ -39,8 +39,8 @@ pub struct TermMap {
 impl Model for TermMap {
     ghost use Rattle.std.specs.Prelude.{List};
     ghost use Rattle.std.specs.Coded.{coded_list};
-    ghost use Rattle.pure_definitions.specs.Subst as maps;
-    ghost use Rattle.pure_definitions.specs.Subst.{IsTermMap};
+    ghost use Rattle.pure_definitions.specs.Terms.Subst as maps;
+    ghost use Rattle.pure_definitions.specs.Terms.Subst.{IsTermMap};
     ghost use Rattle.pure_definitions.specs.Models.Codes.{coded_term_bind};
 
     ghost Value = { List maps.TermBind };

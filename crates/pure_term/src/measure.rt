@@ -1,9 +1,9 @@
 //! The size and depth of terms, and which occur in which.
 ghost use Rattle.std.specs.Prelude.{◌≡◌, ◌↔◌, IsTrue};
-ghost use Rattle.pure_definitions.specs.Term.{term_size, term_depth, IsWithin};
-ghost use Rattle.pure_definitions.specs.Limits.{cut_off, Leaves};
-ghost use Rattle.pure_definitions.specs.Typing.{node_count};
-ghost use Rattle.pure_definitions.specs.Bounds.{Occurs};
+ghost use Rattle.pure_definitions.specs.Terms.Term.{term_size, term_depth, IsWithin};
+ghost use Rattle.pure_definitions.specs.Terms.Limits.{cut_off, Leaves};
+ghost use Rattle.pure_definitions.specs.Terms.Typing.{node_count};
+ghost use Rattle.pure_definitions.specs.Terms.Bounds.{Occurs};
 
 use crate::term::{Term, TermNode};
 use pure_typ::{MAX_DEPTH, MAX_SIZE, depth_of_typ, size_of_typ, typ_leaves};

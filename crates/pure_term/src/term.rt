@@ -2,7 +2,7 @@
 ghost use Rattle.std.specs.Prelude.{◌≡◌, IfOk, refl};
 ghost use Rattle.std.specs.Cmp.{partial_equiv_from_equiv, po};
 ghost use Rattle.std.specs.Ordering.{as_partial_cmp};
-ghost use Rattle.pure_definitions.specs.Term.{term_eq};
+ghost use Rattle.pure_definitions.specs.Terms.Term.{term_eq};
 ghost use Rattle.pure_definitions.specs.Models.Equality.{term_eq-equiv};
 ghost use Rattle.pure_definitions.specs.Models.Comparison.{term_rank, term_cmp, term_cmp-total, term_cmp-ties};
 
@@ -31,7 +31,7 @@ pub enum TermNode {
 }
 
 impl Model for Term {
-    ghost use Rattle.pure_definitions.specs.Term as tree;
+    ghost use Rattle.pure_definitions.specs.Terms.Term as tree;
     ghost use Rattle.pure_definitions.specs.Models.Codes.{coded_term};
 
     ghost Value = { tree.Term };

@@ -1,8 +1,8 @@
 //! The type of a term, or the place of its first node at fault.
 ghost use Rattle.std.specs.Prelude.{◌≡◌, ◌↔◌, IsTrue, [], MatchBool, MatchOption, IfOk};
-ghost use Rattle.pure_definitions.specs.Typ as tree;
-ghost use Rattle.pure_definitions.specs.Typ.{arrow};
-ghost use Rattle.pure_definitions.specs.Typing.{Takes};
+ghost use Rattle.pure_definitions.specs.Types.Typ as tree;
+ghost use Rattle.pure_definitions.specs.Types.Typ.{arrow};
+ghost use Rattle.pure_definitions.specs.Terms.Typing.{Takes};
 ghost use Rattle.pure_term.specs.Scope.{scope_typs};
 ghost use Rattle.pure_term.specs.TypeAnswer.{found_typ, deeper_fault, IsTypeAnswer, IsFoundAnswer};
 

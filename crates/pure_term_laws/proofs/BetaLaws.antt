@@ -4,8 +4,8 @@ use Rattle.std.proofs.lemmas.Bool.{cases_lt}
 use Rattle.std.proofs.lemmas.List.{length-replicate}
 use Rattle.std.specs.Prelude.{Option, Some, None, option_map}
 use Rattle.pure_text.specs.Lists.{Each}
-use Rattle.pure_definitions.specs.Term.{Term, Abs, App, IsWithin, term_size, term_depth, max_size, max_depth}
-use Rattle.pure_definitions.specs.Beta.{IsBetaNormal, app_step, beta_step, IsBetaSequence, BetaAnswer, TooLarge, NormalForm, TooManySteps, max_steps, Decides, IsBetaAnswer}
+use Rattle.pure_definitions.specs.Terms.Term.{Term, Abs, App, IsWithin, term_size, term_depth, max_size, max_depth}
+use Rattle.pure_definitions.specs.Reduction.Beta.{IsBetaNormal, app_step, beta_step, IsBetaSequence, BetaAnswer, TooLarge, NormalForm, TooManySteps, max_steps, Decides, IsBetaAnswer}
 use Rattle.pure_term_laws.specs.LawsExamples.{doubled, endless, doubled_at_a, identity_at_a, pair, a}
 use Rattle.pure_term_laws.proofs.LimitLaws.{doubled_is_large}
 use Rattle.pure_term_laws.specs.LawsNormal.{BetaAnswerExample, EndlessExample, LargeExample}

@@ -1,10 +1,10 @@
 -- Certified parts under lifting, instantiation and abstraction.
 use Rattle.std.proofs.Common.{ℕ, ◌+◌, List, Bool, true, false}
 use Rattle.std.specs.Prelude.{◌-◌, nat_eq, nat_lt, if◌then◌else◌}
-use Rattle.pure_definitions.specs.Term.{Term, Const, Free, Var, Bound, Abs, App, term_eq}
-use Rattle.pure_definitions.specs.Bounds.{lift_term, subst_under, bind_under}
-use Rattle.pure_definitions.specs.Decl.{Decl}
-use Rattle.pure_definitions.specs.Certified.{HasCertifiedParts}
+use Rattle.pure_definitions.specs.Terms.Term.{Term, Const, Free, Var, Bound, Abs, App, term_eq}
+use Rattle.pure_definitions.specs.Terms.Bounds.{lift_term, subst_under, bind_under}
+use Rattle.pure_definitions.specs.Declarations.Decl.{Decl}
+use Rattle.pure_definitions.specs.Declarations.Certified.{HasCertifiedParts}
 
 module _ (ds : List Decl) where
   parts-either : (b : Bool) (t u : Term) → HasCertifiedParts ds t → HasCertifiedParts ds u → HasCertifiedParts ds (if b then t else u)

@@ -1,8 +1,8 @@
 -- The algebra of declarations.
 use Rattle.std.proofs.Common.{List, [], ◌∷◌, inl, inr, ap, ◌↔◌}
 use Rattle.pure_text.specs.Lists.{IsIn}
-use Rattle.pure_definitions.specs.Order.{Class, Arity}
-use Rattle.pure_definitions.specs.Decl.{Decl, ClassDecl, ArityDecl, classes_of, arities_of}
+use Rattle.pure_definitions.specs.Types.Order.{Class, Arity}
+use Rattle.pure_definitions.specs.Declarations.Decl.{Decl, ClassDecl, ArityDecl, classes_of, arities_of}
 
 class-declared : (ds : List Decl) (k : Class) → IsIn k (classes_of ds) → IsIn (ClassDecl k) ds
 class-declared [] k m = m

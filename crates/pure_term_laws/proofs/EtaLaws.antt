@@ -2,12 +2,12 @@
 use Rattle.std.proofs.Common.{◌≡◌, ℕ, ◌+◌, ◌≤◌, true, List, [], ◌∷◌, ap, refl, sym, ◌∙◌, arith, nat_lt}
 use Rattle.std.proofs.lemmas.Bool.{lt-ltb}
 use Rattle.std.proofs.lemmas.Bool.Decides.{nat_tests}
-use Rattle.pure_definitions.specs.Typ.{Typ, arrow}
-use Rattle.pure_definitions.specs.Term.{Term, Const, Free, Var, Bound, Abs, App}
-use Rattle.pure_definitions.specs.Bounds.{lift_term}
-use Rattle.pure_definitions.specs.Typing.{HasType}
-use Rattle.pure_definitions.specs.Beta.{IsAbs, IsBetaNormal}
-use Rattle.pure_definitions.specs.Eta.{EtaStep, EtaReduces, IsEtaNormal, abstraction_count, arrow_count, IsSaturated, HasSaturatedParts, IsLongForm}
+use Rattle.pure_definitions.specs.Types.Typ.{Typ, arrow}
+use Rattle.pure_definitions.specs.Terms.Term.{Term, Const, Free, Var, Bound, Abs, App}
+use Rattle.pure_definitions.specs.Terms.Bounds.{lift_term}
+use Rattle.pure_definitions.specs.Terms.Typing.{HasType}
+use Rattle.pure_definitions.specs.Reduction.Beta.{IsAbs, IsBetaNormal}
+use Rattle.pure_definitions.specs.Reduction.Eta.{EtaStep, EtaReduces, IsEtaNormal, abstraction_count, arrow_count, IsSaturated, HasSaturatedParts, IsLongForm}
 use Rattle.pure_term_laws.specs.LawsExamples.{i as typ_i, f as const_f, p as const_p}
 use Rattle.pure_term_laws.specs.LawsNormal.{EtaExample, LongFormExample, OneLongForm, TwoArrowsExample}
 use Rattle.pure_term_laws.proofs.TypingLaws.{typed-once}

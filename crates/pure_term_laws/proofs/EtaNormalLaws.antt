@@ -2,10 +2,10 @@
 use Rattle.std.proofs.Common.{◌≡◌, ◌≢◌, ℕ, ◌+◌, ◌-◌, ◌<◌, Bool, true, false, ap, refl, sym, ◌∙◌, arith}
 use Rattle.std.proofs.lemmas.Bool.Decides.{nat_tests}
 use Rattle.std.specs.Prelude.{nat_lt, nat_eq}
-use Rattle.pure_definitions.specs.Typ.{Typ}
-use Rattle.pure_definitions.specs.Term.{Term, Const, Free, Var, Bound, Abs, App}
-use Rattle.pure_definitions.specs.Bounds.{lift_term, place_at, subst_under}
-use Rattle.pure_definitions.specs.Eta.{EtaStep, IsEtaNormal}
+use Rattle.pure_definitions.specs.Types.Typ.{Typ}
+use Rattle.pure_definitions.specs.Terms.Term.{Term, Const, Free, Var, Bound, Abs, App}
+use Rattle.pure_definitions.specs.Terms.Bounds.{lift_term, place_at, subst_under}
+use Rattle.pure_definitions.specs.Reduction.Eta.{EtaStep, IsEtaNormal}
 use Rattle.pure_term_laws.specs.LawsNormal.{OneEtaNormalForm}
 use Rattle.pure_definitions.proofs.LiftLaws.{lifted, lift_term-bound, subst-lift}
 use Rattle.pure_term_laws.proofs.EtaLaws.{Contracts, constant, fixed, schematic, bound, under, applied, contracted, reduces-contracts}

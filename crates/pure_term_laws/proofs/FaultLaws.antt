@@ -1,9 +1,9 @@
 -- A term is typed, or there is one place of its first node at fault.
 use Rattle.std.proofs.Common.{◌≡◌, ◌⊎◌, ℕ, ◌+◌, zero, Bool, true, false, List, ◌∷◌, inl, inr, refl, sym, ◌∙◌, ap}
 use Rattle.std.specs.Prelude.{Option, Some, None, slice_get}
-use Rattle.pure_definitions.specs.Typ.{Typ, Con, none, also, arrow, typ_eq}
-use Rattle.pure_definitions.specs.Term.{Term, Const, Free, Var, Bound, Abs, App}
-use Rattle.pure_definitions.specs.Typing.{HasType, node_count, Takes, IsUntypedAt}
+use Rattle.pure_definitions.specs.Types.Typ.{Typ, Con, none, also, arrow, typ_eq}
+use Rattle.pure_definitions.specs.Terms.Term.{Term, Const, Free, Var, Bound, Abs, App}
+use Rattle.pure_definitions.specs.Terms.Typing.{HasType, node_count, Takes, IsUntypedAt}
 use Rattle.pure_definitions.specs.Models.Equality.{typ_eq-same, typ_eq-itself}
 use Rattle.pure_term_laws.proofs.TypingLaws.{typed-once}
 

@@ -1,6 +1,6 @@
 -- Terms on both sides of the limits.
 use Rattle.std.proofs.Common.{◌≤◌, ◌≡◌, ℕ, zero, suc, ◌+◌, ◌*◌, ◌^◌, ◌∙◌, refl, pow-suc, arith}
-use Rattle.pure_definitions.specs.Term.{Term, Bound, App, term_size, term_depth, IsWithin}
+use Rattle.pure_definitions.specs.Terms.Term.{Term, Bound, App, term_size, term_depth, IsWithin}
 use Rattle.pure_term_laws.specs.LawsExamples.{x, tower, doubled, filled}
 use Rattle.pure_term_laws.specs.LawsTyping.{LimitsExample}
 

@@ -2,11 +2,11 @@
 use Rattle.std.proofs.Common.{◌≡◌, ◌≢◌, ◌⊎◌, ℕ, zero, suc, ◌+◌, ◌≤◌, Bool, true, false, refl, ap, sym, ◌∙◌, arith, inl, inr}
 use Rattle.std.proofs.lemmas.Bool.Decides.{nat_tests}
 use Rattle.std.specs.Prelude.{◌-◌, max, nat_eq, nat_lt, if◌then◌else◌}
-use Rattle.pure_definitions.specs.Typ.{Typ, TFree, TVar, Con, Typs, none, also, typ_depth}
-use Rattle.pure_definitions.specs.Term.{Term, Const, Free, Var, Bound, Abs, App, term_eq, term_size, term_depth}
-use Rattle.pure_definitions.specs.Bounds.{IsClosedUnder, IsClosed, lift_term, place_at, subst_under, bind_under, Occurs}
-use Rattle.pure_definitions.specs.Conditions.{IsVariable}
-use Rattle.pure_definitions.specs.Subst.{typ_instance, typs_instance, term_instance}
+use Rattle.pure_definitions.specs.Types.Typ.{Typ, TFree, TVar, Con, Typs, none, also, typ_depth}
+use Rattle.pure_definitions.specs.Terms.Term.{Term, Const, Free, Var, Bound, Abs, App, term_eq, term_size, term_depth}
+use Rattle.pure_definitions.specs.Terms.Bounds.{IsClosedUnder, IsClosed, lift_term, place_at, subst_under, bind_under, Occurs}
+use Rattle.pure_definitions.specs.Terms.Conditions.{IsVariable}
+use Rattle.pure_definitions.specs.Terms.Subst.{typ_instance, typs_instance, term_instance}
 use Rattle.pure_definitions.specs.Models.Equality.{term_eq-same, term_eq-itself}
 use Rattle.pure_term_laws.specs.LawsMaps.{AreImagesClosed, SendsAlone, sent, SendsAloneExample}
 use Rattle.pure_term_laws.specs.LawsExamples.{p, x, y, z}

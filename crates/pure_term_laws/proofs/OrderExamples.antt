@@ -2,12 +2,12 @@
 use Rattle.std.proofs.Common.{◌≡◌, ℕ, [], ◌∷◌, ◌⊎◌, inl, inr, refl, arith}
 use Rattle.std.specs.List.Sorted.{IsStrictlyIncreasing}
 use Rattle.pure_text.specs.Lists.{IsIn}
-use Rattle.pure_definitions.specs.Typ.{Typ, TVar, Con, none, also}
-use Rattle.pure_definitions.specs.Term.{Free}
-use Rattle.pure_definitions.specs.Order.{Arity, Algebra, IsInclusion, IsClassBelow, itself, along, IsOfSort, IsJoin, AreDomainsBelow}
-use Rattle.pure_definitions.specs.Subst.{IsSortRespecting, IsTypeRespecting, typ_image, term_image, AreSortRespecting}
-use Rattle.pure_definitions.specs.Decl.{ConDecl, ConstDecl, algebra_of, IsDeclaredClass}
-use Rattle.pure_definitions.specs.Certified.{IsInstance, IsCertifiedSort, IsCertifiedTyp, AreImagesCertified}
+use Rattle.pure_definitions.specs.Types.Typ.{Typ, TVar, Con, none, also}
+use Rattle.pure_definitions.specs.Terms.Term.{Free}
+use Rattle.pure_definitions.specs.Types.Order.{Arity, Algebra, IsInclusion, IsClassBelow, itself, along, IsOfSort, IsJoin, AreDomainsBelow}
+use Rattle.pure_definitions.specs.Terms.Subst.{IsSortRespecting, IsTypeRespecting, typ_image, term_image, AreSortRespecting}
+use Rattle.pure_definitions.specs.Declarations.Decl.{ConDecl, ConstDecl, algebra_of, IsDeclaredClass}
+use Rattle.pure_definitions.specs.Declarations.Certified.{IsInstance, IsCertifiedSort, IsCertifiedTyp, AreImagesCertified}
 use Rattle.pure_term_laws.specs.LawsExamples.{i, j, k, c, d, e, g, sort_of, arity, class_above, ladder, crossing, fork, joined_fork, open_fork, falling}
 use Rattle.pure_term_laws.specs.LawsOrder.{BelowExample, SortBelowExample, OfSortExample, WrongCountExample, UnevenIsNotCoregular, CertifiedPartsExample, CrossingIsNotCoregular, JoinedForkIsCoregular, OpenForkIsNotCoregular, FallingIsNotCoregular, declarations, CertifiedExample, NotCertifiedExample, CertifiedImagesExample}
 use Rattle.pure_term_laws.specs.LawsSubst.{SortRespectExample, TypeRespectExample, for_a, for_x}

@@ -2,13 +2,13 @@
 use Rattle.std.proofs.Common.{◌≡◌, ℕ, zero, suc, ◌+◌, ◌<◌, List, [], ◌∷◌, ◌++◌, length, map, Bool, true, false, refl, ap, sym, ◌∙◌, arith}
 use Rattle.std.proofs.lemmas.Bool.Decides.{nat_tests}
 use Rattle.std.specs.Prelude.{◌-◌, nat_eq, nat_lt, slice_get, Some, if◌then◌else◌}
-use Rattle.pure_definitions.specs.Typ.{Typ, arrow}
-use Rattle.pure_definitions.specs.Term.{Term, Const, Free, Var, Bound, Abs, App, term_eq}
-use Rattle.pure_definitions.specs.Typing.{HasType}
-use Rattle.pure_definitions.specs.Bounds.{lift_term, place_at, subst_under, bind_under}
-use Rattle.pure_definitions.specs.Conditions.{variable_typ}
+use Rattle.pure_definitions.specs.Types.Typ.{Typ, arrow}
+use Rattle.pure_definitions.specs.Terms.Term.{Term, Const, Free, Var, Bound, Abs, App, term_eq}
+use Rattle.pure_definitions.specs.Terms.Typing.{HasType}
+use Rattle.pure_definitions.specs.Terms.Bounds.{lift_term, place_at, subst_under, bind_under}
+use Rattle.pure_definitions.specs.Terms.Conditions.{variable_typ}
 use Rattle.pure_definitions.specs.Models.Equality.{term_eq-same}
-use Rattle.pure_definitions.specs.Subst.{typ_instance, term_instance, IsTypeRespecting}
+use Rattle.pure_definitions.specs.Terms.Subst.{typ_instance, term_instance, IsTypeRespecting}
 use Rattle.pure_definitions.proofs.LiftLaws.{lifted, lift_term-bound}
 
 -- a place in lists, one after another

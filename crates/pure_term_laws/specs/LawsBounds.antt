@@ -1,11 +1,11 @@
 -- Laws of lifting, instantiation, abstraction and maps, on plain trees.
 use Rattle.std.specs.Prelude.{◌≡◌, ℕ, ◌+◌, ◌≤◌, List, ◌∷◌, ◌++◌, length, map}
-use Rattle.pure_definitions.specs.Typ.{Typ}
-use Rattle.pure_definitions.specs.Term.{Term, term_size, term_depth}
-use Rattle.pure_definitions.specs.Typing.{HasType}
-use Rattle.pure_definitions.specs.Bounds.{lift_term, subst_under, bind_under, Occurs}
-use Rattle.pure_definitions.specs.Conditions.{IsVariable, variable_typ}
-use Rattle.pure_definitions.specs.Subst.{typ_instance, term_instance, IsTypeRespecting}
+use Rattle.pure_definitions.specs.Types.Typ.{Typ}
+use Rattle.pure_definitions.specs.Terms.Term.{Term, term_size, term_depth}
+use Rattle.pure_definitions.specs.Terms.Typing.{HasType}
+use Rattle.pure_definitions.specs.Terms.Bounds.{lift_term, subst_under, bind_under, Occurs}
+use Rattle.pure_definitions.specs.Terms.Conditions.{IsVariable, variable_typ}
+use Rattle.pure_definitions.specs.Terms.Subst.{typ_instance, term_instance, IsTypeRespecting}
 
 -- Lifting by 0 changes nothing; lifting again from a place among the new binders is lifting by the sum; and two liftings change places.
 abbrev pub LiftZero : Type 0

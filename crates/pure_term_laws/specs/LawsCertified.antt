@@ -1,9 +1,9 @@
 -- Laws of certification, on plain trees: what keeps a term's parts certified. By them and the laws of typing, what is made of certified terms is certified.
 use Rattle.std.specs.Prelude.{ℕ, List}
-use Rattle.pure_definitions.specs.Term.{Term}
-use Rattle.pure_definitions.specs.Bounds.{lift_term, subst_under, bind_under}
-use Rattle.pure_definitions.specs.Decl.{Decl}
-use Rattle.pure_definitions.specs.Certified.{HasCertifiedParts}
+use Rattle.pure_definitions.specs.Terms.Term.{Term}
+use Rattle.pure_definitions.specs.Terms.Bounds.{lift_term, subst_under, bind_under}
+use Rattle.pure_definitions.specs.Declarations.Decl.{Decl}
+use Rattle.pure_definitions.specs.Declarations.Certified.{HasCertifiedParts}
 
 -- Certified parts are kept by lifting, by instantiation with such a term, and by abstraction.
 abbrev pub PartsOfLift : Type 0

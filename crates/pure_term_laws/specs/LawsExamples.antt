@@ -1,8 +1,8 @@
 -- Types, terms and class orders for the examples of the laws.
 use Rattle.std.specs.Prelude.{ℕ, zero, suc, List, [], ◌∷◌}
-use Rattle.pure_definitions.specs.Typ.{Typ, Con, none, arrow}
-use Rattle.pure_definitions.specs.Term.{Term, Const, Free, Var, Bound, Abs, App}
-use Rattle.pure_definitions.specs.Order.{Class, Arity, Algebra}
+use Rattle.pure_definitions.specs.Types.Typ.{Typ, Con, none, arrow}
+use Rattle.pure_definitions.specs.Terms.Term.{Term, Const, Free, Var, Bound, Abs, App}
+use Rattle.pure_definitions.specs.Types.Order.{Class, Arity, Algebra}
 
 -- two types without arguments, and a constructor k of one argument
 abbrev pub i : Typ

@@ -1,10 +1,10 @@
 -- Laws of instantiation past liftings and instantiations, and of maps past liftings, instantiations and abstractions, on plain trees.
 use Rattle.std.specs.Prelude.{◌≡◌, ◌≢◌, ℕ, ◌+◌, ◌≤◌, if◌then◌else◌}
-use Rattle.pure_definitions.specs.Typ.{Typ}
-use Rattle.pure_definitions.specs.Term.{Term, Free, Var, App, term_eq, term_size, term_depth}
-use Rattle.pure_definitions.specs.Bounds.{IsClosed, lift_term, subst_under, bind_under, Occurs}
-use Rattle.pure_definitions.specs.Conditions.{IsVariable}
-use Rattle.pure_definitions.specs.Subst.{typ_instance, term_instance}
+use Rattle.pure_definitions.specs.Types.Typ.{Typ}
+use Rattle.pure_definitions.specs.Terms.Term.{Term, Free, Var, App, term_eq, term_size, term_depth}
+use Rattle.pure_definitions.specs.Terms.Bounds.{IsClosed, lift_term, subst_under, bind_under, Occurs}
+use Rattle.pure_definitions.specs.Terms.Conditions.{IsVariable}
+use Rattle.pure_definitions.specs.Terms.Subst.{typ_instance, term_instance}
 use Rattle.pure_term_laws.specs.LawsExamples.{p, x, y, z}
 
 -- Instantiation past a lifting over m binders, k of them the term's own.

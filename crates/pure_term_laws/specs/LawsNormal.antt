@@ -1,8 +1,8 @@
 -- Laws and examples of beta and eta reduction and of long forms.
 use Rattle.std.specs.Prelude.{◌≡◌, ◌↔◌, List, [], ◌∷◌, length, None}
-use Rattle.pure_definitions.specs.Term.{Term, Bound, Abs, App}
-use Rattle.pure_definitions.specs.Beta.{IsBetaNormal, beta_step, IsBetaSequence, IsBetaAnswer, BetaAnswer, TooLarge, NormalForm, TooManySteps}
-use Rattle.pure_definitions.specs.Eta.{IsEtaNormal, IsEtaNormalForm, IsLongForm}
+use Rattle.pure_definitions.specs.Terms.Term.{Term, Bound, Abs, App}
+use Rattle.pure_definitions.specs.Reduction.Beta.{IsBetaNormal, beta_step, IsBetaSequence, IsBetaAnswer, BetaAnswer, TooLarge, NormalForm, TooManySteps}
+use Rattle.pure_definitions.specs.Reduction.Eta.{IsEtaNormal, IsEtaNormalForm, IsLongForm}
 use Rattle.pure_term_laws.specs.LawsExamples.{i, a, f, p, pair, identity_at_a, doubled_at_a, endless, doubled}
 
 -- No step leads on exactly from the normal terms.

@@ -1,12 +1,12 @@
 -- Laws and examples of the class order, of coregular algebras and of certified terms.
 use Rattle.std.specs.Prelude.{◌↔◌, List, [], ◌∷◌}
-use Rattle.pure_definitions.specs.Typ.{TVar, Con, none, also}
-use Rattle.pure_definitions.specs.Term.{Const, Var, Bound, Abs, App}
+use Rattle.pure_definitions.specs.Types.Typ.{TVar, Con, none, also}
+use Rattle.pure_definitions.specs.Terms.Term.{Const, Var, Bound, Abs, App}
 use Rattle.pure_text.specs.Lists.{IsIn}
-use Rattle.pure_definitions.specs.Order.{Class, Arity, IsClassBelow, IsSortBelow, IsOfSort, IsCoregular}
-use Rattle.pure_definitions.specs.Decl.{Decl, ClassDecl, ConDecl, ArityDecl, ConstDecl, algebra_of}
-use Rattle.pure_definitions.specs.Certified.{HasCertifiedParts, IsCertified, AreImagesCertified}
-use Rattle.pure_definitions.specs.Subst.{typ_image}
+use Rattle.pure_definitions.specs.Types.Order.{Class, Arity, IsClassBelow, IsSortBelow, IsOfSort, IsCoregular}
+use Rattle.pure_definitions.specs.Declarations.Decl.{Decl, ClassDecl, ConDecl, ArityDecl, ConstDecl, algebra_of}
+use Rattle.pure_definitions.specs.Declarations.Certified.{HasCertifiedParts, IsCertified, AreImagesCertified}
+use Rattle.pure_definitions.specs.Terms.Subst.{typ_image}
 use Rattle.pure_term_laws.specs.LawsSubst.{for_a}
 use Rattle.pure_term_laws.specs.LawsExamples.{i, k, c, d, e, g, sort_of, class_above, ladder, crossing, uneven, joined_fork, open_fork, falling}
 

@@ -1,9 +1,9 @@
 -- Laws and examples of substitution by maps.
 use Rattle.std.specs.Prelude.{◌≡◌, ◌↔◌, List, [], ◌∷◌}
-use Rattle.pure_definitions.specs.Typ.{Typ, TFree, TVar, arrow}
-use Rattle.pure_definitions.specs.Term.{Term, Free, Var, App}
-use Rattle.pure_definitions.specs.Order.{Algebra}
-use Rattle.pure_definitions.specs.Subst.{typ_instance, term_instance, inst_typ, inst_term, IsSortRespecting, IsTypeRespecting, KeepsFixedTyps, KeepsFixedTerms, TypBind, TermBind, IsTypMap, IsTermMap, typ_image, term_image, AreSortRespecting, AreTypeRespecting}
+use Rattle.pure_definitions.specs.Types.Typ.{Typ, TFree, TVar, arrow}
+use Rattle.pure_definitions.specs.Terms.Term.{Term, Free, Var, App}
+use Rattle.pure_definitions.specs.Types.Order.{Algebra}
+use Rattle.pure_definitions.specs.Terms.Subst.{typ_instance, term_instance, inst_typ, inst_term, IsSortRespecting, IsTypeRespecting, KeepsFixedTyps, KeepsFixedTerms, TypBind, TermBind, IsTypMap, IsTermMap, typ_image, term_image, AreSortRespecting, AreTypeRespecting}
 use Rattle.pure_term_laws.specs.LawsExamples.{i, j, a, f, x, any_x, any_y, pair, c, d, sort_of, ladder}
 
 -- The identity maps are sort-respecting and type-respecting, and change nothing.

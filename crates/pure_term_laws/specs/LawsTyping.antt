@@ -1,9 +1,9 @@
 -- Laws and examples of equality, size, typing and bound variables.
 use Rattle.std.specs.Prelude.{◌≡◌, ◌↔◌, ◌⊎◌, ℕ, true, List, [], ◌∷◌}
-use Rattle.pure_definitions.specs.Typ.{Typ, TFree, TVar, Typs, typs_of, typ_list, arrow, typ_eq}
-use Rattle.pure_definitions.specs.Term.{Term, Free, Var, Bound, Abs, App, term_eq, term_size, term_depth, IsWithin}
-use Rattle.pure_definitions.specs.Typing.{HasType, IsUntypedAt}
-use Rattle.pure_definitions.specs.Bounds.{IsClosed, lift_term, subst_bound, abstract_over, Occurs}
+use Rattle.pure_definitions.specs.Types.Typ.{Typ, TFree, TVar, Typs, typs_of, typ_list, arrow, typ_eq}
+use Rattle.pure_definitions.specs.Terms.Term.{Term, Free, Var, Bound, Abs, App, term_eq, term_size, term_depth, IsWithin}
+use Rattle.pure_definitions.specs.Terms.Typing.{HasType, IsUntypedAt}
+use Rattle.pure_definitions.specs.Terms.Bounds.{IsClosed, lift_term, subst_bound, abstract_over, Occurs}
 use Rattle.pure_term_laws.specs.LawsExamples.{tower, filled, i, j, a, f, p, x, y, any_x}
 
 -- A list of types is the same as its mutual form, either way round.

@@ -1,6 +1,6 @@
 //! Tests of what the calls ask of the terms that they are given.
 ghost use Rattle.std.specs.Prelude.{IsTrue};
-ghost use Rattle.pure_definitions.specs.Conditions.{IsLiftable, IsPuttable, IsVariable};
+ghost use Rattle.pure_definitions.specs.Terms.Conditions.{IsLiftable, IsPuttable, IsVariable};
 
 use pure_term::{Term, TermNode};
 

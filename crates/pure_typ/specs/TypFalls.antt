@@ -5,7 +5,7 @@ use denote.Param.Weighed.{most}
 use Rattle.pure_typ.specs.declared.typ.TypNode.{TypNode}
 use Rattle.pure_typ.specs.declared.typ.TypNode.TheVariants.{TFree, TVar, Con}
 use Rattle.pure_typ.specs.declared.typ.Typ.TheDeep.{deep-TypNode}
-use Rattle.pure_definitions.specs.Typ.{Typ, typ_depth, typs_depth, typs_of}
+use Rattle.pure_definitions.specs.Types.Typ.{Typ, typ_depth, typs_depth, typs_of}
 use Rattle.pure_typ.specs.TypView.{view_typ}
 
 -- no type of a list is deeper than the list

@@ -1,8 +1,8 @@
 //! Instances of types by finite maps.
 ghost use Rattle.std.specs.Prelude.{◌≡◌, IfOk};
-ghost use Rattle.pure_definitions.specs.Typ.{typ_size, typ_depth};
-ghost use Rattle.pure_definitions.specs.Subst.{typ_image, typ_instance};
-ghost use Rattle.pure_definitions.specs.Limits.{Leaves};
+ghost use Rattle.pure_definitions.specs.Types.Typ.{typ_size, typ_depth};
+ghost use Rattle.pure_definitions.specs.Terms.Subst.{typ_image, typ_instance};
+ghost use Rattle.pure_definitions.specs.Terms.Limits.{Leaves};
 ghost use Rattle.pure_typ.specs.TypGrown.{IsTypGrown};
 
 use crate::grow::Grow;

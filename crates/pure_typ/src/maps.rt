@@ -1,9 +1,9 @@
 //! Finite maps of schematic type variables.
 ghost use Rattle.std.specs.Prelude.{◌≡◌, List, [], ◌∷◌, ◌++◌, map, MatchOption, MatchResult};
 ghost use Rattle.pure_text.specs.Lists.{IsIn};
-ghost use Rattle.pure_definitions.specs.Typ as typ_tree;
-ghost use Rattle.pure_definitions.specs.Typ.{typ_eq};
-ghost use Rattle.pure_definitions.specs.Subst.{IsTypMap, typ_variable, typ_image};
+ghost use Rattle.pure_definitions.specs.Types.Typ as typ_tree;
+ghost use Rattle.pure_definitions.specs.Types.Typ.{typ_eq};
+ghost use Rattle.pure_definitions.specs.Terms.Subst.{IsTypMap, typ_variable, typ_image};
 
 use crate::name::Name;
 use crate::sort::Sort;
@@ -21,7 +21,7 @@ pub struct TypBind {
 }
 
 impl Model for TypBind {
-    ghost use Rattle.pure_definitions.specs.Subst as maps;
+    ghost use Rattle.pure_definitions.specs.Terms.Subst as maps;
     ghost use Rattle.pure_definitions.specs.Models.Codes.{coded_typ_bind};
 
     ghost Value = { maps.TypBind };
@@ -40,8 +40,8 @@ pub struct TypMap {
 impl Model for TypMap {
     ghost use Rattle.std.specs.Prelude.{List};
     ghost use Rattle.std.specs.Coded.{coded_list};
-    ghost use Rattle.pure_definitions.specs.Subst as maps;
-    ghost use Rattle.pure_definitions.specs.Subst.{IsTypMap};
+    ghost use Rattle.pure_definitions.specs.Terms.Subst as maps;
+    ghost use Rattle.pure_definitions.specs.Terms.Subst.{IsTypMap};
     ghost use Rattle.pure_definitions.specs.Models.Codes.{coded_typ_bind};
 
     ghost Value = { List maps.TypBind };

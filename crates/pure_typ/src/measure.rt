@@ -1,7 +1,7 @@
 //! The limits, the size and depth of types, and what fits into a room for nodes.
 ghost use Rattle.std.specs.Prelude.{◌≡◌, ◌↔◌, IsTrue};
-ghost use Rattle.pure_definitions.specs.Typ.{typ_size, typ_depth};
-ghost use Rattle.pure_definitions.specs.Limits.{cut_off, Leaves, IsWithinTyp};
+ghost use Rattle.pure_definitions.specs.Types.Typ.{typ_size, typ_depth};
+ghost use Rattle.pure_definitions.specs.Terms.Limits.{cut_off, Leaves, IsWithinTyp};
 
 use crate::typ::{Typ, TypNode};
 

@@ -1,7 +1,7 @@
 //! Where a type occurs in a type.
 ghost use Rattle.std.specs.Prelude.{◌↔◌, IsTrue};
-ghost use Rattle.pure_definitions.specs.Typ.{typs_of};
-ghost use Rattle.pure_definitions.specs.Occurs.{OccursInTyp, OccursInTyps};
+ghost use Rattle.pure_definitions.specs.Types.Typ.{typs_of};
+ghost use Rattle.pure_definitions.specs.Types.Occurs.{OccursInTyp, OccursInTyps};
 
 use crate::typ::{Typ, TypNode};
 

@@ -5,7 +5,7 @@ ghost use Rattle.std.specs.Cmp.Lexicographic.{slice_cmp, nat_list_eq_equiv, nat_
 ghost use Rattle.std.specs.Cmp.{partial_equiv_from_equiv};
 ghost use Rattle.std.specs.List.Sorted.{IsStrictlyIncreasing};
 ghost use Rattle.std.specs.Set.{sorted_merge};
-ghost use Rattle.pure_definitions.specs.Typ.{sort_eq};
+ghost use Rattle.pure_definitions.specs.Types.Typ.{sort_eq};
 ghost use Rattle.pure_typ.specs.SortUnion.{IsSortUnion};
 
 use crate::name::Name;

@@ -2,7 +2,7 @@
 ghost use Rattle.std.specs.Prelude.{◌≡◌, ℕ, IfOk, refl, MatchOption};
 ghost use Rattle.std.specs.Cmp.{partial_equiv_from_equiv, po};
 ghost use Rattle.std.specs.Ordering.{as_partial_cmp};
-ghost use Rattle.pure_definitions.specs.Typ.{typ_eq, typs_of, arrow, IsNoArrow};
+ghost use Rattle.pure_definitions.specs.Types.Typ.{typ_eq, typs_of, arrow, IsNoArrow};
 ghost use Rattle.pure_definitions.specs.Models.Equality.{typ_eq-equiv};
 ghost use Rattle.pure_definitions.specs.Models.Comparison.{typ_rank, typ_cmp, typs_cmp, typ_cmp-total, typ_cmp-ties};
 
@@ -29,7 +29,7 @@ pub enum TypNode {
 }
 
 impl Model for Typ {
-    ghost use Rattle.pure_definitions.specs.Typ as tree;
+    ghost use Rattle.pure_definitions.specs.Types.Typ as tree;
     ghost use Rattle.pure_definitions.specs.Models.Codes.{coded_typ};
 
     ghost Value = { tree.Typ };

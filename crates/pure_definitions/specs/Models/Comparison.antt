@@ -7,8 +7,8 @@ use Rattle.std.specs.Ordering.{nat_cmp, ordering_then, ordering_reverse, is_eq, 
 use Rattle.std.specs.Cmp.{IsTotalOrder, nat_cmp_total, tied_itself, ranks, both_ways, Equal-is}
 use Rattle.std.specs.Cmp.Lexicographic.{slice_cmp}
 use base.Stored.{Gv, gnil, gnum, gcons}
-use Rattle.pure_definitions.specs.Typ.{Typ, TFree, TVar, Con, Typs, none, also, typ_eq}
-use Rattle.pure_definitions.specs.Term.{Term, Const, Free, Var, Bound, Abs, App, term_eq}
+use Rattle.pure_definitions.specs.Types.Typ.{Typ, TFree, TVar, Con, Typs, none, also, typ_eq}
+use Rattle.pure_definitions.specs.Terms.Term.{Term, Const, Free, Var, Bound, Abs, App, term_eq}
 use Rattle.pure_definitions.specs.Models.Equality.{typ_eq-is_equality, term_eq-is_equality}
 use Rattle.pure_definitions.specs.Models.Codes.{sort_code, typ_code, typs_code, term_code, typ_code-same, term_code-same}
 

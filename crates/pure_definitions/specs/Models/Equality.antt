@@ -5,8 +5,8 @@ use Rattle.std.specs.Cmp.{first_so, second_so, IsEquivalence, both_ways}
 use Rattle.std.specs.Cmp.Derive.{both_true}
 use Rattle.std.specs.Cmp.Lexicographic.{bytes_decides}
 use Rattle.std.specs.Prelude.{nat_eq}
-use Rattle.pure_definitions.specs.Typ.{sort_eq, Typ, TFree, TVar, Con, Typs, none, also, typs_of, typ_list, typ_eq, typs_eq}
-use Rattle.pure_definitions.specs.Term.{Term, Const, Free, Var, Bound, Abs, App, term_eq}
+use Rattle.pure_definitions.specs.Types.Typ.{sort_eq, Typ, TFree, TVar, Con, Typs, none, also, typs_of, typ_list, typ_eq, typs_eq}
+use Rattle.pure_definitions.specs.Terms.Term.{Term, Const, Free, Var, Bound, Abs, App, term_eq}
 
 pub typ_list-typs_of : (ts : List Typ) → typ_list (typs_of ts) ≡ ts
 typ_list-typs_of [] = refl

@@ -1,9 +1,9 @@
 -- Examples of contents.
 use Rattle.std.specs.Prelude.{◌≡◌, ℕ, List, [], ◌∷◌, ◌++◌, Some, None}
-use Rattle.pure_definitions.specs.Typ.{TFree, TVar, arrow, prop}
-use Rattle.pure_definitions.specs.Term.{Const, Free, Var, Bound, Abs, App}
-use Rattle.pure_definitions.specs.Order.{IsCoregular}
-use Rattle.pure_definitions.specs.Decl.{Decl, ClassDecl, ConDecl, ArityDecl, ConstDecl, AxiomDecl, PromiseDecl, algebra_of}
+use Rattle.pure_definitions.specs.Types.Typ.{TFree, TVar, arrow, prop}
+use Rattle.pure_definitions.specs.Terms.Term.{Const, Free, Var, Bound, Abs, App}
+use Rattle.pure_definitions.specs.Types.Order.{IsCoregular}
+use Rattle.pure_definitions.specs.Declarations.Decl.{Decl, ClassDecl, ConDecl, ArityDecl, ConstDecl, AxiomDecl, PromiseDecl, algebra_of}
 use Rattle.pure_term_laws.specs.LawsExamples.{i, j, k, c, d, e, a, f, x, any_x, class_above, arity}
 use Rattle.pure_logic.specs.Connectives.{eq}
 use Rattle.pure_logic.specs.Content.{TheoryId, Content, IsSchematic, IsContent, IsBelow, definition}

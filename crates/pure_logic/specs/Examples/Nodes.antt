@@ -1,8 +1,8 @@
 -- What each node of a tree concludes, by example, and where it concludes nothing.
 use Rattle.std.specs.Prelude.{◌≡◌, ◌≢◌, if◌then◌else◌, List, [], ◌∷◌}
-use Rattle.pure_definitions.specs.Typ.{Typ, Con, none, arrow, prop}
-use Rattle.pure_definitions.specs.Term.{Term, Const, Free, Var, Bound, Abs, App, term_eq}
-use Rattle.pure_definitions.specs.Subst.{TypBind, TermBind, typ_image, retyped_variable, term_instance}
+use Rattle.pure_definitions.specs.Types.Typ.{Typ, Con, none, arrow, prop}
+use Rattle.pure_definitions.specs.Terms.Term.{Term, Const, Free, Var, Bound, Abs, App, term_eq}
+use Rattle.pure_definitions.specs.Terms.Subst.{TypBind, TermBind, typ_image, retyped_variable, term_instance}
 use Rattle.pure_term_laws.specs.LawsExamples.{i, j, a, f, x, y, any_x}
 use Rattle.pure_term_laws.specs.LawsSubst.{for_a}
 use Rattle.pure_logic.specs.Connectives.{all_of, all, imp, eq}

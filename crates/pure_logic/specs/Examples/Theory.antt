@@ -1,10 +1,10 @@
 -- A content for the examples of the laws.
 use Rattle.std.specs.Prelude.{List, [], ◌∷◌, ◌++◌, Some}
 use Rattle.pure_definitions.specs.Names.{Label}
-use Rattle.pure_definitions.specs.Typ.{Typ, TVar, arrow, prop}
-use Rattle.pure_definitions.specs.Term.{Term, Const, Free, Var, App}
-use Rattle.pure_definitions.specs.Order.{Arity}
-use Rattle.pure_definitions.specs.Decl.{Decl, ClassDecl, ConDecl, ArityDecl, ConstDecl, AxiomDecl, PromiseDecl}
+use Rattle.pure_definitions.specs.Types.Typ.{Typ, TVar, arrow, prop}
+use Rattle.pure_definitions.specs.Terms.Term.{Term, Const, Free, Var, App}
+use Rattle.pure_definitions.specs.Types.Order.{Arity}
+use Rattle.pure_definitions.specs.Declarations.Decl.{Decl, ClassDecl, ConDecl, ArityDecl, ConstDecl, AxiomDecl, PromiseDecl}
 use Rattle.pure_term_laws.specs.LawsExamples.{i, c, any_x, sort_of, class_above}
 use Rattle.pure_logic.specs.Content.{Content}
 use Rattle.pure_logic.specs.PureContent.{pure_declarations}

@@ -1,9 +1,9 @@
 -- What isn't derivable, by example.
 use Rattle.std.specs.Prelude.{[], ◌∷◌}
 use Rattle.pure_definitions.specs.Names.{prop_name}
-use Rattle.pure_definitions.specs.Typ.{prop}
-use Rattle.pure_definitions.specs.Term.{Term, Const}
-use Rattle.pure_definitions.specs.Decl.{ConDecl, ConstDecl, PromiseDecl}
+use Rattle.pure_definitions.specs.Types.Typ.{prop}
+use Rattle.pure_definitions.specs.Terms.Term.{Term, Const}
+use Rattle.pure_definitions.specs.Declarations.Decl.{ConDecl, ConstDecl, PromiseDecl}
 use Rattle.pure_logic.specs.Connectives.{imp}
 use Rattle.pure_logic.specs.Content.{Content, IsContent, IsProposition}
 use Rattle.pure_logic.specs.Derivable.{IsDerivable, IsDerivableAlone}

@@ -1,6 +1,6 @@
 -- Laws of what trees conclude: propositions of the content.
 use Rattle.pure_text.specs.Lists.{Each}
-use Rattle.pure_definitions.specs.Term.{Term}
+use Rattle.pure_definitions.specs.Terms.Term.{Term}
 use Rattle.pure_logic.specs.Content.{Content, IsContent, IsBelow, IsProposition}
 use Rattle.pure_logic.specs.PureContent.{pure_content}
 use Rattle.pure_logic.specs.Tree.{Tree, hyps_of}

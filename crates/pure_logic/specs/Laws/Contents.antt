@@ -1,7 +1,7 @@
 -- Laws of contents: merges, and the content with which a theory begins.
 use Rattle.std.specs.Prelude.{◌≡◌, ◌↔◌, ◌⊎◌, List, Some}
 use Rattle.pure_text.specs.Lists.{IsIn, Each, AnyOf, AreDistinct}
-use Rattle.pure_definitions.specs.Decl.{Decl}
+use Rattle.pure_definitions.specs.Declarations.Decl.{Decl}
 use Rattle.pure_logic.specs.Content.{TheoryId, Content, AreNamedAlike, AreLabelledAlike, IsContent, IsBelow}
 use Rattle.pure_logic.specs.PureContent.{pure_content}
 use Rattle.pure_logic.specs.Beginning.{IsMerge, theories_of, ancestors_of, IsBeginning, AreToldApart, IsNewOver, HasTheoriesApart}

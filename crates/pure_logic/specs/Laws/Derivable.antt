@@ -2,7 +2,7 @@
 use Rattle.std.specs.Prelude.{◌≡◌, ◌↔◌, ℕ, List, [], map}
 use Rattle.pure_definitions.specs.Names.{Label}
 use Rattle.pure_text.specs.Lists.{IsIn, Each}
-use Rattle.pure_definitions.specs.Term.{Term}
+use Rattle.pure_definitions.specs.Terms.Term.{Term}
 use Rattle.pure_logic.specs.Connectives.{imp, chain}
 use Rattle.pure_logic.specs.Content.{Content, IsContent, IsBelow, IsProposition}
 use Rattle.pure_logic.specs.PureContent.{pure_content, proposition_variable}

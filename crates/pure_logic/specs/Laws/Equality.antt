@@ -1,9 +1,9 @@
 -- Laws of equality, on what is proved: that it is an equivalence, that equals may be put for one another, and extensionality.
 use Rattle.std.specs.Prelude.{◌↔◌, ℕ, List}
 use Rattle.pure_definitions.specs.Names.{Label}
-use Rattle.pure_definitions.specs.Typ.{Typ, arrow, prop}
-use Rattle.pure_definitions.specs.Term.{Term, Free, Bound, Abs, App}
-use Rattle.pure_definitions.specs.Bounds.{subst_bound}
+use Rattle.pure_definitions.specs.Types.Typ.{Typ, arrow, prop}
+use Rattle.pure_definitions.specs.Terms.Term.{Term, Free, Bound, Abs, App}
+use Rattle.pure_definitions.specs.Terms.Bounds.{subst_bound}
 use Rattle.pure_logic.specs.Connectives.{all, imp, eq, protect}
 use Rattle.pure_logic.specs.Content.{Content, IsContent, IsBelow, IsCertifiedOf, IsProposition}
 use Rattle.pure_logic.specs.PureContent.{pure_content}

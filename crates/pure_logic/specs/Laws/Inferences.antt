@@ -2,10 +2,10 @@
 use Rattle.std.specs.Prelude.{List, ◌++◌}
 use Rattle.pure_text.specs.Lists.{IsIn, Each}
 use Rattle.pure_definitions.specs.Names.{Label}
-use Rattle.pure_definitions.specs.Typ.{Typ}
-use Rattle.pure_definitions.specs.Term.{Term}
-use Rattle.pure_definitions.specs.Bounds.{subst_bound, abstract_over, Occurs}
-use Rattle.pure_definitions.specs.Conditions.{IsVariable}
+use Rattle.pure_definitions.specs.Types.Typ.{Typ}
+use Rattle.pure_definitions.specs.Terms.Term.{Term}
+use Rattle.pure_definitions.specs.Terms.Bounds.{subst_bound, abstract_over, Occurs}
+use Rattle.pure_definitions.specs.Terms.Conditions.{IsVariable}
 use Rattle.pure_logic.specs.Connectives.{all_of, all, imp}
 use Rattle.pure_logic.specs.Content.{Content, IsContent, IsBelow, IsCertifiedOf, IsProposition}
 use Rattle.pure_logic.specs.PureContent.{pure_content}

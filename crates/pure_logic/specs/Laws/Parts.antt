@@ -1,8 +1,8 @@
 -- A law of certification: respecting maps keep a term's parts certified.
-use Rattle.pure_definitions.specs.Typ.{Typ}
-use Rattle.pure_definitions.specs.Term.{Term}
-use Rattle.pure_definitions.specs.Subst.{term_instance}
-use Rattle.pure_definitions.specs.Certified.{HasCertifiedParts}
+use Rattle.pure_definitions.specs.Types.Typ.{Typ}
+use Rattle.pure_definitions.specs.Terms.Term.{Term}
+use Rattle.pure_definitions.specs.Terms.Subst.{term_instance}
+use Rattle.pure_definitions.specs.Declarations.Certified.{HasCertifiedParts}
 use Rattle.pure_logic.specs.Content.{Content, IsContent}
 use Rattle.pure_logic.specs.Concludes.{AreRespecting}
 

@@ -1,10 +1,10 @@
 -- Laws of derivation trees.
 use Rattle.std.specs.Prelude.{◌≡◌, List}
 use Rattle.pure_text.specs.Lists.{Each}
-use Rattle.pure_definitions.specs.Term.{Term}
-use Rattle.pure_definitions.specs.Subst.{TypBind, TermBind, typ_image, term_image, term_instance, inst_typ, inst_term, AreSortRespecting}
-use Rattle.pure_definitions.specs.Decl.{algebra_of}
-use Rattle.pure_definitions.specs.Certified.{IsCertifiedTyp}
+use Rattle.pure_definitions.specs.Terms.Term.{Term}
+use Rattle.pure_definitions.specs.Terms.Subst.{TypBind, TermBind, typ_image, term_image, term_instance, inst_typ, inst_term, AreSortRespecting}
+use Rattle.pure_definitions.specs.Declarations.Decl.{algebra_of}
+use Rattle.pure_definitions.specs.Declarations.Certified.{IsCertifiedTyp}
 use Rattle.pure_logic.specs.Content.{Content, IsContent, IsBelow, IsCertifiedOf}
 use Rattle.pure_logic.specs.Tree.{Tree, hyps_of, rests_of, joined_terms}
 use Rattle.pure_logic.specs.Concludes.{AreRespecting, Concludes}

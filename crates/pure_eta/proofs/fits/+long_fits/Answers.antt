@@ -1,6 +1,6 @@
 use Rattle.std.proofs.Common.{◌≡◌, ◌+◌, max, true, false, refl, zero-add}
-use Rattle.pure_definitions.specs.Typ.{typ_size, typ_depth}
-use Rattle.pure_definitions.specs.Term.{Const, Free, Var, Bound, App, term_size, term_depth}
+use Rattle.pure_definitions.specs.Types.Typ.{typ_size, typ_depth}
+use Rattle.pure_definitions.specs.Terms.Term.{Const, Free, Var, Bound, App, term_size, term_depth}
 use Rattle.pure_eta.specs.LongTerm.{front_typ, long_term}
 use Rattle.pure_eta.specs.Fits.{added_at}
 use Rattle.pure_term.specs.Scope.{scope_typs}

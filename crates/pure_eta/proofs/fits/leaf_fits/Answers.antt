@@ -1,5 +1,5 @@
 use Rattle.std.proofs.Common.{◌+◌, ◌<◌, arith}
-use Rattle.pure_definitions.specs.Typ.{typ_depth}
+use Rattle.pure_definitions.specs.Types.Typ.{typ_depth}
 use Rattle.pure_eta.specs.LongTerm.{front_typ}
 use Rattle.pure_term.specs.Scope.{scope_typs}
 use Rattle.pure_eta.proofs.FitsLaws.{depth_at-ge}

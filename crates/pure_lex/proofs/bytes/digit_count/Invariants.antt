@@ -1,6 +1,6 @@
 use Rattle.std.proofs.Common.{◌≡◌, ◌≤◌, take, true}
 use Rattle.std.specs.List.{list_all}
-use Rattle.pure_grammar.specs.Bytes.{is_digit}
+use Rattle.pure_grammar.specs.Tokens.Bytes.{is_digit}
 use Rattle.pure_lex.proofs.bytes.digit_count.Given as goal
 
 abbrev pub invariant-loop-i : goal.invariant-loop-i

@@ -1,5 +1,5 @@
 use Rattle.std.proofs.Common.{arith, rules}
-use Rattle.pure_grammar.specs.Bytes.{is_name_byte}
+use Rattle.pure_grammar.specs.Tokens.Bytes.{is_name_byte}
 use Rattle.pure_lex.proofs.Runs.{run, run_all}
 use Rattle.pure_lex.proofs.bytes.name_length.Goals as goal
 

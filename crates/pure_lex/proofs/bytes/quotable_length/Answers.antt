@@ -1,5 +1,5 @@
 use Rattle.std.proofs.Common.{arith, rules}
-use Rattle.pure_grammar.specs.Token.{is_quotable}
+use Rattle.pure_grammar.specs.Tokens.Token.{is_quotable}
 use Rattle.pure_lex.proofs.Runs.{run, run_all}
 use Rattle.pure_lex.proofs.bytes.quotable_length.Goals as goal
 

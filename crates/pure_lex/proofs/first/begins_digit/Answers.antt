@@ -1,5 +1,5 @@
 use Rattle.std.proofs.Common.{ap, ◌∙◌}
-use Rattle.pure_grammar.specs.Bytes.{is_digit}
+use Rattle.pure_grammar.specs.Tokens.Bytes.{is_digit}
 use Rattle.pure_lex.proofs.OtherFronts.{digit-get}
 use Rattle.pure_lex.proofs.first.begins_digit.Goals as goal
 

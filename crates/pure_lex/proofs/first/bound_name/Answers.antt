@@ -1,5 +1,5 @@
 use Rattle.std.proofs.Common.{◌≡◌, true, false, drop, sym, ◌∙◌, arith}
-use Rattle.pure_grammar.specs.Bytes.{head_is, is_digit}
+use Rattle.pure_grammar.specs.Tokens.Bytes.{head_is, is_digit}
 use Rattle.pure_lex.specs.Fronts.{IsDigits}
 use Rattle.pure_lex.proofs.MarkFronts.{first-cons}
 use Rattle.pure_lex.proofs.OtherFronts.{bound_name-taken, bound_name-none}

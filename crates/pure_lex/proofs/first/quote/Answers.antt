@@ -1,5 +1,5 @@
 use Rattle.std.proofs.Common.{◌≡◌, drop, get_or, sym, ◌∙◌, arith}
-use Rattle.pure_grammar.specs.Token.{is_quotable}
+use Rattle.pure_grammar.specs.Tokens.Token.{is_quotable}
 use Rattle.pure_lex.specs.Fronts.{IsRun}
 use Rattle.pure_lex.proofs.MarkFronts.{first-cons}
 use Rattle.pure_lex.proofs.OtherFronts.{quote-taken, quote-none}

@@ -1,6 +1,6 @@
 use Rattle.std.proofs.Common.{◌≡◌, true, false, drop, sym, ◌∙◌, arith}
-use Rattle.pure_grammar.specs.Comment.{opens_comment}
-use Rattle.pure_grammar.specs.Comment.Gap.{nothing}
+use Rattle.pure_grammar.specs.Tokens.Comment.{opens_comment}
+use Rattle.pure_grammar.specs.Tokens.Comment.Gap.{nothing}
 use Rattle.pure_lex.specs.Fronts.{IsComment, HasNoComment}
 use Rattle.pure_lex.proofs.Passing.{gap-all, gap-blank, gap-comment, gap-other, gap-unclosed, comment-some}
 use Rattle.pure_lex.proofs.gaps.gap_length.Goals as goal

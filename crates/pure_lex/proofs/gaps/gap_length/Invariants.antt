@@ -1,5 +1,5 @@
 use Rattle.std.proofs.Common.{◌-◌, ◌≤◌, length, take}
-use Rattle.pure_grammar.specs.Comment.{Gap}
+use Rattle.pure_grammar.specs.Tokens.Comment.{Gap}
 use Rattle.pure_lex.proofs.gaps.gap_length.Given as goal
 
 abbrev pub invariant-loop-at : goal.invariant-loop-at

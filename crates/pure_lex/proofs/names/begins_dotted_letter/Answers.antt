@@ -1,5 +1,5 @@
 use Rattle.std.proofs.Common.{◌≡◌, get_or, ap, sym, ◌∙◌}
-use Rattle.pure_grammar.specs.Bytes.{is_letter}
+use Rattle.pure_grammar.specs.Tokens.Bytes.{is_letter}
 use Rattle.pure_lex.proofs.MarkFronts.{dotted_letter-get}
 use Rattle.pure_lex.proofs.names.begins_dotted_letter.Goals as goal
 

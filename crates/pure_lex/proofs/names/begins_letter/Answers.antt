@@ -1,5 +1,5 @@
 use Rattle.std.proofs.Common.{ap, ◌∙◌}
-use Rattle.pure_grammar.specs.Bytes.{is_letter}
+use Rattle.pure_grammar.specs.Tokens.Bytes.{is_letter}
 use Rattle.pure_lex.proofs.MarkFronts.{letter-get}
 use Rattle.pure_lex.proofs.names.begins_letter.Goals as goal
 

@@ -1,5 +1,5 @@
 use Rattle.std.proofs.Common.{◌≡◌, true, false, drop, sym, ◌∙◌}
-use Rattle.pure_grammar.specs.Bytes.{head_is, is_letter, is_name_byte}
+use Rattle.pure_grammar.specs.Tokens.Bytes.{head_is, is_letter, is_name_byte}
 use Rattle.pure_lex.specs.Fronts.{IsRun, IsFront, is_index}
 use Rattle.pure_lex.proofs.MarkFronts.{marks-within, schematic-taken, schematic-fault, schematic-none}
 use Rattle.pure_lex.proofs.names.indexed.Goals as goal

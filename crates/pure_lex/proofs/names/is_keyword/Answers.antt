@@ -1,4 +1,4 @@
-use Rattle.pure_grammar.specs.Token.{is_keyword, keywords}
+use Rattle.pure_grammar.specs.Tokens.Token.{is_keyword, keywords}
 use Rattle.pure_lex.proofs.names.is_keyword.Goals as goal
 
 pub returns : goal.returns

@@ -1,5 +1,5 @@
 use Rattle.std.proofs.Common.{◌≡◌, false, drop, sym, ◌∙◌}
-use Rattle.pure_grammar.specs.Bytes.{head_is, marked, is_letter}
+use Rattle.pure_grammar.specs.Tokens.Bytes.{head_is, marked, is_letter}
 use Rattle.pure_lex.proofs.NameFronts.{name-taken, name-fault}
 use Rattle.pure_lex.proofs.names.name.Goals as goal
 

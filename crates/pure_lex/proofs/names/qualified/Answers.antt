@@ -1,5 +1,5 @@
 use Rattle.std.proofs.Common.{◌+◌, drop}
-use Rattle.pure_grammar.specs.Bytes.{is_name_byte}
+use Rattle.pure_grammar.specs.Tokens.Bytes.{is_name_byte}
 use Rattle.pure_lex.specs.Fronts.{IsRun}
 use Rattle.pure_lex.proofs.NameFronts.{dotted, qualified-taken, qualified-fault, qualified-fault_second}
 use Rattle.pure_lex.proofs.names.qualified.Goals as goal

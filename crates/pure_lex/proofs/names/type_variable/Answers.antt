@@ -1,5 +1,5 @@
 use Rattle.std.proofs.Common.{◌≡◌, true, false, drop, sym, ◌∙◌, arith}
-use Rattle.pure_grammar.specs.Bytes.{head_is, is_letter, is_name_byte}
+use Rattle.pure_grammar.specs.Tokens.Bytes.{head_is, is_letter, is_name_byte}
 use Rattle.pure_lex.specs.Fronts.{IsRun}
 use Rattle.pure_lex.proofs.MarkFronts.{type_variable-taken, type_variable-fault, type_variable-none, first-cons}
 use Rattle.pure_lex.proofs.names.type_variable.Goals as goal

@@ -1,7 +1,7 @@
 use Rattle.std.proofs.Common.{◌≡◌, ◌+◌, length, drop, refl, sym, ◌∙◌}
 use Rattle.std.specs.Prelude.{slice_range}
 use Rattle.std.proofs.lemmas.Bool.{eqb-true}
-use Rattle.pure_grammar.specs.Spelling.{IsFault}
+use Rattle.pure_grammar.specs.Tokens.Spelling.{IsFault}
 use Rattle.pure_grammar.proofs.Slices.{tokens_are_slices}
 use Rattle.pure_lex.specs.Fronts.{IsGap, IsTaken}
 use Rattle.pure_lex.proofs.Steps.{progress-end, progress-fault, progress-push, range_ends}

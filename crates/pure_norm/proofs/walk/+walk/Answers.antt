@@ -1,7 +1,7 @@
 use Rattle.std.proofs.Common.{◌≡◌, refl, subst, arith}
 use Rattle.std.proofs.lemmas.Result.{err_from_is_err_and}
-use Rattle.pure_definitions.specs.Term.{Abs, App}
-use Rattle.pure_definitions.specs.Beta.{IsBetaNormal}
+use Rattle.pure_definitions.specs.Terms.Term.{Abs, App}
+use Rattle.pure_definitions.specs.Reduction.Beta.{IsBetaNormal}
 use Rattle.pure_norm.specs.Walk.{Walked, Contracted}
 use Rattle.pure_norm.proofs.WalkLemmas.{walked-chain, fails-chain, can_walk-after, walked-nowhere}
 use Rattle.pure_norm.proofs.DescendLemmas.{walked-body, fails-body, can_walk-function, walked-function, fails-function, walked-redex, fails-redex, can_walk-argument, function-over, walked-after_function, fails-after_function, over-paused, leaf-normal}

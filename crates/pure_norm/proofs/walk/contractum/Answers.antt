@@ -1,6 +1,6 @@
 use Rattle.std.proofs.Common.{◌≡◌, refl}
-use Rattle.pure_definitions.specs.Term.{Abs}
-use Rattle.pure_definitions.specs.Bounds.{subst_bound}
+use Rattle.pure_definitions.specs.Terms.Term.{Abs}
+use Rattle.pure_definitions.specs.Terms.Bounds.{subst_bound}
 use Rattle.pure_norm.proofs.DescendLemmas.{redex-step, redex-puttable}
 use Rattle.pure_norm.proofs.walk.contractum.Goals as goal
 

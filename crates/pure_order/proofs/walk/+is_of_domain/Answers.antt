@@ -1,5 +1,5 @@
 use Rattle.std.proofs.Common.{length, arith}
-use Rattle.pure_definitions.specs.Typ.{Con, typs_of}
+use Rattle.pure_definitions.specs.Types.Typ.{Con, typs_of}
 use Rattle.pure_definitions.proofs.TypsLemmas.{typ_depth-item}
 use Rattle.pure_text.proofs.AnswerLaws.{no_as, test_fails}
 use Rattle.pure_order.specs.Walk.{IsOfDomain}

@@ -1,5 +1,5 @@
 use Rattle.std.proofs.Common.{◌+◌, ◌*◌}
-use Rattle.pure_definitions.specs.Typ.{typ_depth, typs_depth, typs_of}
+use Rattle.pure_definitions.specs.Types.Typ.{typ_depth, typs_depth, typs_of}
 use Rattle.pure_order.proofs.WalkLaws.{SoFar}
 use Rattle.pure_order.proofs.walk.+is_of_domain.Given as goal
 

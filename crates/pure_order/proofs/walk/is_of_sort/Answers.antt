@@ -1,5 +1,5 @@
-use Rattle.pure_definitions.specs.Typ.{Con, typs_of}
-use Rattle.pure_definitions.specs.Order.{IsOfSort}
+use Rattle.pure_definitions.specs.Types.Typ.{Con, typs_of}
+use Rattle.pure_definitions.specs.Types.Order.{IsOfSort}
 use Rattle.pure_order.proofs.WalkLaws.{grown_answer}
 use Rattle.pure_order.proofs.walk.is_of_sort.Goals as goal
 

@@ -1,4 +1,4 @@
-use Rattle.pure_definitions.specs.Order.{IsSortBelow}
+use Rattle.pure_definitions.specs.Types.Order.{IsSortBelow}
 use Rattle.pure_order.specs.Walk.{domain_at}
 use Rattle.pure_order.proofs.WalkLaws.{AllBelow}
 use Rattle.pure_order.proofs.walk.is_sort_of_domain.Given as goal

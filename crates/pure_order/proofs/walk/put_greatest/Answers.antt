@@ -1,6 +1,6 @@
 use Rattle.std.proofs.Common.{◌+◌, take}
-use Rattle.pure_definitions.specs.Typ.{Con, typs_of}
-use Rattle.pure_definitions.specs.Order.{IsOfClass, IsOfSort}
+use Rattle.pure_definitions.specs.Types.Typ.{Con, typs_of}
+use Rattle.pure_definitions.specs.Types.Order.{IsOfClass, IsOfSort}
 use Rattle.pure_order.proofs.WalkLaws.{grown_same, grown_on, grown_put, sort_turn, sort_all}
 use Rattle.pure_order.proofs.walk.put_greatest.Goals as goal
 

@@ -1,6 +1,6 @@
 use Rattle.std.proofs.Common.{take}
-use Rattle.pure_definitions.specs.Typ.{Con, typs_of}
-use Rattle.pure_definitions.specs.Order.{IsOfSort}
+use Rattle.pure_definitions.specs.Types.Typ.{Con, typs_of}
+use Rattle.pure_definitions.specs.Types.Order.{IsOfSort}
 use Rattle.pure_order.specs.Walk.{AsksMore}
 use Rattle.pure_order.proofs.walk.put_greatest.Given as goal
 

@@ -1,7 +1,7 @@
 use Rattle.std.proofs.Common.{refl}
 use Rattle.std.proofs.lemmas.Bool.Decides.{Decides-eqb}
 use Rattle.std.proofs.lemmas.Slice.Eq.{slice_eq-Decides}
-use Rattle.pure_definitions.specs.Typ.{sort_eq}
+use Rattle.pure_definitions.specs.Types.Typ.{sort_eq}
 use Rattle.pure_order_tables.proofs.union.are_same_sorts.Goals as goal
 
 pub returns : goal.returns

@@ -1,5 +1,5 @@
 use Rattle.std.proofs.Common.{◌+◌, ◌*◌}
-use Rattle.pure_definitions.specs.Term.{term_depth}
+use Rattle.pure_definitions.specs.Terms.Term.{term_depth}
 use Rattle.pure_print.specs.Forms.{form_depth}
 use Rattle.pure_print.proofs.term.+term.Given as goal
 

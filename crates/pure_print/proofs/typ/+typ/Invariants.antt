@@ -1,5 +1,5 @@
 use Rattle.std.proofs.Common.{◌≡◌, ◌+◌, ◌*◌, ◌++◌, drop}
-use Rattle.pure_definitions.specs.Typ.{typs_of, typ_depth, typs_depth}
+use Rattle.pure_definitions.specs.Types.Typ.{typs_of, typ_depth, typs_depth}
 use Rattle.pure_print.specs.TypText.{more_typs_text}
 use Rattle.pure_print.proofs.typ.+typ.Given as goal
 

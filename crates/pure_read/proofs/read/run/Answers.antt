@@ -1,6 +1,6 @@
 use Rattle.std.proofs.Common.{◌+◌, length, refl, arith, sym, ◌∙◌, ap, slice_index_or}
 use Rattle.pure_grammar.specs.declared.token.TokenKind.TheVariants.{Word}
-use Rattle.pure_grammar.specs.InnerReader.{next}
+use Rattle.pure_grammar.specs.Terms.InnerReader.{next}
 use Rattle.pure_read.specs.States.{seen_state, seen_next}
 use Rattle.pure_read.proofs.Reading.{reads-more, reads-end, stuck-token, stuck-end}
 use Rattle.pure_grammar.proofs.Places.{slice-at}

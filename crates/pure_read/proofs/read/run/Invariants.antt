@@ -1,6 +1,6 @@
 use Rattle.std.proofs.Common.{◌≡◌}
 use Rattle.std.specs.Prelude.{Some}
-use Rattle.pure_grammar.specs.InnerReader.{run}
+use Rattle.pure_grammar.specs.Terms.InnerReader.{run}
 use Rattle.pure_read.specs.States.{seen_state}
 use Rattle.pure_read.proofs.Reading.{lexed}
 use Rattle.pure_read.proofs.read.run.Given as goal

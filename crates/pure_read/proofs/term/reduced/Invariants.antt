@@ -1,5 +1,5 @@
 use Rattle.std.proofs.Common.{◌≡◌, length}
-use Rattle.pure_grammar.specs.InnerReader.{reduced}
+use Rattle.pure_grammar.specs.Terms.InnerReader.{reduced}
 use Rattle.pure_read.specs.Frames.{seen_stack}
 use Rattle.pure_read.proofs.term.reduced.Given as goal
 

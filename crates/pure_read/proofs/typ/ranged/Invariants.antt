@@ -1,5 +1,5 @@
 use Rattle.std.proofs.Common.{◌≡◌, length}
-use Rattle.pure_grammar.specs.InnerReader.{ranged}
+use Rattle.pure_grammar.specs.Terms.InnerReader.{ranged}
 use Rattle.pure_read.specs.Frames.{seen_stack}
 use Rattle.pure_read.proofs.typ.ranged.Given as goal
 

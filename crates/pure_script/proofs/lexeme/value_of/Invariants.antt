@@ -1,5 +1,5 @@
 use Rattle.std.proofs.Common.{◌≡◌, drop}
-use Rattle.pure_grammar.specs.Lexeme.{value_behind}
+use Rattle.pure_grammar.specs.Theories.Lexeme.{value_behind}
 use Rattle.pure_script.proofs.lexeme.value_of.Given as goal
 
 abbrev pub invariant-loop-digit : goal.invariant-loop-digit

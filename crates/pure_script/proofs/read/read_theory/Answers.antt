@@ -1,7 +1,7 @@
 use Rattle.std.proofs.Common.{◌≡◌, length, refl, sym, ◌∙◌, ap, slice_index_or, None}
 use Rattle.pure_grammar.specs.declared.token.TokenKind.TheVariants.{Word}
-use Rattle.pure_grammar.specs.Lexeme.{lexeme}
-use Rattle.pure_grammar.specs.Reader.{next}
+use Rattle.pure_grammar.specs.Theories.Lexeme.{lexeme}
+use Rattle.pure_grammar.specs.Theories.Reader.{next}
 use Rattle.pure_script.specs.Places.{seen_theory}
 use Rattle.pure_script.specs.States.{seen_state}
 use Rattle.pure_script.proofs.Reading.{is_last-seen, none-next, fault-token, fault-end, spells-end, slice-at}

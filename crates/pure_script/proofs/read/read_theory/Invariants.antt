@@ -1,6 +1,6 @@
 use Rattle.std.proofs.Common.{◌≡◌, drop}
-use Rattle.pure_grammar.specs.Lexeme.{lexemes}
-use Rattle.pure_grammar.specs.Reader.{AtStart, run}
+use Rattle.pure_grammar.specs.Theories.Lexeme.{lexemes}
+use Rattle.pure_grammar.specs.Theories.Reader.{AtStart, run}
 use Rattle.pure_script.specs.States.{seen_state}
 use Rattle.pure_script.proofs.read.read_theory.Given as goal
 

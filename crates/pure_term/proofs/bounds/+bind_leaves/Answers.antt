@@ -1,7 +1,7 @@
 use Rattle.std.proofs.Common.{◌≡◌, ◌+◌, max, refl, ap, ◌∙◌}
-use Rattle.pure_definitions.specs.Typ.{typ_size, typ_depth}
-use Rattle.pure_definitions.specs.Term.{Term, Abs, term_size, term_depth}
-use Rattle.pure_definitions.specs.Bounds.{bind_under}
+use Rattle.pure_definitions.specs.Types.Typ.{typ_size, typ_depth}
+use Rattle.pure_definitions.specs.Terms.Term.{Term, Abs, term_size, term_depth}
+use Rattle.pure_definitions.specs.Terms.Bounds.{bind_under}
 use Rattle.pure_definitions.proofs.BindLemmas.{term_size-bind, term_depth-bind}
 use Rattle.pure_definitions.proofs.GrownLemmas.{leaves-equal, leaves-abs}
 use Rattle.pure_term.proofs.bounds.+bind_leaves.Goals as goal

@@ -1,5 +1,5 @@
 use Rattle.std.proofs.Common.{◌≡◌, refl, arith}
-use Rattle.pure_definitions.specs.Term.{Bound}
+use Rattle.pure_definitions.specs.Terms.Term.{Bound}
 use Rattle.pure_definitions.proofs.GrownLemmas.{put-shallow}
 use Rattle.pure_term.proofs.bounds.+put_under.Goals as goal
 

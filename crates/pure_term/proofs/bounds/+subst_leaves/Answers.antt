@@ -1,5 +1,5 @@
 use Rattle.std.proofs.Common.{◌≡◌, refl, arith}
-use Rattle.pure_definitions.specs.Term.{Bound}
+use Rattle.pure_definitions.specs.Terms.Term.{Bound}
 use Rattle.pure_definitions.proofs.GrownLemmas.{leaves-put}
 use Rattle.pure_term.proofs.bounds.+subst_leaves.Goals as goal
 

@@ -1,5 +1,5 @@
 use Rattle.std.proofs.Common.{◌≡◌, ◌∙◌}
-use Rattle.pure_definitions.specs.Bounds.{lift_term}
+use Rattle.pure_definitions.specs.Terms.Bounds.{lift_term}
 use Rattle.pure_definitions.proofs.TermLemmas.{within-lift, within-of_lift}
 use Rattle.pure_term.proofs.bounds.lift.Goals as goal
 

@@ -1,5 +1,5 @@
 use Rattle.std.proofs.Common.{◌≢◌, ap}
-use Rattle.pure_definitions.specs.Term.{term_size, term_depth}
+use Rattle.pure_definitions.specs.Terms.Term.{term_size, term_depth}
 use Rattle.pure_definitions.proofs.BindLemmas.{bind_under-same, bind_under-other}
 use Rattle.pure_definitions.proofs.GrownLemmas.{leaves-equal}
 use Rattle.pure_term.proofs.bounds.variable_leaves.Goals as goal

@@ -1,6 +1,6 @@
 use Rattle.std.proofs.Common.{◌≡◌, ap}
-use Rattle.pure_definitions.specs.Term.{term_size, term_depth}
-use Rattle.pure_definitions.specs.Subst.{term_image, inst_term}
+use Rattle.pure_definitions.specs.Terms.Term.{term_size, term_depth}
+use Rattle.pure_definitions.specs.Terms.Subst.{term_image, inst_term}
 use Rattle.pure_definitions.proofs.GrownLemmas.{leaves-equal}
 use Rattle.pure_definitions.proofs.InstanceLemmas.{term_image-fixed}
 use Rattle.pure_term.proofs.instance.+inst_term_leaves.Goals as goal

@@ -1,7 +1,7 @@
 use Rattle.std.proofs.Common.{◌≡◌, ◌+◌, max, refl, arith}
-use Rattle.pure_definitions.specs.Typ.{typ_size, typ_depth}
-use Rattle.pure_definitions.specs.Term.{term_size, term_depth}
-use Rattle.pure_definitions.specs.Subst.{typ_image, typ_instance, inst_typ}
+use Rattle.pure_definitions.specs.Types.Typ.{typ_size, typ_depth}
+use Rattle.pure_definitions.specs.Terms.Term.{term_size, term_depth}
+use Rattle.pure_definitions.specs.Terms.Subst.{typ_image, typ_instance, inst_typ}
 use Rattle.pure_definitions.proofs.TermLemmas.{term_size-some, term_depth-some}
 use Rattle.pure_definitions.proofs.GrownLemmas.{leaves-equal, leaves-abs, leaves-node, leaves-part_none}
 use Rattle.pure_term.proofs.instance.+inst_typ_leaves.Goals as goal

@@ -1,5 +1,5 @@
 use Rattle.std.proofs.Common.{◌≡◌}
-use Rattle.pure_definitions.specs.Subst.{term_image, inst_term}
+use Rattle.pure_definitions.specs.Terms.Subst.{term_image, inst_term}
 use Rattle.pure_definitions.proofs.InstanceLemmas.{term_image-fixed}
 use Rattle.pure_term.proofs.instance.+replaced.Goals as goal
 

@@ -1,6 +1,6 @@
 use Rattle.std.proofs.Common.{◌∙◌, ap}
-use Rattle.pure_definitions.specs.Typ.{Typ}
-use Rattle.pure_definitions.specs.Term.{Const, Free, Var, Abs}
+use Rattle.pure_definitions.specs.Types.Typ.{Typ}
+use Rattle.pure_definitions.specs.Terms.Term.{Const, Free, Var, Abs}
 use Rattle.pure_term.proofs.instance.+retyped.Goals as goal
 
 pub returns-in_ok-new-in-Const : goal.returns-in_ok-new-in-Const

@@ -1,6 +1,6 @@
 use Rattle.std.proofs.Common.{◌≡◌, drop}
-use Rattle.pure_definitions.specs.Term.{Var}
-use Rattle.pure_definitions.specs.Subst.{term_image}
+use Rattle.pure_definitions.specs.Terms.Term.{Var}
+use Rattle.pure_definitions.specs.Terms.Subst.{term_image}
 use Rattle.pure_term.proofs.maps.find_term.Given as goal
 
 -- no entry so far replaces the variable

@@ -1,7 +1,7 @@
 use Rattle.std.proofs.Common.{◌≡◌, ◌+◌, refl, arith}
-use Rattle.pure_definitions.specs.Typing.{node_count, HasType, Takes}
-use Rattle.pure_definitions.specs.Term.{Abs, App}
-use Rattle.pure_definitions.specs.Limits.{cut_off}
+use Rattle.pure_definitions.specs.Terms.Typing.{node_count, HasType, Takes}
+use Rattle.pure_definitions.specs.Terms.Term.{Abs, App}
+use Rattle.pure_definitions.specs.Terms.Limits.{cut_off}
 use Rattle.pure_term.specs.Scope.{scope_typs}
 use Rattle.pure_term.specs.TypeAnswer.{found_typ}
 use Rattle.pure_term.proofs.AnswerLemmas.{fault-body, fault-function, fault-argument, fault-application}

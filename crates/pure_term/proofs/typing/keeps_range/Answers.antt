@@ -1,4 +1,4 @@
-use Rattle.pure_definitions.specs.Typing.{Takes}
+use Rattle.pure_definitions.specs.Terms.Typing.{Takes}
 use Rattle.pure_term.proofs.typing.keeps_range.Goals as goal
 
 pub returns : goal.returns

@@ -1,6 +1,6 @@
 use Rattle.std.proofs.Common.{◌≢◌, length}
-use Rattle.pure_definitions.specs.Typ.{Con, typs_of}
-use Rattle.pure_definitions.specs.Typing.{Takes}
+use Rattle.pure_definitions.specs.Types.Typ.{Con, typs_of}
+use Rattle.pure_definitions.specs.Terms.Typing.{Takes}
 use Rattle.pure_definitions.proofs.ArrowLemmas.{takes-count, takes-range}
 use Rattle.pure_term.proofs.typing.lent_range.Goals as goal
 

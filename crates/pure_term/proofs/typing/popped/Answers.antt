@@ -6,8 +6,8 @@ use Rattle.pure_typ.specs.declared.typ.Typ as typ
 use Rattle.pure_typ.specs.declared.typ.TypNode.{TypNode}
 use Rattle.pure_typ.specs.declared.typ.TypNode.TheVariants as node
 use Rattle.pure_typ.specs.TypView.{view_typ}
-use Rattle.pure_definitions.specs.Typing.{Takes}
-use Rattle.pure_definitions.specs.Typ.{Typ, Con, typs_of}
+use Rattle.pure_definitions.specs.Terms.Typing.{Takes}
+use Rattle.pure_definitions.specs.Types.Typ.{Typ, Con, typs_of}
 use Rattle.pure_definitions.proofs.ArrowLemmas.{arrow-popped}
 use Rattle.pure_term.proofs.typing.popped.Goals as goal
 use Rattle.pure_term.proofs.typing.popped.Goals.{in-Con, in_default}

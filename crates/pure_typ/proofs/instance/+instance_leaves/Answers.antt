@@ -1,6 +1,6 @@
 use Rattle.std.proofs.Common.{◌≡◌, ap}
-use Rattle.pure_definitions.specs.Typ.{typ_size, typ_depth}
-use Rattle.pure_definitions.specs.Subst.{typ_image, typ_instance}
+use Rattle.pure_definitions.specs.Types.Typ.{typ_size, typ_depth}
+use Rattle.pure_definitions.specs.Terms.Subst.{typ_image, typ_instance}
 use Rattle.pure_definitions.proofs.GrownLemmas.{leaves-equal}
 use Rattle.pure_definitions.proofs.InstanceLemmas.{typ_image-fixed, instance-stops, instance-goes_on, instance-all}
 use Rattle.pure_typ.proofs.instance.+instance_leaves.Goals as goal

@@ -1,5 +1,5 @@
 use Rattle.std.proofs.Common.{map}
-use Rattle.pure_definitions.specs.Subst.{typ_image, typ_instance}
+use Rattle.pure_definitions.specs.Terms.Subst.{typ_image, typ_instance}
 use Rattle.pure_definitions.proofs.LeavesLemmas.{HasPut}
 use Rattle.pure_typ.proofs.instance.+instance_leaves.Given as goal
 

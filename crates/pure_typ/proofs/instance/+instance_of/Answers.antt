@@ -1,7 +1,7 @@
 use Rattle.std.proofs.Common.{◌≡◌, ap, sym}
 use Rattle.std.proofs.lemmas.List.{take_all}
-use Rattle.pure_definitions.specs.Typ.{Con}
-use Rattle.pure_definitions.specs.Subst.{typ_image, typ_instance}
+use Rattle.pure_definitions.specs.Types.Typ.{Con}
+use Rattle.pure_definitions.specs.Terms.Subst.{typ_image, typ_instance}
 use Rattle.pure_definitions.proofs.InstanceLemmas.{typ_image-fixed, typs_instance-of, images-more}
 use Rattle.pure_typ.proofs.instance.+instance_of.Goals as goal
 

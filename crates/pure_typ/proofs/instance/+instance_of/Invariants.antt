@@ -1,5 +1,5 @@
 use Rattle.std.proofs.Common.{◌≡◌, map, take}
-use Rattle.pure_definitions.specs.Subst.{typ_image, typ_instance}
+use Rattle.pure_definitions.specs.Terms.Subst.{typ_image, typ_instance}
 use Rattle.pure_typ.proofs.instance.+instance_of.Given as goal
 
 abbrev pub invariant-loop-arg : goal.invariant-loop-arg

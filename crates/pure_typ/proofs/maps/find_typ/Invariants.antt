@@ -1,6 +1,6 @@
 use Rattle.std.proofs.Common.{◌≡◌, drop}
-use Rattle.pure_definitions.specs.Typ.{TVar}
-use Rattle.pure_definitions.specs.Subst.{typ_image}
+use Rattle.pure_definitions.specs.Types.Typ.{TVar}
+use Rattle.pure_definitions.specs.Terms.Subst.{typ_image}
 use Rattle.pure_typ.proofs.maps.find_typ.Given as goal
 
 -- no entry so far replaces the variable

@@ -1,5 +1,5 @@
 use Rattle.std.proofs.Common.{◌≡◌, refl, sym, ◌∙◌, true≢false, arith}
-use Rattle.pure_definitions.specs.Typ.{Con, typs_of}
+use Rattle.pure_definitions.specs.Types.Typ.{Con, typs_of}
 use Rattle.pure_definitions.specs.Models.Equality.{typ_eq-is_equality}
 use Rattle.pure_definitions.proofs.TypsLemmas.{typ_depth-item, occurs-itself, occurs-item, occurs-next, occurs-con}
 use Rattle.pure_typ.proofs.occurs.+occurs_in_typ.Goals as goal

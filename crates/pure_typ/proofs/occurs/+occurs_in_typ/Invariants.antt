@@ -1,6 +1,6 @@
 use Rattle.std.proofs.Common.{◌+◌, ◌*◌, take}
-use Rattle.pure_definitions.specs.Typ.{typ_depth, typs_depth, typs_of}
-use Rattle.pure_definitions.specs.Occurs.{OccursInTyps}
+use Rattle.pure_definitions.specs.Types.Typ.{typ_depth, typs_depth, typs_of}
+use Rattle.pure_definitions.specs.Types.Occurs.{OccursInTyps}
 use Rattle.pure_typ.proofs.occurs.+occurs_in_typ.Given as goal
 
 abbrev pub decreases-occurs_in_typ : goal.decreases-occurs_in_typ

@@ -1,5 +1,5 @@
 use Rattle.std.proofs.Common.{◌≡◌, ◌+◌, ◌*◌, drop}
-use Rattle.pure_definitions.specs.Typ.{typ_depth, typs_depth, typs_of}
+use Rattle.pure_definitions.specs.Types.Typ.{typ_depth, typs_depth, typs_of}
 use Rattle.pure_definitions.specs.Models.Comparison.{typs_cmp}
 use Rattle.pure_typ.proofs.typ.+compare_typ.Given as goal
 

@@ -1,5 +1,5 @@
 use Rattle.std.proofs.Common.{◌≡◌, ◌+◌, ◌*◌, take}
-use Rattle.pure_definitions.specs.Typ.{typ_depth, typs_depth, typs_of}
+use Rattle.pure_definitions.specs.Types.Typ.{typ_depth, typs_depth, typs_of}
 use Rattle.pure_typ.proofs.typ.+copied_typ.Given as goal
 
 abbrev pub decreases-Typ::copy : goal.decreases-Typ::copy

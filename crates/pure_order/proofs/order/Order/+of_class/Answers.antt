@@ -1,5 +1,5 @@
 use Rattle.std.proofs.Common.{true, false, take_all}
-use Rattle.pure_definitions.specs.Order.{IsOfSort, IsOfClass}
+use Rattle.pure_definitions.specs.Types.Order.{IsOfSort, IsOfClass}
 use Rattle.pure_text.proofs.AnswerLaws.{no_as, yes_as, test_fails}
 use Rattle.pure_text.proofs.ListLaws.{two_long, two_read, each_read}
 use Rattle.pure_text.proofs.LoopLaws.{two_turn, two_full}

@@ -1,6 +1,6 @@
 use Rattle.std.proofs.Common.{take}
 use Rattle.pure_text.specs.Lists.{Each, EachTwo}
-use Rattle.pure_definitions.specs.Order.{IsOfClass, IsOfSort}
+use Rattle.pure_definitions.specs.Types.Order.{IsOfClass, IsOfSort}
 use Rattle.pure_order.proofs.order.Order.+of_class.Given as goal
 
 abbrev pub invariant-loop-i : goal.invariant-loop-i

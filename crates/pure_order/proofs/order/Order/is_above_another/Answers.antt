@@ -1,5 +1,5 @@
 use Rattle.std.proofs.Common.{◌≡◌, ℕ, inl, inr}
-use Rattle.pure_definitions.specs.Order.{IsClassBelow}
+use Rattle.pure_definitions.specs.Types.Order.{IsClassBelow}
 use Rattle.pure_text.proofs.AnswerLaws.{yes_as, test_fails}
 use Rattle.pure_text.proofs.ListLaws.{any_read}
 use Rattle.pure_text.proofs.LoopLaws.{any_turn}

@@ -1,5 +1,5 @@
 use Rattle.std.proofs.Common.{take_all}
-use Rattle.pure_definitions.specs.Order.{IsClassBelow}
+use Rattle.pure_definitions.specs.Types.Order.{IsClassBelow}
 use Rattle.pure_order_tables.specs.Classes.{of_classes}
 use Rattle.pure_text.proofs.LoopLaws.{any_turn, turned_back}
 use Rattle.pure_order_tables.proofs.classes.ClassTable.above_new.Goals as goal

@@ -1,7 +1,7 @@
 use Rattle.std.proofs.Common.{ℕ, ◌≡◌, ◌⊎◌, ◌↔◌, take}
 use Rattle.std.specs.List.Sorted.{IsStrictlyIncreasing}
 use Rattle.pure_text.specs.Lists.{IsIn, AnyOf}
-use Rattle.pure_definitions.specs.Order.{IsClassBelow}
+use Rattle.pure_definitions.specs.Types.Order.{IsClassBelow}
 use Rattle.pure_order_tables.specs.Classes.{of_classes}
 use Rattle.pure_order_tables.proofs.classes.ClassTable.above_new.Given as goal
 

@@ -1,4 +1,4 @@
-use Rattle.pure_definitions.specs.Order.{itself}
+use Rattle.pure_definitions.specs.Types.Order.{itself}
 use Rattle.pure_text.proofs.AnswerLaws.{test_eq}
 use Rattle.pure_order_tables.specs.Classes.{of_classes}
 use Rattle.pure_order_tables.proofs.BelowLaws.{below-undeclared}

@@ -1,6 +1,6 @@
 use Rattle.std.proofs.Common.{◌↔◌, ◌⊎◌, take}
 use Rattle.pure_text.specs.Lists.{IsIn}
-use Rattle.pure_definitions.specs.Order.{Class}
+use Rattle.pure_definitions.specs.Types.Order.{Class}
 use Rattle.pure_order_tables.specs.ClassView.{classes_of}
 use Rattle.pure_order_tables.proofs.classes.ClassTable.push_new.Given as goal
 

@@ -1,5 +1,5 @@
 use Rattle.std.proofs.Common.{◌≡◌, take_all, inl, inr}
-use Rattle.pure_definitions.specs.Order.{Arity}
+use Rattle.pure_definitions.specs.Types.Order.{Arity}
 use Rattle.pure_order_tables.specs.ArityView.{arity_of}
 use Rattle.pure_order_tables.specs.declared.tables.ArityEntry.{ArityEntry}
 use Rattle.pure_text.proofs.AnswerLaws.{test_fails}

@@ -1,4 +1,4 @@
-use Rattle.pure_definitions.specs.Order.{IsSortBelow}
+use Rattle.pure_definitions.specs.Types.Order.{IsSortBelow}
 use Rattle.pure_text.proofs.AnswerLaws.{no_as, test_fails}
 use Rattle.pure_text.proofs.ListLaws.{two_long, two_read}
 use Rattle.pure_text.proofs.LoopLaws.{two_turn}

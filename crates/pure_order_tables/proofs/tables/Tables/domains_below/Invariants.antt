@@ -1,6 +1,6 @@
 use Rattle.std.proofs.Common.{take}
 use Rattle.pure_text.specs.Lists.{EachTwo}
-use Rattle.pure_definitions.specs.Order.{IsSortBelow}
+use Rattle.pure_definitions.specs.Types.Order.{IsSortBelow}
 use Rattle.pure_order_tables.proofs.tables.Tables.domains_below.Given as goal
 
 abbrev pub invariant-loop-i : goal.invariant-loop-i

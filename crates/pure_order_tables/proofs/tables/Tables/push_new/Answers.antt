@@ -1,5 +1,5 @@
 use Rattle.std.proofs.Common.{◌∷◌, [], ◌++◌, take, take_all, ap, ◌∙◌}
-use Rattle.pure_definitions.specs.Order.{Algebra}
+use Rattle.pure_definitions.specs.Types.Order.{Algebra}
 use Rattle.pure_text.proofs.ListLaws.{in-map, each_at, read_in}
 use Rattle.pure_text.proofs.LoopLaws.{grown_put, grown_kept}
 use Rattle.pure_order_tables.specs.Arities.{IsKnown}

@@ -1,6 +1,6 @@
 use Rattle.std.proofs.Common.{◌≡◌, ◌↔◌, ◌⊎◌, take}
 use Rattle.pure_text.specs.Lists.{IsIn}
-use Rattle.pure_definitions.specs.Order.{Arity}
+use Rattle.pure_definitions.specs.Types.Order.{Arity}
 use Rattle.pure_order_tables.specs.ArityView.{arities_of}
 use Rattle.pure_order_tables.proofs.tables.Tables.push_new.Given as goal
 

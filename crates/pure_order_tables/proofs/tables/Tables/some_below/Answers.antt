@@ -1,4 +1,4 @@
-use Rattle.pure_definitions.specs.Order.{IsClassBelow}
+use Rattle.pure_definitions.specs.Types.Order.{IsClassBelow}
 use Rattle.std.proofs.Common.{inl, inr}
 use Rattle.pure_text.proofs.AnswerLaws.{yes_as, test_fails}
 use Rattle.pure_text.proofs.ListLaws.{any_read}

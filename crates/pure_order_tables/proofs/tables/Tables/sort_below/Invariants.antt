@@ -1,5 +1,5 @@
 use Rattle.std.proofs.Common.{take}
-use Rattle.pure_definitions.specs.Order.{IsSortBelow}
+use Rattle.pure_definitions.specs.Types.Order.{IsSortBelow}
 use Rattle.pure_order_tables.proofs.tables.Tables.sort_below.Given as goal
 
 abbrev pub invariant-loop-class : goal.invariant-loop-class

@@ -1,5 +1,5 @@
 use Rattle.std.proofs.Common.{◌≡◌, ap, inl, inr}
-use Rattle.pure_definitions.specs.Order.{Algebra}
+use Rattle.pure_definitions.specs.Types.Order.{Algebra}
 use Rattle.pure_order_tables.specs.ArityView.{arities_of}
 use Rattle.pure_order_tables.proofs.UnionLaws.{union_two, known_more}
 use Rattle.pure_order_tables.proofs.tables.Tables.united.Goals as goal

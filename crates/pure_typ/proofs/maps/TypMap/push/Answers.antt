@@ -1,7 +1,7 @@
 use Rattle.std.proofs.Common.{map, sym, subst}
 use Rattle.pure_text.specs.Lists.{IsIn}
 use Rattle.pure_text.proofs.ListLaws.{distinct-map_snoc}
-use Rattle.pure_definitions.specs.Subst.{IsTypMap, typ_variable}
+use Rattle.pure_definitions.specs.Terms.Subst.{IsTypMap, typ_variable}
 use Rattle.pure_typ.proofs.maps.TypMap.push.Goals as goal
 
 pub invariant_of-self-2 : goal.invariant_of-self-2

@@ -1,0 +1,3 @@
+-- What a theory declares, and what is certified by it.
+pub mod Decl
+pub mod Certified

@@ -1,0 +1,3 @@
+-- Beta and eta reduction.
+pub mod Beta
+pub mod Eta

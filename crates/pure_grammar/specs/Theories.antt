@@ -1,0 +1,8 @@
+-- The grammar of theories.
+pub mod TheoryText
+pub mod Lexeme
+pub mod Phrase
+pub mod PhraseText
+pub mod PhraseTree
+pub mod Outer
+pub mod Reader

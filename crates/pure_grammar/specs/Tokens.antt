@@ -1,0 +1,5 @@
+-- Tokens, and what they spell.
+pub mod Bytes
+pub mod Comment
+pub mod Token
+pub mod Spelling
