@@ -25,3 +25,4 @@ pub mod ContentExamples
 pub mod UnderivableExamples
 pub mod PromiseLaws
 pub mod EqualityLaws
+pub mod BuiltFactLaws

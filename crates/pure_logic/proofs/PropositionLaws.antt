@@ -44,7 +44,7 @@ body-typed T B h =
     rw same at h.2.1
 
 module _ (Q : Content) (above : IsBelow pure_content Q) where
-  imp-proposition : (A B : Term) → IsProposition Q A → IsProposition Q B → IsProposition Q (imp A B)
+  pub imp-proposition : (A B : Term) → IsProposition Q A → IsProposition Q B → IsProposition Q (imp A B)
   imp-proposition A B h k = certified_of Q (imp A B) prop (imp-parts Q above A B h.certified.parts k.certified.parts) (prop, (prop, refl, h.typed), k.typed)
 
   pub premise-proposition : (A B : Term) → IsProposition Q (imp A B) → IsProposition Q A
@@ -56,11 +56,11 @@ module _ (Q : Content) (above : IsBelow pure_content Q) where
   pub typ-of_certified : (t : Term) (T : Typ) → IsCertifiedOf Q t T → IsCertifiedTyp Q.declarations T
   typ-of_certified t T h = typ-certified Q above [] t T tt h.certified.parts h.typed
 
-  eq-proposition : (T : Typ) (t u : Term) → IsCertifiedOf Q t T → IsCertifiedOf Q u T → IsProposition Q (eq T t u)
+  pub eq-proposition : (T : Typ) (t u : Term) → IsCertifiedOf Q t T → IsCertifiedOf Q u T → IsProposition Q (eq T t u)
   eq-proposition T t u h k = certified_of Q (eq T t u) prop (eq-parts Q above T t u (typ-of_certified t T h) h.certified.parts k.certified.parts) (T, (T, refl, h.typed), k.typed)
 
   -- A body of type prop under one binder makes a quantification.
-  all-proposition : (T : Typ) (B : Term) → IsCertifiedTyp Q.declarations T → HasCertifiedParts Q.declarations B → HasType (T ∷ []) B prop → IsProposition Q (all T B)
+  pub all-proposition : (T : Typ) (B : Term) → IsCertifiedTyp Q.declarations T → HasCertifiedParts Q.declarations B → HasType (T ∷ []) B prop → IsProposition Q (all T B)
   all-proposition T B c p h = certified_of Q (all T B) prop (all-parts Q above T B c p) (arrow T prop, refl, (prop, h, refl))
 
   -- A body with an argument in its bound variable's place has the body's type.

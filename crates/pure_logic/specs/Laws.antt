@@ -6,6 +6,7 @@ pub mod Inferences
 pub mod Equality
 pub mod Substitution
 pub mod Promises
+pub mod BuiltFacts
 pub mod Tree
 pub mod Conclusion
 pub mod Parts

@@ -5,6 +5,7 @@ ghost use Rattle.pure_logic.specs.Laws.Inferences.{InferredFromOne, InferredFrom
 ghost use Rattle.pure_logic.specs.Laws.Equality.{ReflexiveEquality, SymmetricEquality, TransitiveEquality, EqualsAreReplaced, EqualApplications, EqualPropositions, EqualIsProved, EqualFunctions, BetaEquality, EtaEquality, EqualAbstractions, MarkMeansNothing};
 ghost use Rattle.pure_logic.specs.Laws.Substitution.{SubstitutionOfTrees, InstanceIsProved, InstanceIsDerivable};
 ghost use Rattle.pure_logic.specs.Laws.Promises.{CutOfPromises, SettledIsDerivable};
+ghost use Rattle.pure_logic.specs.Laws.BuiltFacts.{BuiltFactsAreDerivable, BuiltFactsAreDerivableAbove, BuiltFactsAreStatements};
 ghost use Rattle.pure_logic.specs.Laws.Tree.{OneConclusion, OneUnderPairs, WeakeningOfTrees, WeakeningOfDerivable, IdentityRespects, JoinedMapsRespect, JoinedInstance};
 ghost use Rattle.pure_logic.specs.Laws.Parts.{PartsOfInstance};
 ghost use Rattle.pure_logic.specs.Laws.Conclusion.{ConclusionIsProposition, DerivableIsProposition, DerivableAloneIsProposition};
@@ -96,6 +97,13 @@ pub fn substitution_is_admissible()
 pub fn promises_are_cut()
     ensures cut { CutOfPromises }
     ensures settled { SettledIsDerivable }
+{}
+
+/// The six built facts are derivable over Pure's content and over each above it, and could be axioms.
+pub fn built_facts()
+    ensures pure { BuiltFactsAreDerivable }
+    ensures above { BuiltFactsAreDerivableAbove }
+    ensures statements { BuiltFactsAreStatements }
 {}
 
 /// A tree concludes one proposition at most.
