@@ -26,3 +26,5 @@ pub mod UnderivableExamples
 pub mod PromiseLaws
 pub mod EqualityLaws
 pub mod BuiltFactLaws
+pub mod TheoremMapLaws
+pub mod QuantificationLaws

@@ -36,7 +36,7 @@ premise-typed A B h =
     let same : h.1.0 ≡ prop = cc in
     rw same at h.1.2
 
-body-typed : (T : Typ) (B : Term) → HasType [] (all T B) prop → HasType (T ∷ []) B prop
+pub body-typed : (T : Typ) (B : Term) → HasType [] (all T B) prop → HasType (T ∷ []) B prop
 body-typed T B h =
     let connective : all_typ T ≡ arrow h.0 prop = h.1 in
     let function : arrow T h.2.0 ≡ h.0 = h.2.2 in

@@ -3,7 +3,9 @@ ghost use Rattle.pure_logic.specs.Laws.Derivable.{DerivableAloneExactly, Derivab
 ghost use Rattle.pure_logic.specs.Laws.Proves.{DerivableIsProves, PairsAreEquations, AssumedIsProved, WeakerIsProved, ImplicationIsProved, ConclusionIsProved, ChainIsProved, EndOfChainIsProved, QuantificationIsProved, InstanceOfBodyIsProved, ProvedIsProposition, CutIsProved};
 ghost use Rattle.pure_logic.specs.Laws.Inferences.{InferredFromOne, InferredFromTwo, ImpliesElimIsDerivable, ImpliesIntroIsDerivable, AllElimIsDerivable, AllIntroIsDerivable};
 ghost use Rattle.pure_logic.specs.Laws.Equality.{ReflexiveEquality, SymmetricEquality, TransitiveEquality, EqualsAreReplaced, EqualApplications, EqualPropositions, EqualIsProved, EqualFunctions, BetaEquality, EtaEquality, EqualAbstractions, MarkMeansNothing};
+ghost use Rattle.pure_logic.specs.Laws.Quantification.{EqualInContext, EqualBodies, AbstractionIsDerivable, InstanceOfFunctionIsProved, ReducedInstanceIsProved, ReducedInstanceIsDerivable};
 ghost use Rattle.pure_logic.specs.Laws.Substitution.{SubstitutionOfTrees, InstanceIsProved, InstanceIsDerivable};
+ghost use Rattle.pure_logic.specs.Laws.Maps.{WeakerIsDerivable, InstanceFromSameHypotheses, GeneralisedIsDerivable, GeneralisedIsStatement, RaisedIsDerivable, InstantiatedIsDerivable};
 ghost use Rattle.pure_logic.specs.Laws.Promises.{CutOfPromises, SettledIsDerivable};
 ghost use Rattle.pure_logic.specs.Laws.BuiltFacts.{BuiltFactsAreDerivable, BuiltFactsAreDerivableAbove, BuiltFactsAreStatements};
 ghost use Rattle.pure_logic.specs.Laws.Tree.{OneConclusion, OneUnderPairs, WeakeningOfTrees, WeakeningOfDerivable, IdentityRespects, JoinedMapsRespect, JoinedInstance};
@@ -86,11 +88,35 @@ pub fn equality_of_functions()
     ensures abstractions { EqualAbstractions }
 {}
 
+/// From a quantification over any function follows the function applied to a term, also reduced.
+pub fn quantification_over_any_function()
+    ensures applied { InstanceOfFunctionIsProved }
+    ensures reduced { ReducedInstanceIsProved }
+    ensures derivable { ReducedInstanceIsDerivable }
+{}
+
+/// Equations go into contexts and under binders.
+pub fn equality_in_contexts()
+    ensures context { EqualInContext }
+    ensures bodies { EqualBodies }
+    ensures abstraction { AbstractionIsDerivable }
+{}
+
 /// Each instance by respecting maps of what is concluded, proved or derivable is so too.
 pub fn substitution_is_admissible()
     ensures trees { SubstitutionOfTrees }
     ensures proved { InstanceIsProved }
     ensures derivable { InstanceIsDerivable }
+{}
+
+/// Maps on theorems: fixed variables that are in no hypothesis are made schematic, indexes are raised, and the finite maps of a call are put in.
+pub fn maps_on_theorems()
+    ensures weaker { WeakerIsDerivable }
+    ensures same_hypotheses { InstanceFromSameHypotheses }
+    ensures generalised { GeneralisedIsDerivable }
+    ensures statement { GeneralisedIsStatement }
+    ensures raised { RaisedIsDerivable }
+    ensures instantiated { InstantiatedIsDerivable }
 {}
 
 /// What rests on promises of which each is left open or settled rests on those left open alone.
