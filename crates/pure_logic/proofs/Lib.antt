@@ -28,3 +28,4 @@ pub mod EqualityLaws
 pub mod BuiltFactLaws
 pub mod TheoremMapLaws
 pub mod QuantificationLaws
+pub mod FulfilmentLaws

@@ -6,7 +6,7 @@ ghost use Rattle.pure_logic.specs.Laws.Equality.{ReflexiveEquality, SymmetricEqu
 ghost use Rattle.pure_logic.specs.Laws.Quantification.{EqualInContext, EqualBodies, AbstractionIsDerivable, InstanceOfFunctionIsProved, ReducedInstanceIsProved, ReducedInstanceIsDerivable};
 ghost use Rattle.pure_logic.specs.Laws.Substitution.{SubstitutionOfTrees, InstanceIsProved, InstanceIsDerivable};
 ghost use Rattle.pure_logic.specs.Laws.Maps.{WeakerIsDerivable, InstanceFromSameHypotheses, GeneralisedIsDerivable, GeneralisedIsStatement, RaisedIsDerivable, InstantiatedIsDerivable};
-ghost use Rattle.pure_logic.specs.Laws.Promises.{CutOfPromises, SettledIsDerivable};
+ghost use Rattle.pure_logic.specs.Laws.Promises.{CutByProofs, CutOfPromises, SettledIsDerivable, FulfilledIsDerivable, AllFulfilledIsDerivable, JoinedAreDerivable};
 ghost use Rattle.pure_logic.specs.Laws.BuiltFacts.{BuiltFactsAreDerivable, BuiltFactsAreDerivableAbove, BuiltFactsAreStatements};
 ghost use Rattle.pure_logic.specs.Laws.Tree.{OneConclusion, OneUnderPairs, WeakeningOfTrees, WeakeningOfDerivable, IdentityRespects, JoinedMapsRespect, JoinedInstance};
 ghost use Rattle.pure_logic.specs.Laws.Parts.{PartsOfInstance};
@@ -121,6 +121,7 @@ pub fn maps_on_theorems()
 
 /// What rests on promises of which each is left open or settled rests on those left open alone.
 pub fn promises_are_cut()
+    ensures by_proofs { CutByProofs }
     ensures cut { CutOfPromises }
     ensures settled { SettledIsDerivable }
 {}
@@ -130,6 +131,13 @@ pub fn built_facts()
     ensures pure { BuiltFactsAreDerivable }
     ensures above { BuiltFactsAreDerivableAbove }
     ensures statements { BuiltFactsAreStatements }
+{}
+
+/// Promises fulfilled one after another leave the labels that remain; and those that rest on joined ones alone are derivable alone.
+pub fn promises_are_fulfilled()
+    ensures left { FulfilledIsDerivable }
+    ensures all { AllFulfilledIsDerivable }
+    ensures joined { JoinedAreDerivable }
 {}
 
 /// A tree concludes one proposition at most.
