@@ -29,3 +29,5 @@ pub mod BuiltFactLaws
 pub mod TheoremMapLaws
 pub mod QuantificationLaws
 pub mod FulfilmentLaws
+pub mod NameLaws
+pub mod ConsistencyLaws

@@ -12,3 +12,4 @@ pub mod BuiltFacts
 pub mod Tree
 pub mod Conclusion
 pub mod Parts
+pub mod Names

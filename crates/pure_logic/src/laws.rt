@@ -1,5 +1,5 @@
 //! What the definitions mean: laws, each carried by the contract of a function that does nothing.
-ghost use Rattle.pure_logic.specs.Laws.Derivable.{DerivableAloneExactly, DerivableExactly, PureIsContent, VariableIsProposition, ChainIsDerivable, VariableChainIsDerivable, PureIsBelowItself, TrivialIsDerivable, WeakenedIsDerivable};
+ghost use Rattle.pure_logic.specs.Laws.Derivable.{DerivableAloneExactly, DerivableExactly, PureIsContent, VariableIsProposition, ChainIsDerivable, VariableChainIsDerivable, PureIsBelowItself, TrivialIsDerivable, WeakenedIsDerivable, ConsistentExactly};
 ghost use Rattle.pure_logic.specs.Laws.Proves.{DerivableIsProves, PairsAreEquations, AssumedIsProved, WeakerIsProved, ImplicationIsProved, ConclusionIsProved, ChainIsProved, EndOfChainIsProved, QuantificationIsProved, InstanceOfBodyIsProved, ProvedIsProposition, CutIsProved};
 ghost use Rattle.pure_logic.specs.Laws.Inferences.{InferredFromOne, InferredFromTwo, ImpliesElimIsDerivable, ImpliesIntroIsDerivable, AllElimIsDerivable, AllIntroIsDerivable};
 ghost use Rattle.pure_logic.specs.Laws.Equality.{ReflexiveEquality, SymmetricEquality, TransitiveEquality, EqualsAreReplaced, EqualApplications, EqualPropositions, EqualIsProved, EqualFunctions, BetaEquality, EtaEquality, EqualAbstractions, MarkMeansNothing};
@@ -9,6 +9,7 @@ ghost use Rattle.pure_logic.specs.Laws.Maps.{WeakerIsDerivable, InstanceFromSame
 ghost use Rattle.pure_logic.specs.Laws.Promises.{CutByProofs, CutOfPromises, SettledIsDerivable, FulfilledIsDerivable, AllFulfilledIsDerivable, JoinedAreDerivable};
 ghost use Rattle.pure_logic.specs.Laws.BuiltFacts.{BuiltFactsAreDerivable, BuiltFactsAreDerivableAbove, BuiltFactsAreStatements};
 ghost use Rattle.pure_logic.specs.Laws.Tree.{OneConclusion, OneUnderPairs, WeakeningOfTrees, WeakeningOfDerivable, IdentityRespects, JoinedMapsRespect, JoinedInstance};
+ghost use Rattle.pure_logic.specs.Laws.Names.{ImplicationByName, MarkByName, QuantificationByName, EqualityByName, RespectingImagesAreClosed, JoinedMapsKeepFixed};
 ghost use Rattle.pure_logic.specs.Laws.Parts.{PartsOfInstance};
 ghost use Rattle.pure_logic.specs.Laws.Conclusion.{ConclusionIsProposition, DerivableIsProposition, DerivableAloneIsProposition};
 ghost use Rattle.pure_logic.specs.Laws.Contents.{MergeHasDeclarations, MergeHasNoRepeats, OneMerge, BeginningIsContent, ParentsAreBelow, OneBeginning, AncestorsAreTheParents, AncestorsHaveNoRepeats, BeginningHasTheoriesApart, TheoriesAreToldApart, PureHasTheoriesApart};
@@ -159,8 +160,23 @@ pub fn weakening()
     ensures derivable { WeakeningOfDerivable }
 {}
 
-/// Maps that respect a content: the identity, and finite maps of a call, joined.
+/// A content is consistent exactly where some proposition isn't derivable from its axioms alone.
+pub fn consistent_exactly()
+    ensures { ConsistentExactly }
+{}
+
+/// The name of a connective tells its type, in what is certified over a content above Pure's.
+pub fn connectives_by_name()
+    ensures implication { ImplicationByName }
+    ensures mark { MarkByName }
+    ensures quantification { QuantificationByName }
+    ensures equality { EqualityByName }
+{}
+
+/// Maps that respect a content: the identity, and finite maps of a call, joined; what they keep.
 pub fn respecting_maps()
+    ensures closed { RespectingImagesAreClosed }
+    ensures fixed { JoinedMapsKeepFixed }
     ensures identity { IdentityRespects }
     ensures joined { JoinedMapsRespect }
     ensures instance { JoinedInstance }
