@@ -31,3 +31,5 @@ pub mod QuantificationLaws
 pub mod FulfilmentLaws
 pub mod NameLaws
 pub mod ConsistencyLaws
+pub mod TheoremExamples
+pub mod FulfilmentExamples
