@@ -73,7 +73,7 @@ module _ (Q : Content) (q : IsContent Q) where
       along : (ls ks : List Label) → ls ≡ ks → IsDerivable Q (record th { rests = ls }) → IsDerivable Q (record th { rests = ks })
       along ls ks same d = rw same at d
 
-label_of-some : (es : List Fulfilment) (l : Label) → is_label_of es l ≡ true → (f : Fulfilment) × IsIn f es × (f.label ≡ l)
+pub label_of-some : (es : List Fulfilment) (l : Label) → is_label_of es l ≡ true → (f : Fulfilment) × IsIn f es × (f.label ≡ l)
 label_of-some [] l t = absurd (cc)
 label_of-some (e ∷ es) l t = by (label_eq e.label l) refl (λ later. label_of-some es l later)
   where
@@ -81,7 +81,7 @@ label_of-some (e ∷ es) l t = by (label_eq e.label l) refl (λ later. label_of-
     by true own later = (e, inl refl, label_eq-same e.label l own)
     by false apart later = (let found = later (rw apart at t) in (found.0, inr found.1, found.2))
 
-each_passes : (test : Label → Bool) (ls : List Label) → list_all test ls ≡ true → Each (λ l. test l ≡ true) ls
+pub each_passes : (test : Label → Bool) (ls : List Label) → list_all test ls ≡ true → Each (λ l. test l ≡ true) ls
 each_passes test [] t = tt
 each_passes test (l ∷ ls) t = (first_so (test l) (list_all test ls) t, each_passes test ls (second_so (test l) (list_all test ls) t))
 

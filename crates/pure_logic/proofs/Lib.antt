@@ -33,3 +33,4 @@ pub mod NameLaws
 pub mod ConsistencyLaws
 pub mod TheoremExamples
 pub mod FulfilmentExamples
+pub mod JoinedLaws

@@ -9,7 +9,7 @@ use Rattle.pure_term_laws.specs.LawsExamples.{i, j, a, f, x, y, any_x}
 use Rattle.pure_term_laws.specs.LawsOccurs.{IsTypVariable, TypOccurs, HasNoSchematic}
 use Rattle.pure_term_laws.proofs.OccursLaws.{schematic_map_keeps, instance_is_closed}
 use Rattle.pure_term_laws.proofs.SubstLaws.{entries-keep_fixed_typs}
-use Rattle.pure_logic.specs.Connectives.{eq_typ, imp_typ, all_of, eq}
+use Rattle.pure_logic.specs.Connectives.{all_typ, eq_typ, imp_typ, protect_typ, all_of, eq}
 use Rattle.pure_logic.specs.Content.{IsProposition}
 use Rattle.pure_logic.specs.PureContent.{pure_content}
 use Rattle.pure_logic.specs.Tree.{joined_terms}
@@ -27,7 +27,7 @@ use Rattle.pure_logic.proofs.ProvesLaws.{assumed, derivable_is_proves, proved-de
 use Rattle.pure_logic.proofs.EqualityLaws.{reflexive_equality, equal_in_context}
 use Rattle.pure_logic.proofs.QuantificationLaws.{reduced_instance_is_derivable, abstraction_is_derivable}
 use Rattle.pure_logic.proofs.SubstitutionLaws.{images_closed}
-use Rattle.pure_logic.proofs.NameLaws.{implication_by_name, equality_by_name, joined_maps_keep_fixed}
+use Rattle.pure_logic.proofs.NameLaws.{implication_by_name, mark_by_name, quantification_by_name, equality_by_name, joined_maps_keep_fixed}
 use Rattle.pure_logic.proofs.ExampleLaws.{example-above, example_is_content, i-certified, i-prop-certified, x-of, y-of, a-of, f-parts, less-of}
 
 pub instantiated_example : InstantiatedExample
@@ -103,6 +103,8 @@ abstracted_example =
 pub name_example : NameExample
 name_example = (
   λ h. (let same : i ≡ imp_typ = implication_by_name example example_is_content example-above i h.1 in cc),
+  λ h. (let found = quantification_by_name example example_is_content example-above i h.1 in let same : i ≡ all_typ found.0 = found.1 in cc),
+  λ h. (let same : i ≡ protect_typ = mark_by_name example example_is_content example-above i h.1 in cc),
   λ h. (let found = equality_by_name example example_is_content example-above (arrow i (arrow j prop)) h.1 in let same : arrow i (arrow j prop) ≡ eq_typ found.0 = found.1 in cc),
 )
 

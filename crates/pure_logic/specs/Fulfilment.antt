@@ -44,6 +44,20 @@ abbrev pub AreServing : (Q : Content) → List Fulfilment → List Label → Typ
 AreServing Q [] labels = Unit {0}
 AreServing Q (e ∷ es) labels = (IsIn e.label labels → IsFulfilment e × Serves e Q) × AreServing Q es (put_for_label e labels)
 
+-- The proof of the one rests on the label, or on that of another in the list whose proof reaches it.
+pub data Reaches (es : List Fulfilment) : Fulfilment → Label → Type 0 where
+  rests_on : {e : Fulfilment} {k : Label} → IsIn k e.rests → Reaches es e k
+  through : {e : Fulfilment} {k : Label} → (f : Fulfilment) → IsIn f es → IsIn f.label e.rests → Reaches es f k → Reaches es e k
+
+-- One of them is of the label.
+abbrev pub HasLabel : List Fulfilment → Label → Type 0
+HasLabel es k = (f : Fulfilment) × IsIn f es × (f.label ≡ k)
+
+-- The latest stands first: no label is that of one behind it, and no proof rests on its own label or on one in front of it.
+abbrev pub AreInOrder : List Fulfilment → Type 0
+AreInOrder [] = Unit {0}
+AreInOrder (e ∷ es) = (¬ HasLabel es e.label) × ((f : Fulfilment) → IsIn f (e ∷ es) → ¬ IsIn e.label f.rests) × AreInOrder es
+
 -- whether one of them is of the label
 abbrev pub is_label_of : List Fulfilment → Label → Bool
 is_label_of es l = list_any (λ e. label_eq e.label l) es

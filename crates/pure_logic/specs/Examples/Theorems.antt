@@ -1,6 +1,6 @@
 -- What the laws of theorems, of quantification and of names give, by example.
 use Rattle.std.specs.Prelude.{◌≡◌, false, nat_eq, List, [], ◌∷◌}
-use Rattle.pure_definitions.specs.Names.{imp_name, eq_name}
+use Rattle.pure_definitions.specs.Names.{all_name, imp_name, eq_name, protect_name}
 use Rattle.pure_definitions.specs.Types.Typ.{Typ, TVar, arrow, prop}
 use Rattle.pure_definitions.specs.Terms.Term.{Term, Const, Var, Bound, Abs, App}
 use Rattle.pure_definitions.specs.Terms.Bounds.{IsClosed}
@@ -66,9 +66,10 @@ ContextExample = Proves example (eq i x a ∷ []) [] (eq i (App f x) (App f a))
 abbrev pub AbstractedExample : Type 0
 AbstractedExample = IsDerivable example (record { hyps = less y y ∷ []; pairs = []; prop = eq (arrow i i) (Abs i (App f (Bound 0))) (Abs i (App f (Bound 0))); rests = [] })
 
--- No constant with the name of implication is certified with the type i, and none with the name of equality with two sides of different types.
+-- No constant with the name of implication, of quantification or of the mark of a goal is certified with the type i, and none with the name of equality with sides of two types.
 abbrev pub NameExample : Type 0
-NameExample = (¬ HasCertifiedParts example.declarations (Const imp_name i)) × (¬ HasCertifiedParts example.declarations (Const eq_name (arrow i (arrow j prop))))
+NameExample = (¬ HasCertifiedParts example.declarations (Const imp_name i)) × (¬ HasCertifiedParts example.declarations (Const all_name i)) × (¬ HasCertifiedParts example.declarations (Const protect_name i))
+    × (¬ HasCertifiedParts example.declarations (Const eq_name (arrow i (arrow j prop))))
 
 -- The finite maps of any call leave `x < y` as it is; and each instance of `?x < y` by respecting maps is closed.
 abbrev pub KeptExample : Type 0

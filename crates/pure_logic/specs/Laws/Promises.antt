@@ -1,5 +1,5 @@
 -- Laws of promises: what rests on promises rests on nothing once they are kept.
-use Rattle.std.specs.Prelude.{◌≡◌, ◌⊎◌, ℕ, List, []}
+use Rattle.std.specs.Prelude.{◌≡◌, ◌⊎◌, ◌↔◌, ℕ, List, []}
 use Rattle.pure_text.specs.Lists.{IsIn, Each}
 use Rattle.pure_definitions.specs.Names.{Label}
 use Rattle.pure_definitions.specs.Terms.Term.{Term}
@@ -7,7 +7,7 @@ use Rattle.pure_definitions.specs.Declarations.Decl.{PromiseDecl}
 use Rattle.pure_logic.specs.Content.{Content, IsContent}
 use Rattle.pure_logic.specs.Derivable.{Theorem, IsDerivable, IsDerivableAlone}
 use Rattle.pure_logic.specs.Proves.{Proves}
-use Rattle.pure_logic.specs.Fulfilment.{Fulfilment, left_after, AreServing, joined, AreFulfilments}
+use Rattle.pure_logic.specs.Fulfilment.{Fulfilment, left_after, AreServing, joined, AreFulfilments, Reaches, HasLabel, AreInOrder}
 
 -- The statement that the content has for the label is derivable from the content's axioms alone.
 abbrev pub IsSettled : Content → Label → Type 0
@@ -43,3 +43,7 @@ AllFulfilledIsDerivable = (Q : Content) → IsContent Q → (es : List Fulfilmen
 -- The statement of each joined promise is derivable from the axioms of its own content alone.
 abbrev pub JoinedAreDerivable : Type 0
 JoinedAreDerivable = (es : List Fulfilment) → AreFulfilments es → Each (λ e. IsDerivableAlone e.content e.statement) (joined es)
+
+-- In a list in order these are the ones that reach nothing but labels of the list: whose proof rests on promises that are fulfilled, by proofs that rest on such promises, and so on.
+abbrev pub JoinedExactly : Type 0
+JoinedExactly = (es : List Fulfilment) → AreInOrder es → (e : Fulfilment) → IsIn e es → IsIn e (joined es) ↔ ((k : Label) → Reaches es e k → HasLabel es k)

@@ -1,4 +1,5 @@
 use Rattle.pure_logic.proofs.FulfilmentLaws.{fulfilled_is_derivable, all_fulfilled_is_derivable, joined_are_derivable}
+use Rattle.pure_logic.proofs.JoinedLaws.{joined_exactly}
 use Rattle.pure_logic.proofs.laws.promises_are_fulfilled.Goals as goal
 
 pub returns-clause-left : goal.returns-clause-left
@@ -9,3 +10,6 @@ returns-clause-all c = all_fulfilled_is_derivable
 
 pub returns-clause-joined : goal.returns-clause-joined
 returns-clause-joined c = joined_are_derivable
+
+pub returns-clause-exactly : goal.returns-clause-exactly
+returns-clause-exactly c = joined_exactly
