@@ -1,7 +1,7 @@
 -- Promises are cut: the tree of a settled statement is put, at its instance, in the place of the promise.
 use Rattle.std.proofs.Common.{◌⊎◌, List, [], ◌++◌, inl, inr, refl}
 use Rattle.pure_text.specs.Lists.{IsIn, Each}
-use Rattle.pure_text.proofs.ListLaws.{in-append_left, in-append_right}
+use Rattle.pure_text.proofs.ListLaws.{in-append_left, in-append_right, each_imply, each_at, each-append, each-left, each-right}
 use Rattle.pure_definitions.specs.Names.{Label}
 use Rattle.pure_definitions.specs.Terms.Term.{Term}
 use Rattle.pure_definitions.specs.Terms.Bounds.{Occurs}
@@ -13,7 +13,6 @@ use Rattle.pure_logic.specs.Derivable.{Theorem, IsDerivable}
 use Rattle.pure_logic.specs.Laws.Promises.{IsSettled, AreOpenOrSettled}
 use Rattle.pure_logic.proofs.DerivableLaws.{derivable_alone_exactly}
 use Rattle.pure_logic.proofs.SubstitutionLaws.{substitution_of_trees}
-use Rattle.pure_logic.proofs.EachLaws.{each-more, each-at, each-append, each-left, each-right}
 use Rattle.pure_logic.proofs.DischargeLaws.{without-among}
 
 -- a tree for what d concludes, from hypotheses of d, that rests on the promises left open
@@ -39,7 +38,7 @@ module _ (Q : Content) (q : IsContent Q) (left_open : List Label) where
       let above = cut d h.1 h.2 settled in
       record {
         tree = AllIntro x above.tree;
-        concludes = (h.0, h.1, above.concludes, h.3, h.4, each-more (λ A. IsIn A (hyps_of d)) (λ A. ¬ Occurs x A) (λ A m. each-at (λ B. ¬ Occurs x B) A (hyps_of d) h.5 m) (hyps_of above.tree) above.hyps, h.6);
+        concludes = (h.0, h.1, above.concludes, h.3, h.4, each_imply (λ A. IsIn A (hyps_of d)) (λ A. ¬ Occurs x A) (hyps_of above.tree) (λ A m. each_at (λ B. ¬ Occurs x B) (hyps_of d) h.5 A m) above.hyps, h.6);
         hyps = above.hyps;
         rests = above.rests;
       }
@@ -56,8 +55,8 @@ module _ (Q : Content) (q : IsContent Q) (left_open : List Label) where
         tree = ImpliesElim left.tree right.tree;
         concludes = (h.0, left.concludes, right.concludes);
         hyps = each-append (λ A. IsIn A (hyps_of d ++ hyps_of e)) (hyps_of left.tree) (hyps_of right.tree)
-            (each-more (λ A. IsIn A (hyps_of d)) (λ A. IsIn A (hyps_of d ++ hyps_of e)) (λ A m. in-append_left A (hyps_of d) (hyps_of e) m) (hyps_of left.tree) left.hyps)
-            (each-more (λ A. IsIn A (hyps_of e)) (λ A. IsIn A (hyps_of d ++ hyps_of e)) (λ A m. in-append_right A (hyps_of d) (hyps_of e) m) (hyps_of right.tree) right.hyps);
+            (each_imply (λ A. IsIn A (hyps_of d)) (λ A. IsIn A (hyps_of d ++ hyps_of e)) (hyps_of left.tree) (λ A m. in-append_left A (hyps_of d) (hyps_of e) m) left.hyps)
+            (each_imply (λ A. IsIn A (hyps_of e)) (λ A. IsIn A (hyps_of d ++ hyps_of e)) (hyps_of right.tree) (λ A m. in-append_right A (hyps_of d) (hyps_of e) m) right.hyps);
         rests = each-append (λ l. IsIn l left_open) (rests_of left.tree) (rests_of right.tree) left.rests right.rests;
       }
   cut (Beta redex) C h settled = record { tree = Beta redex; concludes = h; hyps = tt; rests = tt }
@@ -69,15 +68,15 @@ module _ (Q : Content) (q : IsContent Q) (left_open : List Label) where
 pub cut_of_promises : (Q : Content) → IsContent Q → (th : Theorem) (left_open : List Label) → AreOpenOrSettled Q left_open th.rests → IsDerivable Q th → IsDerivable Q (record th { rests = left_open })
 cut_of_promises Q q th left_open settled h =
     let made = cut Q q left_open h.tree h.conclusion h.concludes
-    (each-more (λ l. IsIn l th.rests) (λ l. IsIn l left_open ⊎ IsSettled Q l) (λ l m. each-at (λ k. IsIn k left_open ⊎ IsSettled Q k) l th.rests settled m) (rests_of h.tree) h.rests) in
+    (each_imply (λ l. IsIn l th.rests) (λ l. IsIn l left_open ⊎ IsSettled Q l) (rests_of h.tree) (λ l m. each_at (λ k. IsIn k left_open ⊎ IsSettled Q k) th.rests settled l m) h.rests) in
     record {
       tree = made.tree;
       conclusion = h.conclusion;
       concludes = made.concludes;
       under_pairs = h.under_pairs;
-      hyps = each-more (λ A. IsIn A (hyps_of h.tree)) (λ A. IsIn A th.hyps) (λ A m. each-at (λ B. IsIn B th.hyps) A (hyps_of h.tree) h.hyps m) (hyps_of made.tree) made.hyps;
+      hyps = each_imply (λ A. IsIn A (hyps_of h.tree)) (λ A. IsIn A th.hyps) (hyps_of made.tree) (λ A m. each_at (λ B. IsIn B th.hyps) (hyps_of h.tree) h.hyps A m) made.hyps;
       rests = made.rests;
     }
 
 pub settled_is_derivable : (Q : Content) → IsContent Q → (th : Theorem) → Each (IsSettled Q) th.rests → IsDerivable Q th → IsDerivable Q (record th { rests = [] })
-settled_is_derivable Q q th settled h = cut_of_promises Q q th [] (each-more (IsSettled Q) (λ l. IsIn l [] ⊎ IsSettled Q l) (λ l k. inr k) th.rests settled) h
+settled_is_derivable Q q th settled h = cut_of_promises Q q th [] (each_imply (IsSettled Q) (λ l. IsIn l [] ⊎ IsSettled Q l) th.rests (λ l k. inr k) settled) h
