@@ -3,3 +3,5 @@ pub mod TypView
 pub mod TypFalls
 pub mod TypGrown
 pub mod SortUnion
+pub mod Ascending
+pub mod TypPlaces

@@ -8,6 +8,7 @@ mod measure;
 mod name;
 mod names;
 mod occurs;
+mod room;
 mod sort;
 mod typ;
 
@@ -21,5 +22,6 @@ pub use name::{BUILTIN_COUNT, Label, Name};
 pub use names::Names;
 pub use occurs::occurs_in_typ;
 pub use pure_text::Text;
+pub use room::insert_in_room;
 pub use sort::Sort;
 pub use typ::{Typ, TypNode};
