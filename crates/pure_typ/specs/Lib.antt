@@ -3,3 +3,4 @@ pub mod TypView
 pub mod TypFalls
 pub mod TypGrown
 pub mod SortUnion
+pub mod NameBases
