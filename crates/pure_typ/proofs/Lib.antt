@@ -4,3 +4,5 @@ pub mod Constants
 pub mod BaseLemmas
 pub mod AscendingLemmas
 pub mod TypPlacesLemmas
+pub mod ByBaseLemmas
+pub mod BaseMapLemmas

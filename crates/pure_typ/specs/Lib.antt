@@ -5,3 +5,4 @@ pub mod TypGrown
 pub mod SortUnion
 pub mod Ascending
 pub mod TypPlaces
+pub mod NameBases

@@ -1,6 +1,7 @@
 //! Names, sorts and types: what the crates of terms and of classes stand on. Texts are handed on.
 #![tactic(auto)]
 
+mod by_base;
 mod grow;
 mod instance;
 mod maps;
@@ -12,6 +13,7 @@ mod room;
 mod sort;
 mod typ;
 
+pub use by_base::NamesByBase;
 pub use grow::Grow;
 pub use instance::{instance_leaves, instance_of, instance_of_typ};
 pub use maps::{TypBind, TypMap};
