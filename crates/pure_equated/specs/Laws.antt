@@ -1,0 +1,2 @@
+-- What the definitions mean: the statements of the laws.
+pub mod Sides

@@ -1,0 +1,2 @@
+pub mod Equated
+pub mod Laws

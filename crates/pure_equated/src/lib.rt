@@ -1,0 +1,4 @@
+//! The equational theory modulo pairs: which terms are equal by beta, eta, the equations of pairs, and congruence.
+#![tactic(auto)]
+
+pub mod laws;
