@@ -1,1 +1,3 @@
 pub mod SidesLaws
+pub mod ClosingLaws
+pub mod EquatedLaws

@@ -1,2 +1,3 @@
 -- What the definitions mean: the statements of the laws.
 pub mod Sides
+pub mod Proved

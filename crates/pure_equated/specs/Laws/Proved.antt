@@ -1,0 +1,21 @@
+-- Laws of what is proved: equated terms are equal where the equations of the pairs are proved.
+use Rattle.std.specs.Prelude.{List, []}
+use Rattle.pure_text.specs.Lists.{Each}
+use Rattle.pure_definitions.specs.Names.{Label}
+use Rattle.pure_definitions.specs.Types.Typ.{Typ}
+use Rattle.pure_definitions.specs.Terms.Term.{Term}
+use Rattle.pure_logic.specs.Connectives.{eq}
+use Rattle.pure_logic.specs.Content.{Content, IsContent, IsBelow}
+use Rattle.pure_logic.specs.PureContent.{pure_content}
+use Rattle.pure_logic.specs.Derivable.{Pair}
+use Rattle.pure_logic.specs.Proves.{Proves}
+use Rattle.pure_equated.specs.Equated.{AreEquated}
+
+-- The equation of the pair is proved, at some type.
+abbrev pub IsPairProved : (Q : Content) → (hyps : List Term) → (rests : List Label) → Pair → Type 0
+IsPairProved Q hyps rests p = (T : Typ) × Proves Q hyps rests (eq T p.left p.right)
+
+-- Over a content above Pure's: where the equation of each pair is proved, the equation of two terms that are equated modulo the pairs, under no binders, is proved.
+abbrev pub EquatedIsProved : Type 0
+EquatedIsProved = (Q : Content) → IsContent Q → IsBelow pure_content Q → (hyps : List Term) (rests : List Label) (pairs : List Pair) → Each (IsPairProved Q hyps rests) pairs
+    → (T : Typ) (t u : Term) → AreEquated Q.declarations pairs [] T t u → Proves Q hyps rests (eq T t u)
