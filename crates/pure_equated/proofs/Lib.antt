@@ -3,3 +3,4 @@ pub mod ClosingLaws
 pub mod EquatedLaws
 pub mod KeptLaws
 pub mod PairsLaws
+pub mod ReductionLaws

@@ -1,6 +1,7 @@
 //! What the definitions mean: laws, each carried by the contract of a function that does nothing.
 ghost use Rattle.pure_equated.specs.Laws.Sides.{EquatedAreTyped};
 ghost use Rattle.pure_equated.specs.Laws.Kept.{EquatedOfLift, EquatedInScope, EquatedOfSubst, EquatedOfInstance, EquatedModuloOthers};
+ghost use Rattle.pure_equated.specs.Laws.Reduction.{BetaStepIsEquated, BetaSequenceIsEquated, BetaNormalFormIsEquated, EtaStepIsEquated, EtaReductIsEquated, EtaNormalFormIsEquated, EtaExpansionIsEquated, LongFormIsEquated};
 ghost use Rattle.pure_equated.specs.Laws.Proved.{EquatedIsProved, PairsAreReplaced};
 
 /// Equated terms have the type at which they are equated, and certified parts.
@@ -15,6 +16,22 @@ pub fn equated_is_kept()
     ensures instantiated { EquatedOfSubst }
     ensures mapped { EquatedOfInstance }
     ensures others { EquatedModuloOthers }
+{}
+
+/// A term is equated with what it reduces to by beta steps.
+pub fn beta_is_equated()
+    ensures step { BetaStepIsEquated }
+    ensures sequence { BetaSequenceIsEquated }
+    ensures normal { BetaNormalFormIsEquated }
+{}
+
+/// A term is equated with what it reduces to by eta steps, and with its long form.
+pub fn eta_is_equated()
+    ensures step { EtaStepIsEquated }
+    ensures reduct { EtaReductIsEquated }
+    ensures normal { EtaNormalFormIsEquated }
+    ensures expansion { EtaExpansionIsEquated }
+    ensures long { LongFormIsEquated }
 {}
 
 /// Terms that are equated modulo pairs are provably equal where the pairs' sides are; so a theorem's pairs may be replaced by others modulo which they are equated.
