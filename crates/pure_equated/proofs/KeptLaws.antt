@@ -86,7 +86,7 @@ module _ (Q : Content) (q : IsContent Q) (typs : Typ → Typ) (terms : Term → 
     schematic = λ x i T. typed-closed (terms (Var x i T)) (typ_instance typs T) (r.types.schematic x i T);
   }
 
-  typed-instance : (bs : List Typ) (t : Term) (T : Typ) → IsTypedUnder Q.declarations bs t T → IsTypedUnder Q.declarations (map (typ_instance typs) bs) (term_instance typs terms t) (typ_instance typs T)
+  pub typed-instance : (bs : List Typ) (t : Term) (T : Typ) → IsTypedUnder Q.declarations bs t T → IsTypedUnder Q.declarations (map (typ_instance typs) bs) (term_instance typs terms t) (typ_instance typs T)
   typed-instance bs t T h = record { parts = parts-instance Q q typs terms r t h.parts; typed = typing-instance typs terms r.types bs t T h.typed }
 
   certified-instance : (V : Typ) → IsCertifiedTyp Q.declarations V → IsCertifiedTyp Q.declarations (typ_instance typs V)

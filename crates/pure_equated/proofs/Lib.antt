@@ -4,3 +4,4 @@ pub mod EquatedLaws
 pub mod KeptLaws
 pub mod PairsLaws
 pub mod ReductionLaws
+pub mod NodesLaws

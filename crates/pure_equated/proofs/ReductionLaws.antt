@@ -55,7 +55,7 @@ module _ (ds : List Decl) (pairs : List Pair) where
   equated-argument : (bs : List Typ) (U : Typ) (f a b : Term) (h : IsTypedUnder ds bs (App f a) U) → AreEquated ds pairs bs h.typed.0 a b → AreEquated ds pairs bs U (App f a) (App f b)
   equated-argument bs U f a b h e = AreEquated.application (AreEquated.same (typed-function ds bs U f a h)) e
 
-  equated-body : (bs : List Typ) (V T : Typ) (b c : Term) (h : IsTypedUnder ds bs (Abs V b) T) → AreEquated ds pairs (V ∷ bs) h.typed.0 b c → AreEquated ds pairs bs T (Abs V b) (Abs V c)
+  pub equated-body : (bs : List Typ) (V T : Typ) (b c : Term) (h : IsTypedUnder ds bs (Abs V b) T) → AreEquated ds pairs (V ∷ bs) h.typed.0 b c → AreEquated ds pairs bs T (Abs V b) (Abs V c)
   equated-body bs V T b c h e = at_typ bs (arrow V h.typed.0) T (Abs V b) (Abs V c) h.typed.2 (AreEquated.abstraction h.parts.0 e)
 
   pub beta_step_is_equated : (bs : List Typ) (T : Typ) (t u : Term) → IsTypedUnder ds bs t T → beta_step t ≡ Some u → AreEquated ds pairs bs T t u

@@ -2,4 +2,5 @@
 pub mod Sides
 pub mod Kept
 pub mod Reduction
+pub mod Nodes
 pub mod Proved

@@ -2,7 +2,8 @@
 ghost use Rattle.pure_equated.specs.Laws.Sides.{EquatedAreTyped};
 ghost use Rattle.pure_equated.specs.Laws.Kept.{EquatedOfLift, EquatedInScope, EquatedOfSubst, EquatedOfInstance, EquatedModuloOthers};
 ghost use Rattle.pure_equated.specs.Laws.Reduction.{BetaStepIsEquated, BetaSequenceIsEquated, BetaNormalFormIsEquated, EtaStepIsEquated, EtaReductIsEquated, EtaNormalFormIsEquated, EtaExpansionIsEquated, LongFormIsEquated};
-ghost use Rattle.pure_equated.specs.Laws.Proved.{EquatedIsProved, PairsAreReplaced};
+ghost use Rattle.pure_equated.specs.Laws.Nodes.{EquatedNodeByNode, EquatedInstances, EquatedFunctions, EquatedBodies};
+ghost use Rattle.pure_equated.specs.Laws.Proved.{EquatedIsProved, EquatedPropositionIsProved, PropositionIsReplaced, PairsAreReplaced};
 
 /// Equated terms have the type at which they are equated, and certified parts.
 pub fn equated_are_typed()
@@ -34,8 +35,18 @@ pub fn eta_is_equated()
     ensures long { LongFormIsEquated }
 {}
 
-/// Terms that are equated modulo pairs are provably equal where the pairs' sides are; so a theorem's pairs may be replaced by others modulo which they are equated.
+/// Terms that are equal node by node but for equated nodes are equated, and so are instances with such images; functions are equated exactly where they are at a bound variable.
+pub fn equated_is_congruence()
+    ensures nodes { EquatedNodeByNode }
+    ensures instances { EquatedInstances }
+    ensures functions { EquatedFunctions }
+    ensures bodies { EquatedBodies }
+{}
+
+/// Terms that are equated modulo pairs are provably equal where the pairs' sides are; so a theorem's proposition and its pairs may be replaced by equated ones.
 pub fn equated_is_proved()
     ensures equal { EquatedIsProved }
+    ensures proposition { EquatedPropositionIsProved }
+    ensures replaced { PropositionIsReplaced }
     ensures pairs { PairsAreReplaced }
 {}
