@@ -5,3 +5,4 @@ pub mod KeptLaws
 pub mod PairsLaws
 pub mod ReductionLaws
 pub mod NodesLaws
+pub mod RedexExamples

@@ -26,7 +26,7 @@ record Equations (Q : Content) (pairs : List Pair) : Type 0 where
   propositions : Each (IsProposition Q) equations
   proved : (hyps : List Term) (rests : List Label) → ((A : Term) → IsIn A equations → IsIn A hyps) → Each (IsPairProved Q hyps rests) pairs
 
-module _ (Q : Content) (q : IsContent Q) (above : IsBelow pure_content Q) where
+module _ (Q : Content) (above : IsBelow pure_content Q) where
   equations_of : (pairs : List Pair) → Each (IsCertifiedPair Q) pairs → Equations Q pairs
   equations_of [] h = record { equations = []; are_equations = tt; propositions = tt; proved = λ hyps rests among. tt }
   equations_of (p ∷ ps) h =
@@ -42,6 +42,7 @@ module _ (Q : Content) (q : IsContent Q) (above : IsBelow pure_content Q) where
         proved = λ hyps rests among. ((T, assumed Q hyps rests (eq T p.left p.right) proposition (among (eq T p.left p.right) (inl refl))), rest.proved hyps rests (λ A m. among A (inr m)));
       }
 
+module _ (Q : Content) (q : IsContent Q) (above : IsBelow pure_content Q) where
   -- The equation of a pair whose sides are equated is proved, whatever type it is written with.
   equation-proved : (others : List Pair) (hyps : List Term) (rests : List Label) → Each (IsPairProved Q hyps rests) others → (p : Pair) (e : Term) → IsPairEquated Q.declarations others p → IsEquation p e → Proves Q hyps rests e
   equation-proved others hyps rests given p e h is =
@@ -61,7 +62,7 @@ pub pairs_are_replaced : (Q : Content) → IsContent Q → IsBelow pure_content 
     → IsDerivable Q th → IsDerivable Q (record th { pairs = others })
 pairs_are_replaced Q q above th others certified equated h =
     let old = derivable-proved Q q above th h in
-    let new = equations_of Q q above others certified in
+    let new = equations_of Q above others certified in
     let all = new.equations ++ th.hyps in
     let given = new.proved all th.rests (λ A m. in-append_left A new.equations th.hyps m) in
     let closed = chain_is_proved Q old.equations th.hyps th.rests th.prop old.propositions old.proves in
