@@ -1,6 +1,7 @@
--- Congruence: terms that are equal node by node modulo pairs, maps with equated images, and functions that are equated at each argument.
-use Rattle.std.proofs.Common.{◌≡◌, ◌↔◌, inl, inr, ℕ, ◌+◌, List, [], ◌∷◌, ◌++◌, map, refl, ap, sym, ◌∙◌, arith}
+-- Congruence: terms that are equal node by node modulo pairs, maps with equated images, functions that are equated at each argument, and instances of bound variables.
+use Rattle.std.proofs.Common.{◌≡◌, ◌↔◌, inl, inr, ℕ, ◌+◌, List, [], ◌∷◌, ◌++◌, length, map, refl, ap, sym, ◌∙◌, arith}
 use Rattle.std.proofs.lemmas.Bool.Decides.{nat_tests}
+use Rattle.pure_text.specs.Lists.{Each}
 use Rattle.pure_definitions.specs.Types.Typ.{Typ, arrow}
 use Rattle.pure_definitions.specs.Terms.Term.{Term, Const, Free, Var, Bound, Abs, App}
 use Rattle.pure_definitions.specs.Terms.Bounds.{lift_term, place_at, subst_under, subst_bound, Occurs}
@@ -16,7 +17,7 @@ use Rattle.pure_logic.specs.Concludes.{AreRespecting}
 use Rattle.pure_logic.specs.Derivable.{Pair}
 use Rattle.pure_equated.specs.Equated.{IsTypedUnder, AreEquated, AreEqualModulo}
 use Rattle.pure_equated.proofs.SidesLaws.{equated_are_typed, typed-function, typed-argument, typed-body, typed-lift, typed-application}
-use Rattle.pure_equated.proofs.KeptLaws.{equated-along, equated_of_lift, equated_in_scope, typed-instance}
+use Rattle.pure_equated.proofs.KeptLaws.{equated-along, equated-contracta, equated_of_lift, equated_in_scope, typed-instance}
 use Rattle.pure_equated.proofs.ReductionLaws.{equated-body}
 
 module _ (ds : List Decl) (pairs : List Pair) where
@@ -97,3 +98,16 @@ module _ (ds : List Decl) (pairs : List Pair) (bs : List Typ) (V U : Typ) where
         AreEquated.through (AreEquated.back (applied-body b sides.0)) (AreEquated.through (at_bound (Abs V b) (Abs V c) e) (applied-body c sides.1)),
     λ e. AreEquated.abstraction v e,
   )
+
+-- Instantiation under further binders: the terms are abstracted over them, and taken out again.
+module _ (ds : List Decl) (pairs : List Pair) (cs : List Typ) (V : Typ) (a d : Term) (v : IsCertifiedTyp ds V) (k : AreEquated ds pairs cs V a d) where
+  pub equated-subst : (bs : List Typ) (n : ℕ) (T : Typ) (b c : Term) → n ≡ length bs → Each (IsCertifiedTyp ds) bs → AreEquated ds pairs (bs ++ V ∷ cs) T b c → AreEquated ds pairs (bs ++ cs) T (subst_under n a b) (subst_under n d c)
+  equated-subst [] n T b c m binders e = rw m (equated-contracta ds pairs cs V T b c a d v e k)
+  equated-subst (W ∷ bs) n T b c m binders e =
+      let raised : n ≡ length bs + 1 = omega arith in
+      let abstractions = equated-subst bs (length bs) (arrow W T) (Abs W b) (Abs W c) refl binders.1 (AreEquated.abstraction binders.0 e) in
+      rw raised ((equated_bodies ds pairs (bs ++ cs) W T (subst_under (length bs + 1) a b) (subst_under (length bs + 1) d c) binders.0).0 abstractions)
+
+pub equated_of_subst : (ds : List Decl) (pairs : List Pair) (bs cs : List Typ) (n : ℕ) (V T : Typ) (b c a d : Term) → n ≡ length bs → Each (IsCertifiedTyp ds) bs → IsCertifiedTyp ds V
+    → AreEquated ds pairs (bs ++ V ∷ cs) T b c → AreEquated ds pairs cs V a d → AreEquated ds pairs (bs ++ cs) T (subst_under n a b) (subst_under n d c)
+equated_of_subst ds pairs bs cs n V T b c a d m binders v e k = equated-subst ds pairs cs V a d v k bs n T b c m binders e

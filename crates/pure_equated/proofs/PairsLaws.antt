@@ -11,8 +11,7 @@ use Rattle.pure_logic.specs.Content.{Content, IsContent, IsBelow, IsProposition}
 use Rattle.pure_logic.specs.PureContent.{pure_content}
 use Rattle.pure_logic.specs.Derivable.{Pair, Theorem, IsDerivable}
 use Rattle.pure_logic.specs.Proves.{Proves, IsEquation}
-use Rattle.pure_logic.proofs.ConnectiveLaws.{certified_of, eq-parts}
-use Rattle.pure_logic.proofs.PropositionLaws.{typ-of_certified}
+use Rattle.pure_logic.proofs.PropositionLaws.{eq-proposition}
 use Rattle.pure_logic.proofs.ProvesLaws.{assumed, weaker, chain_is_proved, end_of_chain_is_proved, derivable-proved, proved-derivable}
 use Rattle.pure_equated.specs.Equated.{AreEquated, IsPairEquated}
 use Rattle.pure_equated.specs.Laws.Proved.{IsPairProved, IsCertifiedPair}
@@ -34,7 +33,7 @@ module _ (Q : Content) (above : IsBelow pure_content Q) where
       let T = h.0.0 in
       let left = h.0.1 in
       let right = h.0.2 in
-      let proposition = certified_of Q (eq T p.left p.right) prop (eq-parts Q above T p.left p.right (typ-of_certified Q above p.left T left) left.certified.parts right.certified.parts) (T, (T, refl, left.typed), right.typed) in
+      let proposition = eq-proposition Q above T p.left p.right left right in
       record {
         equations = eq T p.left p.right ∷ rest.equations;
         are_equations = ((T, left.typed, refl), rest.are_equations);

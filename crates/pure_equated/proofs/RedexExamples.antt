@@ -14,16 +14,17 @@ use Rattle.pure_logic.specs.Derivable.{IsDerivable}
 use Rattle.pure_logic.specs.Proves.{Proves}
 use Rattle.pure_logic.specs.Concludes.{AreRespecting}
 use Rattle.pure_logic.specs.Examples.Theory.{less, h, example}
-use Rattle.pure_logic.proofs.ConnectiveLaws.{certified_of, eq-parts}
+use Rattle.pure_logic.proofs.ConnectiveLaws.{certified_of}
 use Rattle.pure_logic.proofs.ExampleLaws.{example-above, example_is_content, i-certified, a-of, f-of, h-of, x-of, y-of, less-of}
 use Rattle.pure_logic.proofs.MapLaws.{sent, sent-respects, identity_respects}
+use Rattle.pure_logic.proofs.PropositionLaws.{eq-proposition}
 use Rattle.pure_logic.proofs.ProvesLaws.{assumed, proved-derivable}
 use Rattle.pure_equated.specs.Equated.{IsTypedUnder, AreEquated, AreEqualModulo}
 use Rattle.pure_equated.specs.Examples.{redex, redex_function, one_pair, pairs_with_y, Equates, NormalFormExample, EtaNormalFormExample, LongFormExample, RedexExample, OtherPairsExample, InstanceExample, TwoInstancesExample, FunctionsExample, BodiesExample, PropositionExample, PairsExample}
 use Rattle.pure_equated.proofs.SidesLaws.{typed-abstraction, typed-application}
-use Rattle.pure_equated.proofs.KeptLaws.{equated_of_subst, equated_of_instance, equated_modulo_others}
+use Rattle.pure_equated.proofs.KeptLaws.{equated_of_instance, equated_modulo_others}
 use Rattle.pure_equated.proofs.ReductionLaws.{beta_step_is_equated, beta_normal_form_is_equated, eta_normal_form_is_equated, long_form_is_equated}
-use Rattle.pure_equated.proofs.NodesLaws.{equated_instances, equated_functions, equated_bodies}
+use Rattle.pure_equated.proofs.NodesLaws.{equated_of_subst, equated_instances, equated_functions, equated_bodies}
 use Rattle.pure_equated.proofs.PairsLaws.{proposition_is_replaced, pairs_are_replaced}
 
 -- Typed under binders with certified parts, over the content.
@@ -75,7 +76,7 @@ paired left right T k l = AreEquated.pair (record { left = left; right = right }
 redex-equated : (left right : Term) → Typed [] left i → Typed [] right i → Equates (one_pair left right) i (redex left) (App f right)
 redex-equated left right k l =
     rw (lift-zero 0 right) at (AreEquated.through (AreEquated.beta (redex-typed [] left k))
-    (equated_of_subst example.declarations (one_pair left right) [] i i (App f (Bound 0)) (App f (Bound 0)) left right i-certified
+    (equated_of_subst example.declarations (one_pair left right) [] [] 0 i i (App f (Bound 0)) (App f (Bound 0)) left right refl tt i-certified
     (AreEquated.same (at-typed (i ∷ []) (Bound 0) (bound-typed []))) (paired left right i k l)))
 
 pub redex_example : RedexExample
@@ -143,7 +144,7 @@ under_pair : (left right : Term) (hyps : List Term) (A : Term) → Typed [] left
     → IsDerivable example (record { hyps = hyps; pairs = one_pair left right; prop = A; rests = [] })
 under_pair left right hyps A k l step =
     let all = eq i left right ∷ hyps in
-    let equation = certified_of example (eq i left right) prop (eq-parts example example-above i left right i-certified k.parts l.parts) (i, (i, refl, k.typed), l.typed) in
+    let equation = eq-proposition example example-above i left right (certified left i k) (certified right i l) in
     proved-derivable example example_is_content example-above (record { hyps = hyps; pairs = one_pair left right; prop = A; rests = [] }) (record {
       equations = eq i left right ∷ [];
       are_equations = ((i, k.typed, refl), tt);

@@ -46,7 +46,7 @@ RedexExample = Equates (one_pair a x) i (redex a) (App f x)
 abbrev pub OtherPairsExample : Type 0
 OtherPairsExample = Equates pairs_with_y i (redex a) (App f x)
 
--- With f of any `?x` in place of `f x`, and then y for `?x`, in the pair too.
+-- Modulo the pair of a and `?x` it is equated with `f ?x`; so with y for `?x`, in the pair too, with `f y`.
 abbrev pub InstanceExample : Type 0
 InstanceExample = Equates (one_pair a any_x) i (redex a) (App f any_x) × Equates (one_pair a y) i (redex a) (App f y)
 
@@ -62,7 +62,7 @@ FunctionsExample = Equates [] (arrow i i) redex_function f
 abbrev pub BodiesExample : Type 0
 BodiesExample = AreEquated example.declarations (one_pair redex_function (Abs i (App h (Bound 0)))) (i ∷ []) i (redex (Bound 0)) (App h (Bound 0))
 
--- Under the pair of a and x, `(%z. f z) a < y` is derivable from `f x < y`, which is derivable from itself.
+-- Under the pair of a and x, `(%z. f z) a < y` is derivable from the hypothesis `f x < y`, since that is.
 abbrev pub PropositionExample : Type 0
 PropositionExample = IsDerivable example (record { hyps = less (App f x) y ∷ []; pairs = one_pair a x; prop = less (redex a) y; rests = [] })
 
