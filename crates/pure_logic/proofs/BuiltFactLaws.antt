@@ -1,6 +1,7 @@
 -- The built facts are derivable.
 use Rattle.std.proofs.Common.{◌≡◌, ℕ, [], ◌∷◌, inl, refl, arith}
 use Rattle.pure_text.specs.Lists.{Each}
+use Rattle.pure_text.proofs.ListLaws.{each_imply}
 use Rattle.pure_definitions.specs.Types.Typ.{Typ, TVar, arrow, prop}
 use Rattle.pure_definitions.specs.Terms.Term.{Term, Var, Bound, Abs, App}
 use Rattle.pure_definitions.specs.Declarations.Certified.{IsCertifiedTyp}
@@ -17,7 +18,6 @@ use Rattle.pure_logic.proofs.PropositionLaws.{imp-proposition, derivable_alone_i
 use Rattle.pure_logic.proofs.ChainLaws.{variable_is_proposition, chain_is_derivable}
 use Rattle.pure_logic.proofs.DerivableLaws.{derivable_alone_exactly}
 use Rattle.pure_logic.proofs.WeakeningLaws.{weakening_of_derivable}
-use Rattle.pure_logic.proofs.EachLaws.{each-more}
 
 no_class : (x : ℕ) → IsCertifiedTyp pure_declarations (TVar x 0 [])
 no_class x = (λ k below. absurd (omega arith), tt)
@@ -79,8 +79,8 @@ built_facts_are_derivable =
 
 pub built_facts_are_derivable_above : (Q : Content) → IsBelow pure_content Q → Each (IsDerivableAlone Q) built_facts
 built_facts_are_derivable_above Q above =
-    each-more (IsDerivableAlone pure_content) (IsDerivableAlone Q)
-    (λ A h. weakening_of_derivable pure_content Q pure_is_content above (record { hyps = []; pairs = []; prop = A; rests = [] }) h) built_facts built_facts_are_derivable
+    each_imply (IsDerivableAlone pure_content) (IsDerivableAlone Q) built_facts
+    (λ A h. weakening_of_derivable pure_content Q pure_is_content above (record { hyps = []; pairs = []; prop = A; rests = [] }) h) built_facts_are_derivable
 
 statement : (A : Term) → IsDerivableAlone pure_content A → IsSchematic A → IsStatement pure_content A
 statement A h schematic = record { proposition = derivable_alone_is_proposition pure_content pure_is_content pure-below_itself A h; schematic = schematic }

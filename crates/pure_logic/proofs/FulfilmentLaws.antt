@@ -4,7 +4,7 @@ use Rattle.std.proofs.lemmas.Bool.{eqb-true}
 use Rattle.std.specs.Cmp.{first_so, second_so}
 use Rattle.std.specs.List.{list_all}
 use Rattle.pure_text.specs.Lists.{IsIn, Each}
-use Rattle.pure_text.proofs.ListLaws.{each_of, in-append_left, in-append_right}
+use Rattle.pure_text.proofs.ListLaws.{each_of, in-append_left, in-append_right, each_imply, each_at}
 use Rattle.pure_definitions.specs.Names.{Label}
 use Rattle.pure_definitions.specs.Terms.Term.{Term}
 use Rattle.pure_logic.specs.Content.{Content, IsContent, IsBelow}
@@ -15,7 +15,6 @@ use Rattle.pure_logic.specs.Laws.Promises.{IsSettled, IsProvedFor}
 use Rattle.pure_logic.proofs.ProvesLaws.{weaker, derivable_is_proves}
 use Rattle.pure_logic.proofs.WeakeningLaws.{weakening_of_derivable}
 use Rattle.pure_logic.proofs.PromiseLaws.{cut_by_proofs, settled_is_derivable}
-use Rattle.pure_logic.proofs.EachLaws.{each-more, each-at}
 use Rattle.pure_logic.proofs.MapLaws.{cond-has}
 
 label_eq-same : (k l : Label) → label_eq k l ≡ true → k ≡ l
@@ -92,7 +91,7 @@ IsJoinedOf es e = IsIn e es × IsContent e.content × IsDerivableAlone e.content
 joined-of : (es : List Fulfilment) → AreFulfilments es → Each (IsJoinedOf es) (joined es)
 joined-of [] h = tt
 joined-of (e ∷ es) h = by (list_all (is_label_of (joined es)) e.rests) refl
-    (each-more (IsJoinedOf es) (IsJoinedOf (e ∷ es)) (λ f j. (inr j.0, j.1, j.2)) (joined es) (joined-of es h.2)) (joined-of es h.2)
+    (each_imply (IsJoinedOf es) (IsJoinedOf (e ∷ es)) (joined es) (λ f j. (inr j.0, j.1, j.2)) (joined-of es h.2)) (joined-of es h.2)
   where
     alone : list_all (is_label_of (joined es)) e.rests ≡ true → Each (IsJoinedOf es) (joined es) → IsDerivableAlone e.content e.statement
     alone passes earlier =
@@ -101,9 +100,9 @@ joined-of (e ∷ es) h = by (list_all (is_label_of (joined es)) e.rests) refl
       where
         settled : (l : Label) → IsIn l e.rests → IsSettled e.content l
         settled l m name A n =
-            let found = label_of-some (joined es) l (each-at (λ k. is_label_of (joined es) k ≡ true) l e.rests (each_passes (is_label_of (joined es)) e.rests passes) m) in
+            let found = label_of-some (joined es) l (each_at (λ k. is_label_of (joined es) k ≡ true) e.rests (each_passes (is_label_of (joined es)) e.rests passes) l m) in
             let f = found.0 in
-            let before = each-at (IsJoinedOf es) f (joined es) earlier found.1 in
+            let before = each_at (IsJoinedOf es) (joined es) earlier f found.1 in
             let serves = h.1 f before.0 (rw found.2 m) in
             rw (serves.states name A (rw found.2 n)) (weakening_of_derivable f.content e.content before.1 serves.below (record { hyps = []; pairs = []; prop = f.statement; rests = [] }) before.2)
 
@@ -112,4 +111,4 @@ joined-of (e ∷ es) h = by (list_all (is_label_of (joined es)) e.rests) refl
     by false fails later earlier = later
 
 pub joined_are_derivable : (es : List Fulfilment) → AreFulfilments es → Each (λ e. IsDerivableAlone e.content e.statement) (joined es)
-joined_are_derivable es h = each-more (IsJoinedOf es) (λ e. IsDerivableAlone e.content e.statement) (λ e j. j.2) (joined es) (joined-of es h)
+joined_are_derivable es h = each_imply (IsJoinedOf es) (λ e. IsDerivableAlone e.content e.statement) (joined es) (λ e j. j.2) (joined-of es h)

@@ -3,12 +3,11 @@ use Rattle.std.proofs.Common.{◌≡◌, ◌↔◌, Bool, true, false, cond, ◌
 use Rattle.std.proofs.lemmas.Bool.{eq-eqb}
 use Rattle.std.specs.List.{list_all}
 use Rattle.pure_text.specs.Lists.{IsIn, Each}
-use Rattle.pure_text.proofs.ListLaws.{each_of}
+use Rattle.pure_text.proofs.ListLaws.{each_of, each_at}
 use Rattle.pure_definitions.specs.Names.{Label}
 use Rattle.pure_logic.specs.Fulfilment.{label_eq, Fulfilment, is_label_of, joined, Reaches, rests_on, through, HasLabel, AreInOrder}
 use Rattle.pure_logic.proofs.FulfilmentLaws.{label_of-some, each_passes}
 use Rattle.pure_logic.proofs.MapLaws.{cond-has}
-use Rattle.pure_logic.proofs.EachLaws.{each-at}
 
 -- Joined ones are of the list.
 joined-among : (es : List Fulfilment) (e : Fulfilment) → IsIn e (joined es) → IsIn e es
@@ -81,7 +80,7 @@ module _ (e : Fulfilment) (es : List Fulfilment) (h : AreInOrder (e ∷ es)) (be
 
   -- A label of the list on which the proof of the first rests is of a joined one behind it.
   rested-joined : test ≡ true → (l : Label) → IsIn l e.rests → (f : Fulfilment) × IsIn f (joined es) × (f.label ≡ l)
-  rested-joined passes l m = label_of-some (joined es) l (each-at (λ k. is_label_of (joined es) k ≡ true) l e.rests (each_passes (is_label_of (joined es)) e.rests passes) m)
+  rested-joined passes l m = label_of-some (joined es) l (each_at (λ k. is_label_of (joined es) k ≡ true) e.rests (each_passes (is_label_of (joined es)) e.rests passes) l m)
 
   first-only : test ≡ true → OnlyLabels (e ∷ es) e
   first-only passes k (rests_on m) = let found = rested-joined passes k m in (found.0, inr (joined-among es found.0 found.1), found.2)

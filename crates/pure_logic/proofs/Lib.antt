@@ -1,4 +1,3 @@
-pub mod EachLaws
 pub mod DischargeLaws
 pub mod ChainLaws
 pub mod ConnectiveLaws

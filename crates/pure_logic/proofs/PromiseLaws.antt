@@ -1,7 +1,7 @@
 -- Promises are cut: the tree of a proved statement is put, at its instance, in the place of the promise.
 use Rattle.std.proofs.Common.{◌⊎◌, List, [], ◌++◌, inl, inr, refl}
 use Rattle.pure_text.specs.Lists.{IsIn, Each}
-use Rattle.pure_text.proofs.ListLaws.{in-append_left, in-append_right}
+use Rattle.pure_text.proofs.ListLaws.{in-append_left, in-append_right, each_imply, each_at, each-append, each-left, each-right}
 use Rattle.pure_definitions.specs.Names.{Label}
 use Rattle.pure_definitions.specs.Terms.Term.{Term}
 use Rattle.pure_definitions.specs.Terms.Bounds.{Occurs}
@@ -14,7 +14,6 @@ use Rattle.pure_logic.specs.Proves.{Proves}
 use Rattle.pure_logic.specs.Laws.Promises.{IsSettled, AreOpenOrSettled, IsProvedFor}
 use Rattle.pure_logic.proofs.ProvesLaws.{weaker, derivable_is_proves}
 use Rattle.pure_logic.proofs.SubstitutionLaws.{instance_is_proved}
-use Rattle.pure_logic.proofs.EachLaws.{each-more, each-at, each-append, each-left, each-right}
 use Rattle.pure_logic.proofs.DischargeLaws.{without-among}
 
 -- a tree for what d concludes, from hypotheses of d, that rests on the promises left open
@@ -43,7 +42,7 @@ module _ (Q : Content) (q : IsContent Q) (left_open : List Label) where
       let above = cut d h.1 h.2 settled in
       record {
         tree = AllIntro x above.tree;
-        concludes = (h.0, h.1, above.concludes, h.3, h.4, each-more (λ A. IsIn A (hyps_of d)) (λ A. ¬ Occurs x A) (λ A m. each-at (λ B. ¬ Occurs x B) A (hyps_of d) h.5 m) (hyps_of above.tree) above.hyps, h.6);
+        concludes = (h.0, h.1, above.concludes, h.3, h.4, each_imply (λ A. IsIn A (hyps_of d)) (λ A. ¬ Occurs x A) (hyps_of above.tree) (λ A m. each_at (λ B. ¬ Occurs x B) (hyps_of d) h.5 A m) above.hyps, h.6);
         hyps = above.hyps;
         rests = above.rests;
       }
@@ -60,8 +59,8 @@ module _ (Q : Content) (q : IsContent Q) (left_open : List Label) where
         tree = ImpliesElim left.tree right.tree;
         concludes = (h.0, left.concludes, right.concludes);
         hyps = each-append (λ A. IsIn A (hyps_of d ++ hyps_of e)) (hyps_of left.tree) (hyps_of right.tree)
-            (each-more (λ A. IsIn A (hyps_of d)) (λ A. IsIn A (hyps_of d ++ hyps_of e)) (λ A m. in-append_left A (hyps_of d) (hyps_of e) m) (hyps_of left.tree) left.hyps)
-            (each-more (λ A. IsIn A (hyps_of e)) (λ A. IsIn A (hyps_of d ++ hyps_of e)) (λ A m. in-append_right A (hyps_of d) (hyps_of e) m) (hyps_of right.tree) right.hyps);
+            (each_imply (λ A. IsIn A (hyps_of d)) (λ A. IsIn A (hyps_of d ++ hyps_of e)) (hyps_of left.tree) (λ A m. in-append_left A (hyps_of d) (hyps_of e) m) left.hyps)
+            (each_imply (λ A. IsIn A (hyps_of e)) (λ A. IsIn A (hyps_of d ++ hyps_of e)) (hyps_of right.tree) (λ A m. in-append_right A (hyps_of d) (hyps_of e) m) right.hyps);
         rests = each-append (λ l. IsIn l left_open) (rests_of left.tree) (rests_of right.tree) left.rests right.rests;
       }
   cut (Beta redex) C h settled = record { tree = Beta redex; concludes = h; hyps = tt; rests = tt }
@@ -74,13 +73,13 @@ pub cut_by_proofs : (Q : Content) → IsContent Q → (th : Theorem) (left_open 
     → IsDerivable Q th → IsDerivable Q (record th { rests = left_open })
 cut_by_proofs Q q th left_open proved h =
     let made = cut Q q left_open h.tree h.conclusion h.concludes
-    (each-more (λ l. IsIn l th.rests) (λ l. IsIn l left_open ⊎ IsProvedFor Q left_open l) (λ l m. each-at (λ k. IsIn k left_open ⊎ IsProvedFor Q left_open k) l th.rests proved m) (rests_of h.tree) h.rests) in
+    (each_imply (λ l. IsIn l th.rests) (λ l. IsIn l left_open ⊎ IsProvedFor Q left_open l) (rests_of h.tree) (λ l m. each_at (λ k. IsIn k left_open ⊎ IsProvedFor Q left_open k) th.rests proved l m) h.rests) in
     record {
       tree = made.tree;
       conclusion = h.conclusion;
       concludes = made.concludes;
       under_pairs = h.under_pairs;
-      hyps = each-more (λ A. IsIn A (hyps_of h.tree)) (λ A. IsIn A th.hyps) (λ A m. each-at (λ B. IsIn B th.hyps) A (hyps_of h.tree) h.hyps m) (hyps_of made.tree) made.hyps;
+      hyps = each_imply (λ A. IsIn A (hyps_of h.tree)) (λ A. IsIn A th.hyps) (hyps_of made.tree) (λ A m. each_at (λ B. IsIn B th.hyps) (hyps_of h.tree) h.hyps A m) made.hyps;
       rests = made.rests;
     }
 
@@ -90,11 +89,11 @@ alone-proved Q rests A h = weaker Q [] [] [] rests A (λ B m. m) (λ l m. absurd
 
 pub cut_of_promises : (Q : Content) → IsContent Q → (th : Theorem) (left_open : List Label) → AreOpenOrSettled Q left_open th.rests → IsDerivable Q th → IsDerivable Q (record th { rests = left_open })
 cut_of_promises Q q th left_open settled h =
-    cut_by_proofs Q q th left_open (each-more (λ l. IsIn l left_open ⊎ IsSettled Q l) (λ l. IsIn l left_open ⊎ IsProvedFor Q left_open l) by th.rests settled) h
+    cut_by_proofs Q q th left_open (each_imply (λ l. IsIn l left_open ⊎ IsSettled Q l) (λ l. IsIn l left_open ⊎ IsProvedFor Q left_open l) th.rests by settled) h
   where
     by : (l : Label) → IsIn l left_open ⊎ IsSettled Q l → IsIn l left_open ⊎ IsProvedFor Q left_open l
     by l (inl m) = inl m
     by l (inr alone) = inr (λ name A m. alone-proved Q left_open A (alone name A m))
 
 pub settled_is_derivable : (Q : Content) → IsContent Q → (th : Theorem) → Each (IsSettled Q) th.rests → IsDerivable Q th → IsDerivable Q (record th { rests = [] })
-settled_is_derivable Q q th settled h = cut_of_promises Q q th [] (each-more (IsSettled Q) (λ l. IsIn l [] ⊎ IsSettled Q l) (λ l k. inr k) th.rests settled) h
+settled_is_derivable Q q th settled h = cut_of_promises Q q th [] (each_imply (IsSettled Q) (λ l. IsIn l [] ⊎ IsSettled Q l) th.rests (λ l k. inr k) settled) h

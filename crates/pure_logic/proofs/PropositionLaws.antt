@@ -1,6 +1,7 @@
 -- What a tree concludes is a proposition of the content, and so are its hypotheses.
 use Rattle.std.proofs.Common.{◌≡◌, List, [], ◌∷◌, refl}
 use Rattle.pure_text.specs.Lists.{Each}
+use Rattle.pure_text.proofs.ListLaws.{each_at, each-append}
 use Rattle.pure_definitions.specs.Types.Typ.{Typ, arrow, prop}
 use Rattle.pure_definitions.specs.Terms.Term.{Term, Const, Free, Var, Bound, Abs, App}
 use Rattle.pure_definitions.specs.Terms.Typing.{HasType}
@@ -20,7 +21,6 @@ use Rattle.pure_logic.specs.Derivable.{Pair, Theorem, IsUnderPairs, IsDerivable,
 use Rattle.pure_logic.proofs.ConnectiveLaws.{certified_of, imp-parts, eq-parts, all-parts}
 use Rattle.pure_logic.proofs.InstanceLaws.{parts-instance}
 use Rattle.pure_logic.proofs.PartsLaws.{typ-certified}
-use Rattle.pure_logic.proofs.EachLaws.{each-at, each-append}
 use Rattle.pure_logic.proofs.DischargeLaws.{each-without}
 
 -- In what is of type prop, the premise and the conclusion of an implication and the body of a quantification are of type prop.
@@ -123,10 +123,10 @@ module _ (Q : Content) (q : IsContent Q) (above : IsBelow pure_content Q) where
 
   pub concluded-proposition : (d : Tree) (C : Term) → Concludes Q d C → IsProposition Q C
   concluded-proposition (Axiom n typs terms) C h =
-      let statement = each-at (IsWellFormed Q) (AxiomDecl n h.0) Q.declarations q.well_formed h.1 in
+      let statement = each_at (IsWellFormed Q) Q.declarations q.well_formed (AxiomDecl n h.0) h.1 in
       rw h.3 (instance-proposition typs terms h.0 h.2 statement.proposition)
   concluded-proposition (Promise l typs terms) C h =
-      let statement = each-at (IsWellFormed Q) (PromiseDecl h.0 l h.1) Q.declarations q.well_formed h.2 in
+      let statement = each_at (IsWellFormed Q) Q.declarations q.well_formed (PromiseDecl h.0 l h.1) h.2 in
       rw h.4 (instance-proposition typs terms h.1 h.3 statement.proposition)
   concluded-proposition (Assume A) C h = rw h.1 h.0
   concluded-proposition (AllIntro x d) C h = rw h.6 (abstraction-proposition Q above x h.1 h.0 h.3 h.4 (concluded-proposition d h.1 h.2))

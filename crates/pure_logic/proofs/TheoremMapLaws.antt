@@ -1,6 +1,7 @@
 -- Maps on theorems: fixed variables made schematic, indexes raised, and the finite maps of a call.
 use Rattle.std.proofs.Common.{◌≡◌, ℕ, Bool, true, false, cond, List, [], ◌∷◌, map, refl, ap, ◌∙◌}
 use Rattle.pure_text.specs.Lists.{IsIn, Each}
+use Rattle.pure_text.proofs.ListLaws.{each_imply}
 use Rattle.pure_definitions.specs.Names.{Label}
 use Rattle.pure_definitions.specs.Types.Typ.{Typ, TFree, TVar, Con, Typs, none, also, prop}
 use Rattle.pure_definitions.specs.Types.Order.{IsOfSort}
@@ -23,7 +24,6 @@ use Rattle.pure_logic.specs.Derivable.{Theorem, IsDerivable}
 use Rattle.pure_logic.specs.Laws.Substitution.{pair_instance, theorem_instance}
 use Rattle.pure_logic.specs.Laws.Inferences.{IsAmong}
 use Rattle.pure_logic.specs.Laws.Maps.{Generalisation, schematic_typs, schematic_terms, generalised, HasNoneOf, everything, raised_typs, raised_terms, instantiated, instantiated_theorem}
-use Rattle.pure_logic.proofs.EachLaws.{each-more}
 use Rattle.pure_logic.proofs.MapLaws.{cond-has, joined_respect, joined_instance}
 use Rattle.pure_logic.proofs.WeakeningLaws.{typ_instance-certified}
 use Rattle.pure_logic.proofs.SubstitutionLaws.{instance_is_derivable, certified_of-instance}
@@ -34,8 +34,8 @@ weaker_is_derivable Q th hyps rests among h = record {
   conclusion = h.conclusion;
   concludes = h.concludes;
   under_pairs = h.under_pairs;
-  hyps = each-more (λ A. IsIn A th.hyps) (λ A. IsIn A hyps) among.hyps (hyps_of h.tree) h.hyps;
-  rests = each-more (λ l. IsIn l th.rests) (λ l. IsIn l rests) among.rests (rests_of h.tree) h.rests;
+  hyps = each_imply (λ A. IsIn A th.hyps) (λ A. IsIn A hyps) (hyps_of h.tree) among.hyps h.hyps;
+  rests = each_imply (λ l. IsIn l th.rests) (λ l. IsIn l rests) (rests_of h.tree) among.rests h.rests;
 }
 
 all_kept : (f : Term → Term) (ts : List Term) → Each (λ t. f t ≡ t) ts → map f ts ≡ ts
@@ -113,7 +113,7 @@ module _ (g : Generalisation) (t : Term) (h : HasNoneOf g t) where
 pub generalised_is_derivable : (Q : Content) → IsContent Q → (g : Generalisation) (th : Theorem) → Each (HasNoneOf g) th.hyps → IsDerivable Q th
     → IsDerivable Q (record th { pairs = map (pair_instance (schematic_typs g) (schematic_terms g)) th.pairs; prop = generalised g th.prop })
 generalised_is_derivable Q q g th spared h =
-    instance_from_same_hypotheses Q q (schematic_typs g) (schematic_terms g) (generalisation_respects Q g) th (each-more (HasNoneOf g) (λ A. generalised g A ≡ A) (generalised-kept g) th.hyps spared) h
+    instance_from_same_hypotheses Q q (schematic_typs g) (schematic_terms g) (generalisation_respects Q g) th (each_imply (HasNoneOf g) (λ A. generalised g A ≡ A) th.hyps (generalised-kept g) spared) h
 
 mutual
   generalised_typ-schematic : (index : ℕ) (T : Typ) → IsSchematicTyp (typ_instance (schematic_typs (everything index)) T)
