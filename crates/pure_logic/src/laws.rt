@@ -6,7 +6,7 @@ ghost use Rattle.pure_logic.specs.Laws.Equality.{ReflexiveEquality, SymmetricEqu
 ghost use Rattle.pure_logic.specs.Laws.Quantification.{EqualInContext, EqualBodies, AbstractionIsDerivable, InstanceOfFunctionIsProved, ReducedInstanceIsProved, ReducedInstanceIsDerivable};
 ghost use Rattle.pure_logic.specs.Laws.Substitution.{SubstitutionOfTrees, InstanceIsProved, InstanceIsDerivable};
 ghost use Rattle.pure_logic.specs.Laws.Maps.{WeakerIsDerivable, InstanceFromSameHypotheses, GeneralisedIsDerivable, GeneralisedIsStatement, FixedMapKeeps, GeneralisationKeeps, RaisedIsDerivable, InstantiatedIsDerivable};
-ghost use Rattle.pure_logic.specs.Laws.Promises.{CutByProofs, CutOfPromises, SettledIsDerivable, FulfilledIsDerivable, AllFulfilledIsDerivable, JoinedAreDerivable, JoinedExactly};
+ghost use Rattle.pure_logic.specs.Laws.Promises.{CutOfTrees, CutByProofs, CutOfPromises, SettledIsDerivable, FulfilledIsDerivable, AllFulfilledIsDerivable, JoinedAreDerivable, JoinedExactly};
 ghost use Rattle.pure_logic.specs.Laws.BuiltFacts.{BuiltFactsAreDerivable, BuiltFactsAreDerivableAbove, BuiltFactsAreStatements};
 ghost use Rattle.pure_logic.specs.Laws.Tree.{OneConclusion, OneUnderPairs, WeakeningOfTrees, WeakeningOfDerivable, IdentityRespects, JoinedMapsRespect, JoinedInstance};
 ghost use Rattle.pure_logic.specs.Laws.Names.{ImplicationByName, MarkByName, QuantificationByName, EqualityByName, RespectingImagesAreClosed, JoinedMapsKeepFixed};
@@ -110,20 +110,25 @@ pub fn substitution_is_admissible()
     ensures derivable { InstanceIsDerivable }
 {}
 
-/// Maps on theorems: fixed variables that are in no hypothesis are made schematic, indexes are raised, and the finite maps of a call are put in.
+/// Maps on theorems: more hypotheses, maps that leave the hypotheses as they are, indexes raised, and the finite maps of a call.
 pub fn maps_on_theorems()
     ensures weaker { WeakerIsDerivable }
     ensures same_hypotheses { InstanceFromSameHypotheses }
-    ensures generalised { GeneralisedIsDerivable }
-    ensures statement { GeneralisedIsStatement }
-    ensures fixed { FixedMapKeeps }
-    ensures kept { GeneralisationKeeps }
     ensures raised { RaisedIsDerivable }
     ensures instantiated { InstantiatedIsDerivable }
 {}
 
-/// What rests on promises of which each is left open or settled rests on those left open alone.
+/// Fixed variables that are in no hypothesis are made schematic; where there are none, nothing changes.
+pub fn fixed_variables_made_schematic()
+    ensures generalised { GeneralisedIsDerivable }
+    ensures statement { GeneralisedIsStatement }
+    ensures fixed { FixedMapKeeps }
+    ensures kept { GeneralisationKeeps }
+{}
+
+/// What rests on promises of which each is left open, or proved from those left open, or settled, rests on those left open alone.
 pub fn promises_are_cut()
+    ensures trees { CutOfTrees }
     ensures by_proofs { CutByProofs }
     ensures cut { CutOfPromises }
     ensures settled { SettledIsDerivable }
