@@ -36,7 +36,7 @@ premise-typed A B h =
     let same : h.1.0 ≡ prop = cc in
     rw same at h.1.2
 
-body-typed : (T : Typ) (B : Term) → HasType [] (all T B) prop → HasType (T ∷ []) B prop
+pub body-typed : (T : Typ) (B : Term) → HasType [] (all T B) prop → HasType (T ∷ []) B prop
 body-typed T B h =
     let connective : all_typ T ≡ arrow h.0 prop = h.1 in
     let function : arrow T h.2.0 ≡ h.0 = h.2.2 in
@@ -44,7 +44,7 @@ body-typed T B h =
     rw same at h.2.1
 
 module _ (Q : Content) (above : IsBelow pure_content Q) where
-  imp-proposition : (A B : Term) → IsProposition Q A → IsProposition Q B → IsProposition Q (imp A B)
+  pub imp-proposition : (A B : Term) → IsProposition Q A → IsProposition Q B → IsProposition Q (imp A B)
   imp-proposition A B h k = certified_of Q (imp A B) prop (imp-parts Q above A B h.certified.parts k.certified.parts) (prop, (prop, refl, h.typed), k.typed)
 
   pub premise-proposition : (A B : Term) → IsProposition Q (imp A B) → IsProposition Q A
@@ -60,7 +60,7 @@ module _ (Q : Content) (above : IsBelow pure_content Q) where
   eq-proposition T t u h k = certified_of Q (eq T t u) prop (eq-parts Q above T t u (typ-of_certified t T h) h.certified.parts k.certified.parts) (T, (T, refl, h.typed), k.typed)
 
   -- A body of type prop under one binder makes a quantification.
-  all-proposition : (T : Typ) (B : Term) → IsCertifiedTyp Q.declarations T → HasCertifiedParts Q.declarations B → HasType (T ∷ []) B prop → IsProposition Q (all T B)
+  pub all-proposition : (T : Typ) (B : Term) → IsCertifiedTyp Q.declarations T → HasCertifiedParts Q.declarations B → HasType (T ∷ []) B prop → IsProposition Q (all T B)
   all-proposition T B c p h = certified_of Q (all T B) prop (all-parts Q above T B c p) (arrow T prop, refl, (prop, h, refl))
 
   -- A body with an argument in its bound variable's place has the body's type.

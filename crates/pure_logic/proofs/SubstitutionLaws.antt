@@ -57,7 +57,7 @@ joined f hyps others Bs Cs h k =
     (each_imply (λ B. IsIn B (map f others)) (λ B. IsIn B (map f hyps ++ map f others)) Cs (λ B m. in-append_right B (map f hyps) (map f others) m) k))
 
 module _ (Q : Content) (q : IsContent Q) where
-  certified_of-instance : (typs : Typ → Typ) (terms : Term → Term) → AreRespecting Q typs terms → (t : Term) (T : Typ) → IsCertifiedOf Q t T → IsCertifiedOf Q (term_instance typs terms t) (typ_instance typs T)
+  pub certified_of-instance : (typs : Typ → Typ) (terms : Term → Term) → AreRespecting Q typs terms → (t : Term) (T : Typ) → IsCertifiedOf Q t T → IsCertifiedOf Q (term_instance typs terms t) (typ_instance typs T)
   certified_of-instance typs terms r t T h =
       let typed = typing-instance typs terms r.types [] t T h.typed in
       record { certified = record { parts = parts-instance Q q typs terms r t h.certified.parts; typ = typ_instance typs T; typed = typed }; typed = typed }
