@@ -1,0 +1,11 @@
+//! What goals mean: laws, each carried by the contract of a function that does nothing.
+ghost use Rattle.pure_goal_laws.specs.Laws.Prefix.{ImplicationBehind, ChainBehind, HypothesisBehind, FurtherHypothesisBehind, EqualBehind};
+
+/// What is proved behind a prefix: implications and chains of them, hypotheses, and what is equal there.
+pub fn proved_behind_prefix()
+    ensures implication { ImplicationBehind }
+    ensures chain { ChainBehind }
+    ensures hypothesis { HypothesisBehind }
+    ensures further { FurtherHypothesisBehind }
+    ensures equal { EqualBehind }
+{}
