@@ -1,5 +1,6 @@
 //! What goals mean: laws, each carried by the contract of a function that does nothing.
 ghost use Rattle.pure_goal_laws.specs.Laws.Prefix.{ImplicationBehind, ChainBehind, HypothesisBehind, FurtherHypothesisBehind, EqualBehind};
+ghost use Rattle.pure_goal_laws.specs.Laws.Lifting.{LiftedRule};
 
 /// What is proved behind a prefix: implications and chains of them, hypotheses, and what is equal there.
 pub fn proved_behind_prefix()
@@ -8,4 +9,9 @@ pub fn proved_behind_prefix()
     ensures hypothesis { HypothesisBehind }
     ensures further { FurtherHypothesisBehind }
     ensures equal { EqualBehind }
+{}
+
+/// A rule may be lifted over the prefix of a subgoal.
+pub fn rule_is_lifted()
+    ensures { LiftedRule }
 {}

@@ -1,0 +1,15 @@
+-- The law of rules lifted over a prefix.
+use Rattle.std.specs.Prelude.{List, [], map}
+use Rattle.pure_definitions.specs.Names.{Label}
+use Rattle.pure_definitions.specs.Terms.Term.{Term}
+use Rattle.pure_logic.specs.Connectives.{chain}
+use Rattle.pure_logic.specs.Content.{Content, IsContent, IsBelow, IsProposition}
+use Rattle.pure_logic.specs.PureContent.{pure_content}
+use Rattle.pure_logic.specs.Proves.{Proves}
+use Rattle.pure_goal_laws.specs.Prefix.{Item, behind}
+use Rattle.pure_goal_laws.specs.Lifting.{lifted_behind}
+
+-- A rule that is proved from no hypotheses may be lifted over the prefix of a proposition: from its premises, lifted and behind the prefix, its conclusion, lifted and behind the prefix.
+abbrev pub LiftedRule : Type 0
+LiftedRule = (Q : Content) → IsContent Q → IsBelow pure_content Q → (hyps : List Term) (rests : List Label) (ps : List Item) (D : Term) (As : List Term) (B : Term) → IsProposition Q (behind ps D)
+    → Proves Q [] rests (chain As B) → Proves Q hyps rests (chain (map (λ A. behind ps (lifted_behind ps A)) As) (behind ps (lifted_behind ps B)))
