@@ -1,3 +1,5 @@
 pub mod SidesLaws
 pub mod ClosingLaws
 pub mod EquatedLaws
+pub mod KeptLaws
+pub mod PairsLaws

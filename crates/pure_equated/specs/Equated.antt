@@ -25,3 +25,7 @@ pub data AreEquated (ds : List Decl) (pairs : List Pair) : List Typ → Typ → 
   pair : {bs : List Typ} {T : Typ} (p : Pair) → IsIn p pairs → IsTypedUnder ds [] p.left T → IsTypedUnder ds [] p.right T → AreEquated ds pairs bs T p.left p.right
   abstraction : {bs : List Typ} {V U : Typ} {b c : Term} → IsCertifiedTyp ds V → AreEquated ds pairs (V ∷ bs) U b c → AreEquated ds pairs bs (arrow V U) (Abs V b) (Abs V c)
   application : {bs : List Typ} {T U : Typ} {f g a b : Term} → AreEquated ds pairs bs (arrow T U) f g → AreEquated ds pairs bs T a b → AreEquated ds pairs bs U (App f a) (App g b)
+
+-- The sides of the pair are equated modulo the pairs, under no binders, at some type.
+abbrev pub IsPairEquated : (ds : List Decl) → (pairs : List Pair) → Pair → Type 0
+IsPairEquated ds pairs p = (T : Typ) × AreEquated ds pairs [] T p.left p.right

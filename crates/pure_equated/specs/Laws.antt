@@ -1,3 +1,4 @@
 -- What the definitions mean: the statements of the laws.
 pub mod Sides
+pub mod Kept
 pub mod Proved

@@ -5,11 +5,11 @@ use Rattle.pure_definitions.specs.Names.{Label}
 use Rattle.pure_definitions.specs.Types.Typ.{Typ}
 use Rattle.pure_definitions.specs.Terms.Term.{Term}
 use Rattle.pure_logic.specs.Connectives.{eq}
-use Rattle.pure_logic.specs.Content.{Content, IsContent, IsBelow}
+use Rattle.pure_logic.specs.Content.{Content, IsContent, IsBelow, IsCertifiedOf}
 use Rattle.pure_logic.specs.PureContent.{pure_content}
-use Rattle.pure_logic.specs.Derivable.{Pair}
+use Rattle.pure_logic.specs.Derivable.{Pair, Theorem, IsDerivable}
 use Rattle.pure_logic.specs.Proves.{Proves}
-use Rattle.pure_equated.specs.Equated.{AreEquated}
+use Rattle.pure_equated.specs.Equated.{AreEquated, IsPairEquated}
 
 -- The equation of the pair is proved, at some type.
 abbrev pub IsPairProved : (Q : Content) → (hyps : List Term) → (rests : List Label) → Pair → Type 0
@@ -19,3 +19,12 @@ IsPairProved Q hyps rests p = (T : Typ) × Proves Q hyps rests (eq T p.left p.ri
 abbrev pub EquatedIsProved : Type 0
 EquatedIsProved = (Q : Content) → IsContent Q → IsBelow pure_content Q → (hyps : List Term) (rests : List Label) (pairs : List Pair) → Each (IsPairProved Q hyps rests) pairs
     → (T : Typ) (t u : Term) → AreEquated Q.declarations pairs [] T t u → Proves Q hyps rests (eq T t u)
+
+-- Both sides of the pair are certified, of one type.
+abbrev pub IsCertifiedPair : Content → Pair → Type 0
+IsCertifiedPair Q p = (T : Typ) × IsCertifiedOf Q p.left T × IsCertifiedOf Q p.right T
+
+-- So the pairs of a derivable theorem may be replaced by others, with certified sides, modulo which they are equated.
+abbrev pub PairsAreReplaced : Type 0
+PairsAreReplaced = (Q : Content) → IsContent Q → IsBelow pure_content Q → (th : Theorem) (others : List Pair) → Each (IsCertifiedPair Q) others → Each (IsPairEquated Q.declarations others) th.pairs
+    → IsDerivable Q th → IsDerivable Q (record th { pairs = others })

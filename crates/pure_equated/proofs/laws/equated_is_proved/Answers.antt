@@ -1,5 +1,9 @@
 use Rattle.pure_equated.proofs.EquatedLaws.{equated_is_proved}
+use Rattle.pure_equated.proofs.PairsLaws.{pairs_are_replaced}
 use Rattle.pure_equated.proofs.laws.equated_is_proved.Goals as goal
 
-pub returns : goal.returns
-returns c = equated_is_proved
+pub returns-clause-equal : goal.returns-clause-equal
+returns-clause-equal c = equated_is_proved
+
+pub returns-clause-pairs : goal.returns-clause-pairs
+returns-clause-pairs c = pairs_are_replaced
