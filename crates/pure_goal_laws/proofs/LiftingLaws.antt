@@ -1,5 +1,6 @@
 -- Rules lifted over a prefix.
 use Rattle.std.proofs.Common.{◌≡◌, ◌≤◌, ◌<◌, ℕ, zero, suc, ◌+◌, List, [], ◌∷◌, map, length, inl, inr, ap, refl, sym, ◌∙◌, arith}
+use Rattle.std.proofs.lemmas.Simd.{map-map}
 use Rattle.pure_text.specs.Lists.{IsIn, Each}
 use Rattle.pure_definitions.specs.Names.{Label}
 use Rattle.pure_definitions.specs.Types.Typ.{Typ, arrow, prop}
@@ -121,10 +122,6 @@ module _ (Q : Content) (q : IsContent Q) (above : IsBelow pure_content Q) where
 lifted-chain : (Ts : List Typ) (As : List Term) (B : Term) → lifted_under Ts 0 (chain As B) ≡ chain (map (lifted_under Ts 0) As) (lifted_under Ts 0 B)
 lifted-chain Ts [] B = refl
 lifted-chain Ts (A ∷ As) B = ap (imp (lifted_under Ts 0 A)) (lifted-chain Ts As B)
-
-map-map : (f g : Term → Term) (ts : List Term) → map f (map g ts) ≡ map (λ t. f (g t)) ts
-map-map f g [] = refl
-map-map f g (t ∷ ts) = ap (λ us. f (g t) ∷ us) (map-map f g ts)
 
 pub lifted_rule : (Q : Content) → IsContent Q → IsBelow pure_content Q → (hyps : List Term) (rests : List Label) (ps : List Item) (D : Term) (As : List Term) (B : Term) → IsProposition Q (behind ps D)
     → Proves Q [] rests (chain As B) → Proves Q hyps rests (chain (map (λ A. behind ps (lifted_behind ps A)) As) (behind ps (lifted_behind ps B)))
