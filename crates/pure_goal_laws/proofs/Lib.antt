@@ -1,3 +1,4 @@
 pub mod OpeningLaws
 pub mod PrefixLaws
 pub mod LiftingLaws
+pub mod StepLaws

@@ -1,6 +1,7 @@
 //! What goals mean: laws, each carried by the contract of a function that does nothing.
 ghost use Rattle.pure_goal_laws.specs.Laws.Prefix.{ImplicationBehind, ChainBehind, HypothesisBehind, FurtherHypothesisBehind, EqualBehind};
 ghost use Rattle.pure_goal_laws.specs.Laws.Lifting.{LiftedRule};
+ghost use Rattle.pure_goal_laws.specs.Laws.Steps.{StepIsDerivable};
 
 /// What is proved behind a prefix: implications and chains of them, hypotheses, and what is equal there.
 pub fn proved_behind_prefix()
@@ -14,4 +15,9 @@ pub fn proved_behind_prefix()
 /// A rule may be lifted over the prefix of a subgoal.
 pub fn rule_is_lifted()
     ensures { LiftedRule }
+{}
+
+/// A step from a derivable goal, with a justification, leads to a derivable goal.
+pub fn step_is_derivable()
+    ensures { StepIsDerivable }
 {}
