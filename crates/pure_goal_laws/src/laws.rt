@@ -1,7 +1,7 @@
 //! What goals mean: laws, each carried by the contract of a function that does nothing.
 ghost use Rattle.pure_goal_laws.specs.Laws.Prefix.{ImplicationBehind, ChainBehind, HypothesisBehind, FurtherHypothesisBehind, EqualBehind};
 ghost use Rattle.pure_goal_laws.specs.Laws.Lifting.{LiftedRule};
-ghost use Rattle.pure_goal_laws.specs.Laws.Steps.{StepIsDerivable};
+ghost use Rattle.pure_goal_laws.specs.Laws.Steps.{StepIsDerivable, ByRule, ByAssumption, ByEquation};
 
 /// What is proved behind a prefix: implications and chains of them, hypotheses, and what is equal there.
 pub fn proved_behind_prefix()
@@ -20,4 +20,11 @@ pub fn rule_is_lifted()
 /// A step from a derivable goal, with a justification, leads to a derivable goal.
 pub fn step_is_derivable()
     ensures { StepIsDerivable }
+{}
+
+/// What justifies a step: a rule, an assumption, an equation.
+pub fn subgoal_is_justified()
+    ensures rule { ByRule }
+    ensures assumption { ByAssumption }
+    ensures equation { ByEquation }
 {}

@@ -20,26 +20,44 @@ abbrev pub StepIsDerivable : Type 0
 StepIsDerivable = (Q : Content) → IsContent Q → IsBelow pure_content Q → (goal new : Theorem) (A : Term) (others : List Term) (G : Term) (premises : List Term) (typs : Typ → Typ) (terms : Term → Term)
     → IsGoalStep Q goal new A others G premises typs terms → IsJustified Q new A premises typs terms → IsDerivable Q goal → IsDerivable Q new
 
--- What holds of the justification of a step to a new goal, by respecting maps.
+-- What holds of the justifications of a step to a new goal, by respecting maps.
 abbrev pub ForSteps : ((Q : Content) → (new : Theorem) → (typs : Typ → Typ) → (terms : Term → Term) → Type 0) → Type 0
 ForSteps law = (Q : Content) → IsContent Q → IsBelow pure_content Q → (new : Theorem) (typs : Typ → Typ) (terms : Term → Term) → AreRespecting Q typs terms → law Q new typs terms
 
--- The instances of a rule's premises, lifted over a prefix and behind it.
+-- the instances of a rule's premises, which are lifted over a prefix and stand behind it
 abbrev pub lifted_premises : (typs : Typ → Typ) → (terms : Term → Term) → List Item → List Term → List Term
-lifted_premises typs terms ps As = map (λ A. term_instance typs terms (behind ps (lifted_behind ps A))) As
+lifted_premises typs terms ps As = map (term_instance typs terms) (map (λ A. behind ps (lifted_behind ps A)) As)
 
 -- By a rule: where its lifted conclusion is matched with that of the subgoal, its lifted premises justify the subgoal.
 abbrev pub ByRule : Type 0
-ByRule = ForSteps (λ Q new typs terms. (ps : List Item) (As : List Term) (B C : Term) → Proves Q [] new.rests (chain As B) → IsProposition Q (behind ps C) → AreMatched Q new typs terms ps (lifted_behind ps B) C
+ByRule = ForSteps (λ Q new typs terms. (ps : List Item) (C : Term) → IsProposition Q (behind ps C) → (As : List Term) (B : Term) → Proves Q [] new.rests (chain As B)
+    → AreMatched Q new typs terms ps (lifted_behind ps B) C
     → IsJustified Q new (behind ps C) (lifted_premises typs terms ps As) typs terms)
 
--- By assumption: where a hypothesis of the subgoal is matched with its conclusion, no premise is needed.
+-- By assumption: where a hypothesis of the subgoal is matched with its conclusion, the subgoal is justified without premises.
 abbrev pub ByAssumption : Type 0
-ByAssumption = ForSteps (λ Q new typs terms. (ps : List Item) (H C : Term) → IsProposition Q (behind ps C) → IsIn H (hypotheses ps) → AreMatched Q new typs terms ps H C
+ByAssumption = ForSteps (λ Q new typs terms. (ps : List Item) (C : Term) → IsProposition Q (behind ps C) → (H : Term) → IsIn H (hypotheses ps) → AreMatched Q new typs terms ps H C
     → IsJustified Q new (behind ps C) [] typs terms)
 
--- By elimination: where the rule's lifted conclusion is matched with the subgoal's, and its first premise with a hypothesis, its other premises justify the subgoal, behind the prefix without that hypothesis.
+-- The first premise P of a rule is matched, lifted, with the hypothesis H that stands in a prefix between the items before it and after it.
+abbrev pub IsEliminated : (Q : Content) → (new : Theorem) → (typs : Typ → Typ) → (terms : Term → Term) → (before : List Item) → (H : Term) → (after : List Item) → (P : Term) → Type 0
+IsEliminated Q new typs terms before H after P =
+    let ps = before ++ Hypothesis H ∷ after in
+    AreMatched Q new typs terms ps (lifted_behind ps P) (lift_term (length (parameters after)) 0 H)
+
+-- By elimination: where its lifted conclusion is matched with that of the subgoal, and its first premise with a hypothesis, its other premises justify the subgoal, behind the prefix without that hypothesis.
 abbrev pub ByElimination : Type 0
-ByElimination = ForSteps (λ Q new typs terms. (before after : List Item) (H C : Term) → let ps = before ++ Hypothesis H ∷ after in (P : Term) (As : List Term) (B : Term) → Proves Q [] new.rests (chain (P ∷ As) B) → IsProposition Q (behind ps C)
-    → AreMatched Q new typs terms ps (lifted_behind ps B) C → AreMatched Q new typs terms ps (lifted_behind ps P) (lift_term (length (parameters after)) 0 H)
+ByElimination = ForSteps (λ Q new typs terms. (before : List Item) (H : Term) (after : List Item) (C : Term) → let ps = before ++ Hypothesis H ∷ after in IsProposition Q (behind ps C)
+    → (P : Term) (As : List Term) (B : Term) → Proves Q [] new.rests (chain (P ∷ As) B) → IsEliminated Q new typs terms before H after P → AreMatched Q new typs terms ps (lifted_behind ps B) C
     → IsJustified Q new (behind ps C) (lifted_premises typs terms (before ++ after) As) typs terms)
+
+-- By destruction: where the first premise of a rule is matched with a hypothesis, the others justify the subgoal together with one more: the subgoal with the rule's conclusion in place of that hypothesis, the last before its own conclusion.
+abbrev pub ByDestruction : Type 0
+ByDestruction = ForSteps (λ Q new typs terms. (before : List Item) (H : Term) (after : List Item) (C : Term) → let ps = before ++ Hypothesis H ∷ after in IsProposition Q (behind ps C)
+    → (P : Term) (As : List Term) (B : Term) → Proves Q [] new.rests (chain (P ∷ As) B) → IsEliminated Q new typs terms before H after P
+    → let others = before ++ after in
+    IsJustified Q new (behind ps C) (lifted_premises typs terms others As ++ term_instance typs terms (behind (others ++ Hypothesis (lifted_behind others B) ∷ []) C) ∷ []) typs terms)
+
+-- By an equation: `A == B` justifies A by B, under the identity maps.
+abbrev pub ByEquation : Type 0
+ByEquation = (Q : Content) → IsContent Q → IsBelow pure_content Q → (new : Theorem) (A B : Term) → Proves Q [] new.rests (eq prop A B) → IsJustified Q new A (B ∷ []) (λ T. T) (λ t. t)
