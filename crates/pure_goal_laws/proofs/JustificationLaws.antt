@@ -29,12 +29,12 @@ use Rattle.pure_goal_laws.proofs.StepLaws.{pairs-weaker, instance-chain}
 use Rattle.pure_goal_laws.proofs.MatchLaws.{matched_behind, matched_back}
 
 module _ (Q : Content) (q : IsContent Q) (above : IsBelow pure_content Q) where
-  premises-propositions : (As : List Term) (B : Term) → IsProposition Q (chain As B) → Each (IsProposition Q) As
+  pub premises-propositions : (As : List Term) (B : Term) → IsProposition Q (chain As B) → Each (IsProposition Q) As
   premises-propositions [] B h = tt
   premises-propositions (A ∷ As) B h = (premise-proposition Q above A (chain As B) h, premises-propositions As B (conclusion-proposition Q above A (chain As B) h))
 
   -- The conclusion of a chain may be followed by an inference from further hypotheses.
-  chain-then : (hyps : List Term) (rests : List Label) (As : List Term) (B C : Term) → ((H : List Term) → ((A : Term) → IsIn A hyps → IsIn A H) → Proves Q H rests B → Proves Q H rests C)
+  pub chain-then : (hyps : List Term) (rests : List Label) (As : List Term) (B C : Term) → ((H : List Term) → ((A : Term) → IsIn A hyps → IsIn A H) → Proves Q H rests B → Proves Q H rests C)
       → Proves Q hyps rests (chain As B) → Proves Q hyps rests (chain As C)
   chain-then hyps rests As B C step p =
       let propositions = premises-propositions As B (proved_is_proposition Q q above hyps rests (chain As B) p) in
@@ -48,10 +48,10 @@ module _ (Q : Content) (q : IsContent Q) (above : IsBelow pure_content Q) where
 
 module _ (Q : Content) (q : IsContent Q) (above : IsBelow pure_content Q) (new : Theorem) (typs : Typ → Typ) (terms : Term → Term) (r : AreRespecting Q typs terms) where
   -- What is proved from no hypotheses is proved at the instance, from any.
-  at_instance : (hyps : List Term) (A : Term) → Proves Q [] new.rests A → Proves Q hyps new.rests (term_instance typs terms A)
+  pub at_instance : (hyps : List Term) (A : Term) → Proves Q [] new.rests A → Proves Q hyps new.rests (term_instance typs terms A)
   at_instance hyps A p = weaker Q [] hyps new.rests new.rests (term_instance typs terms A) (λ B m. absurd m) (λ l m. m) (instance_is_proved Q q typs terms r [] new.rests A p)
 
-  chain_at_instance : (hyps : List Term) (As : List Term) (B : Term) → Proves Q [] new.rests (chain As B) → Proves Q hyps new.rests (chain (map (term_instance typs terms) As) (term_instance typs terms B))
+  pub chain_at_instance : (hyps : List Term) (As : List Term) (B : Term) → Proves Q [] new.rests (chain As B) → Proves Q hyps new.rests (chain (map (term_instance typs terms) As) (term_instance typs terms B))
   chain_at_instance hyps As B p = rw (instance-chain typs terms As B) at (at_instance hyps (chain As B) p)
 
   pub by_rule : (ps : List Item) (C : Term) → IsProposition Q (behind ps C) → (As : List Term) (B : Term) → Proves Q [] new.rests (chain As B)

@@ -4,3 +4,4 @@ pub mod LiftingLaws
 pub mod StepLaws
 pub mod MatchLaws
 pub mod JustificationLaws
+pub mod EliminationLaws

@@ -14,7 +14,7 @@ use Rattle.pure_logic.specs.Connectives.{all_typ, imp_typ, all, imp, eq, chain}
 use Rattle.pure_logic.specs.Content.{Content, IsContent, IsBelow, IsCertifiedOf, IsProposition}
 use Rattle.pure_logic.specs.PureContent.{pure_content}
 use Rattle.pure_logic.specs.Proves.{Proves}
-use Rattle.pure_logic.proofs.ConnectiveLaws.{certified_of}
+use Rattle.pure_logic.proofs.ConnectiveLaws.{certified_of, imp-parts}
 use Rattle.pure_logic.proofs.PropositionLaws.{premise-proposition, conclusion-proposition}
 use Rattle.pure_logic.proofs.ProvesLaws.{assumed, weaker, implication_is_proved, conclusion_is_proved, proved_is_proposition}
 use Rattle.pure_logic.proofs.EqualityLaws.{reflexive_equality, symmetric_equality, transitive_equality, equal_applications, equal_is_proved, beta_equality, left-of, right-of}
@@ -58,7 +58,19 @@ premise-typed bs (Hypothesis C ∷ ps) A B h =
     let rest = premise-typed bs ps A B parts.1 in
     ((prop, (prop, refl, parts.0), rest.0), (prop, (prop, refl, parts.0), rest.1))
 
+implication-typed : (bs : List Typ) (ps : List Item) (A B : Term) → HasType bs (behind ps A) prop → HasType bs (behind ps B) prop → HasType bs (behind ps (imp A B)) prop
+implication-typed bs [] A B h k = (prop, (prop, refl, h), k)
+implication-typed bs (Parameter T ∷ ps) A B h k = (arrow T prop, refl, (prop, implication-typed (T ∷ bs) ps A B (all-typed bs T (behind ps A) h) (all-typed bs T (behind ps B) k), refl))
+implication-typed bs (Hypothesis C ∷ ps) A B h k =
+    let left = imp-typed bs C (behind ps A) h in
+    (prop, (prop, refl, left.0), implication-typed bs ps A B left.1 (imp-typed bs C (behind ps B) k).1)
+
 module _ (Q : Content) where
+  implication-parts : IsBelow pure_content Q → (ps : List Item) (A B : Term) → HasCertifiedParts Q.declarations (behind ps A) → HasCertifiedParts Q.declarations (behind ps B) → HasCertifiedParts Q.declarations (behind ps (imp A B))
+  implication-parts above [] A B h k = imp-parts Q above A B h k
+  implication-parts above (Parameter T ∷ ps) A B h k = (h.0, (h.1.0, implication-parts above ps A B h.1.1 k.1.1))
+  implication-parts above (Hypothesis C ∷ ps) A B h k = (h.0, implication-parts above ps A B h.1 k.1)
+
   premise-parts : (ps : List Item) (A B : Term) → HasCertifiedParts Q.declarations (behind ps (imp A B)) → HasCertifiedParts Q.declarations (behind ps A) × HasCertifiedParts Q.declarations (behind ps B)
   premise-parts [] A B h = (h.0.1, h.1)
   premise-parts (Parameter T ∷ ps) A B h = let rest = premise-parts ps A B h.1.1 in ((h.0, (h.1.0, rest.0)), (h.0, (h.1.0, rest.1)))
@@ -69,6 +81,10 @@ module _ (Q : Content) where
 
   pub conclusion_behind : (ps : List Item) (A B : Term) → IsProposition Q (behind ps (imp A B)) → IsProposition Q (behind ps B)
   conclusion_behind ps A B h = certified_of Q (behind ps B) prop (premise-parts ps A B h.certified.parts).1 (premise-typed [] ps A B h.typed).1
+
+  -- Behind a prefix two propositions make an implication.
+  pub implication_behind : IsBelow pure_content Q → (ps : List Item) (A B : Term) → IsProposition Q (behind ps A) → IsProposition Q (behind ps B) → IsProposition Q (behind ps (imp A B))
+  implication_behind above ps A B h k = certified_of Q (behind ps (imp A B)) prop (implication-parts above ps A B h.certified.parts k.certified.parts) (implication-typed [] ps A B h.typed k.typed)
 
   -- The proposition is one of the hypotheses.
   abbrev IsAssumed : List Term → Term → Type 0

@@ -1,7 +1,7 @@
 //! What goals mean: laws, each carried by the contract of a function that does nothing.
 ghost use Rattle.pure_goal_laws.specs.Laws.Prefix.{ImplicationBehind, ChainBehind, HypothesisBehind, FurtherHypothesisBehind, EqualBehind};
 ghost use Rattle.pure_goal_laws.specs.Laws.Lifting.{LiftedRule};
-ghost use Rattle.pure_goal_laws.specs.Laws.Steps.{StepIsDerivable, ByRule, ByAssumption, ByEquation};
+ghost use Rattle.pure_goal_laws.specs.Laws.Steps.{StepIsDerivable, ByRule, ByAssumption, ByElimination, ByDestruction, ByEquation};
 
 /// What is proved behind a prefix: implications and chains of them, hypotheses, and what is equal there.
 pub fn proved_behind_prefix()
@@ -22,9 +22,11 @@ pub fn step_is_derivable()
     ensures { StepIsDerivable }
 {}
 
-/// What justifies a step: a rule, an assumption, an equation.
+/// What justifies a step: a rule, by itself, by elimination or by destruction; an assumption; an equation.
 pub fn subgoal_is_justified()
     ensures rule { ByRule }
     ensures assumption { ByAssumption }
+    ensures elimination { ByElimination }
+    ensures destruction { ByDestruction }
     ensures equation { ByEquation }
 {}
