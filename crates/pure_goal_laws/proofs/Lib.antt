@@ -5,3 +5,6 @@ pub mod StepLaws
 pub mod MatchLaws
 pub mod JustificationLaws
 pub mod EliminationLaws
+pub mod StrippingLaws
+pub mod StateLaws
+pub mod PairLaws

@@ -62,7 +62,7 @@ module _ (Q : Content) (q : IsContent Q) (above : IsBelow pure_content Q) where
   equated-propositions [] (C ∷ Cs) h = absurd h
   equated-propositions (B ∷ Bs) [] h = absurd h
 
-  equated-proved : (hyps : List Term) (rests : List Label) (B C : Term) → AreEquated Q.declarations [] [] prop B C → Proves Q hyps rests C → Proves Q hyps rests B
+  pub equated-proved : (hyps : List Term) (rests : List Label) (B C : Term) → AreEquated Q.declarations [] [] prop B C → Proves Q hyps rests C → Proves Q hyps rests B
   equated-proved hyps rests B C h p =
       equal_is_proved Q q above hyps rests C B (symmetric_equality Q q above hyps rests prop B C (equated_is_proved Q q above hyps rests [] tt prop B C h)) p
 

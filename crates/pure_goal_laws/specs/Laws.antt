@@ -1,3 +1,4 @@
 pub mod Prefix
 pub mod Lifting
 pub mod Steps
+pub mod States

@@ -1,8 +1,16 @@
--- Lifting of rules over the prefix of a subgoal (Isabelle/Isar Implementation manual, section 2.4.2).
+-- Rules: how they are read, and how they are lifted over the prefix of a subgoal (Isabelle/Isar Implementation manual, section 2.4.2).
 use Rattle.std.specs.Prelude.{ℕ, zero, suc, ◌+◌, List, [], ◌∷◌, length}
 use Rattle.pure_definitions.specs.Types.Typ.{Typ, arrow}
 use Rattle.pure_definitions.specs.Terms.Term.{Term, Var, Bound, Abs, App}
+use Rattle.pure_definitions.specs.Terms.Bounds.{subst_bound}
+use Rattle.pure_logic.specs.Connectives.{all, imp}
 use Rattle.pure_goal_laws.specs.Prefix.{Item, parameters}
+
+-- A rule is read as premises and a conclusion: its front is stripped, from the left. A schematic variable of its type is put for each quantified variable, and each hypothesis becomes a premise.
+pub data IsStripped : Term → List Term → Term → Type 0 where
+  bare : (C : Term) → IsStripped C [] C
+  quantified : (T : Typ) (B : Term) (x i : ℕ) (As : List Term) (C : Term) → IsStripped (subst_bound B (Var x i T)) As C → IsStripped (all T B) As C
+  supposed : (A B : Term) (As : List Term) (C : Term) → IsStripped B As C → IsStripped (imp A B) (A ∷ As) C
 
 -- the type of functions from these types, in order, to T
 abbrev pub function_typ : List Typ → Typ → Typ

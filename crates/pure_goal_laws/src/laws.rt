@@ -1,7 +1,8 @@
 //! What goals mean: laws, each carried by the contract of a function that does nothing.
 ghost use Rattle.pure_goal_laws.specs.Laws.Prefix.{ImplicationBehind, ChainBehind, HypothesisBehind, FurtherHypothesisBehind, EqualBehind};
-ghost use Rattle.pure_goal_laws.specs.Laws.Lifting.{LiftedRule};
+ghost use Rattle.pure_goal_laws.specs.Laws.Lifting.{StrippedRule, LiftedRule};
 ghost use Rattle.pure_goal_laws.specs.Laws.Steps.{StepIsDerivable, ByRule, ByAssumption, ByElimination, ByDestruction, ByEquation};
+ghost use Rattle.pure_goal_laws.specs.Laws.States.{StartIsDerivable, EndIsDerivable, ConvertedIsDerivable, ReorderedIsDerivable, PreferredIsDerivable, DeferredIsDerivable, DroppedIsDerivable, SmashedIsDerivable};
 
 /// What is proved behind a prefix: implications and chains of them, hypotheses, and what is equal there.
 pub fn proved_behind_prefix()
@@ -12,9 +13,10 @@ pub fn proved_behind_prefix()
     ensures equal { EqualBehind }
 {}
 
-/// A rule may be lifted over the prefix of a subgoal.
+/// A rule may be stripped of its front, and lifted over the prefix of a subgoal.
 pub fn rule_is_lifted()
-    ensures { LiftedRule }
+    ensures stripped { StrippedRule }
+    ensures lifted { LiftedRule }
 {}
 
 /// A step from a derivable goal, with a justification, leads to a derivable goal.
@@ -29,4 +31,24 @@ pub fn subgoal_is_justified()
     ensures elimination { ByElimination }
     ensures destruction { ByDestruction }
     ensures equation { ByEquation }
+{}
+
+/// The first goal for a proposition, and the proposition from a goal without subgoals.
+pub fn goal_begins_and_ends()
+    ensures start { StartIsDerivable }
+    ensures end { EndIsDerivable }
+{}
+
+/// Subgoals may be converted, and stand in another order.
+pub fn subgoals_are_exchanged()
+    ensures converted { ConvertedIsDerivable }
+    ensures reordered { ReorderedIsDerivable }
+    ensures preferred { PreferredIsDerivable }
+    ensures deferred { DeferredIsDerivable }
+{}
+
+/// Trivial pairs may be dropped, and all pairs smashed.
+pub fn pairs_are_removed()
+    ensures dropped { DroppedIsDerivable }
+    ensures smashed { SmashedIsDerivable }
 {}
