@@ -1,16 +1,15 @@
 -- Closing terms: terms without loose bound variables are put for the loose bound variables of a term.
-use Rattle.std.proofs.Common.{◌≡◌, ℕ, ◌+◌, List, [], ◌∷◌, refl, ap, sym, ◌∙◌, arith}
+use Rattle.std.proofs.Common.{◌≡◌, ℕ, ◌+◌, List, [], ◌∷◌, refl, ap, ◌∙◌, arith}
 use Rattle.pure_text.specs.Lists.{EachTwo}
 use Rattle.pure_definitions.specs.Types.Typ.{Typ}
 use Rattle.pure_definitions.specs.Terms.Term.{Term, Bound, Abs, App}
 use Rattle.pure_definitions.specs.Terms.Typing.{HasType}
 use Rattle.pure_definitions.specs.Terms.Bounds.{lift_term, subst_under, subst_bound}
 use Rattle.pure_definitions.specs.Declarations.Decl.{Decl}
-use Rattle.pure_definitions.proofs.LiftLaws.{subst-lift}
 use Rattle.pure_term_laws.proofs.CertifiedLaws.{parts-subst}
 use Rattle.pure_term_laws.proofs.MapLaws.{subst-past-lift, subst-past-subst}
-use Rattle.pure_term_laws.proofs.TypingLaws.{typed-closed, lift-closed}
 use Rattle.pure_term_laws.proofs.TypingBoundLaws.{typing-subst, typing-weaken}
+use Rattle.pure_logic.proofs.EqualityLaws.{still}
 use Rattle.pure_equated.specs.Equated.{IsTypedUnder}
 
 -- Under n binders of the term: the terms in place of its further loose bound variables, the innermost first.
@@ -42,9 +41,7 @@ closing-own (c ∷ ts) = closing-own ts
 -- A term without loose bound variables stays.
 pub closing-closed : (ts : List Term) (t : Term) (T : Typ) → HasType [] t T → closing 0 ts t ≡ t
 closing-closed [] t T h = refl
-closing-closed (c ∷ ts) t T h =
-    let still : subst_under 0 c t ≡ t = ap (subst_under 0 c) (sym (lift-closed 1 0 t (typed-closed t T h))) ∙ subst-lift 0 c t in
-    ap (closing 0 ts) still ∙ closing-closed ts t T h
+closing-closed (c ∷ ts) t T h = ap (closing 0 ts) (still 0 c t T h) ∙ closing-closed ts t T h
 
 -- The terms may be put for bound variables of these types.
 abbrev pub AreForBinders : (ds : List Decl) → List Term → List Typ → Type 0

@@ -16,7 +16,7 @@ use Rattle.pure_logic.specs.Derivable.{Pair}
 use Rattle.pure_logic.specs.Proves.{Proves}
 use Rattle.pure_logic.proofs.ConnectiveLaws.{certified_of}
 use Rattle.pure_logic.proofs.ProvesLaws.{proved_is_proposition}
-use Rattle.pure_logic.proofs.EqualityLaws.{reflexive_equality, symmetric_equality, transitive_equality, equal_applications, beta_equality, equal_abstractions, eta_equality}
+use Rattle.pure_logic.proofs.EqualityLaws.{reflexive_equality, symmetric_equality, transitive_equality, equal_applications, beta_equality, equal_abstractions, eta_equality, equal_is_proved}
 use Rattle.pure_equated.specs.Equated.{IsTypedUnder, AreEquated}
 use Rattle.pure_equated.specs.Laws.Proved.{IsPairProved}
 use Rattle.pure_equated.proofs.SidesLaws.{equated_are_typed, typed-abstraction}
@@ -84,3 +84,7 @@ module _ (Q : Content) (q : IsContent Q) (above : IsBelow pure_content Q) (hyps 
 pub equated_is_proved : (Q : Content) → IsContent Q → IsBelow pure_content Q → (hyps : List Term) (rests : List Label) (pairs : List Pair) → Each (IsPairProved Q hyps rests) pairs
     → (T : Typ) (t u : Term) → AreEquated Q.declarations pairs [] T t u → Proves Q hyps rests (eq T t u)
 equated_is_proved Q q above hyps rests pairs proved T t u e = equal-closing Q q above hyps rests pairs proved [] T t u [] tt e
+
+pub equated_proposition_is_proved : (Q : Content) → IsContent Q → IsBelow pure_content Q → (hyps : List Term) (rests : List Label) (pairs : List Pair) → Each (IsPairProved Q hyps rests) pairs
+    → (A B : Term) → AreEquated Q.declarations pairs [] prop A B → Proves Q hyps rests A → Proves Q hyps rests B
+equated_proposition_is_proved Q q above hyps rests pairs proved A B e p = equal_is_proved Q q above hyps rests A B (equated_is_proved Q q above hyps rests pairs proved prop A B e) p

@@ -4,13 +4,12 @@ use Rattle.std.proofs.lemmas.Bool.{lt-ltb}
 use Rattle.pure_text.specs.Lists.{Each}
 use Rattle.pure_text.proofs.ListLaws.{each_at, in-map}
 use Rattle.pure_definitions.specs.Types.Typ.{Typ, arrow}
-use Rattle.pure_definitions.specs.Terms.Term.{Term, Free, Var, Bound, Abs, App}
+use Rattle.pure_definitions.specs.Terms.Term.{Term, Bound, Abs, App}
 use Rattle.pure_definitions.specs.Terms.Bounds.{lift_term, subst_bound}
 use Rattle.pure_definitions.specs.Terms.Subst.{typ_instance, term_instance}
 use Rattle.pure_definitions.specs.Declarations.Decl.{Decl}
 use Rattle.pure_definitions.specs.Declarations.Certified.{IsCertifiedTyp}
 use Rattle.pure_definitions.proofs.LiftLaws.{lift-lift}
-use Rattle.pure_term_laws.specs.LawsMaps.{AreImagesClosed}
 use Rattle.pure_term_laws.proofs.BindLaws.{lift-past-subst}
 use Rattle.pure_term_laws.proofs.CertifiedLaws.{parts-lift}
 use Rattle.pure_term_laws.proofs.MapLaws.{instance-lift, instance-subst}
@@ -21,6 +20,7 @@ use Rattle.pure_logic.specs.Concludes.{AreRespecting}
 use Rattle.pure_logic.specs.Derivable.{Pair}
 use Rattle.pure_logic.specs.Laws.Substitution.{pair_instance}
 use Rattle.pure_logic.proofs.InstanceLaws.{parts-instance}
+use Rattle.pure_logic.proofs.SubstitutionLaws.{images_closed}
 use Rattle.pure_logic.proofs.WeakeningLaws.{typ_instance-certified}
 use Rattle.pure_equated.specs.Equated.{IsTypedUnder, AreEquated, IsPairEquated}
 use Rattle.pure_equated.proofs.SidesLaws.{equated_are_typed}
@@ -72,21 +72,15 @@ module _ (ds : List Decl) (pairs : List Pair) where
   equated_in_scope bs cs T t u (AreEquated.application {T = V} {f = f} {g = g} {a = a} {b = b} e j) = AreEquated.application (equated_in_scope bs cs (arrow V T) f g e) (equated_in_scope bs cs V a b j)
 
   -- Abstractions of the bodies are equated, and so are they applied to the arguments; beta on either side gives the instances.
-  pub equated_of_subst : (bs : List Typ) (V T : Typ) (b c a d : Term) → IsCertifiedTyp ds V → AreEquated ds pairs (V ∷ bs) T b c → AreEquated ds pairs bs V a d → AreEquated ds pairs bs T (subst_bound b a) (subst_bound c d)
-  equated_of_subst bs V T b c a d v e k =
+  pub equated-contracta : (bs : List Typ) (V T : Typ) (b c a d : Term) → IsCertifiedTyp ds V → AreEquated ds pairs (V ∷ bs) T b c → AreEquated ds pairs bs V a d → AreEquated ds pairs bs T (subst_bound b a) (subst_bound c d)
+  equated-contracta bs V T b c a d v e k =
       let applied : AreEquated ds pairs bs T (App (Abs V b) a) (App (Abs V c) d) = AreEquated.application (AreEquated.abstraction v e) k in
       let sides = equated_are_typed ds pairs bs T (App (Abs V b) a) (App (Abs V c) d) applied in
       AreEquated.through (AreEquated.back (AreEquated.beta sides.0)) (AreEquated.through applied (AreEquated.beta sides.1))
 
 -- The instance of a typed term by maps that respect a content is typed.
 module _ (Q : Content) (q : IsContent Q) (typs : Typ → Typ) (terms : Term → Term) (r : AreRespecting Q typs terms) (pairs : List Pair) where
-  images_closed : AreImagesClosed terms
-  images_closed = record {
-    fixed = λ x T. typed-closed (terms (Free x T)) (typ_instance typs T) (r.types.fixed x T);
-    schematic = λ x i T. typed-closed (terms (Var x i T)) (typ_instance typs T) (r.types.schematic x i T);
-  }
-
-  typed-instance : (bs : List Typ) (t : Term) (T : Typ) → IsTypedUnder Q.declarations bs t T → IsTypedUnder Q.declarations (map (typ_instance typs) bs) (term_instance typs terms t) (typ_instance typs T)
+  pub typed-instance : (bs : List Typ) (t : Term) (T : Typ) → IsTypedUnder Q.declarations bs t T → IsTypedUnder Q.declarations (map (typ_instance typs) bs) (term_instance typs terms t) (typ_instance typs T)
   typed-instance bs t T h = record { parts = parts-instance Q q typs terms r t h.parts; typed = typing-instance typs terms r.types bs t T h.typed }
 
   certified-instance : (V : Typ) → IsCertifiedTyp Q.declarations V → IsCertifiedTyp Q.declarations (typ_instance typs V)
@@ -106,12 +100,12 @@ module _ (Q : Content) (q : IsContent Q) (typs : Typ → Typ) (terms : Term → 
   equated-instance bs T t u (AreEquated.beta {V = V} {b = b} {a = a} h) =
       let redex = term_instance typs terms (App (Abs V b) a) in
       instances-along bs T redex (term_instance typs terms (subst_bound b a)) redex (subst_bound (term_instance typs terms b) (term_instance typs terms a)) refl
-      (instance-subst typs terms images_closed 0 a b)
+      (instance-subst typs terms (images_closed Q typs terms r) 0 a b)
       (AreEquated.beta (typed-instance bs (App (Abs V b) a) T h))
   equated-instance bs T t u (AreEquated.eta {V = V} {U = U} {f = f} v h) =
       let image = term_instance typs terms f in
       instances-along bs (arrow V U) (term_instance typs terms (Abs V (App (lift_term 1 0 f) (Bound 0)))) image (Abs (typ_instance typs V) (App (lift_term 1 0 image) (Bound 0))) image
-      (ap (λ g. Abs (typ_instance typs V) (App g (Bound 0))) (instance-lift typs terms images_closed 1 0 f)) refl
+      (ap (λ g. Abs (typ_instance typs V) (App g (Bound 0))) (instance-lift typs terms (images_closed Q typs terms r) 1 0 f)) refl
       (AreEquated.eta (certified-instance V v) (typed-instance bs f (arrow V U) h))
   equated-instance bs T t u (AreEquated.pair p i h j) =
       AreEquated.pair (pair_instance typs terms p) (in-map (pair_instance typs terms) p pairs i) (typed-instance [] p.left T h) (typed-instance [] p.right T j)

@@ -24,6 +24,15 @@ module _ (ds : List Decl) where
   pub typed-application : (bs : List Typ) (T U : Typ) (f a : Term) → IsTypedUnder ds bs f (arrow T U) → IsTypedUnder ds bs a T → IsTypedUnder ds bs (App f a) U
   typed-application bs T U f a h k = record { parts = (h.parts, k.parts); typed = (T, h.typed, k.typed) }
 
+  pub typed-function : (bs : List Typ) (U : Typ) (f a : Term) (h : IsTypedUnder ds bs (App f a) U) → IsTypedUnder ds bs f (arrow h.typed.0 U)
+  typed-function bs U f a h = record { parts = h.parts.0; typed = h.typed.1 }
+
+  pub typed-argument : (bs : List Typ) (U : Typ) (f a : Term) (h : IsTypedUnder ds bs (App f a) U) → IsTypedUnder ds bs a h.typed.0
+  typed-argument bs U f a h = record { parts = h.parts.1; typed = h.typed.2 }
+
+  pub typed-body : (bs : List Typ) (T V : Typ) (b : Term) (h : IsTypedUnder ds bs (Abs V b) T) → IsTypedUnder ds (V ∷ bs) b h.typed.0
+  typed-body bs T V b h = record { parts = h.parts.1; typed = h.typed.1 }
+
   -- A contractum has the redex's type.
   pub typed-contractum : (bs : List Typ) (V U : Typ) (b a : Term) → IsTypedUnder ds bs (App (Abs V b) a) U → IsTypedUnder ds bs (subst_bound b a) U
   typed-contractum bs V U b a h =

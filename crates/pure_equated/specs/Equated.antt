@@ -29,3 +29,10 @@ pub data AreEquated (ds : List Decl) (pairs : List Pair) : List Typ → Typ → 
 -- The sides of the pair are equated modulo the pairs, under no binders, at some type.
 abbrev pub IsPairEquated : (ds : List Decl) → (pairs : List Pair) → Pair → Type 0
 IsPairEquated ds pairs p = (T : Typ) × AreEquated ds pairs [] T p.left p.right
+
+-- Under binders of these types the two terms are equal node by node, but for nodes at which they are equated modulo the pairs.
+pub data AreEqualModulo (ds : List Decl) (pairs : List Pair) : List Typ → Term → Term → Type 0 where
+  equated : {bs : List Typ} {T : Typ} {t u : Term} → AreEquated ds pairs bs T t u → AreEqualModulo ds pairs bs t u
+  itself : {bs : List Typ} {t : Term} → AreEqualModulo ds pairs bs t t
+  bodies : {bs : List Typ} {V : Typ} {b c : Term} → AreEqualModulo ds pairs (V ∷ bs) b c → AreEqualModulo ds pairs bs (Abs V b) (Abs V c)
+  applied : {bs : List Typ} {f g a b : Term} → AreEqualModulo ds pairs bs f g → AreEqualModulo ds pairs bs a b → AreEqualModulo ds pairs bs (App f a) (App g b)

@@ -1,4 +1,6 @@
 -- What the definitions mean: the statements of the laws.
 pub mod Sides
 pub mod Kept
+pub mod Reduction
+pub mod Nodes
 pub mod Proved

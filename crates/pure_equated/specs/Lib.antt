@@ -1,2 +1,3 @@
 pub mod Equated
 pub mod Laws
+pub mod Examples

@@ -23,7 +23,7 @@ use Rattle.pure_logic.proofs.PropositionLaws.{typ-of_certified}
 use Rattle.pure_logic.proofs.ProvesLaws.{conclusion_is_proved, proved_is_proposition, quantification_is_proved}
 
 -- A term without loose bound variables stays where a bound variable is replaced.
-still : (n : ℕ) (a t : Term) (T : Typ) → HasType [] t T → subst_under n a t ≡ t
+pub still : (n : ℕ) (a t : Term) (T : Typ) → HasType [] t T → subst_under n a t ≡ t
 still n a t T h = ap (subst_under n a) (sym (lift-closed 1 n t (typed-closed t T h))) ∙ subst-lift n a t
 
 module _ (Q : Content) (q : IsContent Q) (above : IsBelow pure_content Q) (hyps : List Term) (rests : List Label) where

@@ -56,7 +56,7 @@ module _ (Q : Content) (above : IsBelow pure_content Q) where
   pub typ-of_certified : (t : Term) (T : Typ) → IsCertifiedOf Q t T → IsCertifiedTyp Q.declarations T
   typ-of_certified t T h = typ-certified Q above [] t T tt h.certified.parts h.typed
 
-  eq-proposition : (T : Typ) (t u : Term) → IsCertifiedOf Q t T → IsCertifiedOf Q u T → IsProposition Q (eq T t u)
+  pub eq-proposition : (T : Typ) (t u : Term) → IsCertifiedOf Q t T → IsCertifiedOf Q u T → IsProposition Q (eq T t u)
   eq-proposition T t u h k = certified_of Q (eq T t u) prop (eq-parts Q above T t u (typ-of_certified t T h) h.certified.parts k.certified.parts) (T, (T, refl, h.typed), k.typed)
 
   -- A body of type prop under one binder makes a quantification.

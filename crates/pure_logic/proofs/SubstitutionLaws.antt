@@ -35,7 +35,7 @@ use Rattle.pure_logic.proofs.DischargeLaws.{discharged}
 typ-again : (first second : Typ → Typ) (T : Typ) → typ_instance second (typ_instance first T) ≡ typ_instance (λ v. typ_instance second (first v)) T
 typ-again first second T = let whole = instance-instance first second (λ t. t) (λ t. t) (Const 0 T) in cc
 
-images_closed : (Q : Content) (typs : Typ → Typ) (terms : Term → Term) → AreRespecting Q typs terms → AreImagesClosed terms
+pub images_closed : (Q : Content) (typs : Typ → Typ) (terms : Term → Term) → AreRespecting Q typs terms → AreImagesClosed terms
 images_closed Q typs terms r = record {
   fixed = λ x T. typed-closed (terms (Free x T)) (typ_instance typs T) (r.types.fixed x T);
   schematic = λ x i T. typed-closed (terms (Var x i T)) (typ_instance typs T) (r.types.schematic x i T);

@@ -3,7 +3,7 @@ use Rattle.std.specs.Prelude.{◌≡◌, ℕ, List, ◌∷◌, ◌++◌, length,
 use Rattle.pure_text.specs.Lists.{Each}
 use Rattle.pure_definitions.specs.Types.Typ.{Typ}
 use Rattle.pure_definitions.specs.Terms.Term.{Term}
-use Rattle.pure_definitions.specs.Terms.Bounds.{lift_term, subst_bound}
+use Rattle.pure_definitions.specs.Terms.Bounds.{lift_term, subst_under}
 use Rattle.pure_definitions.specs.Terms.Subst.{typ_instance, term_instance}
 use Rattle.pure_definitions.specs.Declarations.Decl.{Decl}
 use Rattle.pure_definitions.specs.Declarations.Certified.{IsCertifiedTyp}
@@ -22,10 +22,10 @@ EquatedOfLift = (ds : List Decl) (pairs : List Pair) (bs es cs : List Typ) (n by
 abbrev pub EquatedInScope : Type 0
 EquatedInScope = (ds : List Decl) (pairs : List Pair) (bs cs : List Typ) (T : Typ) (t u : Term) → AreEquated ds pairs bs T t u → AreEquated ds pairs (bs ++ cs) T t u
 
--- Instantiation of the innermost bound variable with equated terms.
+-- Instantiation of a bound variable with equated terms, under further binders of the term's own.
 abbrev pub EquatedOfSubst : Type 0
-EquatedOfSubst = (ds : List Decl) (pairs : List Pair) (bs : List Typ) (V T : Typ) (b c a d : Term) → IsCertifiedTyp ds V
-    → AreEquated ds pairs (V ∷ bs) T b c → AreEquated ds pairs bs V a d → AreEquated ds pairs bs T (subst_bound b a) (subst_bound c d)
+EquatedOfSubst = (ds : List Decl) (pairs : List Pair) (bs cs : List Typ) (n : ℕ) (V T : Typ) (b c a d : Term) → n ≡ length bs → Each (IsCertifiedTyp ds) bs → IsCertifiedTyp ds V
+    → AreEquated ds pairs (bs ++ V ∷ cs) T b c → AreEquated ds pairs cs V a d → AreEquated ds pairs (bs ++ cs) T (subst_under n a b) (subst_under n d c)
 
 -- Respecting maps of a content, which map the pairs and the types of the binders too.
 abbrev pub EquatedOfInstance : Type 0

@@ -2,7 +2,7 @@
 use Rattle.std.specs.Prelude.{List, []}
 use Rattle.pure_text.specs.Lists.{Each}
 use Rattle.pure_definitions.specs.Names.{Label}
-use Rattle.pure_definitions.specs.Types.Typ.{Typ}
+use Rattle.pure_definitions.specs.Types.Typ.{Typ, prop}
 use Rattle.pure_definitions.specs.Terms.Term.{Term}
 use Rattle.pure_logic.specs.Connectives.{eq}
 use Rattle.pure_logic.specs.Content.{Content, IsContent, IsBelow, IsCertifiedOf}
@@ -20,11 +20,21 @@ abbrev pub EquatedIsProved : Type 0
 EquatedIsProved = (Q : Content) → IsContent Q → IsBelow pure_content Q → (hyps : List Term) (rests : List Label) (pairs : List Pair) → Each (IsPairProved Q hyps rests) pairs
     → (T : Typ) (t u : Term) → AreEquated Q.declarations pairs [] T t u → Proves Q hyps rests (eq T t u)
 
+-- A proposition that is equated with a proved one is proved.
+abbrev pub EquatedPropositionIsProved : Type 0
+EquatedPropositionIsProved = (Q : Content) → IsContent Q → IsBelow pure_content Q → (hyps : List Term) (rests : List Label) (pairs : List Pair) → Each (IsPairProved Q hyps rests) pairs
+    → (A B : Term) → AreEquated Q.declarations pairs [] prop A B → Proves Q hyps rests A → Proves Q hyps rests B
+
+-- So the proposition of a derivable theorem may be replaced by one that is equated with it modulo the theorem's own pairs.
+abbrev pub PropositionIsReplaced : Type 0
+PropositionIsReplaced = (Q : Content) → IsContent Q → IsBelow pure_content Q → (th : Theorem) (B : Term) → AreEquated Q.declarations th.pairs [] prop th.prop B
+    → IsDerivable Q th → IsDerivable Q (record th { prop = B })
+
 -- Both sides of the pair are certified, of one type.
 abbrev pub IsCertifiedPair : Content → Pair → Type 0
 IsCertifiedPair Q p = (T : Typ) × IsCertifiedOf Q p.left T × IsCertifiedOf Q p.right T
 
--- So the pairs of a derivable theorem may be replaced by others, with certified sides, modulo which they are equated.
+-- And the pairs of a derivable theorem may be replaced by others, with certified sides, modulo which they are equated.
 abbrev pub PairsAreReplaced : Type 0
 PairsAreReplaced = (Q : Content) → IsContent Q → IsBelow pure_content Q → (th : Theorem) (others : List Pair) → Each (IsCertifiedPair Q) others → Each (IsPairEquated Q.declarations others) th.pairs
     → IsDerivable Q th → IsDerivable Q (record th { pairs = others })

@@ -1,4 +1,5 @@
-use Rattle.pure_equated.proofs.KeptLaws.{equated_of_lift, equated_in_scope, equated_of_subst, equated_of_instance, equated_modulo_others}
+use Rattle.pure_equated.proofs.KeptLaws.{equated_of_lift, equated_in_scope, equated_of_instance, equated_modulo_others}
+use Rattle.pure_equated.proofs.NodesLaws.{equated_of_subst}
 use Rattle.pure_equated.proofs.laws.equated_is_kept.Goals as goal
 
 pub returns-clause-lifted : goal.returns-clause-lifted
