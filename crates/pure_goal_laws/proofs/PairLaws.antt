@@ -18,9 +18,9 @@ use Rattle.pure_logic.proofs.SubstitutionLaws.{instance_is_derivable}
 use Rattle.pure_equated.specs.Equated.{AreEquated, IsPairEquated, back}
 use Rattle.pure_equated.specs.Laws.Proved.{IsCertifiedPair}
 use Rattle.pure_equated.proofs.SidesLaws.{equated_are_typed}
+use Rattle.pure_equated.proofs.EquatedLaws.{equated_proposition_is_proved}
 use Rattle.pure_equated.proofs.PairsLaws.{pairs_are_replaced}
 use Rattle.pure_goal_laws.specs.Laws.States.{IsSmashed}
-use Rattle.pure_goal_laws.proofs.StepLaws.{equated-proved}
 use Rattle.pure_goal_laws.proofs.StateLaws.{pairs-certified, pair-equated}
 
 module _ (Q : Content) (q : IsContent Q) (above : IsBelow pure_content Q) where
@@ -45,7 +45,7 @@ module _ (Q : Content) (q : IsContent Q) (above : IsBelow pure_content Q) where
   others-assumed hyps rests (A ∷ As) h =
       let sides = equated_are_typed Q.declarations [] [] prop A h.0.0 h.0.2 in
       let other = certified_of Q h.0.0 prop sides.1.parts sides.1.typed in
-      ((certified_of Q A prop sides.0.parts sides.0.typed, equated-proved Q q above hyps rests A h.0.0 h.0.2 (assumed Q hyps rests h.0.0 other h.0.1)), others-assumed hyps rests As h.1)
+      ((certified_of Q A prop sides.0.parts sides.0.typed, equated_proposition_is_proved Q q above hyps rests [] tt h.0.0 A (back h.0.2) (assumed Q hyps rests h.0.0 other h.0.1)), others-assumed hyps rests As h.1)
 
   pub smashed_is_derivable : (th smashed : Theorem) (typs : Typ → Typ) (terms : Term → Term) → IsSmashed Q th smashed typs terms → IsDerivable Q th → IsDerivable Q smashed
   smashed_is_derivable th smashed typs terms is h =
@@ -61,5 +61,5 @@ module _ (Q : Content) (q : IsContent Q) (above : IsBelow pure_content Q) where
         equations = [];
         are_equations = rw is.no_pairs tt;
         propositions = tt;
-        proves = rw is.rests (equated-proved Q q above hyps th.rests smashed.prop (f th.prop) (back is.proposition) proved);
+        proves = rw is.rests (equated_proposition_is_proved Q q above hyps th.rests [] tt (f th.prop) smashed.prop is.proposition proved);
       })

@@ -16,7 +16,7 @@ use Rattle.pure_logic.specs.Proves.{Proves, IsEquation}
 use Rattle.pure_logic.specs.Laws.Substitution.{pair_instance}
 use Rattle.pure_logic.proofs.ConnectiveLaws.{certified_of}
 use Rattle.pure_logic.proofs.EachLaws.{moved, moved_back}
-use Rattle.pure_logic.proofs.EqualityLaws.{left-certified, right-certified, equal_is_proved, mark_means_nothing}
+use Rattle.pure_logic.proofs.EqualityLaws.{left-certified, right-certified, mark_means_nothing}
 use Rattle.pure_logic.proofs.InferenceLaws.{inferred_from_one}
 use Rattle.pure_logic.proofs.MapLaws.{identity_respects}
 use Rattle.pure_logic.proofs.ProvesLaws.{derivable_is_proves, assumed, weaker, implication_is_proved, chain_is_proved, end_of_chain_is_proved, proved_is_proposition, derivable-proved}
@@ -24,7 +24,7 @@ use Rattle.pure_logic.proofs.PropositionLaws.{derivable_is_proposition}
 use Rattle.pure_equated.specs.Equated.{AreEquated, IsPairEquated, same, pair}
 use Rattle.pure_equated.specs.Laws.Proved.{IsCertifiedPair}
 use Rattle.pure_equated.proofs.SidesLaws.{equated_are_typed}
-use Rattle.pure_equated.proofs.EquatedLaws.{equated_is_proved}
+use Rattle.pure_equated.proofs.EquatedLaws.{equated_proposition_is_proved}
 use Rattle.pure_goal_laws.proofs.StepLaws.{step_is_derivable}
 use Rattle.pure_goal_laws.proofs.JustificationLaws.{premises-propositions, by_equation}
 
@@ -34,7 +34,7 @@ module _ (Q : Content) (q : IsContent Q) (above : IsBelow pure_content Q) where
       let sides = equated_are_typed Q.declarations [] [] prop S C h in
       let subgoal = certified_of Q S prop sides.0.parts sides.0.typed in
       let conclusion = certified_of Q C prop sides.1.parts sides.1.typed in
-      let proved = equal_is_proved Q q above (S ∷ []) [] S C (equated_is_proved Q q above (S ∷ []) [] [] tt prop S C h) (assumed Q (S ∷ []) [] S subgoal (inl refl)) in
+      let proved = equated_proposition_is_proved Q q above (S ∷ []) [] [] tt S C h (assumed Q (S ∷ []) [] S subgoal (inl refl)) in
       (derivable_is_proves Q [] [] (chain (S ∷ []) (protect C))).1 (implication_is_proved Q [] [] S (protect C) subgoal ((mark_means_nothing Q q above (S ∷ []) [] C conclusion).1 proved))
 
   -- What the mark stands before is a proposition where the whole is.
@@ -96,9 +96,9 @@ module _ (Q : Content) (q : IsContent Q) (above : IsBelow pure_content Q) where
     pairs-unchanged all ps (λ r m. among r (inr m)) h.1,
   )
 
-  subgoals-unchanged : (As : List Term) → Each (IsProposition Q) As → EachTwo (λ A S. AreEquated Q.declarations [] [] prop A S) (map (term_instance (λ T. T) (λ t. t)) As) As
-  subgoals-unchanged [] h = tt
-  subgoals-unchanged (A ∷ As) h = (rw (term_instance-identity A) (same (record { parts = h.0.certified.parts; typed = h.0.typed })), subgoals-unchanged As h.1)
+  subgoals-unchanged : (pairs : List Pair) (As : List Term) → Each (IsProposition Q) As → EachTwo (λ A S. AreEquated Q.declarations pairs [] prop A S) (map (term_instance (λ T. T) (λ t. t)) As) As
+  subgoals-unchanged pairs [] h = tt
+  subgoals-unchanged pairs (A ∷ As) h = (rw (term_instance-identity A) (same (record { parts = h.0.certified.parts; typed = h.0.typed })), subgoals-unchanged pairs As h.1)
 
   pub converted_is_derivable : (goal : Theorem) (A B : Term) (others : List Term) (G : Term) (rests : List Label) → goal.hyps ≡ [] → goal.prop ≡ chain (A ∷ others) G → ((l : Label) → IsIn l goal.rests → IsIn l rests)
       → Proves Q [] rests (eq prop A B) → IsDerivable Q goal → IsDerivable Q (record goal { prop = chain (B ∷ others) G; rests = rests })
@@ -114,7 +114,7 @@ module _ (Q : Content) (q : IsContent Q) (above : IsBelow pure_content Q) where
         pairs = pairs-unchanged goal.pairs goal.pairs (λ r m. m) certified;
         new_pairs = certified;
         subgoals = B ∷ others;
-        are_subgoals = (same (record { parts = right.certified.parts; typed = right.typed }), subgoals-unchanged others propositions.1);
+        are_subgoals = (same (record { parts = right.certified.parts; typed = right.typed }), subgoals-unchanged goal.pairs others propositions.1);
         new_hyps = no_hyps;
         new_prop = ap (chain (B ∷ others)) (sym (term_instance-identity G));
         rests = among;

@@ -17,10 +17,10 @@ use Rattle.pure_logic.proofs.EachLaws.{each-left, each-right}
 use Rattle.pure_logic.proofs.EqualityLaws.{symmetric_equality, equal_is_proved}
 use Rattle.pure_logic.proofs.ProvesLaws.{assumed, weaker, chain_is_proved, end_of_chain_is_proved, derivable-proved, proved-derivable}
 use Rattle.pure_logic.proofs.SubstitutionLaws.{instance_is_derivable}
-use Rattle.pure_equated.specs.Equated.{AreEquated}
+use Rattle.pure_equated.specs.Equated.{AreEquated, back}
 use Rattle.pure_equated.specs.Laws.Proved.{IsPairProved}
 use Rattle.pure_equated.proofs.SidesLaws.{equated_are_typed}
-use Rattle.pure_equated.proofs.EquatedLaws.{equated_is_proved}
+use Rattle.pure_equated.proofs.EquatedLaws.{equated_proposition_is_proved}
 use Rattle.pure_equated.proofs.PairsLaws.{pairs_are_replaced}
 use Rattle.pure_goal_laws.specs.GoalStep.{IsGoalStep, IsJustified}
 
@@ -53,39 +53,39 @@ module _ (Q : Content) (q : IsContent Q) (above : IsBelow pure_content Q) where
           (weaker Q (p.equations ++ hyps) H rests new.rests A (λ B m. elim (in_split B p.equations hyps m) [ inl n ↦ in-append_left B p.equations new.hyps n | inr n ↦ in-append_right B p.equations new.hyps (hyps_among B n) ]) rests_among p.proves);
       })
 
-  -- Propositions that are equated: both are ones, and the one is proved where the other is.
-  equated-propositions : (Bs Cs : List Term) → EachTwo (λ B C. AreEquated Q.declarations [] [] prop B C) Bs Cs → Each (IsProposition Q) Cs
-  equated-propositions [] [] h = tt
-  equated-propositions (B ∷ Bs) (C ∷ Cs) h =
-      let right = (equated_are_typed Q.declarations [] [] prop B C h.0).1 in
-      (certified_of Q C prop right.parts right.typed, equated-propositions Bs Cs h.1)
-  equated-propositions [] (C ∷ Cs) h = absurd h
-  equated-propositions (B ∷ Bs) [] h = absurd h
+  -- Of propositions that are equated modulo pairs whose equations are proved: those on the right are propositions, and those on the left are proved from them.
+  module _ (pairs : List Pair) where
+    equated-propositions : (Bs Cs : List Term) → EachTwo (λ B C. AreEquated Q.declarations pairs [] prop B C) Bs Cs → Each (IsProposition Q) Cs
+    equated-propositions [] [] h = tt
+    equated-propositions (B ∷ Bs) (C ∷ Cs) h =
+        let right = (equated_are_typed Q.declarations pairs [] prop B C h.0).1 in
+        (certified_of Q C prop right.parts right.typed, equated-propositions Bs Cs h.1)
+    equated-propositions [] (C ∷ Cs) h = absurd h
+    equated-propositions (B ∷ Bs) [] h = absurd h
 
-  pub equated-proved : (hyps : List Term) (rests : List Label) (B C : Term) → AreEquated Q.declarations [] [] prop B C → Proves Q hyps rests C → Proves Q hyps rests B
-  equated-proved hyps rests B C h p =
-      equal_is_proved Q q above hyps rests C B (symmetric_equality Q q above hyps rests prop B C (equated_is_proved Q q above hyps rests [] tt prop B C h)) p
-
-  all-equated-proved : (hyps : List Term) (rests : List Label) (Bs Cs : List Term) → EachTwo (λ B C. AreEquated Q.declarations [] [] prop B C) Bs Cs → ((A : Term) → IsIn A Cs → IsIn A hyps) → Each (IsProposition Q) Cs
-      → Each (λ A. Proves Q hyps rests A) Bs
-  all-equated-proved hyps rests [] [] h among k = tt
-  all-equated-proved hyps rests (B ∷ Bs) (C ∷ Cs) h among k =
-      (equated-proved hyps rests B C h.0 (assumed Q hyps rests C k.0 (among C (inl refl))), all-equated-proved hyps rests Bs Cs h.1 (λ A m. among A (inr m)) k.1)
-  all-equated-proved hyps rests [] (C ∷ Cs) h among k = absurd h
-  all-equated-proved hyps rests (B ∷ Bs) [] h among k = absurd h
+    equated-proved : (hyps : List Term) (rests : List Label) → Each (IsPairProved Q hyps rests) pairs → (Bs Cs : List Term) → EachTwo (λ B C. AreEquated Q.declarations pairs [] prop B C) Bs Cs → ((A : Term) → IsIn A Cs → IsIn A hyps)
+        → Each (IsProposition Q) Cs → Each (λ A. Proves Q hyps rests A) Bs
+    equated-proved hyps rests given [] [] h among k = tt
+    equated-proved hyps rests given (B ∷ Bs) (C ∷ Cs) h among k = (
+      equated_proposition_is_proved Q q above hyps rests pairs given C B (back h.0) (assumed Q hyps rests C k.0 (among C (inl refl))),
+      equated-proved hyps rests given Bs Cs h.1 (λ A m. among A (inr m)) k.1,
+    )
+    equated-proved hyps rests given [] (C ∷ Cs) h among k = absurd h
+    equated-proved hyps rests given (B ∷ Bs) [] h among k = absurd h
 
 pub instance-chain : (typs : Typ → Typ) (terms : Term → Term) (As : List Term) (B : Term) → term_instance typs terms (chain As B) ≡ chain (map (term_instance typs terms) As) (term_instance typs terms B)
 instance-chain typs terms [] B = refl
 instance-chain typs terms (A ∷ As) B = ap (imp (term_instance typs terms A)) (instance-chain typs terms As B)
 
 -- From the premises' chain to the old subgoal, and from the old subgoals to the goal, the new subgoals lead to the goal.
-module _ (Q : Content) (q : IsContent Q) (above : IsBelow pure_content Q) (hyps : List Term) (rests : List Label) where
-  exchanged : (A G : Term) (others premises subgoals : List Term) → EachTwo (λ B S. AreEquated Q.declarations [] [] prop B S) (premises ++ others) subgoals
+module _ (Q : Content) (q : IsContent Q) (above : IsBelow pure_content Q) (hyps : List Term) (rests : List Label) (pairs : List Pair) (given : Each (IsPairProved Q hyps rests) pairs) where
+  exchanged : (A G : Term) (others premises subgoals : List Term) → EachTwo (λ B S. AreEquated Q.declarations pairs [] prop B S) (premises ++ others) subgoals
       → Proves Q hyps rests (chain premises A) → Proves Q hyps rests (chain (A ∷ others) G) → Proves Q hyps rests (chain subgoals G)
   exchanged A G others premises subgoals equated p r =
-      let propositions = equated-propositions Q q above (premises ++ others) subgoals equated in
+      let propositions = equated-propositions Q q above pairs (premises ++ others) subgoals equated in
       let H = subgoals ++ hyps in
-      let proved = all-equated-proved Q q above H rests (premises ++ others) subgoals equated (λ B m. in-append_left B subgoals hyps m) propositions in
+      let there = pairs-weaker Q hyps H rests pairs (λ B m. in-append_right B subgoals hyps m) given in
+      let proved = equated-proved Q q above pairs H rests there (premises ++ others) subgoals equated (λ B m. in-append_left B subgoals hyps m) propositions in
       let first = end_of_chain_is_proved Q premises H rests A (weaker Q hyps H rests rests (chain premises A) (λ B m. in-append_right B subgoals hyps m) (λ l m. m) p) (each-left (λ B. Proves Q H rests B) premises others proved) in
       let whole = weaker Q hyps H rests rests (chain (A ∷ others) G) (λ B m. in-append_right B subgoals hyps m) (λ l m. m) r in
       chain_is_proved Q subgoals hyps rests G propositions (end_of_chain_is_proved Q (A ∷ others) H rests G whole (first, each-right (λ B. Proves Q H rests B) premises others proved))
@@ -99,4 +99,4 @@ step_is_derivable Q q above goal new A others G premises typs terms step justifi
     inferred_under_pairs Q q above new (map f goal.hyps) (f goal.prop) goal.rests (λ B m. absurd (rw step.goal_hyps at m)) step.rests
     (λ H given p.
         let old : Proves Q H new.rests (chain (f A ∷ map f others) (f G)) = rw (step.goal_prop, instance-chain typs terms (A ∷ others) G) at p in
-        rw step.new_prop (exchanged Q q above H new.rests (f A) (f G) (map f others) premises step.subgoals step.are_subgoals (justified H given) old)) replaced
+        rw step.new_prop (exchanged Q q above H new.rests new.pairs given (f A) (f G) (map f others) premises step.subgoals step.are_subgoals (justified H given) old)) replaced

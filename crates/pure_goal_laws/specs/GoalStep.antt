@@ -16,7 +16,7 @@ use Rattle.pure_equated.specs.Laws.Proved.{IsPairProved, IsCertifiedPair}
 use Rattle.pure_goal_laws.specs.Prefix.{Item, below_parameters}
 
 -- The step from one goal to another: of the first subgoal A and the others, premises stand in place of A, under the maps. The pairs may be replaced by those of the new goal, modulo which they are equated under the maps;
--- each subgoal of the new goal is equated with a premise, or with one of the others under the maps; and the new goal rests on what the old one rests on, or on more.
+-- each subgoal of the new goal is equated with a premise, or with one of the others under the maps, as its normal form is; and the new goal rests on what the old one rests on, or on more.
 pub record IsGoalStep (Q : Content) (goal new : Theorem) (A : Term) (others : List Term) (G : Term) (premises : List Term) (typs : Typ → Typ) (terms : Term → Term) : Type 0 where
   pub goal_hyps : goal.hyps ≡ []
   pub goal_prop : goal.prop ≡ chain (A ∷ others) G
@@ -24,7 +24,7 @@ pub record IsGoalStep (Q : Content) (goal new : Theorem) (A : Term) (others : Li
   pub pairs : Each (IsPairEquated Q.declarations new.pairs) (map (pair_instance typs terms) goal.pairs)
   pub new_pairs : Each (IsCertifiedPair Q) new.pairs
   pub subgoals : List Term
-  pub are_subgoals : EachTwo (λ B S. AreEquated Q.declarations [] [] prop B S) (premises ++ map (term_instance typs terms) others) subgoals
+  pub are_subgoals : EachTwo (λ B S. AreEquated Q.declarations new.pairs [] prop B S) (premises ++ map (term_instance typs terms) others) subgoals
   pub new_hyps : new.hyps ≡ []
   pub new_prop : new.prop ≡ chain subgoals (term_instance typs terms G)
   pub rests : (l : Label) → IsIn l goal.rests → IsIn l new.rests
