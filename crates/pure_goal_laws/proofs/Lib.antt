@@ -8,3 +8,4 @@ pub mod EliminationLaws
 pub mod StrippingLaws
 pub mod StateLaws
 pub mod PairLaws
+pub mod ExampleLaws

@@ -96,7 +96,7 @@ module _ (Q : Content) (q : IsContent Q) (above : IsBelow pure_content Q) where
     pairs-unchanged all ps (λ r m. among r (inr m)) h.1,
   )
 
-  subgoals-unchanged : (pairs : List Pair) (As : List Term) → Each (IsProposition Q) As → EachTwo (λ A S. AreEquated Q.declarations pairs [] prop A S) (map (term_instance (λ T. T) (λ t. t)) As) As
+  pub subgoals-unchanged : (pairs : List Pair) (As : List Term) → Each (IsProposition Q) As → EachTwo (λ A S. AreEquated Q.declarations pairs [] prop A S) (map (term_instance (λ T. T) (λ t. t)) As) As
   subgoals-unchanged pairs [] h = tt
   subgoals-unchanged pairs (A ∷ As) h = (rw (term_instance-identity A) (same (record { parts = h.0.certified.parts; typed = h.0.typed })), subgoals-unchanged pairs As h.1)
 

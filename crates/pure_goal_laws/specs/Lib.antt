@@ -2,3 +2,4 @@ pub mod Prefix
 pub mod Lifting
 pub mod GoalStep
 pub mod Laws
+pub mod Examples

@@ -1,0 +1,142 @@
+-- Worked examples: proofs by goal steps.
+use Rattle.std.proofs.Common.{◌≡◌, List, [], ◌∷◌, ◌++◌, map, inl, inr, refl, ap, sym}
+use Rattle.pure_text.specs.Lists.{IsIn, Each, EachTwo}
+use Rattle.pure_definitions.specs.Types.Typ.{Typ, arrow, prop}
+use Rattle.pure_definitions.specs.Terms.Term.{Term, Free, Var, Bound, Abs, App}
+use Rattle.pure_definitions.specs.Declarations.Certified.{IsCertifiedTyp, HasCertifiedParts}
+use Rattle.pure_definitions.specs.Terms.Subst.{term_instance}
+use Rattle.pure_term_laws.specs.LawsMaps.{sent}
+use Rattle.pure_term_laws.proofs.SubstLaws.{term_instance-identity}
+use Rattle.pure_logic.specs.Connectives.{all, imp, eq, protect, chain}
+use Rattle.pure_logic.specs.Content.{Content, IsContent, IsBelow, IsCertifiedOf, IsProposition}
+use Rattle.pure_logic.specs.PureContent.{pure_content}
+use Rattle.pure_logic.specs.Derivable.{Pair, Theorem, IsDerivable, IsDerivableAlone}
+use Rattle.pure_logic.specs.Proves.{Proves}
+use Rattle.pure_logic.specs.Concludes.{AreRespecting}
+use Rattle.pure_logic.proofs.ConnectiveLaws.{certified_of, pure-below_itself, prop-certified, arrow-certified, imp-parts, all-parts}
+use Rattle.pure_logic.proofs.MapLaws.{identity_respects, sent-respects}
+use Rattle.pure_logic.proofs.ContentLaws.{pure_is_content}
+use Rattle.pure_logic.proofs.ProvesLaws.{derivable_is_proves}
+use Rattle.pure_equated.specs.Equated.{IsTypedUnder, AreEquated, same, back, through, beta, abstraction, application}
+use Rattle.pure_goal_laws.specs.Prefix.{Item, Parameter, Hypothesis, behind, below_parameters, hypotheses}
+use Rattle.pure_goal_laws.specs.Lifting.{IsStripped, bare, quantified, supposed}
+use Rattle.pure_goal_laws.specs.GoalStep.{IsGoalStep, IsJustified}
+use Rattle.pure_goal_laws.specs.Examples.{a, b, any_a, any_b, any_f, goal_for, IsStepFor, itself, AssumptionProof, everywhere, left_over, RuleProof, detached, another, at_a_b, EliminationProof, DestructionProof, redex, ConversionProof}
+use Rattle.pure_goal_laws.proofs.PrefixLaws.{implication_behind}
+use Rattle.pure_goal_laws.proofs.StrippingLaws.{stripped_rule}
+use Rattle.pure_goal_laws.proofs.StepLaws.{step_is_derivable}
+use Rattle.pure_goal_laws.proofs.JustificationLaws.{by_rule, by_assumption}
+use Rattle.pure_goal_laws.proofs.StateLaws.{subgoals-unchanged, start_is_derivable, end_is_derivable}
+
+-- certified parts over Pure's content
+prop_typ : IsCertifiedTyp pure_content.declarations prop
+prop_typ = prop-certified pure_content pure-below_itself
+
+imp-certified : (A B : Term) → HasCertifiedParts pure_content.declarations A → HasCertifiedParts pure_content.declarations B → HasCertifiedParts pure_content.declarations (imp A B)
+imp-certified A B h k = imp-parts pure_content pure-below_itself A B h k
+
+imp-proposition : (A B : Term) → IsProposition pure_content A → IsProposition pure_content B → IsProposition pure_content (imp A B)
+imp-proposition A B h k = implication_behind pure_content pure-below_itself [] A B h k
+
+a-proposition : IsProposition pure_content a
+a-proposition = certified_of pure_content a prop prop_typ refl
+
+b-proposition : IsProposition pure_content b
+b-proposition = certified_of pure_content b prop prop_typ refl
+
+itself-proposition : IsProposition pure_content itself
+itself-proposition = imp-proposition a a a-proposition a-proposition
+
+-- A term is equated with itself.
+unchanged : (pairs : List Pair) (A : Term) → IsProposition pure_content A → AreEquated pure_content.declarations pairs [] prop A A
+unchanged pairs A h = same (record { parts = h.certified.parts; typed = h.typed })
+
+started : (C : Term) → IsProposition pure_content C → IsDerivable pure_content (goal_for C (C ∷ []))
+started C h = start_is_derivable pure_content pure_is_content pure-below_itself C C (unchanged [] C h)
+
+stepped : (C subgoal : Term) (others premises subgoals : List Term) (terms : Term → Term) → IsStepFor C subgoal others premises subgoals terms → IsDerivable pure_content (goal_for C (subgoal ∷ others))
+    → IsDerivable pure_content (goal_for C subgoals)
+stepped C subgoal others premises subgoals terms is h =
+    step_is_derivable pure_content pure_is_content pure-below_itself (goal_for C (subgoal ∷ others)) (goal_for C subgoals) subgoal others (protect C) premises (λ T. T) terms is.step is.justified h
+
+ended : (C : Term) → IsDerivable pure_content (goal_for C []) → IsDerivableAlone pure_content C
+ended C h = end_is_derivable pure_content pure_is_content pure-below_itself (goal_for C []) C refl h
+
+-- A step, by maps that leave the proposition as it is.
+step_for : (C subgoal : Term) (others premises subgoals : List Term) (terms : Term → Term) → AreRespecting pure_content (λ T. T) terms → term_instance (λ T. T) terms C ≡ C
+    → EachTwo (λ B S. AreEquated pure_content.declarations [] [] prop B S) (premises ++ map (term_instance (λ T. T) terms) others) subgoals
+    → IsJustified pure_content (goal_for C subgoals) subgoal premises (λ T. T) terms → IsStepFor C subgoal others premises subgoals terms
+step_for C subgoal others premises subgoals terms r still equated justified = record {
+  step = record {
+    goal_hyps = refl;
+    goal_prop = refl;
+    respecting = r;
+    pairs = tt;
+    new_pairs = tt;
+    subgoals = subgoals;
+    are_subgoals = equated;
+    new_hyps = refl;
+    new_prop = ap (λ D. chain subgoals (protect D)) (sym still);
+    rests = λ l m. m;
+  };
+  justified = justified;
+}
+
+-- A step by assumption with nothing to unify.
+assumption_for : (C : Term) (ps : List Item) (D : Term) (others : List Term) → IsProposition pure_content (behind ps D) → IsIn D (hypotheses ps) → Each (IsProposition pure_content) others
+    → (T : Typ) → IsTypedUnder pure_content.declarations [] (below_parameters ps D) T → IsStepFor C (behind ps D) others [] others (λ t. t)
+assumption_for C ps D others h m k T typed =
+    step_for C (behind ps D) others [] others (λ t. t) (identity_respects pure_content) (term_instance-identity C) (subgoals-unchanged pure_content pure_is_content pure-below_itself [] others k)
+    (by_assumption pure_content pure_is_content pure-below_itself (goal_for C others) (λ T. T) (λ t. t) (identity_respects pure_content) ps D h D m (T, rw (term_instance-identity (below_parameters ps D)) (same typed)))
+
+itself_for : (C : Term) (others : List Term) → Each (IsProposition pure_content) others → IsStepFor C itself others [] others (λ t. t)
+itself_for C others k = assumption_for C (Hypothesis a ∷ []) a others itself-proposition (inl refl) k prop (record { parts = prop_typ; typed = refl })
+
+pub assumption_proof : AssumptionProof
+assumption_proof =
+    let last = stepped itself itself [] [] [] (λ t. t) (itself_for itself [] tt) (started itself itself-proposition) in
+    record { start = started itself itself-proposition; assumption = itself_for itself [] tt; last = last; proved = ended itself last }
+
+everywhere-proposition : IsProposition pure_content everywhere
+everywhere-proposition =
+    certified_of pure_content everywhere prop (all-parts pure_content pure-below_itself prop (imp (Bound 0) (Bound 0)) prop_typ (imp-certified (Bound 0) (Bound 0) tt tt))
+    (arrow prop prop, refl, (prop, (prop, (prop, refl, refl), refl), refl))
+
+everywhere_assumed : IsStepFor everywhere everywhere [] [] [] (λ t. t)
+everywhere_assumed =
+    assumption_for everywhere (Parameter prop ∷ Hypothesis (Bound 0) ∷ []) (Bound 0) [] everywhere-proposition (inl refl) tt (arrow prop prop)
+    (record { parts = (prop_typ, tt); typed = (prop, refl, refl) })
+
+everywhere_proved : IsDerivableAlone pure_content everywhere
+everywhere_proved = ended everywhere (stepped everywhere everywhere [] [] [] (λ t. t) everywhere_assumed (started everywhere everywhere-proposition))
+
+everywhere_stripped : IsStripped everywhere (any_a ∷ []) any_a
+everywhere_stripped = quantified prop (imp (Bound 0) (Bound 0)) 10 1 (any_a ∷ []) any_a (supposed any_a any_a [] any_a (bare any_a))
+
+-- `%x. x` in place of `?F`
+identity_for_f : AreRespecting pure_content (λ T. T) (sent any_f (Abs prop (Bound 0)) (λ t. t))
+identity_for_f =
+    sent-respects pure_content (λ T. T) (λ t. t) any_f (Abs prop (Bound 0)) (identity_respects pure_content)
+    (certified_of pure_content (Abs prop (Bound 0)) (arrow prop prop) (prop_typ, tt) (prop, refl, refl))
+
+-- Under the binder `(%x. x) x` is equated with x.
+identity_at_bound : AreEquated pure_content.declarations [] (prop ∷ []) prop (App (Abs prop (Bound 0)) (Bound 0)) (Bound 0)
+identity_at_bound = beta (record { parts = ((prop_typ, tt), tt); typed = (prop, (prop, refl, refl), refl) })
+
+left_over-equated : AreEquated pure_content.declarations [] [] prop left_over everywhere
+left_over-equated =
+    let quantifier = all-parts pure_content pure-below_itself prop (imp (Bound 0) (Bound 0)) prop_typ (imp-certified (Bound 0) (Bound 0) tt tt) in
+    application (same (record { parts = quantifier.0; typed = refl }))
+    (abstraction prop_typ (application (same (record { parts = (imp-certified (Bound 0) (Bound 0) tt tt).0; typed = (prop, refl, refl) })) identity_at_bound))
+
+pub rule_proof : RuleProof
+rule_proof = record {
+  stripped = everywhere_stripped;
+  start = started everywhere everywhere-proposition;
+  rule = step_for everywhere everywhere [] (left_over ∷ []) (everywhere ∷ []) (sent any_f (Abs prop (Bound 0)) (λ t. t)) identity_for_f refl (left_over-equated, tt)
+    (by_rule pure_content pure_is_content pure-below_itself (goal_for everywhere (everywhere ∷ [])) (λ T. T) (sent any_f (Abs prop (Bound 0)) (λ t. t)) identity_for_f (Parameter prop ∷ Hypothesis (Bound 0) ∷ []) (Bound 0) everywhere-proposition
+    (any_a ∷ []) any_a (stripped_rule pure_content pure_is_content pure-below_itself [] [] everywhere (any_a ∷ []) any_a everywhere_stripped ((derivable_is_proves pure_content [] [] everywhere).0 everywhere_proved))
+    (arrow prop prop, abstraction prop_typ identity_at_bound));
+  assumption = everywhere_assumed;
+  proved = everywhere_proved;
+}
