@@ -21,7 +21,7 @@ use Rattle.pure_equated.specs.Equated.{IsTypedUnder, AreEquated, same, back, thr
 use Rattle.pure_goal_laws.specs.Prefix.{Item, Parameter, Hypothesis, behind, below_parameters, hypotheses}
 use Rattle.pure_goal_laws.specs.Lifting.{IsStripped, bare, quantified, supposed}
 use Rattle.pure_goal_laws.specs.GoalStep.{IsGoalStep, IsJustified}
-use Rattle.pure_goal_laws.specs.Examples.{a, b, any_a, any_b, any_f, goal_for, IsStepFor, itself, AssumptionProof, everywhere, left_over, RuleProof, detached, another, at_a_b, EliminationProof, DestructionProof, redex, ConversionProof}
+use Rattle.pure_goal_laws.specs.Examples.{a, b, any_a, any_b, any_f, goal_for, IsStepFor, itself, AssumptionProof, everywhere, left_over, RuleProof}
 use Rattle.pure_goal_laws.proofs.PrefixLaws.{implication_behind}
 use Rattle.pure_goal_laws.proofs.StrippingLaws.{stripped_rule}
 use Rattle.pure_goal_laws.proofs.StepLaws.{step_is_derivable}
@@ -29,41 +29,41 @@ use Rattle.pure_goal_laws.proofs.JustificationLaws.{by_rule, by_assumption}
 use Rattle.pure_goal_laws.proofs.StateLaws.{subgoals-unchanged, start_is_derivable, end_is_derivable}
 
 -- certified parts over Pure's content
-prop_typ : IsCertifiedTyp pure_content.declarations prop
+pub prop_typ : IsCertifiedTyp pure_content.declarations prop
 prop_typ = prop-certified pure_content pure-below_itself
 
-imp-certified : (A B : Term) → HasCertifiedParts pure_content.declarations A → HasCertifiedParts pure_content.declarations B → HasCertifiedParts pure_content.declarations (imp A B)
+pub imp-certified : (A B : Term) → HasCertifiedParts pure_content.declarations A → HasCertifiedParts pure_content.declarations B → HasCertifiedParts pure_content.declarations (imp A B)
 imp-certified A B h k = imp-parts pure_content pure-below_itself A B h k
 
-imp-proposition : (A B : Term) → IsProposition pure_content A → IsProposition pure_content B → IsProposition pure_content (imp A B)
+pub imp-proposition : (A B : Term) → IsProposition pure_content A → IsProposition pure_content B → IsProposition pure_content (imp A B)
 imp-proposition A B h k = implication_behind pure_content pure-below_itself [] A B h k
 
-a-proposition : IsProposition pure_content a
+pub a-proposition : IsProposition pure_content a
 a-proposition = certified_of pure_content a prop prop_typ refl
 
-b-proposition : IsProposition pure_content b
+pub b-proposition : IsProposition pure_content b
 b-proposition = certified_of pure_content b prop prop_typ refl
 
-itself-proposition : IsProposition pure_content itself
+pub itself-proposition : IsProposition pure_content itself
 itself-proposition = imp-proposition a a a-proposition a-proposition
 
 -- A term is equated with itself.
-unchanged : (pairs : List Pair) (A : Term) → IsProposition pure_content A → AreEquated pure_content.declarations pairs [] prop A A
+pub unchanged : (pairs : List Pair) (A : Term) → IsProposition pure_content A → AreEquated pure_content.declarations pairs [] prop A A
 unchanged pairs A h = same (record { parts = h.certified.parts; typed = h.typed })
 
-started : (C : Term) → IsProposition pure_content C → IsDerivable pure_content (goal_for C (C ∷ []))
+pub started : (C : Term) → IsProposition pure_content C → IsDerivable pure_content (goal_for C (C ∷ []))
 started C h = start_is_derivable pure_content pure_is_content pure-below_itself C C (unchanged [] C h)
 
-stepped : (C subgoal : Term) (others premises subgoals : List Term) (terms : Term → Term) → IsStepFor C subgoal others premises subgoals terms → IsDerivable pure_content (goal_for C (subgoal ∷ others))
+pub stepped : (C subgoal : Term) (others premises subgoals : List Term) (terms : Term → Term) → IsStepFor C subgoal others premises subgoals terms → IsDerivable pure_content (goal_for C (subgoal ∷ others))
     → IsDerivable pure_content (goal_for C subgoals)
 stepped C subgoal others premises subgoals terms is h =
     step_is_derivable pure_content pure_is_content pure-below_itself (goal_for C (subgoal ∷ others)) (goal_for C subgoals) subgoal others (protect C) premises (λ T. T) terms is.step is.justified h
 
-ended : (C : Term) → IsDerivable pure_content (goal_for C []) → IsDerivableAlone pure_content C
+pub ended : (C : Term) → IsDerivable pure_content (goal_for C []) → IsDerivableAlone pure_content C
 ended C h = end_is_derivable pure_content pure_is_content pure-below_itself (goal_for C []) C refl h
 
 -- A step, by maps that leave the proposition as it is.
-step_for : (C subgoal : Term) (others premises subgoals : List Term) (terms : Term → Term) → AreRespecting pure_content (λ T. T) terms → term_instance (λ T. T) terms C ≡ C
+pub step_for : (C subgoal : Term) (others premises subgoals : List Term) (terms : Term → Term) → AreRespecting pure_content (λ T. T) terms → term_instance (λ T. T) terms C ≡ C
     → EachTwo (λ B S. AreEquated pure_content.declarations [] [] prop B S) (premises ++ map (term_instance (λ T. T) terms) others) subgoals
     → IsJustified pure_content (goal_for C subgoals) subgoal premises (λ T. T) terms → IsStepFor C subgoal others premises subgoals terms
 step_for C subgoal others premises subgoals terms r still equated justified = record {
@@ -83,13 +83,13 @@ step_for C subgoal others premises subgoals terms r still equated justified = re
 }
 
 -- A step by assumption with nothing to unify.
-assumption_for : (C : Term) (ps : List Item) (D : Term) (others : List Term) → IsProposition pure_content (behind ps D) → IsIn D (hypotheses ps) → Each (IsProposition pure_content) others
+pub assumption_for : (C : Term) (ps : List Item) (D : Term) (others : List Term) → IsProposition pure_content (behind ps D) → IsIn D (hypotheses ps) → Each (IsProposition pure_content) others
     → (T : Typ) → IsTypedUnder pure_content.declarations [] (below_parameters ps D) T → IsStepFor C (behind ps D) others [] others (λ t. t)
 assumption_for C ps D others h m k T typed =
     step_for C (behind ps D) others [] others (λ t. t) (identity_respects pure_content) (term_instance-identity C) (subgoals-unchanged pure_content pure_is_content pure-below_itself [] others k)
     (by_assumption pure_content pure_is_content pure-below_itself (goal_for C others) (λ T. T) (λ t. t) (identity_respects pure_content) ps D h D m (T, rw (term_instance-identity (below_parameters ps D)) (same typed)))
 
-itself_for : (C : Term) (others : List Term) → Each (IsProposition pure_content) others → IsStepFor C itself others [] others (λ t. t)
+pub itself_for : (C : Term) (others : List Term) → Each (IsProposition pure_content) others → IsStepFor C itself others [] others (λ t. t)
 itself_for C others k = assumption_for C (Hypothesis a ∷ []) a others itself-proposition (inl refl) k prop (record { parts = prop_typ; typed = refl })
 
 pub assumption_proof : AssumptionProof
@@ -130,13 +130,17 @@ left_over-equated =
     (abstraction prop_typ (application (same (record { parts = (imp-certified (Bound 0) (Bound 0) tt tt).0; typed = (prop, refl, refl) })) identity_at_bound))
 
 pub rule_proof : RuleProof
-rule_proof = record {
-  stripped = everywhere_stripped;
-  start = started everywhere everywhere-proposition;
-  rule = step_for everywhere everywhere [] (left_over ∷ []) (everywhere ∷ []) (sent any_f (Abs prop (Bound 0)) (λ t. t)) identity_for_f refl (left_over-equated, tt)
-    (by_rule pure_content pure_is_content pure-below_itself (goal_for everywhere (everywhere ∷ [])) (λ T. T) (sent any_f (Abs prop (Bound 0)) (λ t. t)) identity_for_f (Parameter prop ∷ Hypothesis (Bound 0) ∷ []) (Bound 0) everywhere-proposition
-    (any_a ∷ []) any_a (stripped_rule pure_content pure_is_content pure-below_itself [] [] everywhere (any_a ∷ []) any_a everywhere_stripped ((derivable_is_proves pure_content [] [] everywhere).0 everywhere_proved))
-    (arrow prop prop, abstraction prop_typ identity_at_bound));
-  assumption = everywhere_assumed;
-  proved = everywhere_proved;
-}
+rule_proof =
+    let terms = sent any_f (Abs prop (Bound 0)) (λ t. t) in
+    let rule = stripped_rule pure_content pure_is_content pure-below_itself [] [] everywhere (any_a ∷ []) any_a everywhere_stripped ((derivable_is_proves pure_content [] [] everywhere).0 everywhere_proved) in
+    let step : IsStepFor everywhere everywhere [] (left_over ∷ []) (everywhere ∷ []) terms = step_for everywhere everywhere [] (left_over ∷ []) (everywhere ∷ []) terms identity_for_f refl (left_over-equated, tt)
+      (by_rule pure_content pure_is_content pure-below_itself (goal_for everywhere (everywhere ∷ [])) (λ T. T) terms identity_for_f (Parameter prop ∷ Hypothesis (Bound 0) ∷ []) (Bound 0) everywhere-proposition (any_a ∷ []) any_a rule
+      (arrow prop prop, abstraction prop_typ identity_at_bound)) in
+    let start = started everywhere everywhere-proposition in
+    record {
+      stripped = everywhere_stripped;
+      start = start;
+      rule = step;
+      assumption = everywhere_assumed;
+      proved = ended everywhere (stepped everywhere everywhere [] [] [] (λ t. t) everywhere_assumed (stepped everywhere everywhere [] (left_over ∷ []) (everywhere ∷ []) terms step start));
+    }

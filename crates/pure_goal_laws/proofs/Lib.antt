@@ -9,3 +9,5 @@ pub mod StrippingLaws
 pub mod StateLaws
 pub mod PairLaws
 pub mod ExampleLaws
+pub mod DetachedExamples
+pub mod PairExamples

@@ -1,5 +1,5 @@
 //! What goals mean, by worked examples, each carried by the contract of a function that does nothing.
-ghost use Rattle.pure_goal_laws.specs.Examples.{AssumptionProof, RuleProof};
+ghost use Rattle.pure_goal_laws.specs.Examples.{AssumptionProof, RuleProof, EliminationProof, DestructionProof, ConversionProof, DroppedExample, SmashedExample};
 
 /// A whole proof by assumption.
 pub fn assumption_proof()
@@ -9,4 +9,25 @@ pub fn assumption_proof()
 /// A proof in which a rule is stripped, lifted over a parameter and unified.
 pub fn rule_proof()
     ensures { RuleProof }
+{}
+
+/// A proof by elimination.
+pub fn elimination_proof()
+    ensures { EliminationProof }
+{}
+
+/// A proof by destruction, with a subgoal deferred and preferred.
+pub fn destruction_proof()
+    ensures { DestructionProof }
+{}
+
+/// A proof by conversion of a subgoal.
+pub fn conversion_proof()
+    ensures { ConversionProof }
+{}
+
+/// Pairs that are removed: a trivial one is dropped, and a flexible one is smashed.
+pub fn pair_example()
+    ensures dropped { DroppedExample }
+    ensures smashed { SmashedExample }
 {}
