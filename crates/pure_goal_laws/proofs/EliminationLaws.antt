@@ -1,10 +1,10 @@
 -- Elimination and destruction: a rule whose first premise is a hypothesis of the subgoal.
-use Rattle.std.proofs.Common.{◌≡◌, ℕ, ◌+◌, List, [], ◌∷◌, ◌++◌, map, length, inl, inr, refl, ap, sym, ◌∙◌, subst}
+use Rattle.std.proofs.Common.{◌≡◌, List, [], ◌∷◌, ◌++◌, map, length, inl, inr, refl, ap, subst}
 use Rattle.std.proofs.lemmas.List.{map-append}
 use Rattle.pure_text.specs.Lists.{IsIn, Each}
-use Rattle.pure_text.proofs.ListLaws.{in-append_left, in-append_right}
+use Rattle.pure_text.proofs.ListLaws.{in-append_left}
 use Rattle.pure_definitions.specs.Names.{Label}
-use Rattle.pure_definitions.specs.Types.Typ.{Typ, prop}
+use Rattle.pure_definitions.specs.Types.Typ.{Typ}
 use Rattle.pure_definitions.specs.Terms.Term.{Term}
 use Rattle.pure_definitions.specs.Terms.Bounds.{lift_term}
 use Rattle.pure_definitions.specs.Terms.Subst.{term_instance}
@@ -145,14 +145,14 @@ module _ (Q : Content) (q : IsContent Q) (above : IsBelow pure_content Q) (new :
       let rule = chain_at_instance Q q above new typs terms r hyps (map (λ A. behind others (lifted_behind others A)) As) (imp premise conclusion) (eliminated Q q above new.rests before H after C h P As B p) in
       chain-then Q q above hyps new.rests (lifted_premises typs terms others As) (imp (f premise) (f conclusion)) (f (behind ps C))
       (λ more among implication.
-          let there = pairs-weaker Q hyps more new.rests new.pairs among given in
-          let concluded = conclusion_is_proved Q more new.rests (f premise) (f conclusion) implication (premise_eliminated h P e more there) in
-          matched_behind Q q above new typs terms more there ps (lifted_behind ps B) C m (rw (lifted-without before H after B) concluded)) rule
+      let there = pairs-weaker Q hyps more new.rests new.pairs among given in
+      let concluded = conclusion_is_proved Q more new.rests (f premise) (f conclusion) implication (premise_eliminated h P e more there) in
+      matched_behind Q q above new typs terms more there ps (lifted_behind ps B) C m (rw (lifted-without before H after B) concluded)) rule
 
   pub by_destruction : IsProposition Q (behind (before ++ Hypothesis H ∷ after) C) → (P : Term) (As : List Term) (B : Term) → Proves Q [] new.rests (chain (P ∷ As) B)
       → IsEliminated Q new typs terms before H after P
       → IsJustified Q new (behind (before ++ Hypothesis H ∷ after) C)
-        (lifted_premises typs terms (before ++ after) As ++ term_instance typs terms (behind ((before ++ after) ++ Hypothesis (lifted_behind (before ++ after) B) ∷ []) C) ∷ []) typs terms
+      (lifted_premises typs terms (before ++ after) As ++ term_instance typs terms (behind ((before ++ after) ++ Hypothesis (lifted_behind (before ++ after) B) ∷ []) C) ∷ []) typs terms
   by_destruction h P As B p e hyps given =
       let f = term_instance typs terms in
       let ps = before ++ Hypothesis H ∷ after in
@@ -164,5 +164,5 @@ module _ (Q : Content) (q : IsContent Q) (above : IsBelow pure_content Q) (new :
       rw (← map-append f premises (last ∷ []))
       (chain-then Q q above hyps new.rests (map f (premises ++ last ∷ [])) (imp (f premise) (f (behind ps C))) (f (behind ps C))
       (λ more among implication.
-          let there = pairs-weaker Q hyps more new.rests new.pairs among given in
-          conclusion_is_proved Q more new.rests (f premise) (f (behind ps C)) implication (premise_eliminated h P e more there)) rule)
+      let there = pairs-weaker Q hyps more new.rests new.pairs among given in
+      conclusion_is_proved Q more new.rests (f premise) (f (behind ps C)) implication (premise_eliminated h P e more there)) rule)

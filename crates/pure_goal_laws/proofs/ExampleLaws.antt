@@ -1,27 +1,26 @@
 -- Worked examples: proofs by goal steps.
-use Rattle.std.proofs.Common.{◌≡◌, List, [], ◌∷◌, ◌++◌, map, inl, inr, refl, ap, sym}
+use Rattle.std.proofs.Common.{◌≡◌, List, [], ◌∷◌, ◌++◌, map, inl, refl, ap, sym}
 use Rattle.pure_text.specs.Lists.{IsIn, Each, EachTwo}
 use Rattle.pure_definitions.specs.Types.Typ.{Typ, arrow, prop}
-use Rattle.pure_definitions.specs.Terms.Term.{Term, Free, Var, Bound, Abs, App}
+use Rattle.pure_definitions.specs.Terms.Term.{Term, Bound, Abs, App}
 use Rattle.pure_definitions.specs.Declarations.Certified.{IsCertifiedTyp, HasCertifiedParts}
 use Rattle.pure_definitions.specs.Terms.Subst.{term_instance}
 use Rattle.pure_term_laws.specs.LawsMaps.{sent}
 use Rattle.pure_term_laws.proofs.SubstLaws.{term_instance-identity}
-use Rattle.pure_logic.specs.Connectives.{all, imp, eq, protect, chain}
-use Rattle.pure_logic.specs.Content.{Content, IsContent, IsBelow, IsCertifiedOf, IsProposition}
+use Rattle.pure_logic.specs.Connectives.{imp, protect, chain}
+use Rattle.pure_logic.specs.Content.{IsProposition}
 use Rattle.pure_logic.specs.PureContent.{pure_content}
-use Rattle.pure_logic.specs.Derivable.{Pair, Theorem, IsDerivable, IsDerivableAlone}
-use Rattle.pure_logic.specs.Proves.{Proves}
+use Rattle.pure_logic.specs.Derivable.{Pair, IsDerivable, IsDerivableAlone}
 use Rattle.pure_logic.specs.Concludes.{AreRespecting}
-use Rattle.pure_logic.proofs.ConnectiveLaws.{certified_of, pure-below_itself, prop-certified, arrow-certified, imp-parts, all-parts}
+use Rattle.pure_logic.proofs.ConnectiveLaws.{certified_of, pure-below_itself, prop-certified, imp-parts, all-parts}
 use Rattle.pure_logic.proofs.MapLaws.{identity_respects, sent-respects}
 use Rattle.pure_logic.proofs.ContentLaws.{pure_is_content}
 use Rattle.pure_logic.proofs.ProvesLaws.{derivable_is_proves}
-use Rattle.pure_equated.specs.Equated.{IsTypedUnder, AreEquated, same, back, through, beta, abstraction, application}
+use Rattle.pure_equated.specs.Equated.{IsTypedUnder, AreEquated, same, beta, abstraction, application}
 use Rattle.pure_goal_laws.specs.Prefix.{Item, Parameter, Hypothesis, behind, below_parameters, hypotheses}
 use Rattle.pure_goal_laws.specs.Lifting.{IsStripped, bare, quantified, supposed}
-use Rattle.pure_goal_laws.specs.GoalStep.{IsGoalStep, IsJustified}
-use Rattle.pure_goal_laws.specs.Examples.{a, b, any_a, any_b, any_f, goal_for, IsStepFor, itself, AssumptionProof, everywhere, left_over, RuleProof}
+use Rattle.pure_goal_laws.specs.GoalStep.{IsJustified}
+use Rattle.pure_goal_laws.specs.Examples.{a, b, any_a, any_f, goal_for, IsStepFor, itself, AssumptionProof, everywhere, left_over, RuleProof}
 use Rattle.pure_goal_laws.proofs.PrefixLaws.{implication_behind}
 use Rattle.pure_goal_laws.proofs.StrippingLaws.{stripped_rule}
 use Rattle.pure_goal_laws.proofs.StepLaws.{step_is_derivable}
@@ -134,8 +133,8 @@ rule_proof =
     let terms = sent any_f (Abs prop (Bound 0)) (λ t. t) in
     let rule = stripped_rule pure_content pure_is_content pure-below_itself [] [] everywhere (any_a ∷ []) any_a everywhere_stripped ((derivable_is_proves pure_content [] [] everywhere).0 everywhere_proved) in
     let step : IsStepFor everywhere everywhere [] (left_over ∷ []) (everywhere ∷ []) terms = step_for everywhere everywhere [] (left_over ∷ []) (everywhere ∷ []) terms identity_for_f refl (left_over-equated, tt)
-      (by_rule pure_content pure_is_content pure-below_itself (goal_for everywhere (everywhere ∷ [])) (λ T. T) terms identity_for_f (Parameter prop ∷ Hypothesis (Bound 0) ∷ []) (Bound 0) everywhere-proposition (any_a ∷ []) any_a rule
-      (arrow prop prop, abstraction prop_typ identity_at_bound)) in
+    (by_rule pure_content pure_is_content pure-below_itself (goal_for everywhere (everywhere ∷ [])) (λ T. T) terms identity_for_f (Parameter prop ∷ Hypothesis (Bound 0) ∷ []) (Bound 0) everywhere-proposition (any_a ∷ []) any_a rule
+    (arrow prop prop, abstraction prop_typ identity_at_bound)) in
     let start = started everywhere everywhere-proposition in
     record {
       stripped = everywhere_stripped;

@@ -1,32 +1,30 @@
 -- What justifies a subgoal: rules, assumption, elimination, destruction, and equations.
-use Rattle.std.proofs.Common.{◌≡◌, List, [], ◌∷◌, ◌++◌, map, length, inl, inr, refl, ap, sym, ◌∙◌}
+use Rattle.std.proofs.Common.{List, [], ◌∷◌, ◌++◌, map, inl, inr, refl}
 use Rattle.pure_text.specs.Lists.{IsIn, Each}
 use Rattle.pure_text.proofs.ListLaws.{in-append_left, in-append_right}
 use Rattle.pure_definitions.specs.Names.{Label}
 use Rattle.pure_definitions.specs.Types.Typ.{Typ, prop}
 use Rattle.pure_definitions.specs.Terms.Term.{Term}
-use Rattle.pure_definitions.specs.Terms.Bounds.{lift_term}
 use Rattle.pure_definitions.specs.Terms.Subst.{term_instance}
 use Rattle.pure_term_laws.proofs.SubstLaws.{term_instance-identity}
-use Rattle.pure_logic.specs.Connectives.{imp, eq, chain}
+use Rattle.pure_logic.specs.Connectives.{eq, chain}
 use Rattle.pure_logic.specs.Content.{Content, IsContent, IsBelow, IsProposition}
 use Rattle.pure_logic.specs.PureContent.{pure_content}
 use Rattle.pure_logic.specs.Derivable.{Theorem}
 use Rattle.pure_logic.specs.Concludes.{AreRespecting}
 use Rattle.pure_logic.specs.Proves.{Proves}
 use Rattle.pure_logic.proofs.PropositionLaws.{premise-proposition, conclusion-proposition}
-use Rattle.pure_logic.proofs.ProvesLaws.{assumed, weaker, implication_is_proved, conclusion_is_proved, chain_is_proved, end_of_chain_is_proved, proved_is_proposition}
+use Rattle.pure_logic.proofs.ProvesLaws.{assumed, weaker, implication_is_proved, chain_is_proved, end_of_chain_is_proved, proved_is_proposition}
 use Rattle.pure_logic.proofs.EqualityLaws.{right-of, symmetric_equality, equal_is_proved}
 use Rattle.pure_logic.proofs.SubstitutionLaws.{instance_is_proved}
-use Rattle.pure_equated.specs.Laws.Proved.{IsPairProved}
-use Rattle.pure_goal_laws.specs.Prefix.{Item, Hypothesis, behind, parameters, hypotheses}
+use Rattle.pure_goal_laws.specs.Prefix.{Item, behind, hypotheses}
 use Rattle.pure_goal_laws.specs.Lifting.{lifted_behind}
 use Rattle.pure_goal_laws.specs.GoalStep.{IsJustified, AreMatched}
-use Rattle.pure_goal_laws.specs.Laws.Steps.{lifted_premises, IsEliminated}
+use Rattle.pure_goal_laws.specs.Laws.Steps.{lifted_premises}
 use Rattle.pure_goal_laws.proofs.PrefixLaws.{hypothesis_is_proved}
 use Rattle.pure_goal_laws.proofs.LiftingLaws.{lifted_rule}
 use Rattle.pure_goal_laws.proofs.StepLaws.{pairs-weaker, instance-chain}
-use Rattle.pure_goal_laws.proofs.MatchLaws.{matched_behind, matched_back}
+use Rattle.pure_goal_laws.proofs.MatchLaws.{matched_behind}
 
 module _ (Q : Content) (q : IsContent Q) (above : IsBelow pure_content Q) where
   pub premises-propositions : (As : List Term) (B : Term) → IsProposition Q (chain As B) → Each (IsProposition Q) As

@@ -1,13 +1,13 @@
 -- Rules lifted over a prefix.
-use Rattle.std.proofs.Common.{◌≡◌, ◌≤◌, ◌<◌, ℕ, zero, suc, ◌+◌, List, [], ◌∷◌, map, length, inl, inr, ap, refl, sym, ◌∙◌, arith}
+use Rattle.std.proofs.Common.{◌≡◌, ◌≤◌, ℕ, zero, suc, ◌+◌, List, [], ◌∷◌, map, length, ap, refl, sym, ◌∙◌, arith}
 use Rattle.std.proofs.lemmas.Simd.{map-map}
-use Rattle.pure_text.specs.Lists.{IsIn, Each}
+use Rattle.pure_text.specs.Lists.{Each}
 use Rattle.pure_definitions.specs.Names.{Label}
 use Rattle.pure_definitions.specs.Types.Typ.{Typ, arrow, prop}
 use Rattle.pure_definitions.specs.Terms.Term.{Term, Const, Free, Var, Bound, Abs, App}
 use Rattle.pure_definitions.specs.Terms.Typing.{HasType}
 use Rattle.pure_definitions.specs.Terms.Bounds.{IsClosedUnder, subst_under}
-use Rattle.pure_definitions.specs.Terms.Subst.{typ_instance, term_instance}
+use Rattle.pure_definitions.specs.Terms.Subst.{term_instance}
 use Rattle.pure_definitions.specs.Declarations.Decl.{algebra_of}
 use Rattle.pure_definitions.specs.Declarations.Certified.{IsCertifiedTyp, HasCertifiedParts}
 use Rattle.pure_term_laws.proofs.MapLaws.{place-itself, place-above}
@@ -23,7 +23,7 @@ use Rattle.pure_logic.proofs.ProvesLaws.{weaker, proved_is_proposition}
 use Rattle.pure_logic.proofs.SubstitutionLaws.{instance_is_proved}
 use Rattle.pure_goal_laws.specs.Prefix.{Item, Parameter, Hypothesis, behind, parameters}
 use Rattle.pure_goal_laws.specs.Lifting.{function_typ, applied_to_bounds, lifted_under, lifted_behind}
-use Rattle.pure_goal_laws.proofs.OpeningLaws.{put, put-const, put-free, put-var, put-bound, put-app, put-abs, Opens, opens-more, closed, opened-proposition}
+use Rattle.pure_goal_laws.proofs.OpeningLaws.{put, put-const, put-free, put-bound, put-app, put-abs, Opens, opens-more, closed, opened-proposition}
 use Rattle.pure_goal_laws.proofs.PrefixLaws.{chain_behind}
 
 -- the function applied to fixed variables, of which the last comes first in the list; and the type of functions of them
@@ -44,7 +44,7 @@ put-applied : (n count : ℕ) (xs : List (ℕ × Typ)) (y i : ℕ) (T : Typ) →
 put-applied n zero [] y i T h = refl
 put-applied n (suc count) (x ∷ xs) y i T h =
     let here : subst_under n (Free x.0 x.1) (applied_to_bounds (suc count) n (Var y i T)) ≡ App (applied_to_bounds count n (Var y i T)) (Free x.0 x.1) =
-      λ l. App (put-one n n count x.0 y i T x.1 (omega arith) l) (place-itself n (Free x.0 x.1) l) in
+    λ l. App (put-one n n count x.0 y i T x.1 (omega arith) l) (place-itself n (Free x.0 x.1) l) in
     ap (put n xs) here ∙ (put-app n xs (applied_to_bounds count n (Var y i T)) (Free x.0 x.1) ∙ (λ l. App (put-applied n count xs y i T (omega arith) l) (put-free n xs x.0 x.1 l)))
 put-applied n zero (x ∷ xs) y i T h = absurd (omega arith)
 put-applied n (suc count) [] y i T h = absurd (omega arith)

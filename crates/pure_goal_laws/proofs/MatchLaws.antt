@@ -1,22 +1,18 @@
 -- What is matched behind a prefix: of two matched terms the one is proved behind the prefix, at the instance, where the other is.
-use Rattle.std.proofs.Common.{◌≡◌, List, [], ◌∷◌, map, inl, inr, refl, ap, sym, ◌∙◌}
-use Rattle.pure_text.specs.Lists.{IsIn, Each}
-use Rattle.pure_definitions.specs.Names.{Label}
-use Rattle.pure_definitions.specs.Types.Typ.{Typ, prop}
+use Rattle.std.proofs.Common.{◌≡◌, List, [], ◌∷◌, map, refl, ap}
+use Rattle.pure_text.specs.Lists.{Each}
+use Rattle.pure_definitions.specs.Types.Typ.{Typ}
 use Rattle.pure_definitions.specs.Terms.Term.{Term, Abs}
 use Rattle.pure_definitions.specs.Terms.Subst.{typ_instance, term_instance}
-use Rattle.pure_logic.specs.Connectives.{all, imp, eq, chain}
-use Rattle.pure_logic.specs.Content.{Content, IsContent, IsBelow, IsProposition}
+use Rattle.pure_logic.specs.Connectives.{all, imp, eq}
+use Rattle.pure_logic.specs.Content.{Content, IsContent, IsBelow}
 use Rattle.pure_logic.specs.PureContent.{pure_content}
 use Rattle.pure_logic.specs.Derivable.{Theorem}
-use Rattle.pure_logic.specs.Concludes.{AreRespecting}
 use Rattle.pure_logic.specs.Proves.{Proves}
 use Rattle.pure_logic.proofs.EqualityLaws.{symmetric_equality}
-use Rattle.pure_logic.proofs.SubstitutionLaws.{instance_is_proved}
-use Rattle.pure_logic.proofs.ProvesLaws.{weaker}
 use Rattle.pure_equated.specs.Laws.Proved.{IsPairProved}
 use Rattle.pure_equated.proofs.EquatedLaws.{equated_is_proved}
-use Rattle.pure_goal_laws.specs.Prefix.{Item, Parameter, Hypothesis, behind, parameters, abstracted, below_parameters}
+use Rattle.pure_goal_laws.specs.Prefix.{Item, Parameter, Hypothesis, behind, below_parameters}
 use Rattle.pure_goal_laws.specs.GoalStep.{AreMatched}
 use Rattle.pure_goal_laws.proofs.PrefixLaws.{equal_behind}
 

@@ -1,10 +1,9 @@
 -- Openings of a prefix: a fixed variable for each of its parameters, and its hypotheses assumed.
-use Rattle.std.proofs.Common.{◌≡◌, ◌≤◌, ◌<◌, ℕ, ◌+◌, List, [], ◌∷◌, inl, inr, ap, refl, sym, ◌∙◌, arith}
-use Rattle.pure_text.specs.Lists.{IsIn}
+use Rattle.std.proofs.Common.{◌≡◌, ◌<◌, ℕ, ◌+◌, List, [], ◌∷◌, inl, inr, ap, refl, sym, ◌∙◌, arith}
 use Rattle.pure_definitions.specs.Names.{Label}
-use Rattle.pure_definitions.specs.Types.Typ.{Typ, arrow, prop}
+use Rattle.pure_definitions.specs.Types.Typ.{Typ}
 use Rattle.pure_definitions.specs.Terms.Term.{Term, Const, Free, Var, Bound, Abs, App}
-use Rattle.pure_definitions.specs.Terms.Bounds.{subst_under, subst_bound}
+use Rattle.pure_definitions.specs.Terms.Bounds.{subst_under}
 use Rattle.pure_definitions.specs.Declarations.Certified.{IsCertifiedTyp}
 use Rattle.pure_term_laws.proofs.MapLaws.{subst-past-subst, place-below}
 use Rattle.pure_logic.specs.Connectives.{all, imp, eq}

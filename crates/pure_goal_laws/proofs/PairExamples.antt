@@ -1,17 +1,14 @@
 -- Worked examples: pairs that are removed.
-use Rattle.std.proofs.Common.{List, [], ◌∷◌, inl, inr, refl}
-use Rattle.pure_definitions.specs.Types.Typ.{Typ, arrow, prop}
-use Rattle.pure_definitions.specs.Terms.Term.{Term, Bound, Abs, App}
+use Rattle.std.proofs.Common.{[], ◌∷◌, inl, inr, refl}
+use Rattle.pure_definitions.specs.Types.Typ.{arrow, prop}
+use Rattle.pure_definitions.specs.Terms.Term.{Term, Abs, App}
 use Rattle.pure_term_laws.specs.LawsMaps.{sent}
-use Rattle.pure_logic.specs.Connectives.{imp, eq, chain}
+use Rattle.pure_logic.specs.Connectives.{eq}
 use Rattle.pure_logic.specs.Content.{IsCertifiedOf, IsProposition}
 use Rattle.pure_logic.specs.PureContent.{pure_content}
-use Rattle.pure_logic.specs.Concludes.{AreRespecting}
 use Rattle.pure_logic.specs.Derivable.{IsDerivable}
-use Rattle.pure_logic.specs.Proves.{Proves}
 use Rattle.pure_logic.proofs.ConnectiveLaws.{certified_of, pure-below_itself, arrow-certified}
 use Rattle.pure_logic.proofs.ContentLaws.{pure_is_content}
-use Rattle.pure_logic.proofs.ChainLaws.{chain_is_derivable}
 use Rattle.pure_logic.proofs.EqualityLaws.{equal_is_proved}
 use Rattle.pure_logic.proofs.MapLaws.{identity_respects, sent-respects}
 use Rattle.pure_logic.proofs.PropositionLaws.{eq-proposition}

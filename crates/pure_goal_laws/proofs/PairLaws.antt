@@ -1,5 +1,5 @@
 -- Pairs that are not needed: trivial ones are dropped, and pairs are smashed.
-use Rattle.std.proofs.Common.{◌≡◌, ◌⊎◌, List, [], ◌∷◌, ◌++◌, map, inl, inr, refl}
+use Rattle.std.proofs.Common.{◌⊎◌, List, [], ◌∷◌, ◌++◌, map, inl, inr}
 use Rattle.pure_text.specs.Lists.{IsIn, Each}
 use Rattle.pure_text.proofs.ListLaws.{each_of, each_at, each_imply, in-append_left}
 use Rattle.pure_definitions.specs.Names.{Label}
@@ -29,7 +29,7 @@ module _ (Q : Content) (q : IsContent Q) (above : IsBelow pure_content Q) where
       let certified = pairs-certified Q q above th h in
       let at : (p : Pair) → IsIn p th.pairs → IsCertifiedPair Q p = each_at (IsCertifiedPair Q) th.pairs certified in
       let equated = each_of (IsPairEquated Q.declarations others) th.pairs
-        (λ p m. elim (each_at (λ r. IsIn r others ⊎ IsPairEquated Q.declarations others r) th.pairs either p m) [ inl n ↦ pair-equated Q q above others p n (at p m) | inr k ↦ k ]) in
+      (λ p m. elim (each_at (λ r. IsIn r others ⊎ IsPairEquated Q.declarations others r) th.pairs either p m) [ inl n ↦ pair-equated Q q above others p n (at p m) | inr k ↦ k ]) in
       pairs_are_replaced Q q above th others (each_imply (λ p. IsIn p th.pairs) (IsCertifiedPair Q) others at left_over) equated h
 
   -- Under maps by which its pairs' sides are equated, the instance of a theorem is proved.
@@ -55,7 +55,7 @@ module _ (Q : Content) (q : IsContent Q) (above : IsBelow pure_content Q) where
       let given = others-assumed hyps th.rests before is.hyps in
       let instance = smashed-instance th typs terms is.respecting is.pairs h in
       let closed_ = chain_is_proved Q before hyps th.rests (f th.prop) (each_imply (λ A. IsProposition Q A × Proves Q hyps th.rests A) (IsProposition Q) before (λ A k. k.0) given)
-        (weaker Q before (before ++ hyps) th.rests th.rests (f th.prop) (λ A m. in-append_left A before hyps m) (λ l m. m) instance) in
+      (weaker Q before (before ++ hyps) th.rests th.rests (f th.prop) (λ A m. in-append_left A before hyps m) (λ l m. m) instance) in
       let proved = end_of_chain_is_proved Q before hyps th.rests (f th.prop) closed_ (each_imply (λ A. IsProposition Q A × Proves Q hyps th.rests A) (λ A. Proves Q hyps th.rests A) before (λ A k. k.1) given) in
       proved-derivable Q q above smashed (record {
         equations = [];

@@ -1,25 +1,25 @@
 -- What is proved behind a prefix.
-use Rattle.std.proofs.Common.{◌≡◌, ◌⊎◌, ℕ, zero, ◌+◌, List, [], ◌∷◌, ◌++◌, map, length, inl, inr, ap, refl, sym, ◌∙◌, subst, arith}
-use Rattle.pure_text.specs.Lists.{IsIn, Each}
+use Rattle.std.proofs.Common.{◌≡◌, ℕ, ◌+◌, List, [], ◌∷◌, ◌++◌, map, length, inl, inr, ap, refl, sym, ◌∙◌, subst, arith}
+use Rattle.pure_text.specs.Lists.{IsIn}
 use Rattle.pure_definitions.specs.Names.{Label}
 use Rattle.pure_definitions.specs.Types.Typ.{Typ, arrow, prop}
 use Rattle.pure_definitions.specs.Terms.Term.{Term, Free, Abs, App}
 use Rattle.pure_definitions.specs.Terms.Typing.{HasType}
-use Rattle.pure_definitions.specs.Terms.Bounds.{lift_term, subst_under, subst_bound}
+use Rattle.pure_definitions.specs.Terms.Bounds.{lift_term, subst_bound}
 use Rattle.pure_definitions.specs.Declarations.Certified.{IsCertifiedTyp, HasCertifiedParts}
 use Rattle.pure_definitions.proofs.LiftLaws.{subst-lift}
 use Rattle.pure_term_laws.proofs.BoundLaws.{lift-zero, lift-again}
 use Rattle.pure_term_laws.proofs.TypingLaws.{typed-once}
 use Rattle.pure_logic.specs.Connectives.{all_typ, imp_typ, all, imp, eq, chain}
-use Rattle.pure_logic.specs.Content.{Content, IsContent, IsBelow, IsCertifiedOf, IsProposition}
+use Rattle.pure_logic.specs.Content.{Content, IsContent, IsBelow, IsProposition}
 use Rattle.pure_logic.specs.PureContent.{pure_content}
 use Rattle.pure_logic.specs.Proves.{Proves}
 use Rattle.pure_logic.proofs.ConnectiveLaws.{certified_of, imp-parts}
-use Rattle.pure_logic.proofs.PropositionLaws.{premise-proposition, conclusion-proposition}
+use Rattle.pure_logic.proofs.PropositionLaws.{premise-proposition}
 use Rattle.pure_logic.proofs.ProvesLaws.{assumed, weaker, implication_is_proved, conclusion_is_proved, proved_is_proposition}
 use Rattle.pure_logic.proofs.EqualityLaws.{reflexive_equality, symmetric_equality, transitive_equality, equal_applications, equal_is_proved, beta_equality, left-of, right-of}
-use Rattle.pure_goal_laws.specs.Prefix.{Item, Parameter, Hypothesis, behind, parameters, abstracted, below_parameters, hypotheses}
-use Rattle.pure_goal_laws.proofs.OpeningLaws.{put, put-imp, put-eq, put-abs, put-further, Opens, opens-more, opens-both, closed, opened, opened-proposition}
+use Rattle.pure_goal_laws.specs.Prefix.{Item, Parameter, Hypothesis, behind, parameters, below_parameters, hypotheses}
+use Rattle.pure_goal_laws.proofs.OpeningLaws.{put, put-imp, put-abs, put-further, Opens, opens-more, opens-both, closed, opened, opened-proposition}
 
 pub behind-append : (ps others : List Item) (C : Term) → behind (ps ++ others) C ≡ behind ps (behind others C)
 behind-append [] others C = refl

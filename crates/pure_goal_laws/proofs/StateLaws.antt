@@ -1,12 +1,11 @@
 -- Goals at their beginning and their end; subgoals converted, and in another order.
-use Rattle.std.proofs.Common.{◌≡◌, ◌↔◌, List, [], ◌∷◌, ◌++◌, map, inl, inr, refl, ap, sym, ◌∙◌}
+use Rattle.std.proofs.Common.{◌≡◌, ◌↔◌, List, [], ◌∷◌, ◌++◌, map, inl, inr, refl, ap, sym}
 use Rattle.pure_text.specs.Lists.{IsIn, Each, EachTwo}
-use Rattle.pure_text.proofs.ListLaws.{each_of, each_at, each_imply, in-append_left, in-append_right, in_split}
+use Rattle.pure_text.proofs.ListLaws.{each_of, each_at, in-append_left, in-append_right, in_split}
 use Rattle.pure_definitions.specs.Names.{Label}
-use Rattle.pure_definitions.specs.Types.Typ.{Typ, arrow, prop}
+use Rattle.pure_definitions.specs.Types.Typ.{arrow, prop}
 use Rattle.pure_definitions.specs.Terms.Term.{Term}
 use Rattle.pure_definitions.specs.Terms.Subst.{term_instance}
-use Rattle.pure_definitions.specs.Terms.Typing.{HasType}
 use Rattle.pure_term_laws.proofs.SubstLaws.{term_instance-identity}
 use Rattle.pure_logic.specs.Connectives.{protect_typ, eq, protect, chain}
 use Rattle.pure_logic.specs.Content.{Content, IsContent, IsBelow, IsProposition}
@@ -48,8 +47,8 @@ module _ (Q : Content) (q : IsContent Q) (above : IsBelow pure_content Q) where
   end_is_derivable goal C e h =
       inferred_from_one Q q above goal goal.hyps C
       (λ further p.
-          let whole : Proves Q (further ++ goal.hyps) goal.rests (protect C) = rw e at p in
-          (mark_means_nothing Q q above (further ++ goal.hyps) goal.rests C (marked-proposition C (proved_is_proposition Q q above (further ++ goal.hyps) goal.rests (protect C) whole))).0 whole) h
+      let whole : Proves Q (further ++ goal.hyps) goal.rests (protect C) = rw e at p in
+      (mark_means_nothing Q q above (further ++ goal.hyps) goal.rests C (marked-proposition C (proved_is_proposition Q q above (further ++ goal.hyps) goal.rests (protect C) whole))).0 whole) h
 
   pub reordered_is_derivable : (goal : Theorem) (As Bs : List Term) (G : Term) → goal.prop ≡ chain As G → ((A : Term) → IsIn A As ↔ IsIn A Bs) → IsDerivable Q goal → IsDerivable Q (record goal { prop = chain Bs G })
   reordered_is_derivable goal As Bs G e both h =
@@ -57,12 +56,12 @@ module _ (Q : Content) (q : IsContent Q) (above : IsBelow pure_content Q) where
       let there = each_of (IsProposition Q) Bs (λ B m. each_at (IsProposition Q) As propositions B ((both B).1 m)) in
       inferred_from_one Q q above goal goal.hyps (chain Bs G)
       (λ further p.
-          let hyps = further ++ goal.hyps in
-          let more = Bs ++ hyps in
-          let whole : Proves Q hyps goal.rests (chain As G) = rw e at p in
-          let proved = each_of (λ A. Proves Q more goal.rests A) As (λ A m. assumed Q more goal.rests A (each_at (IsProposition Q) As propositions A m) (in-append_left A Bs hyps ((both A).0 m))) in
-          chain_is_proved Q Bs hyps goal.rests G there
-          (end_of_chain_is_proved Q As more goal.rests G (weaker Q hyps more goal.rests goal.rests (chain As G) (λ A m. in-append_right A Bs hyps m) (λ l m. m) whole) proved)) h
+      let hyps = further ++ goal.hyps in
+      let more = Bs ++ hyps in
+      let whole : Proves Q hyps goal.rests (chain As G) = rw e at p in
+      let proved = each_of (λ A. Proves Q more goal.rests A) As (λ A m. assumed Q more goal.rests A (each_at (IsProposition Q) As propositions A m) (in-append_left A Bs hyps ((both A).0 m))) in
+      chain_is_proved Q Bs hyps goal.rests G there
+      (end_of_chain_is_proved Q As more goal.rests G (weaker Q hyps more goal.rests goal.rests (chain As G) (λ A m. in-append_right A Bs hyps m) (λ l m. m) whole) proved)) h
 
   pub preferred_is_derivable : (goal : Theorem) (before : List Term) (A : Term) (after : List Term) (G : Term) → goal.prop ≡ chain (before ++ A ∷ after) G → IsDerivable Q goal → IsDerivable Q (record goal { prop = chain (A ∷ (before ++ after)) G })
   preferred_is_derivable goal before A after G e h = reordered_is_derivable goal (before ++ A ∷ after) (A ∷ (before ++ after)) G e (λ B. (moved A before after B, moved_back A before after B)) h

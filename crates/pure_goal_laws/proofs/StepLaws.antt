@@ -14,7 +14,6 @@ use Rattle.pure_logic.specs.Proves.{Proves, IsEquation}
 use Rattle.pure_logic.specs.Laws.Substitution.{theorem_instance}
 use Rattle.pure_logic.proofs.ConnectiveLaws.{certified_of}
 use Rattle.pure_logic.proofs.EachLaws.{each-left, each-right}
-use Rattle.pure_logic.proofs.EqualityLaws.{symmetric_equality, equal_is_proved}
 use Rattle.pure_logic.proofs.ProvesLaws.{assumed, weaker, chain_is_proved, end_of_chain_is_proved, derivable-proved, proved-derivable}
 use Rattle.pure_logic.proofs.SubstitutionLaws.{instance_is_derivable}
 use Rattle.pure_equated.specs.Equated.{AreEquated, back}
@@ -50,7 +49,7 @@ module _ (Q : Content) (q : IsContent Q) (above : IsBelow pure_content Q) where
         are_equations = p.are_equations;
         propositions = p.propositions;
         proves = step H (pairs-proved Q H new.rests new.pairs p.equations p.are_equations p.propositions (λ B m. in-append_left B p.equations new.hyps m))
-          (weaker Q (p.equations ++ hyps) H rests new.rests A (λ B m. elim (in_split B p.equations hyps m) [ inl n ↦ in-append_left B p.equations new.hyps n | inr n ↦ in-append_right B p.equations new.hyps (hyps_among B n) ]) rests_among p.proves);
+            (weaker Q (p.equations ++ hyps) H rests new.rests A (λ B m. elim (in_split B p.equations hyps m) [ inl n ↦ in-append_left B p.equations new.hyps n | inr n ↦ in-append_right B p.equations new.hyps (hyps_among B n) ]) rests_among p.proves);
       })
 
   -- Of propositions that are equated modulo pairs whose equations are proved: those on the right are propositions, and those on the left are proved from them.
@@ -98,5 +97,5 @@ step_is_derivable Q q above goal new A others G premises typs terms step justifi
     let replaced = pairs_are_replaced Q q above (theorem_instance typs terms goal) new.pairs step.new_pairs step.pairs instance in
     inferred_under_pairs Q q above new (map f goal.hyps) (f goal.prop) goal.rests (λ B m. absurd (rw step.goal_hyps at m)) step.rests
     (λ H given p.
-        let old : Proves Q H new.rests (chain (f A ∷ map f others) (f G)) = rw (step.goal_prop, instance-chain typs terms (A ∷ others) G) at p in
-        rw step.new_prop (exchanged Q q above H new.rests new.pairs given (f A) (f G) (map f others) premises step.subgoals step.are_subgoals (justified H given) old)) replaced
+    let old : Proves Q H new.rests (chain (f A ∷ map f others) (f G)) = rw (step.goal_prop, instance-chain typs terms (A ∷ others) G) at p in
+    rw step.new_prop (exchanged Q q above H new.rests new.pairs given (f A) (f G) (map f others) premises step.subgoals step.are_subgoals (justified H given) old)) replaced

@@ -1,5 +1,5 @@
 -- A rule with its front stripped.
-use Rattle.std.proofs.Common.{List, [], ◌∷◌, inl, inr, refl}
+use Rattle.std.proofs.Common.{List, ◌∷◌, inl, inr, refl}
 use Rattle.pure_definitions.specs.Names.{Label}
 use Rattle.pure_definitions.specs.Terms.Term.{Term, Var}
 use Rattle.pure_definitions.specs.Terms.Bounds.{subst_bound}

@@ -1,11 +1,11 @@
 -- Worked examples: whole proofs by goal steps over Pure's own content, and pairs that are removed.
 use Rattle.std.specs.Prelude.{List, [], ◌∷◌}
-use Rattle.pure_definitions.specs.Types.Typ.{Typ, arrow, prop}
+use Rattle.pure_definitions.specs.Types.Typ.{arrow, prop}
 use Rattle.pure_definitions.specs.Terms.Term.{Term, Free, Var, Bound, Abs, App}
 use Rattle.pure_term_laws.specs.LawsMaps.{sent}
-use Rattle.pure_logic.specs.Connectives.{all, imp, eq, protect, chain}
+use Rattle.pure_logic.specs.Connectives.{all, imp, protect, chain}
 use Rattle.pure_logic.specs.PureContent.{pure_content}
-use Rattle.pure_logic.specs.Derivable.{Pair, Theorem, IsDerivable, IsDerivableAlone}
+use Rattle.pure_logic.specs.Derivable.{Theorem, IsDerivable, IsDerivableAlone}
 use Rattle.pure_goal_laws.specs.Lifting.{IsStripped}
 use Rattle.pure_goal_laws.specs.GoalStep.{IsGoalStep, IsJustified}
 use Rattle.pure_goal_laws.specs.Laws.States.{IsSmashed}

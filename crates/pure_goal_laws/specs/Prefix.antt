@@ -1,5 +1,5 @@
 -- Prefixes of subgoals: the parameters and the hypotheses that stand before a subgoal's conclusion (Isabelle/Isar Implementation manual, section 2.4.2).
-use Rattle.std.specs.Prelude.{ℕ, ◌+◌, List, [], ◌∷◌, length}
+use Rattle.std.specs.Prelude.{List, [], ◌∷◌, length}
 use Rattle.pure_definitions.specs.Types.Typ.{Typ}
 use Rattle.pure_definitions.specs.Terms.Term.{Term, Abs}
 use Rattle.pure_definitions.specs.Terms.Bounds.{lift_term}

@@ -5,7 +5,7 @@ use Rattle.pure_definitions.specs.Types.Typ.{Typ, prop}
 use Rattle.pure_definitions.specs.Terms.Term.{Term}
 use Rattle.pure_definitions.specs.Terms.Bounds.{lift_term}
 use Rattle.pure_definitions.specs.Terms.Subst.{term_instance}
-use Rattle.pure_logic.specs.Connectives.{imp, eq, chain}
+use Rattle.pure_logic.specs.Connectives.{eq, chain}
 use Rattle.pure_logic.specs.Content.{Content, IsContent, IsBelow, IsProposition}
 use Rattle.pure_logic.specs.PureContent.{pure_content}
 use Rattle.pure_logic.specs.Concludes.{AreRespecting}
