@@ -7,6 +7,7 @@ pub mod JustificationLaws
 pub mod EliminationLaws
 pub mod StrippingLaws
 pub mod StateLaws
+pub mod FactLaws
 pub mod PairLaws
 pub mod ExampleLaws
 pub mod DetachedExamples

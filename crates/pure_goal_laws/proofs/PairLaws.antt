@@ -21,12 +21,12 @@ use Rattle.pure_equated.proofs.SidesLaws.{equated_are_typed}
 use Rattle.pure_equated.proofs.EquatedLaws.{equated_proposition_is_proved}
 use Rattle.pure_equated.proofs.PairsLaws.{pairs_are_replaced}
 use Rattle.pure_goal_laws.specs.Laws.States.{IsSmashed}
-use Rattle.pure_goal_laws.proofs.StateLaws.{pairs-certified, pair-equated}
+use Rattle.pure_goal_laws.proofs.StateLaws.{pairs_are_certified, pair-equated}
 
 module _ (Q : Content) (q : IsContent Q) (above : IsBelow pure_content Q) where
   pub dropped_is_derivable : (th : Theorem) (others : List Pair) → Each (λ p. IsIn p th.pairs) others → Each (λ p. IsIn p others ⊎ IsPairEquated Q.declarations others p) th.pairs → IsDerivable Q th → IsDerivable Q (record th { pairs = others })
   dropped_is_derivable th others left_over either h =
-      let certified = pairs-certified Q q above th h in
+      let certified = pairs_are_certified Q q above th h in
       let at : (p : Pair) → IsIn p th.pairs → IsCertifiedPair Q p = each_at (IsCertifiedPair Q) th.pairs certified in
       let equated = each_of (IsPairEquated Q.declarations others) th.pairs
       (λ p m. elim (each_at (λ r. IsIn r others ⊎ IsPairEquated Q.declarations others r) th.pairs either p m) [ inl n ↦ pair-equated Q q above others p n (at p m) | inr k ↦ k ]) in

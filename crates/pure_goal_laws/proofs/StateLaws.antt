@@ -28,6 +28,9 @@ use Rattle.pure_goal_laws.proofs.StepLaws.{step_is_derivable}
 use Rattle.pure_goal_laws.proofs.JustificationLaws.{premises-propositions, by_equation}
 
 module _ (Q : Content) (q : IsContent Q) (above : IsBelow pure_content Q) where
+  pub subgoals_are_propositions : (goal : Theorem) (As : List Term) (G : Term) → goal.prop ≡ chain As G → IsDerivable Q goal → Each (IsProposition Q) As
+  subgoals_are_propositions goal As G e h = premises-propositions Q q above As G (rw e at (derivable_is_proposition Q q above goal h))
+
   pub start_is_derivable : (S C : Term) → AreEquated Q.declarations [] [] prop S C → IsDerivableAlone Q (chain (S ∷ []) (protect C))
   start_is_derivable S C h =
       let sides = equated_are_typed Q.declarations [] [] prop S C h in
@@ -52,7 +55,7 @@ module _ (Q : Content) (q : IsContent Q) (above : IsBelow pure_content Q) where
 
   pub reordered_is_derivable : (goal : Theorem) (As Bs : List Term) (G : Term) → goal.prop ≡ chain As G → ((A : Term) → IsIn A As ↔ IsIn A Bs) → IsDerivable Q goal → IsDerivable Q (record goal { prop = chain Bs G })
   reordered_is_derivable goal As Bs G e both h =
-      let propositions = premises-propositions Q q above As G (rw e at (derivable_is_proposition Q q above goal h)) in
+      let propositions = subgoals_are_propositions goal As G e h in
       let there = each_of (IsProposition Q) Bs (λ B m. each_at (IsProposition Q) As propositions B ((both B).1 m)) in
       inferred_from_one Q q above goal goal.hyps (chain Bs G)
       (λ further p.
@@ -81,8 +84,8 @@ module _ (Q : Content) (q : IsContent Q) (above : IsBelow pure_content Q) where
   equations-certified [] (e ∷ es) h k = absurd h
   equations-certified (p ∷ ps) [] h k = absurd h
 
-  pub pairs-certified : (th : Theorem) → IsDerivable Q th → Each (IsCertifiedPair Q) th.pairs
-  pairs-certified th h = let p = derivable-proved Q q above th h in equations-certified th.pairs p.equations p.are_equations p.propositions
+  pub pairs_are_certified : (th : Theorem) → IsDerivable Q th → Each (IsCertifiedPair Q) th.pairs
+  pairs_are_certified th h = let p = derivable-proved Q q above th h in equations-certified th.pairs p.equations p.are_equations p.propositions
 
   pub pair-equated : (pairs : List Pair) (p : Pair) → IsIn p pairs → IsCertifiedPair Q p → IsPairEquated Q.declarations pairs p
   pair-equated pairs p m c = (c.0, pair p m (record { parts = c.1.certified.parts; typed = c.1.typed }) (record { parts = c.2.certified.parts; typed = c.2.typed }))
@@ -103,8 +106,8 @@ module _ (Q : Content) (q : IsContent Q) (above : IsBelow pure_content Q) where
       → Proves Q [] rests (eq prop A B) → IsDerivable Q goal → IsDerivable Q (record goal { prop = chain (B ∷ others) G; rests = rests })
   converted_is_derivable goal A B others G rests no_hyps e among p h =
       let new : Theorem = record goal { prop = chain (B ∷ others) G; rests = rests } in
-      let certified = pairs-certified goal h in
-      let propositions = premises-propositions Q q above (A ∷ others) G (rw e at (derivable_is_proposition Q q above goal h)) in
+      let certified = pairs_are_certified goal h in
+      let propositions = subgoals_are_propositions goal (A ∷ others) G e h in
       let right = right-certified Q q above [] rests prop A B (proved_is_proposition Q q above [] rests (eq prop A B) p) in
       step_is_derivable Q q above goal new A others G (B ∷ []) (λ T. T) (λ t. t) (record {
         goal_hyps = no_hyps;

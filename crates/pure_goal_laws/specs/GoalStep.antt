@@ -14,6 +14,7 @@ use Rattle.pure_logic.specs.Laws.Substitution.{pair_instance}
 use Rattle.pure_equated.specs.Equated.{AreEquated, IsPairEquated}
 use Rattle.pure_equated.specs.Laws.Proved.{IsPairProved, IsCertifiedPair}
 use Rattle.pure_goal_laws.specs.Prefix.{Item, below_parameters}
+use Rattle.pure_goal_laws.specs.Lifting.{IsStripped}
 
 -- The step from one goal to another: of the first subgoal A and the others, premises stand in place of A, under the maps. The pairs may be replaced by those of the new goal, modulo which they are equated under the maps;
 -- each subgoal of the new goal is equated with a premise, or with one of the others under the maps, as its normal form is; and the new goal rests on what the old one rests on, or on more.
@@ -38,3 +39,10 @@ IsJustified Q new A premises typs terms =
 abbrev pub AreMatched : (Q : Content) → (new : Theorem) → (typs : Typ → Typ) → (terms : Term → Term) → List Item → (t u : Term) → Type 0
 AreMatched Q new typs terms ps t u =
     (T : Typ) × AreEquated Q.declarations new.pairs [] T (term_instance typs terms (below_parameters ps t)) (term_instance typs terms (below_parameters ps u))
+
+-- The fact is used as the rule from the premises to the conclusion, in a step to the new goal: it has no hypotheses and no pairs, stripped of its front it is the rule, and the new goal rests on what it rests on.
+pub record IsRuleFor (new fact : Theorem) (premises : List Term) (conclusion : Term) : Type 0 where
+  pub no_hyps : fact.hyps ≡ []
+  pub no_pairs : fact.pairs ≡ []
+  pub stripped : IsStripped fact.prop premises conclusion
+  pub rests : (l : Label) → IsIn l fact.rests → IsIn l new.rests

@@ -2,7 +2,8 @@
 ghost use Rattle.pure_goal_laws.specs.Laws.Prefix.{ImplicationBehind, ChainBehind, HypothesisBehind, FurtherHypothesisBehind, EqualBehind};
 ghost use Rattle.pure_goal_laws.specs.Laws.Lifting.{StrippedRule, LiftedRule};
 ghost use Rattle.pure_goal_laws.specs.Laws.Steps.{StepIsDerivable, ByRule, ByAssumption, ByElimination, ByDestruction, ByEquation};
-ghost use Rattle.pure_goal_laws.specs.Laws.States.{StartIsDerivable, EndIsDerivable, ConvertedIsDerivable, ReorderedIsDerivable, PreferredIsDerivable, DeferredIsDerivable, DroppedIsDerivable, SmashedIsDerivable};
+ghost use Rattle.pure_goal_laws.specs.Laws.Facts.{AssumptionStep, RuleStep, EliminationStep, DestructionStep};
+ghost use Rattle.pure_goal_laws.specs.Laws.States.{SubgoalsArePropositions, PairsAreCertified, StartIsDerivable, EndIsDerivable, ConvertedIsDerivable, ReorderedIsDerivable, PreferredIsDerivable, DeferredIsDerivable, DroppedIsDerivable, SmashedIsDerivable};
 
 /// What is proved behind a prefix: implications and chains of them, hypotheses, and what is equal there.
 pub fn proved_behind_prefix()
@@ -31,6 +32,20 @@ pub fn subgoal_is_justified()
     ensures elimination { ByElimination }
     ensures destruction { ByDestruction }
     ensures equation { ByEquation }
+{}
+
+/// Steps by assumption, and by a derivable fact used as a rule: by itself, by elimination, by destruction.
+pub fn steps_by_facts()
+    ensures assumption { AssumptionStep }
+    ensures rule { RuleStep }
+    ensures elimination { EliminationStep }
+    ensures destruction { DestructionStep }
+{}
+
+/// What stands in a derivable goal: subgoals are propositions, and pairs have certified sides.
+pub fn goal_is_certified()
+    ensures subgoals { SubgoalsArePropositions }
+    ensures pairs { PairsAreCertified }
 {}
 
 /// The first goal for a proposition, and the proposition from a goal without subgoals.

@@ -6,17 +6,21 @@ use Rattle.pure_definitions.specs.Types.Typ.{Typ, prop}
 use Rattle.pure_definitions.specs.Terms.Term.{Term}
 use Rattle.pure_definitions.specs.Terms.Subst.{term_instance}
 use Rattle.pure_logic.specs.Connectives.{eq, protect, chain}
-use Rattle.pure_logic.specs.Content.{Content, IsContent, IsBelow}
-use Rattle.pure_logic.specs.PureContent.{pure_content}
+use Rattle.pure_logic.specs.Content.{Content, IsProposition}
 use Rattle.pure_logic.specs.Concludes.{AreRespecting}
 use Rattle.pure_logic.specs.Derivable.{Pair, Theorem, IsDerivable, IsDerivableAlone}
 use Rattle.pure_logic.specs.Proves.{Proves}
 use Rattle.pure_logic.specs.Laws.Substitution.{pair_instance}
 use Rattle.pure_equated.specs.Equated.{AreEquated, IsPairEquated}
+use Rattle.pure_equated.specs.Laws.Proved.{IsCertifiedPair}
+use Rattle.pure_goal_laws.specs.Laws.Scope.{Above}
 
--- What holds of each content above Pure's.
-abbrev pub Above : (Content → Type 0) → Type 0
-Above law = (Q : Content) → IsContent Q → IsBelow pure_content Q → law Q
+-- The subgoals of a derivable goal are propositions, and the sides of a derivable theorem's pairs are certified, of one type.
+abbrev pub SubgoalsArePropositions : Type 0
+SubgoalsArePropositions = Above (λ Q. (goal : Theorem) (As : List Term) (G : Term) → goal.prop ≡ chain As G → IsDerivable Q goal → Each (IsProposition Q) As)
+
+abbrev pub PairsAreCertified : Type 0
+PairsAreCertified = Above (λ Q. (th : Theorem) → IsDerivable Q th → Each (IsCertifiedPair Q) th.pairs)
 
 -- The first goal for a proposition, `S ==> # C` with a subgoal that is equated with it, as its long form is, is derivable.
 abbrev pub StartIsDerivable : Type 0

@@ -6,23 +6,23 @@ use Rattle.pure_definitions.specs.Terms.Term.{Term}
 use Rattle.pure_definitions.specs.Terms.Bounds.{lift_term}
 use Rattle.pure_definitions.specs.Terms.Subst.{term_instance}
 use Rattle.pure_logic.specs.Connectives.{eq, chain}
-use Rattle.pure_logic.specs.Content.{Content, IsContent, IsBelow, IsProposition}
-use Rattle.pure_logic.specs.PureContent.{pure_content}
+use Rattle.pure_logic.specs.Content.{Content, IsProposition}
 use Rattle.pure_logic.specs.Concludes.{AreRespecting}
 use Rattle.pure_logic.specs.Derivable.{Theorem, IsDerivable}
 use Rattle.pure_logic.specs.Proves.{Proves}
+use Rattle.pure_goal_laws.specs.Laws.Scope.{Above}
 use Rattle.pure_goal_laws.specs.Prefix.{Item, Hypothesis, behind, parameters, hypotheses}
 use Rattle.pure_goal_laws.specs.Lifting.{lifted_behind}
 use Rattle.pure_goal_laws.specs.GoalStep.{IsGoalStep, IsJustified, AreMatched}
 
 -- A step from a derivable goal leads to a derivable goal where its premises justify the first subgoal.
 abbrev pub StepIsDerivable : Type 0
-StepIsDerivable = (Q : Content) → IsContent Q → IsBelow pure_content Q → (goal new : Theorem) (A : Term) (others : List Term) (G : Term) (premises : List Term) (typs : Typ → Typ) (terms : Term → Term)
-    → IsGoalStep Q goal new A others G premises typs terms → IsJustified Q new A premises typs terms → IsDerivable Q goal → IsDerivable Q new
+StepIsDerivable = Above (λ Q. (goal new : Theorem) (A : Term) (others : List Term) (G : Term) (premises : List Term) (typs : Typ → Typ) (terms : Term → Term)
+    → IsGoalStep Q goal new A others G premises typs terms → IsJustified Q new A premises typs terms → IsDerivable Q goal → IsDerivable Q new)
 
 -- What holds of the justifications of a step to a new goal, by respecting maps.
 abbrev pub ForSteps : ((Q : Content) → (new : Theorem) → (typs : Typ → Typ) → (terms : Term → Term) → Type 0) → Type 0
-ForSteps law = (Q : Content) → IsContent Q → IsBelow pure_content Q → (new : Theorem) (typs : Typ → Typ) (terms : Term → Term) → AreRespecting Q typs terms → law Q new typs terms
+ForSteps law = Above (λ Q. (new : Theorem) (typs : Typ → Typ) (terms : Term → Term) → AreRespecting Q typs terms → law Q new typs terms)
 
 -- the instances of a rule's premises, which are lifted over a prefix and stand behind it
 abbrev pub lifted_premises : (typs : Typ → Typ) → (terms : Term → Term) → List Item → List Term → List Term
@@ -51,13 +51,16 @@ ByElimination = ForSteps (λ Q new typs terms. (before : List Item) (H : Term) (
     → (P : Term) (As : List Term) (B : Term) → Proves Q [] new.rests (chain (P ∷ As) B) → IsEliminated Q new typs terms before H after P → AreMatched Q new typs terms ps (lifted_behind ps B) C
     → IsJustified Q new (behind ps C) (lifted_premises typs terms (before ++ after) As) typs terms)
 
--- By destruction: where the first premise of a rule is matched with a hypothesis, the others justify the subgoal together with one more: the subgoal with the rule's conclusion in place of that hypothesis, the last before its own conclusion.
+-- the same of the other premises of a rule with the conclusion B, and behind them the subgoal with B, lifted, as its last hypothesis
+abbrev pub destructed_premises : (typs : Typ → Typ) → (terms : Term → Term) → List Item → (C : Term) → List Term → (B : Term) → List Term
+destructed_premises typs terms ps C As B = lifted_premises typs terms ps As ++ term_instance typs terms (behind (ps ++ Hypothesis (lifted_behind ps B) ∷ []) C) ∷ []
+
+-- By destruction: where the first premise of a rule is matched with a hypothesis, the others justify the subgoal together with the subgoal that has the rule's conclusion in place of that hypothesis.
 abbrev pub ByDestruction : Type 0
-ByDestruction = ForSteps (λ Q new typs terms. (before : List Item) (H : Term) (after : List Item) (C : Term) → let ps = before ++ Hypothesis H ∷ after in IsProposition Q (behind ps C)
+ByDestruction = ForSteps (λ Q new typs terms. (before : List Item) (H : Term) (after : List Item) (C : Term) → IsProposition Q (behind (before ++ Hypothesis H ∷ after) C)
     → (P : Term) (As : List Term) (B : Term) → Proves Q [] new.rests (chain (P ∷ As) B) → IsEliminated Q new typs terms before H after P
-    → let others = before ++ after in
-    IsJustified Q new (behind ps C) (lifted_premises typs terms others As ++ term_instance typs terms (behind (others ++ Hypothesis (lifted_behind others B) ∷ []) C) ∷ []) typs terms)
+    → IsJustified Q new (behind (before ++ Hypothesis H ∷ after) C) (destructed_premises typs terms (before ++ after) C As B) typs terms)
 
 -- By an equation: `A == B` justifies A by B, under the identity maps.
 abbrev pub ByEquation : Type 0
-ByEquation = (Q : Content) → IsContent Q → IsBelow pure_content Q → (new : Theorem) (A B : Term) → Proves Q [] new.rests (eq prop A B) → IsJustified Q new A (B ∷ []) (λ T. T) (λ t. t)
+ByEquation = Above (λ Q. (new : Theorem) (A B : Term) → Proves Q [] new.rests (eq prop A B) → IsJustified Q new A (B ∷ []) (λ T. T) (λ t. t))
