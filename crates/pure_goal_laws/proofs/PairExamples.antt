@@ -15,7 +15,9 @@ use Rattle.pure_logic.proofs.PropositionLaws.{eq-proposition}
 use Rattle.pure_logic.proofs.ProvesLaws.{derivable_is_proves, assumed, weaker, proved-derivable}
 use Rattle.pure_equated.specs.Equated.{AreEquated, back, through, beta}
 use Rattle.pure_goal_laws.specs.Laws.States.{IsSmashed}
-use Rattle.pure_goal_laws.specs.Examples.{a, b, any_b, any_f, itself, with_trivial_pair, DroppedExample, with_flexible_pair, without_pair, SmashedExample}
+use Rattle.pure_goal_laws.specs.Examples.Definitions.{a, b, any_b, any_f}
+use Rattle.pure_goal_laws.specs.Examples.Proofs.{itself}
+use Rattle.pure_goal_laws.specs.Examples.Pairs.{with_trivial_pair, DroppedExample, with_flexible_pair, without_pair, SmashedExample}
 use Rattle.pure_goal_laws.proofs.PairLaws.{dropped_is_derivable, smashed_is_derivable}
 use Rattle.pure_goal_laws.proofs.ExampleLaws.{prop_typ, a-proposition, b-proposition, unchanged, assumption_proof}
 

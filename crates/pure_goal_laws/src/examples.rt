@@ -1,5 +1,14 @@
 //! What goals mean, by worked examples, each carried by the contract of a function that does nothing.
-ghost use Rattle.pure_goal_laws.specs.Examples.{AssumptionProof, RuleProof, EliminationProof, DestructionProof, ConversionProof, DroppedExample, SmashedExample};
+ghost use Rattle.pure_goal_laws.specs.Examples.Definitions.{PrefixExample, LiftedExample, StrippedExample};
+ghost use Rattle.pure_goal_laws.specs.Examples.Proofs.{AssumptionProof, RuleProof, EliminationProof, DestructionProof, ConversionProof};
+ghost use Rattle.pure_goal_laws.specs.Examples.Pairs.{DroppedExample, SmashedExample};
+
+/// A prefix with parameters and hypotheses, a rule lifted over it, and a rule stripped of its front.
+pub fn prefix_example()
+    ensures prefix { PrefixExample }
+    ensures lifted { LiftedExample }
+    ensures stripped { StrippedExample }
+{}
 
 /// A whole proof by assumption.
 pub fn assumption_proof()
