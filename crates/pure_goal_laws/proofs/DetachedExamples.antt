@@ -58,7 +58,7 @@ elimination_proof =
     let step = step_for detached detached [] (itself ∷ []) (itself ∷ []) at_a_b at_a_b-respects refl (unchanged [] itself itself-proposition, tt) in
     let new = goal_for detached (itself ∷ []) in
     let next = elimination_step pure_content pure_is_content pure-below_itself (goal_for detached (detached ∷ [])) new [] (protect detached) (λ T. T) at_a_b [] (imp a b) (Hypothesis a ∷ []) b fact (imp any_a any_b) (any_a ∷ []) any_b step (is_rule new)
-      (prop, unchanged [] (imp a b) a_b-proposition) (prop, unchanged [] b b-proposition) (started detached detached-proposition) fact-derivable in
+    (prop, unchanged [] (imp a b) a_b-proposition) (prop, unchanged [] b b-proposition) (started detached detached-proposition) fact-derivable in
     record { elimination = step; next = next; proved = ended detached (itself_assumed detached [] tt next) }
 
 pub destruction_proof : DestructionProof
@@ -67,7 +67,7 @@ destruction_proof =
     let step = step_for detached detached [] both both at_a_b at_a_b-respects refl (unchanged [] itself itself-proposition, (unchanged [] another another-proposition, tt)) in
     let new = goal_for detached both in
     let next = destruction_step pure_content pure_is_content pure-below_itself (goal_for detached (detached ∷ [])) new [] (protect detached) (λ T. T) at_a_b [] (imp a b) (Hypothesis a ∷ []) b fact (imp any_a any_b) (any_a ∷ []) any_b step (is_rule new)
-      (prop, unchanged [] (imp a b) a_b-proposition) (started detached detached-proposition) fact-derivable in
+    (prop, unchanged [] (imp a b) a_b-proposition) (started detached detached-proposition) fact-derivable in
     let deferred = deferred_is_derivable pure_content pure_is_content pure-below_itself new itself (another ∷ []) (protect detached) refl next in
     let preferred = preferred_is_derivable pure_content pure_is_content pure-below_itself (goal_for detached (another ∷ itself ∷ [])) (another ∷ []) itself [] (protect detached) refl deferred in
     let one = itself_assumed detached (another ∷ []) (another-proposition, tt) preferred in
@@ -78,5 +78,5 @@ pub conversion_proof : ConversionProof
 conversion_proof =
     let whole : IsProposition pure_content redex = certified_of pure_content redex prop ((prop_typ, tt), itself-proposition.certified.parts) (prop, (prop, refl, refl), itself-proposition.typed) in
     let converted = converted_is_derivable pure_content pure_is_content pure-below_itself (goal_for redex (redex ∷ [])) redex itself [] (protect redex) [] refl refl (λ l m. m)
-      (beta_equality pure_content pure_is_content pure-below_itself [] [] prop prop (Bound 0) itself whole) (started redex whole) in
+    (beta_equality pure_content pure_is_content pure-below_itself [] [] prop prop (Bound 0) itself whole) (started redex whole) in
     record { converted = converted; proved = ended redex (itself_assumed redex [] tt converted) }

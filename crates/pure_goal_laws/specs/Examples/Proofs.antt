@@ -80,4 +80,3 @@ redex = App (Abs prop (Bound 0)) itself
 pub record ConversionProof : Type 0 where
   pub converted : IsDerivable pure_content (goal_for redex (itself ∷ []))
   pub proved : IsDerivableAlone pure_content redex
-
