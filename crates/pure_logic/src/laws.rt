@@ -5,12 +5,12 @@ ghost use Rattle.pure_logic.specs.Laws.Inferences.{InferredFromOne, InferredFrom
 ghost use Rattle.pure_logic.specs.Laws.Equality.{ReflexiveEquality, SymmetricEquality, TransitiveEquality, EqualsAreReplaced, EqualApplications, EqualPropositions, EqualIsProved, EqualFunctions, BetaEquality, EtaEquality, EqualAbstractions, MarkMeansNothing};
 ghost use Rattle.pure_logic.specs.Laws.Quantification.{EqualInContext, EqualBodies, AbstractionIsDerivable, InstanceOfFunctionIsProved, ReducedInstanceIsProved, ReducedInstanceIsDerivable};
 ghost use Rattle.pure_logic.specs.Laws.Substitution.{SubstitutionOfTrees, InstanceIsProved, InstanceIsDerivable};
-ghost use Rattle.pure_logic.specs.Laws.Maps.{WeakerIsDerivable, InstanceFromSameHypotheses, GeneralisedIsDerivable, GeneralisedIsStatement, RaisedIsDerivable, InstantiatedIsDerivable};
+ghost use Rattle.pure_logic.specs.Laws.Maps.{WeakerIsDerivable, InstanceFromSameHypotheses, GeneralisedIsDerivable, GeneralisedIsStatement, FixedMapKeeps, GeneralisationKeeps, RaisedIsDerivable, InstantiatedIsDerivable};
 ghost use Rattle.pure_logic.specs.Laws.Promises.{CutByProofs, CutOfPromises, SettledIsDerivable, FulfilledIsDerivable, AllFulfilledIsDerivable, JoinedAreDerivable, JoinedExactly};
 ghost use Rattle.pure_logic.specs.Laws.BuiltFacts.{BuiltFactsAreDerivable, BuiltFactsAreDerivableAbove, BuiltFactsAreStatements};
 ghost use Rattle.pure_logic.specs.Laws.Tree.{OneConclusion, OneUnderPairs, WeakeningOfTrees, WeakeningOfDerivable, IdentityRespects, JoinedMapsRespect, JoinedInstance};
 ghost use Rattle.pure_logic.specs.Laws.Names.{ImplicationByName, MarkByName, QuantificationByName, EqualityByName, RespectingImagesAreClosed, JoinedMapsKeepFixed};
-ghost use Rattle.pure_logic.specs.Laws.Parts.{PartsOfInstance};
+ghost use Rattle.pure_logic.specs.Laws.Parts.{PartsOfInstance, InstanceIsCertified, ComposedMapsRespect};
 ghost use Rattle.pure_logic.specs.Laws.Conclusion.{ConclusionIsProposition, DerivableIsProposition, DerivableAloneIsProposition};
 ghost use Rattle.pure_logic.specs.Laws.Contents.{MergeHasDeclarations, MergeHasNoRepeats, OneMerge, BeginningIsContent, ParentsAreBelow, OneBeginning, AncestorsAreTheParents, AncestorsHaveNoRepeats, BeginningHasTheoriesApart, TheoriesAreToldApart, PureHasTheoriesApart};
 
@@ -116,6 +116,8 @@ pub fn maps_on_theorems()
     ensures same_hypotheses { InstanceFromSameHypotheses }
     ensures generalised { GeneralisedIsDerivable }
     ensures statement { GeneralisedIsStatement }
+    ensures fixed { FixedMapKeeps }
+    ensures kept { GeneralisationKeeps }
     ensures raised { RaisedIsDerivable }
     ensures instantiated { InstantiatedIsDerivable }
 {}
@@ -206,7 +208,9 @@ pub fn ancestors_are_the_parents()
     ensures pure { PureHasTheoriesApart }
 {}
 
-/// A term's parts stay certified under respecting maps.
+/// Certified terms, and their parts, stay certified under respecting maps; and such maps one after the other are respecting.
 pub fn certification_is_kept()
-    ensures { PartsOfInstance }
+    ensures parts { PartsOfInstance }
+    ensures instance { InstanceIsCertified }
+    ensures composed { ComposedMapsRespect }
 {}

@@ -1,4 +1,4 @@
-use Rattle.pure_logic.proofs.TheoremMapLaws.{weaker_is_derivable, instance_from_same_hypotheses, generalised_is_derivable, generalised_is_statement, raised_is_derivable, instantiated_is_derivable}
+use Rattle.pure_logic.proofs.TheoremMapLaws.{weaker_is_derivable, instance_from_same_hypotheses, generalised_is_derivable, generalised_is_statement, fixed_map_keeps, generalisation_keeps, raised_is_derivable, instantiated_is_derivable}
 use Rattle.pure_logic.proofs.laws.maps_on_theorems.Goals as goal
 
 pub returns-clause-weaker : goal.returns-clause-weaker
@@ -18,3 +18,9 @@ returns-clause-raised c = raised_is_derivable
 
 pub returns-clause-instantiated : goal.returns-clause-instantiated
 returns-clause-instantiated c = instantiated_is_derivable
+
+pub returns-clause-fixed : goal.returns-clause-fixed
+returns-clause-fixed c = fixed_map_keeps
+
+pub returns-clause-kept : goal.returns-clause-kept
+returns-clause-kept c = generalisation_keeps
