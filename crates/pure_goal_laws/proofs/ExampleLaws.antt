@@ -15,7 +15,6 @@ use Rattle.pure_logic.specs.Concludes.{AreRespecting}
 use Rattle.pure_logic.proofs.ConnectiveLaws.{certified_of, pure-below_itself, prop-certified, imp-parts, all-parts}
 use Rattle.pure_logic.proofs.MapLaws.{identity_respects, sent-respects}
 use Rattle.pure_logic.proofs.ContentLaws.{pure_is_content}
-use Rattle.pure_logic.proofs.ProvesLaws.{derivable_is_proves}
 use Rattle.pure_equated.specs.Equated.{IsTypedUnder, AreEquated, same, beta, abstraction, application}
 use Rattle.pure_goal_laws.specs.Prefix.{Item, Parameter, Hypothesis, behind, below_parameters, hypotheses}
 use Rattle.pure_goal_laws.specs.Lifting.{IsStripped, bare, quantified, supposed}
@@ -128,5 +127,5 @@ rule_proof =
     let is_rule : IsRuleFor goal fact (any_a ∷ []) any_a = record { no_hyps = refl; no_pairs = refl; stripped = everywhere_stripped; rests = λ l m. m } in
     let step = step_for everywhere everywhere [] (left_over ∷ []) (everywhere ∷ []) terms identity_for_f refl (left_over-equated, tt) in
     let next = rule_step pure_content pure_is_content pure-below_itself goal goal [] (protect everywhere) (λ T. T) terms (Parameter prop ∷ Hypothesis (Bound 0) ∷ []) (Bound 0) fact (any_a ∷ []) any_a step is_rule
-      (arrow prop prop, abstraction prop_typ identity_at_bound) start (everywhere_assumed start) in
+    (arrow prop prop, abstraction prop_typ identity_at_bound) start (everywhere_assumed start) in
     record { stripped = everywhere_stripped; start = start; rule = step; next = next; assumption = assumption_for everywhere everywhere [] tt; proved = everywhere_assumed next }
