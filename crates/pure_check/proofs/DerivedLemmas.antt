@@ -1,12 +1,12 @@
 -- Each row that is proved is a theorem.
-use Rattle.std.proofs.Common.{◌≡◌, inl, inr, ℕ, Bool, true, false, ◌||◌, List, [], ◌∷◌, map, refl, sym, ap, Option, Some, None, cond, rules}
+use Rattle.std.proofs.Common.{◌≡◌, inl, inr, ℕ, Bool, true, false, ◌||◌, List, [], ◌∷◌, map, refl, sym, ap, Option, Some, None, cond}
 use Rattle.std.specs.List.{list_any, AllByRecursion}
 use Rattle.std.specs.Cmp.Lexicographic.{same_text}
 use Rattle.pure_text.specs.Lists.{IsIn, Each}
 use Rattle.pure_definitions.specs.Terms.Term.{Term}
 use Rattle.pure_logic.specs.Content.{IsProposition}
 use Rattle.pure_logic.specs.PureContent.{pure_content, proposition_variable}
-use Rattle.pure_logic.proofs.ChainLaws.{chain_is_derivable}
+use Rattle.pure_logic.proofs.ChainLaws.{chain_is_derivable, variable_is_proposition}
 use Rattle.pure_first.specs.Token.{same}
 use Rattle.pure_first.specs.Theory.{Lemma, is_by_assumption}
 use Rattle.pure_check.specs.Row.{Row, RefusedTheory, ProvedLemma, FailedLemma, lemma_row}
@@ -23,9 +23,6 @@ among_variables : (number : List ℕ → ℕ) (c : List ℕ) (ps : List (List �
     → IsIn (proposition_variable (number c)) (map (λ x. proposition_variable (number x)) ps)
 among_variables number c [] h = absurd (cc)
 among_variables number c (p ∷ ps) h = among_or c p number _ (same c p) (list_any (same c) ps) refl h (among_variables number c ps)
-
-variable_is_proposition : (name : ℕ) → IsProposition pure_content (proposition_variable name)
-variable_is_proposition name = search rules
 
 variables_are_propositions : (number : List ℕ → ℕ) (ps : List (List ℕ)) → Each (IsProposition pure_content) (map (λ x. proposition_variable (number x)) ps)
 variables_are_propositions number [] = tt

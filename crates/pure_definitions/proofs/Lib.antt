@@ -8,3 +8,4 @@ pub mod GrownLemmas
 pub mod BindLemmas
 pub mod InstanceLemmas
 pub mod NormalLemmas
+pub mod EntryLemmas

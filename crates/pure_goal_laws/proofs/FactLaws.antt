@@ -13,8 +13,7 @@ use Rattle.pure_logic.proofs.ProvesLaws.{derivable_is_proves, weaker}
 use Rattle.pure_equated.specs.Equated.{AreEquated}
 use Rattle.pure_goal_laws.specs.Prefix.{Item, Hypothesis, behind, hypotheses}
 use Rattle.pure_goal_laws.specs.Lifting.{lifted_behind}
-use Rattle.pure_goal_laws.specs.GoalStep.{IsGoalStep, AreMatched, IsRuleFor}
-use Rattle.pure_goal_laws.specs.Laws.Steps.{lifted_premises, destructed_premises, IsEliminated}
+use Rattle.pure_goal_laws.specs.GoalStep.{IsGoalStep, AreMatched, IsRuleFor, lifted_premises, destructed_premises, IsEliminated}
 use Rattle.pure_goal_laws.proofs.StrippingLaws.{stripped_rule}
 use Rattle.pure_goal_laws.proofs.StepLaws.{step_is_derivable}
 use Rattle.pure_goal_laws.proofs.JustificationLaws.{by_rule, by_assumption, by_equation}

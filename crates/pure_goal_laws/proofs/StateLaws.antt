@@ -1,7 +1,7 @@
 -- Goals at their beginning and their end; subgoals converted, and in another order.
 use Rattle.std.proofs.Common.{◌≡◌, ◌↔◌, List, [], ◌∷◌, ◌++◌, map, inl, inr, refl, ap, sym}
 use Rattle.pure_text.specs.Lists.{IsIn, Each, EachTwo}
-use Rattle.pure_text.proofs.ListLaws.{each_of, each_at, in-append_left, in-append_right, in_split}
+use Rattle.pure_text.proofs.ListLaws.{each_of, each_at, in-append_left, in-append_right, in_split, moved, moved_back}
 use Rattle.pure_definitions.specs.Names.{Label}
 use Rattle.pure_definitions.specs.Types.Typ.{arrow, prop}
 use Rattle.pure_definitions.specs.Terms.Term.{Term}
@@ -14,7 +14,6 @@ use Rattle.pure_logic.specs.Derivable.{Pair, Theorem, IsDerivable, IsDerivableAl
 use Rattle.pure_logic.specs.Proves.{Proves, IsEquation}
 use Rattle.pure_logic.specs.Laws.Substitution.{pair_instance}
 use Rattle.pure_logic.proofs.ConnectiveLaws.{certified_of}
-use Rattle.pure_logic.proofs.EachLaws.{moved, moved_back}
 use Rattle.pure_logic.proofs.EqualityLaws.{reflexive_equality, left-certified, right-certified, mark_means_nothing}
 use Rattle.pure_logic.proofs.InferenceLaws.{inferred_from_one}
 use Rattle.pure_logic.proofs.MapLaws.{identity_respects}

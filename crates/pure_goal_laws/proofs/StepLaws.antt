@@ -1,7 +1,7 @@
 -- Goal steps.
 use Rattle.std.proofs.Common.{◌≡◌, List, [], ◌∷◌, ◌++◌, map, inl, inr, refl, ap}
 use Rattle.pure_text.specs.Lists.{IsIn, Each, EachTwo}
-use Rattle.pure_text.proofs.ListLaws.{in-append_left, in-append_right, in_split, each_imply}
+use Rattle.pure_text.proofs.ListLaws.{in-append_left, in-append_right, in_split, each_imply, each-left, each-right}
 use Rattle.pure_definitions.specs.Names.{Label}
 use Rattle.pure_definitions.specs.Types.Typ.{Typ, prop}
 use Rattle.pure_definitions.specs.Terms.Term.{Term}
@@ -13,7 +13,6 @@ use Rattle.pure_logic.specs.Derivable.{Pair, Theorem, IsDerivable}
 use Rattle.pure_logic.specs.Proves.{Proves, IsEquation}
 use Rattle.pure_logic.specs.Laws.Substitution.{theorem_instance}
 use Rattle.pure_logic.proofs.ConnectiveLaws.{certified_of}
-use Rattle.pure_logic.proofs.EachLaws.{each-left, each-right}
 use Rattle.pure_logic.proofs.ProvesLaws.{assumed, weaker, chain_is_proved, end_of_chain_is_proved, derivable-proved, proved-derivable}
 use Rattle.pure_logic.proofs.SubstitutionLaws.{instance_is_derivable}
 use Rattle.pure_equated.specs.Equated.{AreEquated, back}

@@ -1,6 +1,7 @@
 -- What is certified over a content is certified over each content above it.
 use Rattle.std.proofs.Common.{ℕ, List, [], ◌∷◌}
 use Rattle.pure_text.specs.Lists.{IsIn}
+use Rattle.pure_text.proofs.ListLaws.{each_imply, any_imply}
 use Rattle.pure_definitions.specs.Types.Typ.{Typ, TFree, TVar, Con, Typs, none, also, typs_count}
 use Rattle.pure_definitions.specs.Terms.Term.{Term, Const, Free, Var, Bound, Abs, App}
 use Rattle.pure_definitions.specs.Types.Order.{IsInclusion, IsClassBelow, itself, along, HasClassBelow, IsSortBelow, IsOfClass, AreOfSorts, IsOfSort}
@@ -9,7 +10,6 @@ use Rattle.pure_definitions.specs.Declarations.Decl.{Decl, ClassDecl, ConDecl, A
 use Rattle.pure_definitions.specs.Declarations.Certified.{IsCertifiedSort, IsCertifiedTyp, AreCertifiedTyps, IsInstance, HasCertifiedParts}
 use Rattle.pure_term_laws.proofs.DeclLaws.{declared_classes, declared_arities}
 use Rattle.pure_logic.specs.Content.{Content, IsBelow, IsCertifiedOf}
-use Rattle.pure_logic.proofs.EachLaws.{each-more, any-more}
 
 module _ (ds es : List Decl) (above : (d : Decl) → IsIn d ds → IsIn d es) where
   inclusion-above : (c d : ℕ) → IsInclusion (algebra_of ds) c d → IsInclusion (algebra_of es) c d
@@ -20,10 +20,10 @@ module _ (ds es : List Decl) (above : (d : Decl) → IsIn d ds → IsIn d es) wh
   class_below-above (along {c = c} {b = b} i h) = along (inclusion-above c b i) (class_below-above h)
 
   has_class-above : (s : List ℕ) (c : ℕ) → HasClassBelow (algebra_of ds) s c → HasClassBelow (algebra_of es) s c
-  has_class-above s c h = any-more (λ b. IsClassBelow (algebra_of ds) b c) (λ b. IsClassBelow (algebra_of es) b c) (λ b k. class_below-above k) s h
+  has_class-above s c h = any_imply (λ b. IsClassBelow (algebra_of ds) b c) (λ b. IsClassBelow (algebra_of es) b c) s (λ b k. class_below-above k) h
 
   pub sort_below-above : (s r : List ℕ) → IsSortBelow (algebra_of ds) s r → IsSortBelow (algebra_of es) s r
-  sort_below-above s r h = each-more (HasClassBelow (algebra_of ds) s) (HasClassBelow (algebra_of es) s) (has_class-above s) r h
+  sort_below-above s r h = each_imply (HasClassBelow (algebra_of ds) s) (HasClassBelow (algebra_of es) s) r (has_class-above s) h
 
   mutual
     of_class-above : (T : Typ) (c : ℕ) → IsOfClass (algebra_of ds) T c → IsOfClass (algebra_of es) T c
@@ -34,12 +34,12 @@ module _ (ds es : List Decl) (above : (d : Decl) → IsIn d ds → IsIn d es) wh
 
     of_sorts-above : (ts : Typs) (ss : List (List ℕ)) → AreOfSorts (algebra_of ds) ts ss → AreOfSorts (algebra_of es) ts ss
     of_sorts-above none [] h = tt
-    of_sorts-above (also t ts) (s ∷ ss) h = (each-more (IsOfClass (algebra_of ds) t) (IsOfClass (algebra_of es) t) (of_class-above t) s h.0, of_sorts-above ts ss h.1)
+    of_sorts-above (also t ts) (s ∷ ss) h = (each_imply (IsOfClass (algebra_of ds) t) (IsOfClass (algebra_of es) t) s (of_class-above t) h.0, of_sorts-above ts ss h.1)
     of_sorts-above none (s ∷ ss) h = h
     of_sorts-above (also t ts) [] h = h
 
   pub of_sort-above : (T : Typ) (s : List ℕ) → IsOfSort (algebra_of ds) T s → IsOfSort (algebra_of es) T s
-  of_sort-above T s h = each-more (IsOfClass (algebra_of ds) T) (IsOfClass (algebra_of es) T) (of_class-above T) s h
+  of_sort-above T s h = each_imply (IsOfClass (algebra_of ds) T) (IsOfClass (algebra_of es) T) s (of_class-above T) h
 
   pub respecting-above : (typs : Typ → Typ) → IsSortRespecting (algebra_of ds) typs → IsSortRespecting (algebra_of es) typs
   respecting-above typs h = record {
@@ -48,7 +48,7 @@ module _ (ds es : List Decl) (above : (d : Decl) → IsIn d ds → IsIn d es) wh
   }
 
   pub sort-above : (s : List ℕ) → IsCertifiedSort ds s → IsCertifiedSort es s
-  sort-above s h = (h.0, each-more (IsDeclaredClass ds) (IsDeclaredClass es) (λ c k. (k.0, above (ClassDecl k.0) k.1, k.2)) s h.1)
+  sort-above s h = (h.0, each_imply (IsDeclaredClass ds) (IsDeclaredClass es) s (λ c k. (k.0, above (ClassDecl k.0) k.1, k.2)) h.1)
 
   mutual
     pub typ-above : (T : Typ) → IsCertifiedTyp ds T → IsCertifiedTyp es T

@@ -7,12 +7,11 @@ use Rattle.std.specs.Cmp.{first_so, second_so}
 use Rattle.std.specs.Cmp.Derive.{both_true}
 use Rattle.std.proofs.lemmas.Bool.{eq-eqb, eqb-true}
 use Rattle.pure_text.specs.Lists.{IsIn, AnyOf, AreDistinct}
-use Rattle.pure_text.proofs.ListLaws.{in-append_left, in-append_right}
+use Rattle.pure_text.proofs.ListLaws.{in-append_left, in-append_right, each_at, in_split}
 use Rattle.pure_logic.specs.Content.{TheoryId, Content}
 use Rattle.pure_logic.specs.PureContent.{pure_content}
 use Rattle.pure_logic.specs.Beginning.{theory_eq, without_theory, each_once, theories_of, ancestors_of, IsBeginning, AreToldApart, IsNewOver, HasTheoriesApart}
 use Rattle.pure_logic.proofs.MergeLaws.{one_merge}
-use Rattle.pure_logic.proofs.EachLaws.{each-at, in-append}
 
 theory_eq-same : (t u : TheoryId) → theory_eq t u ≡ true → t ≡ u
 theory_eq-same t u h =
@@ -82,7 +81,7 @@ abbrev Names : TheoryId → Content → Type 0
 Names t P = (P.own ≡ Some t) ⊎ IsIn t P.ancestors
 
 in-theories : (t : TheoryId) (P : Content) → IsIn t (theories_of P) → Names t P
-in-theories t P m = elim (in-append t P.ancestors (option_to_list P.own) m) [ inl n ↦ inr n | inr n ↦ inl (in-option t P.own n) ]
+in-theories t P m = elim (in_split t P.ancestors (option_to_list P.own) m) [ inl n ↦ inr n | inr n ↦ inl (in-option t P.own n) ]
 
 theories-in : (t : TheoryId) (P : Content) → Names t P → IsIn t (theories_of P)
 theories-in t P (inl own) = in-append_right t P.ancestors (option_to_list P.own) (option-in t P.own own)
@@ -90,7 +89,7 @@ theories-in t P (inr m) = in-append_left t P.ancestors (option_to_list P.own) m
 
 in-all_theories : (t : TheoryId) (parents : List Content) → IsIn t (flat_map theories_of parents) → AnyOf (Names t) parents
 in-all_theories t [] m = m
-in-all_theories t (P ∷ Ps) m = elim (in-append t (theories_of P) (flat_map theories_of Ps) m) [ inl n ↦ inl (in-theories t P n) | inr n ↦ inr (in-all_theories t Ps n) ]
+in-all_theories t (P ∷ Ps) m = elim (in_split t (theories_of P) (flat_map theories_of Ps) m) [ inl n ↦ inl (in-theories t P n) | inr n ↦ inr (in-all_theories t Ps n) ]
 
 all_theories-in : (t : TheoryId) (parents : List Content) → AnyOf (Names t) parents → IsIn t (flat_map theories_of parents)
 all_theories-in t [] m = m
@@ -121,10 +120,10 @@ beginning_has_theories_apart id parents Q apart new b = record {
 
 -- Where the own theory is new over the ancestors, no ancestor has its name or its index.
 new-named : (theory t : TheoryId) (theories : List TheoryId) → IsNewOver theory theories → IsIn t theories → t.name ≢ theory.name
-new-named theory t theories new m = each-at (λ u. u.name ≢ theory.name) t theories new.name m
+new-named theory t theories new m = each_at (λ u. u.name ≢ theory.name) theories new.name t m
 
 new-indexed : (theory t : TheoryId) (theories : List TheoryId) → IsNewOver theory theories → IsIn t theories → t.index ≢ theory.index
-new-indexed theory t theories new m e = let less = each-at (λ u. u.index < theory.index) t theories new.index m in absurd (omega arith)
+new-indexed theory t theories new m e = let less = each_at (λ u. u.index < theory.index) theories new.index t m in absurd (omega arith)
 
 pub theories_are_told_apart : (Q : Content) → HasTheoriesApart Q → AreToldApart (theories_of Q)
 theories_are_told_apart Q h = record {

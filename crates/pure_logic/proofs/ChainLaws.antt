@@ -4,14 +4,13 @@ use Rattle.pure_text.specs.Lists.{IsIn, Each}
 use Rattle.pure_definitions.specs.Terms.Term.{Term}
 use Rattle.pure_logic.specs.Connectives.{chain}
 use Rattle.pure_definitions.specs.Types.Typ.{prop}
-use Rattle.pure_text.proofs.ListLaws.{in-map}
+use Rattle.pure_text.proofs.ListLaws.{in-map, each_at}
 use Rattle.pure_logic.specs.PureContent.{pure_content, proposition_variable}
 use Rattle.pure_logic.proofs.ConnectiveLaws.{pure-below_itself, certified_of, prop-certified}
 use Rattle.pure_logic.specs.Content.{Content, IsProposition}
 use Rattle.pure_logic.specs.Tree.{Tree, Assume, ImpliesIntro, hyps_of, rests_of}
 use Rattle.pure_logic.specs.Concludes.{Concludes}
 use Rattle.pure_logic.specs.Derivable.{IsDerivableAlone}
-use Rattle.pure_logic.proofs.EachLaws.{each-at}
 use Rattle.pure_logic.proofs.DischargeLaws.{each-without, without-all}
 
 -- the tree that assumes the conclusion and introduces the premises, the last first
@@ -45,7 +44,7 @@ pub chain_is_derivable : (Q : Content) (As : List Term) (C : Term) → Each (IsP
 chain_is_derivable Q As C h m = record {
   tree = chain_tree As C;
   conclusion = chain As C;
-  concludes = chain_tree-concludes Q As C h (each-at (IsProposition Q) C As h m);
+  concludes = chain_tree-concludes Q As C h (each_at (IsProposition Q) As h C m);
   under_pairs = refl;
   hyps = rw (chain_tree-hyps As C m) tt;
   rests = rw (chain_tree-rests As C) tt;

@@ -13,12 +13,11 @@ use Rattle.pure_logic.specs.Beginning.{IsMerge, HasTheoriesApart}
 use Rattle.pure_logic.specs.PureContent.{pure_declarations, proposition_variable}
 use Rattle.pure_logic.specs.Examples.Theory.{promised, example}
 use Rattle.pure_logic.specs.Examples.Contents.{content_of, theory, beginning, BeginningExample, NotApartExample, classes, with_arity, NoMergeExample, fork_declarations, with_square, MiddleMergeExample, NamedTwiceExample, IllFormedExample, SchematicExample, BelowExample}
-use Rattle.pure_text.proofs.ListLaws.{in-append_left, in-append_right}
+use Rattle.pure_text.proofs.ListLaws.{in-append_left, in-append_right, each_at, in_split}
 use Rattle.pure_logic.proofs.ContentLaws.{named_alike, both_promises, named_alike-so, both_promises-so, apart-once}
 use Rattle.pure_logic.proofs.CoregularLaws.{lone_arity, coregular-same}
 use Rattle.pure_logic.proofs.ExampleLaws.{example-above, none_passes, is_con}
 use Rattle.pure_logic.proofs.MergeLaws.{merge_has_declarations, merged-coregular}
-use Rattle.pure_logic.proofs.EachLaws.{each-at, in-append}
 
 no_arities : (ds : List Decl) → (algebra_of ds).arities ≡ [] → IsCoregular (algebra_of ds)
 no_arities ds none b d m = absurd (rw none at m)
@@ -108,8 +107,8 @@ no_merge merged h = clash (below-top (algebra_of merged) top class)
   where
     from : (x : Decl) → IsIn x merged → IsLone x
     from x m = elim ((merge_has_declarations (with_arity c ∷ with_arity d ∷ []) merged h x).0 m) [
-      | inl n ↦ each-at IsLone x (with_arity c).declarations (lone c) n
-      | inr n ↦ elim n [ inl o ↦ each-at IsLone x (with_arity d).declarations (lone d) o | inr absent ↦ absurd absent ]
+      | inl n ↦ each_at IsLone (with_arity c).declarations (lone c) x n
+      | inr n ↦ elim n [ inl o ↦ each_at IsLone (with_arity d).declarations (lone d) x o | inr absent ↦ absurd absent ]
     ]
 
     top : (u : ℕ) → ¬ IsInclusion (algebra_of merged) c u
@@ -146,7 +145,7 @@ three_from_top = ArityDecl (arity e e) ∷ ArityDecl (arity c c) ∷ ArityDecl (
 
 -- Behind one front, what is in the one rest is in the other.
 in-rest : (x : Decl) (front ys zs : List Decl) → (IsIn x ys → IsIn x zs) → IsIn x (front ++ ys) → IsIn x (front ++ zs)
-in-rest x front ys zs h m = elim (in-append x front ys m) [ inl n ↦ in-append_left x front zs n | inr n ↦ in-append_right x front zs (h n) ]
+in-rest x front ys zs h m = elim (in_split x front ys m) [ inl n ↦ in-append_left x front zs n | inr n ↦ in-append_right x front zs (h n) ]
 
 all_squares_are_coregular : IsCoregular (algebra_of (fork_declarations ++ three_squares))
 all_squares_are_coregular =
@@ -168,7 +167,7 @@ all_squares_are_coregular =
 -- The merge of the first two has exactly the declarations of both.
 no_middle : (merged : List Decl) → IsMerge (with_square c ∷ with_square d ∷ []) merged → ⊥
 no_middle merged h =
-    open_fork_is_not_coregular (coregular-same (fork_declarations ++ both_squares) merged (λ x m. (has x).1 (up x (in-append x fork_declarations both_squares m))) (λ x m. down x ((has x).0 m))
+    open_fork_is_not_coregular (coregular-same (fork_declarations ++ both_squares) merged (λ x m. (has x).1 (up x (in_split x fork_declarations both_squares m))) (λ x m. down x ((has x).0 m))
     (merged-coregular (with_square c) (with_square d) merged h))
   where
     has : (x : Decl) → IsIn x merged ↔ AnyOf (λ Q. IsIn x Q.declarations) (with_square c ∷ with_square d ∷ [])
@@ -200,8 +199,8 @@ named_twice_example = (
 pub ill_formed_example : IllFormedExample
 ill_formed_example = (
   λ q. q.well_formed.0,
-  λ q. (each-at (IsWellFormed (content_of (pure_declarations ++ AxiomDecl 50 (Free 1 prop) ∷ []))) (AxiomDecl 50 (Free 1 prop)) (pure_declarations ++ AxiomDecl 50 (Free 1 prop) ∷ []) q.well_formed (inr (inr (inr (inr (inr (inr (inr (inl refl))))))))).schematic,
-  λ q. (each-at (IsWellFormed (content_of (pure_declarations ++ PromiseDecl 50 promised (Free 1 prop) ∷ []))) (PromiseDecl 50 promised (Free 1 prop)) (pure_declarations ++ PromiseDecl 50 promised (Free 1 prop) ∷ []) q.well_formed (inr (inr (inr (inr (inr (inr (inr (inl refl))))))))).schematic,
+  λ q. (each_at (IsWellFormed (content_of (pure_declarations ++ AxiomDecl 50 (Free 1 prop) ∷ []))) (pure_declarations ++ AxiomDecl 50 (Free 1 prop) ∷ []) q.well_formed (AxiomDecl 50 (Free 1 prop)) (inr (inr (inr (inr (inr (inr (inr (inl refl))))))))).schematic,
+  λ q. (each_at (IsWellFormed (content_of (pure_declarations ++ PromiseDecl 50 promised (Free 1 prop) ∷ []))) (pure_declarations ++ PromiseDecl 50 promised (Free 1 prop) ∷ []) q.well_formed (PromiseDecl 50 promised (Free 1 prop)) (inr (inr (inr (inr (inr (inr (inr (inl refl))))))))).schematic,
   λ q. (let typed : i ≡ prop = q.well_formed.1.1.0.proposition.typed in cc),
   λ q. none_passes (is_con 1) (ConDecl 1 0) (AxiomDecl 50 (proposition_variable 0) ∷ []) refl refl q.well_formed.0.proposition.certified.parts.0,
   λ q. crossing_is_not_coregular q.coregular,

@@ -3,12 +3,11 @@ use Rattle.std.proofs.Common.{◌≡◌, ◌↔◌, [], refl}
 use Rattle.pure_definitions.specs.Names.{Label}
 use Rattle.pure_definitions.specs.Terms.Term.{Term}
 use Rattle.pure_text.specs.Lists.{IsIn}
-use Rattle.pure_text.proofs.ListLaws.{each_of}
+use Rattle.pure_text.proofs.ListLaws.{each_of, each_at, none_in}
 use Rattle.pure_logic.specs.Content.{Content}
 use Rattle.pure_logic.specs.Tree.{Tree, hyps_of, rests_of}
 use Rattle.pure_logic.specs.Concludes.{Concludes}
 use Rattle.pure_logic.specs.Derivable.{Theorem, IsUnderPairs, IsDerivable, IsDerivableAlone}
-use Rattle.pure_logic.proofs.EachLaws.{each-at, none_in}
 
 pub derivable_alone_exactly : (Q : Content) (A : Term) → IsDerivableAlone Q A ↔ ((d : Tree) × Concludes Q d A × (hyps_of d ≡ []) × (rests_of d ≡ []))
 derivable_alone_exactly Q A = (
@@ -19,7 +18,7 @@ derivable_alone_exactly Q A = (
 pub derivable_exactly : (Q : Content) (th : Theorem) → IsDerivable Q th
     ↔ ((d : Tree) × (C : Term) × Concludes Q d C × IsUnderPairs th.pairs th.prop C × ((A : Term) → IsIn A (hyps_of d) → IsIn A th.hyps) × ((l : Label) → IsIn l (rests_of d) → IsIn l th.rests))
 derivable_exactly Q th = (
-  λ h. (h.tree, h.conclusion, h.concludes, h.under_pairs, λ A m. each-at (λ B. IsIn B th.hyps) A (hyps_of h.tree) h.hyps m, λ l m. each-at (λ k. IsIn k th.rests) l (rests_of h.tree) h.rests m),
+  λ h. (h.tree, h.conclusion, h.concludes, h.under_pairs, λ A m. each_at (λ B. IsIn B th.hyps) (hyps_of h.tree) h.hyps A m, λ l m. each_at (λ k. IsIn k th.rests) (rests_of h.tree) h.rests l m),
   λ h. record {
     tree = h.0;
     conclusion = h.1;

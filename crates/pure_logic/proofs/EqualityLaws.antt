@@ -1,9 +1,9 @@
 -- Equality on what is proved.
 use Rattle.std.proofs.Common.{◌≡◌, ◌↔◌, inl, inr, ℕ, List, [], ◌∷◌, refl, ap, sym, ◌∙◌}
-use Rattle.pure_definitions.specs.Names.{Label, protect_name}
+use Rattle.pure_definitions.specs.Names.{Label, all_name, protect_name}
 use Rattle.pure_definitions.specs.Declarations.Decl.{AxiomDecl}
 use Rattle.pure_definitions.specs.Types.Typ.{Typ, arrow, prop}
-use Rattle.pure_definitions.specs.Terms.Term.{Term, Free, Bound, Abs, App}
+use Rattle.pure_definitions.specs.Terms.Term.{Term, Const, Free, Var, Bound, Abs, App}
 use Rattle.pure_definitions.specs.Terms.Typing.{HasType}
 use Rattle.pure_definitions.specs.Terms.Bounds.{subst_under, subst_bound}
 use Rattle.pure_definitions.specs.Declarations.Certified.{IsCertifiedTyp, HasCertifiedParts}
@@ -11,16 +11,17 @@ use Rattle.pure_definitions.proofs.LiftLaws.{subst-lift}
 use Rattle.pure_term_laws.proofs.BoundLaws.{lift-zero}
 use Rattle.pure_term_laws.proofs.TypingLaws.{typed-closed, lift-closed}
 use Rattle.pure_term_laws.proofs.TypingBoundLaws.{typing-weaken}
-use Rattle.pure_logic.specs.Connectives.{eq_typ, all, imp, eq, protect}
+use Rattle.pure_logic.specs.Connectives.{all_typ, eq_typ, all_of, all, imp, eq, protect}
 use Rattle.pure_logic.specs.Content.{Content, IsContent, IsBelow, IsCertifiedOf, IsProposition}
 use Rattle.pure_logic.specs.PureContent.{pure_content, proposition_variable, protect_axiom}
 use Rattle.pure_logic.specs.Tree.{Axiom, Beta, Refl, Subst, Ext, Iff}
 use Rattle.pure_logic.specs.Concludes.{extensionality}
 use Rattle.pure_logic.specs.Proves.{Proves}
+use Rattle.pure_logic.specs.Laws.Quantification.{beta_applied}
 use Rattle.pure_logic.proofs.ConnectiveLaws.{certified_of, eq-parts, prop-certified}
 use Rattle.pure_logic.proofs.MapLaws.{identity_respects, sent, sent-respects}
-use Rattle.pure_logic.proofs.PropositionLaws.{typ-of_certified}
-use Rattle.pure_logic.proofs.ProvesLaws.{conclusion_is_proved, proved_is_proposition, quantification_is_proved}
+use Rattle.pure_logic.proofs.PropositionLaws.{body-typed, typ-of_certified}
+use Rattle.pure_logic.proofs.ProvesLaws.{conclusion_is_proved, proved_is_proposition, quantification_is_proved, instance_of_body_is_proved}
 
 -- A term without loose bound variables stays where a bound variable is replaced.
 pub still : (n : ℕ) (a t : Term) (T : Typ) → HasType [] t T → subst_under n a t ≡ t
@@ -191,3 +192,59 @@ module _ (Q : Content) (q : IsContent Q) (above : IsBelow pure_content Q) (hyps 
     λ p. equal_is_proved (protect A) A (mark_axiom A h) p,
     λ p. equal_is_proved A (protect A) (symmetric_equality prop (protect A) A (mark_axiom A h)) p,
   )
+
+  -- Equal terms in one context.
+  pub equal_in_context : (T U : Typ) (C t u : Term) → IsCertifiedOf Q (Abs T C) (arrow T U) → Proves Q hyps rests (eq T t u) → Proves Q hyps rests (eq U (subst_bound C t) (subst_bound C u))
+  equal_in_context T U C t u h p =
+      let left = beta_equality T U C t (applied-certified T U (Abs T C) t h (left-of T t u p)) in
+      let right = beta_equality T U C u (applied-certified T U (Abs T C) u h (right-of T t u p)) in
+      transitive_equality U (subst_bound C t) (App (Abs T C) u) (subst_bound C u)
+      (transitive_equality U (subst_bound C t) (App (Abs T C) t) (App (Abs T C) u) (symmetric_equality U (App (Abs T C) t) (subst_bound C t) left) (equal_arguments T U (Abs T C) t u h p))
+      right
+
+  -- the sides of an equation that is quantified
+  side-certified : (T U : Typ) (b c : Term) → IsProposition Q (all T (eq U b c)) → IsCertifiedOf Q (Abs T b) (arrow T U) × IsCertifiedOf Q (Abs T c) (arrow T U)
+  side-certified T U b c h =
+      let body : HasType (T ∷ []) (eq U b c) prop = body-typed T (eq U b c) h.typed in
+      let connective : eq_typ U ≡ arrow body.1.0 (arrow body.0 prop) = body.1.1 in
+      let first : body.1.0 ≡ U = cc in
+      let second : body.0 ≡ U = cc in
+      let parts : HasCertifiedParts Q.declarations (Abs T (eq U b c)) = h.certified.parts.1 in (
+        certified_of Q (Abs T b) (arrow T U) (parts.0, parts.1.0.1) (U, rw first at body.1.2, refl),
+        certified_of Q (Abs T c) (arrow T U) (parts.0, parts.1.1) (U, rw second at body.2, refl),
+      )
+
+  pub equal_bodies : (T U : Typ) (b c : Term) → Proves Q hyps rests (all T (eq U b c)) → Proves Q hyps rests (eq (arrow T U) (Abs T b) (Abs T c))
+  equal_bodies T U b c p =
+      let sides = side-certified T U b c (proved_is_proposition Q q above hyps rests (all T (eq U b c)) p) in
+      equal_abstractions T U b c sides.0 sides.1 (λ n. instance_of_body_is_proved Q hyps rests T (eq U b c) (Free n T) (variable-certified T U (Abs T b) n sides.0) p)
+
+  -- The function of a quantification that is a proposition.
+  quantified-certified : (T : Typ) (f : Term) → IsProposition Q (all_of T f) → IsCertifiedOf Q f (arrow T prop) × IsCertifiedOf Q (Const all_name (all_typ T)) (arrow (arrow T prop) prop)
+  quantified-certified T f h =
+      let connective : all_typ T ≡ arrow h.typed.0 prop = h.typed.1 in
+      let same : h.typed.0 ≡ arrow T prop = cc in
+      (certified_of Q f (arrow T prop) h.certified.parts.1 (rw same at h.typed.2), certified_of Q (Const all_name (all_typ T)) (arrow (arrow T prop) prop) h.certified.parts.0 refl)
+
+  -- By eta the function may be written as an abstraction.
+  pub instance_of_function_is_proved : (T : Typ) (f t : Term) → IsCertifiedOf Q t T → Proves Q hyps rests (all_of T f) → Proves Q hyps rests (App f t)
+  instance_of_function_is_proved T f t k p =
+      let certified = quantified-certified T f (proved_is_proposition Q q above hyps rests (all_of T f) p) in
+      let expanded = symmetric_equality (arrow T prop) (Abs T (App f (Bound 0))) f (eta_equality T prop f certified.0) in
+      let same = equal_arguments (arrow T prop) prop (Const all_name (all_typ T)) f (Abs T (App f (Bound 0))) certified.1 expanded in
+      let quantified = equal_is_proved (all_of T f) (all T (App f (Bound 0))) same p in
+      along (subst_bound (App f (Bound 0)) t) (App f t) (λ l. App (still 0 t f (arrow T prop) certified.0.typed l) (lift-zero 0 t l))
+      (instance_of_body_is_proved Q hyps rests T (App f (Bound 0)) t k quantified)
+
+  reduced : (f t : Term) → Proves Q hyps rests (App f t) → Proves Q hyps rests (beta_applied f t)
+  reduced (Abs V b) t p =
+      let h = proved_is_proposition Q q above hyps rests (App (Abs V b) t) p in
+      equal_is_proved (App (Abs V b) t) (subst_bound b t) (beta_equality V prop b t h) p
+  reduced (Const c V) t p = p
+  reduced (Free x V) t p = p
+  reduced (Var x i V) t p = p
+  reduced (Bound n) t p = p
+  reduced (App g a) t p = p
+
+  pub reduced_instance_is_proved : (T : Typ) (f t : Term) → IsCertifiedOf Q t T → Proves Q hyps rests (all_of T f) → Proves Q hyps rests (beta_applied f t)
+  reduced_instance_is_proved T f t k p = reduced f t (instance_of_function_is_proved T f t k p)

@@ -1,7 +1,7 @@
 -- Inferences on theorems.
 use Rattle.std.proofs.Common.{◌≡◌, ◌⊎◌, List, [], ◌∷◌, ◌++◌, Bool, true, false, inl, inr, refl, sym}
 use Rattle.pure_text.specs.Lists.{IsIn, EachTwo}
-use Rattle.pure_text.proofs.ListLaws.{in-append_left, in-append_right}
+use Rattle.pure_text.proofs.ListLaws.{in-append_left, in-append_right, each_at, each_imply, each-append, in_split, two-append}
 use Rattle.pure_definitions.specs.Names.{Label}
 use Rattle.pure_definitions.specs.Types.Typ.{Typ}
 use Rattle.pure_definitions.specs.Terms.Term.{Term, term_eq}
@@ -16,7 +16,6 @@ use Rattle.pure_logic.specs.Concludes.{IsFresh}
 use Rattle.pure_logic.specs.Derivable.{Pair, Theorem, IsDerivable}
 use Rattle.pure_logic.specs.Proves.{Proves, IsEquation}
 use Rattle.pure_logic.specs.Laws.Inferences.{IsAmong, IsFreshInPairs}
-use Rattle.pure_logic.proofs.EachLaws.{each-at, each-more, each-append, in-append, each_two-append}
 use Rattle.pure_logic.proofs.DischargeLaws.{stays}
 use Rattle.pure_logic.proofs.ProvesLaws.{weaker, implication_is_proved, conclusion_is_proved, instance_of_body_is_proved, derivable-proved, proved-derivable}
 
@@ -33,10 +32,10 @@ inferred_from_one Q q above th hyps B step h =
 
 -- Equations and hypotheses stand among the equations of both and the hypotheses of both.
 among_left : (xs ys hyps all : List Term) → ((A : Term) → IsIn A hyps → IsIn A all) → (A : Term) → IsIn A (xs ++ hyps) → IsIn A ((xs ++ ys) ++ all)
-among_left xs ys hyps all h A m = elim (in-append A xs hyps m) [ inl n ↦ in-append_left A (xs ++ ys) all (in-append_left A xs ys n) | inr n ↦ in-append_right A (xs ++ ys) all (h A n) ]
+among_left xs ys hyps all h A m = elim (in_split A xs hyps m) [ inl n ↦ in-append_left A (xs ++ ys) all (in-append_left A xs ys n) | inr n ↦ in-append_right A (xs ++ ys) all (h A n) ]
 
 among_right : (xs ys hyps all : List Term) → ((A : Term) → IsIn A hyps → IsIn A all) → (A : Term) → IsIn A (ys ++ hyps) → IsIn A ((xs ++ ys) ++ all)
-among_right xs ys hyps all h A m = elim (in-append A ys hyps m) [ inl n ↦ in-append_left A (xs ++ ys) all (in-append_right A xs ys n) | inr n ↦ in-append_right A (xs ++ ys) all (h A n) ]
+among_right xs ys hyps all h A m = elim (in_split A ys hyps m) [ inl n ↦ in-append_left A (xs ++ ys) all (in-append_right A xs ys n) | inr n ↦ in-append_right A (xs ++ ys) all (h A n) ]
 
 pub inferred_from_two : (Q : Content) → IsContent Q → IsBelow pure_content Q → (th other : Theorem) (hyps : List Term) (rests : List Label) (B : Term) → IsAmong th hyps rests → IsAmong other hyps rests
     → ((H : List Term) → Proves Q H rests th.prop → Proves Q H rests other.prop → Proves Q H rests B)
@@ -49,7 +48,7 @@ inferred_from_two Q q above th other hyps rests B among also step h k =
     let second = weaker Q (right.equations ++ other.hyps) all other.rests rests other.prop (among_right left.equations right.equations other.hyps hyps also.hyps) also.rests right.proves in
     proved-derivable Q q above (record { hyps = hyps; pairs = th.pairs ++ other.pairs; prop = B; rests = rests }) (record {
       equations = left.equations ++ right.equations;
-      are_equations = each_two-append IsEquation th.pairs other.pairs left.equations right.equations left.are_equations right.are_equations;
+      are_equations = two-append IsEquation th.pairs other.pairs left.equations right.equations left.are_equations right.are_equations;
       propositions = each-append (IsProposition Q) left.equations right.equations left.propositions right.propositions;
       proves = step all first second;
     })
@@ -68,7 +67,7 @@ pub implies_intro_is_derivable : (Q : Content) → IsContent Q → IsBelow pure_
 implies_intro_is_derivable Q q above A B th proposition h =
     inferred_from_one Q q above (record th { prop = B }) (without A th.hyps) (imp A B)
     (λ further p. implication_is_proved Q (further ++ without A th.hyps) th.rests A B proposition
-    (weaker Q (further ++ th.hyps) (A ∷ (further ++ without A th.hyps)) th.rests th.rests B (λ C m. among further C (in-append C further th.hyps m)) (λ l m. m) p)) h
+    (weaker Q (further ++ th.hyps) (A ∷ (further ++ without A th.hyps)) th.rests th.rests B (λ C m. among further C (in_split C further th.hyps m)) (λ l m. m) p)) h
   where
     kept : (further : List Term) (C : Term) (b : Bool) → term_eq A C ≡ b → IsIn C th.hyps → IsIn C (A ∷ (further ++ without A th.hyps))
     kept further C true e m = inl (sym (term_eq-same A C e))
@@ -108,7 +107,7 @@ all_intro_is_derivable Q q above x T B th is c fresh fresh_pairs h =
       propositions = p.propositions;
       proves = record {
         tree = AllIntro x p.proves.tree;
-        concludes = (T, B, p.proves.concludes, is, c, each-more (λ A. IsIn A (p.equations ++ th.hyps)) (λ A. ¬ Occurs x A) (λ A m. each-at (λ C. ¬ Occurs x C) A (p.equations ++ th.hyps) apart m) (hyps_of p.proves.tree) p.proves.from, refl);
+        concludes = (T, B, p.proves.concludes, is, c, each_imply (λ A. IsIn A (p.equations ++ th.hyps)) (λ A. ¬ Occurs x A) (hyps_of p.proves.tree) (λ A m. each_at (λ C. ¬ Occurs x C) (p.equations ++ th.hyps) apart A m) p.proves.from, refl);
         from = p.proves.from;
         rest_on = p.proves.rest_on;
       };

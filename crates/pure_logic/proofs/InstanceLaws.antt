@@ -10,14 +10,14 @@ use Rattle.pure_definitions.proofs.OrderLaws.{sort_below-itself}
 use Rattle.pure_logic.specs.Content.{Content, IsContent, IsWellFormed, IsSchematicTyp, AreSchematicTyps}
 use Rattle.pure_logic.specs.Concludes.{AreRespecting}
 use Rattle.pure_logic.proofs.WeakeningLaws.{typ_instance-certified}
-use Rattle.pure_logic.proofs.EachLaws.{each-more, any-more, each-at}
+use Rattle.pure_text.proofs.ListLaws.{each_imply, any_imply, each_at}
 
 class_below-below : (A : Algebra) {b c d : ℕ} → IsClassBelow A b c → IsClassBelow A c d → IsClassBelow A b d
 class_below-below A itself k = k
 class_below-below A (along i h) k = along i (class_below-below A h k)
 
 has_class-below : (A : Algebra) (s : List ℕ) (c d : ℕ) → HasClassBelow A s c → IsClassBelow A c d → HasClassBelow A s d
-has_class-below A s c d h k = any-more (λ b. IsClassBelow A b c) (λ b. IsClassBelow A b d) (λ b p. class_below-below A p k) s h
+has_class-below A s c d h k = any_imply (λ b. IsClassBelow A b c) (λ b. IsClassBelow A b d) s (λ b p. class_below-below A p k) h
 
 -- A type of a class is of each class above it.
 of_class-below : (A : Algebra) (T : Typ) (c d : ℕ) → IsOfClass A T c → IsClassBelow A c d → IsOfClass A T d
@@ -39,12 +39,12 @@ module _ (A : Algebra) (typs : Typ → Typ) (r : IsSortRespecting A typs) where
 
     of_sorts-instance : (ts : Typs) (ss : List (List ℕ)) → AreOfSorts A ts ss → AreOfSorts A (typs_instance typs ts) ss
     of_sorts-instance none [] h = tt
-    of_sorts-instance (also t ts) (s ∷ ss) h = (each-more (IsOfClass A t) (IsOfClass A (typ_instance typs t)) (of_class-instance t) s h.0, of_sorts-instance ts ss h.1)
+    of_sorts-instance (also t ts) (s ∷ ss) h = (each_imply (IsOfClass A t) (IsOfClass A (typ_instance typs t)) s (of_class-instance t) h.0, of_sorts-instance ts ss h.1)
     of_sorts-instance none (s ∷ ss) h = h
     of_sorts-instance (also t ts) [] h = h
 
   pub of_sort-instance : (T : Typ) (s : List ℕ) → IsOfSort A T s → IsOfSort A (typ_instance typs T) s
-  of_sort-instance T s h = each-more (IsOfClass A T) (IsOfClass A (typ_instance typs T)) (of_class-instance T) s h
+  of_sort-instance T s h = each_imply (IsOfClass A T) (IsOfClass A (typ_instance typs T)) s (of_class-instance T) h
 
 -- the map that makes an instance of an instance of a schematic type; fixed type variables stay
 abbrev pub composed : (first second : Typ → Typ) → Typ → Typ
@@ -80,7 +80,7 @@ module _ (Q : Content) (q : IsContent Q) (typs : Typ → Typ) (terms : Term → 
 
   pub parts-instance : (t : Term) → HasCertifiedParts Q.declarations t → HasCertifiedParts Q.declarations (term_instance typs terms t)
   parts-instance (Const c T) h =
-      let schematic = each-at (IsWellFormed Q) (ConstDecl c h.1.0) Q.declarations q.well_formed h.1.1 in
+      let schematic = each_at (IsWellFormed Q) Q.declarations q.well_formed (ConstDecl c h.1.0) h.1.1 in
       (certified-instance T h.0, (h.1.0, h.1.1, instance-instance Q.declarations typs r.sorts h.1.0 T schematic h.1.2))
   parts-instance (Free x T) h = r.certified.fixed x T h
   parts-instance (Var x i T) h = r.certified.schematic x i T h

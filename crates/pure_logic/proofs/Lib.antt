@@ -1,4 +1,3 @@
-pub mod EachLaws
 pub mod DischargeLaws
 pub mod ChainLaws
 pub mod ConnectiveLaws
@@ -25,3 +24,12 @@ pub mod ContentExamples
 pub mod UnderivableExamples
 pub mod PromiseLaws
 pub mod EqualityLaws
+pub mod BuiltFactLaws
+pub mod TheoremMapLaws
+pub mod QuantificationLaws
+pub mod FulfilmentLaws
+pub mod NameLaws
+pub mod ConsistencyLaws
+pub mod TheoremExamples
+pub mod FulfilmentExamples
+pub mod JoinedLaws

@@ -1,6 +1,7 @@
 -- Maps that respect a content: the identity, and the finite maps of a call, joined.
 use Rattle.std.proofs.Common.{◌≡◌, ℕ, List, [], ◌∷◌, Bool, true, false, cond, ap, refl}
 use Rattle.pure_text.specs.Lists.{Each}
+use Rattle.pure_text.proofs.ListLaws.{each_imply}
 use Rattle.pure_definitions.specs.Types.Typ.{Typ, TFree, TVar, typ_eq}
 use Rattle.pure_definitions.specs.Terms.Term.{Term, Const, Free, Var, Bound, Abs, App, term_eq}
 use Rattle.pure_definitions.specs.Terms.Typing.{HasType}
@@ -14,7 +15,6 @@ use Rattle.pure_logic.specs.Content.{Content, IsCertifiedOf}
 use Rattle.pure_logic.specs.Tree.{joined_terms}
 use Rattle.pure_logic.specs.Concludes.{AreRespecting}
 use Rattle.pure_logic.proofs.WeakeningLaws.{typ_instance-certified}
-use Rattle.pure_logic.proofs.EachLaws.{each-more}
 
 pub identity_respects : (Q : Content) → AreRespecting Q (λ T. T) (λ t. t)
 identity_respects Q = record {
@@ -39,7 +39,7 @@ term_image-parts ds (b ∷ bs) h v c = cond-has (HasCertifiedParts ds) (term_eq 
 module _ (Q : Content) (typs : List TypBind) (terms : List TermBind) where
   joined-types : Each (λ b. IsCertifiedOf Q b.image b.typ) terms → IsTypeRespecting (typ_image typs) (joined_terms typs terms)
   joined-types h =
-      let respecting = entries-respect_types terms (each-more (λ b. IsCertifiedOf Q b.image b.typ) (λ b. HasType [] b.image b.typ) (λ b k. k.typed) terms h) in
+      let respecting = entries-respect_types terms (each_imply (λ b. IsCertifiedOf Q b.image b.typ) (λ b. HasType [] b.image b.typ) terms (λ b k. k.typed) h) in
       record {
         fixed = λ x T. rw (typ_instance-identity (typ_instance (typ_image typs) T)) at (respecting.fixed x (typ_instance (typ_image typs) T));
         schematic = λ x i T. rw (typ_instance-identity (typ_instance (typ_image typs) T)) at (respecting.schematic x i (typ_instance (typ_image typs) T));
@@ -50,7 +50,7 @@ module _ (Q : Content) (typs : List TypBind) (terms : List TermBind) where
       let fixed_typ = λ (x : ℕ) (s : List ℕ) (c : IsCertifiedSort Q.declarations s). typ_image-certified Q.declarations typs g (TFree x s) c in
       let schematic_typ = λ (x i : ℕ) (s : List ℕ) (c : IsCertifiedSort Q.declarations s). typ_image-certified Q.declarations typs g (TVar x i s) c in
       let typ = typ_instance-certified Q.declarations (typ_image typs) fixed_typ schematic_typ in
-      let parts = term_image-parts Q.declarations terms (each-more (λ b. IsCertifiedOf Q b.image b.typ) (λ b. HasCertifiedParts Q.declarations b.image) (λ b k. k.certified.parts) terms h) in
+      let parts = term_image-parts Q.declarations terms (each_imply (λ b. IsCertifiedOf Q b.image b.typ) (λ b. HasCertifiedParts Q.declarations b.image) terms (λ b k. k.certified.parts) h) in
       record {
         fixed_typ = fixed_typ;
         schematic_typ = schematic_typ;

@@ -5,12 +5,11 @@ use Rattle.pure_definitions.specs.Types.Order.{IsCoregular}
 use Rattle.pure_definitions.specs.Types.Typ.{prop}
 use Rattle.pure_definitions.specs.Terms.Term.{Term}
 use Rattle.pure_definitions.specs.Declarations.Decl.{Decl, ClassDecl, ConDecl, ArityDecl, ConstDecl, AxiomDecl, PromiseDecl, algebra_of}
-use Rattle.pure_text.proofs.ListLaws.{each_of, in-append_left, in-append_right}
+use Rattle.pure_text.proofs.ListLaws.{each_of, in-append_left, in-append_right, each_at, in_split, distinct-snoc}
 use Rattle.pure_logic.specs.Content.{TheoryId, Content, IsStatement, IsWellFormed, IsContent, IsBelow}
 use Rattle.pure_logic.specs.Beginning.{IsBeginning, IsAdded, IsMergeAfter, IsMerge}
 use Rattle.pure_logic.specs.Laws.Contents.{AreAgreed}
 use Rattle.pure_logic.proofs.AboveLaws.{certified_of-above}
-use Rattle.pure_logic.proofs.EachLaws.{each-at, in-append, distinct-append}
 
 -- What is added has the declarations of both lists.
 added-has : (before added after : List Decl) → IsAdded before added after → (x : Decl) → IsIn x before ⊎ IsIn x added → IsIn x after
@@ -26,14 +25,14 @@ added-from : (before added after : List Decl) → IsAdded before added after →
 added-from before [] after h x m = inl (rw h at m)
 added-from before (d ∷ ds) after (inl h) x m = elim (added-from before ds after h.1 x m) [ inl n ↦ inl n | inr n ↦ inr (inr n) ]
 added-from before (d ∷ ds) after (inr h) x m = elim (added-from (before ++ d ∷ []) ds after h.1 x m) [
-  | inl n ↦ elim (in-append x before (d ∷ []) n) [ inl o ↦ inl o | inr o ↦ elim o [ inl e ↦ inr (inl e) | inr absent ↦ absurd absent ] ]
+  | inl n ↦ elim (in_split x before (d ∷ []) n) [ inl o ↦ inl o | inr o ↦ elim o [ inl e ↦ inr (inl e) | inr absent ↦ absurd absent ] ]
   | inr n ↦ inr (inr n)
 ]
 
 added-distinct : (before added after : List Decl) → IsAdded before added after → AreDistinct before → AreDistinct after
 added-distinct before [] after h k = rw h k
 added-distinct before (d ∷ ds) after (inl h) k = added-distinct before ds after h.1 k
-added-distinct before (d ∷ ds) after (inr h) k = added-distinct (before ++ d ∷ []) ds after h.1 (distinct-append d before k h.0)
+added-distinct before (d ∷ ds) after (inr h) k = added-distinct (before ++ d ∷ []) ds after h.1 (distinct-snoc before d k h.0)
 
 one_added : (before added after other : List Decl) → IsAdded before added after → IsAdded before added other → after ≡ other
 one_added before [] after other h k = h ∙ sym k
@@ -100,7 +99,7 @@ well_formed-above P Q below (ArityDecl b) h = tt
 
 some_parent-well_formed : (Q : Content) (x : Decl) (parents : List Content) → Each IsContent parents → Each (λ P. IsBelow P Q) parents → AnyOf (λ P. IsIn x P.declarations) parents → IsWellFormed Q x
 some_parent-well_formed Q x [] h below m = absurd m
-some_parent-well_formed Q x (P ∷ Ps) h below (inl m) = well_formed-above P Q below.0 x (each-at (IsWellFormed P) x P.declarations h.0.well_formed m)
+some_parent-well_formed Q x (P ∷ Ps) h below (inl m) = well_formed-above P Q below.0 x (each_at (IsWellFormed P) P.declarations h.0.well_formed x m)
 some_parent-well_formed Q x (P ∷ Ps) h below (inr m) = some_parent-well_formed Q x Ps h.1 below.1 m
 
 below-any : (Q : Content) (parents : List Content) → ((x : Decl) → AnyOf (λ P. IsIn x P.declarations) parents → IsIn x Q.declarations) → Each (λ P. IsBelow P Q) parents

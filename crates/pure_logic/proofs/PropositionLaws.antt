@@ -1,6 +1,7 @@
 -- What a tree concludes is a proposition of the content, and so are its hypotheses.
 use Rattle.std.proofs.Common.{◌≡◌, List, [], ◌∷◌, refl}
 use Rattle.pure_text.specs.Lists.{Each}
+use Rattle.pure_text.proofs.ListLaws.{each_at, each-append}
 use Rattle.pure_definitions.specs.Types.Typ.{Typ, arrow, prop}
 use Rattle.pure_definitions.specs.Terms.Term.{Term, Const, Free, Var, Bound, Abs, App}
 use Rattle.pure_definitions.specs.Terms.Typing.{HasType}
@@ -20,7 +21,6 @@ use Rattle.pure_logic.specs.Derivable.{Pair, Theorem, IsUnderPairs, IsDerivable,
 use Rattle.pure_logic.proofs.ConnectiveLaws.{certified_of, imp-parts, eq-parts, all-parts}
 use Rattle.pure_logic.proofs.InstanceLaws.{parts-instance}
 use Rattle.pure_logic.proofs.PartsLaws.{typ-certified}
-use Rattle.pure_logic.proofs.EachLaws.{each-at, each-append}
 use Rattle.pure_logic.proofs.DischargeLaws.{each-without}
 
 -- In what is of type prop, the premise and the conclusion of an implication and the body of a quantification are of type prop.
@@ -36,7 +36,7 @@ premise-typed A B h =
     let same : h.1.0 ≡ prop = cc in
     rw same at h.1.2
 
-body-typed : (T : Typ) (B : Term) → HasType [] (all T B) prop → HasType (T ∷ []) B prop
+pub body-typed : (T : Typ) (B : Term) → HasType [] (all T B) prop → HasType (T ∷ []) B prop
 body-typed T B h =
     let connective : all_typ T ≡ arrow h.0 prop = h.1 in
     let function : arrow T h.2.0 ≡ h.0 = h.2.2 in
@@ -44,7 +44,7 @@ body-typed T B h =
     rw same at h.2.1
 
 module _ (Q : Content) (above : IsBelow pure_content Q) where
-  imp-proposition : (A B : Term) → IsProposition Q A → IsProposition Q B → IsProposition Q (imp A B)
+  pub imp-proposition : (A B : Term) → IsProposition Q A → IsProposition Q B → IsProposition Q (imp A B)
   imp-proposition A B h k = certified_of Q (imp A B) prop (imp-parts Q above A B h.certified.parts k.certified.parts) (prop, (prop, refl, h.typed), k.typed)
 
   pub premise-proposition : (A B : Term) → IsProposition Q (imp A B) → IsProposition Q A
@@ -60,7 +60,7 @@ module _ (Q : Content) (above : IsBelow pure_content Q) where
   eq-proposition T t u h k = certified_of Q (eq T t u) prop (eq-parts Q above T t u (typ-of_certified t T h) h.certified.parts k.certified.parts) (T, (T, refl, h.typed), k.typed)
 
   -- A body of type prop under one binder makes a quantification.
-  all-proposition : (T : Typ) (B : Term) → IsCertifiedTyp Q.declarations T → HasCertifiedParts Q.declarations B → HasType (T ∷ []) B prop → IsProposition Q (all T B)
+  pub all-proposition : (T : Typ) (B : Term) → IsCertifiedTyp Q.declarations T → HasCertifiedParts Q.declarations B → HasType (T ∷ []) B prop → IsProposition Q (all T B)
   all-proposition T B c p h = certified_of Q (all T B) prop (all-parts Q above T B c p) (arrow T prop, refl, (prop, h, refl))
 
   -- A body with an argument in its bound variable's place has the body's type.
@@ -123,10 +123,10 @@ module _ (Q : Content) (q : IsContent Q) (above : IsBelow pure_content Q) where
 
   pub concluded-proposition : (d : Tree) (C : Term) → Concludes Q d C → IsProposition Q C
   concluded-proposition (Axiom n typs terms) C h =
-      let statement = each-at (IsWellFormed Q) (AxiomDecl n h.0) Q.declarations q.well_formed h.1 in
+      let statement = each_at (IsWellFormed Q) Q.declarations q.well_formed (AxiomDecl n h.0) h.1 in
       rw h.3 (instance-proposition typs terms h.0 h.2 statement.proposition)
   concluded-proposition (Promise l typs terms) C h =
-      let statement = each-at (IsWellFormed Q) (PromiseDecl h.0 l h.1) Q.declarations q.well_formed h.2 in
+      let statement = each_at (IsWellFormed Q) Q.declarations q.well_formed (PromiseDecl h.0 l h.1) h.2 in
       rw h.4 (instance-proposition typs terms h.1 h.3 statement.proposition)
   concluded-proposition (Assume A) C h = rw h.1 h.0
   concluded-proposition (AllIntro x d) C h = rw h.6 (abstraction-proposition Q above x h.1 h.0 h.3 h.4 (concluded-proposition d h.1 h.2))

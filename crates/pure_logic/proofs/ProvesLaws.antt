@@ -1,6 +1,7 @@
 -- What is proved, and how inferences go.
 use Rattle.std.proofs.Common.{◌↔◌, List, [], ◌∷◌, ◌++◌, ℕ, inl, inr, ap, refl, sym, arith}
 use Rattle.pure_text.specs.Lists.{IsIn, Each, EachTwo}
+use Rattle.pure_text.proofs.ListLaws.{each_imply, each_at, each-append, moved, moved_back}
 use Rattle.pure_definitions.specs.Names.{Label}
 use Rattle.pure_definitions.specs.Types.Typ.{Typ}
 use Rattle.pure_definitions.specs.Terms.Term.{Term, Free}
@@ -16,7 +17,6 @@ use Rattle.pure_term_laws.proofs.BoundLaws.{bind-subst}
 use Rattle.pure_logic.proofs.ConnectiveLaws.{certified_of}
 use Rattle.pure_logic.proofs.FreshLaws.{above_all, fresh-above_all}
 use Rattle.pure_logic.proofs.PropositionLaws.{premise-proposition, conclusion-proposition, concluded-proposition}
-use Rattle.pure_logic.proofs.EachLaws.{each-more, each-at, each-append, moved, moved_back}
 use Rattle.pure_logic.proofs.DischargeLaws.{each-discharged}
 
 pub derivable_is_proves : (Q : Content) (hyps : List Term) (rests : List Label) (A : Term) → IsDerivable Q (record { hyps = hyps; pairs = []; prop = A; rests = rests }) ↔ Proves Q hyps rests A
@@ -33,8 +33,8 @@ pub weaker : (Q : Content) (hyps more_hyps : List Term) (rests more_rests : List
 weaker Q hyps more_hyps rests more_rests A hyps_among rests_among p = record {
   tree = p.tree;
   concludes = p.concludes;
-  from = each-more (λ B. IsIn B hyps) (λ B. IsIn B more_hyps) hyps_among (hyps_of p.tree) p.from;
-  rest_on = each-more (λ l. IsIn l rests) (λ l. IsIn l more_rests) rests_among (rests_of p.tree) p.rest_on;
+  from = each_imply (λ B. IsIn B hyps) (λ B. IsIn B more_hyps) (hyps_of p.tree) hyps_among p.from;
+  rest_on = each_imply (λ l. IsIn l rests) (λ l. IsIn l more_rests) (rests_of p.tree) rests_among p.rest_on;
 }
 
 pub implication_is_proved : (Q : Content) (hyps : List Term) (rests : List Label) (A B : Term) → IsProposition Q A → Proves Q (A ∷ hyps) rests B → Proves Q hyps rests (imp A B)
@@ -71,7 +71,7 @@ quantification_is_proved Q hyps rests T B c each =
         p.concludes,
         tt,
         certified_of Q (Free (above_all (B ∷ hyps)) T) T c refl,
-        each-more (λ A. IsIn A hyps) (λ A. ¬ Occurs (Free (above_all (B ∷ hyps)) T) A) (λ A m. each-at (λ C. ¬ Occurs (Free (above_all (B ∷ hyps)) T) C) A hyps apart.1 m) (hyps_of p.tree) p.from,
+        each_imply (λ A. IsIn A hyps) (λ A. ¬ Occurs (Free (above_all (B ∷ hyps)) T) A) (hyps_of p.tree) (λ A m. each_at (λ C. ¬ Occurs (Free (above_all (B ∷ hyps)) T) C) hyps apart.1 A m) p.from,
         ap (all T) (sym (bind-subst 0 (Free (above_all (B ∷ hyps)) T) B tt apart.0)),
       );
       from = p.from;

@@ -2,7 +2,7 @@
 use Rattle.std.proofs.Common.{◌≡◌, ◌≤◌, ℕ, List, [], ◌∷◌, ◌++◌, map, inl, inr, refl, ap, ◌∙◌, arith}
 use Rattle.std.proofs.lemmas.List.{map-append}
 use Rattle.pure_text.specs.Lists.{IsIn, Each}
-use Rattle.pure_text.proofs.ListLaws.{in-map, in-append_left, in-append_right}
+use Rattle.pure_text.proofs.ListLaws.{in-map, in-append_left, in-append_right, each_imply, each_at, each-append}
 use Rattle.pure_definitions.specs.Names.{Label}
 use Rattle.pure_definitions.specs.Types.Typ.{Typ, TFree, TVar, arrow, prop}
 use Rattle.pure_definitions.specs.Terms.Term.{Term, Const, Free, Var, Bound, Abs, App}
@@ -28,7 +28,6 @@ use Rattle.pure_logic.proofs.WeakeningLaws.{typ_instance-certified}
 use Rattle.pure_logic.proofs.InstanceLaws.{of_sort-instance, parts-instance}
 use Rattle.pure_logic.proofs.MapLaws.{sent, sent-respects}
 use Rattle.pure_logic.proofs.FreshLaws.{above_all, fresh-above_all, instance-renamed, instances-unchanged}
-use Rattle.pure_logic.proofs.EachLaws.{each-more, each-at, each-append}
 use Rattle.pure_logic.proofs.DischargeLaws.{discharged}
 
 -- Type maps one after the other are one type map.
@@ -54,11 +53,11 @@ joined : (f : Term → Term) (hyps others Bs Cs : List Term) → Each (λ B. IsI
 joined f hyps others Bs Cs h k =
     rw (map-append f hyps others)
     (each-append (λ B. IsIn B (map f hyps ++ map f others)) Bs Cs
-    (each-more (λ B. IsIn B (map f hyps)) (λ B. IsIn B (map f hyps ++ map f others)) (λ B m. in-append_left B (map f hyps) (map f others) m) Bs h)
-    (each-more (λ B. IsIn B (map f others)) (λ B. IsIn B (map f hyps ++ map f others)) (λ B m. in-append_right B (map f hyps) (map f others) m) Cs k))
+    (each_imply (λ B. IsIn B (map f hyps)) (λ B. IsIn B (map f hyps ++ map f others)) Bs (λ B m. in-append_left B (map f hyps) (map f others) m) h)
+    (each_imply (λ B. IsIn B (map f others)) (λ B. IsIn B (map f hyps ++ map f others)) Cs (λ B m. in-append_right B (map f hyps) (map f others) m) k))
 
 module _ (Q : Content) (q : IsContent Q) where
-  certified_of-instance : (typs : Typ → Typ) (terms : Term → Term) → AreRespecting Q typs terms → (t : Term) (T : Typ) → IsCertifiedOf Q t T → IsCertifiedOf Q (term_instance typs terms t) (typ_instance typs T)
+  pub certified_of-instance : (typs : Typ → Typ) (terms : Term → Term) → AreRespecting Q typs terms → (t : Term) (T : Typ) → IsCertifiedOf Q t T → IsCertifiedOf Q (term_instance typs terms t) (typ_instance typs T)
   certified_of-instance typs terms r t T h =
       let typed = typing-instance typs terms r.types [] t T h.typed in
       record { certified = record { parts = parts-instance Q q typs terms r t h.certified.parts; typ = typ_instance typs T; typed = typed }; typed = typed }
@@ -124,7 +123,7 @@ module _ (Q : Content) (q : IsContent Q) where
             rest.concludes,
             tt,
             fresh-certified,
-            each-more (λ A. IsIn A (map (term_instance typs terms) (hyps_of d))) (λ A. ¬ Occurs fresh A) (λ A m. each-at (λ B. ¬ Occurs fresh B) A (map (term_instance typs terms) (hyps_of d)) apart.1 m) (hyps_of rest.tree) hyps,
+            each_imply (λ A. IsIn A (map (term_instance typs terms) (hyps_of d))) (λ A. ¬ Occurs fresh A) (hyps_of rest.tree) (λ A m. each_at (λ B. ¬ Occurs fresh B) (map (term_instance typs terms) (hyps_of d)) apart.1 A m) hyps,
             ap (term_instance typs terms) (h.6 ∙ ap (all_of h.0) (abstract_over-variable h.1 x h.3)) ∙ (λ l. all_of (typ_instance typs h.0) (Abs (typ_instance typs (typ l)) (renamed l))),
           );
           hyps = hyps;
@@ -247,7 +246,7 @@ instance_is_proved Q q typs terms r hyps rests A p =
     record {
       tree = made.tree;
       concludes = made.concludes;
-      from = each-more (λ B. IsIn B (map (term_instance typs terms) (hyps_of p.tree))) (λ B. IsIn B (map (term_instance typs terms) hyps)) (each-mapped (term_instance typs terms) hyps (hyps_of p.tree) p.from) (hyps_of made.tree) made.hyps;
+      from = each_imply (λ B. IsIn B (map (term_instance typs terms) (hyps_of p.tree))) (λ B. IsIn B (map (term_instance typs terms) hyps)) (hyps_of made.tree) (each-mapped (term_instance typs terms) hyps (hyps_of p.tree) p.from) made.hyps;
       rest_on = rw made.rests p.rest_on;
     }
 

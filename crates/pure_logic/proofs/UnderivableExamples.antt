@@ -2,6 +2,7 @@
 use Rattle.std.proofs.Common.{◌≡◌, ℕ, List, [], ◌∷◌, ◌++◌, Bool, true, false, not, ◌||◌, cond, nat_eq, nat_lt, inl, inr, refl, ap, sym, ◌∙◌}
 use Rattle.std.specs.Prelude.{◌+◌, ◌-◌, if◌then◌else◌}
 use Rattle.pure_text.specs.Lists.{IsIn, Each}
+use Rattle.pure_text.proofs.ListLaws.{each-left, each-right}
 use Rattle.pure_definitions.specs.Names.{Label, all_name, imp_name, eq_name}
 use Rattle.pure_definitions.specs.Types.Typ.{Typ, prop}
 use Rattle.pure_definitions.specs.Terms.Term.{Term, Const, Free, Var, Bound, Abs, App, term_eq}
@@ -20,7 +21,6 @@ use Rattle.pure_logic.proofs.ConnectiveLaws.{certified_of, itself-instance}
 use Rattle.pure_logic.proofs.ContentLaws.{named_alike, both_promises, named_alike-so, both_promises-so, apart-once}
 use Rattle.pure_logic.proofs.DerivableLaws.{derivable_alone_exactly}
 use Rattle.pure_logic.proofs.MapLaws.{identity_respects}
-use Rattle.pure_logic.proofs.EachLaws.{each-left, each-right}
 use Rattle.pure_logic.proofs.DischargeLaws.{restored}
 
 -- what a term is worth: a connective that waits for its arguments, or a truth value

@@ -15,7 +15,7 @@ use Rattle.pure_logic.specs.Concludes.{AreRespecting, Concludes}
 use Rattle.pure_logic.specs.Derivable.{Theorem, IsDerivable}
 use Rattle.pure_logic.proofs.AboveLaws.{respecting-above, typ-above, parts-above, certified_of-above}
 use Rattle.pure_logic.proofs.KnownLaws.{chosen-has, decided_sort, decided_typ, known-certified, restricted_typs, restricted_terms, typ_instance-restricted, term_instance-restricted}
-use Rattle.pure_logic.proofs.EachLaws.{each-at}
+use Rattle.pure_text.proofs.ListLaws.{each_at}
 
 typs_count-instance : (typs : Typ → Typ) (ts : Typs) → typs_count (typs_instance typs ts) ≡ typs_count ts
 typs_count-instance typs none = refl
@@ -121,10 +121,10 @@ rests-restricted ds (Iff A B) = refl
 module _ (Q R : Content) (q : IsContent Q) (below : IsBelow Q R) where
   restricted-concludes : (d : Tree) (C : Term) → Concludes Q d C → Concludes R (restricted Q.declarations d) C
   restricted-concludes (Axiom n typs terms) C h =
-      let statement = each-at (IsWellFormed Q) (AxiomDecl n h.0) Q.declarations q.well_formed h.1 in
+      let statement = each_at (IsWellFormed Q) Q.declarations q.well_formed (AxiomDecl n h.0) h.1 in
       (h.0, below (AxiomDecl n h.0) h.1, restricted-respecting Q R below typs terms h.2, rw (term_instance-restricted Q.declarations typs terms h.0 statement.proposition.certified.parts) h.3)
   restricted-concludes (Promise l typs terms) C h =
-      let statement = each-at (IsWellFormed Q) (PromiseDecl h.0 l h.1) Q.declarations q.well_formed h.2 in
+      let statement = each_at (IsWellFormed Q) Q.declarations q.well_formed (PromiseDecl h.0 l h.1) h.2 in
       (h.0, h.1, below (PromiseDecl h.0 l h.1) h.2, restricted-respecting Q R below typs terms h.3, rw (term_instance-restricted Q.declarations typs terms h.1 statement.proposition.certified.parts) h.4)
   restricted-concludes (Assume A) C h = (certified_of-above Q R below A prop h.0, h.1)
   restricted-concludes (AllIntro x d) C h =

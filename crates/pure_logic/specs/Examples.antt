@@ -3,3 +3,5 @@ pub mod Theory
 pub mod Contents
 pub mod Nodes
 pub mod Underivable
+pub mod Theorems
+pub mod Fulfilments

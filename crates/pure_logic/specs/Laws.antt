@@ -4,8 +4,12 @@ pub mod Derivable
 pub mod Proves
 pub mod Inferences
 pub mod Equality
+pub mod Quantification
 pub mod Substitution
 pub mod Promises
+pub mod Maps
+pub mod BuiltFacts
 pub mod Tree
 pub mod Conclusion
 pub mod Parts
+pub mod Names

@@ -6,5 +6,7 @@ pub mod Tree
 pub mod Concludes
 pub mod Derivable
 pub mod Proves
+pub mod Fulfilment
+pub mod BuiltFacts
 pub mod Laws
 pub mod Examples

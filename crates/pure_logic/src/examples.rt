@@ -1,6 +1,8 @@
 //! What the definitions mean, by computed examples, each carried by the contract of a function that does nothing.
 ghost use Rattle.pure_logic.specs.Examples.Contents.{BeginningExample, AncestorsExample, NotApartExample, NoMergeExample, MiddleMergeExample, NamedTwiceExample, IllFormedExample, SchematicExample, BelowExample, DefinitionExample};
 ghost use Rattle.pure_logic.specs.Examples.Nodes.{ExampleIsContent, AxiomExample, OwnTypeExample, PromiseExample, RestsExample, NoAxiomExample, NoMapExample, AssumeExample, AllIntroExample, NoAllIntroExample, AllElimExample, NoAllElimExample, ImpliesIntroExample, TwiceAssumedExample, ImpliesElimExample, BetaExample, ReflExample, SubstExample, SymmetricExample, ExtExample, IffExample, PairsExample, DerivableExample, OpenHypothesisExample, OpenPromiseExample, NoPropositionExample};
+ghost use Rattle.pure_logic.specs.Examples.Theorems.{InstantiatedExample, RaisedExample, GeneralisedExample, StatementExample, WeakerExample, QuantifiedVariableExample, ContextExample, AbstractedExample, NameExample, KeptExample, ClosedExample};
+ghost use Rattle.pure_logic.specs.Examples.Fulfilments.{FulfilledExample, JoinedExample};
 ghost use Rattle.pure_logic.specs.Examples.Underivable.{UnderivableExample};
 
 /// Declarations that make no content, contents below others, and what a definition declares.
@@ -78,4 +80,33 @@ pub fn derivable_example()
 pub fn underivable_example()
     ensures underivable { UnderivableExample }
     ensures without_pure { NoPropositionExample }
+{}
+
+/// Finite maps put into a theorem, indexes raised, and fixed variables made schematic.
+pub fn theorem_map_example()
+    ensures instantiated { InstantiatedExample }
+    ensures raised { RaisedExample }
+    ensures generalised { GeneralisedExample }
+    ensures statement { StatementExample }
+    ensures weaker { WeakerExample }
+{}
+
+/// A quantification over a variable, an equation in a context, and one that is abstracted.
+pub fn quantification_example()
+    ensures quantified { QuantifiedVariableExample }
+    ensures context { ContextExample }
+    ensures abstracted { AbstractedExample }
+{}
+
+/// Constants that aren't certified for their names, and terms that maps leave as they are, or closed.
+pub fn name_example()
+    ensures names { NameExample }
+    ensures kept { KeptExample }
+    ensures closed { ClosedExample }
+{}
+
+/// Promises that are fulfilled one after another, and which of them are joined.
+pub fn fulfilment_example()
+    ensures fulfilled { FulfilledExample }
+    ensures joined { JoinedExample }
 {}

@@ -1,11 +1,15 @@
 //! What the definitions mean: laws, each carried by the contract of a function that does nothing.
-ghost use Rattle.pure_logic.specs.Laws.Derivable.{DerivableAloneExactly, DerivableExactly, PureIsContent, VariableIsProposition, ChainIsDerivable, VariableChainIsDerivable, PureIsBelowItself, TrivialIsDerivable, WeakenedIsDerivable};
+ghost use Rattle.pure_logic.specs.Laws.Derivable.{DerivableAloneExactly, DerivableExactly, PureIsContent, VariableIsProposition, ChainIsDerivable, VariableChainIsDerivable, PureIsBelowItself, TrivialIsDerivable, WeakenedIsDerivable, ConsistentExactly};
 ghost use Rattle.pure_logic.specs.Laws.Proves.{DerivableIsProves, PairsAreEquations, AssumedIsProved, WeakerIsProved, ImplicationIsProved, ConclusionIsProved, ChainIsProved, EndOfChainIsProved, QuantificationIsProved, InstanceOfBodyIsProved, ProvedIsProposition, CutIsProved};
 ghost use Rattle.pure_logic.specs.Laws.Inferences.{InferredFromOne, InferredFromTwo, ImpliesElimIsDerivable, ImpliesIntroIsDerivable, AllElimIsDerivable, AllIntroIsDerivable};
 ghost use Rattle.pure_logic.specs.Laws.Equality.{ReflexiveEquality, SymmetricEquality, TransitiveEquality, EqualsAreReplaced, EqualApplications, EqualPropositions, EqualIsProved, EqualFunctions, BetaEquality, EtaEquality, EqualAbstractions, MarkMeansNothing};
+ghost use Rattle.pure_logic.specs.Laws.Quantification.{EqualInContext, EqualBodies, AbstractionIsDerivable, InstanceOfFunctionIsProved, ReducedInstanceIsProved, ReducedInstanceIsDerivable};
 ghost use Rattle.pure_logic.specs.Laws.Substitution.{SubstitutionOfTrees, InstanceIsProved, InstanceIsDerivable};
-ghost use Rattle.pure_logic.specs.Laws.Promises.{CutOfPromises, SettledIsDerivable};
+ghost use Rattle.pure_logic.specs.Laws.Maps.{WeakerIsDerivable, InstanceFromSameHypotheses, GeneralisedIsDerivable, GeneralisedIsStatement, RaisedIsDerivable, InstantiatedIsDerivable};
+ghost use Rattle.pure_logic.specs.Laws.Promises.{CutByProofs, CutOfPromises, SettledIsDerivable, FulfilledIsDerivable, AllFulfilledIsDerivable, JoinedAreDerivable, JoinedExactly};
+ghost use Rattle.pure_logic.specs.Laws.BuiltFacts.{BuiltFactsAreDerivable, BuiltFactsAreDerivableAbove, BuiltFactsAreStatements};
 ghost use Rattle.pure_logic.specs.Laws.Tree.{OneConclusion, OneUnderPairs, WeakeningOfTrees, WeakeningOfDerivable, IdentityRespects, JoinedMapsRespect, JoinedInstance};
+ghost use Rattle.pure_logic.specs.Laws.Names.{ImplicationByName, MarkByName, QuantificationByName, EqualityByName, RespectingImagesAreClosed, JoinedMapsKeepFixed};
 ghost use Rattle.pure_logic.specs.Laws.Parts.{PartsOfInstance};
 ghost use Rattle.pure_logic.specs.Laws.Conclusion.{ConclusionIsProposition, DerivableIsProposition, DerivableAloneIsProposition};
 ghost use Rattle.pure_logic.specs.Laws.Contents.{MergeHasDeclarations, MergeHasNoRepeats, OneMerge, BeginningIsContent, ParentsAreBelow, OneBeginning, AncestorsAreTheParents, AncestorsHaveNoRepeats, BeginningHasTheoriesApart, TheoriesAreToldApart, PureHasTheoriesApart};
@@ -85,6 +89,20 @@ pub fn equality_of_functions()
     ensures abstractions { EqualAbstractions }
 {}
 
+/// From a quantification over any function follows the function applied to a term, also reduced.
+pub fn quantification_over_any_function()
+    ensures applied { InstanceOfFunctionIsProved }
+    ensures reduced { ReducedInstanceIsProved }
+    ensures derivable { ReducedInstanceIsDerivable }
+{}
+
+/// Equations go into contexts and under binders.
+pub fn equality_in_contexts()
+    ensures context { EqualInContext }
+    ensures bodies { EqualBodies }
+    ensures abstraction { AbstractionIsDerivable }
+{}
+
 /// Each instance by respecting maps of what is concluded, proved or derivable is so too.
 pub fn substitution_is_admissible()
     ensures trees { SubstitutionOfTrees }
@@ -92,10 +110,36 @@ pub fn substitution_is_admissible()
     ensures derivable { InstanceIsDerivable }
 {}
 
+/// Maps on theorems: fixed variables that are in no hypothesis are made schematic, indexes are raised, and the finite maps of a call are put in.
+pub fn maps_on_theorems()
+    ensures weaker { WeakerIsDerivable }
+    ensures same_hypotheses { InstanceFromSameHypotheses }
+    ensures generalised { GeneralisedIsDerivable }
+    ensures statement { GeneralisedIsStatement }
+    ensures raised { RaisedIsDerivable }
+    ensures instantiated { InstantiatedIsDerivable }
+{}
+
 /// What rests on promises of which each is left open or settled rests on those left open alone.
 pub fn promises_are_cut()
+    ensures by_proofs { CutByProofs }
     ensures cut { CutOfPromises }
     ensures settled { SettledIsDerivable }
+{}
+
+/// The six built facts are derivable over Pure's content and over each above it, and could be axioms.
+pub fn built_facts()
+    ensures pure { BuiltFactsAreDerivable }
+    ensures above { BuiltFactsAreDerivableAbove }
+    ensures statements { BuiltFactsAreStatements }
+{}
+
+/// Promises fulfilled one after another leave the labels that remain; and those that rest on joined ones alone are derivable alone.
+pub fn promises_are_fulfilled()
+    ensures left { FulfilledIsDerivable }
+    ensures all { AllFulfilledIsDerivable }
+    ensures joined { JoinedAreDerivable }
+    ensures exactly { JoinedExactly }
 {}
 
 /// A tree concludes one proposition at most.
@@ -117,8 +161,23 @@ pub fn weakening()
     ensures derivable { WeakeningOfDerivable }
 {}
 
-/// Maps that respect a content: the identity, and finite maps of a call, joined.
+/// A content is consistent exactly where some proposition isn't derivable from its axioms alone.
+pub fn consistent_exactly()
+    ensures { ConsistentExactly }
+{}
+
+/// The name of a connective tells its type, in what is certified over a content above Pure's.
+pub fn connectives_by_name()
+    ensures implication { ImplicationByName }
+    ensures mark { MarkByName }
+    ensures quantification { QuantificationByName }
+    ensures equality { EqualityByName }
+{}
+
+/// Maps that respect a content: the identity, and finite maps of a call, joined; what they keep.
 pub fn respecting_maps()
+    ensures closed { RespectingImagesAreClosed }
+    ensures fixed { JoinedMapsKeepFixed }
     ensures identity { IdentityRespects }
     ensures joined { JoinedMapsRespect }
     ensures instance { JoinedInstance }

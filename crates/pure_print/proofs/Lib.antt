@@ -1,4 +1,4 @@
-pub mod Joins
+pub mod WrittenAlone
 pub mod TypLemmas
 pub mod Numerals
 pub mod Pieces

@@ -7,12 +7,6 @@ ghost use Rattle.pure_print.specs.Forms.{is_constant, seen_form, form_depth};
 
 use pure_term::{Name, Term, TermNode};
 
-const ALL: Name = Name(2);
-
-const IMP: Name = Name(3);
-
-const EQ: Name = Name(4);
-
 /// How a term is written, with its parts.
 #[derive(Clone, Copy)]
 pub(crate) enum Form<'t> {
@@ -102,14 +96,14 @@ fn applied<'t>(function: &'t Term, argument: &'t Term) -> Form<'t>
     ensures falls { form_depth result ≤ term_depth (App function.now argument.now) }
 {
     match (&function.node, &argument.node) {
-        (TermNode::Const { name, .. }, TermNode::Abs { body, .. }) if *name == ALL => {
+        (TermNode::Const { name, .. }, TermNode::Abs { body, .. }) if *name == Name::ALL => {
             Form::ForAll { body }
         }
-        (TermNode::App { fun, arg }, _) if is_constant(fun, IMP) => Form::Implies {
+        (TermNode::App { fun, arg }, _) if is_constant(fun, Name::IMP) => Form::Implies {
             left: arg,
             right: argument,
         },
-        (TermNode::App { fun, arg }, _) if is_constant(fun, EQ) => Form::Equal {
+        (TermNode::App { fun, arg }, _) if is_constant(fun, Name::EQ) => Form::Equal {
             left: arg,
             right: argument,
         },

@@ -9,10 +9,6 @@ use crate::name::{push_index, push_sort, push_typ_name, push_typ_variable};
 use pure_term::{Name, Names, Text, Typ, TypNode};
 use std::alloc::{AllocError, Global};
 
-const FUN: Name = Name(0);
-
-const PROP: Name = Name(1);
-
 /// The printed form of a type.
 pub fn print_typ(alloc: Global, names: &Names, t: &Typ) -> Result<Text, AllocError>
     ensures printed { IfOk result (λ text. text ≡ spec.typ_text names.now t.now) }
@@ -26,7 +22,7 @@ pub fn print_typ(alloc: Global, names: &Names, t: &Typ) -> Result<Text, AllocErr
 fn is_arrow_of(constructor: Name, args: &[Typ]) -> bool
     ensures { result ≡ spec.is_arrow_of constructor (typs_of args.now) }
 {
-    args.len() == 2 && constructor == FUN
+    args.len() == 2 && constructor == Name::FUN
 }
 
 fn is_arrow(t: &Typ) -> bool
@@ -76,7 +72,7 @@ fn push_operand(text: &mut Vec<u8>, names: &Names, t: &Typ) -> Result<(), AllocE
 fn push_constant(text: &mut Vec<u8>, names: &Names, constructor: Name) -> Result<(), AllocError>
     ensures { OnOk result (text.new.items ≡ text.old.items ++ spec.constant_typ_text names.now constructor) }
 {
-    if constructor == PROP {
+    if constructor == Name::PROP {
         text.extend_from_slice(b"prop")
     } else {
         push_typ_name(text, names, constructor)

@@ -1,8 +1,8 @@
 //! The printed forms, and what is read of them.
-use crate::notation::{read_term, read_typ, session};
 use crate::own::{is_own, is_own_typ};
 use crate::tables::{BINDERS, CONNECTIVES, CONSTRUCTORS, EMPTY, LINES, NAMES, TOTAL, VARIABLES};
 use pure_lex::tokens;
+use pure_notation::{read_term, read_typ, session};
 use pure_print::{Row, RowStatus, print_row, print_table, print_term, print_typ};
 use pure_read::{read_raw, read_raw_typ};
 use pure_term::{Names, Term, Text, Typ};
@@ -47,7 +47,7 @@ fn check_typs<R: Abort + AllocGlobal>(rt: &R, rows: &[(&[u8], &[u8])]) -> Result
     let alloc = rt.alloc();
     let names = session(alloc)?;
     for (row, wanted) in rows {
-        let typ = read_typ(alloc, &names, row)?;
+        let typ = read_typ(alloc, row)?;
         let printed = print_typ(alloc, &names, &typ)?;
         assert_eq!(rt; printed.bytes(), *wanted);
         let read = is_typ_read_back(alloc, &names, &typ, printed.bytes())?;
@@ -60,7 +60,7 @@ fn check_terms<R: Abort + AllocGlobal>(rt: &R, rows: &[(&[u8], &[u8])]) -> Resul
     let alloc = rt.alloc();
     let names = session(alloc)?;
     for (row, wanted) in rows {
-        let term = read_term(alloc, &names, row)?;
+        let term = read_term(alloc, row)?;
         let printed = print_term(alloc, &names, &term)?;
         assert_eq!(rt; printed.bytes(), *wanted);
         let read = is_read_back(alloc, &names, &term, printed.bytes())?;

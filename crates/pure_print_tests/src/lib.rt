@@ -4,8 +4,6 @@
 #[cfg(test)]
 mod checks;
 #[cfg(test)]
-mod notation;
-#[cfg(test)]
 mod own;
 #[cfg(test)]
 mod tables;

@@ -1,8 +1,9 @@
 //! Arities.
 ghost use Rattle.std.specs.Prelude.{◌≡◌, IfOk, [], ◌∷◌, ◌++◌};
 ghost use Rattle.pure_grammar.specs.Theories.Reader as spec;
-ghost use Rattle.pure_script.specs.Seen.{seen_lexeme};
-ghost use Rattle.pure_script.specs.Places.{seen_turn, sorts};
+ghost use Rattle.pure_script.specs.Seen.{sorts};
+ghost use Rattle.pure_script.specs.Places.{seen_turn};
+ghost use Rattle.pure_script.specs.Lexemes.{seen_lexeme};
 
 use crate::lexeme::{Lexeme, is_sign};
 use crate::place::{ArityPlace, Place, Turn, moves_if, name};

@@ -2,8 +2,9 @@
 ghost use Rattle.std.specs.Prelude.{◌≡◌, IfOk};
 ghost use Rattle.pure_grammar.specs.Theories.Lexeme as lexeme;
 ghost use Rattle.pure_grammar.specs.Theories.Reader as spec;
-ghost use Rattle.pure_script.specs.Seen.{seen_lexeme};
-ghost use Rattle.pure_script.specs.Places.{seen_place, seen_begun, seen_turn, seen_command};
+ghost use Rattle.pure_script.specs.Seen.{seen_command};
+ghost use Rattle.pure_script.specs.Places.{seen_place, seen_begun, seen_turn};
+ghost use Rattle.pure_script.specs.Lexemes.{seen_lexeme};
 
 use crate::lexeme::{Lexeme, ident_in, is_word, name_in, variable_in};
 use crate::texts::Texts;

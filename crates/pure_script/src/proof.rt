@@ -2,8 +2,9 @@
 ghost use Rattle.std.specs.Prelude.{◌≡◌, IfOk, [], ◌∷◌, ◌++◌};
 ghost use Rattle.pure_grammar.specs.Theories.TheoryText.{Lemma};
 ghost use Rattle.pure_grammar.specs.Theories.Reader as spec;
-ghost use Rattle.pure_script.specs.Seen.{seen_lexeme, span};
-ghost use Rattle.pure_script.specs.Places.{seen_turn, seen_course, seen_command, seen_step, seen_steps, seen_method, seen_proof_place};
+ghost use Rattle.pure_script.specs.Seen.{span, seen_command, seen_step, seen_steps};
+ghost use Rattle.pure_script.specs.Places.{seen_turn, seen_course, seen_method, seen_proof_place};
+ghost use Rattle.pure_script.specs.Lexemes.{seen_lexeme};
 
 use crate::lexeme::{Lexeme, is_ident, is_sign, is_word, number_in, quote_in};
 use crate::place::{

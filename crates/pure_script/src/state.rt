@@ -3,8 +3,9 @@ ghost use Rattle.std.specs.Prelude.{◌≡◌, IfOk, Some, [], ◌∷◌, ◌++�
 ghost use Rattle.pure_grammar.specs.Theories.Lexeme.{Ends};
 ghost use Rattle.pure_grammar.specs.Theories.PhraseTree.{with_text};
 ghost use Rattle.pure_grammar.specs.Theories.Reader as spec;
-ghost use Rattle.pure_script.specs.Seen.{seen_lexeme};
-ghost use Rattle.pure_script.specs.Places.{seen_place, seen_class_place, seen_type_place, seen_arity_place, seen_item_place, seen_lemma_place, seen_proof_place, seen_turn, seen_command, seen_commands};
+ghost use Rattle.pure_script.specs.Seen.{seen_command, seen_commands};
+ghost use Rattle.pure_script.specs.Places.{seen_place, seen_class_place, seen_type_place, seen_arity_place, seen_item_place, seen_lemma_place, seen_proof_place, seen_turn};
+ghost use Rattle.pure_script.specs.Lexemes.{seen_lexeme};
 ghost use Rattle.pure_script.specs.States.{seen_state, seen_front, seen_next, seen_header, seen_end, IsNext, IsLed, IsImport};
 
 use crate::lexeme::{Lexeme, is_word};

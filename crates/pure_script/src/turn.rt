@@ -2,7 +2,7 @@
 //! function pays at its entry for all its locals.
 ghost use Rattle.std.specs.Prelude.{◌≡◌, IfOk};
 ghost use Rattle.pure_grammar.specs.Theories.Reader as spec;
-ghost use Rattle.pure_script.specs.Seen.{seen_lexeme};
+ghost use Rattle.pure_script.specs.Lexemes.{seen_lexeme};
 ghost use Rattle.pure_script.specs.Places.{seen_place, seen_class_place, seen_type_place, seen_arity_place, seen_item_place, seen_lemma_place, seen_turn};
 
 use crate::lexeme::Lexeme;

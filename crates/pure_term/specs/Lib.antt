@@ -3,3 +3,4 @@ pub mod TermFalls
 pub mod Grown
 pub mod Scope
 pub mod TypeAnswer
+pub mod TermPlaces

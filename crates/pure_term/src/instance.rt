@@ -5,12 +5,11 @@ ghost use Rattle.pure_definitions.specs.Terms.Subst.{typ_image, term_image, inst
 ghost use Rattle.pure_definitions.specs.Terms.Limits.{Leaves};
 ghost use Rattle.pure_term.specs.Grown.{IsGrown};
 
-use crate::maps::{TermBind, TermMap, find_term};
+use crate::maps::TermMap;
 use crate::measure::term_leaves;
 use crate::term::{Term, TermNode, copied};
 use pure_typ::{
-    Grow, MAX_DEPTH, MAX_SIZE, TypBind, TypMap, instance_leaves, instance_of, node_leaves,
-    typ_leaves,
+    Grow, MAX_DEPTH, MAX_SIZE, TypMap, instance_leaves, instance_of, node_leaves, typ_leaves,
 };
 use std::alloc::{AllocError, Global};
 
@@ -18,14 +17,13 @@ use std::alloc::{AllocError, Global};
 pub fn inst_typ(alloc: Global, t: &Term, map: &TypMap) -> Result<Term, Grow>
     ensures { IsGrown (inst_typ (typ_image map.now) t.now) result }
 {
-    let binds = map.binds();
-    let Some(_) = inst_typ_leaves(t, binds, MAX_SIZE, MAX_DEPTH) else {
+    let Some(_) = inst_typ_leaves(t, map, MAX_SIZE, MAX_DEPTH) else {
         return Err(Grow::Big);
     };
-    Ok(Box::into_inner(retyped(alloc, t, binds)?))
+    Ok(Box::into_inner(retyped(alloc, t, map)?))
 }
 
-fn inst_typ_leaves(t: &Term, binds: &[TypBind], left: u32, room: u32) -> Option<u32>
+fn inst_typ_leaves(t: &Term, binds: &TypMap, left: u32, room: u32) -> Option<u32>
     ensures { Leaves left room (term_size (inst_typ (typ_image binds.now) t.now)) (term_depth (inst_typ (typ_image binds.now) t.now)) result }
 {
     if left == 0 {
@@ -54,7 +52,7 @@ fn inst_typ_leaves(t: &Term, binds: &[TypBind], left: u32, room: u32) -> Option<
     }
 }
 
-fn retyped(alloc: Global, t: &Term, binds: &[TypBind]) -> Result<Box<Term>, AllocError>
+fn retyped(alloc: Global, t: &Term, binds: &TypMap) -> Result<Box<Term>, AllocError>
     ensures { IfOk result (λ u. u.value ≡ inst_typ (typ_image binds.now) t.now) }
 {
     match &t.node {
@@ -97,20 +95,19 @@ fn retyped(alloc: Global, t: &Term, binds: &[TypBind]) -> Result<Box<Term>, Allo
 pub fn inst_term(alloc: Global, t: &Term, map: &TermMap) -> Result<Term, Grow>
     ensures { IsGrown (inst_term (term_image map.now) t.now) result }
 {
-    let binds = map.binds();
-    let Some(_) = inst_term_leaves(t, binds, MAX_SIZE, MAX_DEPTH) else {
+    let Some(_) = inst_term_leaves(t, map, MAX_SIZE, MAX_DEPTH) else {
         return Err(Grow::Big);
     };
-    Ok(Box::into_inner(replaced(alloc, t, binds)?))
+    Ok(Box::into_inner(replaced(alloc, t, map)?))
 }
 
-fn inst_term_leaves(t: &Term, binds: &[TermBind], left: u32, room: u32) -> Option<u32>
+fn inst_term_leaves(t: &Term, binds: &TermMap, left: u32, room: u32) -> Option<u32>
     ensures { Leaves left room (term_size (inst_term (term_image binds.now) t.now)) (term_depth (inst_term (term_image binds.now) t.now)) result }
 {
     match &t.node {
         TermNode::Const { .. } => term_leaves(t, left, room),
         TermNode::Free { .. } => term_leaves(t, left, room),
-        TermNode::Var { name, index, typ } => match find_term(binds, *name, *index, typ) {
+        TermNode::Var { name, index, typ } => match binds.find(*name, *index, typ) {
             Some(image) => term_leaves(image, left, room),
             None => term_leaves(t, left, room),
         },
@@ -136,14 +133,14 @@ fn inst_term_leaves(t: &Term, binds: &[TermBind], left: u32, room: u32) -> Optio
     }
 }
 
-fn replaced(alloc: Global, t: &Term, binds: &[TermBind]) -> Result<Box<Term>, AllocError>
+fn replaced(alloc: Global, t: &Term, binds: &TermMap) -> Result<Box<Term>, AllocError>
     ensures { IfOk result (λ u. u.value ≡ inst_term (term_image binds.now) t.now) }
 {
     let node = match &t.node {
         TermNode::Const { .. } => return copied(alloc, t),
         TermNode::Free { .. } => return copied(alloc, t),
         TermNode::Var { name, index, typ } => {
-            return match find_term(binds, *name, *index, typ) {
+            return match binds.find(*name, *index, typ) {
                 Some(image) => copied(alloc, image),
                 None => copied(alloc, t),
             };

@@ -12,3 +12,4 @@ pub mod BoundLaws
 pub mod BindLaws
 pub mod TypingBoundLaws
 pub mod CertifiedLaws
+pub mod OccursLaws

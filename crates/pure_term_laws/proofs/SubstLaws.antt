@@ -9,6 +9,7 @@ use Rattle.pure_text.specs.Lists.{IsIn}
 use Rattle.pure_text.proofs.ListLaws.{each_of, in-map}
 use Rattle.pure_definitions.specs.Models.Equality.{typ_eq-same, typ_eq-itself, term_eq-same, term_eq-itself}
 use Rattle.pure_definitions.proofs.OrderLaws.{sort_below-itself}
+use Rattle.pure_definitions.proofs.EntryLemmas.{chosen, typ_image-entry, term_image-entry}
 
 pub identity-respects_sorts : (A : Algebra) → IsSortRespecting A (λ v. v)
 identity-respects_sorts A = record { fixed = λ x s. sort_below-itself A s; schematic = λ x i s. sort_below-itself A s }
@@ -42,11 +43,6 @@ term_instance-identity (App f a) = λ l. App (term_instance-identity f l) (term_
 pub identity-respects_types : IsTypeRespecting (λ v. v) (λ v. v)
 identity-respects_types = record { fixed = λ x T. sym (typ_instance-identity T); schematic = λ x i T. sym (typ_instance-identity T) }
 
--- what holds of the first where the test holds, and of the second, holds of the chosen one
-chosen : {A : Type 0} (P : A → Type 0) (b : Bool) (x y : A) → (b ≡ true → P x) → P y → P (cond b x y)
-chosen P true x y h k = h refl
-chosen P false x y h k = k
-
 entries_fixed : (A : Algebra) (binds : List TypBind) (x : ℕ) (s : List ℕ) → IsOfSort A (typ_image binds (TFree x s)) s
 entries_fixed A [] x s = sort_below-itself A s
 entries_fixed A (b ∷ bs) x s = entries_fixed A bs x s
@@ -57,16 +53,6 @@ entries_schematic A (b ∷ bs) h x i s =
     chosen (λ T. IsOfSort A T s) (typ_eq (TVar b.name b.index b.sort) (TVar x i s)) b.image (typ_image bs (TVar x i s))
     (λ e. let same = typ_eq-same (TVar b.name b.index b.sort) (TVar x i s) e in let sorts : b.sort ≡ s = cc in rw sorts at h.0)
     (entries_schematic A bs h.1 x i s)
-
--- An entry's variable is sent to its image.
-typ_image-entry : (binds : List TypBind) (b : TypBind) → IsTypMap binds → IsIn b binds → typ_image binds (typ_variable b) ≡ b.image
-typ_image-entry [] b h m = absurd m
-typ_image-entry (x ∷ xs) b h m = elim m [
-  | inl e ↦ rw e (rw (typ_eq-itself (typ_variable x)) refl)
-  | inr n ↦ chosen (λ T. T ≡ b.image) (typ_eq (typ_variable x) (typ_variable b)) x.image (typ_image xs (typ_variable b))
-      (λ t. absurd (h.0 (rw (typ_eq-same (typ_variable x) (typ_variable b) t) (in-map typ_variable b xs n))))
-      (typ_image-entry xs b h.1 n)
-]
 
 pub entries-respect_sorts : (A : Algebra) (binds : List TypBind) → AreSortRespecting A binds → IsSortRespecting A (typ_image binds)
 entries-respect_sorts A binds h = record { fixed = entries_fixed A binds; schematic = entries_schematic A binds h }
@@ -91,15 +77,6 @@ typed_schematic (b ∷ bs) h x i T =
     chosen (λ t. HasType [] t T) (term_eq (Var b.name b.index b.typ) (Var x i T)) b.image (term_image bs (Var x i T))
     (λ e. let same = term_eq-same (Var b.name b.index b.typ) (Var x i T) e in let types : b.typ ≡ T = cc in rw types at h.0)
     (typed_schematic bs h.1 x i T)
-
-term_image-entry : (binds : List TermBind) (b : TermBind) → IsTermMap binds → IsIn b binds → term_image binds (term_variable b) ≡ b.image
-term_image-entry [] b h m = absurd m
-term_image-entry (x ∷ xs) b h m = elim m [
-  | inl e ↦ rw e (rw (term_eq-itself (term_variable x)) refl)
-  | inr n ↦ chosen (λ t. t ≡ b.image) (term_eq (term_variable x) (term_variable b)) x.image (term_image xs (term_variable b))
-      (λ t. absurd (h.0 (rw (term_eq-same (term_variable x) (term_variable b) t) (in-map term_variable b xs n))))
-      (term_image-entry xs b h.1 n)
-]
 
 pub entries-respect_types : (binds : List TermBind) → AreTypeRespecting binds → IsTypeRespecting (λ v. v) (term_image binds)
 entries-respect_types binds h = record {

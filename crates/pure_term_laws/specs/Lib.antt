@@ -1,5 +1,6 @@
 pub mod LawsExamples
 pub mod LawsMaps
+pub mod LawsOccurs
 pub mod LawsTyping
 pub mod LawsSubst
 pub mod LawsOrder

@@ -5,6 +5,7 @@ ghost use Rattle.pure_term_laws.specs.LawsSubst.{IdentityIsSortRespecting, Ident
 ghost use Rattle.pure_term_laws.specs.LawsNormal.{NoStepExactlyWhereNormal, OneBetaSequence, OneBetaSequenceToNormal, EachTermHasBetaAnswer, OneBetaAnswer, BetaStepsExample, BetaAnswerExample, BetaNormalExample, EndlessExample, LargeExample, EtaExample, LongFormExample, TwoArrowsExample, OneLongForm, OneEtaNormalForm};
 ghost use Rattle.pure_term_laws.specs.LawsBounds.{LiftZero, LiftAgain, LiftLift, SizeOfLift, DepthOfLift, SubstLift, SubstBind, BindSubst, NotInBind, BindOfOther, LiftPastSubst, LiftAboveBind, LiftBelowBind, BindPastSubst, BindBelowSubst, TypingOfLift, TypingOfSubst, TypingOfBind, TypingOfInstance};
 ghost use Rattle.pure_term_laws.specs.LawsCertified.{PartsOfLift, PartsOfSubst, PartsOfBind};
+ghost use Rattle.pure_term_laws.specs.LawsOccurs.{TypInstancesAgree, AgreeingInstance, SchematicMapKeeps, InstanceIsClosed};
 ghost use Rattle.pure_term_laws.specs.LawsMaps.{SubstPastLift, SubstPastSubst, SizeOfSubst, DepthOfSubst, InstanceOfLift, InstanceOfSubst, InstanceOfBind, SendsAloneExample, InstancesAgree, InstanceSentElsewhere, OccursInInstance, InstanceOfInstance};
 
 /// The mutual list of types stands for a list.
@@ -238,6 +239,18 @@ pub fn instance_by_occurring_variables()
     ensures agree { InstancesAgree }
     ensures elsewhere { InstanceSentElsewhere }
     ensures occurs { OccursInInstance }
+{}
+
+/// Maps that agree on a term's variables and type variables give one instance; so maps of schematic ones alone leave a term without these as it is.
+pub fn instance_by_what_occurs()
+    ensures types { TypInstancesAgree }
+    ensures terms { AgreeingInstance }
+    ensures schematic { SchematicMapKeeps }
+{}
+
+/// Maps leave closed terms closed.
+pub fn instance_is_closed()
+    ensures { InstanceIsClosed }
 {}
 
 /// What was abstracted over doesn't occur any more, and abstraction over what doesn't occur is a lifting.

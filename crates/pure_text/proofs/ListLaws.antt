@@ -114,6 +114,30 @@ pub each_decided : {A : Type 0} (P : A → Type 0) → ((x : A) → P x ⊎ ¬ P
 each_decided P d [] = inl tt
 each_decided P d (x ∷ xs) = elim (d x) [ inl p ↦ elim (each_decided P d xs) [ inl t ↦ inl (p, t) | inr m ↦ inr (λ h. m h.1) ] | inr n ↦ inr (λ h. n h.0) ]
 
+-- A list whose elements are all among none is empty.
+pub none_in : {A : Type 0} (xs : List A) → Each (λ x. IsIn x []) xs → xs ≡ []
+none_in [] h = refl
+none_in (x ∷ xs) h = absurd h.0
+
+pub each-left : {A : Type 0} (P : A → Type 0) (xs ys : List A) → Each P (xs ++ ys) → Each P xs
+each-left P [] ys h = tt
+each-left P (x ∷ xs) ys h = (h.0, each-left P xs ys h.1)
+
+pub each-right : {A : Type 0} (P : A → Type 0) (xs ys : List A) → Each P (xs ++ ys) → Each P ys
+each-right P [] ys h = h
+each-right P (x ∷ xs) ys h = each-right P xs ys h.1
+
+-- A premise may stand in front of the others or behind them.
+pub moved : {A : Type 0} (x : A) (xs ys : List A) (y : A) → IsIn y (xs ++ x ∷ ys) → IsIn y (x ∷ (xs ++ ys))
+moved x xs ys y m = elim (in_split y xs (x ∷ ys) m) [
+  | inl n ↦ inr (in-append_left y xs ys n)
+  | inr n ↦ elim n [ inl same ↦ inl same | inr o ↦ inr (in-append_right y xs ys o) ]
+]
+
+pub moved_back : {A : Type 0} (x : A) (xs ys : List A) (y : A) → IsIn y (x ∷ (xs ++ ys)) → IsIn y (xs ++ x ∷ ys)
+moved_back x xs ys y (inl same) = in-append_right y xs (x ∷ ys) (inl same)
+moved_back x xs ys y (inr m) = elim (in_split y xs ys m) [ inl n ↦ in-append_left y xs (x ∷ ys) n | inr n ↦ in-append_right y xs (x ∷ ys) (inr n) ]
+
 -- whether a number is in a list
 abbrev pub is_in : ℕ → List ℕ → Bool
 is_in n [] = false

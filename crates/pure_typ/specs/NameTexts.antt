@@ -1,5 +1,5 @@
 -- The texts of names: those that Pure itself declares have the first six, the session's the next, and greater names have none.
-use Rattle.std.specs.Prelude.{◌≡◌, ◌≢◌, ℕ, ◌<◌, ◌≤◌, List, [], ◌∷◌, ◌++◌, length, codes, Option, Some, None, slice_get, slice_index_or}
+use Rattle.std.specs.Prelude.{◌≡◌, ◌≢◌, ℕ, ◌<◌, List, [], ◌∷◌, ◌++◌, length, codes, Option, Some, None, slice_get, slice_index_or}
 use Rattle.std.specs.declared.cmp.Ordering.TheVariants.{Less}
 use Rattle.std.specs.Ordering.{nat_cmp}
 use Rattle.std.specs.Cmp.Lexicographic.{slice_cmp}
@@ -39,8 +39,3 @@ HasBase base text = (theory : List ℕ) × (¬ IsIn 46 theory) × (text ≡ theo
 -- Name n has a text with this base.
 abbrev pub NameHasBase : (texts : List (List ℕ)) → (base : List ℕ) → (n : ℕ) → Type 0
 NameHasBase texts base n = (text : List ℕ) × HasText texts n text × HasBase base text
-
--- The answer to the question which name at or above `from` is the least whose text has the base: that name, or none where no such name has it.
-abbrev pub IsNextWithBase : (texts : List (List ℕ)) → (base : List ℕ) → (from : ℕ) → Option ℕ → Type 0
-IsNextWithBase texts base from (Some n) = (from ≤ n) × NameHasBase texts base n × ((m : ℕ) → from ≤ m → m < n → ¬ NameHasBase texts base m)
-IsNextWithBase texts base from None = (n : ℕ) → from ≤ n → ¬ NameHasBase texts base n

@@ -6,7 +6,7 @@ ghost use Rattle.pure_definitions.specs.Terms.Limits.{Leaves};
 ghost use Rattle.pure_typ.specs.TypGrown.{IsTypGrown};
 
 use crate::grow::Grow;
-use crate::maps::{TypBind, TypMap, find_typ};
+use crate::maps::TypMap;
 use crate::measure::{MAX_DEPTH, MAX_SIZE, typ_leaves};
 use crate::typ::{Typ, TypNode};
 use std::alloc::{AllocError, Global};
@@ -15,20 +15,19 @@ use std::alloc::{AllocError, Global};
 pub fn instance_of_typ(alloc: Global, t: &Typ, map: &TypMap) -> Result<Typ, Grow>
     ensures { IsTypGrown (typ_instance (typ_image map.now) t.now) result }
 {
-    let binds = map.binds();
-    let Some(_) = instance_leaves(t, binds, MAX_SIZE, MAX_DEPTH) else {
+    let Some(_) = instance_leaves(t, map, MAX_SIZE, MAX_DEPTH) else {
         return Err(Grow::Big);
     };
-    Ok(instance_of(alloc, t, binds)?)
+    Ok(instance_of(alloc, t, map)?)
 }
 
 /// What is left of room when the instance of the type is put in.
-pub fn instance_leaves(t: &Typ, binds: &[TypBind], left: u32, room: u32) -> Option<u32>
+pub fn instance_leaves(t: &Typ, binds: &TypMap, left: u32, room: u32) -> Option<u32>
     ensures { Leaves left room (typ_size (typ_instance (typ_image binds.now) t.now)) (typ_depth (typ_instance (typ_image binds.now) t.now)) result }
 {
     match &t.node {
         TypNode::TFree { .. } => typ_leaves(t, left, room),
-        TypNode::TVar { name, index, sort } => match find_typ(binds, *name, *index, sort) {
+        TypNode::TVar { name, index, sort } => match binds.find(*name, *index, sort) {
             Some(image) => typ_leaves(image, left, room),
             None => typ_leaves(t, left, room),
         },
@@ -52,12 +51,12 @@ pub fn instance_leaves(t: &Typ, binds: &[TypBind], left: u32, room: u32) -> Opti
 }
 
 /// The instance of the type.
-pub fn instance_of(alloc: Global, t: &Typ, binds: &[TypBind]) -> Result<Typ, AllocError>
+pub fn instance_of(alloc: Global, t: &Typ, binds: &TypMap) -> Result<Typ, AllocError>
     ensures { IfOk result (λ u. u ≡ typ_instance (typ_image binds.now) t.now) }
 {
     match &t.node {
         TypNode::TFree { .. } => t.copy(alloc),
-        TypNode::TVar { name, index, sort } => match find_typ(binds, *name, *index, sort) {
+        TypNode::TVar { name, index, sort } => match binds.find(*name, *index, sort) {
             Some(image) => image.copy(alloc),
             None => t.copy(alloc),
         },

@@ -1,6 +1,7 @@
 //! Names, sorts and types: what the crates of terms and of classes stand on. Texts are handed on.
 #![tactic(auto)]
 
+mod by_base;
 mod grow;
 mod instance;
 mod maps;
@@ -8,9 +9,11 @@ mod measure;
 mod name;
 mod names;
 mod occurs;
+mod room;
 mod sort;
 mod typ;
 
+pub use by_base::NamesByBase;
 pub use grow::Grow;
 pub use instance::{instance_leaves, instance_of, instance_of_typ};
 pub use maps::{TypBind, TypMap};
@@ -21,5 +24,6 @@ pub use name::{BUILTIN_COUNT, Label, Name};
 pub use names::Names;
 pub use occurs::occurs_in_typ;
 pub use pure_text::Text;
+pub use room::insert_in_room;
 pub use sort::Sort;
 pub use typ::{Typ, TypNode};

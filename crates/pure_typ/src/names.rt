@@ -1,12 +1,14 @@
 //! The texts of names.
-ghost use Rattle.std.specs.Prelude.{◌≡◌, ◌<◌, ℕ, ◌∷◌, ◌++◌, ◌↔◌, IsTrue, length, MatchOption, slice_get, Some, None};
+ghost use Rattle.std.specs.Prelude.{◌≡◌, ◌<◌, ◌∷◌, ◌++◌, length, MatchOption, IfOk, option_map, slice_get, Some, None};
 ghost use Rattle.std.specs.Ordering.{nat_cmp};
 ghost use Rattle.std.specs.Cmp.Lexicographic.{slice_cmp};
 ghost use Rattle.pure_definitions.specs.Names.{builtin_count};
-ghost use Rattle.pure_typ.specs.NameTexts.{builtin_texts, name_texts, HasText, DoAscend, AreSessionTexts, IsFound, HasBase, NameHasBase, IsNextWithBase};
+ghost use Rattle.pure_typ.specs.NameTexts.{builtin_texts, name_texts, HasText, DoAscend, AreSessionTexts, IsFound};
+ghost use Rattle.pure_typ.specs.NameBases.{base_of, name_base};
 
 use crate::name::{BUILTIN_COUNT, Name};
 use pure_text::Text;
+use std::alloc::{AllocError, Global};
 use std::cmp::Ordering;
 use std::marker::Model;
 
@@ -71,26 +73,25 @@ impl Names {
         self.texts.len() as u32 + BUILTIN_COUNT
     }
 
-    /// The least name at or above `from` whose text is `theory.base`, where `theory` has no dot. It takes no memory.
-    pub fn next_with_base(&self, base: &[u8], from: Name) -> Option<Name>
-        ensures { IsNextWithBase self.now base.now from result }
-    {
-        for number in from.0..self.first_fresh() {
-            if self.has_base_at(base, Name(number)) {
-                return Some(Name(number));
-            }
-        }
-        None
-    }
-
-    /// Whether the name has a text with this base.
-    fn has_base_at(&self, base: &[u8], name: Name) -> bool
-        ensures { IsTrue result ↔ NameHasBase self.now base.now name }
+    /// The base of the name's text: what stands behind its first dot.
+    pub fn base(&self, name: Name) -> Option<&[u8]>
+        ensures { option_map (λ base. base.now) result ≡ name_base self.now name }
     {
         match self.text(name) {
-            Some(text) => has_base(text, base),
-            None => false,
+            Some(text) => base_in(text),
+            None => None,
         }
+    }
+
+    /// Equal names.
+    pub fn copy(&self, alloc: Global) -> Result<Names, AllocError>
+        ensures { IfOk result (λ names. names ≡ self.now) }
+    {
+        let mut texts = Vec::new(alloc);
+        for text in self.texts.as_slice() {
+            texts.push(text.copy(alloc)?)?;
+        }
+        Ok(Names::make(texts))
     }
 
     /// The name with the three texts, one after another.
@@ -124,17 +125,16 @@ fn builtin(number: u32) -> &'static [u8]
     }
 }
 
-/// Whether the text has this base: what stands behind its first dot.
-fn has_base(text: &[u8], base: &[u8]) -> bool
-    ensures { IsTrue result ↔ HasBase base.now text.now }
+/// What stands behind the text's first dot.
+fn base_in(text: &[u8]) -> Option<&[u8]>
+    ensures { option_map (λ base. base.now) result ≡ base_of text.now }
 {
     for (at, byte) in text.iter().enumerate() {
         if *byte == b'.' {
-            let rest = &text[at + 1..];
-            return rest == base;
+            return Some(&text[at + 1..]);
         }
     }
-    false
+    None
 }
 
 /// The number of the name of Pure with the three texts, one after another.

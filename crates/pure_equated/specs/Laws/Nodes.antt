@@ -22,7 +22,7 @@ EquatedInstances = (Q : Content) → IsContent Q → (typs : Typ → Typ) (terms
     → IsTypedUnder Q.declarations bs t T → ((v : Term) → IsVariable v → Occurs v t → AreEqualModulo Q.declarations pairs [] (terms v) (others v))
     → AreEquated Q.declarations pairs (map (typ_instance typs) bs) (typ_instance typs T) (term_instance typs terms t) (term_instance typs others t)
 
--- Functions are equated exactly where they are at a bound variable in front; and abstractions exactly where their bodies are.
+-- Functions are equated exactly where they are equated when applied to a bound variable of a further binder; and abstractions exactly where their bodies are.
 abbrev pub EquatedFunctions : Type 0
 EquatedFunctions = (ds : List Decl) (pairs : List Pair) (bs : List Typ) (V U : Typ) (f g : Term) → IsCertifiedTyp ds V → IsTypedUnder ds bs f (arrow V U) → IsTypedUnder ds bs g (arrow V U)
     → AreEquated ds pairs bs (arrow V U) f g ↔ AreEquated ds pairs (V ∷ bs) U (App (lift_term 1 0 f) (Bound 0)) (App (lift_term 1 0 g) (Bound 0))

@@ -13,31 +13,31 @@ use Rattle.pure_logic.specs.PureContent.{pure_content}
 use Rattle.pure_logic.specs.Derivable.{Pair}
 use Rattle.pure_equated.specs.Equated.{IsTypedUnder, AreEquated}
 
--- What holds of typed terms with certified parts, modulo whatever pairs, where the relation holds between them: they are equated.
-abbrev pub WithinEquated : (Term → Term → Type 0) → Type 0
-WithinEquated R = (ds : List Decl) (pairs : List Pair) (bs : List Typ) (T : Typ) (t u : Term) → IsTypedUnder ds bs t T → R t u → AreEquated ds pairs bs T t u
+-- Modulo any pairs, a typed term with certified parts is equated with each term to which it is related.
+abbrev pub RelatedAreEquated : (Term → Term → Type 0) → Type 0
+RelatedAreEquated R = (ds : List Decl) (pairs : List Pair) (bs : List Typ) (T : Typ) (t u : Term) → IsTypedUnder ds bs t T → R t u → AreEquated ds pairs bs T t u
 
 -- A beta step in normal order; a sequence of them; and the beta normal form.
 abbrev pub BetaStepIsEquated : Type 0
-BetaStepIsEquated = WithinEquated (λ t u. beta_step t ≡ Some u)
+BetaStepIsEquated = RelatedAreEquated (λ t u. beta_step t ≡ Some u)
 
 abbrev pub BetaSequenceIsEquated : Type 0
-BetaSequenceIsEquated = (us : List Term) → WithinEquated (λ t u. IsBetaSequence t us u)
+BetaSequenceIsEquated = (us : List Term) → RelatedAreEquated (λ t u. IsBetaSequence t us u)
 
 abbrev pub BetaNormalFormIsEquated : Type 0
-BetaNormalFormIsEquated = WithinEquated (λ t u. IsBetaAnswer t (NormalForm u))
+BetaNormalFormIsEquated = RelatedAreEquated (λ t u. IsBetaAnswer t (NormalForm u))
 
 -- An eta step, wherever it is taken; any number of them; and the eta-normal form.
 abbrev pub EtaStepIsEquated : Type 0
-EtaStepIsEquated = WithinEquated EtaStep
+EtaStepIsEquated = RelatedAreEquated EtaStep
 
 abbrev pub EtaReductIsEquated : Type 0
-EtaReductIsEquated = WithinEquated EtaReduces
+EtaReductIsEquated = RelatedAreEquated EtaReduces
 
 abbrev pub EtaNormalFormIsEquated : Type 0
-EtaNormalFormIsEquated = WithinEquated IsEtaNormalForm
+EtaNormalFormIsEquated = RelatedAreEquated IsEtaNormalForm
 
--- Over a content above Pure's, read backwards: a term of the type that reduces by eta steps to one with certified parts is equated with it, since the types of the binders that it has more are parts of types of functions.
+-- Over a content above Pure's, read backwards: a term of the type that reduces by eta steps to one with certified parts is equated with it, since the types of its further binders are parts of the types of functions in the reduct.
 abbrev pub EtaExpansionIsEquated : Type 0
 EtaExpansionIsEquated = (Q : Content) → IsBelow pure_content Q → (pairs : List Pair) (bs : List Typ) (T : Typ) (t u : Term) → Each (IsCertifiedTyp Q.declarations) bs
     → HasCertifiedParts Q.declarations t → HasType bs u T → EtaReduces u t → AreEquated Q.declarations pairs bs T t u

@@ -1,4 +1,4 @@
--- Laws of goals at their beginning and their end, of subgoals converted and in another order, and of pairs that are not needed.
+-- Laws of goals at their beginning and their end, of subgoals exchanged and in another order, and of pairs that are not needed.
 use Rattle.std.specs.Prelude.{◌≡◌, ◌↔◌, ◌⊎◌, List, [], ◌∷◌, ◌++◌, map}
 use Rattle.pure_text.specs.Lists.{IsIn, Each}
 use Rattle.pure_definitions.specs.Types.Typ.{Typ, prop}

@@ -47,3 +47,11 @@ TrivialIsDerivable = (Q : Content) (A : Term) → IsProposition Q A → IsDeriva
 
 abbrev pub WeakenedIsDerivable : Type 0
 WeakenedIsDerivable = (Q : Content) (A B : Term) → IsProposition Q A → IsProposition Q B → IsDerivableAlone Q (imp A (imp B A))
+
+-- The content is consistent: the schematic variable `?P` of type prop isn't derivable alone. That Pure's own content is consistent is a gap: no law says so yet.
+abbrev pub IsConsistent : Content → Type 0
+IsConsistent Q = ¬ IsDerivableAlone Q (proposition_variable 0)
+
+-- A content above Pure's is consistent exactly where some proposition isn't derivable alone.
+abbrev pub ConsistentExactly : Type 0
+ConsistentExactly = (Q : Content) → IsContent Q → IsBelow pure_content Q → IsConsistent Q ↔ ((A : Term) × IsProposition Q A × ¬ IsDerivableAlone Q A)

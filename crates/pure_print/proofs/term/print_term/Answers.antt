@@ -1,6 +1,6 @@
 use Rattle.std.proofs.Common.{◌≡◌}
 use Rattle.pure_print.specs.TermText.{term_text}
-use Rattle.pure_print.proofs.Joins.{written-alone}
+use Rattle.pure_print.proofs.WrittenAlone.{written-alone}
 use Rattle.pure_print.proofs.TermReadBack.{term-read_back}
 use Rattle.pure_print.proofs.term.print_term.Goals as goal
 

@@ -1,6 +1,6 @@
 use Rattle.std.proofs.Common.{◌≡◌}
 use Rattle.pure_print.specs.TypText.{typ_text}
-use Rattle.pure_print.proofs.Joins.{written-alone}
+use Rattle.pure_print.proofs.WrittenAlone.{written-alone}
 use Rattle.pure_print.proofs.TypReadBack.{typ-read_back}
 use Rattle.pure_print.proofs.typ.print_typ.Goals as goal
 

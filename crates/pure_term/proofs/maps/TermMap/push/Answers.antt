@@ -1,10 +1,13 @@
-use Rattle.std.proofs.Common.{map, sym, subst}
+use Rattle.std.proofs.Common.{◌∙◌, [], ◌∷◌, ◌++◌, ap, sym, subst, map}
 use Rattle.pure_text.specs.Lists.{IsIn}
-use Rattle.pure_text.proofs.ListLaws.{distinct-map_snoc}
-use Rattle.pure_definitions.specs.Terms.Subst.{IsTermMap, term_variable}
+use Rattle.pure_definitions.specs.Terms.Subst.{term_variable}
+use Rattle.pure_term.proofs.TermPlacesLemmas.{term-seen, term-pushed}
 use Rattle.pure_term.proofs.maps.TermMap.push.Goals as goal
 
 pub invariant_of-self-2 : goal.invariant_of-self-2
 invariant_of-self-2 c =
-    subst IsTermMap (sym c.in_ok-push.ensures.items)
-    (distinct-map_snoc term_variable c.self.inside.binds.items c.args.bind c.self.invariant (subst (λ bs. ¬ IsIn (term_variable c.args.bind) (map term_variable bs)) (sym c.self.view_is) c.requires))
+    let seen = term-seen c.self.inside.binds.items c.as_slice-binds.result.now c.self.inside.places.items c.as_slice-places.result.now c.self.invariant c.as_slice-binds.ensures.value c.as_slice-places.ensures.value in
+    term-pushed c.as_slice-binds.result.now c.push.new.self.items c.as_slice-places.result.now c.reserve.new.self.items c.insert_in_room.new.places.items _ c.place_of-at.result c.args.bind
+    seen (ap term_variable c.bind.view_is) c.place_of-at.ensures
+    (subst (λ bs. ¬ IsIn (term_variable c.args.bind) (map term_variable bs)) (sym (c.as_slice-binds.ensures.value ∙ c.self.view_is)) c.requires)
+    (c.in_ok-push.ensures.items ∙ ap (λ bs. bs ++ c.args.bind ∷ []) (sym c.as_slice-binds.ensures.value)) (c.reserve.ensures.items ∙ sym c.as_slice-places.ensures.value) c.insert_in_room.ensures

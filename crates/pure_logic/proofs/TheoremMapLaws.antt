@@ -1,0 +1,171 @@
+-- Maps on theorems: fixed variables made schematic, indexes raised, and the finite maps of a call.
+use Rattle.std.proofs.Common.{◌≡◌, ℕ, Bool, true, false, cond, List, [], ◌∷◌, map, refl, ap, ◌∙◌}
+use Rattle.pure_text.specs.Lists.{IsIn, Each}
+use Rattle.pure_text.proofs.ListLaws.{each_imply}
+use Rattle.pure_definitions.specs.Names.{Label}
+use Rattle.pure_definitions.specs.Types.Typ.{Typ, TFree, TVar, Con, Typs, none, also, prop}
+use Rattle.pure_definitions.specs.Types.Order.{IsOfSort}
+use Rattle.pure_definitions.specs.Types.Occurs.{OccursInTyp}
+use Rattle.pure_definitions.specs.Terms.Term.{Term, Const, Free, Var, Bound, Abs, App}
+use Rattle.pure_definitions.specs.Terms.Bounds.{Occurs}
+use Rattle.pure_definitions.specs.Terms.Conditions.{IsVariable}
+use Rattle.pure_definitions.specs.Terms.Typing.{HasType}
+use Rattle.pure_definitions.specs.Terms.Subst.{TypBind, TermBind, typ_image, typ_instance, typs_instance, term_instance, AreSortRespecting}
+use Rattle.pure_definitions.specs.Declarations.Decl.{algebra_of}
+use Rattle.pure_definitions.specs.Declarations.Certified.{IsCertifiedTyp, HasCertifiedParts}
+use Rattle.pure_definitions.proofs.OrderLaws.{sort_below-itself}
+use Rattle.pure_term_laws.specs.LawsOccurs.{IsTypVariable, TypOccurs}
+use Rattle.pure_term_laws.proofs.OccursLaws.{typ_instances-agree, agreeing_instance, typ_occurs-variable}
+use Rattle.pure_term_laws.proofs.SubstLaws.{typ_instance-identity, term_instance-identity}
+use Rattle.pure_logic.specs.Content.{Content, IsContent, IsCertifiedOf, IsProposition, IsSchematicTyp, AreSchematicTyps, IsSchematic, IsStatement}
+use Rattle.pure_logic.specs.Tree.{joined_terms, hyps_of, rests_of}
+use Rattle.pure_logic.specs.Concludes.{AreRespecting}
+use Rattle.pure_logic.specs.Derivable.{Theorem, IsDerivable}
+use Rattle.pure_logic.specs.Laws.Substitution.{pair_instance, theorem_instance}
+use Rattle.pure_logic.specs.Laws.Inferences.{IsAmong}
+use Rattle.pure_logic.specs.Laws.Maps.{Generalisation, schematic_typs, schematic_terms, generalised, HasNoneOf, everything, raised_typs, raised_terms, instantiated, instantiated_theorem}
+use Rattle.pure_logic.proofs.MapLaws.{cond-has, joined_respect, joined_instance}
+use Rattle.pure_logic.proofs.WeakeningLaws.{typ_instance-certified}
+use Rattle.pure_logic.proofs.SubstitutionLaws.{instance_is_derivable, certified_of-instance}
+
+pub weaker_is_derivable : (Q : Content) (th : Theorem) (hyps : List Term) (rests : List Label) → IsAmong th hyps rests → IsDerivable Q th → IsDerivable Q (record th { hyps = hyps; rests = rests })
+weaker_is_derivable Q th hyps rests among h = record {
+  tree = h.tree;
+  conclusion = h.conclusion;
+  concludes = h.concludes;
+  under_pairs = h.under_pairs;
+  hyps = each_imply (λ A. IsIn A th.hyps) (λ A. IsIn A hyps) (hyps_of h.tree) among.hyps h.hyps;
+  rests = each_imply (λ l. IsIn l th.rests) (λ l. IsIn l rests) (rests_of h.tree) among.rests h.rests;
+}
+
+all_kept : (f : Term → Term) (ts : List Term) → Each (λ t. f t ≡ t) ts → map f ts ≡ ts
+all_kept f [] h = refl
+all_kept f (t ∷ ts) h = λ l. h.0 l ∷ all_kept f ts h.1 l
+
+pub instance_from_same_hypotheses : (Q : Content) → IsContent Q → (typs : Typ → Typ) (terms : Term → Term) → AreRespecting Q typs terms → (th : Theorem) → Each (λ A. term_instance typs terms A ≡ A) th.hyps
+    → IsDerivable Q th → IsDerivable Q (record th { pairs = map (pair_instance typs terms) th.pairs; prop = term_instance typs terms th.prop })
+instance_from_same_hypotheses Q q typs terms r th kept h =
+    let made = instance_is_derivable Q q typs terms r th h in
+    record {
+      tree = made.tree;
+      conclusion = made.conclusion;
+      concludes = made.concludes;
+      under_pairs = made.under_pairs;
+      hyps = rw (all_kept (term_instance typs terms) th.hyps kept) at made.hyps;
+      rests = made.rests;
+    }
+
+-- Either answer of a test has the property that both answers have.
+either_way : {A : Type 0} (P : A → Type 0) (b : Bool) (x y : A) → P x → P y → P (cond b x y)
+either_way P b x y h k = cond-has P b x y (λ e. h) k
+
+module _ (Q : Content) (g : Generalisation) where
+  generalised_typ-certified : (T : Typ) → IsCertifiedTyp Q.declarations T → IsCertifiedTyp Q.declarations (typ_instance (schematic_typs g) T)
+  generalised_typ-certified = typ_instance-certified Q.declarations (schematic_typs g)
+      (λ x s c. either_way (IsCertifiedTyp Q.declarations) (g.typs x) (TVar x g.index s) (TFree x s) c c) (λ x i s c. c)
+
+  generalisation_respects : AreRespecting Q (schematic_typs g) (schematic_terms g)
+  generalisation_respects = record {
+    sorts = record {
+      fixed = λ x s. either_way (λ T. IsOfSort (algebra_of Q.declarations) T s) (g.typs x) (TVar x g.index s) (TFree x s) (sort_below-itself (algebra_of Q.declarations) s) (sort_below-itself (algebra_of Q.declarations) s);
+      schematic = λ x i s. sort_below-itself (algebra_of Q.declarations) s;
+    };
+    types = record {
+      fixed = λ x T. (let U = typ_instance (schematic_typs g) T in either_way (λ t. HasType [] t U) (g.terms x) (Var x g.index U) (Free x U) refl refl);
+      schematic = λ x i T. refl;
+    };
+    certified = record {
+      fixed_typ = λ x s c. either_way (IsCertifiedTyp Q.declarations) (g.typs x) (TVar x g.index s) (TFree x s) c c;
+      schematic_typ = λ x i s c. c;
+      fixed = λ x T c. (let U = typ_instance (schematic_typs g) T in
+          either_way (HasCertifiedParts Q.declarations) (g.terms x) (Var x g.index U) (Free x U) (generalised_typ-certified T c) (generalised_typ-certified T c));
+      schematic = λ x i T c. generalised_typ-certified T c;
+    };
+  }
+
+second : {A : Type 0} (b : Bool) (x y : A) → (b ≡ true → ⊥) → cond b x y ≡ y
+second true x y h = absurd (h refl)
+second false x y h = refl
+
+-- A term with none of what is made schematic stays as it is.
+module _ (g : Generalisation) (t : Term) (h : HasNoneOf g t) where
+  typ-kept : (v : Typ) → IsTypVariable v → TypOccurs v t → schematic_typs g v ≡ v
+  typ-kept (TFree x s) is o = second (g.typs x) (TVar x g.index s) (TFree x s) (λ e. h.typs x s e o)
+  typ-kept (TVar x i s) is o = refl
+  typ-kept (Con k ts) is o = absurd is
+
+  variable_typ-kept : (T : Typ) → ((v : Typ) → OccursInTyp v T → TypOccurs v t) → typ_instance (schematic_typs g) T ≡ T
+  variable_typ-kept T inside = typ_instances-agree (schematic_typs g) (λ v. v) T (λ v is o. typ-kept v is (inside v o)) ∙ typ_instance-identity T
+
+  term-kept : (u : Term) → IsVariable u → Occurs u t → schematic_terms g u ≡ u
+  term-kept (Free x T) is o =
+      second (g.terms x) (Var x g.index (typ_instance (schematic_typs g) T)) (Free x (typ_instance (schematic_typs g) T)) (λ e. h.terms x T e o)
+      ∙ ap (Free x) (variable_typ-kept T (λ v m. typ_occurs-variable v (Free x T) t is o m))
+  term-kept (Var x i T) is o = ap (Var x i) (variable_typ-kept T (λ v m. typ_occurs-variable v (Var x i T) t is o m))
+  term-kept (Const c T) is o = absurd is
+  term-kept (Bound n) is o = absurd is
+  term-kept (Abs T b) is o = absurd is
+  term-kept (App f a) is o = absurd is
+
+  generalised-kept : generalised g t ≡ t
+  generalised-kept = agreeing_instance (schematic_typs g) (λ v. v) (schematic_terms g) (λ v. v) t (record { on_typs = typ-kept; on_terms = term-kept }) ∙ term_instance-identity t
+
+pub generalised_is_derivable : (Q : Content) → IsContent Q → (g : Generalisation) (th : Theorem) → Each (HasNoneOf g) th.hyps → IsDerivable Q th
+    → IsDerivable Q (record th { pairs = map (pair_instance (schematic_typs g) (schematic_terms g)) th.pairs; prop = generalised g th.prop })
+generalised_is_derivable Q q g th spared h =
+    instance_from_same_hypotheses Q q (schematic_typs g) (schematic_terms g) (generalisation_respects Q g) th (each_imply (HasNoneOf g) (λ A. generalised g A ≡ A) th.hyps (generalised-kept g) spared) h
+
+mutual
+  generalised_typ-schematic : (index : ℕ) (T : Typ) → IsSchematicTyp (typ_instance (schematic_typs (everything index)) T)
+  generalised_typ-schematic index (TFree x s) = tt
+  generalised_typ-schematic index (TVar x i s) = tt
+  generalised_typ-schematic index (Con k ts) = generalised_typs-schematic index ts
+
+  generalised_typs-schematic : (index : ℕ) (ts : Typs) → AreSchematicTyps (typs_instance (schematic_typs (everything index)) ts)
+  generalised_typs-schematic index none = tt
+  generalised_typs-schematic index (also t ts) = (generalised_typ-schematic index t, generalised_typs-schematic index ts)
+
+generalised-schematic : (index : ℕ) (t : Term) → IsSchematic (generalised (everything index) t)
+generalised-schematic index (Const c T) = generalised_typ-schematic index T
+generalised-schematic index (Free x T) = generalised_typ-schematic index T
+generalised-schematic index (Var x i T) = generalised_typ-schematic index T
+generalised-schematic index (Bound n) = tt
+generalised-schematic index (Abs T b) = (generalised_typ-schematic index T, generalised-schematic index b)
+generalised-schematic index (App f a) = (generalised-schematic index f, generalised-schematic index a)
+
+pub generalised_is_statement : (Q : Content) → IsContent Q → (index : ℕ) (A : Term) → IsProposition Q A → IsStatement Q (generalised (everything index) A)
+generalised_is_statement Q q index A h =
+    let g = everything index in
+    record { proposition = certified_of-instance Q q (schematic_typs g) (schematic_terms g) (generalisation_respects Q g) A prop h; schematic = generalised-schematic index A }
+
+raised_typ-certified : (Q : Content) (by : ℕ) (T : Typ) → IsCertifiedTyp Q.declarations T → IsCertifiedTyp Q.declarations (typ_instance (raised_typs by) T)
+raised_typ-certified Q by = typ_instance-certified Q.declarations (raised_typs by) (λ x s c. c) (λ x i s c. c)
+
+raising_respects : (Q : Content) (by : ℕ) → AreRespecting Q (raised_typs by) (raised_terms by)
+raising_respects Q by = record {
+  sorts = record { fixed = λ x s. sort_below-itself (algebra_of Q.declarations) s; schematic = λ x i s. sort_below-itself (algebra_of Q.declarations) s };
+  types = record { fixed = λ x T. refl; schematic = λ x i T. refl };
+  certified = record {
+    fixed_typ = λ x s c. c;
+    schematic_typ = λ x i s c. c;
+    fixed = λ x T c. raised_typ-certified Q by T c;
+    schematic = λ x i T c. raised_typ-certified Q by T c;
+  };
+}
+
+pub raised_is_derivable : (Q : Content) → IsContent Q → (by : ℕ) (th : Theorem) → IsDerivable Q th → IsDerivable Q (theorem_instance (raised_typs by) (raised_terms by) th)
+raised_is_derivable Q q by th h = instance_is_derivable Q q (raised_typs by) (raised_terms by) (raising_respects Q by) th h
+
+-- the theorem with a function on its terms in its hypotheses, its pairs and its proposition
+abbrev changed : (Term → Term) → Theorem → Theorem
+changed f th = record { hyps = map f th.hyps; pairs = map (λ p. record { left = f p.left; right = f p.right }) th.pairs; prop = f th.prop; rests = th.rests }
+
+joined-same : (typs : List TypBind) (terms : List TermBind) → term_instance (typ_image typs) (joined_terms typs terms) ≡ instantiated typs terms
+joined-same typs terms = λ l t. joined_instance typs terms t l
+
+pub instantiated_is_derivable : (Q : Content) → IsContent Q → (typs : List TypBind) (terms : List TermBind) → AreSortRespecting (algebra_of Q.declarations) typs → Each (λ b. IsCertifiedTyp Q.declarations b.image) typs
+    → Each (λ b. IsCertifiedOf Q b.image b.typ) terms → (th : Theorem) → IsDerivable Q th → IsDerivable Q (instantiated_theorem typs terms th)
+instantiated_is_derivable Q q typs terms sorts certified images th h =
+    let made = instance_is_derivable Q q (typ_image typs) (joined_terms typs terms) (joined_respect Q typs terms sorts certified images) th h in
+    let same : changed (term_instance (typ_image typs) (joined_terms typs terms)) th ≡ instantiated_theorem typs terms th = ap (λ f. changed f th) (joined-same typs terms) in
+    rw same at made
