@@ -3,25 +3,25 @@ use Rattle.std.proofs.Common.{[], ◌∷◌, inl, inr, refl}
 use Rattle.pure_definitions.specs.Types.Typ.{prop}
 use Rattle.pure_definitions.specs.Terms.Term.{Bound}
 use Rattle.pure_term_laws.specs.LawsMaps.{sent}
-use Rattle.pure_logic.specs.Connectives.{imp, protect, chain}
+use Rattle.pure_logic.specs.Connectives.{imp, eq, protect, chain}
 use Rattle.pure_logic.specs.Content.{IsProposition}
 use Rattle.pure_logic.specs.PureContent.{pure_content}
 use Rattle.pure_logic.specs.Derivable.{Theorem, IsDerivable}
 use Rattle.pure_logic.specs.Concludes.{AreRespecting}
-use Rattle.pure_logic.specs.Proves.{Proves}
 use Rattle.pure_logic.proofs.ChainLaws.{chain_is_derivable}
 use Rattle.pure_logic.proofs.ConnectiveLaws.{certified_of, pure-below_itself}
 use Rattle.pure_logic.proofs.ContentLaws.{pure_is_content}
 use Rattle.pure_logic.proofs.EqualityLaws.{beta_equality}
 use Rattle.pure_logic.proofs.MapLaws.{identity_respects, sent-respects}
 use Rattle.pure_logic.proofs.ProvesLaws.{derivable_is_proves}
-use Rattle.pure_goal_laws.specs.Prefix.{Item, Hypothesis}
+use Rattle.pure_equated.specs.Equated.{beta}
+use Rattle.pure_goal_laws.specs.Prefix.{Hypothesis}
 use Rattle.pure_goal_laws.specs.Lifting.{IsStripped, bare, supposed}
 use Rattle.pure_goal_laws.specs.GoalStep.{IsRuleFor}
 use Rattle.pure_goal_laws.specs.Examples.Definitions.{a, b, any_a, any_b}
-use Rattle.pure_goal_laws.specs.Examples.Proofs.{goal_for, IsStepFor, itself, detached, another, at_a_b, EliminationProof, DestructionProof, redex, ConversionProof}
-use Rattle.pure_goal_laws.proofs.FactLaws.{elimination_step, destruction_step}
-use Rattle.pure_goal_laws.proofs.StateLaws.{converted_is_derivable, preferred_is_derivable, deferred_is_derivable}
+use Rattle.pure_goal_laws.specs.Examples.Proofs.{goal_for, itself, detached, another, at_a_b, EliminationProof, DestructionProof, redex, redex_equation, ConversionProof}
+use Rattle.pure_goal_laws.proofs.FactLaws.{elimination_step, destruction_step, conversion_step}
+use Rattle.pure_goal_laws.proofs.StateLaws.{exchanged_is_derivable, preferred_is_derivable, deferred_is_derivable}
 use Rattle.pure_goal_laws.proofs.ExampleLaws.{prop_typ, imp-proposition, a-proposition, b-proposition, itself-proposition, unchanged, started, ended, step_for, assumed_for, itself_assumed}
 
 a_b-proposition : IsProposition pure_content (imp a b)
@@ -77,6 +77,10 @@ destruction_proof =
 pub conversion_proof : ConversionProof
 conversion_proof =
     let whole : IsProposition pure_content redex = certified_of pure_content redex prop ((prop_typ, tt), itself-proposition.certified.parts) (prop, (prop, refl, refl), itself-proposition.typed) in
-    let converted = converted_is_derivable pure_content pure_is_content pure-below_itself (goal_for redex (redex ∷ [])) redex itself [] (protect redex) [] refl refl (λ l m. m)
-    (beta_equality pure_content pure_is_content pure-below_itself [] [] prop prop (Bound 0) itself whole) (started redex whole) in
-    record { converted = converted; proved = ended redex (itself_assumed redex [] tt converted) }
+    let goal = goal_for redex (redex ∷ []) in
+    let start = started redex whole in
+    let equation = (derivable_is_proves pure_content [] [] (eq prop redex itself)).1 (beta_equality pure_content pure_is_content pure-below_itself [] [] prop prop (Bound 0) itself whole) in
+    let is : IsRuleFor (goal_for redex (itself ∷ [])) redex_equation [] (eq prop redex itself) = record { no_hyps = refl; no_pairs = refl; stripped = bare (eq prop redex itself); rests = λ l m. m } in
+    let converted = conversion_step pure_content pure_is_content pure-below_itself goal redex_equation redex itself itself [] (protect redex) [] refl refl (λ l m. m) (unchanged [] itself itself-proposition) is start equation in
+    let exchanged = exchanged_is_derivable pure_content pure_is_content pure-below_itself goal redex itself [] (protect redex) refl refl (beta (record { parts = whole.certified.parts; typed = whole.typed })) start in
+    record { fact = equation; converted = converted; exchanged = exchanged; proved = ended redex (itself_assumed redex [] tt converted) }

@@ -19,8 +19,7 @@ use Rattle.pure_logic.proofs.PropositionLaws.{conclusion-proposition}
 use Rattle.pure_equated.specs.Laws.Proved.{IsPairProved}
 use Rattle.pure_goal_laws.specs.Prefix.{Item, Parameter, Hypothesis, behind, parameters, hypotheses}
 use Rattle.pure_goal_laws.specs.Lifting.{lifted_under, lifted_behind}
-use Rattle.pure_goal_laws.specs.GoalStep.{IsJustified, AreMatched}
-use Rattle.pure_goal_laws.specs.Laws.Steps.{lifted_premises, destructed_premises, IsEliminated}
+use Rattle.pure_goal_laws.specs.GoalStep.{IsJustified, AreMatched, lifted_premises, IsEliminated}
 use Rattle.pure_goal_laws.proofs.PrefixLaws.{behind-append, parameters-without, conclusion_behind, implication_behind, distributed, further_hypothesis, hypothesis_is_proved}
 use Rattle.pure_goal_laws.proofs.LiftingLaws.{lifted_rule}
 use Rattle.pure_goal_laws.proofs.StepLaws.{pairs-weaker}

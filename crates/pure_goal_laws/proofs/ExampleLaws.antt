@@ -15,7 +15,6 @@ use Rattle.pure_logic.specs.Concludes.{AreRespecting}
 use Rattle.pure_logic.proofs.ConnectiveLaws.{certified_of, pure-below_itself, prop-certified, imp-parts, all-parts}
 use Rattle.pure_logic.proofs.MapLaws.{identity_respects, sent-respects}
 use Rattle.pure_logic.proofs.ContentLaws.{pure_is_content}
-use Rattle.pure_logic.proofs.ProvesLaws.{derivable_is_proves}
 use Rattle.pure_equated.specs.Equated.{IsTypedUnder, AreEquated, same, beta, abstraction, application}
 use Rattle.pure_goal_laws.specs.Prefix.{Item, Parameter, Hypothesis, behind, below_parameters, hypotheses}
 use Rattle.pure_goal_laws.specs.Lifting.{IsStripped, bare, quantified, supposed}

@@ -1,24 +1,24 @@
 -- Steps from derivable goals by derivable facts.
 use Rattle.std.proofs.Common.{◌≡◌, List, [], ◌∷◌, ◌++◌}
-use Rattle.pure_text.specs.Lists.{IsIn, Each}
+use Rattle.pure_text.specs.Lists.{IsIn}
 use Rattle.pure_definitions.specs.Names.{Label}
-use Rattle.pure_definitions.specs.Types.Typ.{Typ}
+use Rattle.pure_definitions.specs.Types.Typ.{Typ, prop}
 use Rattle.pure_definitions.specs.Terms.Term.{Term}
-use Rattle.pure_logic.specs.Connectives.{chain}
+use Rattle.pure_logic.specs.Connectives.{eq, chain}
 use Rattle.pure_logic.specs.Content.{Content, IsContent, IsBelow, IsProposition}
 use Rattle.pure_logic.specs.PureContent.{pure_content}
 use Rattle.pure_logic.specs.Derivable.{Pair, Theorem, IsDerivable}
 use Rattle.pure_logic.specs.Proves.{Proves}
 use Rattle.pure_logic.proofs.ProvesLaws.{derivable_is_proves, weaker}
+use Rattle.pure_equated.specs.Equated.{AreEquated}
 use Rattle.pure_goal_laws.specs.Prefix.{Item, Hypothesis, behind, hypotheses}
 use Rattle.pure_goal_laws.specs.Lifting.{lifted_behind}
-use Rattle.pure_goal_laws.specs.GoalStep.{IsGoalStep, AreMatched, IsRuleFor}
-use Rattle.pure_goal_laws.specs.Laws.Steps.{lifted_premises, destructed_premises, IsEliminated}
+use Rattle.pure_goal_laws.specs.GoalStep.{IsGoalStep, AreMatched, IsRuleFor, lifted_premises, destructed_premises, IsEliminated}
 use Rattle.pure_goal_laws.proofs.StrippingLaws.{stripped_rule}
 use Rattle.pure_goal_laws.proofs.StepLaws.{step_is_derivable}
-use Rattle.pure_goal_laws.proofs.JustificationLaws.{by_rule, by_assumption}
+use Rattle.pure_goal_laws.proofs.JustificationLaws.{by_rule, by_assumption, by_equation}
 use Rattle.pure_goal_laws.proofs.EliminationLaws.{by_elimination, by_destruction}
-use Rattle.pure_goal_laws.proofs.StateLaws.{subgoals_are_propositions}
+use Rattle.pure_goal_laws.proofs.StateLaws.{subgoals_are_propositions, exchange}
 
 module _ (Q : Content) (q : IsContent Q) (above : IsBelow pure_content Q) where
   proved-alone : (hyps : List Term) (pairs : List Pair) (A : Term) (rests : List Label) → hyps ≡ [] → pairs ≡ [] → IsDerivable Q (record { hyps = hyps; pairs = pairs; prop = A; rests = rests }) → Proves Q [] rests A
@@ -29,6 +29,13 @@ module _ (Q : Content) (q : IsContent Q) (above : IsBelow pure_content Q) where
   rule-proved new fact As B is h =
       let p = proved-alone fact.hyps fact.pairs fact.prop fact.rests is.no_hyps is.no_pairs h in
       stripped_rule Q q above [] new.rests fact.prop As B is.stripped (weaker Q [] [] fact.rests new.rests fact.prop (λ A m. m) is.rests p)
+
+  pub conversion_step : (goal fact : Theorem) (A B S : Term) (others : List Term) (G : Term) (rests : List Label) → goal.hyps ≡ [] → goal.prop ≡ chain (A ∷ others) G → ((l : Label) → IsIn l goal.rests → IsIn l rests)
+      → AreEquated Q.declarations goal.pairs [] prop B S → IsRuleFor (record goal { prop = chain (S ∷ others) G; rests = rests }) fact [] (eq prop A B) → IsDerivable Q goal → IsDerivable Q fact
+      → IsDerivable Q (record goal { prop = chain (S ∷ others) G; rests = rests })
+  conversion_step goal fact A B S others G rests no_hyps e among equated is h k =
+      let new : Theorem = record goal { prop = chain (S ∷ others) G; rests = rests } in
+      step_is_derivable Q q above goal new A others G (B ∷ []) (λ T. T) (λ t. t) (exchange Q q above goal A B S others G rests no_hyps e among equated h) (by_equation Q q above new A B (rule-proved new fact [] (eq prop A B) is k)) h
 
 module _ (Q : Content) (q : IsContent Q) (above : IsBelow pure_content Q) (goal new : Theorem) (others : List Term) (G : Term) (typs : Typ → Typ) (terms : Term → Term) where
   first-proposition : (A : Term) (premises : List Term) → IsGoalStep Q goal new A others G premises typs terms → IsDerivable Q goal → IsProposition Q A

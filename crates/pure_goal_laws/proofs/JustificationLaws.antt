@@ -19,8 +19,7 @@ use Rattle.pure_logic.proofs.EqualityLaws.{right-of, symmetric_equality, equal_i
 use Rattle.pure_logic.proofs.SubstitutionLaws.{instance_is_proved}
 use Rattle.pure_goal_laws.specs.Prefix.{Item, behind, hypotheses}
 use Rattle.pure_goal_laws.specs.Lifting.{lifted_behind}
-use Rattle.pure_goal_laws.specs.GoalStep.{IsJustified, AreMatched}
-use Rattle.pure_goal_laws.specs.Laws.Steps.{lifted_premises}
+use Rattle.pure_goal_laws.specs.GoalStep.{IsJustified, AreMatched, lifted_premises}
 use Rattle.pure_goal_laws.proofs.PrefixLaws.{hypothesis_is_proved}
 use Rattle.pure_goal_laws.proofs.LiftingLaws.{lifted_rule}
 use Rattle.pure_goal_laws.proofs.StepLaws.{pairs-weaker, instance-chain}

@@ -2,23 +2,28 @@
 use Rattle.std.proofs.Common.{◌≡◌, ◌<◌, ℕ, ◌+◌, List, [], ◌∷◌, inl, inr, ap, refl, sym, ◌∙◌, arith}
 use Rattle.pure_definitions.specs.Names.{Label}
 use Rattle.pure_definitions.specs.Types.Typ.{Typ}
-use Rattle.pure_definitions.specs.Terms.Term.{Term, Const, Free, Var, Bound, Abs, App}
-use Rattle.pure_definitions.specs.Terms.Bounds.{subst_under}
+use Rattle.pure_definitions.specs.Terms.Term.{Term, Const, Free, Bound, Abs, App}
+use Rattle.pure_definitions.specs.Terms.Bounds.{subst_under, subst_bound}
 use Rattle.pure_definitions.specs.Declarations.Certified.{IsCertifiedTyp}
-use Rattle.pure_term_laws.proofs.MapLaws.{subst-past-subst, place-below}
-use Rattle.pure_logic.specs.Connectives.{all, imp, eq}
+use Rattle.pure_term_laws.proofs.MapLaws.{place-below}
+use Rattle.pure_logic.specs.Connectives.{all, imp}
 use Rattle.pure_logic.specs.Content.{Content, IsContent, IsBelow, IsProposition}
 use Rattle.pure_logic.specs.PureContent.{pure_content}
 use Rattle.pure_logic.specs.Proves.{Proves}
 use Rattle.pure_logic.proofs.ConnectiveLaws.{certified_of}
 use Rattle.pure_logic.proofs.PropositionLaws.{premise-proposition}
 use Rattle.pure_logic.proofs.ProvesLaws.{assumed, weaker, implication_is_proved, conclusion_is_proved, quantification_is_proved, instance_of_body_is_proved, proved_is_proposition}
+use Rattle.pure_equated.proofs.ClosingLaws.{closing, closing-abstraction, closing-application, closing-subst}
 use Rattle.pure_goal_laws.specs.Prefix.{Item, Parameter, Hypothesis, behind}
 
--- names and types of fixed variables, the innermost parameter's first, in place of the loose bound variables from n on
+-- the fixed variables with these names and types
+abbrev variables : List (ℕ × Typ) → List Term
+variables [] = []
+variables (x ∷ xs) = Free x.0 x.1 ∷ variables xs
+
+-- Under n binders of the term: fixed variables in place of its further loose bound variables, the innermost first.
 abbrev pub put : ℕ → List (ℕ × Typ) → Term → Term
-put n [] t = t
-put n (x ∷ xs) t = put n xs (subst_under n (Free x.0 x.1) t)
+put n xs t = closing n (variables xs) t
 
 pub put-const : (n : ℕ) (xs : List (ℕ × Typ)) (c : ℕ) (T : Typ) → put n xs (Const c T) ≡ Const c T
 put-const n [] c T = refl
@@ -28,38 +33,27 @@ pub put-free : (n : ℕ) (xs : List (ℕ × Typ)) (y : ℕ) (T : Typ) → put n 
 put-free n [] y T = refl
 put-free n (x ∷ xs) y T = put-free n xs y T
 
-pub put-var : (n : ℕ) (xs : List (ℕ × Typ)) (y i : ℕ) (T : Typ) → put n xs (Var y i T) ≡ Var y i T
-put-var n [] y i T = refl
-put-var n (x ∷ xs) y i T = put-var n xs y i T
-
 pub put-bound : (n : ℕ) (xs : List (ℕ × Typ)) (p : ℕ) → p < n → put n xs (Bound p) ≡ Bound p
 put-bound n [] p h = refl
 put-bound n (x ∷ xs) p h = ap (put n xs) (place-below n (Free x.0 x.1) p (omega arith)) ∙ put-bound n xs p h
 
 pub put-app : (n : ℕ) (xs : List (ℕ × Typ)) (f a : Term) → put n xs (App f a) ≡ App (put n xs f) (put n xs a)
-put-app n [] f a = refl
-put-app n (x ∷ xs) f a = put-app n xs (subst_under n (Free x.0 x.1) f) (subst_under n (Free x.0 x.1) a)
+put-app n xs f a = closing-application n (variables xs) f a
 
 pub put-abs : (n : ℕ) (xs : List (ℕ × Typ)) (T : Typ) (b : Term) → put n xs (Abs T b) ≡ Abs T (put (n + 1) xs b)
-put-abs n [] T b = refl
-put-abs n (x ∷ xs) T b = put-abs n xs T (subst_under (n + 1) (Free x.0 x.1) b)
+put-abs n xs T b = closing-abstraction n (variables xs) T b
 
 pub put-imp : (n : ℕ) (xs : List (ℕ × Typ)) (A B : Term) → put n xs (imp A B) ≡ imp (put n xs A) (put n xs B)
 put-imp n [] A B = refl
 put-imp n (x ∷ xs) A B = put-imp n xs (subst_under n (Free x.0 x.1) A) (subst_under n (Free x.0 x.1) B)
-
-pub put-eq : (n : ℕ) (xs : List (ℕ × Typ)) (T : Typ) (t u : Term) → put n xs (eq T t u) ≡ eq T (put n xs t) (put n xs u)
-put-eq n [] T t u = refl
-put-eq n (x ∷ xs) T t u = put-eq n xs T (subst_under n (Free x.0 x.1) t) (subst_under n (Free x.0 x.1) u)
 
 pub put-all : (n : ℕ) (xs : List (ℕ × Typ)) (T : Typ) (B : Term) → put n xs (all T B) ≡ all T (put (n + 1) xs B)
 put-all n [] T B = refl
 put-all n (x ∷ xs) T B = put-all n xs T (subst_under (n + 1) (Free x.0 x.1) B)
 
 -- A further variable may be put before the others or after them.
-pub put-further : (y : ℕ) (T : Typ) (xs : List (ℕ × Typ)) (B : Term) → subst_under 0 (Free y T) (put (0 + 1) xs B) ≡ put 0 ((y, T) ∷ xs) B
-put-further y T [] B = refl
-put-further y T (x ∷ xs) B = put-further y T xs (subst_under (0 + 1) (Free x.0 x.1) B) ∙ ap (put 0 xs) (sym (subst-past-subst 0 0 (Free y T) (Free x.0 x.1) B))
+pub put-further : (y : ℕ) (T : Typ) (xs : List (ℕ × Typ)) (B : Term) → subst_bound (put (0 + 1) xs B) (Free y T) ≡ put 0 ((y, T) ∷ xs) B
+put-further y T xs B = sym (closing-subst (variables xs) B (Free y T) ∙ ap (subst_bound (put (0 + 1) xs B)) (put-free 0 xs y T))
 
 module _ (Q : Content) where
   -- What is claimed of hypotheses and variables holds behind the prefix: of those that are given, and of a variable for each parameter and the hypotheses of the prefix beside them. The prefix is of certified types and propositions.

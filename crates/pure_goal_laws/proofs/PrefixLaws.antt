@@ -98,7 +98,7 @@ module _ (Q : Content) where
     h.0,
     λ n.
         let again : lift_term (length (parameters ps)) 0 (lift_term 1 0 A) ≡ lift_term (length (parameters (Parameter T ∷ ps))) 0 A = lift-again 1 (length (parameters ps)) 0 0 A (omega arith) (omega arith) ∙ ap (λ k. lift_term k 0 A) (omega arith) in
-        rw again at (kept (lift_term 1 0 A) G ps hyps ((n, T) ∷ xs) (rw (subst-lift 0 (Free n T) A) m) (h.1 n)),
+        rw again at (kept (lift_term 1 0 A) G ps hyps ((n, T) ∷ xs) (subst (λ B. IsAssumed hyps (put 0 xs B)) (sym (subst-lift 0 (Free n T) A)) m) (h.1 n)),
   )
   kept A G (Hypothesis B ∷ ps) hyps xs m h = (h.0, kept A G ps (put 0 xs B ∷ hyps) xs (m.0, inr m.1) h.1)
 

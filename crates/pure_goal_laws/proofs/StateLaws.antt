@@ -14,7 +14,7 @@ use Rattle.pure_logic.specs.Derivable.{Pair, Theorem, IsDerivable, IsDerivableAl
 use Rattle.pure_logic.specs.Proves.{Proves, IsEquation}
 use Rattle.pure_logic.specs.Laws.Substitution.{pair_instance}
 use Rattle.pure_logic.proofs.ConnectiveLaws.{certified_of}
-use Rattle.pure_logic.proofs.EqualityLaws.{left-certified, right-certified, mark_means_nothing}
+use Rattle.pure_logic.proofs.EqualityLaws.{reflexive_equality, left-certified, right-certified, mark_means_nothing}
 use Rattle.pure_logic.proofs.InferenceLaws.{inferred_from_one}
 use Rattle.pure_logic.proofs.MapLaws.{identity_respects}
 use Rattle.pure_logic.proofs.ProvesLaws.{derivable_is_proves, assumed, weaker, implication_is_proved, chain_is_proved, end_of_chain_is_proved, proved_is_proposition, derivable-proved}
@@ -23,6 +23,7 @@ use Rattle.pure_equated.specs.Equated.{AreEquated, IsPairEquated, same, pair}
 use Rattle.pure_equated.specs.Laws.Proved.{IsCertifiedPair}
 use Rattle.pure_equated.proofs.SidesLaws.{equated_are_typed}
 use Rattle.pure_equated.proofs.EquatedLaws.{equated_proposition_is_proved}
+use Rattle.pure_goal_laws.specs.GoalStep.{IsGoalStep}
 use Rattle.pure_goal_laws.proofs.StepLaws.{step_is_derivable}
 use Rattle.pure_goal_laws.proofs.JustificationLaws.{premises-propositions, by_equation}
 
@@ -101,22 +102,28 @@ module _ (Q : Content) (q : IsContent Q) (above : IsBelow pure_content Q) where
   subgoals-unchanged pairs [] h = tt
   subgoals-unchanged pairs (A ∷ As) h = (rw (term_instance-identity A) (same (record { parts = h.0.certified.parts; typed = h.0.typed })), subgoals-unchanged pairs As h.1)
 
-  pub converted_is_derivable : (goal : Theorem) (A B : Term) (others : List Term) (G : Term) (rests : List Label) → goal.hyps ≡ [] → goal.prop ≡ chain (A ∷ others) G → ((l : Label) → IsIn l goal.rests → IsIn l rests)
-      → Proves Q [] rests (eq prop A B) → IsDerivable Q goal → IsDerivable Q (record goal { prop = chain (B ∷ others) G; rests = rests })
-  converted_is_derivable goal A B others G rests no_hyps e among p h =
-      let new : Theorem = record goal { prop = chain (B ∷ others) G; rests = rests } in
+  -- A step that exchanges the first subgoal A for B, under the identity maps, and B for S, which is equated with it.
+  pub exchange : (goal : Theorem) (A B S : Term) (others : List Term) (G : Term) (rests : List Label) → goal.hyps ≡ [] → goal.prop ≡ chain (A ∷ others) G → ((l : Label) → IsIn l goal.rests → IsIn l rests)
+      → AreEquated Q.declarations goal.pairs [] prop B S → IsDerivable Q goal → IsGoalStep Q goal (record goal { prop = chain (S ∷ others) G; rests = rests }) A others G (B ∷ []) (λ T. T) (λ t. t)
+  exchange goal A B S others G rests no_hyps e among equated h =
       let certified = pairs_are_certified goal h in
-      let propositions = subgoals_are_propositions goal (A ∷ others) G e h in
-      let right = right-certified Q q above [] rests prop A B (proved_is_proposition Q q above [] rests (eq prop A B) p) in
-      step_is_derivable Q q above goal new A others G (B ∷ []) (λ T. T) (λ t. t) (record {
+      record {
         goal_hyps = no_hyps;
         goal_prop = e;
         respecting = identity_respects Q;
         pairs = pairs-unchanged goal.pairs goal.pairs (λ r m. m) certified;
         new_pairs = certified;
-        subgoals = B ∷ others;
-        are_subgoals = (same (record { parts = right.certified.parts; typed = right.typed }), subgoals-unchanged goal.pairs others propositions.1);
+        subgoals = S ∷ others;
+        are_subgoals = (equated, subgoals-unchanged goal.pairs others (subgoals_are_propositions goal (A ∷ others) G e h).1);
         new_hyps = no_hyps;
-        new_prop = ap (chain (B ∷ others)) (sym (term_instance-identity G));
+        new_prop = ap (chain (S ∷ others)) (sym (term_instance-identity G));
         rests = among;
-      }) (by_equation Q q above new A B p) h
+      }
+
+  pub exchanged_is_derivable : (goal : Theorem) (A S : Term) (others : List Term) (G : Term) → goal.hyps ≡ [] → goal.prop ≡ chain (A ∷ others) G → AreEquated Q.declarations goal.pairs [] prop A S → IsDerivable Q goal
+      → IsDerivable Q (record goal { prop = chain (S ∷ others) G })
+  exchanged_is_derivable goal A S others G no_hyps e equated h =
+      let new : Theorem = record goal { prop = chain (S ∷ others) G } in
+      let first = (subgoals_are_propositions goal (A ∷ others) G e h).0 in
+      step_is_derivable Q q above goal new A others G (A ∷ []) (λ T. T) (λ t. t) (exchange goal A A S others G goal.rests no_hyps e (λ l m. m) equated h)
+      (by_equation Q q above new A A (reflexive_equality Q q above [] goal.rests prop A first)) h

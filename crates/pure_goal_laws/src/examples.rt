@@ -1,7 +1,7 @@
 //! What goals mean, by worked examples, each carried by the contract of a function that does nothing.
 ghost use Rattle.pure_goal_laws.specs.Examples.Definitions.{PrefixExample, LiftedExample, StrippedExample};
 ghost use Rattle.pure_goal_laws.specs.Examples.Proofs.{AssumptionProof, RuleProof, EliminationProof, DestructionProof, ConversionProof};
-ghost use Rattle.pure_goal_laws.specs.Examples.Pairs.{DroppedExample, SmashedExample};
+ghost use Rattle.pure_goal_laws.specs.Examples.Pairs.{DroppedExample, SmashedExample, FlexibleProof};
 
 /// A prefix with parameters and hypotheses, a rule lifted over it, and a rule stripped of its front.
 pub fn prefix_example()
@@ -35,8 +35,9 @@ pub fn conversion_proof()
     ensures { ConversionProof }
 {}
 
-/// Pairs that are removed: a trivial one is dropped, and a flexible one is smashed.
+/// Pairs that are removed: a trivial one is dropped, and flexible ones are smashed, one of them left open by a step.
 pub fn pair_example()
     ensures dropped { DroppedExample }
     ensures smashed { SmashedExample }
+    ensures left_open { FlexibleProof }
 {}

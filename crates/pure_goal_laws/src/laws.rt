@@ -2,8 +2,8 @@
 ghost use Rattle.pure_goal_laws.specs.Laws.Prefix.{ImplicationBehind, ChainBehind, HypothesisBehind, FurtherHypothesisBehind, EqualBehind};
 ghost use Rattle.pure_goal_laws.specs.Laws.Lifting.{StrippedRule, LiftedRule};
 ghost use Rattle.pure_goal_laws.specs.Laws.Steps.{StepIsDerivable, ByRule, ByAssumption, ByElimination, ByDestruction, ByEquation};
-ghost use Rattle.pure_goal_laws.specs.Laws.Facts.{AssumptionStep, RuleStep, EliminationStep, DestructionStep};
-ghost use Rattle.pure_goal_laws.specs.Laws.States.{SubgoalsArePropositions, PairsAreCertified, StartIsDerivable, EndIsDerivable, ConvertedIsDerivable, ReorderedIsDerivable, PreferredIsDerivable, DeferredIsDerivable, DroppedIsDerivable, SmashedIsDerivable};
+ghost use Rattle.pure_goal_laws.specs.Laws.Facts.{AssumptionStep, RuleStep, EliminationStep, DestructionStep, ConversionStep};
+ghost use Rattle.pure_goal_laws.specs.Laws.States.{SubgoalsArePropositions, PairsAreCertified, StartIsDerivable, EndIsDerivable, ExchangedIsDerivable, ReorderedIsDerivable, PreferredIsDerivable, DeferredIsDerivable, DroppedIsDerivable, SmashedIsDerivable};
 
 /// What is proved behind a prefix: implications and chains of them, hypotheses, and what is equal there.
 pub fn proved_behind_prefix()
@@ -34,12 +34,13 @@ pub fn subgoal_is_justified()
     ensures equation { ByEquation }
 {}
 
-/// Steps by assumption, and by a derivable fact used as a rule: by itself, by elimination, by destruction.
+/// Steps by assumption, and by a derivable fact: a rule, by itself, by elimination or by destruction; or an equation.
 pub fn steps_by_facts()
     ensures assumption { AssumptionStep }
     ensures rule { RuleStep }
     ensures elimination { EliminationStep }
     ensures destruction { DestructionStep }
+    ensures conversion { ConversionStep }
 {}
 
 /// What stands in a derivable goal: subgoals are propositions, and pairs have certified sides.
@@ -54,9 +55,9 @@ pub fn goal_begins_and_ends()
     ensures end { EndIsDerivable }
 {}
 
-/// Subgoals may be converted, and stand in another order.
+/// Subgoals may be exchanged for equated ones, and stand in another order.
 pub fn subgoals_are_exchanged()
-    ensures converted { ConvertedIsDerivable }
+    ensures exchanged { ExchangedIsDerivable }
     ensures reordered { ReorderedIsDerivable }
     ensures preferred { PreferredIsDerivable }
     ensures deferred { DeferredIsDerivable }

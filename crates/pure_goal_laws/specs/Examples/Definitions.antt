@@ -1,9 +1,9 @@
 -- Computed examples of prefixes, of rules stripped of their front, and of rules lifted over a prefix.
 use Rattle.std.specs.Prelude.{◌≡◌, List, [], ◌∷◌}
-use Rattle.pure_definitions.specs.Types.Typ.{Typ, arrow, prop}
+use Rattle.pure_definitions.specs.Types.Typ.{arrow, prop}
 use Rattle.pure_definitions.specs.Terms.Term.{Term, Free, Var, Bound, Abs, App}
 use Rattle.pure_logic.specs.Connectives.{all, imp}
-use Rattle.pure_goal_laws.specs.Prefix.{Item, Parameter, Hypothesis, behind, parameters, below_parameters, hypotheses}
+use Rattle.pure_goal_laws.specs.Prefix.{Item, Parameter, Hypothesis, behind, below_parameters, hypotheses}
 use Rattle.pure_goal_laws.specs.Lifting.{IsStripped, lifted_behind}
 
 -- fixed and schematic variables of type prop, and one for functions of propositions

@@ -1,14 +1,13 @@
 -- Worked examples: whole proofs by goal steps over Pure's own content.
 use Rattle.std.specs.Prelude.{List, [], ◌∷◌}
-use Rattle.pure_definitions.specs.Types.Typ.{arrow, prop}
-use Rattle.pure_definitions.specs.Terms.Term.{Term, Free, Var, Bound, Abs, App}
+use Rattle.pure_definitions.specs.Types.Typ.{prop}
+use Rattle.pure_definitions.specs.Terms.Term.{Term, Bound, Abs, App}
 use Rattle.pure_term_laws.specs.LawsMaps.{sent}
-use Rattle.pure_logic.specs.Connectives.{all, imp, protect, chain}
+use Rattle.pure_logic.specs.Connectives.{all, imp, eq, protect, chain}
 use Rattle.pure_logic.specs.PureContent.{pure_content}
 use Rattle.pure_logic.specs.Derivable.{Theorem, IsDerivable, IsDerivableAlone}
 use Rattle.pure_goal_laws.specs.Lifting.{IsStripped}
 use Rattle.pure_goal_laws.specs.GoalStep.{IsGoalStep}
-use Rattle.pure_goal_laws.specs.Laws.States.{IsSmashed}
 use Rattle.pure_goal_laws.specs.Examples.Definitions.{a, b, any_a, any_b, any_f}
 
 -- the goal with these subgoals for the proposition, without hypotheses and pairs, and resting on no promises
@@ -76,7 +75,13 @@ pub record DestructionProof : Type 0 where
 abbrev pub redex : Term
 redex = App (Abs prop (Bound 0)) itself
 
--- It is proved by conversion of the first goal's subgoal to `a ==> a`, and by assumption.
+-- the fact `(%x. x) (a ==> a) == (a ==> a)`
+abbrev pub redex_equation : Theorem
+redex_equation = record { hyps = []; pairs = []; prop = eq prop redex itself; rests = [] }
+
+-- The first goal's subgoal is converted by the fact to `a ==> a`, or exchanged for it as its contractum, and is proved by assumption.
 pub record ConversionProof : Type 0 where
+  pub fact : IsDerivable pure_content redex_equation
   pub converted : IsDerivable pure_content (goal_for redex (itself ∷ []))
+  pub exchanged : IsDerivable pure_content (goal_for redex (itself ∷ []))
   pub proved : IsDerivableAlone pure_content redex

@@ -1,15 +1,13 @@
--- Laws of goals at their beginning and their end, of subgoals converted and in another order, and of pairs that are not needed.
+-- Laws of goals at their beginning and their end, of subgoals exchanged and in another order, and of pairs that are not needed.
 use Rattle.std.specs.Prelude.{◌≡◌, ◌↔◌, ◌⊎◌, List, [], ◌∷◌, ◌++◌, map}
 use Rattle.pure_text.specs.Lists.{IsIn, Each}
-use Rattle.pure_definitions.specs.Names.{Label}
 use Rattle.pure_definitions.specs.Types.Typ.{Typ, prop}
 use Rattle.pure_definitions.specs.Terms.Term.{Term}
 use Rattle.pure_definitions.specs.Terms.Subst.{term_instance}
-use Rattle.pure_logic.specs.Connectives.{eq, protect, chain}
+use Rattle.pure_logic.specs.Connectives.{protect, chain}
 use Rattle.pure_logic.specs.Content.{Content, IsProposition}
 use Rattle.pure_logic.specs.Concludes.{AreRespecting}
 use Rattle.pure_logic.specs.Derivable.{Pair, Theorem, IsDerivable, IsDerivableAlone}
-use Rattle.pure_logic.specs.Proves.{Proves}
 use Rattle.pure_logic.specs.Laws.Substitution.{pair_instance}
 use Rattle.pure_equated.specs.Equated.{AreEquated, IsPairEquated}
 use Rattle.pure_equated.specs.Laws.Proved.{IsCertifiedPair}
@@ -30,10 +28,10 @@ StartIsDerivable = Above (λ Q. (S C : Term) → AreEquated Q.declarations [] []
 abbrev pub EndIsDerivable : Type 0
 EndIsDerivable = Above (λ Q. (goal : Theorem) (C : Term) → goal.prop ≡ protect C → IsDerivable Q goal → IsDerivable Q (record goal { prop = C }))
 
--- The first subgoal A of a goal may be replaced by B, by a proved equation `A == B` without hypotheses.
-abbrev pub ConvertedIsDerivable : Type 0
-ConvertedIsDerivable = Above (λ Q. (goal : Theorem) (A B : Term) (others : List Term) (G : Term) (rests : List Label) → goal.hyps ≡ [] → goal.prop ≡ chain (A ∷ others) G → ((l : Label) → IsIn l goal.rests → IsIn l rests)
-    → Proves Q [] rests (eq prop A B) → IsDerivable Q goal → IsDerivable Q (record goal { prop = chain (B ∷ others) G; rests = rests }))
+-- The first subgoal of a goal may be exchanged for one that is equated with it modulo the goal's pairs.
+abbrev pub ExchangedIsDerivable : Type 0
+ExchangedIsDerivable = Above (λ Q. (goal : Theorem) (A S : Term) (others : List Term) (G : Term) → goal.hyps ≡ [] → goal.prop ≡ chain (A ∷ others) G → AreEquated Q.declarations goal.pairs [] prop A S
+    → IsDerivable Q goal → IsDerivable Q (record goal { prop = chain (S ∷ others) G }))
 
 -- The subgoals of a goal may stand in another order. So a subgoal may be taken to the front, and the first one to the end.
 abbrev pub ReorderedIsDerivable : Type 0

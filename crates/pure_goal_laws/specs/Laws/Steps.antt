@@ -1,19 +1,17 @@
 -- The law of goal steps, and what justifies one.
-use Rattle.std.specs.Prelude.{List, [], ◌∷◌, ◌++◌, map, length}
+use Rattle.std.specs.Prelude.{List, [], ◌∷◌, ◌++◌}
 use Rattle.pure_text.specs.Lists.{IsIn}
 use Rattle.pure_definitions.specs.Types.Typ.{Typ, prop}
 use Rattle.pure_definitions.specs.Terms.Term.{Term}
-use Rattle.pure_definitions.specs.Terms.Bounds.{lift_term}
-use Rattle.pure_definitions.specs.Terms.Subst.{term_instance}
 use Rattle.pure_logic.specs.Connectives.{eq, chain}
 use Rattle.pure_logic.specs.Content.{Content, IsProposition}
 use Rattle.pure_logic.specs.Concludes.{AreRespecting}
 use Rattle.pure_logic.specs.Derivable.{Theorem, IsDerivable}
 use Rattle.pure_logic.specs.Proves.{Proves}
 use Rattle.pure_goal_laws.specs.Laws.Scope.{Above}
-use Rattle.pure_goal_laws.specs.Prefix.{Item, Hypothesis, behind, parameters, hypotheses}
+use Rattle.pure_goal_laws.specs.Prefix.{Item, Hypothesis, behind, hypotheses}
 use Rattle.pure_goal_laws.specs.Lifting.{lifted_behind}
-use Rattle.pure_goal_laws.specs.GoalStep.{IsGoalStep, IsJustified, AreMatched}
+use Rattle.pure_goal_laws.specs.GoalStep.{IsGoalStep, IsJustified, AreMatched, lifted_premises, destructed_premises, IsEliminated}
 
 -- A step from a derivable goal leads to a derivable goal where its premises justify the first subgoal.
 abbrev pub StepIsDerivable : Type 0
@@ -23,10 +21,6 @@ StepIsDerivable = Above (λ Q. (goal new : Theorem) (A : Term) (others : List Te
 -- What holds of the justifications of a step to a new goal, by respecting maps.
 abbrev pub ForSteps : ((Q : Content) → (new : Theorem) → (typs : Typ → Typ) → (terms : Term → Term) → Type 0) → Type 0
 ForSteps law = Above (λ Q. (new : Theorem) (typs : Typ → Typ) (terms : Term → Term) → AreRespecting Q typs terms → law Q new typs terms)
-
--- the instances of a rule's premises, which are lifted over a prefix and stand behind it
-abbrev pub lifted_premises : (typs : Typ → Typ) → (terms : Term → Term) → List Item → List Term → List Term
-lifted_premises typs terms ps As = map (term_instance typs terms) (map (λ A. behind ps (lifted_behind ps A)) As)
 
 -- By a rule: where its lifted conclusion is matched with that of the subgoal, its lifted premises justify the subgoal.
 abbrev pub ByRule : Type 0
@@ -39,21 +33,11 @@ abbrev pub ByAssumption : Type 0
 ByAssumption = ForSteps (λ Q new typs terms. (ps : List Item) (C : Term) → IsProposition Q (behind ps C) → (H : Term) → IsIn H (hypotheses ps) → AreMatched Q new typs terms ps H C
     → IsJustified Q new (behind ps C) [] typs terms)
 
--- The first premise P of a rule is matched, lifted, with the hypothesis H that stands in a prefix between the items before it and after it.
-abbrev pub IsEliminated : (Q : Content) → (new : Theorem) → (typs : Typ → Typ) → (terms : Term → Term) → (before : List Item) → (H : Term) → (after : List Item) → (P : Term) → Type 0
-IsEliminated Q new typs terms before H after P =
-    let ps = before ++ Hypothesis H ∷ after in
-    AreMatched Q new typs terms ps (lifted_behind ps P) (lift_term (length (parameters after)) 0 H)
-
 -- By elimination: where its lifted conclusion is matched with that of the subgoal, and its first premise with a hypothesis, its other premises justify the subgoal, behind the prefix without that hypothesis.
 abbrev pub ByElimination : Type 0
 ByElimination = ForSteps (λ Q new typs terms. (before : List Item) (H : Term) (after : List Item) (C : Term) → let ps = before ++ Hypothesis H ∷ after in IsProposition Q (behind ps C)
     → (P : Term) (As : List Term) (B : Term) → Proves Q [] new.rests (chain (P ∷ As) B) → IsEliminated Q new typs terms before H after P → AreMatched Q new typs terms ps (lifted_behind ps B) C
     → IsJustified Q new (behind ps C) (lifted_premises typs terms (before ++ after) As) typs terms)
-
--- the same of the other premises of a rule with the conclusion B, and behind them the subgoal with B, lifted, as its last hypothesis
-abbrev pub destructed_premises : (typs : Typ → Typ) → (terms : Term → Term) → List Item → (C : Term) → List Term → (B : Term) → List Term
-destructed_premises typs terms ps C As B = lifted_premises typs terms ps As ++ term_instance typs terms (behind (ps ++ Hypothesis (lifted_behind ps B) ∷ []) C) ∷ []
 
 -- By destruction: where the first premise of a rule is matched with a hypothesis, the others justify the subgoal together with the subgoal that has the rule's conclusion in place of that hypothesis.
 abbrev pub ByDestruction : Type 0
