@@ -16,4 +16,6 @@ pub mod InnerAround
 pub mod InnerReadLemmas
 pub mod InnerFaultLemmas
 pub mod InnerEndLemmas
+pub mod Beside
 pub mod RawTextLemmas
+pub mod SpanLemmas

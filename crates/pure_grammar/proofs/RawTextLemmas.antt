@@ -1,16 +1,16 @@
 -- Each name and variable in the tree of a phrase stands in its text.
-use Rattle.std.proofs.Common.{◌≡◌, ◌⊎◌, ℕ, List, [], ◌∷◌, map, inl, inr, refl, sym, subst, if◌then◌else◌}
+use Rattle.std.proofs.Common.{◌≡◌, ◌⊎◌, ℕ, List, [], ◌∷◌, map, inl, inr, refl, sym, subst}
 use Rattle.std.specs.Prelude.{slice_range, codes, Option, Some}
 use Rattle.std.specs.Option.{IfSome}
 use Rattle.std.proofs.lemmas.Bool.{cond_both}
 use Rattle.pure_text.specs.Lists.{IsIn, Each}
 use Rattle.pure_text.proofs.ListLaws.{any_of}
+use Rattle.pure_grammar.proofs.Beside.{beside, beside-has}
 use Rattle.pure_grammar.specs.declared.token.Token.{Token}
 use Rattle.pure_grammar.specs.declared.token.TokenKind.{TokenKind}
 use Rattle.pure_grammar.specs.declared.token.TokenKind.TheVariants as kind
 use Rattle.pure_grammar.specs.declared.inner.Opening.TheVariants as opening
 use Rattle.pure_grammar.specs.declared.inner.Mark.TheVariants as mark
-use Rattle.pure_grammar.specs.Theories.Lexeme.{same}
 use Rattle.pure_grammar.specs.Terms.InnerLexeme.{InnerLexeme, Plain, Schematic, TypeSchematic, Bound, Opens, Signed, Other, Ends, mark_lexeme, sign_lexeme, inner_of, inners}
 use Rattle.pure_grammar.specs.Terms.RawTree.{RawTypTree, RawTree, implication, equation, generality, function_type}
 use Rattle.pure_grammar.specs.Terms.RawTree as tree
@@ -245,16 +245,6 @@ mutual
       (inside.0, inside.1.1)
 
 -- ---- tokens
-
--- the lexeme beside the first of these words that the bytes are, or the last one
-abbrev beside : List ℕ → List (List ℕ × InnerLexeme) → InnerLexeme → InnerLexeme
-beside bytes [] last = last
-beside bytes (w ∷ words) last = if same bytes w.0 then w.1 else beside bytes words last
-
-beside-has : (P : InnerLexeme → Type 0) (bytes : List ℕ) (words : List (List ℕ × InnerLexeme)) (last : InnerLexeme) → Each (λ w. P w.1) words → P last → P (beside bytes words last)
-beside-has P bytes [] last has h = h
-beside-has P bytes (w ∷ words) last has h =
-    cond_both (same bytes w.0) w.1 (beside bytes words last) P (λ _. has.0) (λ _. beside-has P bytes words last has.1 h)
 
 abbrev marks : List (List ℕ × InnerLexeme)
 marks =

@@ -5,4 +5,5 @@ pub mod Phrase
 pub mod PhraseText
 pub mod PhraseTree
 pub mod Outer
+pub mod Spans
 pub mod Reader

@@ -1,6 +1,7 @@
 //! Laws of the definitions. Each function has no body: its contract is the law.
 ghost use Rattle.pure_grammar.specs.Terms.Inner.{OneTerm, OneType};
 ghost use Rattle.pure_grammar.specs.Theories.Outer.{OneTheory};
+ghost use Rattle.pure_grammar.specs.Theories.Spans.{SpansInOrder, EachSpanIsCited};
 ghost use Rattle.pure_grammar.specs.Terms.RawTexts.{TermIsWritten, TypeIsWritten};
 ghost use Rattle.pure_grammar.specs.Tokens.Spelling.{OneList, ListOrFault, OneFault, QuoteHasMarks, TokensAreSlices};
 
@@ -32,6 +33,17 @@ pub fn quote_has_marks()
 /// No tokens of a source spell two trees of a theory.
 pub fn one_theory()
     ensures { OneTheory }
+{}
+
+/// The ranges of types and propositions in the tree of a theory lie in its source, one behind another, each with a token of
+/// its own.
+pub fn spans_in_order()
+    ensures { SpansInOrder }
+{}
+
+/// Each range of each command of a theory lies in the source, and is the inside of a quoted text, or, of a type, one token.
+pub fn each_span_is_cited()
+    ensures { EachSpanIsCited }
 {}
 
 /// No tokens of a source spell two trees of a term.

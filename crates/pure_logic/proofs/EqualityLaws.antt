@@ -32,22 +32,22 @@ module _ (Q : Content) (q : IsContent Q) (above : IsBelow pure_content Q) (hyps 
   along A B e p = rw e at p
 
   -- The sides of an equation that is a proposition are certified, of its type.
-  left-certified : (T : Typ) (t u : Term) → IsProposition Q (eq T t u) → IsCertifiedOf Q t T
+  pub left-certified : (T : Typ) (t u : Term) → IsProposition Q (eq T t u) → IsCertifiedOf Q t T
   left-certified T t u h =
       let connective : eq_typ T ≡ arrow h.typed.1.0 (arrow h.typed.0 prop) = h.typed.1.1 in
       let same : h.typed.1.0 ≡ T = cc in
       certified_of Q t T h.certified.parts.0.1 (rw same at h.typed.1.2)
 
-  right-certified : (T : Typ) (t u : Term) → IsProposition Q (eq T t u) → IsCertifiedOf Q u T
+  pub right-certified : (T : Typ) (t u : Term) → IsProposition Q (eq T t u) → IsCertifiedOf Q u T
   right-certified T t u h =
       let connective : eq_typ T ≡ arrow h.typed.1.0 (arrow h.typed.0 prop) = h.typed.1.1 in
       let same : h.typed.0 ≡ T = cc in
       certified_of Q u T h.certified.parts.1 (rw same at h.typed.2)
 
-  left-of : (T : Typ) (t u : Term) → Proves Q hyps rests (eq T t u) → IsCertifiedOf Q t T
+  pub left-of : (T : Typ) (t u : Term) → Proves Q hyps rests (eq T t u) → IsCertifiedOf Q t T
   left-of T t u p = left-certified T t u (proved_is_proposition Q q above hyps rests (eq T t u) p)
 
-  right-of : (T : Typ) (t u : Term) → Proves Q hyps rests (eq T t u) → IsCertifiedOf Q u T
+  pub right-of : (T : Typ) (t u : Term) → Proves Q hyps rests (eq T t u) → IsCertifiedOf Q u T
   right-of T t u p = right-certified T t u (proved_is_proposition Q q above hyps rests (eq T t u) p)
 
   typ-of : (t : Term) (T : Typ) → IsCertifiedOf Q t T → IsCertifiedTyp Q.declarations T

@@ -1,9 +1,9 @@
 -- The walk from a whole term gives the normaliser's answer.
-use Rattle.std.proofs.Common.{◌≡◌, ℕ, zero, suc, ◌-◌, ◌≤◌, List, [], ◌∷◌, length, refl, ap, sym, subst, arith}
+use Rattle.std.proofs.Common.{◌≡◌, ℕ, zero, suc, ◌≤◌, List, [], ◌∷◌, length, refl, ap, sym, subst, arith}
 use Rattle.std.specs.Prelude.{Some, Err}
 use Rattle.pure_text.specs.Lists.{Each}
-use Rattle.pure_definitions.specs.Terms.Term.{Term, IsWithin, term_size, max_size}
-use Rattle.pure_definitions.specs.Terms.Limits.{cut_off}
+use Rattle.pure_definitions.specs.Terms.Term.{Term, IsWithin, term_size, term_depth, max_size, max_depth}
+use Rattle.pure_definitions.specs.Terms.Limits.{Leaves}
 use Rattle.pure_definitions.specs.Reduction.Beta.{IsBetaNormal, beta_step, IsBetaSequence, TooLarge, NormalForm, TooManySteps, max_steps, IsBetaAnswer}
 use Rattle.pure_term_laws.proofs.BetaLaws.{step-not_normal}
 use Rattle.pure_norm.specs.declared.walk.Until.TheVariants.{Normal}
@@ -47,8 +47,8 @@ pub record IsBeginning (walk : Walk) (t : Term) : Type 0 where
   pub all_steps : walk.steps ≡ max_steps
   pub all_room : nodes_at walk t ≡ max_size
 
-pub beginning : (nodes : ℕ) (t u : Term) → nodes ≡ cut_off (term_size t) → nodes ≤ max_size → u ≡ t → IsBeginning (record { steps = max_steps; room = max_size - nodes }) u
-beginning nodes t u e small same = record { all_steps = refl; all_room = rw same (omega arith) }
+pub beginning : (rest : ℕ) (t u : Term) → Leaves max_size max_depth (term_size t) (term_depth t) (Some rest) → u ≡ t → IsBeginning (record { steps = max_steps; room = rest }) u
+beginning rest t u h same = record { all_steps = refl; all_room = rw same h.0 }
 
 whole-leads : (walk : Walk) (n : ℕ) (t u : Term) → IsBeginning walk t → Leads Normal (nodes_at walk t) 0 t n u → Leads Normal max_size 0 t n u
 whole-leads walk n t u b h = subst (λ k. Leads Normal k 0 t n u) b.all_room h

@@ -18,7 +18,8 @@ use Rattle.pure_norm.specs.declared.walk.Until.TheVariants.{Abstraction, Normal}
 use Rattle.pure_norm.specs.declared.walk.Walk.{Walk}
 use Rattle.pure_norm.specs.declared.fault.NormFault.{NormFault}
 use Rattle.pure_norm.specs.Walk.{CanWalk, IsOver, Walked, Fails, Contracted, CannotContract}
-use Rattle.pure_norm.proofs.ClosedLemmas.{closed-more, puttable-closed}
+use Rattle.pure_term_laws.proofs.OccursLaws.{closed-more}
+use Rattle.pure_norm.proofs.ClosedLemmas.{puttable-closed}
 use Rattle.pure_norm.proofs.LeadsLemmas.{app-goes_on, function-frame, argument-frame, body-frame}
 use Rattle.pure_norm.proofs.WalkLemmas.{walked-chain, fails-chain, walked-whole, fails-whole, walked-contracted, fails-contract, can_walk-after}
 
@@ -117,11 +118,16 @@ pub record IsFunctionOver (until : Until) (deep : ℕ) (before now : Walk) (t f 
   pub other : ¬ IsAbs f
   pub normal : IsBetaNormal f
 
-pub function-over : (until : Until) (deep : ℕ) (before middle now : Walk) (t f a : Term) → CanWalk deep before t → Walked until deep before middle t (App f a) → now ≡ middle
-    → ¬ IsAbs f → IsOver Abstraction f → IsFunctionOver until deep before now t f a
-function-over until deep before middle now t f a h w e other over =
-    let walked : Walked until deep before now t (App f a) = rw e w in
-    record { walked = walked; can = can_walk-after until deep before now t (App f a) h walked; other = other; normal = over other }
+pub function-over : (until : Until) (deep : ℕ) (before middle now : Walk) (t f g a b : Term) → CanWalk deep before t → Walked until deep before middle t (App f a)
+    → (¬ IsAbs f) × (now ≡ middle) × (g ≡ f) × (b ≡ a) → IsOver Abstraction f → IsFunctionOver until deep before now t g b
+function-over until deep before middle now t f g a b h w none over =
+    let walked : Walked until deep before now t (App g b) = rw (none.1, none.2, none.3) w in
+    record {
+      walked = walked;
+      can = can_walk-after until deep before now t (App g b) h walked;
+      other = rw none.2 none.0;
+      normal = rw none.2 (over none.0);
+    }
 
 module _ (until : Until) (deep : ℕ) (before middle : Walk) (t f a : Term) (known : IsFunctionOver until deep before middle t f a) where
   pub walked-after_function : (now : Walk) (b : Term) → Walked Normal (deep + 1) middle now a b → Walked until deep before now t (App f b)

@@ -1,7 +1,9 @@
 pub mod ClosedLemmas
+pub mod OccurrenceLemmas
 pub mod StepLemmas
 pub mod LeadsLemmas
 pub mod WalkLemmas
 pub mod DescendLemmas
+pub mod RedexLemmas
 pub mod AnswerLemmas
 pub mod BetaLaws

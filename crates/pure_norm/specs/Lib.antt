@@ -1,3 +1,5 @@
+pub mod Occurrences
+pub mod Put
 pub mod Walk
 pub mod NormAnswer
 pub mod LawsBeta

@@ -1,7 +1,7 @@
 -- A subterm reduced in its place in a whole term: what its steps lead to within the limits of the whole. The walk knows how many nodes are on the path above the subterm,
 -- how many nodes more the whole may have, and how many steps are left.
 use Rattle.std.specs.Prelude.{◌≡◌, ℕ, zero, suc, ◌+◌, ◌<◌, ◌≤◌, Option, Some, None}
-use Rattle.pure_definitions.specs.Terms.Term.{Term, term_size, term_depth, max_size, max_depth}
+use Rattle.pure_definitions.specs.Terms.Term.{Term, App, term_size, term_depth, max_size, max_depth}
 use Rattle.pure_definitions.specs.Terms.Bounds.{IsClosedUnder}
 use Rattle.pure_definitions.specs.Reduction.Beta.{IsAbs, IsBetaNormal, beta_step}
 use Rattle.pure_norm.specs.declared.walk.Until.{Until}
@@ -80,10 +80,10 @@ pub record Contracted (deep : ℕ) (before now : Walk) (t u : Term) : Type 0 whe
   pub kept : nodes_at now u ≡ nodes_at before t
   pub shallow : deep + term_depth u ≤ max_depth
 
--- The function applied is no abstraction, or its redex is contracted.
-abbrev pub IsContracted : (deep : ℕ) → (before now : Walk) → (function t : Term) → Option Term → Type 0
-IsContracted deep before now function t None = (¬ IsAbs function) × (now ≡ before)
-IsContracted deep before now function t (Some u) = Contracted deep before now t u
+-- The function applied is no abstraction, and stays with its argument; or its redex is contracted.
+abbrev pub IsContracted : (deep : ℕ) → (before now : Walk) → (function function_now argument argument_now : Term) → Option Term → Type 0
+IsContracted deep before now f g a b None = (¬ IsAbs f) × (now ≡ before) × (g ≡ f) × (b ≡ a)
+IsContracted deep before now f g a b (Some u) = Contracted deep before now (App f a) u
 
 -- why the step from the redex t isn't taken: it leads to a term that doesn't fit, or no step is left
 abbrev pub CannotContract : (deep : ℕ) → (before : Walk) → (t : Term) → NormFault → Type 0

@@ -4,7 +4,7 @@ ghost use Rattle.pure_norm.specs.NormAnswer.{IsNormAnswer};
 
 use crate::fault::NormFault;
 use crate::walk::{Until, Walk, reduce};
-use pure_term::{MAX_DEPTH, MAX_SIZE, Term, depth, size};
+use pure_term::{MAX_DEPTH, MAX_SIZE, Term, term_leaves};
 use std::alloc::Global;
 
 /// The greatest number of steps.
@@ -16,14 +16,13 @@ pub fn beta_norm(alloc: Global, t: &Term) -> Result<Term, NormFault>
     requires { IsClosed t.now }
     ensures { IsNormAnswer t.now result }
 {
-    let nodes = size(t);
-    if nodes > MAX_SIZE || depth(t) > MAX_DEPTH {
+    let Some(room) = term_leaves(t, MAX_SIZE, MAX_DEPTH) else {
         return Err(NormFault::Big);
-    }
+    };
     let mut u = t.copy(alloc)?;
     let mut walk = Walk {
         steps: MAX_STEPS,
-        room: MAX_SIZE - nodes,
+        room,
     };
     reduce(alloc, &mut u, Until::Normal, 0, &mut walk)?;
     Ok(u)

@@ -4,6 +4,8 @@
 mod beta;
 mod fault;
 pub mod laws;
+mod occurrences;
+mod put;
 mod walk;
 
 pub use beta::{MAX_STEPS, beta_norm};

@@ -211,10 +211,10 @@ impl Order {
             domains,
             class,
         };
-        if let Some(c2) = self.tables.conflict(alloc, &arity)? {
-            return Err(OrderFault::NotCoregular { con, c1: class, c2 });
+        match self.tables.judge(alloc, &arity)? {
+            Ok(greater) => self.tables.push_arity(alloc, arity, greater.as_slice())?,
+            Err(c2) => return Err(OrderFault::NotCoregular { con, c1: class, c2 }),
         }
-        self.tables.push_arity(alloc, arity)?;
         Ok(())
     }
 

@@ -5,10 +5,10 @@ use Rattle.std.proofs.Math.Seq.{get_or-append_seam}
 use Rattle.pure_text.specs.Lists.{IsIn, Each, EachTwo}
 use Rattle.pure_definitions.specs.Types.Order.{Class, Arity, Algebra, IsClassBelow, IsSortBelow, HasClassBelow, AreDomainsBelow}
 use Rattle.pure_text.proofs.ListLaws.{each_of, any_of, in-append_left, in-append_right, in_split, any_some, each_at, any-append_left, any_decided, each_decided}
-use Rattle.pure_definitions.proofs.OrderLaws.{below-more, domains_same, two_imply, HasMore, domains-more}
+use Rattle.pure_definitions.proofs.OrderLaws.{below-more, domains_same, domains-trans, two_imply, HasMore, domains-more}
 use Rattle.pure_order_tables.specs.Classes.{IsDeclared, Follows}
 use Rattle.pure_order_tables.specs.Arities.{IsArityBelow, IsGreatest, IsGreatestIfAny, IsKnown, with_class, with_arity}
-use Rattle.pure_order_tables.specs.Checks.{IsDecided}
+use Rattle.pure_order_tables.specs.Checks.{IsCovered, IsDecided}
 use Rattle.pure_order_tables.specs.ArityTable.{IsPlace, ArePlaces}
 use Rattle.pure_order_tables.proofs.BelowLaws.{below-one_more}
 
@@ -49,6 +49,25 @@ kept_place A a k d i not p = record { within = omega (arith, length-append A.ari
       above = λ b g. elim (new_or_old A a k d b g.is) [
         | inl same ↦ absurd (not (rw same at g))
         | inr old ↦ same_domains A a b (get_or A.arities i e) ((p.greatest e).above b (greatest_before A a k d b old g))
+      ];
+    }
+
+-- A place stays right where the new arity is below the greatest.
+pub kept_covered : (A : Algebra) (a : Arity) (d i : ℕ) → IsCovered A a.con d a.domains → IsPlace A a.con d i → IsPlace (with_arity A a) a.con d i
+kept_covered A a d i covered p = record { within = omega (arith, length-append A.arities (a ∷ []), p.within); greatest = λ e. rw (get_or-append A.arities (a ∷ []) e i p.within) (kept (get_or A.arities i e) (p.greatest e)) }
+  where
+    over : (e : Arity) → IsGreatestIfAny A a.con d e → IsGreatest (with_arity A a) a.con d a → AreDomainsBelow A a e
+    over e p g =
+        let q = covered.0 in
+        let is_greatest : IsGreatest A a.con d q = record { is = covered.1.is; above = λ b m. domains-trans A b a q (same_domains_back A a b a (g.above b (further A a a.con d b m))) covered.2 } in
+        domains-trans A a q e covered.2 (p.above q is_greatest)
+
+    kept : (e : Arity) → IsGreatestIfAny A a.con d e → IsGreatestIfAny (with_arity A a) a.con d e
+    kept e p = record {
+      is = further A a a.con d e p.is;
+      above = λ b g. elim (new_or_old A a a.con d b g.is) [
+        | inl same ↦ rw same (same_domains A a a e (over e p (rw same at g)))
+        | inr old ↦ same_domains A a b e (p.above b (greatest_before A a a.con d b old g))
       ];
     }
 

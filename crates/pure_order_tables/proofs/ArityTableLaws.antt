@@ -8,7 +8,6 @@ use Rattle.pure_order_tables.specs.Classes.{IsDeclared, Follows}
 use Rattle.pure_order_tables.specs.Arities.{IsArityBelow, IsGreatestIfAny, IsAboveGreatest, IsNotAbove, IsKnown, with_class, with_arity}
 use Rattle.std.proofs.Math.ListN.{get_or-map}
 use Rattle.std.proofs.lemmas.List.{map-append}
-use Rattle.std.proofs.lemmas.Bool.Decides.{eqb_tells}
 use Rattle.pure_order_tables.specs.declared.tables.ArityEntry.{ArityEntry}
 use Rattle.pure_order_tables.specs.ArityView.{arity_of, arities_of, algebra_of}
 use Rattle.pure_order_tables.specs.ClassTable.{AreAllAbove}
@@ -17,7 +16,8 @@ use Rattle.pure_order_tables.proofs.BelowLaws.{below-classes}
 use Rattle.pure_order_tables.specs.ArityTable.{IsPlace, ArePlaces, places_in, IsArityTable}
 use Rattle.pure_text.proofs.ListLaws.{each-append}
 use Rattle.pure_order_tables.proofs.MapLaws.{get_after}
-use Rattle.pure_order_tables.proofs.ArityLaws.{IsDone, same_order_back, new_place, not_greatest, kept_place, known_after, places_after, kept_apart}
+use Rattle.pure_order_tables.proofs.ArityLaws.{IsDone, same_order_back, new_place, not_greatest, kept_place, kept_covered, known_after, places_after, kept_apart}
+use Rattle.pure_order_tables.specs.Checks.{AreGreater, IsCovered, IsDecided}
 
 pub no_place : (A B : Algebra) (slots : BTreeMap ℕ (BTreeMap ℕ ℕ)) (k l d : ℕ) → A ≡ B → l ≡ k → IsArityTable A slots → None ≡ get nat_cmp slots l → (q : Arity) → ¬ IsArityBelow B k d q
 no_place A B slots k l d same name t none =
@@ -61,21 +61,20 @@ turn_put A a d r P P' o o' passed below over at done = elim at [
   | inr w ↦ rw w.1 (elim done [ inl right ↦ inl right | inr left ↦ inr (λ p. elim (passed.0 p) [ inl q ↦ left.0 q | inr e ↦ w.0 e ], left.1) ])
 ]
 
-pub turn_kept : (A : Algebra) (a : Arity) (d r : ℕ) (P P' : Type 0) (o : Option ℕ) → P' ↔ (P ⊎ (d ≡ r)) → IsNotAbove A a.con r a.domains → IsDone A a d P o → IsDone A a d P' o
-turn_kept A a d r P P' o passed not done = elim done [
-  | inl right ↦ inl right
-  | inr left ↦ elim (eqb_tells d r) [
-    | inl w ↦ inl (still o left.1 (rw w.1 not))
-    | inr w ↦ inr (λ p. elim (passed.0 p) [ inl q ↦ left.0 q | inr e ↦ w.1 e ], left.1)
+-- A place stays right where the new arity is below the greatest, or isn't above some arity.
+still_kept : (A : Algebra) (a : Arity) (d : ℕ) (o : Option ℕ) → MatchOption o ((q : Arity) → ¬ IsArityBelow A a.con d q) (IsPlace A a.con d) → IsCovered A a.con d a.domains ⊎ IsNotAbove A a.con d a.domains
+    → MatchOption o ((q : Arity) → ¬ IsArityBelow (with_arity A a) a.con d q) (IsPlace (with_arity A a) a.con d)
+still_kept A a d None none w = elim w [ inl covered ↦ absurd (none covered.0 covered.1.is) | inr n ↦ absurd (none n.0 n.1) ]
+still_kept A a d (Some i) p w = elim w [ inl covered ↦ kept_covered A a d i covered p | inr n ↦ kept_place A a a.con d i (not_greatest A a a.con d n.0 n.1 n.2) p ]
+
+pub all_done : (A : Algebra) → IsDecided A → (a : Arity) (ds : List ℕ) → AreGreater A a ds → (d : ℕ) (o : Option ℕ) → IsDone A a d (IsIn d ds) o → MatchOption o ((q : Arity) → ¬ IsArityBelow (with_arity A a) a.con d q) (IsPlace (with_arity A a) a.con d)
+all_done A decided a ds g d o done = elim done [
+  | inl right ↦ right
+  | inr left ↦ elim (decided a.class d) [
+    | inl below ↦ elim (g.kept d below) [ inl inside ↦ absurd (left.0 inside) | inr w ↦ still_kept A a d o left.1 w ]
+    | inr not ↦ kept_apart A a a.con d o (λ h. not (same_order_back A a h.below)) left.1
   ]
 ]
-  where
-    still : (o : Option ℕ) → MatchOption o ((q : Arity) → ¬ IsArityBelow A a.con d q) (IsPlace A a.con d) → IsNotAbove A a.con d a.domains → MatchOption o ((q : Arity) → ¬ IsArityBelow (with_arity A a) a.con d q) (IsPlace (with_arity A a) a.con d)
-    still None none n = absurd (none n.0 n.1)
-    still (Some i) p n = kept_place A a a.con d i (not_greatest A a a.con d n.0 n.1 n.2) p
-
-pub all_done : (A : Algebra) (a : Arity) (d : ℕ) (P : Type 0) (o : Option ℕ) → (IsClassBelow A a.class d → P) → IsDone A a d P o → MatchOption o ((q : Arity) → ¬ IsArityBelow (with_arity A a) a.con d q) (IsPlace (with_arity A a) a.con d)
-all_done A a d P o all done = elim done [ inl right ↦ right | inr left ↦ kept_apart A a a.con d o (λ h. left.0 (all (same_order_back A a h.below))) left.1 ]
 
 pub entries-one_arity : (cs : List Class) (es es' : List ArityEntry) (e : ArityEntry) (B : Algebra) (old new : BTreeMap ℕ (BTreeMap ℕ ℕ)) (places : BTreeMap ℕ ℕ) → algebra_of cs es ≡ B → es' ≡ es ++ e ∷ []
     → IsArityTable (algebra_of cs es) old → IsKnown B.classes (arity_of e) → ArePlaces (with_arity B (arity_of e)) e.con (get nat_cmp places) → Updates nat_cmp old new e.con (Some places) → IsArityTable (algebra_of cs es') new

@@ -4,14 +4,14 @@ use Rattle.std.proofs.lemmas.List.{map-append}
 use Rattle.pure_order_tables.specs.declared.tables.ArityEntry.{ArityEntry}
 use Rattle.pure_order_tables.specs.ArityView.{arity_of, arities_of}
 use Rattle.std.proofs.lemmas.Bool.Decides.{eqb_tells}
-use Rattle.pure_text.specs.Lists.{IsIn, Each, AnyOf}
-use Rattle.pure_definitions.specs.Types.Order.{Class, Arity, Algebra, IsClassBelow, AreDomainsBelow, IsJoin, AreCompatible, IsCoregular}
-use Rattle.pure_text.proofs.ListLaws.{each_of, any_of, in-append_left, in-append_right, in_split, any_some, any_imply, each_at, each-append, any-append_left, any-append_right}
+use Rattle.pure_text.specs.Lists.{IsIn, Each}
+use Rattle.pure_definitions.specs.Types.Order.{Class, Arity, Algebra, IsClassBelow, AreDomainsBelow, AreCompatible, IsCoregular}
+use Rattle.pure_text.proofs.ListLaws.{each_of, in-append_left, in-append_right, in_split, any_imply, each_at, each-append, any-append_left, any-append_right}
 use Rattle.pure_text.proofs.LoopLaws.{longer_by}
 use Rattle.pure_order_tables.specs.Arities.{IsArityBelow, IsGreatest, IsGreatestIfAny, IsKnown, with_class, with_arity}
-use Rattle.pure_order_tables.specs.Checks.{IsAboveBoth, Pass, IsCovered, IsDirected, IsDecided, PassesWith, Fails, FindsFailing, IsLeastInConflict}
+use Rattle.pure_order_tables.specs.Checks.{IsDirected, IsDecided, PassesAt, FailsAt, FindsAt}
 use Rattle.pure_definitions.proofs.OrderLaws.{domains_same, domains-trans, domains-more, below-more}
-use Rattle.pure_order_tables.proofs.ArityLaws.{same_order, same_order_back, same_domains, same_domains_back, two_decided, has_more, below_before}
+use Rattle.pure_order_tables.proofs.ArityLaws.{same_order, same_order_back, same_domains, has_more, below_before}
 use Rattle.pure_order_tables.specs.Classes.{IsDeclared, Follows}
 
 -- In a coregular algebra the arities of a constructor for classes below a class are directed.
@@ -47,31 +47,6 @@ pub candidate_greatest : (A : Algebra) → IsDecided A → (k d : ℕ) → IsDir
 candidate_greatest A decided k d join q c =
     let g = greatest A decided k d join q c.is in
     record { is = c.is; above = λ b n. domains-trans A b g.0 q (g.1.above b n) (c.above g.0 g.1) }
-
--- What passes the test at the unsettled classes is compatible.
-pub passed_compatible : (A : Algebra) → IsDecided A → IsCoregular A → (a b : Arity) (unsettled : List ℕ) → IsIn b A.arities → b.con ≡ a.con → ((d : ℕ) → IsClassBelow A a.class d → IsIn d unsettled ⊎ IsCovered A a.con d a.domains) → Pass A a b unsettled → AreCompatible (with_arity A a) a b
-passed_compatible A decided r a b unsettled m con rest p = record {
-  forth = λ h. same_domains A a a b (p.forth (same_order_back A a h));
-  back = λ h. same_domains A a b a (p.back (same_order_back A a h));
-  joined = λ d h k. at d (same_order_back A a h) (same_order_back A a k);
-}
-  where
-    new_join : (d : ℕ) → IsClassBelow A a.class d → AreDomainsBelow A b a → (q : Arity) × IsJoin (with_arity A a) a b d q
-    new_join d h over = (a, record { declared = in-append_right a A.arities (a ∷ []) (inl refl); con = refl; class = same_order A a h; first = domains_same (with_arity A a) a; second = same_domains A a b a over })
-
-    old_join : (d : ℕ) (q : Arity) → IsIn q A.arities → q.con ≡ a.con → IsClassBelow A q.class d → AreDomainsBelow A a q → AreDomainsBelow A b q → (q : Arity) × IsJoin (with_arity A a) a b d q
-    old_join d q n e h first second = (q, record { declared = in-append_left q A.arities (a ∷ []) n; con = e; class = same_order A a h; first = same_domains A a a q first; second = same_domains A a b q second })
-
-    at : (d : ℕ) → IsClassBelow A a.class d → IsClassBelow A b.class d → (q : Arity) × IsJoin (with_arity A a) a b d q
-    at d h k = elim p.joined [
-      | inl over ↦ new_join d h over
-      | inr joined ↦ elim (rest d h) [
-        | inl inside ↦ (let w = any_some (IsAboveBoth A a.con d a.domains b.domains) A.arities (each_at (λ d. IsClassBelow A a.class d → IsClassBelow A b.class d → AnyOf (IsAboveBoth A a.con d a.domains b.domains) A.arities) unsettled joined d inside h k) in
-            old_join d w.0 w.1 w.2.con w.2.below w.2.first_below w.2.second_below)
-        | inr covered ↦ (let g = candidate_greatest A decided a.con d (directed A r a.con d) covered.0 covered.1 in
-            old_join d covered.0 g.is.declared g.is.con g.is.below covered.2 (g.above b (record { declared = m; con = con; below = k })))
-      ]
-    ]
 
 pub compatible_back : (A : Algebra) (a b : Arity) → a.con ≡ b.con → AreCompatible A a b → AreCompatible A b a
 compatible_back A a b con w = record {
@@ -112,56 +87,26 @@ coregular_with A r a all b c m n con = elim (in_split b A.arities (a ∷ []) m) 
   ]
 ]
 
--- What is compatible with a new arity passes the test.
-pub compatible_passes : (A : Algebra) → IsDecided A → (a b : Arity) (ds : List ℕ) → AreCompatible (with_arity A a) a b → Pass A a b ds
-compatible_passes A decided a b ds w = record {
-  forth = λ h. same_domains_back A a a b (w.forth (same_order A a h));
-  back = λ h. same_domains_back A a b a (w.back (same_order A a h));
-  joined = elim (two_decided A decided b.domains a.domains) [
-    | inl below ↦ inl below
-    | inr other ↦ inr (each_of (λ d. IsClassBelow A a.class d → IsClassBelow A b.class d → AnyOf (IsAboveBoth A a.con d a.domains b.domains) A.arities) ds (λ d m h k. at other d (w.joined d (same_order A a h) (same_order A a k))))
-  ];
-}
-  where
-    at : ¬ AreDomainsBelow A b a → (d : ℕ) → ((q : Arity) × IsJoin (with_arity A a) a b d q) → AnyOf (IsAboveBoth A a.con d a.domains b.domains) A.arities
-    at other d j = elim (in_split j.0 A.arities (a ∷ []) j.1.declared) [
-      | inl old ↦ any_of (IsAboveBoth A a.con d a.domains b.domains) j.0 A.arities old (record { con = j.1.con; below = same_order_back A a j.1.class; first_below = same_domains_back A a a j.0 j.1.first; second_below = same_domains_back A a b j.0 j.1.second })
-      | inr v ↦ elim v [ inl e ↦ absurd (other (same_domains_back A a b a (rw e at j.1.second))) | inr none ↦ absurd none ]
-    ]
+-- one turn of the look for an arity that lacks something
 
--- one turn of the look for a failing arity
-
-pub found_pass : (A : Algebra) (a : Arity) (ds : List ℕ) (bs : List Arity) (o : Option ℕ) (b : Arity) → PassesWith A a ds b → FindsFailing A a ds bs o → FindsFailing A a ds (bs ++ b ∷ []) o
-found_pass A a ds bs None b p f = each-append (PassesWith A a ds) bs (b ∷ []) f (p, tt)
-found_pass A a ds bs (Some c) b p f = record {
-  is = any-append_left (λ x. Fails A a ds x × (x.class ≡ c)) bs (b ∷ []) f.is;
-  least = each-append (λ x. Fails A a ds x → c ≤ x.class) bs (b ∷ []) f.least ((λ h. absurd (h.fails (p h.con))), tt);
+pub found_pass : (Q : Arity → Type 0) (k : ℕ) (bs : List Arity) (o : Option ℕ) (b : Arity) → PassesAt Q k b → FindsAt Q k bs o → FindsAt Q k (bs ++ b ∷ []) o
+found_pass Q k bs None b p f = each-append (PassesAt Q k) bs (b ∷ []) f (p, tt)
+found_pass Q k bs (Some c) b p f = record {
+  is = any-append_left (λ x. FailsAt Q k x × (x.class ≡ c)) bs (b ∷ []) f.is;
+  least = each-append (λ x. FailsAt Q k x → c ≤ x.class) bs (b ∷ []) f.least ((λ h. absurd (h.fails (p h.con))), tt);
 }
 
-pub found_fail : (A : Algebra) (a : Arity) (ds : List ℕ) (bs : List Arity) (o : Option ℕ) (b : Arity) (c : ℕ) → Fails A a ds b → c ≤ b.class → MatchOption o (c ≡ b.class) (λ d. (c ≤ d) × ((c ≡ d) ⊎ (c ≡ b.class))) → FindsFailing A a ds bs o → FindsFailing A a ds (bs ++ b ∷ []) (Some c)
-found_fail A a ds bs None b c h below is f = record {
-  is = any-append_right (λ x. Fails A a ds x × (x.class ≡ c)) bs (b ∷ []) (inl (h, sym is));
-  least = each-append (λ x. Fails A a ds x → c ≤ x.class) bs (b ∷ []) (each_of (λ x. Fails A a ds x → c ≤ x.class) bs (λ x m k. absurd (k.fails (each_at (PassesWith A a ds) bs f x m k.con)))) ((λ k. below), tt);
+pub found_fail : (Q : Arity → Type 0) (k : ℕ) (bs : List Arity) (o : Option ℕ) (b : Arity) (c : ℕ) → FailsAt Q k b → c ≤ b.class → MatchOption o (c ≡ b.class) (λ d. (c ≤ d) × ((c ≡ d) ⊎ (c ≡ b.class))) → FindsAt Q k bs o → FindsAt Q k (bs ++ b ∷ []) (Some c)
+found_fail Q k bs None b c h below is f = record {
+  is = any-append_right (λ x. FailsAt Q k x × (x.class ≡ c)) bs (b ∷ []) (inl (h, sym is));
+  least = each-append (λ x. FailsAt Q k x → c ≤ x.class) bs (b ∷ []) (each_of (λ x. FailsAt Q k x → c ≤ x.class) bs (λ x m n. absurd (n.fails (each_at (PassesAt Q k) bs f x m n.con)))) ((λ n. below), tt);
 }
-found_fail A a ds bs (Some d) b c h below is f = record {
+found_fail Q k bs (Some d) b c h below is f = record {
   is = elim is.1 [
-    | inl e ↦ any-append_left (λ x. Fails A a ds x × (x.class ≡ c)) bs (b ∷ []) (any_imply (λ x. Fails A a ds x × (x.class ≡ d)) (λ x. Fails A a ds x × (x.class ≡ c)) bs (λ x k. (k.0, k.1 ∙ sym e)) f.is)
-    | inr e ↦ any-append_right (λ x. Fails A a ds x × (x.class ≡ c)) bs (b ∷ []) (inl (h, sym e))
+    | inl e ↦ any-append_left (λ x. FailsAt Q k x × (x.class ≡ c)) bs (b ∷ []) (any_imply (λ x. FailsAt Q k x × (x.class ≡ d)) (λ x. FailsAt Q k x × (x.class ≡ c)) bs (λ x n. (n.0, n.1 ∙ sym e)) f.is)
+    | inr e ↦ any-append_right (λ x. FailsAt Q k x × (x.class ≡ c)) bs (b ∷ []) (inl (h, sym e))
   ];
-  least = each-append (λ x. Fails A a ds x → c ≤ x.class) bs (b ∷ []) (each_of (λ x. Fails A a ds x → c ≤ x.class) bs (λ x m k. (let low = each_at (λ x. Fails A a ds x → d ≤ x.class) bs f.least x m k in let lower = is.0 in omega arith))) ((λ k. below), tt);
-}
-
--- What the look finds for a new arity.
-pub conflict_found : (A : Algebra) → IsDecided A → IsCoregular A → (a : Arity) (ds : List ℕ) → ((d : ℕ) → IsClassBelow A a.class d → IsIn d ds ⊎ IsCovered A a.con d a.domains) → (o : Option ℕ) → FindsFailing A a ds A.arities o
-    → MatchOption o (IsCoregular (with_arity A a)) (IsLeastInConflict (with_arity A a) a)
-conflict_found A decided r a ds rest None f = coregular_with A r a (λ b m con. passed_compatible A decided r a b ds m con rest (each_at (PassesWith A a ds) A.arities f b m con))
-conflict_found A decided r a ds rest (Some c) f = record {
-  is = (let w = any_some (λ x. Fails A a ds x × (x.class ≡ c)) A.arities f.is in
-      (w.0, record { declared = in-append_left w.0 A.arities (a ∷ []) w.1; con = w.2.0.con; conflict = λ k. w.2.0.fails (compatible_passes A decided a w.0 ds k) }, w.2.1));
-  least = λ b k. elim (in_split b A.arities (a ∷ []) k.declared) [
-    | inl old ↦ each_at (λ x. Fails A a ds x → c ≤ x.class) A.arities f.least b old (record { con = k.con; fails = λ p. k.conflict (passed_compatible A decided r a b ds old k.con rest p) })
-    | inr w ↦ elim w [ inl e ↦ absurd (k.conflict (rw e (compatible_self (with_arity A a) a (in-append_right a A.arities (a ∷ []) (inl refl))))) | inr none ↦ absurd none ]
-  ];
+  least = each-append (λ x. FailsAt Q k x → c ≤ x.class) bs (b ∷ []) (each_of (λ x. FailsAt Q k x → c ≤ x.class) bs (λ x m n. (let low = each_at (λ x. FailsAt Q k x → d ≤ x.class) bs f.least x m n in let lower = is.0 in omega arith))) ((λ n. below), tt);
 }
 
 pub one_more_arity : (es : List ArityEntry) (i : ℕ) (e : ArityEntry) → i < length es → e ≡ get_or es i e → arities_of (take (i + 1) es) ≡ arities_of (take i es) ++ arity_of e ∷ []

@@ -4,6 +4,7 @@ pub mod ClassTableLaws
 pub mod ArityLaws
 pub mod ArityTableLaws
 pub mod CoregularLaws
+pub mod JudgeLaws
 pub mod UnknownLaws
 pub mod UnionLaws
 pub mod ConflictLaws

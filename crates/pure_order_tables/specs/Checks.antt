@@ -2,7 +2,7 @@
 use Rattle.std.specs.Prelude.{◌≡◌, ◌≤◌, ◌<◌, ◌⊎◌, ℕ, List, Option, MatchOption}
 use Rattle.pure_text.specs.Lists.{IsIn, Each, AnyOf, EachTwo}
 use Rattle.pure_definitions.specs.Types.Order.{Arity, Algebra, IsClassBelow, IsSortBelow, AreDomainsBelow, AreCompatible}
-use Rattle.pure_order_tables.specs.Arities.{IsArityBelow, IsGreatestIfAny}
+use Rattle.pure_order_tables.specs.Arities.{IsArityBelow, IsGreatestIfAny, IsAboveGreatest, IsNotAbove}
 
 -- An arity of the constructor k for a class below d whose domains are above both of these.
 pub record IsAboveBoth (A : Algebra) (k d : ℕ) (first second : List (List ℕ)) (q : Arity) : Type 0 where
@@ -48,23 +48,62 @@ IsDirected A k d = (a b : Arity) → IsArityBelow A k d a → IsArityBelow A k d
 abbrev pub IsDecided : Algebra → Type 0
 IsDecided A = (c d : ℕ) → IsClassBelow A c d ⊎ ¬ IsClassBelow A c d
 
--- The arity b passes the test with a, where it is of a's constructor.
+-- The arity is of the constructor k and lacks what is asked of such arities, or has it if it is of k.
+pub record FailsAt (Q : Arity → Type 0) (k : ℕ) (b : Arity) : Type 0 where
+  pub con : b.con ≡ k
+  pub fails : ¬ Q b
+
+abbrev pub PassesAt : (Arity → Type 0) → ℕ → Arity → Type 0
+PassesAt Q k b = b.con ≡ k → Q b
+
+-- The class is the least class of one of these arities of k that lacks what is asked.
+pub record IsLeastAt (Q : Arity → Type 0) (k : ℕ) (bs : List Arity) (class : ℕ) : Type 0 where
+  pub is : AnyOf (λ b. FailsAt Q k b × (b.class ≡ class)) bs
+  pub least : Each (λ b. FailsAt Q k b → class ≤ b.class) bs
+
+-- What a look for such an arity finds.
+abbrev pub FindsAt : (Arity → Type 0) → ℕ → List Arity → Option ℕ → Type 0
+FindsAt Q k bs found = MatchOption found (Each (PassesAt Q k) bs) (IsLeastAt Q k bs)
+
+-- The arity b passes the test with a, where it is of a's constructor; it is and doesn't.
 abbrev pub PassesWith : Algebra → Arity → List ℕ → Arity → Type 0
-PassesWith A a ds b = b.con ≡ a.con → Pass A a b ds
+PassesWith A a ds = PassesAt (λ b. Pass A a b ds) a.con
 
--- The arity b is of a's constructor and doesn't pass the test with a.
-pub record Fails (A : Algebra) (a : Arity) (ds : List ℕ) (b : Arity) : Type 0 where
-  pub con : b.con ≡ a.con
-  pub fails : ¬ Pass A a b ds
+abbrev pub Fails : Algebra → Arity → List ℕ → Arity → Type 0
+Fails A a ds = FailsAt (λ b. Pass A a b ds) a.con
 
--- The class is the least class of one of these arities that fails the test with a.
-pub record IsLeastFailing (A : Algebra) (a : Arity) (ds : List ℕ) (bs : List Arity) (class : ℕ) : Type 0 where
-  pub is : AnyOf (λ b. Fails A a ds b × (b.class ≡ class)) bs
-  pub least : Each (λ b. Fails A a ds b → class ≤ b.class) bs
+-- The class is the least class of one of these arities that fails the test with a; what a look for it finds.
+abbrev pub IsLeastFailing : Algebra → Arity → List ℕ → List Arity → ℕ → Type 0
+IsLeastFailing A a ds = IsLeastAt (λ b. Pass A a b ds) a.con
 
--- What a look for a failing arity finds.
 abbrev pub FindsFailing : Algebra → Arity → List ℕ → List Arity → Option ℕ → Type 0
-FindsFailing A a ds bs found = MatchOption found (Each (PassesWith A a ds) bs) (IsLeastFailing A a ds bs)
+FindsFailing A a ds = FindsAt (λ b. Pass A a b ds) a.con
+
+-- All arities of a's constructor for classes below d have domains below a's.
+abbrev pub AreAllBelow : Algebra → Arity → ℕ → Type 0
+AreAllBelow A a d = (b : Arity) → IsArityBelow A a.con d b → AreDomainsBelow A b a
+
+-- At class d, above a's, the new arity a keeps the algebra coregular: there is no arity of its constructor for a class below d, or a's domains are below the greatest ones,
+-- or above all, and none is for d itself. At its own class a's domains are above all.
+pub record FitsAt (A : Algebra) (a : Arity) (d : ℕ) : Type 0 where
+  pub settled : ((q : Arity) → ¬ IsArityBelow A a.con d q) ⊎ (IsCovered A a.con d a.domains ⊎ (AreAllBelow A a d × ((b : Arity) → IsArityBelow A a.con d b → ¬ (b.class ≡ d))))
+  pub back : d ≡ a.class → AreAllBelow A a d
+
+-- These classes are above a's, and at each of them a new arity a would be the greatest. At all others above a's it is below the greatest, or not above some arity.
+pub record AreGreater (A : Algebra) (a : Arity) (ds : List ℕ) : Type 0 where
+  pub above : (d : ℕ) → IsIn d ds → IsClassBelow A a.class d × IsAboveGreatest A a.con d a.domains
+  pub kept : (d : ℕ) → IsClassBelow A a.class d → IsIn d ds ⊎ (IsCovered A a.con d a.domains ⊎ IsNotAbove A a.con d a.domains)
+
+-- These are the classes above a's at which a's domains aren't below the greatest ones.
+pub record AreUncovered (A : Algebra) (a : Arity) (ds : List ℕ) : Type 0 where
+  pub above : (d : ℕ) → IsIn d ds → IsClassBelow A a.class d × ¬ IsCovered A a.con d a.domains
+  pub all : (d : ℕ) → IsClassBelow A a.class d → IsIn d ds ⊎ IsCovered A a.con d a.domains
+
+-- The declared arity b is clear of the new arity a, which isn't covered at these classes: the first part of being compatible, and b is for a class below none of these, or a's domains are above b's.
+pub record Clears (A : Algebra) (a : Arity) (ds : List ℕ) (b : Arity) : Type 0 where
+  pub forth : IsClassBelow A a.class b.class → AreDomainsBelow A a b
+  pub back : IsClassBelow A b.class a.class → AreDomainsBelow A b a
+  pub joined : (¬ AnyOf (λ d. IsClassBelow A b.class d) ds) ⊎ AreDomainsBelow A b a
 
 -- The first triple of numbers is the second one or before it.
 abbrev pub IsNotAfter : ℕ → ℕ → ℕ → ℕ → ℕ → ℕ → Type 0

@@ -1,17 +1,13 @@
-//! The test of a new arity: which classes it would be in conflict at.
-ghost use Rattle.std.specs.Prelude.{◌⊎◌, ℕ, IfOk, MatchBool, MatchOption};
-ghost use Rattle.std.specs.Bool.{OnTrue};
-ghost use Rattle.pure_text.specs.Lists.{IsIn, AnyOf};
-ghost use Rattle.pure_definitions.specs.Types.Order.{AreDomainsBelow, IsClassBelow, IsCoregular};
-ghost use Rattle.pure_order_tables.specs.Arities.{with_arity};
-ghost use Rattle.pure_order_tables.specs.Classes.{IsDeclared};
+//! The test of two declared arities.
+ghost use Rattle.std.specs.Prelude.{MatchBool};
+ghost use Rattle.pure_text.specs.Lists.{AnyOf};
+ghost use Rattle.pure_definitions.specs.Types.Order.{AreDomainsBelow, IsClassBelow};
 ghost use Rattle.pure_order_tables.specs.ArityView.{arity_of};
-ghost use Rattle.pure_order_tables.specs.Checks.{AreJoined, Fails, FindsFailing, IsAboveBoth, IsCovered, IsLeastInConflict, Pass, PassesWith};
+ghost use Rattle.pure_order_tables.specs.Checks.{AreJoined, Fails, FindsFailing, IsAboveBoth, Pass, PassesWith};
 
 use crate::names::lesser;
 use crate::tables::{ArityEntry, Tables};
 use pure_typ::{Name, Sort};
-use std::alloc::{AllocError, Global};
 
 impl Tables {
     /// Whether the arity is one of the constructor for a class below this one, with domains above both of these.
@@ -64,7 +60,7 @@ impl Tables {
     }
 
     /// Whether the first part holds of two arities, one way.
-    fn falls(&self, first: &ArityEntry, second: &ArityEntry) -> bool
+    pub(crate) fn falls(&self, first: &ArityEntry, second: &ArityEntry) -> bool
         ensures { MatchBool result (IsClassBelow self.now first.now.class second.now.class → AreDomainsBelow self.now (arity_of first.now) (arity_of second.now)) (¬ (IsClassBelow self.now first.now.class second.now.class → AreDomainsBelow self.now (arity_of first.now) (arity_of second.now))) }
     {
         !self.below(first.class, second.class)
@@ -72,40 +68,13 @@ impl Tables {
     }
 
     /// Whether two arities of a constructor pass the test of being compatible, the second part at these classes.
-    pub(crate) fn pass(&self, first: &ArityEntry, second: &ArityEntry, classes: &[Name]) -> bool
+    fn pass(&self, first: &ArityEntry, second: &ArityEntry, classes: &[Name]) -> bool
         ensures { MatchBool result (Pass self.now (arity_of first.now) (arity_of second.now) classes.now) (¬ Pass self.now (arity_of first.now) (arity_of second.now) classes.now) }
     {
         self.falls(first, second)
             && self.falls(second, first)
             && (self.domains_below(second.domains.as_slice(), first.domains.as_slice())
                 || self.are_joined(first, second, classes))
-    }
-
-    /// Whether the domains are below the candidate of the constructor at the class.
-    pub(crate) fn is_covered(&self, con: Name, class: Name, domains: &[Sort]) -> bool
-        ensures { OnTrue result (IsCovered self.now con class domains.now) }
-    {
-        match self.candidate(con, class) {
-            None => false,
-            Some(candidate) => self.domains_below(domains, candidate),
-        }
-    }
-
-    /// The classes above the arity's at which its domains aren't below the candidate.
-    fn unsettled(&self, alloc: Global, arity: &ArityEntry) -> Result<Vec<Name>, AllocError>
-        requires { IsDeclared self.now.classes arity.now.class }
-        ensures { IfOk result (λ classes. (d : ℕ) → IsClassBelow self.now arity.now.class d → IsIn d classes.items ⊎ IsCovered self.now arity.now.con d arity.now.domains.items) }
-    {
-        let mut classes = Vec::new(alloc);
-        let Some(above) = self.above(arity.class) else {
-            return Ok(classes);
-        };
-        for class in above {
-            if !self.is_covered(arity.con, *class, arity.domains.as_slice()) {
-                classes.push(*class)?;
-            }
-        }
-        Ok(classes)
     }
 
     /// Whether the second arity is of the first one's constructor and doesn't pass the test with it.
@@ -126,16 +95,5 @@ impl Tables {
             }
         }
         least
-    }
-
-    /// The least class of a declared arity in conflict with this one, which isn't declared yet.
-    pub fn conflict(&self, alloc: Global, arity: &ArityEntry) -> Result<Option<Name>, AllocError>
-        requires coregular { IsCoregular self.now }
-        requires declared { IsDeclared self.now.classes arity.now.class }
-        ensures { IfOk result (λ found. MatchOption found (IsCoregular (with_arity self.now (arity_of arity.now))) (IsLeastInConflict (with_arity self.now (arity_of arity.now)) (arity_of arity.now))) }
-    {
-        self.order_is_decided();
-        let unsettled = self.unsettled(alloc, arity)?;
-        Ok(self.least_failing(arity, unsettled.as_slice()))
     }
 }

@@ -4,6 +4,7 @@
 mod checks;
 mod classes;
 mod conflicts;
+mod judge;
 mod names;
 mod room;
 mod tables;

@@ -7,7 +7,7 @@ ghost use Rattle.pure_text.specs.Lists.{IsIn, Each, EachTwo};
 ghost use Rattle.pure_definitions.specs.Types.Order.{Arity, IsClassBelow, HasClassBelow, IsSortBelow, IsCoregular};
 ghost use Rattle.pure_order_tables.specs.Classes.{Agree, IsAntisymmetric, IsDeclared};
 ghost use Rattle.pure_order_tables.specs.Arities.{IsArityBelow, IsGreatestIfAny, IsAboveGreatest, IsKnown, IsNotAbove, IsUnion, with_class, with_arity};
-ghost use Rattle.pure_order_tables.specs.Checks.{IsDecided};
+ghost use Rattle.pure_order_tables.specs.Checks.{AreGreater, IsDecided};
 ghost use Rattle.pure_order_tables.specs.ArityView.{arity_of, arities_of};
 ghost use Rattle.pure_order_tables.specs.ArityTable.{IsPlace, ArePlaces};
 
@@ -206,24 +206,38 @@ impl Tables {
         }
     }
 
+    /// The classes at which a new arity would be the greatest.
+    pub(crate) fn greater(&self, alloc: Global, arity: &ArityEntry) -> Result<Vec<Name>, AllocError>
+        requires { IsDeclared self.now.classes arity.now.class }
+        ensures { IfOk result (λ greater. AreGreater self.now (arity_of arity.now) greater.items) }
+    {
+        let mut greater = Vec::new(alloc);
+        let Some(above) = self.above(arity.class) else {
+            return Ok(greater);
+        };
+        for upper in above {
+            if self.is_greater(arity, *upper) {
+                greater.push(*upper)?;
+            }
+        }
+        Ok(greater)
+    }
+
     /// The places of the constructor's arities once this one stands behind the others.
     fn places_with(
         &self,
         alloc: Global,
         arity: &ArityEntry,
+        greater: &[Name],
     ) -> Result<BTreeMap<u32, usize>, AllocError>
-        requires { IsDeclared self.now.classes arity.now.class }
+        requires { AreGreater self.now (arity_of arity.now) greater.now }
         ensures { IfOk result (λ places. ArePlaces (with_arity self.now (arity_of arity.now)) arity.now.con (get nat_cmp places)) }
     {
+        self.order_is_decided();
         let mut places = self.places_of(alloc, arity.con)?;
-        let Some(above) = self.classes.above(arity.class) else {
-            return Ok(places);
-        };
         let last = self.arity_count();
-        for upper in above {
-            if self.is_greater(arity, *upper) {
-                places.insert(upper.0, last)?;
-            }
+        for upper in greater {
+            places.insert(upper.0, last)?;
         }
         Ok(places)
     }
@@ -245,13 +259,19 @@ impl Tables {
         Ok(())
     }
 
-    /// Declares an arity.
-    pub fn push_arity(&mut self, alloc: Global, arity: ArityEntry) -> Result<(), AllocError>
-        requires { IsKnown self.old.classes (arity_of arity) }
+    /// Declares an arity, which is the greatest at these classes.
+    pub fn push_arity(
+        &mut self,
+        alloc: Global,
+        arity: ArityEntry,
+        greater: &[Name],
+    ) -> Result<(), AllocError>
+        requires known { IsKnown self.old.classes (arity_of arity) }
+        requires greater { AreGreater self.old (arity_of arity) greater.now }
         ensures ok { OnOk result (self.new ≡ with_arity self.old (arity_of arity)) }
         ensures err { OnErr result (self.new ≡ self.old) }
     {
-        let places = self.places_with(alloc, &arity)?;
+        let places = self.places_with(alloc, &arity, greater)?;
         let con = arity.con;
         self.arities.reserve(1)?;
         self.slots.insert(con.0, places)?;

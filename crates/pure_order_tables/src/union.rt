@@ -73,7 +73,8 @@ impl Tables {
     {
         for arity in arities {
             if !self.has_same(arity) {
-                self.push_arity(alloc, copy_arity(alloc, arity)?)?;
+                let greater = self.greater(alloc, arity)?;
+                self.push_arity(alloc, copy_arity(alloc, arity)?, greater.as_slice())?;
             }
         }
         Ok(())

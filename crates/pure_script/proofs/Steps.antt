@@ -4,7 +4,7 @@ use Rattle.pure_grammar.specs.Theories.TheoryText.{Command}
 use Rattle.pure_grammar.specs.Theories.Reader.{Header, Place, turn, body_state, body_next}
 use Rattle.pure_script.specs.declared.lexeme.Lexeme.{Lexeme}
 use Rattle.pure_script.specs.declared.lexeme.Lexeme.TheVariants.{Reserved, Signed, Plain, Dotted, Variable, Numeral, Quoted, Other}
-use Rattle.pure_script.specs.Seen.{seen_lexeme}
+use Rattle.pure_script.specs.Lexemes.{seen_lexeme}
 
 pub body_next_same : (h : Header) (cs : List Command) (p : Place) (l : Lexeme) → body_next h cs p (seen_lexeme l) ≡ body_state h cs (turn p (seen_lexeme l))
 body_next_same h cs p (Reserved word) = refl

@@ -1,4 +1,5 @@
 pub mod Seen
+pub mod Lexemes
 pub mod TextSet
 pub mod Places
 pub mod States

@@ -1,14 +1,8 @@
--- The trees, places and turns of the reader, as contracts see them.
-use Rattle.std.specs.Prelude.{ℕ, List, Option, Some, None, map}
-use Rattle.std.specs.Global.{Vec}
+-- The places and turns of the reader, as contracts see them.
+use Rattle.std.specs.Prelude.{Option, Some, None}
 use Rattle.pure_grammar.specs.Theories.TheoryText as tree
 use Rattle.pure_grammar.specs.Theories.Reader as spec
-use Rattle.pure_script.specs.Seen.{span}
-use Rattle.pure_script.specs.declared.theory.Step.{Step}
-use Rattle.pure_script.specs.declared.theory.Step.TheVariants.{Rule, Erule, Drule, Assumption, Unfold, Prefer, Defer, Close, Done}
-use Rattle.pure_script.specs.declared.theory.Command.{Command}
-use Rattle.pure_script.specs.declared.theory.Command.TheVariants.{Class, TypeDecl, Arity, Const, Axiom, Definition, Lemma}
-use Rattle.pure_script.specs.declared.theory.TheoryText.{TheoryText}
+use Rattle.pure_script.specs.Seen.{span, sorts, seen_steps, seen_command}
 use Rattle.pure_script.specs.declared.place.FactMethod.{FactMethod}
 use Rattle.pure_script.specs.declared.place.FactMethod.TheVariants as method
 use Rattle.pure_script.specs.declared.place.ProofPlace.{ProofPlace}
@@ -20,7 +14,10 @@ use Rattle.pure_script.specs.declared.place.ClassPlace.TheVariants.{AtClassName,
 use Rattle.pure_script.specs.declared.place.TypePlace.{TypePlace}
 use Rattle.pure_script.specs.declared.place.TypePlace.TheVariants.{AtParams, AtParam, AfterParam, AtTypeName}
 use Rattle.pure_script.specs.declared.place.ArityPlace.{ArityPlace}
-use Rattle.pure_script.specs.declared.place.ArityPlace.TheVariants.{AtConstructor, AfterConstructor, AtDomains, AtSort, AfterSort, AtFirstClass, AtNextClass, AfterClass, AtArityClass}
+use Rattle.pure_script.specs.declared.place.ArityPlace.TheVariants.{AtConstructor, AfterConstructor, AtDomains, InDomains, AtArityClass}
+use Rattle.pure_script.specs.declared.place.Domains.{Domains}
+use Rattle.pure_script.specs.declared.place.SortPlace.{SortPlace}
+use Rattle.pure_script.specs.declared.place.SortPlace.TheVariants as sort_place
 use Rattle.pure_script.specs.declared.place.ItemPlace.{ItemPlace}
 use Rattle.pure_script.specs.declared.place.ItemPlace.TheVariants.{AtItem, AfterItem, AtItemType, AfterItemType, AtWhere, AtAxiom, AfterAxiom, AtAxiomText, AfterAxiomText, AtDefinition, AfterDefinition, AtDefinitionType, AfterDefinitionType, AtDefinitionText}
 use Rattle.pure_script.specs.declared.place.LemmaPlace.{LemmaPlace}
@@ -30,39 +27,6 @@ use Rattle.pure_script.specs.declared.place.Course.{Course}
 use Rattle.pure_script.specs.declared.place.Course.TheVariants as course
 use Rattle.pure_script.specs.declared.place.Turn.{Turn}
 use Rattle.pure_script.specs.declared.place.Turn.TheVariants.{Moves, Adds, Refuses}
-
--- the lists of a list of lists of names
-abbrev pub sorts : List (Vec (List ℕ)) → List (List (List ℕ))
-sorts = map (λ (v : Vec (List ℕ)). v.items)
-
-abbrev pub seen_step : Step → tree.Step
-seen_step (Rule x0) = tree.Rule x0
-seen_step (Erule x0) = tree.Erule x0
-seen_step (Drule x0) = tree.Drule x0
-seen_step Assumption = tree.Assumption
-seen_step (Unfold x0) = tree.Unfold x0.items
-seen_step (Prefer x0) = tree.Prefer x0
-seen_step Defer = tree.Defer
-seen_step Close = tree.Close
-seen_step Done = tree.Done
-
-abbrev pub seen_steps : List Step → List tree.Step
-seen_steps = map seen_step
-
-abbrev pub seen_command : Command → tree.Command
-seen_command (Class x0 x1) = tree.Class x0 x1.items
-seen_command (TypeDecl x0 x1) = tree.TypeDecl x0 x1
-seen_command (Arity x0 x1 x2) = tree.Arity x0 (sorts x1.items) x2
-seen_command (Const x0 x1) = tree.Const x0 (span x1)
-seen_command (Axiom x0 x1) = tree.Axiom x0 (span x1)
-seen_command (Definition x0 x1 x2) = tree.Definition x0 (span x1) (span x2)
-seen_command (Lemma x0 x1 x2) = tree.Lemma x0 (span x1) (seen_steps x2.items)
-
-abbrev pub seen_commands : List Command → List tree.Command
-seen_commands = map seen_command
-
-abbrev pub seen_theory : TheoryText → tree.TheoryText
-seen_theory t = record { name = t.name; imports = t.imports.items; commands = seen_commands t.commands.items }
 
 abbrev pub seen_method : FactMethod → spec.FactMethod
 seen_method method.Rule = spec.OfRule
@@ -91,15 +55,18 @@ seen_type_place (AtParam x0) = spec.AtParam x0
 seen_type_place (AfterParam x0) = spec.AfterParam x0
 seen_type_place (AtTypeName x0) = spec.AtTypeName x0
 
+abbrev pub seen_domains : Domains → SortPlace → spec.Place
+seen_domains domains sort_place.AtSort = spec.AtSort domains.con (sorts domains.doms.items)
+seen_domains domains sort_place.AfterSort = spec.AfterSort domains.con (sorts domains.doms.items)
+seen_domains domains sort_place.AtFirstClass = spec.AtFirstClass domains.con (sorts domains.doms.items)
+seen_domains domains sort_place.AtNextClass = spec.AtNextClass domains.con (sorts domains.doms.items) domains.sort.items
+seen_domains domains sort_place.AfterClass = spec.AfterClass domains.con (sorts domains.doms.items) domains.sort.items
+
 abbrev pub seen_arity_place : ArityPlace → spec.Place
 seen_arity_place AtConstructor = spec.AtConstructor
 seen_arity_place (AfterConstructor x0) = spec.AfterConstructor x0
 seen_arity_place (AtDomains x0) = spec.AtDomains x0
-seen_arity_place (AtSort x0 x1) = spec.AtSort x0 (sorts x1.items)
-seen_arity_place (AfterSort x0 x1) = spec.AfterSort x0 (sorts x1.items)
-seen_arity_place (AtFirstClass x0 x1) = spec.AtFirstClass x0 (sorts x1.items)
-seen_arity_place (AtNextClass x0 x1 x2) = spec.AtNextClass x0 (sorts x1.items) x2.items
-seen_arity_place (AfterClass x0 x1 x2) = spec.AfterClass x0 (sorts x1.items) x2.items
+seen_arity_place (InDomains domains place) = seen_domains domains place
 seen_arity_place (AtArityClass x0 x1) = spec.AtArityClass x0 (sorts x1.items)
 
 abbrev pub seen_item_place : ItemPlace → spec.Place
@@ -145,5 +112,11 @@ seen_turn Refuses = spec.Refuses
 -- where a token of a proof leads to, by the goal and the place behind it
 abbrev pub seen_course : Course → Goal → ProofPlace → spec.Turn
 seen_course course.Stays goal place = spec.Moves (spec.InProof goal.name (span goal.prop) (seen_steps goal.script.items) (seen_proof_place place))
-seen_course course.Proves goal place = spec.Adds (tree.Lemma goal.name (span goal.prop) (seen_steps goal.script.items)) spec.AtCommand
+seen_course course.Ends goal place = spec.Adds (tree.Lemma goal.name (span goal.prop) (seen_steps goal.script.items)) spec.AtCommand
 seen_course course.Refuses goal place = spec.Refuses
+
+-- where a token of domains leads to, by the domains and the place behind it
+abbrev pub seen_domains_course : Course → Domains → SortPlace → spec.Turn
+seen_domains_course course.Stays domains place = spec.Moves (seen_domains domains place)
+seen_domains_course course.Ends domains place = spec.Moves (spec.AtArityClass domains.con (sorts domains.doms.items))
+seen_domains_course course.Refuses domains place = spec.Refuses

@@ -1,29 +1,46 @@
--- What the reader holds, as contracts see it.
-use Rattle.std.specs.Prelude.{ℕ, List, Option, Some, None}
-use Rattle.std.specs.Borrow.{Bor}
+-- A theory that was read, as contracts see it.
+use Rattle.std.specs.Prelude.{ℕ, List, map}
+use Rattle.std.specs.Global.{Vec}
 use Rattle.pure_grammar.specs.Theories.TheoryText as tree
-use Rattle.pure_grammar.specs.Theories.Lexeme as spec
 use Rattle.pure_script.specs.declared.theory.Span.{Span}
-use Rattle.pure_script.specs.declared.lexeme.Lexeme.{Lexeme}
-use Rattle.pure_script.specs.declared.lexeme.Lexeme.TheVariants.{Reserved, Signed, Plain, Dotted, Variable, Numeral, Quoted, Other}
+use Rattle.pure_script.specs.declared.theory.Step.{Step}
+use Rattle.pure_script.specs.declared.theory.Step.TheVariants.{Rule, Erule, Drule, Assumption, Unfold, Prefer, Defer, Close, Done}
+use Rattle.pure_script.specs.declared.theory.Command.{Command}
+use Rattle.pure_script.specs.declared.theory.Command.TheVariants.{Class, TypeDecl, Arity, Const, Axiom, Definition, Lemma}
+use Rattle.pure_script.specs.declared.theory.TheoryText.{TheoryText}
 
 abbrev pub span : Span → tree.Span
 span s = record { from = s.from; to = s.to }
 
-abbrev pub seen_span : Option Span → Option tree.Span
-seen_span None = None
-seen_span (Some s) = Some (span s)
+-- the lists of a list of lists of names
+abbrev pub sorts : List (Vec (List ℕ)) → List (List (List ℕ))
+sorts = map (λ (v : Vec (List ℕ)). v.items)
 
-abbrev pub seen_text : Option (Bor (List ℕ)) → Option (List ℕ)
-seen_text None = None
-seen_text (Some t) = Some t.now
+abbrev pub seen_step : Step → tree.Step
+seen_step (Rule x0) = tree.Rule x0
+seen_step (Erule x0) = tree.Erule x0
+seen_step (Drule x0) = tree.Drule x0
+seen_step Assumption = tree.Assumption
+seen_step (Unfold x0) = tree.Unfold x0.items
+seen_step (Prefer x0) = tree.Prefer x0
+seen_step Defer = tree.Defer
+seen_step Close = tree.Close
+seen_step Done = tree.Done
 
-abbrev pub seen_lexeme : Lexeme → spec.Lexeme
-seen_lexeme (Reserved word) = spec.Reserved word
-seen_lexeme (Signed sign) = spec.Signed sign
-seen_lexeme (Plain text at) = spec.Plain text.now (span at)
-seen_lexeme (Dotted text at) = spec.Dotted text.now (span at)
-seen_lexeme (Variable text at) = spec.Variable text.now (span at)
-seen_lexeme (Numeral value) = spec.Numeral value
-seen_lexeme (Quoted at) = spec.Quoted (span at)
-seen_lexeme (Other kind) = spec.Other kind
+abbrev pub seen_steps : List Step → List tree.Step
+seen_steps = map seen_step
+
+abbrev pub seen_command : Command → tree.Command
+seen_command (Class x0 x1) = tree.Class x0 x1.items
+seen_command (TypeDecl x0 x1) = tree.TypeDecl x0 x1
+seen_command (Arity x0 x1 x2) = tree.Arity x0 (sorts x1.items) x2
+seen_command (Const x0 x1) = tree.Const x0 (span x1)
+seen_command (Axiom x0 x1) = tree.Axiom x0 (span x1)
+seen_command (Definition x0 x1 x2) = tree.Definition x0 (span x1) (span x2)
+seen_command (Lemma x0 x1 x2) = tree.Lemma x0 (span x1) (seen_steps x2.items)
+
+abbrev pub seen_commands : List Command → List tree.Command
+seen_commands = map seen_command
+
+abbrev pub seen_theory : TheoryText → tree.TheoryText
+seen_theory t = record { name = t.name; imports = t.imports.items; commands = seen_commands t.commands.items }

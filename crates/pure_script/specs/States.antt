@@ -2,7 +2,8 @@
 use Rattle.std.specs.Prelude.{◌≡◌, Bool, true, false, List, Option, Some, None}
 use Rattle.pure_grammar.specs.Theories.TheoryText.{Command}
 use Rattle.pure_grammar.specs.Theories.Reader as spec
-use Rattle.pure_script.specs.Places.{seen_place, seen_commands, seen_theory}
+use Rattle.pure_script.specs.Seen.{seen_commands, seen_theory}
+use Rattle.pure_script.specs.Places.{seen_place}
 use Rattle.pure_script.specs.declared.theory.TheoryText.{TheoryText}
 use Rattle.pure_script.specs.declared.state.Header.{Header}
 use Rattle.pure_script.specs.declared.state.State.{State}

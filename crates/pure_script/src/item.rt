@@ -1,8 +1,9 @@
 //! Constants, axioms and definitions.
 ghost use Rattle.std.specs.Prelude.{◌≡◌, IfOk};
 ghost use Rattle.pure_grammar.specs.Theories.Reader as spec;
-ghost use Rattle.pure_script.specs.Seen.{seen_lexeme, span};
+ghost use Rattle.pure_script.specs.Seen.{span};
 ghost use Rattle.pure_script.specs.Places.{seen_turn};
+ghost use Rattle.pure_script.specs.Lexemes.{seen_lexeme};
 
 use crate::lexeme::{Lexeme, is_sign, is_word, quote_in, type_in};
 use crate::place::{ItemPlace, Place, Turn, command_begun, ident, leave, moves_if};

@@ -2,7 +2,7 @@
 ghost use Rattle.std.specs.Prelude.{◌≡◌, IfOk, ℕ, ◌<◌, ◌≤◌, length, slice_range};
 ghost use Rattle.pure_grammar.specs.Theories.Lexeme as spec;
 ghost use Rattle.pure_grammar.specs.Tokens.Spelling.{IsSlice};
-ghost use Rattle.pure_script.specs.Seen.{seen_lexeme, seen_text, seen_span};
+ghost use Rattle.pure_script.specs.Lexemes.{seen_lexeme, seen_text, seen_span};
 
 use crate::theory::Span;
 use pure_grammar::{Keyword, Sign, Token, TokenKind};

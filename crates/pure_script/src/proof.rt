@@ -2,8 +2,9 @@
 ghost use Rattle.std.specs.Prelude.{◌≡◌, IfOk, [], ◌∷◌, ◌++◌};
 ghost use Rattle.pure_grammar.specs.Theories.TheoryText.{Lemma};
 ghost use Rattle.pure_grammar.specs.Theories.Reader as spec;
-ghost use Rattle.pure_script.specs.Seen.{seen_lexeme, span};
-ghost use Rattle.pure_script.specs.Places.{seen_turn, seen_course, seen_command, seen_step, seen_steps, seen_method, seen_proof_place};
+ghost use Rattle.pure_script.specs.Seen.{span, seen_command, seen_step, seen_steps};
+ghost use Rattle.pure_script.specs.Places.{seen_turn, seen_course, seen_method, seen_proof_place};
+ghost use Rattle.pure_script.specs.Lexemes.{seen_lexeme};
 
 use crate::lexeme::{Lexeme, is_ident, is_sign, is_word, number_in, quote_in};
 use crate::place::{
@@ -99,7 +100,7 @@ fn after_method(goal: &mut Goal, place: &mut ProofPlace, last: bool) -> Result<C
     }
     step(goal, Step::Close)?;
     step(goal, Step::Done)?;
-    Ok(Course::Proves)
+    Ok(Course::Ends)
 }
 
 fn at_method(
@@ -236,7 +237,7 @@ fn at_step(
     }
     if is_word(Keyword::Done, lexeme) {
         step(goal, Step::Done)?;
-        return Ok(Course::Proves);
+        return Ok(Course::Ends);
     }
     if is_word(Keyword::By, lexeme) {
         *place = ProofPlace::AtMethod { last: true };
@@ -326,7 +327,7 @@ pub(crate) fn proof_turn(
                 place: LemmaPlace::InProof { goal, place },
             },
         }),
-        Course::Proves => Ok(Turn::Adds {
+        Course::Ends => Ok(Turn::Adds {
             command: proved(alloc, &mut goal)?,
             place: Place::AtCommand,
         }),

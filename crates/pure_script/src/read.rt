@@ -2,7 +2,7 @@
 ghost use Rattle.std.specs.Prelude.{◌≡◌, ◌<◌, length, IfOk, IfErr};
 ghost use Rattle.pure_grammar.specs.Theories.Outer.{SpellsTheory};
 ghost use Rattle.pure_grammar.specs.Tokens.Spelling.{AreSlices};
-ghost use Rattle.pure_script.specs.Places.{seen_theory};
+ghost use Rattle.pure_script.specs.Seen.{seen_theory};
 ghost use Rattle.pure_script.specs.Faults.{IsFaultOf};
 
 use crate::lexeme::lexeme_of;

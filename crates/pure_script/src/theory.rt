@@ -1,9 +1,10 @@
 //! The tree of a theory's text.
-ghost use Rattle.std.specs.Prelude.{◌≡◌};
+ghost use Rattle.std.specs.Prelude.{◌≡◌, IfOk};
+ghost use Rattle.pure_script.specs.Seen.{seen_step};
 
 use pure_grammar::TokenKind;
 use pure_text::Text;
-use std::alloc::AllocError;
+use std::alloc::{AllocError, Global};
 
 /// A range of the source.
 #[derive(Clone, Copy, Debug, PartialEq, Eq)]
@@ -24,6 +25,44 @@ pub enum Step {
     Defer,
     Close,
     Done,
+}
+
+/// Equal texts.
+fn copy_texts(alloc: Global, texts: &[Text]) -> Result<Vec<Text>, AllocError>
+    ensures { IfOk result (λ copied. copied.items ≡ texts.now) }
+{
+    let mut copied = Vec::new(alloc);
+    for text in texts {
+        copied.push(text.copy(alloc)?)?;
+    }
+    Ok(copied)
+}
+
+impl Step {
+    /// An equal step.
+    pub fn copy(&self, alloc: Global) -> Result<Step, AllocError>
+        ensures { IfOk result (λ step. seen_step step ≡ seen_step self.now) }
+    {
+        match self {
+            Step::Rule { fact } => Ok(Step::Rule {
+                fact: fact.copy(alloc)?,
+            }),
+            Step::Erule { fact } => Ok(Step::Erule {
+                fact: fact.copy(alloc)?,
+            }),
+            Step::Drule { fact } => Ok(Step::Drule {
+                fact: fact.copy(alloc)?,
+            }),
+            Step::Assumption => Ok(Step::Assumption),
+            Step::Unfold { facts } => Ok(Step::Unfold {
+                facts: copy_texts(alloc, facts)?,
+            }),
+            Step::Prefer { n } => Ok(Step::Prefer { n: *n }),
+            Step::Defer => Ok(Step::Defer),
+            Step::Close => Ok(Step::Close),
+            Step::Done => Ok(Step::Done),
+        }
+    }
 }
 
 /// A command; quoted texts without their marks.

@@ -1,7 +1,7 @@
 //! Declarations of types.
 ghost use Rattle.std.specs.Prelude.{◌≡◌, IfOk};
 ghost use Rattle.pure_grammar.specs.Theories.Reader as spec;
-ghost use Rattle.pure_script.specs.Seen.{seen_lexeme};
+ghost use Rattle.pure_script.specs.Lexemes.{seen_lexeme};
 ghost use Rattle.pure_script.specs.Places.{seen_turn};
 
 use crate::lexeme::{Lexeme, is_sign, variable_in};

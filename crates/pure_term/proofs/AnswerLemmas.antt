@@ -1,11 +1,12 @@
--- What a call for a term's type answers where it fails inside the term, or at it.
-use Rattle.std.proofs.Common.{◌≡◌, ℕ, ◌+◌, List, ◌∷◌, refl, arith, inl, inr, sym, subst}
-use Rattle.std.specs.Prelude.{Err}
+-- What a call for a term's type answers, from what it answers for the parts of the term.
+use Rattle.std.proofs.Common.{◌≡◌, ℕ, ◌+◌, List, ◌∷◌, refl, arith, inl, inr, subst}
+use Rattle.std.specs.Prelude.{Result, Ok, Err}
 use Rattle.pure_definitions.specs.Types.Typ.{Typ}
 use Rattle.pure_definitions.specs.Terms.Term.{Term, Abs, App}
 use Rattle.pure_definitions.specs.Terms.Typing.{HasType, Takes, node_count}
 use Rattle.pure_definitions.specs.Terms.Limits.{cut_off}
-use Rattle.pure_term.specs.TypeAnswer.{IsTypeAnswer, deeper_fault}
+use Rattle.pure_term.specs.TypeAnswer.{IsTypeAnswer, IsFoundAnswer, found_typ, deeper_fault}
+use Rattle.pure_term.specs.declared.typing.Found.{Found}
 use Rattle.pure_term.specs.declared.typing.TypeFault.{TypeFault}
 use Rattle.pure_term.specs.declared.typing.TypeFault.TheVariants.{NotTyped, Memory}
 
@@ -22,24 +23,21 @@ argument_fault : (bs : List Typ) (f a : Term) (T : Typ) (by : ℕ) (fault : Type
 argument_fault bs f a T by (NotTyped cut) typed count (place, at, e) = (1 + (node_count f + place), inr (inl (T, place, typed, at, refl)), omega arith)
 argument_fault bs f a T by Memory typed count h = tt
 
--- The same for a term, a fault and a part that are known by equations.
-along : (bs : List Typ) (t u : Term) (fault other : TypeFault) → t ≡ u → fault ≡ other → IsTypeAnswer bs u (Err other) → IsTypeAnswer bs t (Err fault)
-along bs t u fault other e f h = subst (λ v. IsTypeAnswer bs v (Err fault)) (sym e) (subst (λ x. IsTypeAnswer bs u (Err x)) (sym f) h)
+-- The same of answers that are known by equations.
+pub fault-body : (bs : List Typ) (T : Typ) (b : Term) (body : Result Found TypeFault) (fault outer : TypeFault) → body ≡ Err fault → outer ≡ deeper_fault 1 fault
+    → IsFoundAnswer (T ∷ bs) b body → IsTypeAnswer bs (Abs T b) (Err outer)
+fault-body bs T b body fault outer e o h = rw o (body_fault bs T b fault (subst (IsFoundAnswer (T ∷ bs) b) e h))
 
-pub fault-body : (bs : List Typ) (T : Typ) (t b inner : Term) (fault outer : TypeFault) → t ≡ Abs T b → inner ≡ b → outer ≡ deeper_fault 1 fault → IsTypeAnswer (T ∷ bs) inner (Err fault)
-    → IsTypeAnswer bs t (Err outer)
-fault-body bs T t b inner fault outer e i o h =
-    along bs t (Abs T b) outer (deeper_fault 1 fault) e o (body_fault bs T b fault (along (T ∷ bs) b inner fault fault (sym i) refl h))
+pub fault-function : (bs : List Typ) (f a : Term) (function : Result Found TypeFault) (fault outer : TypeFault) → function ≡ Err fault → outer ≡ deeper_fault 1 fault
+    → IsFoundAnswer bs f function → IsTypeAnswer bs (App f a) (Err outer)
+fault-function bs f a function fault outer e o h = rw o (function_fault bs f a fault (subst (IsFoundAnswer bs f) e h))
 
-pub fault-function : (bs : List Typ) (t f a inner : Term) (fault outer : TypeFault) → t ≡ App f a → inner ≡ f → outer ≡ deeper_fault 1 fault → IsTypeAnswer bs inner (Err fault)
-    → IsTypeAnswer bs t (Err outer)
-fault-function bs t f a inner fault outer e i o h =
-    along bs t (App f a) outer (deeper_fault 1 fault) e o (function_fault bs f a fault (along bs f inner fault fault (sym i) refl h))
+pub fault-argument : (bs : List Typ) (f a : Term) (function argument : Result Found TypeFault) (found : Found) (by : ℕ) (fault outer : TypeFault) → function ≡ Ok found → argument ≡ Err fault
+    → by ≡ cut_off (node_count f + 1) → outer ≡ deeper_fault by fault → IsFoundAnswer bs f function → IsFoundAnswer bs a argument → IsTypeAnswer bs (App f a) (Err outer)
+fault-argument bs f a function argument found by fault outer e d count o h k =
+    rw o (argument_fault bs f a (found_typ found) by fault (subst (IsFoundAnswer bs f) e h) count (subst (IsFoundAnswer bs a) d k))
 
-pub fault-argument : (bs : List Typ) (t f a inner : Term) (T : Typ) (by : ℕ) (fault outer : TypeFault) → t ≡ App f a → inner ≡ a → outer ≡ deeper_fault by fault → HasType bs f T
-    → by ≡ cut_off (node_count f + 1) → IsTypeAnswer bs inner (Err fault) → IsTypeAnswer bs t (Err outer)
-fault-argument bs t f a inner T by fault outer e i o typed count h =
-    along bs t (App f a) outer (deeper_fault by fault) e o (argument_fault bs f a T by fault typed count (along bs a inner fault fault (sym i) refl h))
-
-pub fault-application : (bs : List Typ) (f a : Term) (T U : Typ) → HasType bs f T → HasType bs a U → ¬ Takes T U → IsTypeAnswer bs (App f a) (Err (NotTyped 0))
-fault-application bs f a T U typed argument none = (0, inr (inr (T, U, typed, argument, none, refl)), refl)
+pub fault-application : (bs : List Typ) (f a : Term) (function argument : Result Found TypeFault) (found other : Found) → function ≡ Ok found → argument ≡ Ok other
+    → ¬ Takes (found_typ found) (found_typ other) → IsFoundAnswer bs f function → IsFoundAnswer bs a argument → IsTypeAnswer bs (App f a) (Err (NotTyped 0))
+fault-application bs f a function argument found other e d none h k =
+    (0, inr (inr (found_typ found, found_typ other, subst (IsFoundAnswer bs f) e h, subst (IsFoundAnswer bs a) d k, none, refl)), refl)

@@ -12,7 +12,7 @@ mod typing;
 pub use bounds::{abstract_over, lift, subst_bound};
 pub use instance::{inst_term, inst_typ};
 pub use maps::{TermBind, TermMap};
-pub use measure::{depth, is_within, occurs, size};
+pub use measure::{depth, is_within, occurs, size, term_leaves};
 pub use pure_typ::{
     Grow, Label, MAX_DEPTH, MAX_SIZE, Name, Names, Sort, Text, Typ, TypBind, TypMap, TypNode,
 };

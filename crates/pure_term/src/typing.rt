@@ -1,7 +1,8 @@
 //! The type of a term, or the place of its first node at fault.
-ghost use Rattle.std.specs.Prelude.{◌≡◌, ◌↔◌, IsTrue, [], MatchBool, MatchOption, IfOk};
+ghost use Rattle.std.specs.Prelude.{◌≡◌, ◌↔◌, IsTrue, List, [], ◌∷◌, MatchBool, MatchOption, IfOk};
 ghost use Rattle.pure_definitions.specs.Types.Typ as tree;
 ghost use Rattle.pure_definitions.specs.Types.Typ.{arrow};
+ghost use Rattle.pure_definitions.specs.Terms.Term as term_tree;
 ghost use Rattle.pure_definitions.specs.Terms.Typing.{Takes};
 ghost use Rattle.pure_term.specs.Scope.{scope_typs};
 ghost use Rattle.pure_term.specs.TypeAnswer.{found_typ, deeper_fault, IsTypeAnswer, IsFoundAnswer};
@@ -178,7 +179,56 @@ fn abstraction_typ(alloc: Global, domain: &Typ, range: Found) -> Result<Box<Typ>
     Ok(Box::new(alloc, typ)?)
 }
 
-/// The type of the term in the scope, or its first node at fault. What isn't recursion stands in functions of its own, so that a deep term takes little stack.
+/// The answer for a bound variable.
+#[inline(never)]
+fn answer_at_bound<'t>(scope: &Scope<'_, 't>, place: u32) -> Result<Found<'t>, TypeFault>
+    ensures { IsFoundAnswer (scope_typs scope.now) (term_tree.Bound place) result }
+{
+    match typ_at(scope, place) {
+        Some(typ) => Ok(Found::Lent(typ)),
+        None => Err(TypeFault::NotTyped { place: 0 }),
+    }
+}
+
+/// The answer for an abstraction over a variable of this type, from that for its body.
+#[inline(never)]
+fn answer_at_abs<'t>(
+    alloc: Global,
+    domain: &Typ,
+    body: Result<Found<'t>, TypeFault>,
+) -> Result<Found<'t>, TypeFault>
+    ensures { (bs : List tree.Typ) (t : term_tree.Term) → IsFoundAnswer (domain.now ∷ bs) t body.entry → IsFoundAnswer bs (term_tree.Abs domain.now t) result }
+{
+    match body {
+        Ok(range) => Ok(Found::Made(abstraction_typ(alloc, domain, range)?)),
+        Err(fault) => Err(deeper(fault, 1)),
+    }
+}
+
+/// The answer for an application of this function, from those for the function and for its argument.
+#[inline(never)]
+fn answer_at_app<'t>(
+    fun: &Term,
+    function: Result<Found<'t>, TypeFault>,
+    argument: Result<Found<'t>, TypeFault>,
+) -> Result<Found<'t>, TypeFault>
+    ensures { (bs : List tree.Typ) (arg : term_tree.Term) → IsFoundAnswer bs fun.now function.entry → IsFoundAnswer bs arg argument.entry → IsFoundAnswer bs (term_tree.App fun.now arg) result }
+{
+    let function = match function {
+        Ok(function) => function,
+        Err(fault) => return Err(deeper(fault, 1)),
+    };
+    let argument = match argument {
+        Ok(argument) => argument,
+        Err(fault) => return Err(deeper(fault, node_count_of(fun).saturating_add(1))),
+    };
+    match range_of(function, lent(&argument)) {
+        Some(range) => Ok(range),
+        None => Err(TypeFault::NotTyped { place: 0 }),
+    }
+}
+
+/// The type of the term in the scope, or its first node at fault. What isn't recursion stands in functions of its own, so that a deep term takes little stack; so an argument is walked though its function has a fault.
 fn typ_under<'s, 't>(
     alloc: Global,
     t: &'t Term,
@@ -190,30 +240,15 @@ fn typ_under<'s, 't>(
         TermNode::Const { typ, .. } => Ok(Found::Lent(typ)),
         TermNode::Free { typ, .. } => Ok(Found::Lent(typ)),
         TermNode::Var { typ, .. } => Ok(Found::Lent(typ)),
-        TermNode::Bound { place } => match typ_at(scope, *place) {
-            Some(typ) => Ok(Found::Lent(typ)),
-            None => Err(TypeFault::NotTyped { place: 0 }),
-        },
+        TermNode::Bound { place } => answer_at_bound(scope, *place),
         TermNode::Abs { typ, body } => {
-            let range = match typ_under(alloc, body, &Scope::Under(typ, scope)) {
-                Ok(range) => range,
-                Err(fault) => return Err(deeper(fault, 1)),
-            };
-            Ok(Found::Made(abstraction_typ(alloc, typ, range)?))
+            let range = typ_under(alloc, body, &Scope::Under(typ, scope));
+            answer_at_abs(alloc, typ, range)
         }
         TermNode::App { fun, arg } => {
-            let function = match typ_under(alloc, fun, scope) {
-                Ok(function) => function,
-                Err(fault) => return Err(deeper(fault, 1)),
-            };
-            let argument = match typ_under(alloc, arg, scope) {
-                Ok(argument) => argument,
-                Err(fault) => return Err(deeper(fault, node_count_of(fun).saturating_add(1))),
-            };
-            match range_of(function, lent(&argument)) {
-                Some(range) => Ok(range),
-                None => Err(TypeFault::NotTyped { place: 0 }),
-            }
+            let function = typ_under(alloc, fun, scope);
+            let argument = typ_under(alloc, arg, scope);
+            answer_at_app(fun, function, argument)
         }
     }
 }

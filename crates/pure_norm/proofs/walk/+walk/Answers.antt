@@ -1,4 +1,4 @@
-use Rattle.std.proofs.Common.{◌≡◌, refl, subst, arith}
+use Rattle.std.proofs.Common.{◌≡◌, ◌∙◌, refl, subst, arith}
 use Rattle.std.proofs.lemmas.Result.{err_from_is_err_and}
 use Rattle.pure_definitions.specs.Terms.Term.{Abs, App}
 use Rattle.pure_definitions.specs.Reduction.Beta.{IsBetaNormal}
@@ -34,50 +34,54 @@ descend-contractum-requires t c =
     let e : c.args.t.now ≡ App c.deref_mut-in-App.result.now c.in-App.arg.value = rw (← c.t.view_is, c.in-App.is, c.deref_mut-in-App.ensures.value) refl in
     let walked = walked-function c.args.until c.args.deep c.args.walk.now c.reduce-in-App.new.walk c.args.t.now c.deref_mut-in-App.result.now c.reduce-in-App.new.t c.in-App.arg.value e c.requires c.in_ok-reduce-in-App.ensures.walked in
     let can = can_walk-after c.args.until c.args.deep c.args.walk.now c.reduce-in-App.new.walk c.args.t.now (App c.reduce-in-App.new.t c.in-App.arg.value) c.requires walked in
-    rw (c.deref.ensures, c.deref-in-App.ensures) can
+    rw (c.deref_mut-in-App-2.ensures.value, c.deref_mut-in-App-3.ensures.value) can
 
 pub descend-returns-in_err-u-in-App-clause-fault : goal.descend-returns-in_err-u-in-App-clause-fault
 descend-returns-in_err-u-in-App-clause-fault t c =
     let e : c.args.t.now ≡ App c.deref_mut-in-App.result.now c.in-App.arg.value = rw (← c.t.view_is, c.in-App.is, c.deref_mut-in-App.ensures.value) refl in
-    let walked : Walked c.args.until c.args.deep c.args.walk.now c.reduce-in-App.new.walk c.args.t.now (App c.deref.result.now c.deref-in-App.result.now) =
-    rw (c.deref.ensures, c.deref-in-App.ensures)
+    let walked : Walked c.args.until c.args.deep c.args.walk.now c.reduce-in-App.new.walk c.args.t.now (App c.deref_mut-in-App-2.result.now c.deref_mut-in-App-3.result.now) =
+    rw (c.deref_mut-in-App-2.ensures.value, c.deref_mut-in-App-3.ensures.value)
     (walked-function c.args.until c.args.deep c.args.walk.now c.reduce-in-App.new.walk c.args.t.now c.deref_mut-in-App.result.now c.reduce-in-App.new.t c.in-App.arg.value e c.requires c.in_ok-reduce-in-App.ensures.walked) in
     let p = err_from_is_err_and c.from_residual-in_err-u-in-App.result c.from_residual-in_err-u-in-App.ensures.1 in
     rw (p.1, p.2)
-    (fails-redex c.args.until c.args.deep c.args.walk.now c.reduce-in-App.new.walk c.args.t.now c.deref.result.now c.deref-in-App.result.now c.in_err-u-in-App.field-0.0 walked c.requires c.in_err-u-in-App.ensures.fault)
+    (fails-redex c.args.until c.args.deep c.args.walk.now c.reduce-in-App.new.walk c.args.t.now c.deref_mut-in-App-2.result.now c.deref_mut-in-App-3.result.now c.in_err-u-in-App.field-0.0 walked c.requires c.in_err-u-in-App.ensures.fault)
 
 pub descend-returns-in-Some-clause-walked : goal.descend-returns-in-Some-clause-walked
 descend-returns-in-Some-clause-walked t c =
     let e : c.args.t.now ≡ App c.deref_mut-in-App.result.now c.in-App.arg.value = rw (← c.t.view_is, c.in-App.is, c.deref_mut-in-App.ensures.value) refl in
-    let walked : Walked c.args.until c.args.deep c.args.walk.now c.reduce-in-App.new.walk c.args.t.now (App c.deref.result.now c.deref-in-App.result.now) =
-    rw (c.deref.ensures, c.deref-in-App.ensures)
+    let walked : Walked c.args.until c.args.deep c.args.walk.now c.reduce-in-App.new.walk c.args.t.now (App c.deref_mut-in-App-2.result.now c.deref_mut-in-App-3.result.now) =
+    rw (c.deref_mut-in-App-2.ensures.value, c.deref_mut-in-App-3.ensures.value)
     (walked-function c.args.until c.args.deep c.args.walk.now c.reduce-in-App.new.walk c.args.t.now c.deref_mut-in-App.result.now c.reduce-in-App.new.t c.in-App.arg.value e c.requires c.in_ok-reduce-in-App.ensures.walked) in
-    let step : Contracted c.args.deep c.reduce-in-App.new.walk c.contractum.new.walk (App c.deref.result.now c.deref-in-App.result.now) c.in-Some.u = rw c.in-Some.is at c.in_ok-u-in-App.ensures.contracted in
+    let step : Contracted c.args.deep c.reduce-in-App.new.walk c.contractum.new.walk (App c.deref_mut-in-App-2.result.now c.deref_mut-in-App-3.result.now) c.in-Some.u = rw c.in-Some.is at c.in_ok-u-in-App.ensures.contracted in
     let before = walked.counted in
     let after = step.counted in
-    (walked-redex c.args.until c.args.deep c.args.walk.now c.reduce-in-App.new.walk c.contractum.new.walk c.args.t.now c.deref.result.now c.deref-in-App.result.now c.in-Some.u walked c.requires step, omega arith)
+    (walked-redex c.args.until c.args.deep c.args.walk.now c.reduce-in-App.new.walk c.contractum.new.walk c.args.t.now c.deref_mut-in-App-2.result.now c.deref_mut-in-App-3.result.now c.in-Some.u walked c.requires step, omega arith)
 
 pub descend-reduce-requires-in-App-2 : goal.descend-reduce-requires-in-App-2
 descend-reduce-requires-in-App-2 t c =
-    let e : c.args.t.now ≡ App c.deref_mut-in-App.result.now c.deref_mut-in-App-2.result.now = rw (← c.t.view_is, c.in-App.is, c.deref_mut-in-App.ensures.value, c.deref_mut-in-App-2.ensures.value) refl in
-    let walked = walked-function c.args.until c.args.deep c.args.walk.now c.reduce-in-App.new.walk c.args.t.now c.deref_mut-in-App.result.now c.reduce-in-App.new.t c.deref_mut-in-App-2.result.now e c.requires c.in_ok-reduce-in-App.ensures.walked in
+    let e : c.args.t.now ≡ App c.deref_mut-in-App.result.now c.in-App.arg.value = rw (← c.t.view_is, c.in-App.is, c.deref_mut-in-App.ensures.value) refl in
+    let walked : Walked c.args.until c.args.deep c.args.walk.now c.reduce-in-App.new.walk c.args.t.now (App c.deref_mut-in-App-2.result.now c.deref_mut-in-App-3.result.now) =
+    rw (c.deref_mut-in-App-2.ensures.value, c.deref_mut-in-App-3.ensures.value)
+    (walked-function c.args.until c.args.deep c.args.walk.now c.reduce-in-App.new.walk c.args.t.now c.deref_mut-in-App.result.now c.reduce-in-App.new.t c.in-App.arg.value e c.requires c.in_ok-reduce-in-App.ensures.walked) in
     let none = rw c.in_default-2.is at c.in_ok-u-in-App.ensures.contracted in
-    let known = function-over c.args.until c.args.deep c.args.walk.now c.reduce-in-App.new.walk c.contractum.new.walk c.args.t.now c.reduce-in-App.new.t c.deref_mut-in-App-2.result.now c.requires walked none.1
-    (rw c.deref.ensures at none.0) c.in_ok-reduce-in-App.ensures.over in
-    let can = can_walk-argument c.args.deep c.contractum.new.walk c.reduce-in-App.new.t c.deref_mut-in-App-2.result.now known.can in
+    let known = function-over c.args.until c.args.deep c.args.walk.now c.reduce-in-App.new.walk c.contractum.new.walk c.args.t.now c.deref_mut-in-App-2.result.now c.contractum.new.fun c.deref_mut-in-App-3.result.now c.deref_mut-in-App-4.result.now c.requires walked
+    (none.0, none.1, none.2, c.deref_mut-in-App-4.ensures.value ∙ none.3) (rw c.deref_mut-in-App-2.ensures.value c.in_ok-reduce-in-App.ensures.over) in
+    let can = can_walk-argument c.args.deep c.contractum.new.walk c.contractum.new.fun c.deref_mut-in-App-4.result.now known.can in
     let low = can.shallow in
     (omega arith, can)
 
 pub descend-returns-in_err-reduce-in-App-2-clause-fault : goal.descend-returns-in_err-reduce-in-App-2-clause-fault
 descend-returns-in_err-reduce-in-App-2-clause-fault t c =
-    let e : c.args.t.now ≡ App c.deref_mut-in-App.result.now c.deref_mut-in-App-2.result.now = rw (← c.t.view_is, c.in-App.is, c.deref_mut-in-App.ensures.value, c.deref_mut-in-App-2.ensures.value) refl in
-    let walked = walked-function c.args.until c.args.deep c.args.walk.now c.reduce-in-App.new.walk c.args.t.now c.deref_mut-in-App.result.now c.reduce-in-App.new.t c.deref_mut-in-App-2.result.now e c.requires c.in_ok-reduce-in-App.ensures.walked in
+    let e : c.args.t.now ≡ App c.deref_mut-in-App.result.now c.in-App.arg.value = rw (← c.t.view_is, c.in-App.is, c.deref_mut-in-App.ensures.value) refl in
+    let walked : Walked c.args.until c.args.deep c.args.walk.now c.reduce-in-App.new.walk c.args.t.now (App c.deref_mut-in-App-2.result.now c.deref_mut-in-App-3.result.now) =
+    rw (c.deref_mut-in-App-2.ensures.value, c.deref_mut-in-App-3.ensures.value)
+    (walked-function c.args.until c.args.deep c.args.walk.now c.reduce-in-App.new.walk c.args.t.now c.deref_mut-in-App.result.now c.reduce-in-App.new.t c.in-App.arg.value e c.requires c.in_ok-reduce-in-App.ensures.walked) in
     let none = rw c.in_default-2.is at c.in_ok-u-in-App.ensures.contracted in
-    let known = function-over c.args.until c.args.deep c.args.walk.now c.reduce-in-App.new.walk c.contractum.new.walk c.args.t.now c.reduce-in-App.new.t c.deref_mut-in-App-2.result.now c.requires walked none.1
-    (rw c.deref.ensures at none.0) c.in_ok-reduce-in-App.ensures.over in
+    let known = function-over c.args.until c.args.deep c.args.walk.now c.reduce-in-App.new.walk c.contractum.new.walk c.args.t.now c.deref_mut-in-App-2.result.now c.contractum.new.fun c.deref_mut-in-App-3.result.now c.deref_mut-in-App-4.result.now c.requires walked
+    (none.0, none.1, none.2, c.deref_mut-in-App-4.ensures.value ∙ none.3) (rw c.deref_mut-in-App-2.ensures.value c.in_ok-reduce-in-App.ensures.over) in
     let p = err_from_is_err_and c.from_residual-in_err-reduce-in-App-2.result c.from_residual-in_err-reduce-in-App-2.ensures.1 in
     rw (p.1, p.2)
-    (fails-after_function c.args.until c.args.deep c.args.walk.now c.contractum.new.walk c.args.t.now c.reduce-in-App.new.t c.deref_mut-in-App-2.result.now known c.in_err-reduce-in-App-2.field-0.0 c.in_err-reduce-in-App-2.ensures.fault)
+    (fails-after_function c.args.until c.args.deep c.args.walk.now c.contractum.new.walk c.args.t.now c.contractum.new.fun c.deref_mut-in-App-4.result.now known c.in_err-reduce-in-App-2.field-0.0 c.in_err-reduce-in-App-2.ensures.fault)
 
 pub descend-returns-clause-walked : goal.descend-returns-clause-walked
 descend-returns-clause-walked t c =
@@ -95,13 +99,15 @@ descend-returns-clause-walked t c =
             over-paused c.args.until w.in-Abs.typ w.in-Abs.body.value w.in_default-until.is,
           ))
       | descend-in-App+in_ok-reduce-in-App+in_ok-u-in-App+in_default-2+in_ok-reduce-in-App-2 w ↦ (
-          let e : c.args.t.now ≡ App w.deref_mut-in-App.result.now w.deref_mut-in-App-2.result.now = rw (← c.t.view_is, w.in-App.is, w.deref_mut-in-App.ensures.value, w.deref_mut-in-App-2.ensures.value) refl in
-          let walked = walked-function c.args.until c.args.deep c.args.walk.now w.reduce-in-App.new.walk c.args.t.now w.deref_mut-in-App.result.now w.reduce-in-App.new.t w.deref_mut-in-App-2.result.now e c.requires w.in_ok-reduce-in-App.ensures.walked in
+          let e : c.args.t.now ≡ App w.deref_mut-in-App.result.now w.in-App.arg.value = rw (← c.t.view_is, w.in-App.is, w.deref_mut-in-App.ensures.value) refl in
+          let walked : Walked c.args.until c.args.deep c.args.walk.now w.reduce-in-App.new.walk c.args.t.now (App w.deref_mut-in-App-2.result.now w.deref_mut-in-App-3.result.now) =
+          rw (w.deref_mut-in-App-2.ensures.value, w.deref_mut-in-App-3.ensures.value)
+          (walked-function c.args.until c.args.deep c.args.walk.now w.reduce-in-App.new.walk c.args.t.now w.deref_mut-in-App.result.now w.reduce-in-App.new.t w.in-App.arg.value e c.requires w.in_ok-reduce-in-App.ensures.walked) in
           let none = rw w.in_default-2.is at w.in_ok-u-in-App.ensures.contracted in
-          let known = function-over c.args.until c.args.deep c.args.walk.now w.reduce-in-App.new.walk w.contractum.new.walk c.args.t.now w.reduce-in-App.new.t w.deref_mut-in-App-2.result.now c.requires walked none.1
-          (rw w.deref.ensures at none.0) w.in_ok-reduce-in-App.ensures.over in
+          let known = function-over c.args.until c.args.deep c.args.walk.now w.reduce-in-App.new.walk w.contractum.new.walk c.args.t.now w.deref_mut-in-App-2.result.now w.contractum.new.fun w.deref_mut-in-App-3.result.now w.deref_mut-in-App-4.result.now c.requires walked
+          (none.0, none.1, none.2, w.deref_mut-in-App-4.ensures.value ∙ none.3) (rw w.deref_mut-in-App-2.ensures.value w.in_ok-reduce-in-App.ensures.over) in
           rw (w.walk-is, w.t-inside-is) (
-            walked-after_function c.args.until c.args.deep c.args.walk.now w.contractum.new.walk c.args.t.now w.reduce-in-App.new.t w.deref_mut-in-App-2.result.now known w.reduce-in-App-2.new.walk w.reduce-in-App-2.new.t w.in_ok-reduce-in-App-2.ensures.walked,
+            walked-after_function c.args.until c.args.deep c.args.walk.now w.contractum.new.walk c.args.t.now w.contractum.new.fun w.deref_mut-in-App-4.result.now known w.reduce-in-App-2.new.walk w.reduce-in-App-2.new.t w.in_ok-reduce-in-App-2.ensures.walked,
             λ goes. (known.other, known.normal, w.in_ok-reduce-in-App-2.ensures.over (λ x. x)),
           ))
       | descend-in_default w ↦ (

@@ -2,7 +2,7 @@ use Rattle.std.proofs.Common.{◌≡◌, length, refl, sym, ◌∙◌, ap, slice
 use Rattle.pure_grammar.specs.declared.token.TokenKind.TheVariants.{Word}
 use Rattle.pure_grammar.specs.Theories.Lexeme.{lexeme}
 use Rattle.pure_grammar.specs.Theories.Reader.{next}
-use Rattle.pure_script.specs.Places.{seen_theory}
+use Rattle.pure_script.specs.Seen.{seen_theory}
 use Rattle.pure_script.specs.States.{seen_state}
 use Rattle.pure_script.proofs.Reading.{is_last-seen, none-next, fault-token, fault-end, spells-end, slice-at}
 use Rattle.pure_script.proofs.read.read_theory.Goals as goal

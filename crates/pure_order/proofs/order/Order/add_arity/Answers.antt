@@ -9,13 +9,13 @@ returns-then-not-is_declared-clause-fault c = rw (← c.self.view_is) (unknown_c
 pub returns-then-has_arity-clause-fault : goal.returns-then-has_arity-clause-fault
 returns-then-has_arity-clause-fault c = rw (← c.self.view_is) (known_arity c.self.inside.tables.classes c.args.con c.args.class c.args.domains.items c.as_slice.result.now c.as_slice.ensures.value c.in_default.ensures (c.is_declared.ensures.0 c.if-not-is_declared.false), c.has_arity.ensures.0 c.if-has_arity.true)
 
-pub returns-in-Some-2-clause-fault : goal.returns-in-Some-2-clause-fault
-returns-in-Some-2-clause-fault c = rw (← c.self.view_is) (
+pub returns-in-Err-clause-fault : goal.returns-in-Err-clause-fault
+returns-in-Err-clause-fault c = rw (← c.self.view_is) (
   known_arity c.self.inside.tables.classes c.args.con c.args.class c.args.domains.items c.as_slice.result.now c.as_slice.ensures.value c.in_default.ensures (c.is_declared.ensures.0 c.if-not-is_declared.false),
   test_fails _ c.has_arity.result c.has_arity.ensures c.if-has_arity.false,
   refl,
   refl,
-  rw c.in-Some-2.is at c.in_ok-c2.ensures,
+  c.in-Err.ensures,
 )
 
 pub returns-clause-new : goal.returns-clause-new

@@ -7,4 +7,4 @@ use Rattle.pure_order_tables.proofs.ArityLaws.{IsDone}
 use Rattle.pure_order_tables.proofs.tables.Tables.places_with.Given as goal
 
 abbrev pub invariant-loop-upper : goal.invariant-loop-upper
-invariant-loop-upper l = (d : ℕ) → IsDone l.self (arity_of l.arity) d (IsIn d (take l.upper-index l.above)) (get nat_cmp l.places d)
+invariant-loop-upper l = (d : ℕ) → IsDone l.self (arity_of l.arity) d (IsIn d (take l.upper-index l.greater)) (get nat_cmp l.places d)

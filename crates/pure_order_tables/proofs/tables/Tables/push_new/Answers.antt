@@ -6,16 +6,22 @@ use Rattle.pure_order_tables.specs.Arities.{IsKnown}
 use Rattle.pure_order_tables.specs.ArityView.{arity_of, arities_of}
 use Rattle.pure_order_tables.proofs.CoregularLaws.{one_more_arity}
 use Rattle.pure_order_tables.proofs.tables.Tables.push_new.Goals as goal
-use Rattle.pure_order_tables.proofs.tables.Tables.push_new.Goals.{then-not-has_same+in_ok-copy_arity+in_ok-push_arity, else-not-has_same}
+use Rattle.pure_order_tables.proofs.tables.Tables.push_new.Goals.{then-not-has_same+in_ok-greater+in_ok-copy_arity+in_ok-push_arity, else-not-has_same}
 
-pub push_arity-requires : goal.push_arity-requires
-push_arity-requires c = rw (c.in_ok-copy_arity.ensures, c.loop-arity.invariant.same) (each_at (IsKnown c.args.self.now.classes) (arities_of c.args.arities.now) c.requires (arity_of c.arity-item.result) (in-map arity_of c.arity-item.result c.args.arities.now (read_in c.args.arities.now c.loop-arity.arity-index c.arity-item.result c.loop-arity-test.true c.arity-item.is)))
+pub greater-requires : goal.greater-requires
+greater-requires c = rw c.loop-arity.invariant.same (each_at (IsKnown c.args.self.now.classes) (arities_of c.args.arities.now) c.requires (arity_of c.arity-item.result) (in-map arity_of c.arity-item.result c.args.arities.now (read_in c.args.arities.now c.loop-arity.arity-index c.arity-item.result c.loop-arity-test.true c.arity-item.is))).class
+
+pub push_arity-requires-clause-known : goal.push_arity-requires-clause-known
+push_arity-requires-clause-known c = rw (c.in_ok-copy_arity.ensures, c.loop-arity.invariant.same) (each_at (IsKnown c.args.self.now.classes) (arities_of c.args.arities.now) c.requires (arity_of c.arity-item.result) (in-map arity_of c.arity-item.result c.args.arities.now (read_in c.args.arities.now c.loop-arity.arity-index c.arity-item.result c.loop-arity-test.true c.arity-item.is)))
+
+pub push_arity-requires-clause-greater : goal.push_arity-requires-clause-greater
+push_arity-requires-clause-greater c = rw (c.in_ok-copy_arity.ensures, c.as_slice.ensures.value) c.in_ok-greater.ensures
 
 pub loop-arity-preserved : goal.loop-arity-preserved
 loop-arity-preserved c =
     let read = one_more_arity c.args.arities.now c.loop-arity.arity-index c.arity-item.result c.loop-arity-test.true c.arity-item.is in
     elim c.if-not-has_same.branch [
-      | then-not-has_same+in_ok-copy_arity+in_ok-push_arity w ↦ record {
+      | then-not-has_same+in_ok-greater+in_ok-copy_arity+in_ok-push_arity w ↦ record {
         same = rw w.self-is (ap (λ (A : Algebra). A.classes) w.in_ok-push_arity.ensures.ok ∙ c.loop-arity.invariant.same);
         has = rw w.self-is (grown_put (arity_of c.arity-item.result) c.loop-arity.self.arities w.push_arity.new.self.arities c.args.self.now.arities (arities_of (take c.loop-arity.arity-index c.args.arities.now)) _
             (ap (λ (A : Algebra). A.arities) w.in_ok-push_arity.ensures.ok ∙ ap (λ a. c.loop-arity.self.arities ++ a ∷ []) w.in_ok-copy_arity.ensures) read c.loop-arity.invariant.has);

@@ -1,0 +1,14 @@
+pub mod OpeningLaws
+pub mod PrefixLaws
+pub mod LiftingLaws
+pub mod StepLaws
+pub mod MatchLaws
+pub mod JustificationLaws
+pub mod EliminationLaws
+pub mod StrippingLaws
+pub mod StateLaws
+pub mod FactLaws
+pub mod PairLaws
+pub mod ExampleLaws
+pub mod DetachedExamples
+pub mod PairExamples
