@@ -77,7 +77,7 @@ cut_by_proofs Q q th left_open proved h =
     }
 
 -- What is derivable alone is proved, resting on whatever promises.
-pub alone-proved : (Q : Content) (rests : List Label) (A : Term) → IsDerivableAlone Q A → Proves Q [] rests A
+alone-proved : (Q : Content) (rests : List Label) (A : Term) → IsDerivableAlone Q A → Proves Q [] rests A
 alone-proved Q rests A h = weaker Q [] [] [] rests A (λ B m. m) (λ l m. absurd m) ((derivable_is_proves Q [] [] A).0 h)
 
 pub cut_of_promises : (Q : Content) → IsContent Q → (th : Theorem) (left_open : List Label) → AreOpenOrSettled Q left_open th.rests → IsDerivable Q th → IsDerivable Q (record th { rests = left_open })
