@@ -124,8 +124,13 @@ rule_proof =
     let goal = goal_for everywhere (everywhere ∷ []) in
     let start = started everywhere everywhere-proposition in
     let fact : Theorem = record { hyps = []; pairs = []; prop = everywhere; rests = [] } in
-    let is_rule : IsRuleFor goal fact (any_a ∷ []) any_a = record { no_hyps = refl; no_pairs = refl; stripped = everywhere_stripped; rests = λ l m. m } in
+    let is_rule : IsRuleFor pure_content goal fact 1 (any_a ∷ []) any_a = record {
+      used = record { no_hyps = refl; no_pairs = refl; rests = λ l m. m };
+      normal = everywhere;
+      is_normal = unchanged [] everywhere everywhere-proposition;
+      stripped = everywhere_stripped;
+    } in
     let step = step_for everywhere everywhere [] (left_over ∷ []) (everywhere ∷ []) terms identity_for_f refl (left_over-equated, tt) in
-    let next = rule_step pure_content pure_is_content pure-below_itself goal goal [] (protect everywhere) (λ T. T) terms (Parameter prop ∷ Hypothesis (Bound 0) ∷ []) (Bound 0) fact (any_a ∷ []) any_a step is_rule
+    let next = rule_step pure_content pure_is_content pure-below_itself goal goal [] (protect everywhere) (λ T. T) terms (Parameter prop ∷ Hypothesis (Bound 0) ∷ []) (Bound 0) fact 1 (any_a ∷ []) any_a step is_rule
     (arrow prop prop, abstraction prop_typ identity_at_bound) start (everywhere_assumed start) in
     record { stripped = everywhere_stripped; start = start; rule = step; next = next; assumption = assumption_for everywhere everywhere [] tt; proved = everywhere_assumed next }

@@ -1,5 +1,5 @@
 -- Goal steps: a goal is a theorem `A1 ==> .. ==> An ==> G` with the subgoals Ai; a step puts others for its first subgoal, at an instance of the whole (Isabelle/Isar Implementation manual, sections 2.4 and 4.1).
-use Rattle.std.specs.Prelude.{◌≡◌, List, [], ◌∷◌, ◌++◌, map, length}
+use Rattle.std.specs.Prelude.{◌≡◌, ℕ, List, [], ◌∷◌, ◌++◌, map, length}
 use Rattle.pure_text.specs.Lists.{IsIn, Each, EachTwo}
 use Rattle.pure_definitions.specs.Names.{Label}
 use Rattle.pure_definitions.specs.Types.Typ.{Typ, prop}
@@ -12,6 +12,7 @@ use Rattle.pure_logic.specs.Concludes.{AreRespecting}
 use Rattle.pure_logic.specs.Derivable.{Pair, Theorem}
 use Rattle.pure_logic.specs.Proves.{Proves}
 use Rattle.pure_logic.specs.Laws.Substitution.{pair_instance}
+use Rattle.pure_logic.specs.Laws.Maps.{raised_typs, raised_terms}
 use Rattle.pure_equated.specs.Equated.{AreEquated, IsPairEquated}
 use Rattle.pure_equated.specs.Laws.Proved.{IsPairProved, IsCertifiedPair}
 use Rattle.pure_goal_laws.specs.Prefix.{Item, Hypothesis, behind, parameters, below_parameters}
@@ -44,12 +45,18 @@ closed_pair ps t u = record { left = below_parameters ps t; right = below_parame
 abbrev pub AreMatched : (Q : Content) → (new : Theorem) → (typs : Typ → Typ) → (terms : Term → Term) → List Item → (t u : Term) → Type 0
 AreMatched Q new typs terms ps t u = IsPairEquated Q.declarations new.pairs (pair_instance typs terms (closed_pair ps t u))
 
--- The fact is used as the rule from the premises to the conclusion, in a step to the new goal: it has no hypotheses and no pairs, stripped of its front it is the rule, and the new goal rests on what it rests on.
-pub record IsRuleFor (new fact : Theorem) (premises : List Term) (conclusion : Term) : Type 0 where
+-- The fact may be used in a step to the new goal: it has no hypotheses and no pairs, and the new goal rests on what it rests on.
+pub record IsFactFor (new fact : Theorem) : Type 0 where
   pub no_hyps : fact.hyps ≡ []
   pub no_pairs : fact.pairs ≡ []
-  pub stripped : IsStripped fact.prop premises conclusion
   pub rests : (l : Label) → IsIn l fact.rests → IsIn l new.rests
+
+-- It is used as the rule from the premises to the conclusion: a normal form of its proposition, which is equated with it, with the indexes raised by a number and stripped of its front.
+pub record IsRuleFor (Q : Content) (new fact : Theorem) (by : ℕ) (premises : List Term) (conclusion : Term) : Type 0 where
+  pub used : IsFactFor new fact
+  pub normal : Term
+  pub is_normal : AreEquated Q.declarations [] [] prop fact.prop normal
+  pub stripped : IsStripped (term_instance (raised_typs by) (raised_terms by) normal) premises conclusion
 
 -- the instances of a rule's premises, which are lifted over a prefix and stand behind it
 abbrev pub lifted_premises : (typs : Typ → Typ) → (terms : Term → Term) → List Item → List Term → List Term

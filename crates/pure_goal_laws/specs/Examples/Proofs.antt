@@ -1,7 +1,7 @@
 -- Worked examples: whole proofs by goal steps over Pure's own content.
 use Rattle.std.specs.Prelude.{List, [], ◌∷◌}
 use Rattle.pure_definitions.specs.Types.Typ.{prop}
-use Rattle.pure_definitions.specs.Terms.Term.{Term, Bound, Abs, App}
+use Rattle.pure_definitions.specs.Terms.Term.{Term, Var, Bound, Abs, App}
 use Rattle.pure_term_laws.specs.LawsMaps.{sent}
 use Rattle.pure_logic.specs.Connectives.{all, imp, eq, protect, chain}
 use Rattle.pure_logic.specs.PureContent.{pure_content}
@@ -56,8 +56,13 @@ another = imp a (imp b b)
 abbrev pub at_a_b : Term → Term
 at_a_b = sent any_a a (sent any_b b (λ t. t))
 
--- By elimination with the fact `(?A ==> ?B) ==> ?A ==> ?B`, whose first premise is the hypothesis `a ==> b`, the subgoal becomes `a ==> a`, which is proved by assumption.
+-- the fact `(?A ==> ?B) ==> ?A ==> ?B`, with variables of the index 0, which are raised by 1 when it is used
+abbrev pub detachment : Theorem
+detachment = record { hyps = []; pairs = []; prop = imp (imp (Var 10 0 prop) (Var 11 0 prop)) (imp (Var 10 0 prop) (Var 11 0 prop)); rests = [] }
+
+-- By elimination with this fact, whose first premise is the hypothesis `a ==> b`, the subgoal becomes `a ==> a`, which is proved by assumption.
 pub record EliminationProof : Type 0 where
+  pub fact : IsDerivable pure_content detachment
   pub elimination : IsStepFor detached detached [] (itself ∷ []) (itself ∷ []) at_a_b
   pub next : IsDerivable pure_content (goal_for detached (itself ∷ []))
   pub proved : IsDerivableAlone pure_content detached
