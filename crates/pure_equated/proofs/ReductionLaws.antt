@@ -1,6 +1,6 @@
 -- Terms are equated with what they reduce to.
 use Rattle.std.proofs.Common.{◌≡◌, ◌⊎◌, inl, inr, List, [], ◌∷◌, refl}
-use Rattle.std.specs.Prelude.{Option, Some, None, option_map}
+use Rattle.std.specs.Prelude.{Some}
 use Rattle.pure_text.specs.Lists.{Each}
 use Rattle.pure_definitions.specs.Types.Typ.{Typ, arrow}
 use Rattle.pure_definitions.specs.Terms.Term.{Term, Free, Bound, Abs, App}
@@ -8,9 +8,10 @@ use Rattle.pure_definitions.specs.Terms.Typing.{HasType}
 use Rattle.pure_definitions.specs.Terms.Bounds.{lift_term, subst_bound}
 use Rattle.pure_definitions.specs.Declarations.Decl.{Decl}
 use Rattle.pure_definitions.specs.Declarations.Certified.{IsCertifiedTyp, HasCertifiedParts}
-use Rattle.pure_definitions.specs.Reduction.Beta.{app_step, beta_step, IsBetaSequence, IsBetaAnswer, NormalForm}
+use Rattle.pure_definitions.specs.Reduction.Beta.{beta_step, IsBetaSequence, IsBetaAnswer, NormalForm}
 use Rattle.pure_definitions.specs.Reduction.Eta.{EtaStep, EtaReduces, IsEtaNormalForm, IsLongForm}
 use Rattle.pure_definitions.proofs.LiftLaws.{subst-lift}
+use Rattle.pure_term_laws.proofs.BetaLaws.{app_step-some, map-some}
 use Rattle.pure_term_laws.proofs.CertifiedLaws.{parts-lift, parts-subst}
 use Rattle.pure_term_laws.proofs.TypingLaws.{typed-once}
 use Rattle.pure_term_laws.proofs.TypingBoundLaws.{typing-subst}
@@ -20,16 +21,6 @@ use Rattle.pure_logic.specs.Derivable.{Pair}
 use Rattle.pure_logic.proofs.PartsLaws.{typ-certified}
 use Rattle.pure_equated.specs.Equated.{IsTypedUnder, AreEquated}
 use Rattle.pure_equated.proofs.SidesLaws.{equated_are_typed, typed-function, typed-argument, typed-body}
-
-app_step-some : (f a u : Term) (r s : Option Term) → app_step f a r s ≡ Some u
-    → ((g : Term) × (r ≡ Some g) × (App g a ≡ u)) ⊎ ((b : Term) × (s ≡ Some b) × (App f b ≡ u))
-app_step-some f a u (Some g) s h = inl (g, refl, cc)
-app_step-some f a u None (Some b) h = inr (b, refl, cc)
-app_step-some f a u None None h = absurd (cc)
-
-map-some : (T : Typ) (u : Term) (r : Option Term) → option_map (Abs T) r ≡ Some u → (c : Term) × (r ≡ Some c) × (Abs T c ≡ u)
-map-some T u (Some c) h = (c, refl, cc)
-map-some T u None h = absurd (cc)
 
 -- A term has its type without a binder over which it is lifted.
 typing-unlift : (bs : List Typ) (V : Typ) (t : Term) (T : Typ) → HasType (V ∷ bs) (lift_term 1 0 t) T → HasType bs t T

@@ -4,6 +4,7 @@ pub mod EtaFormLaws
 pub mod FitsLaws
 pub mod SaturatedLaws
 pub mod LongLaws
+pub mod WrapLaws
 pub mod KeptLaws
 pub mod CertifiedLaws
 pub mod FormLaws

@@ -1,8 +1,9 @@
 -- The long form of a term, as a function.
-use Rattle.std.specs.Prelude.{zero, List, ◌∷◌, slice_get, Bool, true, false, Option, Some, None}
+use Rattle.std.specs.Prelude.{ℕ, zero, ◌+◌, ◌-◌, List, ◌∷◌, slice_get, Bool, true, false, Option, Some, None}
 use Rattle.pure_definitions.specs.Types.Typ.{Typ, Con, none, also}
 use Rattle.pure_definitions.specs.Terms.Term.{Term, Const, Free, Var, Bound, Abs, App}
 use Rattle.pure_definitions.specs.Terms.Bounds.{lift_term}
+use Rattle.pure_definitions.specs.Reduction.Eta.{arrow_count}
 
 -- the type of what functions of the type give
 abbrev pub range_typ : Option Typ → Option Typ
@@ -22,6 +23,11 @@ front_typ bs (App f a) = range_typ (front_typ bs f)
 abbrev pub expanded : Typ → Term → Term
 expanded (Con zero (also A (also B none))) t = Abs A (expanded B (App (lift_term 1 0 t) (expanded A (Bound 0))))
 expanded T t = t
+
+-- the same of a term that was raised over all those abstractions at once; so many of them are still to come
+abbrev pub wrapped : Typ → ℕ → Term → Term
+wrapped (Con zero (also A (also B none))) n t = Abs A (wrapped B (n - 1) (App t (wrapped A (arrow_count A) (Bound (n - 1 + arrow_count A)))))
+wrapped T n t = t
 
 -- the term expanded at its type where it isn't applied
 abbrev pub expanded_at : (applied : Bool) → Option Typ → Term → Term

@@ -4,9 +4,10 @@ ghost use Rattle.pure_definitions.specs.Terms.Term as term;
 ghost use Rattle.pure_definitions.specs.Terms.Bounds.{lift_term};
 ghost use Rattle.pure_definitions.specs.Terms.Typing.{HasType};
 ghost use Rattle.pure_definitions.specs.Reduction.Beta.{IsBetaNormal};
+ghost use Rattle.pure_definitions.specs.Reduction.Eta.{arrow_count};
 ghost use Rattle.pure_definitions.specs.Types.Typ as tree;
 ghost use Rattle.pure_term.specs.Scope.{scope_typs};
-ghost use Rattle.pure_eta.specs.LongTerm.{front_typ, expanded, expanded_at, long_term};
+ghost use Rattle.pure_eta.specs.LongTerm.{front_typ, expanded, wrapped, expanded_at, long_term};
 ghost use Rattle.pure_eta.specs.Answer.{IsLongAnswer};
 
 use crate::fits::long_fits;
@@ -79,29 +80,58 @@ fn application(alloc: Global, function: Term, argument: Term) -> Result<Term, Al
 fn expand(alloc: Global, typ: &Typ, mut t: Term) -> Result<Term, AllocError>
     ensures { IfOk result (λ u. u ≡ expanded typ.now t) }
 {
+    let arrows = count_arrows(typ)?;
+    if arrows == 0 {
+        return Ok(t);
+    }
+    raise(&mut t, arrows, 0)?;
+    Ok(wrap(alloc, typ, t, arrows)?)
+}
+
+/// How many arrows the type has. 2 ^ 32, which no memory holds, are want of memory.
+fn count_arrows(typ: &Typ) -> Result<u32, AllocError>
+    ensures { IfOk result (λ count. count ≡ arrow_count typ.now) }
+{
+    let Some((_, range)) = typ.as_arrow() else {
+        return Ok(0);
+    };
+    let Some(count) = count_arrows(range)?.checked_add(1) else {
+        return Err(AllocError);
+    };
+    Ok(count)
+}
+
+/// The term, which was raised over all abstractions that come, under them and applied to their variables. A variable is raised as it is made.
+fn wrap(alloc: Global, typ: &Typ, t: Term, left: u32) -> Result<Term, AllocError>
+    requires { left ≡ arrow_count typ.now }
+    ensures { IfOk result (λ u. u ≡ wrapped typ.now left t) }
+{
     let Some((domain, range)) = typ.as_arrow() else {
         return Ok(t);
     };
-    raise(&mut t, 0)?;
-    let variable = Term {
-        node: TermNode::Bound { place: 0 },
+    let inside = count_arrows(domain)?;
+    let Some(place) = inside.checked_add(left - 1) else {
+        return Err(AllocError);
     };
-    let argument = expand(alloc, domain, variable)?;
+    let variable = Term {
+        node: TermNode::Bound { place },
+    };
+    let argument = wrap(alloc, domain, variable, inside)?;
     let applied = application(alloc, t, argument)?;
-    let body = expand(alloc, range, applied)?;
+    let body = wrap(alloc, range, applied, left - 1)?;
     abstraction(alloc, domain, body)
 }
 
-/// Raises each loose bound variable from this place on by one. Below 2 ^ 32 binders, which no memory holds, it is want of memory.
-fn raise(t: &mut Term, from: u32) -> Result<(), AllocError>
-    ensures { IfOk result (λ _. t.new ≡ lift_term 1 from t.old) }
+/// Raises each loose bound variable from this place on by so much. Below 2 ^ 32 binders, which no memory holds, it is want of memory.
+fn raise(t: &mut Term, by: u32, from: u32) -> Result<(), AllocError>
+    ensures { IfOk result (λ _. t.new ≡ lift_term by from t.old) }
 {
     match &mut t.node {
         TermNode::Bound { place } => {
             if *place < from {
                 return Ok(());
             }
-            let Some(raised) = place.checked_add(1) else {
+            let Some(raised) = place.checked_add(by) else {
                 return Err(AllocError);
             };
             *place = raised;
@@ -111,11 +141,11 @@ fn raise(t: &mut Term, from: u32) -> Result<(), AllocError>
             let Some(under) = from.checked_add(1) else {
                 return Err(AllocError);
             };
-            raise(body, under)
+            raise(body, by, under)
         }
         TermNode::App { fun, arg } => {
-            raise(fun, from)?;
-            raise(arg, from)
+            raise(fun, by, from)?;
+            raise(arg, by, from)
         }
         _ => Ok(()),
     }

@@ -5,19 +5,12 @@ use Rattle.std.proofs.lemmas.List.FromFn.{map-range_with_len_more}
 use Rattle.pure_io.specs.declared.library.File.{File}
 use Rattle.pure_text.proofs.Joins.{joined_3}
 use Rattle.std.specs.List.{flat_map, range_with_len}
-use Rattle.std.proofs.lemmas.List.{flat_map_more}
+use Rattle.std.proofs.lemmas.List.{flat_map_more, map-id}
 use Rattle.pure_gen.specs.Generated.{next_number, number_behind, citing_text, by_rule, full_name, rule_end, drawn_line, lemma_line, header, end_text, source, ending, theory_name, file_of}
 
 pub citing-behind : (lemmas n : ℕ) → (n ≡ 0 → ⊥) → citing_text lemmas n ≡ by_rule ++ (full_name lemmas (n - 1) ++ rule_end)
 citing-behind lemmas zero some = absurd (some refl)
 citing-behind lemmas (suc before) some = let e : suc before - 1 ≡ before = omega arith in rw e refl
-
-pub range-more : (a n : ℕ) → range_with_len a (n + 1) ≡ range_with_len a n ++ (a + n) ∷ []
-range-more a zero = let e : a + 0 ≡ a = omega arith in rw e refl
-range-more a (suc n) =
-    let longer : suc n + 1 ≡ suc (n + 1) = omega arith in
-    let last : a + 1 + n ≡ a + suc n = omega arith in
-    rw longer (ap (λ xs. a ∷ xs) (range-more (a + 1) n ∙ ap (λ m. range_with_len (a + 1) n ++ m ∷ []) last))
 
 pub number_behind-next : (start n : ℕ) → number_behind start (n + 1) ≡ next_number (number_behind start n)
 number_behind-next start n = rw (add-one n) refl
@@ -32,9 +25,11 @@ pub lines-more : (start lemmas first i last next : ℕ) (old text more : List �
 lines-more start lemmas first i last next old text more had drawn written =
     let further : first + (i + 1) ≡ first + i + 1 = omega arith in
     let now : next ≡ number_behind start (first + i + 1) = drawn ∙ ap next_number had.drawn ∙ sym (number_behind-next start (first + i)) in
+    let longer : range_with_len first (i + 1) ≡ range_with_len first i ++ (first + i) ∷ [] =
+    rw (map-id (range_with_len first (i + 1)), map-id (range_with_len first i)) at (map-range_with_len_more (λ m. m) first i (first + i) refl) in
     record {
       lines =
-          rw (range-more first i)
+          rw longer
           (written ∙ ap (λ t. t ++ drawn_line (next % 4) lemmas (first + i)) had.lines
           ∙ ap (λ m. (old ++ flat_map (lemma_line start lemmas) (range_with_len first i)) ++ drawn_line (m % 4) lemmas (first + i)) now
           ∙ flat_map_more (lemma_line start lemmas) old (range_with_len first i) (first + i));

@@ -11,10 +11,10 @@ use Rattle.pure_logic.specs.PureContent.{any_typ, pure_content, pure_declaration
 use Rattle.pure_logic.specs.Tree.{Tree, Assume, AllElim, ImpliesIntro, Refl, Subst, Ext, Iff, hyps_of, rests_of}
 use Rattle.pure_logic.specs.Concludes.{Concludes}
 use Rattle.pure_logic.specs.Derivable.{IsDerivableAlone}
-use Rattle.pure_logic.specs.BuiltFacts.{other_typ, reflexivity, substitutivity, function_extensionality, proposition_extensionality, modus_ponens, specialisation, built_facts}
-use Rattle.pure_logic.proofs.ConnectiveLaws.{pure-below_itself, certified_of, arrow-certified, prop-certified, all-parts}
+use Rattle.pure_logic.specs.BuiltFacts.{other_typ, reflexivity, substitutivity, function_extensionality, propositional_extensionality, modus_ponens, specialisation, built_facts}
+use Rattle.pure_logic.proofs.ConnectiveLaws.{pure-below_itself, certified_of, arrow-certified, prop-certified}
 use Rattle.pure_logic.proofs.ContentLaws.{pure_is_content}
-use Rattle.pure_logic.proofs.PropositionLaws.{imp-proposition, derivable_alone_is_proposition}
+use Rattle.pure_logic.proofs.PropositionLaws.{imp-proposition, all-proposition, derivable_alone_is_proposition}
 use Rattle.pure_logic.proofs.ChainLaws.{variable_is_proposition, chain_is_derivable}
 use Rattle.pure_logic.proofs.DerivableLaws.{derivable_alone_exactly}
 use Rattle.pure_logic.proofs.WeakeningLaws.{weakening_of_derivable}
@@ -47,9 +47,7 @@ specialised =
     (App P x, (any_typ, App P (Bound 0), (proposition, refl), variable-certified 1 any_typ (no_class 0), refl), proposition, refl) refl refl
   where
     proposition : IsProposition pure_content quantified
-    proposition =
-        certified_of pure_content quantified prop (all-parts pure_content pure-below_itself any_typ (App (Var 0 0 (arrow any_typ prop)) (Bound 0)) (no_class 0) (predicate, tt))
-        (arrow any_typ prop, refl, (prop, (any_typ, refl, refl), refl))
+    proposition = all-proposition pure_content pure-below_itself any_typ (App (Var 0 0 (arrow any_typ prop)) (Bound 0)) (no_class 0) (predicate, tt) (any_typ, refl, refl)
 
 implication : IsProposition pure_content (imp (proposition_variable 0) (proposition_variable 1))
 implication = imp-proposition pure_content pure-below_itself (proposition_variable 0) (proposition_variable 1) (variable_is_proposition 0) (variable_is_proposition 1)
@@ -73,7 +71,7 @@ built_facts_are_derivable =
     let reflexive = shown (Refl x) reflexivity (any_typ, x-of, refl) refl refl in
     let substitutive = shown (Subst (Abs any_typ (App P (Bound 0))) x y) substitutivity (any_typ, App P (Bound 0), refl, abstraction, x-of, y-of, refl) refl refl in
     let extensional = shown (Ext f g) function_extensionality (any_typ, other_typ, f-of, g-of, refl) refl refl in
-    let equivalent = shown (Iff A B) proposition_extensionality (variable_is_proposition 0, variable_is_proposition 1, refl) refl refl in
+    let equivalent = shown (Iff A B) propositional_extensionality (variable_is_proposition 0, variable_is_proposition 1, refl) refl refl in
     let ponens = chain_is_derivable pure_content (imp A B ∷ []) (imp A B) (implication, tt) (inl refl) in
     (reflexive, (substitutive, (extensional, (equivalent, (ponens, (specialised, tt))))))
 
@@ -98,7 +96,7 @@ built_facts_are_statements =
         (
           statement function_extensionality h.1.1.0 ((two, ((one, (tt, tt)), (tt, pointwise))), (((one, ((one, (tt, tt)), tt)), one), one)),
           (
-            statement proposition_extensionality h.1.1.1.0 ((two, both), ((two, both), both)),
+            statement propositional_extensionality h.1.1.1.0 ((two, both), ((two, both), both)),
             (statement modus_ponens h.1.1.1.1.0 ((two, both), both), (statement specialisation h.1.1.1.1.1.0 ((two, ((one, (tt, tt)), (tt, (one, tt)))), (one, tt)), tt)),
           ),
         ),

@@ -11,28 +11,21 @@ use Rattle.pure_logic.specs.Tree.{Tree, Axiom, Promise, Assume, AllIntro, AllEli
 use Rattle.pure_logic.specs.Concludes.{Concludes}
 use Rattle.pure_logic.specs.Derivable.{Theorem, IsDerivable, IsDerivableAlone}
 use Rattle.pure_logic.specs.Proves.{Proves}
-use Rattle.pure_logic.specs.Laws.Promises.{IsSettled, AreOpenOrSettled, IsProvedFor}
+use Rattle.pure_logic.specs.Laws.Promises.{IsSettled, AreOpenOrSettled, IsProvedFor, IsCutTree}
 use Rattle.pure_logic.proofs.ProvesLaws.{weaker, derivable_is_proves}
 use Rattle.pure_logic.proofs.SubstitutionLaws.{instance_is_proved}
 use Rattle.pure_logic.proofs.DischargeLaws.{without-among}
-
--- a tree for what d concludes, from hypotheses of d, that rests on the promises left open
-record IsCut (Q : Content) (left_open : List Label) (d : Tree) (C : Term) : Type 0 where
-  pub tree : Tree
-  pub concludes : Concludes Q tree C
-  pub hyps : Each (λ A. IsIn A (hyps_of d)) (hyps_of tree)
-  pub rests : Each (λ l. IsIn l left_open) (rests_of tree)
 
 -- Each of the promises is among those left open, or is proved resting on them.
 abbrev AreOpenOrProved : (Q : Content) → (left_open rests : List Label) → Type 0
 AreOpenOrProved Q left_open rests = Each (λ l. IsIn l left_open ⊎ IsProvedFor Q left_open l) rests
 
 module _ (Q : Content) (q : IsContent Q) (left_open : List Label) where
-  cut : (d : Tree) (C : Term) → Concludes Q d C → AreOpenOrProved Q left_open (rests_of d) → IsCut Q left_open d C
+  pub cut : (d : Tree) (C : Term) → Concludes Q d C → AreOpenOrProved Q left_open (rests_of d) → IsCutTree Q left_open d C
   cut (Axiom n typs terms) C h settled = record { tree = Axiom n typs terms; concludes = h; hyps = tt; rests = tt }
   cut (Promise label typs terms) C h settled = by settled.0
     where
-      by : IsIn label left_open ⊎ IsProvedFor Q left_open label → IsCut Q left_open (Promise label typs terms) C
+      by : IsIn label left_open ⊎ IsProvedFor Q left_open label → IsCutTree Q left_open (Promise label typs terms) C
       by (inl m) = record { tree = Promise label typs terms; concludes = h; hyps = tt; rests = (m, tt) }
       by (inr proved) =
           let made = instance_is_proved Q q typs terms h.3 [] left_open h.1 (proved h.0 h.1 h.2) in
@@ -84,7 +77,7 @@ cut_by_proofs Q q th left_open proved h =
     }
 
 -- What is derivable alone is proved, resting on whatever promises.
-pub alone-proved : (Q : Content) (rests : List Label) (A : Term) → IsDerivableAlone Q A → Proves Q [] rests A
+alone-proved : (Q : Content) (rests : List Label) (A : Term) → IsDerivableAlone Q A → Proves Q [] rests A
 alone-proved Q rests A h = weaker Q [] [] [] rests A (λ B m. m) (λ l m. absurd m) ((derivable_is_proves Q [] [] A).0 h)
 
 pub cut_of_promises : (Q : Content) → IsContent Q → (th : Theorem) (left_open : List Label) → AreOpenOrSettled Q left_open th.rests → IsDerivable Q th → IsDerivable Q (record th { rests = left_open })

@@ -64,7 +64,7 @@ module _ (Q : Content) (q : IsContent Q) where
 
   -- Respecting maps one after the other are respecting.
   module _ (first typs : Typ → Typ) (inner terms : Term → Term) (s : AreRespecting Q first inner) (r : AreRespecting Q typs terms) where
-    composed-respects : AreRespecting Q (λ v. typ_instance typs (first v)) (λ v. term_instance typs terms (inner v))
+    pub composed-respects : AreRespecting Q (λ v. typ_instance typs (first v)) (λ v. term_instance typs terms (inner v))
     composed-respects = record {
       sorts = record {
         fixed = λ x c. of_sort-instance (algebra_of Q.declarations) typs r.sorts (first (TFree x c)) c (s.sorts.fixed x c);

@@ -5,7 +5,7 @@ use Rattle.pure_definitions.specs.Types.Occurs.{OccursInTyp}
 use Rattle.pure_definitions.specs.Terms.Term.{Free, Var, Bound, Abs, App}
 use Rattle.pure_definitions.specs.Terms.Bounds.{Occurs}
 use Rattle.pure_definitions.specs.Terms.Subst.{typ_image}
-use Rattle.pure_term_laws.specs.LawsExamples.{i, j, a, f, x, y, any_x}
+use Rattle.pure_term_laws.specs.LawsExamples.{i, j, a, f, x, y, any_x, any_y}
 use Rattle.pure_term_laws.specs.LawsOccurs.{IsTypVariable, TypOccurs, HasNoSchematic}
 use Rattle.pure_term_laws.proofs.OccursLaws.{schematic_map_keeps, instance_is_closed}
 use Rattle.pure_term_laws.proofs.SubstLaws.{entries-keep_fixed_typs}
@@ -17,12 +17,12 @@ use Rattle.pure_logic.specs.Derivable.{IsDerivable}
 use Rattle.pure_logic.specs.BuiltFacts.{reflexivity}
 use Rattle.pure_logic.specs.Laws.Maps.{HasNoneOf}
 use Rattle.pure_logic.specs.Examples.Theory.{less, q, promised, example}
-use Rattle.pure_logic.specs.Examples.Theorems.{typ_to_i, variable_to_a, of_x, InstantiatedExample, RaisedExample, GeneralisedExample, StatementExample, WeakerExample, QuantifiedVariableExample, ContextExample, AbstractedExample, NameExample, KeptExample, ClosedExample}
+use Rattle.pure_logic.specs.Examples.Theorems.{typ_to_i, variable_to_a, of_x, InstantiatedExample, RaisedExample, GeneralisedExample, StatementExample, NothingFixedExample, WeakerExample, QuantifiedVariableExample, ContextExample, AbstractedExample, NameExample, KeptExample, ClosedExample}
 use Rattle.pure_logic.proofs.ConnectiveLaws.{certified_of, all-parts}
 use Rattle.pure_logic.proofs.ContentLaws.{pure_is_content}
 use Rattle.pure_logic.proofs.PropositionLaws.{eq-proposition}
 use Rattle.pure_logic.proofs.BuiltFactLaws.{built_facts_are_derivable, built_facts_are_derivable_above}
-use Rattle.pure_logic.proofs.TheoremMapLaws.{weaker_is_derivable, generalised_is_derivable, generalised_is_statement, raised_is_derivable, instantiated_is_derivable}
+use Rattle.pure_logic.proofs.TheoremMapLaws.{weaker_is_derivable, generalised_is_derivable, generalised_is_statement, generalisation_keeps, raised_is_derivable, instantiated_is_derivable}
 use Rattle.pure_logic.proofs.ProvesLaws.{assumed, derivable_is_proves, proved-derivable}
 use Rattle.pure_logic.proofs.EqualityLaws.{reflexive_equality, equal_in_context}
 use Rattle.pure_logic.proofs.QuantificationLaws.{reduced_instance_is_derivable, abstraction_is_derivable}
@@ -73,6 +73,9 @@ generalised_example = (
 
 pub statement_example : StatementExample
 statement_example = (refl, generalised_is_statement example example_is_content 0 (less x y) (less-of x y x-of y-of))
+
+pub nothing_fixed_example : NothingFixedExample
+nothing_fixed_example g = generalisation_keeps g (less any_x any_y) statement_example.1.schematic
 
 pub weaker_example : WeakerExample
 weaker_example =

@@ -23,7 +23,7 @@ use Rattle.pure_logic.specs.Concludes.{AreRespecting}
 use Rattle.pure_logic.specs.Derivable.{Theorem, IsDerivable}
 use Rattle.pure_logic.specs.Laws.Substitution.{pair_instance, theorem_instance}
 use Rattle.pure_logic.specs.Laws.Inferences.{IsAmong}
-use Rattle.pure_logic.specs.Laws.Maps.{Generalisation, schematic_typs, schematic_terms, generalised, HasNoneOf, everything, raised_typs, raised_terms, instantiated, instantiated_theorem}
+use Rattle.pure_logic.specs.Laws.Maps.{MoveFixedAlone, Generalisation, schematic_typs, schematic_terms, generalised, HasNoneOf, everything, raised_typs, raised_terms, instantiated, instantiated_theorem}
 use Rattle.pure_logic.proofs.MapLaws.{cond-has, joined_respect, joined_instance}
 use Rattle.pure_logic.proofs.WeakeningLaws.{typ_instance-certified}
 use Rattle.pure_logic.proofs.SubstitutionLaws.{instance_is_derivable, certified_of-instance}
@@ -137,6 +137,28 @@ pub generalised_is_statement : (Q : Content) → IsContent Q → (index : ℕ) (
 generalised_is_statement Q q index A h =
     let g = everything index in
     record { proposition = certified_of-instance Q q (schematic_typs g) (schematic_terms g) (generalisation_respects Q g) A prop h; schematic = generalised-schematic index A }
+
+module _ (typs : Typ → Typ) (terms : Term → Term) (fixed : MoveFixedAlone typs terms) where
+  mutual
+    schematic_typ-kept : (T : Typ) → IsSchematicTyp T → typ_instance typs T ≡ T
+    schematic_typ-kept (TFree x s) h = absurd h
+    schematic_typ-kept (TVar x i s) h = fixed.on_typs x i s
+    schematic_typ-kept (Con k ts) h = ap (Con k) (schematic_typs-kept ts h)
+
+    schematic_typs-kept : (ts : Typs) → AreSchematicTyps ts → typs_instance typs ts ≡ ts
+    schematic_typs-kept none h = refl
+    schematic_typs-kept (also t ts) h = λ l. also (schematic_typ-kept t h.0 l) (schematic_typs-kept ts h.1 l)
+
+  pub fixed_map_keeps : (t : Term) → IsSchematic t → term_instance typs terms t ≡ t
+  fixed_map_keeps (Const c T) h = ap (Const c) (schematic_typ-kept T h)
+  fixed_map_keeps (Free x T) h = absurd h
+  fixed_map_keeps (Var x i T) h = fixed.on_terms x i T ∙ ap (Var x i) (schematic_typ-kept T h)
+  fixed_map_keeps (Bound n) h = refl
+  fixed_map_keeps (Abs T b) h = λ l. Abs (schematic_typ-kept T h.0 l) (fixed_map_keeps b h.1 l)
+  fixed_map_keeps (App f a) h = λ l. App (fixed_map_keeps f h.0 l) (fixed_map_keeps a h.1 l)
+
+pub generalisation_keeps : (g : Generalisation) (t : Term) → IsSchematic t → generalised g t ≡ t
+generalisation_keeps g t h = fixed_map_keeps (schematic_typs g) (schematic_terms g) (record { on_typs = λ x i s. refl; on_terms = λ x i T. refl }) t h
 
 raised_typ-certified : (Q : Content) (by : ℕ) (T : Typ) → IsCertifiedTyp Q.declarations T → IsCertifiedTyp Q.declarations (typ_instance (raised_typs by) T)
 raised_typ-certified Q by = typ_instance-certified Q.declarations (raised_typs by) (λ x s c. c) (λ x i s c. c)

@@ -28,8 +28,8 @@ abbrev pub function_extensionality : Term
 function_extensionality = extensionality any_typ other_typ (Var 0 0 (arrow any_typ other_typ)) (Var 1 0 (arrow any_typ other_typ))
 
 -- `(?A ==> ?B) ==> (?B ==> ?A) ==> ?A == ?B`
-abbrev pub proposition_extensionality : Term
-proposition_extensionality =
+abbrev pub propositional_extensionality : Term
+propositional_extensionality =
     let A = proposition_variable 0 in
     let B = proposition_variable 1 in
     imp (imp A B) (imp (imp B A) (eq prop A B))
@@ -49,4 +49,4 @@ specialisation =
 
 -- the six, in the order in which they are offered
 abbrev pub built_facts : List Term
-built_facts = reflexivity ∷ substitutivity ∷ function_extensionality ∷ proposition_extensionality ∷ modus_ponens ∷ specialisation ∷ []
+built_facts = reflexivity ∷ substitutivity ∷ function_extensionality ∷ propositional_extensionality ∷ modus_ponens ∷ specialisation ∷ []

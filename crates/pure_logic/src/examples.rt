@@ -1,7 +1,7 @@
 //! What the definitions mean, by computed examples, each carried by the contract of a function that does nothing.
 ghost use Rattle.pure_logic.specs.Examples.Contents.{BeginningExample, AncestorsExample, NotApartExample, NoMergeExample, MiddleMergeExample, NamedTwiceExample, IllFormedExample, SchematicExample, BelowExample, DefinitionExample};
 ghost use Rattle.pure_logic.specs.Examples.Nodes.{ExampleIsContent, AxiomExample, OwnTypeExample, PromiseExample, RestsExample, NoAxiomExample, NoMapExample, AssumeExample, AllIntroExample, NoAllIntroExample, AllElimExample, NoAllElimExample, ImpliesIntroExample, TwiceAssumedExample, ImpliesElimExample, BetaExample, ReflExample, SubstExample, SymmetricExample, ExtExample, IffExample, PairsExample, DerivableExample, OpenHypothesisExample, OpenPromiseExample, NoPropositionExample};
-ghost use Rattle.pure_logic.specs.Examples.Theorems.{InstantiatedExample, RaisedExample, GeneralisedExample, StatementExample, WeakerExample, QuantifiedVariableExample, ContextExample, AbstractedExample, NameExample, KeptExample, ClosedExample};
+ghost use Rattle.pure_logic.specs.Examples.Theorems.{InstantiatedExample, RaisedExample, GeneralisedExample, StatementExample, NothingFixedExample, WeakerExample, QuantifiedVariableExample, ContextExample, AbstractedExample, NameExample, KeptExample, ClosedExample};
 ghost use Rattle.pure_logic.specs.Examples.Fulfilments.{FulfilledExample, JoinedExample};
 ghost use Rattle.pure_logic.specs.Examples.Underivable.{UnderivableExample};
 
@@ -88,6 +88,7 @@ pub fn theorem_map_example()
     ensures raised { RaisedExample }
     ensures generalised { GeneralisedExample }
     ensures statement { StatementExample }
+    ensures nothing { NothingFixedExample }
     ensures weaker { WeakerExample }
 {}
 

@@ -5,12 +5,12 @@ ghost use Rattle.pure_logic.specs.Laws.Inferences.{InferredFromOne, InferredFrom
 ghost use Rattle.pure_logic.specs.Laws.Equality.{ReflexiveEquality, SymmetricEquality, TransitiveEquality, EqualsAreReplaced, EqualApplications, EqualPropositions, EqualIsProved, EqualFunctions, BetaEquality, EtaEquality, EqualAbstractions, MarkMeansNothing};
 ghost use Rattle.pure_logic.specs.Laws.Quantification.{EqualInContext, EqualBodies, AbstractionIsDerivable, InstanceOfFunctionIsProved, ReducedInstanceIsProved, ReducedInstanceIsDerivable};
 ghost use Rattle.pure_logic.specs.Laws.Substitution.{SubstitutionOfTrees, InstanceIsProved, InstanceIsDerivable};
-ghost use Rattle.pure_logic.specs.Laws.Maps.{WeakerIsDerivable, InstanceFromSameHypotheses, GeneralisedIsDerivable, GeneralisedIsStatement, RaisedIsDerivable, InstantiatedIsDerivable};
-ghost use Rattle.pure_logic.specs.Laws.Promises.{CutByProofs, CutOfPromises, SettledIsDerivable, FulfilledIsDerivable, AllFulfilledIsDerivable, JoinedAreDerivable, JoinedExactly};
+ghost use Rattle.pure_logic.specs.Laws.Maps.{WeakerIsDerivable, InstanceFromSameHypotheses, GeneralisedIsDerivable, GeneralisedIsStatement, FixedMapKeeps, GeneralisationKeeps, RaisedIsDerivable, InstantiatedIsDerivable};
+ghost use Rattle.pure_logic.specs.Laws.Promises.{CutOfTrees, CutByProofs, CutOfPromises, SettledIsDerivable, FulfilledIsDerivable, AllFulfilledIsDerivable, JoinedAreDerivable, JoinedExactly};
 ghost use Rattle.pure_logic.specs.Laws.BuiltFacts.{BuiltFactsAreDerivable, BuiltFactsAreDerivableAbove, BuiltFactsAreStatements};
 ghost use Rattle.pure_logic.specs.Laws.Tree.{OneConclusion, OneUnderPairs, WeakeningOfTrees, WeakeningOfDerivable, IdentityRespects, JoinedMapsRespect, JoinedInstance};
 ghost use Rattle.pure_logic.specs.Laws.Names.{ImplicationByName, MarkByName, QuantificationByName, EqualityByName, RespectingImagesAreClosed, JoinedMapsKeepFixed};
-ghost use Rattle.pure_logic.specs.Laws.Parts.{PartsOfInstance};
+ghost use Rattle.pure_logic.specs.Laws.Parts.{PartsOfInstance, InstanceIsCertified, ComposedMapsRespect};
 ghost use Rattle.pure_logic.specs.Laws.Conclusion.{ConclusionIsProposition, DerivableIsProposition, DerivableAloneIsProposition};
 ghost use Rattle.pure_logic.specs.Laws.Contents.{MergeHasDeclarations, MergeHasNoRepeats, OneMerge, BeginningIsContent, ParentsAreBelow, OneBeginning, AncestorsAreTheParents, AncestorsHaveNoRepeats, BeginningHasTheoriesApart, TheoriesAreToldApart, PureHasTheoriesApart};
 
@@ -110,18 +110,25 @@ pub fn substitution_is_admissible()
     ensures derivable { InstanceIsDerivable }
 {}
 
-/// Maps on theorems: fixed variables that are in no hypothesis are made schematic, indexes are raised, and the finite maps of a call are put in.
+/// Maps on theorems: more hypotheses, maps that leave the hypotheses as they are, indexes raised, and the finite maps of a call.
 pub fn maps_on_theorems()
     ensures weaker { WeakerIsDerivable }
     ensures same_hypotheses { InstanceFromSameHypotheses }
-    ensures generalised { GeneralisedIsDerivable }
-    ensures statement { GeneralisedIsStatement }
     ensures raised { RaisedIsDerivable }
     ensures instantiated { InstantiatedIsDerivable }
 {}
 
-/// What rests on promises of which each is left open or settled rests on those left open alone.
+/// Fixed variables that are in no hypothesis are made schematic; where there are none, nothing changes.
+pub fn fixed_variables_made_schematic()
+    ensures generalised { GeneralisedIsDerivable }
+    ensures statement { GeneralisedIsStatement }
+    ensures fixed { FixedMapKeeps }
+    ensures kept { GeneralisationKeeps }
+{}
+
+/// What rests on promises of which each is left open, or proved from those left open, or settled, rests on those left open alone.
 pub fn promises_are_cut()
+    ensures trees { CutOfTrees }
     ensures by_proofs { CutByProofs }
     ensures cut { CutOfPromises }
     ensures settled { SettledIsDerivable }
@@ -206,7 +213,9 @@ pub fn ancestors_are_the_parents()
     ensures pure { PureHasTheoriesApart }
 {}
 
-/// A term's parts stay certified under respecting maps.
+/// Certified terms, and their parts, stay certified under respecting maps; and such maps one after the other are respecting.
 pub fn certification_is_kept()
-    ensures { PartsOfInstance }
+    ensures parts { PartsOfInstance }
+    ensures instance { InstanceIsCertified }
+    ensures composed { ComposedMapsRespect }
 {}

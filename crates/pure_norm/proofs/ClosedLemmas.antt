@@ -7,15 +7,6 @@ use Rattle.pure_definitions.specs.Terms.Bounds.{IsClosedUnder, lift_term, place_
 use Rattle.pure_definitions.specs.Terms.Conditions.{IsLiftable, IsPuttable}
 use Rattle.pure_definitions.proofs.LiftLaws.{lift_term-bound}
 
--- More binders do too.
-pub closed-more : (n m : ℕ) (t : Term) → n ≤ m → IsClosedUnder n t → IsClosedUnder m t
-closed-more n m (Const c T) le h = tt
-closed-more n m (Free x T) le h = tt
-closed-more n m (Var x i T) le h = tt
-closed-more n m (Bound p) le h = omega arith
-closed-more n m (Abs T b) le h = closed-more (n + 1) (m + 1) b (omega arith) h
-closed-more n m (App f a) le h = (closed-more n m f le h.0, closed-more n m a le h.1)
-
 pub closed-lift : (n by from m : ℕ) (t : Term) → n + by ≤ m → IsClosedUnder n t → IsClosedUnder m (lift_term by from t)
 closed-lift n by from m (Const c T) le h = tt
 closed-lift n by from m (Free x T) le h = tt

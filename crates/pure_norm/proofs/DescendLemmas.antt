@@ -18,7 +18,8 @@ use Rattle.pure_norm.specs.declared.walk.Until.TheVariants.{Abstraction, Normal}
 use Rattle.pure_norm.specs.declared.walk.Walk.{Walk}
 use Rattle.pure_norm.specs.declared.fault.NormFault.{NormFault}
 use Rattle.pure_norm.specs.Walk.{CanWalk, IsOver, Walked, Fails, Contracted, CannotContract}
-use Rattle.pure_norm.proofs.ClosedLemmas.{closed-more, puttable-closed}
+use Rattle.pure_term_laws.proofs.OccursLaws.{closed-more}
+use Rattle.pure_norm.proofs.ClosedLemmas.{puttable-closed}
 use Rattle.pure_norm.proofs.LeadsLemmas.{app-goes_on, function-frame, argument-frame, body-frame}
 use Rattle.pure_norm.proofs.WalkLemmas.{walked-chain, fails-chain, walked-whole, fails-whole, walked-contracted, fails-contract, can_walk-after}
 

@@ -1,11 +1,11 @@
 -- One beta step: where it is taken, and how a step of a part is a step of the whole.
 use Rattle.std.proofs.Common.{◌≡◌, ◌⊎◌, inl, inr, ℕ, ◌+◌, refl, subst, arith}
-use Rattle.std.specs.Prelude.{Option, Some, None, option_map}
+use Rattle.std.specs.Prelude.{Option, Some, None}
 use Rattle.pure_definitions.specs.Types.Typ.{Typ}
 use Rattle.pure_definitions.specs.Terms.Term.{Term, Abs, App}
 use Rattle.pure_definitions.specs.Terms.Bounds.{IsClosedUnder, subst_bound}
 use Rattle.pure_definitions.specs.Reduction.Beta.{IsAbs, IsBetaNormal, app_step, beta_step}
-use Rattle.pure_term_laws.proofs.BetaLaws.{normal-no_step}
+use Rattle.pure_term_laws.proofs.BetaLaws.{normal-no_step, app_step-some, map-some}
 use Rattle.pure_norm.proofs.ClosedLemmas.{closed-subst}
 
 -- the step of an application whose function is no abstraction
@@ -34,16 +34,6 @@ pub data IsStep : Term → Term → Type 0 where
   in_function : (f g a : Term) → IsStep f g → IsStep (App f a) (App g a)
   in_argument : (f a b : Term) → IsStep a b → IsStep (App f a) (App f b)
   in_body : (T : Typ) (b c : Term) → IsStep b c → IsStep (Abs T b) (Abs T c)
-
-app_step-some : (f a u : Term) (r s : Option Term) → app_step f a r s ≡ Some u
-    → ((g : Term) × (r ≡ Some g) × (App g a ≡ u)) ⊎ ((b : Term) × (s ≡ Some b) × (App f b ≡ u))
-app_step-some f a u (Some g) s h = inl (g, refl, cc)
-app_step-some f a u None (Some b) h = inr (b, refl, cc)
-app_step-some f a u None None h = absurd (cc)
-
-map-some : (T : Typ) (u : Term) (r : Option Term) → option_map (Abs T) r ≡ Some u → (c : Term) × (r ≡ Some c) × (Abs T c ≡ u)
-map-some T u (Some c) h = (c, refl, cc)
-map-some T u None h = absurd (cc)
 
 pub step-is_step : (t u : Term) → beta_step t ≡ Some u → IsStep t u
 step-is_step (App (Abs T b) a) u h = contracted T b a u (cc)

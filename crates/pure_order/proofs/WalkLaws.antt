@@ -11,7 +11,7 @@ use Rattle.pure_order_tables.specs.Arities.{IsGreatest}
 use Rattle.pure_order_tables.specs.ArityTable.{IsPlace}
 use Rattle.pure_order_tables.specs.Checks.{IsDecided}
 use Rattle.pure_order_tables.proofs.CoregularLaws.{directed, candidate_greatest}
-use Rattle.pure_order.specs.Places.{Holds}
+use Rattle.pure_order_tables.specs.Rows.{Holds}
 use Rattle.pure_order.specs.Walk.{IsWalkable, no_arity, arity_at, domains_at, domain_at, HasDomain, IsGreatestPlace, HaveDomain, HaveDomains, IsOfDomain, AreOfDomains, AsksMore}
 use Rattle.pure_order.proofs.DomainLaws.{of_class_by_domains, are_of_sorts}
 

@@ -4,12 +4,12 @@ use Rattle.pure_text.specs.Lists.{EachTwo}
 use Rattle.pure_definitions.specs.Types.Typ.{Typ}
 use Rattle.pure_definitions.specs.Types.Order.{Arity, Algebra, IsOfSort, IsCoregular}
 use Rattle.pure_order_tables.specs.Arities.{IsGreatest}
-use Rattle.pure_order.specs.Places.{Holds}
+use Rattle.pure_order_tables.specs.Rows.{Holds}
 
 -- The algebra is coregular, and has so few arities that a set can hold each of their places.
 pub record IsWalkable (A : Algebra) : Type 0 where
   pub coregular : IsCoregular A
-  pub room : length A.arities ≤ 4096
+  pub room : length A.arities ≤ 8192
 
 -- what is read where no arity is
 abbrev pub no_arity : Arity

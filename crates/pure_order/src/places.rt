@@ -1,16 +1,16 @@
 //! Sets of places of arities.
 ghost use Rattle.std.specs.Prelude.{◌≡◌, ◌↔◌, ◌⊎◌, ◌<◌, ◌≤◌, ℕ, IsTrue};
-ghost use Rattle.pure_order.specs.Places.{Holds};
+ghost use Rattle.pure_order_tables.specs.Rows.{Holds};
 
 use std::marker::Model;
 
 /// A set holds places below this one.
-pub const MOST_PLACES: usize = 4096;
+pub const MOST_PLACES: usize = 8192;
 
 /// A set of places of arities. Its bits stand in the frame: it takes no memory from the heap.
 #[derive(Drop)]
 pub struct Places {
-    words: [u64; 64],
+    words: [u64; 128],
     start: usize,
     end: usize,
 }
@@ -32,7 +32,7 @@ impl Places {
         ensures { (place : ℕ) → ¬ Holds result place }
     {
         Places {
-            words: [0; 64],
+            words: [0; 128],
             start: MOST_PLACES,
             end: 0,
         }
@@ -61,7 +61,7 @@ impl Places {
 
     /// Puts the place into the set.
     pub fn insert(&mut self, place: usize)
-        requires { place < 4096 }
+        requires { place < 8192 }
         ensures { (other : ℕ) → Holds self.new other ↔ ((other ≡ place) ⊎ Holds self.old other) }
     {
         self.words[place / 64] |= 1 << (place % 64);

@@ -3,7 +3,7 @@ ghost use Rattle.std.specs.Prelude.{◌≡◌, ◌↔◌, ◌<◌, ℕ, List, Is
 ghost use Rattle.pure_definitions.specs.Types.Typ as tree;
 ghost use Rattle.pure_definitions.specs.Types.Typ.{Con, typs_of};
 ghost use Rattle.pure_definitions.specs.Types.Order.{IsOfClass, IsOfSort, IsSortBelow};
-ghost use Rattle.pure_order.specs.Places.{Holds};
+ghost use Rattle.pure_order_tables.specs.Rows.{Holds};
 ghost use Rattle.pure_order.specs.Walk.{IsWalkable, domains_at, domain_at, HasDomain, IsGreatestPlace, HaveDomain, HaveDomains, IsOfDomain, AreOfDomains, AsksMore};
 
 use crate::places::Places;

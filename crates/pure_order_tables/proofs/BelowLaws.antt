@@ -43,7 +43,7 @@ follows-one_more done [] k f fresh known = (rw append-nil at fresh, rw append-ni
 follows-one_more done (l ∷ ls) k f fresh known = (f.0, f.1, follows-one_more (done ++ l ∷ []) ls k f.2 (rw (append_assoc done (l ∷ []) ls) fresh) (rw (append_assoc done (l ∷ []) ls) known))
 
 -- What is above a class is the class or declared.
-reaches : (A : Algebra) → Follows [] A.classes → {c d : ℕ} → IsClassBelow A c d → (c ≡ d) ⊎ IsDeclared A.classes d
+pub reaches : (A : Algebra) → Follows [] A.classes → {c d : ℕ} → IsClassBelow A c d → (c ≡ d) ⊎ IsDeclared A.classes d
 reaches A f itself = inl refl
 reaches A f (along {b = b} {d = d} i h) = elim (reaches A f h) [ inl e ↦ inr (declared_at A.classes b d e (above_declared [] A.classes i.0 b f i.1 i.3)) | inr m ↦ inr m ]
 

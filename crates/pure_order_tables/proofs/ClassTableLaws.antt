@@ -1,22 +1,29 @@
 -- A table of classes with one more class.
-use Rattle.std.proofs.Common.{◌≡◌, ℕ, List, [], ◌∷◌, ◌++◌, refl, sym, inl, inr, ◌⊎◌, ◌↔◌, Vec, Option, Some, None, MatchOption, ◌∙◌}
+use Rattle.std.proofs.Common.{◌≡◌, ℕ, ◌+◌, ◌<◌, ◌/◌, zero, suc, List, [], ◌∷◌, ◌++◌, length, get_or, refl, sym, ap, inl, inr, ◌⊎◌, ◌↔◌, Option, Some, None, MatchOption, ◌∙◌, arith, length-append}
+use Rattle.std.proofs.Math.ListN.{get_or-append}
+use Rattle.std.proofs.Math.Seq.{get_or-append_seam}
+use Rattle.std.proofs.lemmas.List.{length-map}
+use Rattle.std.specs.declared.sync.Arc.{Arc}
+use Rattle.std.specs.Arc.{arc_value}
 use Rattle.std.specs.List.Sorted.{IsStrictlyIncreasing}
 use Rattle.std.specs.BTreeMap.{BTreeMap, get, Updates}
 use Rattle.std.specs.declared.alloc.Global.{Global}
 use Rattle.std.specs.Ordering.{nat_cmp}
 use Rattle.pure_text.specs.Lists.{IsIn, Each, AnyOf}
 use Rattle.pure_definitions.specs.Types.Order.{Class, IsClassBelow, itself, along}
-use Rattle.pure_text.proofs.ListLaws.{any_of, in-append_left, in-append_right, in_split, in_or_not, any_split, any_some, each_at, any-append_left, any-append_right}
+use Rattle.pure_text.proofs.ListLaws.{any_of, any_imply, in-append_left, in-append_right, in_split, in_or_not, any_split, any_some, each_of, each_at, each-append, any-append_left, any-append_right}
 use Rattle.std.proofs.lemmas.List.{map-append}
 use Rattle.pure_order_tables.specs.declared.classes.ClassEntry.{ClassEntry}
-use Rattle.pure_order_tables.specs.ClassView.{class_of, classes_of}
+use Rattle.pure_order_tables.specs.ClassView.{class_of, classes_of, shared_classes}
+use Rattle.pure_order_tables.specs.Shares.{values_of}
+use Rattle.pure_order_tables.specs.Rows.{Holds}
 use Rattle.pure_order_tables.specs.Classes.{IsDeclared, Follows, of_classes}
-use Rattle.pure_order_tables.specs.ClassTable.{AreAllAbove, IsClassTable}
+use Rattle.pure_order_tables.specs.ClassTable.{AreAllAbove, IsClassTable, IsEntry, IsNewRow, IsNumber, IsRow, NamedBefore, name_at, no_class}
 use Rattle.std.proofs.lemmas.Bool.Decides.{eqb_tells}
 use Rattle.pure_order_tables.specs.Checks.{IsDecided}
 use Rattle.pure_order_tables.proofs.MapLaws.{get_after}
 use Rattle.pure_definitions.proofs.OrderLaws.{below-more, below_same}
-use Rattle.pure_order_tables.proofs.BelowLaws.{below-one_more, below-undeclared, follows-one_more, declared}
+use Rattle.pure_order_tables.proofs.BelowLaws.{below-one_more, below-undeclared, follows-one_more, declared, reaches}
 
 from_new : (cs : List Class) (k : Class) → Follows [] cs → ¬ IsDeclared cs k.name → Each (IsDeclared cs) k.above → (c d : ℕ) → c ≡ k.name → IsClassBelow (of_classes (cs ++ k ∷ [])) c d → (d ≡ k.name) ⊎ AnyOf (λ b. IsClassBelow (of_classes cs) b d) k.above
 from_new cs k f fresh known c d e itself = inl e
@@ -62,30 +69,241 @@ old_above cs k f fresh c other names a = record {
 still_undeclared : (cs : List Class) (k : Class) (c : ℕ) → ¬ (c ≡ k.name) → ¬ IsDeclared cs c → ¬ IsDeclared (cs ++ k ∷ []) c
 still_undeclared cs k c other none m = elim (any_split (λ l. l.name ≡ c) cs (k ∷ []) m) [ inl a ↦ none a | inr w ↦ elim w [ inl e ↦ other (sym e) | inr nothing ↦ nothing ] ]
 
-pub table-one_more : (cs : List Class) (k : Class) (old new : BTreeMap ℕ (Vec ℕ Global)) (names : Vec ℕ Global) → IsClassTable cs old → ¬ IsDeclared cs k.name → Each (IsDeclared cs) k.above → IsStrictlyIncreasing names.items
-    → ((x : ℕ) → IsIn x names.items ↔ ((x ≡ k.name) ⊎ AnyOf (λ b. IsClassBelow (of_classes cs) b x) k.above)) → Updates nat_cmp old new k.name (Some names) → IsClassTable (cs ++ k ∷ []) new
-table-one_more cs k old new names t fresh known up has updates = record {
-  ordered = follows-one_more [] cs k t.ordered fresh known;
-  above = λ c. elim (get_after old new k.name names updates c) [
-    | inl w ↦ rw w.1 (rw w.0 (new_above cs k t.ordered fresh known names.items up has))
-    | inr w ↦ rw w.1 (kept c w.0 (get nat_cmp old c) (t.above c))
-  ];
+-- names by numbers
+
+name_kept : (cs ks : List Class) (n : ℕ) → n < length cs → name_at (cs ++ ks) n ≡ name_at cs n
+name_kept cs ks n within = ap (λ (k : Class). k.name) (get_or-append cs ks no_class n within)
+
+name_new : (cs : List Class) (k : Class) (n : ℕ) → n ≡ length cs → name_at (cs ++ k ∷ []) n ≡ k.name
+name_new cs k n e = rw e (ap (λ (k : Class). k.name) (get_or-append_seam cs k [] no_class))
+
+pub declared_at_number : (cs : List Class) (n : ℕ) → n < length cs → IsDeclared cs (name_at cs n)
+declared_at_number [] n h = absurd (omega arith)
+declared_at_number (k ∷ ks) zero h = inl refl
+declared_at_number (k ∷ ks) (suc n) h = inr (declared_at_number ks n (omega arith))
+
+pub number_of : (cs : List Class) (c : ℕ) → IsDeclared cs c → (n : ℕ) × IsNumber cs c n
+number_of [] c m = absurd m
+number_of (k ∷ ks) c m = elim m [
+  | inl e ↦ (0, record { within = omega arith; named = e })
+  | inr t ↦ (let w = number_of ks c t in (suc w.0, record { within = omega (arith, w.1.within); named = w.1.named }))
+]
+
+last_or_before : (m n : ℕ) → m < n + 1 → (m < n) ⊎ (m ≡ n)
+last_or_before m n h = grind arith
+
+inside : (cs : List Class) (k : Class) (n : ℕ) → n < length (cs ++ k ∷ []) → (n < length cs) ⊎ (n ≡ length cs)
+inside cs k n h = last_or_before n (length cs) (omega (arith, length-append cs (k ∷ [])))
+
+-- the row of an old class
+old_row : (cs : List Class) (k : Class) → Follows [] cs → ¬ IsDeclared cs k.name → (c : ℕ) → ¬ (c ≡ k.name) → (words : List ℕ) → IsRow cs c words → IsRow (cs ++ k ∷ []) c words
+old_row cs k f fresh c other words row n = (there, back)
+  where
+    there : Holds words n → (n < length (cs ++ k ∷ [])) × IsClassBelow (of_classes (cs ++ k ∷ [])) c (name_at (cs ++ k ∷ []) n)
+    there h = let w = (row n).0 h in (omega (arith, length-append cs (k ∷ []), w.0), rw (name_kept cs (k ∷ []) n w.0) (below-more (of_classes cs) (of_classes (cs ++ k ∷ [])) (λ l m. in-append_left l cs (k ∷ []) m) w.1))
+
+    back : ((n < length (cs ++ k ∷ [])) × IsClassBelow (of_classes (cs ++ k ∷ [])) c (name_at (cs ++ k ∷ []) n)) → Holds words n
+    back w = elim (inside cs k n w.0) [
+      | inl old ↦ (row n).1 (old, below-one_more (of_classes cs) (of_classes (cs ++ k ∷ [])) k refl f fresh c (name_at cs n) other (rw (name_kept cs (k ∷ []) n old) at w.1))
+      | inr new ↦ (let below : IsClassBelow (of_classes cs) c k.name = below-one_more (of_classes cs) (of_classes (cs ++ k ∷ [])) k refl f fresh c k.name other (rw (name_new cs k n new) at w.1) in
+          elim (reaches (of_classes cs) f below) [ inl e ↦ absurd (other e) | inr m ↦ absurd (fresh m) ])
+    ]
+
+-- the row of a new class
+new_row : (cs : List Class) (k : Class) → Follows [] cs → ¬ IsDeclared cs k.name → Each (IsDeclared cs) k.above → (words : List ℕ) → IsNewRow cs k.above words → IsRow (cs ++ k ∷ []) k.name words
+new_row cs k f fresh known words row n = (there, back)
+  where
+    there : Holds words n → (n < length (cs ++ k ∷ [])) × IsClassBelow (of_classes (cs ++ k ∷ [])) k.name (name_at (cs ++ k ∷ []) n)
+    there h = elim ((row n).0 h) [
+      | inl last ↦ (omega (arith, length-append cs (k ∷ []), last), rw (name_new cs k n last) itself)
+      | inr some ↦ (let b = any_some (λ b. (n < length cs) × IsClassBelow (of_classes cs) b (name_at cs n)) k.above some in (
+        omega (arith, length-append cs (k ∷ []), b.2.0),
+        rw (name_kept cs (k ∷ []) n b.2.0) (along (k, in-append_right k cs (k ∷ []) (inl refl), refl, b.1) (below-more (of_classes cs) (of_classes (cs ++ k ∷ [])) (λ l m. in-append_left l cs (k ∷ []) m) b.2.1)),
+      ))
+    ]
+
+    back : ((n < length (cs ++ k ∷ [])) × IsClassBelow (of_classes (cs ++ k ∷ [])) k.name (name_at (cs ++ k ∷ []) n)) → Holds words n
+    back w = elim (inside cs k n w.0) [
+      | inl old ↦ elim (from_new cs k f fresh known k.name (name_at cs n) refl (rw (name_kept cs (k ∷ []) n old) at w.1)) [
+        | inl e ↦ absurd (fresh (rw e at (declared_at_number cs n old)))
+        | inr some ↦ (row n).1 (inr (any_imply (λ b. IsClassBelow (of_classes cs) b (name_at cs n)) (λ b. (n < length cs) × IsClassBelow (of_classes cs) b (name_at cs n)) k.above (λ b h. (old, h)) some))
+      ]
+      | inr new ↦ (row n).1 (inl new)
+    ]
+
+-- The names by the row of a new class are those of the classes above it.
+names_above : (cs : List Class) → Follows [] cs → (class : ℕ) (above words : List ℕ) → Each (IsDeclared cs) above → IsNewRow cs above words → (names : List ℕ) → ((x : ℕ) → IsIn x names ↔ ((x ≡ class) ⊎ NamedBefore cs words x (length cs)))
+    → (x : ℕ) → IsIn x names ↔ ((x ≡ class) ⊎ AnyOf (λ b. IsClassBelow (of_classes cs) b x) above)
+names_above cs f class above words known row names has x = (there, back)
+  where
+    some_at : (n : ℕ) → n < length cs → (n ≡ length cs) ⊎ AnyOf (λ b. (n < length cs) × IsClassBelow (of_classes cs) b (name_at cs n)) above → name_at cs n ≡ x → AnyOf (λ b. IsClassBelow (of_classes cs) b x) above
+    some_at n within w e = elim w [
+      | inl last ↦ absurd (omega arith)
+      | inr some ↦ any_imply (λ b. (n < length cs) × IsClassBelow (of_classes cs) b (name_at cs n)) (λ b. IsClassBelow (of_classes cs) b x) above (λ b h. rw (← e) h.1) some
+    ]
+
+    there : IsIn x names → (x ≡ class) ⊎ AnyOf (λ b. IsClassBelow (of_classes cs) b x) above
+    there m = elim ((has x).0 m) [ inl e ↦ inl e | inr w ↦ inr (some_at w.0 w.1 ((row w.0).0 w.2) w.3) ]
+
+    declared_above : (b : ℕ) → IsIn b above → IsClassBelow (of_classes cs) b x → IsDeclared cs x
+    declared_above b m h = elim (reaches (of_classes cs) f h) [ inl e ↦ rw (← e) (each_at (IsDeclared cs) above known b m) | inr d ↦ d ]
+
+    back : (x ≡ class) ⊎ AnyOf (λ b. IsClassBelow (of_classes cs) b x) above → IsIn x names
+    back w = elim w [
+      | inl e ↦ (has x).1 (inl e)
+      | inr some ↦
+          let b = any_some (λ b. IsClassBelow (of_classes cs) b x) above some in
+          let n = number_of cs x (declared_above b.0 b.1 b.2) in
+          let held = (row n.0).1 (inr (any_imply (λ b. IsClassBelow (of_classes cs) b x) (λ b. (n.0 < length cs) × IsClassBelow (of_classes cs) b (name_at cs n.0)) above (λ b h. (n.1.within, rw n.1.named h)) some)) in
+          (has x).1 (inr (n.0, n.1.within, held, n.1.named))
+    ]
+
+entry_kept : (cs : List Class) (k : Class) → Follows [] cs → ¬ IsDeclared cs k.name → (e : ClassEntry) → IsEntry cs e → IsEntry (cs ++ k ∷ []) e
+entry_kept cs k f fresh e is =
+    let other : ¬ (e.name ≡ k.name) = λ same. fresh (rw same at is.up.declared) in
+    record { up = old_above cs k f fresh e.name other e.up.items is.up; row = old_row cs k f fresh e.name other e.row.items is.row }
+
+number_kept : (cs : List Class) (k : Class) (c : ℕ) → ¬ (c ≡ k.name) → (o : Option ℕ) → MatchOption o (¬ IsDeclared cs c) (IsNumber cs c) → MatchOption o (¬ IsDeclared (cs ++ k ∷ []) c) (IsNumber (cs ++ k ∷ []) c)
+number_kept cs k c other None m = still_undeclared cs k c other m
+number_kept cs k c other (Some n) m = record { within = omega (arith, length-append cs (k ∷ []), m.within); named = name_kept cs (k ∷ []) n m.within ∙ m.named }
+
+long_classes : (es : List ClassEntry) → length (classes_of es) ≡ length es
+long_classes es = length-map es class_of
+
+pub table-one_more : (es : List ClassEntry) (e : ClassEntry) (old new : BTreeMap ℕ ℕ) → IsClassTable es old → ¬ IsDeclared (classes_of es) e.name → Each (IsDeclared (classes_of es)) e.above.items → IsNewRow (classes_of es) e.above.items e.row.items → IsStrictlyIncreasing e.up.items
+    → ((x : ℕ) → IsIn x e.up.items ↔ ((x ≡ e.name) ⊎ NamedBefore (classes_of es) e.row.items x (length (classes_of es)))) → Updates nat_cmp old new e.name (Some (length es)) → IsClassTable (es ++ e ∷ []) new
+table-one_more es e old new t fresh known row up has updates = record {
+  ordered = rw longer (follows-one_more [] cs k t.ordered fresh known);
+  entries = rw longer (each-append (IsEntry (cs ++ k ∷ [])) es (e ∷ []) (each_of (IsEntry (cs ++ k ∷ [])) es (λ x m. entry_kept cs k t.ordered fresh x (each_at (IsEntry cs) es t.entries x m))) (new_entry, tt));
+  numbered = λ c. rw longer (elim (get_after old new e.name (length es) updates c) [
+    | inl w ↦ rw w.1 (rw w.0 (record { within = omega (arith, length-append cs (k ∷ []), long_classes es); named = name_new cs k (length es) (sym (long_classes es)) }))
+    | inr w ↦ rw w.1 (number_kept cs k c w.0 (get nat_cmp old c) (t.numbered c))
+  ]);
 }
   where
-    kept : (c : ℕ) → ¬ (c ≡ k.name) → (o : Option (Vec ℕ Global)) → MatchOption o (¬ IsDeclared cs c) (λ v. AreAllAbove cs c v.items) → MatchOption o (¬ IsDeclared (cs ++ k ∷ []) c) (λ v. AreAllAbove (cs ++ k ∷ []) c v.items)
-    kept c other None m = still_undeclared cs k c other m
-    kept c other (Some v) m = old_above cs k t.ordered fresh c other v.items m
+    cs : List Class
+    cs = classes_of es
 
--- the same of the entries, as code appends one
-pub entries-one_more : (es es' : List ClassEntry) (e : ClassEntry) (value : List Class) (above : List ℕ) (class : ℕ) (old new : BTreeMap ℕ (Vec ℕ Global)) (names : Vec ℕ Global) → es' ≡ es ++ e ∷ [] → e.name ≡ class → e.above.items ≡ above → classes_of es ≡ value
-    → IsClassTable (classes_of es) old → ¬ IsDeclared value class → Each (IsDeclared value) above → IsStrictlyIncreasing names.items
-    → ((x : ℕ) → IsIn x names.items ↔ ((x ≡ class) ⊎ AnyOf (λ b. IsClassBelow (of_classes value) b x) above)) → Updates nat_cmp old new class (Some names) → IsClassTable (classes_of es') new
-entries-one_more es es' e value above class old new names longer named there view t fresh known up has updates =
-    rw (longer, map-append class_of es (e ∷ [])) (table-one_more (classes_of es) (class_of e) old new names t (rw (view, named) fresh) (rw (there, view) known) up (rw (there, named, view) has) (rw named updates))
+    k : Class
+    k = class_of e
 
-pub decided : (cs : List Class) (up : BTreeMap ℕ (Vec ℕ Global)) → IsClassTable cs up → IsDecided (of_classes cs)
-decided cs up t c d = by (get nat_cmp up c) (t.above c)
+    longer : classes_of (es ++ e ∷ []) ≡ cs ++ k ∷ []
+    longer = map-append class_of es (e ∷ [])
+
+    new_entry : IsEntry (cs ++ k ∷ []) e
+    new_entry = record {
+      up = new_above cs k t.ordered fresh known e.up.items up (names_above cs t.ordered e.name e.above.items e.row.items known row e.up.items has);
+      row = new_row cs k t.ordered fresh known e.row.items row;
+    }
+
+-- the same of the pointers, ps code appends one
+pub entries-one_more : (ps ps' : List (Arc ClassEntry Global)) (a : Arc ClassEntry Global) (e : ClassEntry) (value : List Class) (count : ℕ) (old new : BTreeMap ℕ ℕ) → ps' ≡ ps ++ a ∷ [] → arc_value a ≡ e → shared_classes ps ≡ value → count ≡ length ps → IsClassTable (values_of ps) old → ¬ IsDeclared value e.name → Each (IsDeclared value) e.above.items
+    → IsNewRow value e.above.items e.row.items → IsStrictlyIncreasing e.up.items → ((x : ℕ) → IsIn x e.up.items ↔ ((x ≡ e.name) ⊎ NamedBefore value e.row.items x (length value))) → Updates nat_cmp old new e.name (Some count) → IsClassTable (values_of ps') new
+entries-one_more ps ps' a e value count old new longer is view counted t fresh known row up has updates =
+    let number : count ≡ length (values_of ps) = counted ∙ sym (length-map ps arc_value) in
+    rw (longer, map-append arc_value ps (a ∷ []), is) (table-one_more (values_of ps) e old new t (rw view fresh) (rw view known) (rw view row) up (rw view has) (rw number at updates))
+
+pub view-one_more : (ps ps' : List (Arc ClassEntry Global)) (a : Arc ClassEntry Global) (e : ClassEntry) → ps' ≡ ps ++ a ∷ [] → arc_value a ≡ e → shared_classes ps' ≡ shared_classes ps ++ class_of e ∷ []
+view-one_more ps ps' a e longer is = rw (longer, map-append arc_value ps (a ∷ []), is) (map-append class_of (values_of ps) (e ∷ []))
+
+-- the entry with a number
+pub entry_at : (P : ClassEntry → Type 0) (ps : List (Arc ClassEntry Global)) (n : ℕ) (a : Arc ClassEntry Global) (e : ClassEntry) → n < length ps → a ≡ get_or ps n a → e ≡ arc_value a → Each P (values_of ps) → P e
+entry_at P [] n a e within read is each = absurd (omega arith)
+entry_at P (x ∷ xs) zero a e within read is each = rw (is, read) each.0
+entry_at P (x ∷ xs) (suc n) a e within read is each = entry_at P xs n a e (omega arith) read is each.1
+
+pub long_shared : (ps : List (Arc ClassEntry Global)) → length (shared_classes ps) ≡ length ps
+long_shared ps = long_classes (values_of ps) ∙ length-map ps arc_value
+
+pub named_at : (ps : List (Arc ClassEntry Global)) (n : ℕ) (a : Arc ClassEntry Global) (e : ClassEntry) → n < length ps → a ≡ get_or ps n a → e ≡ arc_value a → IsNumber (shared_classes ps) e.name n
+named_at ps n a e within read is = record { within = omega (arith, long_shared ps); named = at ps n a e within read is }
   where
-    by : (o : Option (Vec ℕ Global)) → MatchOption o (¬ IsDeclared cs c) (λ v. AreAllAbove cs c v.items) → IsClassBelow (of_classes cs) c d ⊎ ¬ IsClassBelow (of_classes cs) c d
-    by None m = elim (eqb_tells c d) [ inl w ↦ inl (below_same (of_classes cs) c d w.1) | inr w ↦ inr (λ h. w.1 (below-undeclared (of_classes cs) c d m h)) ]
-    by (Some v) m = elim (in_or_not d v.items) [ inl n ↦ inl ((m.are d).0 n) | inr n ↦ inr (λ h. n ((m.are d).1 h)) ]
+    at : (ps : List (Arc ClassEntry Global)) (n : ℕ) (a : Arc ClassEntry Global) (e : ClassEntry) → n < length ps → a ≡ get_or ps n a → e ≡ arc_value a → name_at (shared_classes ps) n ≡ e.name
+    at [] n a e within read is = absurd (omega arith)
+    at (x ∷ xs) zero a e within read is = rw (is, read) refl
+    at (x ∷ xs) (suc n) a e within read is = at xs n a e (omega arith) read is
+
+-- The order is decided by the names above a class.
+pub decided : (es : List ClassEntry) (numbers : BTreeMap ℕ ℕ) → IsClassTable es numbers → IsDecided (of_classes (classes_of es))
+decided es numbers t c d = by (get nat_cmp numbers c) (t.numbered c)
+  where
+    named : (P : ClassEntry → Type 0) (es : List ClassEntry) (c n : ℕ) → Each P es → IsNumber (classes_of es) c n → (e : ClassEntry) × (e.name ≡ c) × P e
+    named P [] c n each w = absurd (omega (arith, w.within))
+    named P (e ∷ es) c zero each w = (e, w.named, each.0)
+    named P (e ∷ es) c (suc n) each w = named P es c n each.1 (record { within = omega (arith, w.within); named = w.named })
+
+    by : (o : Option ℕ) → MatchOption o (¬ IsDeclared (classes_of es) c) (IsNumber (classes_of es) c) → IsClassBelow (of_classes (classes_of es)) c d ⊎ ¬ IsClassBelow (of_classes (classes_of es)) c d
+    by None m = elim (eqb_tells c d) [ inl w ↦ inl (below_same (of_classes (classes_of es)) c d w.1) | inr w ↦ inr (λ h. w.1 (below-undeclared (of_classes (classes_of es)) c d m h)) ]
+    by (Some n) m =
+        let e = named (IsEntry (classes_of es)) es c n t.entries m in
+        let are = e.2.up.are d in
+        elim (in_or_not d e.0.up.items) [ inl n ↦ inl (rw e.1 at (are.0 n)) | inr n ↦ inr (λ h. n (are.1 (rw e.1 h))) ]
+
+-- A declared class isn't below one that isn't declared.
+pub not_reached : (cs : List Class) → Follows [] cs → (c d : ℕ) (e : ClassEntry) → e.name ≡ c → IsEntry cs e → ¬ IsDeclared cs d → ¬ IsClassBelow (of_classes cs) c d
+not_reached cs f c d e named is none h = elim (reaches (of_classes cs) f h) [
+  | inl same ↦ none (rw (← same, ← named) is.up.declared)
+  | inr m ↦ none m
+]
+
+-- a map with the same numbers
+pub table_same : (es ds : List ClassEntry) (old new : BTreeMap ℕ ℕ) → ds ≡ es → ((q : ℕ) → get nat_cmp new q ≡ get nat_cmp old q) → IsClassTable es old → IsClassTable ds new
+table_same es ds old new e same t = rw e (record { ordered = t.ordered; entries = t.entries; numbered = λ c. rw (same c) (t.numbered c) })
+
+-- one turn of the union of rows
+
+pub row_at : (cs : List Class) (e : ClassEntry) (c : ℕ) (words : List ℕ) → e.name ≡ c → words ≡ e.row.items → IsEntry cs e → IsRow cs c words
+row_at cs e c words named same is = rw (← named, same) is.row
+
+pub row_turn : (cs : List Class) (old other new : List ℕ) (b last : ℕ) (P P' : ℕ → Type 0) → ((n : ℕ) → P' n ↔ (P n ⊎ ((n < length cs) × IsClassBelow (of_classes cs) b (name_at cs n)))) → length cs ≡ last → length old ≡ last / 64 + 1 → IsRow cs b other
+    → ((n : ℕ) → Holds new n ↔ (Holds old n ⊎ ((n / 64 < length old) × Holds other n))) → ((n : ℕ) → Holds old n ↔ ((n ≡ last) ⊎ P n)) → (n : ℕ) → Holds new n ↔ ((n ≡ last) ⊎ P' n)
+row_turn cs old other new b last P P' more count long row joined before n = (
+  λ h. elim ((joined n).0 h) [
+    | inl o ↦ elim ((before n).0 o) [ inl e ↦ inl e | inr p ↦ inr ((more n).1 (inl p)) ]
+    | inr w ↦ inr ((more n).1 (inr ((row n).0 w.1)))
+  ],
+  λ w. elim w [
+    | inl e ↦ (joined n).1 (inl ((before n).1 (inl e)))
+    | inr p ↦ elim ((more n).0 p) [
+      | inl q ↦ (joined n).1 (inl ((before n).1 (inr q)))
+      | inr q ↦ (joined n).1 (inr (let within = q.0 in omega arith, (row n).1 q))
+    ]
+  ],
+)
+
+-- one turn of the gathering of names
+pub named_put : (cs : List Class) (words names names' : List ℕ) (class n r : ℕ) → Holds words n → name_at cs n ≡ r → ((x : ℕ) → IsIn x names' ↔ ((x ≡ r) ⊎ IsIn x names)) → ((x : ℕ) → IsIn x names ↔ ((x ≡ class) ⊎ NamedBefore cs words x n)) → (x : ℕ) → IsIn x names' ↔ ((x ≡ class) ⊎ NamedBefore cs words x (n + 1))
+named_put cs words names names' class n r held named put before x = (
+  λ m. elim ((put x).0 m) [
+    | inl e ↦ inr (n, omega arith, held, named ∙ sym e)
+    | inr o ↦ elim ((before x).0 o) [ inl e ↦ inl e | inr w ↦ inr (w.0, (let b = w.1 in omega arith), w.2, w.3) ]
+  ],
+  λ w. elim w [
+    | inl e ↦ (put x).1 (inr ((before x).1 (inl e)))
+    | inr v ↦ elim (last_or_before v.0 n v.1) [
+      | inl early ↦ (put x).1 (inr ((before x).1 (inr (v.0, early, v.2, v.3))))
+      | inr here ↦ (put x).1 (inl (sym v.3 ∙ (rw here named)))
+    ]
+  ],
+)
+
+pub named_kept : (cs : List Class) (words names : List ℕ) (class n : ℕ) → ¬ Holds words n → ((x : ℕ) → IsIn x names ↔ ((x ≡ class) ⊎ NamedBefore cs words x n)) → (x : ℕ) → IsIn x names ↔ ((x ≡ class) ⊎ NamedBefore cs words x (n + 1))
+named_kept cs words names class n not before x = (
+  λ m. elim ((before x).0 m) [ inl e ↦ inl e | inr w ↦ inr (w.0, (let b = w.1 in omega arith), w.2, w.3) ],
+  λ w. elim w [
+    | inl e ↦ (before x).1 (inl e)
+    | inr v ↦ elim (last_or_before v.0 n v.1) [
+      | inl early ↦ (before x).1 (inr (v.0, early, v.2, v.3))
+      | inr here ↦ absurd (not (rw here at v.2))
+    ]
+  ],
+)
+
+pub named_start : (cs : List Class) (words names empty : List ℕ) (class : ℕ) → empty ≡ [] → ((x : ℕ) → IsIn x names ↔ ((x ≡ class) ⊎ IsIn x empty)) → (x : ℕ) → IsIn x names ↔ ((x ≡ class) ⊎ NamedBefore cs words x 0)
+named_start cs words names empty class none put x = (
+  λ m. elim ((put x).0 m) [ inl e ↦ inl e | inr o ↦ absurd (rw none at o) ],
+  λ w. elim w [ inl e ↦ (put x).1 (inl e) | inr v ↦ absurd (let b = v.1 in omega arith) ],
+)
+
+pub within_shared : (ps : List (Arc ClassEntry Global)) (value : List Class) (n : ℕ) → shared_classes ps ≡ value → n < length value → n < length ps
+within_shared ps value n view within = rw (← long_shared ps, view) within

@@ -1,3 +1,6 @@
+pub mod ShareLaws
+pub mod RowLaws
+pub mod OtherLaws
 pub mod MapLaws
 pub mod BelowLaws
 pub mod ClassTableLaws

@@ -1,12 +1,14 @@
 -- What a table of classes keeps.
-use Rattle.std.specs.Prelude.{◌↔◌, ℕ, List, [], MatchOption, Vec}
+use Rattle.std.specs.Prelude.{◌≡◌, ◌↔◌, ◌⊎◌, ◌<◌, ℕ, List, [], MatchOption, length, get_or}
 use Rattle.std.specs.List.Sorted.{IsStrictlyIncreasing}
 use Rattle.std.specs.BTreeMap.{BTreeMap, get}
-use Rattle.std.specs.declared.alloc.Global.{Global}
 use Rattle.std.specs.Ordering.{nat_cmp}
-use Rattle.pure_text.specs.Lists.{IsIn}
+use Rattle.pure_text.specs.Lists.{IsIn, Each, AnyOf}
 use Rattle.pure_definitions.specs.Types.Order.{Class, IsClassBelow}
+use Rattle.pure_order_tables.specs.declared.classes.ClassEntry.{ClassEntry}
 use Rattle.pure_order_tables.specs.Classes.{IsDeclared, Follows, of_classes}
+use Rattle.pure_order_tables.specs.ClassView.{classes_of}
+use Rattle.pure_order_tables.specs.Rows.{Holds}
 
 -- The class is declared, and these names are the classes above it, ascending.
 pub record AreAllAbove (cs : List Class) (c : ℕ) (names : List ℕ) : Type 0 where
@@ -14,7 +16,37 @@ pub record AreAllAbove (cs : List Class) (c : ℕ) (names : List ℕ) : Type 0 w
   pub ascend : IsStrictlyIncreasing names
   pub are : (d : ℕ) → IsIn d names ↔ IsClassBelow (of_classes cs) c d
 
--- The classes are declared in order, and the map gives for each declared class those above it.
-pub record IsClassTable (cs : List Class) (up : BTreeMap ℕ (Vec ℕ Global)) : Type 0 where
-  pub ordered : Follows [] cs
-  pub above : (c : ℕ) → MatchOption (get nat_cmp up c) (¬ IsDeclared cs c) (λ names. AreAllAbove cs c names.items)
+-- what is read where no class is; the name of the class with a number
+abbrev pub no_class : Class
+no_class = record { name = 0; above = [] }
+
+abbrev pub name_at : List Class → ℕ → ℕ
+name_at cs n = (get_or cs n no_class).name
+
+-- The number is the place of the class among the declared ones.
+pub record IsNumber (cs : List Class) (c n : ℕ) : Type 0 where
+  pub within : n < length cs
+  pub named : name_at cs n ≡ c
+
+-- The row holds the numbers of the classes above the class.
+abbrev pub IsRow : List Class → ℕ → List ℕ → Type 0
+IsRow cs c words = (n : ℕ) → Holds words n ↔ ((n < length cs) × IsClassBelow (of_classes cs) c (name_at cs n))
+
+-- The entry of a class has those above it, by their names and by their numbers.
+pub record IsEntry (cs : List Class) (e : ClassEntry) : Type 0 where
+  pub up : AreAllAbove cs e.name e.up.items
+  pub row : IsRow cs e.name e.row.items
+
+-- The row holds the next number, and those of the classes above one of these.
+abbrev pub IsNewRow : List Class → List ℕ → List ℕ → Type 0
+IsNewRow cs above words = (n : ℕ) → Holds words n ↔ ((n ≡ length cs) ⊎ AnyOf (λ b. (n < length cs) × IsClassBelow (of_classes cs) b (name_at cs n)) above)
+
+-- The name is that of a class whose number is below the end and in the row.
+abbrev pub NamedBefore : List Class → List ℕ → ℕ → ℕ → Type 0
+NamedBefore cs words x end = (n : ℕ) × (n < end) × Holds words n × (name_at cs n ≡ x)
+
+-- The classes are declared in order, each entry is right, and the map gives for each declared class its number.
+pub record IsClassTable (es : List ClassEntry) (numbers : BTreeMap ℕ ℕ) : Type 0 where
+  pub ordered : Follows [] (classes_of es)
+  pub entries : Each (IsEntry (classes_of es)) es
+  pub numbered : (c : ℕ) → MatchOption (get nat_cmp numbers c) (¬ IsDeclared (classes_of es) c) (IsNumber (classes_of es) c)

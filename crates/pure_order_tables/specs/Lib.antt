@@ -1,3 +1,6 @@
+pub mod Shares
+pub mod Rows
+pub mod Others
 pub mod Classes
 pub mod ClassView
 pub mod ClassTable

@@ -1,32 +1,39 @@
 //! The declared classes, and for each those above it.
-ghost use Rattle.std.specs.Prelude.{◌≡◌, ◌↔◌, ◌⊎◌, ℕ, [], ◌∷◌, ◌++◌, IsTrue, OnOk, OnErr, IfOk, MatchOption};
+ghost use Rattle.std.specs.Prelude.{◌≡◌, ◌↔◌, ◌⊎◌, ◌<◌, ℕ, [], ◌∷◌, ◌++◌, IsTrue, OnOk, OnErr, IfOk, MatchOption, length};
 ghost use Rattle.std.specs.List.Sorted.{IsStrictlyIncreasing};
 ghost use Rattle.pure_text.specs.Lists.{IsIn, Each, AnyOf};
 ghost use Rattle.pure_definitions.specs.Types.Order.{Class, IsClassBelow};
+ghost use Rattle.pure_order_tables.specs.Others.{AreWithOthers};
 ghost use Rattle.pure_order_tables.specs.Classes.{Agree, Follows, IsAntisymmetric, IsDeclared, IsSameIfNamed, of_classes};
 ghost use Rattle.pure_order_tables.specs.Checks.{IsDecided};
-ghost use Rattle.pure_order_tables.specs.ClassTable.{AreAllAbove};
-ghost use Rattle.pure_order_tables.specs.ClassView.{class_of, classes_of};
+ghost use Rattle.pure_order_tables.specs.ClassTable.{AreAllAbove, IsEntry, IsNewRow, IsNumber, NamedBefore};
+ghost use Rattle.pure_order_tables.specs.ClassView.{class_of, classes_of, shared_classes};
 
-use crate::names::{has, put, put_all};
+use crate::maps::copied;
+use crate::names::{put, put_all};
 use crate::room::push_in_room;
+use crate::rows::{empty_row, holds, put_place, put_row};
+use crate::shares::shared;
 use pure_typ::Name;
 use std::alloc::{AllocError, Global};
 use std::collections::BTreeMap;
 use std::marker::Model;
+use std::sync::Arc;
 
-/// A declared class, and the classes declared to be above it.
+/// A declared class, and the classes declared to be above it; all classes above it, itself among them, ascending; and the numbers of these.
 #[derive(Drop)]
-struct ClassEntry {
+pub struct ClassEntry {
     name: Name,
     above: Vec<Name>,
+    up: Vec<Name>,
+    row: Vec<u64>,
 }
 
-/// The declared classes, and for each those above it, itself among them, ascending.
+/// The declared classes, each behind a pointer that other tables share, and for each its number, which is its place.
 #[derive(Drop)]
 pub struct ClassTable {
-    entries: Vec<ClassEntry>,
-    up: BTreeMap<u32, Vec<Name>>,
+    entries: Vec<Arc<ClassEntry>>,
+    numbers: BTreeMap<u32, usize>,
 }
 
 /// Whether the entries are the same, if they are of one class.
@@ -42,12 +49,13 @@ impl Model for ClassTable {
 
     ghost Value = { List Class };
 
-    ghost use Rattle.pure_order_tables.specs.ClassView.{classes_of};
+    ghost use Rattle.pure_order_tables.specs.ClassView.{shared_classes};
     ghost use Rattle.pure_order_tables.specs.ClassTable.{IsClassTable};
+    ghost use Rattle.pure_order_tables.specs.Shares.{values_of};
 
-    ghost view = { λ t. classes_of t.entries.items };
+    ghost view = { λ t. shared_classes t.entries.items };
 
-    ghost invariant = { λ t. IsClassTable (classes_of t.entries.items) t.up };
+    ghost invariant = { λ t. IsClassTable (values_of t.entries.items) t.numbers };
 }
 
 impl ClassTable {
@@ -57,7 +65,50 @@ impl ClassTable {
     {
         ClassTable {
             entries: Vec::new(alloc),
-            up: BTreeMap::new(alloc),
+            numbers: BTreeMap::new(alloc),
+        }
+    }
+
+    /// A copy, which shares the entries.
+    pub(crate) fn copy(&self, alloc: Global) -> Result<ClassTable, AllocError>
+        ensures { IfOk result (λ copy. copy ≡ self.now) }
+    {
+        let entries = shared(alloc, self.entries.as_slice())?;
+        let numbers = copied(&self.numbers)?;
+        Ok(ClassTable { entries, numbers })
+    }
+
+    /// The count of classes.
+    fn count(&self) -> usize
+        ensures { result ≡ length self.now }
+    {
+        self.entries.len()
+    }
+
+    /// The number of a declared class.
+    fn number(&self, class: Name) -> Option<usize>
+        ensures { MatchOption result (¬ IsDeclared self.now class) (IsNumber self.now class) }
+    {
+        self.numbers.get(&class.0).copied()
+    }
+
+    /// The entry with a number.
+    fn numbered(&self, number: usize) -> &ClassEntry
+        requires { number < length self.now }
+        ensures named { IsNumber self.now result.now.name number }
+        ensures entry { IsEntry self.now result.now }
+    {
+        let pointer = &self.entries[number];
+        &**pointer
+    }
+
+    /// The entry of a declared class.
+    fn entry(&self, class: Name) -> Option<&ClassEntry>
+        ensures { MatchOption result (¬ IsDeclared self.now class) (λ e. (e.now.name ≡ class) × IsEntry self.now e.now) }
+    {
+        match self.number(class) {
+            None => None,
+            Some(number) => Some(self.numbered(number)),
         }
     }
 
@@ -75,9 +126,9 @@ impl ClassTable {
     pub fn above(&self, class: Name) -> Option<&[Name]>
         ensures { MatchOption result (¬ IsDeclared self.now class) (λ names. AreAllAbove self.now class names.now) }
     {
-        match self.up.get(&class.0) {
+        match self.entry(class) {
             None => None,
-            Some(names) => Some(names.as_slice()),
+            Some(entry) => Some(entry.up.as_slice()),
         }
     }
 
@@ -85,9 +136,13 @@ impl ClassTable {
     pub fn below(&self, first: Name, second: Name) -> bool
         ensures { IsTrue result ↔ IsClassBelow (of_classes self.now) first second }
     {
-        match self.above(first) {
-            None => first == second,
-            Some(names) => has(names, second),
+        self.are_in_order();
+        let Some(entry) = self.entry(first) else {
+            return first == second;
+        };
+        match self.number(second) {
+            None => false,
+            Some(number) => holds(entry.row.as_slice(), number),
         }
     }
 
@@ -95,14 +150,21 @@ impl ClassTable {
     pub(crate) fn order_is_decided(&self)
         ensures { IsDecided (of_classes self.now) }
     {
-        let _ = &self.up;
+        let _ = &self.numbers;
+    }
+
+    /// The classes are declared in order.
+    pub(crate) fn are_in_order(&self)
+        ensures { Follows [] self.now }
+    {
+        let _ = &self.numbers;
     }
 
     /// No two classes are below each other.
     pub(crate) fn classes_are_apart(&self)
         ensures { IsAntisymmetric (of_classes self.now) }
     {
-        let _ = &self.up;
+        let _ = &self.numbers;
     }
 
     /// Puts the classes above this one among the names.
@@ -117,15 +179,33 @@ impl ClassTable {
         }
     }
 
-    /// The classes that are to be above a new class, itself among them.
-    fn above_new(&self, alloc: Global, class: Name, above: &[Name]) -> Result<Vec<Name>, AllocError>
+    /// The row of a new class: its own number, and those of the classes above one of these.
+    fn new_row(&self, alloc: Global, above: &[Name]) -> Result<Vec<u64>, AllocError>
+        requires { Each (IsDeclared self.now) above.now }
+        ensures { IfOk result (λ row. IsNewRow self.now above.now row.items) }
+    {
+        let last = self.count();
+        let mut row = empty_row(alloc, last / 64 + 1)?;
+        put_place(&mut row, last);
+        for class in above {
+            if let Some(entry) = self.entry(*class) {
+                put_row(&mut row, entry.row.as_slice());
+            }
+        }
+        Ok(row)
+    }
+
+    /// The class, and the classes whose numbers the row holds, ascending.
+    fn names_of(&self, alloc: Global, class: Name, row: &[u64]) -> Result<Vec<Name>, AllocError>
         ensures ascend { IfOk result (λ names. IsStrictlyIncreasing names.items) }
-        ensures has { IfOk result (λ names. (x : ℕ) → IsIn x names.items ↔ ((x ≡ class) ⊎ AnyOf (λ b. IsClassBelow (of_classes self.now) b x) above.now)) }
+        ensures has { IfOk result (λ names. (x : ℕ) → IsIn x names.items ↔ ((x ≡ class) ⊎ NamedBefore self.now row.now x (length self.now))) }
     {
         let mut names = Vec::new(alloc);
         put(&mut names, class)?;
-        for b in above {
-            self.put_above(&mut names, *b)?;
+        for number in 0..self.count() {
+            if holds(row, number) {
+                put(&mut names, self.numbered(number).name)?;
+            }
         }
         Ok(names)
     }
@@ -138,24 +218,31 @@ impl ClassTable {
         ensures err { OnErr result (self.new ≡ self.old) }
         ensures ordered { Follows [] self.old }
     {
-        let up = self.above_new(alloc, class, above)?;
+        let row = self.new_row(alloc, above)?;
+        let up = self.names_of(alloc, class, row.as_slice())?;
+        let above = Vec::from_slice(alloc, above)?;
         let entry = ClassEntry {
             name: class,
-            above: Vec::from_slice(alloc, above)?,
+            above,
+            up,
+            row,
         };
+        let entry = Arc::new(alloc, entry)?;
+        let number = self.count();
         self.entries.reserve(1)?;
-        self.up.insert(class.0, up)?;
+        self.numbers.insert(class.0, number)?;
         push_in_room(&mut self.entries, entry);
         Ok(())
     }
 
     /// Declares those of the classes that aren't declared yet.
-    fn push_new(&mut self, alloc: Global, entries: &[ClassEntry]) -> Result<(), AllocError>
-        requires ordered { Follows [] (classes_of entries.now) }
-        requires agree { Agree self.old (classes_of entries.now) }
-        ensures { OnOk result ((k : Class) → IsIn k self.new ↔ (IsIn k self.old ⊎ IsIn k (classes_of entries.now))) }
+    fn push_new(&mut self, alloc: Global, entries: &[Arc<ClassEntry>]) -> Result<(), AllocError>
+        requires ordered { Follows [] (shared_classes entries.now) }
+        requires agree { Agree self.old (shared_classes entries.now) }
+        ensures { OnOk result (AreWithOthers self.old (shared_classes entries.now) self.new) }
     {
-        for entry in entries {
+        for pointer in entries {
+            let entry = &**pointer;
             if !self.is_declared(entry.name) {
                 self.push(alloc, entry.name, entry.above.as_slice())?;
             }
@@ -168,7 +255,7 @@ impl ClassTable {
         ensures { IsTrue result ↔ Each (IsSameIfNamed (class_of entry.now)) self.now }
     {
         for own in self.entries.as_slice() {
-            if !are_same_if_named(entry, own) {
+            if !are_same_if_named(entry, &**own) {
                 return false;
             }
         }
@@ -180,7 +267,7 @@ impl ClassTable {
         ensures { IsTrue result ↔ Agree self.now other.now }
     {
         for entry in self.entries.as_slice() {
-            if !other.agrees_at(entry) {
+            if !other.agrees_at(&**entry) {
                 return false;
             }
         }
@@ -190,10 +277,9 @@ impl ClassTable {
     /// The classes of both tables.
     pub(crate) fn united(&self, alloc: Global, other: &ClassTable) -> Result<ClassTable, AllocError>
         requires { Agree self.now other.now }
-        ensures { IfOk result (λ table. (k : Class) → IsIn k table ↔ (IsIn k self.now ⊎ IsIn k other.now)) }
+        ensures { IfOk result (AreWithOthers self.now other.now) }
     {
-        let mut table = ClassTable::empty(alloc);
-        table.push_new(alloc, self.entries.as_slice())?;
+        let mut table = self.copy(alloc)?;
         table.push_new(alloc, other.entries.as_slice())?;
         Ok(table)
     }

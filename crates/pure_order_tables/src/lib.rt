@@ -5,11 +5,14 @@ mod checks;
 mod classes;
 mod conflicts;
 mod judge;
+mod maps;
 mod names;
 mod room;
+mod rows;
+mod shares;
 mod tables;
 mod union;
 mod unknown;
 
-pub use classes::ClassTable;
+pub use classes::{ClassEntry, ClassTable};
 pub use tables::{ArityEntry, Tables};

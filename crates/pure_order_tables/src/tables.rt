@@ -12,6 +12,7 @@ ghost use Rattle.pure_order_tables.specs.ArityView.{arity_of, arities_of};
 ghost use Rattle.pure_order_tables.specs.ArityTable.{IsPlace, ArePlaces};
 
 use crate::classes::ClassTable;
+use crate::maps::copied;
 use crate::room::push_in_room;
 use pure_typ::{Name, Sort};
 use std::alloc::{AllocError, Global};
@@ -301,11 +302,4 @@ impl Tables {
         tables.push_new(alloc, other.arities())?;
         Ok(tables)
     }
-}
-
-/// A map with the same places.
-fn copied(places: &BTreeMap<u32, usize>) -> Result<BTreeMap<u32, usize>, AllocError>
-    ensures { IfOk result (λ copy. (q : ℕ) → get nat_cmp copy q ≡ get nat_cmp places.now q) }
-{
-    places.clone()
 }

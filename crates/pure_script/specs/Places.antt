@@ -14,7 +14,10 @@ use Rattle.pure_script.specs.declared.place.ClassPlace.TheVariants.{AtClassName,
 use Rattle.pure_script.specs.declared.place.TypePlace.{TypePlace}
 use Rattle.pure_script.specs.declared.place.TypePlace.TheVariants.{AtParams, AtParam, AfterParam, AtTypeName}
 use Rattle.pure_script.specs.declared.place.ArityPlace.{ArityPlace}
-use Rattle.pure_script.specs.declared.place.ArityPlace.TheVariants.{AtConstructor, AfterConstructor, AtDomains, AtSort, AfterSort, AtFirstClass, AtNextClass, AfterClass, AtArityClass}
+use Rattle.pure_script.specs.declared.place.ArityPlace.TheVariants.{AtConstructor, AfterConstructor, AtDomains, InDomains, AtArityClass}
+use Rattle.pure_script.specs.declared.place.Domains.{Domains}
+use Rattle.pure_script.specs.declared.place.SortPlace.{SortPlace}
+use Rattle.pure_script.specs.declared.place.SortPlace.TheVariants as sort_place
 use Rattle.pure_script.specs.declared.place.ItemPlace.{ItemPlace}
 use Rattle.pure_script.specs.declared.place.ItemPlace.TheVariants.{AtItem, AfterItem, AtItemType, AfterItemType, AtWhere, AtAxiom, AfterAxiom, AtAxiomText, AfterAxiomText, AtDefinition, AfterDefinition, AtDefinitionType, AfterDefinitionType, AtDefinitionText}
 use Rattle.pure_script.specs.declared.place.LemmaPlace.{LemmaPlace}
@@ -52,15 +55,18 @@ seen_type_place (AtParam x0) = spec.AtParam x0
 seen_type_place (AfterParam x0) = spec.AfterParam x0
 seen_type_place (AtTypeName x0) = spec.AtTypeName x0
 
+abbrev pub seen_domains : Domains → SortPlace → spec.Place
+seen_domains domains sort_place.AtSort = spec.AtSort domains.con (sorts domains.doms.items)
+seen_domains domains sort_place.AfterSort = spec.AfterSort domains.con (sorts domains.doms.items)
+seen_domains domains sort_place.AtFirstClass = spec.AtFirstClass domains.con (sorts domains.doms.items)
+seen_domains domains sort_place.AtNextClass = spec.AtNextClass domains.con (sorts domains.doms.items) domains.sort.items
+seen_domains domains sort_place.AfterClass = spec.AfterClass domains.con (sorts domains.doms.items) domains.sort.items
+
 abbrev pub seen_arity_place : ArityPlace → spec.Place
 seen_arity_place AtConstructor = spec.AtConstructor
 seen_arity_place (AfterConstructor x0) = spec.AfterConstructor x0
 seen_arity_place (AtDomains x0) = spec.AtDomains x0
-seen_arity_place (AtSort x0 x1) = spec.AtSort x0 (sorts x1.items)
-seen_arity_place (AfterSort x0 x1) = spec.AfterSort x0 (sorts x1.items)
-seen_arity_place (AtFirstClass x0 x1) = spec.AtFirstClass x0 (sorts x1.items)
-seen_arity_place (AtNextClass x0 x1 x2) = spec.AtNextClass x0 (sorts x1.items) x2.items
-seen_arity_place (AfterClass x0 x1 x2) = spec.AfterClass x0 (sorts x1.items) x2.items
+seen_arity_place (InDomains domains place) = seen_domains domains place
 seen_arity_place (AtArityClass x0 x1) = spec.AtArityClass x0 (sorts x1.items)
 
 abbrev pub seen_item_place : ItemPlace → spec.Place
@@ -106,5 +112,11 @@ seen_turn Refuses = spec.Refuses
 -- where a token of a proof leads to, by the goal and the place behind it
 abbrev pub seen_course : Course → Goal → ProofPlace → spec.Turn
 seen_course course.Stays goal place = spec.Moves (spec.InProof goal.name (span goal.prop) (seen_steps goal.script.items) (seen_proof_place place))
-seen_course course.Proves goal place = spec.Adds (tree.Lemma goal.name (span goal.prop) (seen_steps goal.script.items)) spec.AtCommand
+seen_course course.Ends goal place = spec.Adds (tree.Lemma goal.name (span goal.prop) (seen_steps goal.script.items)) spec.AtCommand
 seen_course course.Refuses goal place = spec.Refuses
+
+-- where a token of domains leads to, by the domains and the place behind it
+abbrev pub seen_domains_course : Course → Domains → SortPlace → spec.Turn
+seen_domains_course course.Stays domains place = spec.Moves (seen_domains domains place)
+seen_domains_course course.Ends domains place = spec.Moves (spec.AtArityClass domains.con (sorts domains.doms.items))
+seen_domains_course course.Refuses domains place = spec.Refuses

@@ -1,16 +1,17 @@
-//! Arities.
+//! Arities. The domains are read in place, so that no token moves them.
 ghost use Rattle.std.specs.Prelude.{◌≡◌, IfOk, [], ◌∷◌, ◌++◌};
 ghost use Rattle.pure_grammar.specs.Theories.Reader as spec;
 ghost use Rattle.pure_script.specs.Seen.{sorts};
-ghost use Rattle.pure_script.specs.Places.{seen_turn};
+ghost use Rattle.pure_script.specs.Places.{seen_place, seen_turn, seen_domains, seen_domains_course};
 ghost use Rattle.pure_script.specs.Lexemes.{seen_lexeme};
 
 use crate::lexeme::{Lexeme, is_sign};
-use crate::place::{ArityPlace, Place, Turn, moves_if, name};
+use crate::place::{ArityPlace, Course, Domains, Place, SortPlace, Turn, moves_if, name};
 use crate::theory::Command;
 use pure_grammar::Sign;
 use pure_text::Text;
 use std::alloc::{AllocError, Global};
+use std::mem;
 
 pub(crate) fn at_constructor(alloc: Global, lexeme: Lexeme<'_>) -> Result<Turn, AllocError>
     ensures { IfOk result (λ turn. seen_turn turn ≡ spec.turn spec.AtConstructor (seen_lexeme lexeme.entry)) }
@@ -59,151 +60,185 @@ pub(crate) fn at_domains(alloc: Global, con: Text, lexeme: Lexeme<'_>) -> Result
 {
     let doms = Vec::new(alloc);
     if is_sign(Sign::OpenParenthesis, lexeme) {
+        let sort = Vec::new(alloc);
+        let domains = Domains { con, doms, sort };
+        let place = SortPlace::AtSort;
         return Ok(Turn::Moves {
             place: Place::OfArity {
-                place: ArityPlace::AtSort { con, doms },
+                place: ArityPlace::InDomains { domains, place },
             },
         });
     }
     at_arity_class(alloc, con, doms, lexeme)
 }
 
-/// The sort of one class.
+/// The sort of one class, with room for no other.
 fn one_class(alloc: Global, class: Text) -> Result<Vec<Text>, AllocError>
     ensures { IfOk result (λ sort. sort.items ≡ class ∷ []) }
 {
-    let mut sort = Vec::new(alloc);
+    let mut sort = Vec::with_capacity(alloc, 1)?;
     sort.push(class)?;
     Ok(sort)
 }
 
-/// The domains with one more.
-fn with_sort(doms: Vec<Vec<Text>>, sort: Vec<Text>) -> Result<Vec<Vec<Text>>, AllocError>
-    ensures { IfOk result (λ all. sorts all.items ≡ sorts doms.items ++ sort.items ∷ []) }
+/// The domains get one more.
+fn add_sort(domains: &mut Domains, sort: Vec<Text>) -> Result<(), AllocError>
+    ensures con { IfOk result (λ _. domains.new.con ≡ domains.old.con) }
+    ensures doms { IfOk result (λ _. sorts domains.new.doms.items ≡ sorts domains.old.doms.items ++ sort.items ∷ []) }
 {
-    let mut doms = doms;
-    doms.push(sort)?;
-    Ok(doms)
+    domains.doms.push(sort)?;
+    Ok(())
 }
 
-pub(crate) fn at_sort(
+fn at_sort(
     alloc: Global,
-    con: Text,
-    doms: Vec<Vec<Text>>,
+    domains: &mut Domains,
+    place: &mut SortPlace,
     lexeme: Lexeme<'_>,
-) -> Result<Turn, AllocError>
-    ensures { IfOk result (λ turn. seen_turn turn ≡ spec.turn (spec.AtSort con (sorts doms.items)) (seen_lexeme lexeme.entry)) }
+) -> Result<Course, AllocError>
+    ensures { IfOk result (λ course. seen_domains_course course domains.new place.new ≡ spec.turn (spec.AtSort domains.old.con (sorts domains.old.doms.items)) (seen_lexeme lexeme.entry)) }
 {
     if is_sign(Sign::OpenBrace, lexeme) {
-        return Ok(Turn::Moves {
-            place: Place::OfArity {
-                place: ArityPlace::AtFirstClass { con, doms },
-            },
-        });
+        *place = SortPlace::AtFirstClass;
+        return Ok(Course::Stays);
     }
     match name(alloc, lexeme)? {
-        None => Ok(Turn::Refuses),
+        None => Ok(Course::Refuses),
         Some(class) => {
-            let doms = with_sort(doms, one_class(alloc, class)?)?;
-            Ok(Turn::Moves {
-                place: Place::OfArity {
-                    place: ArityPlace::AfterSort { con, doms },
-                },
-            })
+            add_sort(domains, one_class(alloc, class)?)?;
+            *place = SortPlace::AfterSort;
+            Ok(Course::Stays)
         }
     }
 }
 
-pub(crate) fn after_sort(con: Text, doms: Vec<Vec<Text>>, lexeme: Lexeme<'_>) -> Turn
-    ensures { seen_turn result ≡ spec.turn (spec.AfterSort con (sorts doms.items)) (seen_lexeme lexeme.entry) }
+fn after_sort(domains: &mut Domains, place: &mut SortPlace, lexeme: Lexeme<'_>) -> Course
+    ensures { seen_domains_course result domains.new place.new ≡ spec.turn (spec.AfterSort domains.old.con (sorts domains.old.doms.items)) (seen_lexeme lexeme.entry) }
 {
     if is_sign(Sign::Comma, lexeme) {
-        return Turn::Moves {
-            place: Place::OfArity {
-                place: ArityPlace::AtSort { con, doms },
-            },
-        };
+        *place = SortPlace::AtSort;
+        return Course::Stays;
     }
-    moves_if(
-        is_sign(Sign::CloseParenthesis, lexeme),
-        Place::OfArity {
-            place: ArityPlace::AtArityClass { con, doms },
-        },
-    )
+    if is_sign(Sign::CloseParenthesis, lexeme) {
+        return Course::Ends;
+    }
+    Course::Refuses
 }
 
-pub(crate) fn at_first_class(
+fn at_first_class(
     alloc: Global,
-    con: Text,
-    doms: Vec<Vec<Text>>,
+    domains: &mut Domains,
+    place: &mut SortPlace,
     lexeme: Lexeme<'_>,
-) -> Result<Turn, AllocError>
-    ensures { IfOk result (λ turn. seen_turn turn ≡ spec.turn (spec.AtFirstClass con (sorts doms.items)) (seen_lexeme lexeme.entry)) }
+) -> Result<Course, AllocError>
+    ensures { IfOk result (λ course. seen_domains_course course domains.new place.new ≡ spec.turn (spec.AtFirstClass domains.old.con (sorts domains.old.doms.items)) (seen_lexeme lexeme.entry)) }
 {
     if is_sign(Sign::CloseBrace, lexeme) {
-        let doms = with_sort(doms, Vec::new(alloc))?;
-        return Ok(Turn::Moves {
-            place: Place::OfArity {
-                place: ArityPlace::AfterSort { con, doms },
-            },
-        });
+        add_sort(domains, Vec::new(alloc))?;
+        *place = SortPlace::AfterSort;
+        return Ok(Course::Stays);
     }
     match name(alloc, lexeme)? {
-        None => Ok(Turn::Refuses),
+        None => Ok(Course::Refuses),
         Some(class) => {
-            let sort = one_class(alloc, class)?;
-            Ok(Turn::Moves {
-                place: Place::OfArity {
-                    place: ArityPlace::AfterClass { con, doms, sort },
-                },
-            })
+            domains.sort = one_class(alloc, class)?;
+            *place = SortPlace::AfterClass;
+            Ok(Course::Stays)
         }
     }
 }
 
-pub(crate) fn at_next_class(
+fn at_next_class(
     alloc: Global,
-    con: Text,
-    doms: Vec<Vec<Text>>,
-    sort: Vec<Text>,
+    domains: &mut Domains,
+    place: &mut SortPlace,
     lexeme: Lexeme<'_>,
-) -> Result<Turn, AllocError>
-    ensures { IfOk result (λ turn. seen_turn turn ≡ spec.turn (spec.AtNextClass con (sorts doms.items) sort.items) (seen_lexeme lexeme.entry)) }
+) -> Result<Course, AllocError>
+    ensures { IfOk result (λ course. seen_domains_course course domains.new place.new ≡ spec.turn (spec.AtNextClass domains.old.con (sorts domains.old.doms.items) domains.old.sort.items) (seen_lexeme lexeme.entry)) }
 {
-    let mut sort = sort;
     match name(alloc, lexeme)? {
-        None => Ok(Turn::Refuses),
+        None => Ok(Course::Refuses),
         Some(class) => {
-            sort.push(class)?;
-            Ok(Turn::Moves {
-                place: Place::OfArity {
-                    place: ArityPlace::AfterClass { con, doms, sort },
-                },
-            })
+            domains.sort.push(class)?;
+            *place = SortPlace::AfterClass;
+            Ok(Course::Stays)
         }
     }
 }
 
-pub(crate) fn after_class(
-    con: Text,
-    doms: Vec<Vec<Text>>,
-    sort: Vec<Text>,
+fn after_class(
+    alloc: Global,
+    domains: &mut Domains,
+    place: &mut SortPlace,
     lexeme: Lexeme<'_>,
-) -> Result<Turn, AllocError>
-    ensures { IfOk result (λ turn. seen_turn turn ≡ spec.turn (spec.AfterClass con (sorts doms.items) sort.items) (seen_lexeme lexeme.entry)) }
+) -> Result<Course, AllocError>
+    ensures { IfOk result (λ course. seen_domains_course course domains.new place.new ≡ spec.turn (spec.AfterClass domains.old.con (sorts domains.old.doms.items) domains.old.sort.items) (seen_lexeme lexeme.entry)) }
 {
     if is_sign(Sign::Comma, lexeme) {
-        return Ok(Turn::Moves {
-            place: Place::OfArity {
-                place: ArityPlace::AtNextClass { con, doms, sort },
-            },
-        });
+        *place = SortPlace::AtNextClass;
+        return Ok(Course::Stays);
     }
-    let doms = with_sort(doms, sort)?;
-    Ok(moves_if(
-        is_sign(Sign::CloseBrace, lexeme),
-        Place::OfArity {
-            place: ArityPlace::AfterSort { con, doms },
-        },
-    ))
+    if is_sign(Sign::CloseBrace, lexeme) {
+        let sort = mem::replace(&mut domains.sort, Vec::new(alloc));
+        add_sort(domains, sort)?;
+        *place = SortPlace::AfterSort;
+        return Ok(Course::Stays);
+    }
+    Ok(Course::Refuses)
+}
+
+/// How a token of the domains goes on, with its place and what is read in place.
+#[inline(never)]
+pub(crate) fn domains_course(
+    alloc: Global,
+    domains: &mut Domains,
+    place: &mut SortPlace,
+    lexeme: Lexeme<'_>,
+) -> Result<Course, AllocError>
+    ensures { IfOk result (λ course. seen_domains_course course domains.new place.new ≡ spec.turn (seen_domains domains.old place.old) (seen_lexeme lexeme.entry)) }
+{
+    match *place {
+        SortPlace::AtSort => at_sort(alloc, domains, place, lexeme),
+        SortPlace::AfterSort => Ok(after_sort(domains, place, lexeme)),
+        SortPlace::AtFirstClass => at_first_class(alloc, domains, place, lexeme),
+        SortPlace::AtNextClass => at_next_class(alloc, domains, place, lexeme),
+        SortPlace::AfterClass => after_class(alloc, domains, place, lexeme),
+    }
+}
+
+/// The place behind the domains, which are left empty.
+#[inline(never)]
+pub(crate) fn closed(alloc: Global, domains: &mut Domains) -> Result<Place, AllocError>
+    ensures { IfOk result (λ place. seen_place place ≡ spec.AtArityClass domains.old.con (sorts domains.old.doms.items)) }
+{
+    let con = mem::replace(&mut domains.con, Text::make(alloc, b"")?);
+    let doms = mem::replace(&mut domains.doms, Vec::new(alloc));
+    Ok(Place::OfArity {
+        place: ArityPlace::AtArityClass { con, doms },
+    })
+}
+
+/// Where a token of the domains leads to.
+#[inline(never)]
+pub(crate) fn domains_turn(
+    alloc: Global,
+    domains: Domains,
+    place: SortPlace,
+    lexeme: Lexeme<'_>,
+) -> Result<Turn, AllocError>
+    ensures { IfOk result (λ turn. seen_turn turn ≡ spec.turn (seen_domains domains place) (seen_lexeme lexeme.entry)) }
+{
+    let mut domains = domains;
+    let mut place = place;
+    match domains_course(alloc, &mut domains, &mut place, lexeme)? {
+        Course::Stays => Ok(Turn::Moves {
+            place: Place::OfArity {
+                place: ArityPlace::InDomains { domains, place },
+            },
+        }),
+        Course::Ends => Ok(Turn::Moves {
+            place: closed(alloc, &mut domains)?,
+        }),
+        Course::Refuses => Ok(Turn::Refuses),
+    }
 }

@@ -60,42 +60,32 @@ pub(crate) enum TypePlace {
     AtTypeName { params: u32 },
 }
 
+/// The domains of an arity so far, and the classes so far of the sort that stands open.
+#[derive(Drop)]
+pub(crate) struct Domains {
+    pub(crate) con: Text,
+    pub(crate) doms: Vec<Vec<Text>>,
+    pub(crate) sort: Vec<Text>,
+}
+
+/// A place in the domains of an arity.
+#[derive(Clone, Copy)]
+pub(crate) enum SortPlace {
+    AtSort,
+    AfterSort,
+    AtFirstClass,
+    AtNextClass,
+    AfterClass,
+}
+
 /// A place in the declaration of an arity.
 #[derive(Drop)]
 pub(crate) enum ArityPlace {
     AtConstructor,
-    AfterConstructor {
-        con: Text,
-    },
-    AtDomains {
-        con: Text,
-    },
-    AtSort {
-        con: Text,
-        doms: Vec<Vec<Text>>,
-    },
-    AfterSort {
-        con: Text,
-        doms: Vec<Vec<Text>>,
-    },
-    AtFirstClass {
-        con: Text,
-        doms: Vec<Vec<Text>>,
-    },
-    AtNextClass {
-        con: Text,
-        doms: Vec<Vec<Text>>,
-        sort: Vec<Text>,
-    },
-    AfterClass {
-        con: Text,
-        doms: Vec<Vec<Text>>,
-        sort: Vec<Text>,
-    },
-    AtArityClass {
-        con: Text,
-        doms: Vec<Vec<Text>>,
-    },
+    AfterConstructor { con: Text },
+    AtDomains { con: Text },
+    InDomains { domains: Domains, place: SortPlace },
+    AtArityClass { con: Text, doms: Vec<Vec<Text>> },
 }
 
 /// A place in the declaration of constants or axioms, or in a definition.
@@ -146,11 +136,11 @@ pub(crate) enum Turn {
     Refuses,
 }
 
-/// How a token of a proof goes on: the proof does, or its last step is read, or the token refuses.
+/// How a token of a proof or of domains goes on: they go on, or they end, or the token refuses.
 #[derive(Clone, Copy)]
 pub(crate) enum Course {
     Stays,
-    Proves,
+    Ends,
     Refuses,
 }
 

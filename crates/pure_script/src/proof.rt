@@ -100,7 +100,7 @@ fn after_method(goal: &mut Goal, place: &mut ProofPlace, last: bool) -> Result<C
     }
     step(goal, Step::Close)?;
     step(goal, Step::Done)?;
-    Ok(Course::Proves)
+    Ok(Course::Ends)
 }
 
 fn at_method(
@@ -237,7 +237,7 @@ fn at_step(
     }
     if is_word(Keyword::Done, lexeme) {
         step(goal, Step::Done)?;
-        return Ok(Course::Proves);
+        return Ok(Course::Ends);
     }
     if is_word(Keyword::By, lexeme) {
         *place = ProofPlace::AtMethod { last: true };
@@ -327,7 +327,7 @@ pub(crate) fn proof_turn(
                 place: LemmaPlace::InProof { goal, place },
             },
         }),
-        Course::Proves => Ok(Turn::Adds {
+        Course::Ends => Ok(Turn::Adds {
             command: proved(alloc, &mut goal)?,
             place: Place::AtCommand,
         }),

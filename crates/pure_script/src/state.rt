@@ -4,14 +4,15 @@ ghost use Rattle.pure_grammar.specs.Theories.Lexeme.{Ends};
 ghost use Rattle.pure_grammar.specs.Theories.PhraseTree.{with_text};
 ghost use Rattle.pure_grammar.specs.Theories.Reader as spec;
 ghost use Rattle.pure_script.specs.Seen.{seen_command, seen_commands};
-ghost use Rattle.pure_script.specs.Places.{seen_place, seen_class_place, seen_type_place, seen_arity_place, seen_item_place, seen_lemma_place, seen_proof_place, seen_turn};
+ghost use Rattle.pure_script.specs.Places.{seen_place, seen_class_place, seen_type_place, seen_arity_place, seen_item_place, seen_lemma_place, seen_proof_place, seen_domains, seen_turn};
 ghost use Rattle.pure_script.specs.Lexemes.{seen_lexeme};
 ghost use Rattle.pure_script.specs.States.{seen_state, seen_front, seen_next, seen_header, seen_end, IsNext, IsLed, IsImport};
 
+use crate::arity::{closed, domains_course};
 use crate::lexeme::{Lexeme, is_word};
 use crate::place::{
-    ArityPlace, ClassPlace, Course, ItemPlace, LemmaPlace, Place, ProofPlace, Turn, TypePlace,
-    ident,
+    ArityPlace, ClassPlace, Course, Domains, ItemPlace, LemmaPlace, Place, ProofPlace, SortPlace,
+    Turn, TypePlace, ident,
 };
 use crate::proof::{proof_course, proved};
 use crate::texts::Texts;
@@ -196,9 +197,9 @@ fn outside_proof(
     }
 }
 
-/// One token more of the commands, and whether it goes on.
+/// One token more of a lemma, and whether it goes on.
 #[inline(never)]
-fn in_body(
+fn in_lemma(
     alloc: Global,
     commands: &mut Vec<Command>,
     place: &mut Place,
@@ -213,7 +214,7 @@ fn in_body(
             )? {
                 Course::Stays => Ok(true),
                 Course::Refuses => Ok(false),
-                Course::Proves => {
+                Course::Ends => {
                     commands.push(proved(alloc, goal)?)?;
                     *place = Place::AtCommand;
                     Ok(true)
@@ -221,6 +222,52 @@ fn in_body(
             },
             _ => outside_proof(alloc, commands, place, lexeme),
         },
+        _ => outside_proof(alloc, commands, place, lexeme),
+    }
+}
+
+/// One token more of an arity, and whether it goes on.
+#[inline(never)]
+fn in_arity(
+    alloc: Global,
+    commands: &mut Vec<Command>,
+    place: &mut Place,
+    lexeme: Lexeme<'_>,
+) -> Result<bool, AllocError>
+    ensures { IfOk result (λ on. IsLed on (seen_commands commands.new.items) (seen_place place.new) (seen_commands commands.old.items) (spec.turn (seen_place place.old) (seen_lexeme lexeme.entry))) }
+{
+    match place {
+        Place::OfArity { place: arity } => match arity {
+            ArityPlace::InDomains {
+                domains,
+                place: sort,
+            } => match domains_course(alloc, domains, sort, lexeme)? {
+                Course::Stays => Ok(true),
+                Course::Refuses => Ok(false),
+                Course::Ends => {
+                    *place = closed(alloc, domains)?;
+                    Ok(true)
+                }
+            },
+            _ => outside_proof(alloc, commands, place, lexeme),
+        },
+        _ => outside_proof(alloc, commands, place, lexeme),
+    }
+}
+
+/// One token more of the commands, and whether it goes on.
+#[inline(never)]
+fn in_body(
+    alloc: Global,
+    commands: &mut Vec<Command>,
+    place: &mut Place,
+    lexeme: Lexeme<'_>,
+) -> Result<bool, AllocError>
+    ensures { IfOk result (λ on. IsLed on (seen_commands commands.new.items) (seen_place place.new) (seen_commands commands.old.items) (spec.turn (seen_place place.old) (seen_lexeme lexeme.entry))) }
+{
+    match place {
+        Place::OfLemma { .. } => in_lemma(alloc, commands, place, lexeme),
+        Place::OfArity { .. } => in_arity(alloc, commands, place, lexeme),
         _ => outside_proof(alloc, commands, place, lexeme),
     }
 }
@@ -370,6 +417,18 @@ fn type_kind(place: &TypePlace) -> TokenKind
     }
 }
 
+fn sort_kind(domains: &Domains, place: SortPlace) -> TokenKind
+    ensures { result ≡ spec.kind_at (seen_domains domains.now place) }
+{
+    match place {
+        SortPlace::AtSort => TokenKind::Ident,
+        SortPlace::AfterSort => TokenKind::Symbol,
+        SortPlace::AtFirstClass => TokenKind::Ident,
+        SortPlace::AtNextClass => TokenKind::Ident,
+        SortPlace::AfterClass => TokenKind::Symbol,
+    }
+}
+
 fn arity_kind(place: &ArityPlace) -> TokenKind
     ensures { result ≡ spec.kind_at (seen_arity_place place.now) }
 {
@@ -377,11 +436,7 @@ fn arity_kind(place: &ArityPlace) -> TokenKind
         ArityPlace::AtConstructor => TokenKind::Ident,
         ArityPlace::AfterConstructor { .. } => TokenKind::Symbol,
         ArityPlace::AtDomains { .. } => TokenKind::Ident,
-        ArityPlace::AtSort { .. } => TokenKind::Ident,
-        ArityPlace::AfterSort { .. } => TokenKind::Symbol,
-        ArityPlace::AtFirstClass { .. } => TokenKind::Ident,
-        ArityPlace::AtNextClass { .. } => TokenKind::Ident,
-        ArityPlace::AfterClass { .. } => TokenKind::Symbol,
+        ArityPlace::InDomains { domains, place } => sort_kind(domains, *place),
         ArityPlace::AtArityClass { .. } => TokenKind::Ident,
     }
 }

@@ -44,13 +44,7 @@ fn arity_turn(alloc: Global, place: ArityPlace, l: Lexeme<'_>) -> Result<Turn, A
         ArityPlace::AtConstructor => arity::at_constructor(alloc, l),
         ArityPlace::AfterConstructor { con } => Ok(arity::after_constructor(con, l)),
         ArityPlace::AtDomains { con } => arity::at_domains(alloc, con, l),
-        ArityPlace::AtSort { con, doms } => arity::at_sort(alloc, con, doms, l),
-        ArityPlace::AfterSort { con, doms } => Ok(arity::after_sort(con, doms, l)),
-        ArityPlace::AtFirstClass { con, doms } => arity::at_first_class(alloc, con, doms, l),
-        ArityPlace::AtNextClass { con, doms, sort } => arity::at_next_class(
-            alloc, con, doms, sort, l,
-        ),
-        ArityPlace::AfterClass { con, doms, sort } => arity::after_class(con, doms, sort, l),
+        ArityPlace::InDomains { domains, place } => arity::domains_turn(alloc, domains, place, l),
         ArityPlace::AtArityClass { con, doms } => arity::at_arity_class(alloc, con, doms, l),
     }
 }

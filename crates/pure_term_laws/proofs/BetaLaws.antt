@@ -4,6 +4,7 @@ use Rattle.std.proofs.lemmas.Bool.{cases_lt}
 use Rattle.std.proofs.lemmas.List.{length-replicate}
 use Rattle.std.specs.Prelude.{Option, Some, None, option_map}
 use Rattle.pure_text.specs.Lists.{Each}
+use Rattle.pure_definitions.specs.Types.Typ.{Typ}
 use Rattle.pure_definitions.specs.Terms.Term.{Term, Abs, App, IsWithin, term_size, term_depth, max_size, max_depth}
 use Rattle.pure_definitions.specs.Reduction.Beta.{IsBetaNormal, app_step, beta_step, IsBetaSequence, BetaAnswer, TooLarge, NormalForm, TooManySteps, max_steps, Decides, IsBetaAnswer}
 use Rattle.pure_term_laws.specs.LawsExamples.{doubled, endless, doubled_at_a, identity_at_a, pair, a}
@@ -14,6 +15,16 @@ app_step-none : (f a : Term) (r s : Option Term) → app_step f a r s ≡ None �
 app_step-none f a None None h = (refl, refl)
 app_step-none f a None (Some b) h = absurd (cc)
 app_step-none f a (Some g) s h = absurd (cc)
+
+pub app_step-some : (f a u : Term) (r s : Option Term) → app_step f a r s ≡ Some u
+    → ((g : Term) × (r ≡ Some g) × (App g a ≡ u)) ⊎ ((b : Term) × (s ≡ Some b) × (App f b ≡ u))
+app_step-some f a u (Some g) s h = inl (g, refl, cc)
+app_step-some f a u None (Some b) h = inr (b, refl, cc)
+app_step-some f a u None None h = absurd (cc)
+
+pub map-some : (T : Typ) (u : Term) (r : Option Term) → option_map (Abs T) r ≡ Some u → (c : Term) × (r ≡ Some c) × (Abs T c ≡ u)
+map-some T u (Some c) h = (c, refl, cc)
+map-some T u None h = absurd (cc)
 
 pub no_step-normal : (t : Term) → beta_step t ≡ None → IsBetaNormal t
 no_step-normal (App (Abs T b) a) h = absurd (cc)

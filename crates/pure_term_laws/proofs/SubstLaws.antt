@@ -1,13 +1,13 @@
 -- Identity maps, and finite maps whose entries respect sorts or types.
-use Rattle.std.proofs.Common.{◌≡◌, ℕ, List, [], ◌∷◌, Bool, true, false, cond, refl, ap, sym, ◌∙◌, ◌↔◌, inl, inr}
+use Rattle.std.proofs.Common.{◌≡◌, ℕ, List, [], ◌∷◌, refl, ap, sym, ◌∙◌, ◌↔◌}
 use Rattle.pure_definitions.specs.Types.Typ.{Typ, TFree, TVar, Con, Typs, none, also, typ_eq}
 use Rattle.pure_definitions.specs.Terms.Term.{Term, Const, Free, Var, Bound, Abs, App, term_eq}
 use Rattle.pure_definitions.specs.Types.Order.{Algebra, IsOfSort}
 use Rattle.pure_definitions.specs.Terms.Typing.{HasType}
-use Rattle.pure_definitions.specs.Terms.Subst.{typ_instance, typs_instance, term_instance, inst_term, IsSortRespecting, IsTypeRespecting, KeepsFixedTyps, KeepsFixedTerms, TypBind, TermBind, IsTypMap, IsTermMap, typ_variable, term_variable, typ_image, term_image, AreSortRespecting, AreTypeRespecting}
+use Rattle.pure_definitions.specs.Terms.Subst.{typ_instance, typs_instance, term_instance, inst_term, IsSortRespecting, IsTypeRespecting, KeepsFixedTyps, KeepsFixedTerms, TypBind, TermBind, IsTypMap, IsTermMap, typ_image, term_image, AreSortRespecting, AreTypeRespecting}
 use Rattle.pure_text.specs.Lists.{IsIn}
-use Rattle.pure_text.proofs.ListLaws.{each_of, in-map}
-use Rattle.pure_definitions.specs.Models.Equality.{typ_eq-same, typ_eq-itself, term_eq-same, term_eq-itself}
+use Rattle.pure_text.proofs.ListLaws.{each_of}
+use Rattle.pure_definitions.specs.Models.Equality.{typ_eq-same, term_eq-same}
 use Rattle.pure_definitions.proofs.OrderLaws.{sort_below-itself}
 use Rattle.pure_definitions.proofs.EntryLemmas.{chosen, typ_image-entry, term_image-entry}
 

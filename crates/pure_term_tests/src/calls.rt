@@ -385,7 +385,10 @@ fn typ_map(alloc: Global, typs: &[Typ]) -> Result<Option<TypMap>, AllocError> {
     if first.name == second.name {
         return Ok(None);
     }
-    Ok(Some(TypMap::make(vec![in alloc; first, second]?)))
+    let mut map = TypMap::empty(alloc);
+    map.push(first)?;
+    map.push(second)?;
+    Ok(Some(map))
 }
 
 /// The bind of the variable to its image.
@@ -422,7 +425,10 @@ fn term_map(alloc: Global, terms: &[Term]) -> Result<Option<TermMap>, AllocError
     if first.name == second.name {
         return Ok(None);
     }
-    Ok(Some(TermMap::make(vec![in alloc; first, second]?)))
+    let mut map = TermMap::empty(alloc);
+    map.push(first)?;
+    map.push(second)?;
+    Ok(Some(map))
 }
 
 /// The bind of the variable to its image.

@@ -49,6 +49,10 @@ GeneralisedExample = IsDerivable example (record { hyps = less y y ∷ []; pairs
 abbrev pub StatementExample : Type 0
 StatementExample = (generalised (everything 0) (less x y) ≡ less any_x any_y) × IsStatement example (less any_x any_y)
 
+-- Nothing is made schematic in `?x < ?y`.
+abbrev pub NothingFixedExample : Type 0
+NothingFixedExample = (g : Generalisation) → generalised g (less any_x any_y) ≡ less any_x any_y
+
 -- What is derivable from `x < y` is so from more hypotheses, in any order, and resting on a promise.
 abbrev pub WeakerExample : Type 0
 WeakerExample = IsDerivable example (record { hyps = less y x ∷ less x y ∷ []; pairs = []; prop = less x y; rests = promised ∷ [] })

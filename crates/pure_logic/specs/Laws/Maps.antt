@@ -9,7 +9,7 @@ use Rattle.pure_definitions.specs.Terms.Subst.{TypBind, TermBind, typ_image, ter
 use Rattle.pure_definitions.specs.Declarations.Decl.{algebra_of}
 use Rattle.pure_definitions.specs.Declarations.Certified.{IsCertifiedTyp}
 use Rattle.pure_term_laws.specs.LawsOccurs.{TypOccurs}
-use Rattle.pure_logic.specs.Content.{Content, IsContent, IsCertifiedOf, IsProposition, IsStatement}
+use Rattle.pure_logic.specs.Content.{Content, IsContent, IsCertifiedOf, IsProposition, IsSchematic, IsStatement}
 use Rattle.pure_logic.specs.Concludes.{AreRespecting}
 use Rattle.pure_logic.specs.Derivable.{Theorem, IsDerivable}
 use Rattle.pure_logic.specs.Laws.Substitution.{pair_instance, theorem_instance}
@@ -58,6 +58,18 @@ everything index = record { typs = λ x. true; terms = λ x. true; index = index
 
 abbrev pub GeneralisedIsStatement : Type 0
 GeneralisedIsStatement = (Q : Content) → IsContent Q → (index : ℕ) (A : Term) → IsProposition Q A → IsStatement Q (generalised (everything index) A)
+
+-- The maps move fixed variables alone: schematic type variables stay, and schematic variables but for their types.
+pub record MoveFixedAlone (typs : Typ → Typ) (terms : Term → Term) : Type 0 where
+  pub on_typs : (x i : ℕ) (s : List ℕ) → typs (TVar x i s) ≡ TVar x i s
+  pub on_terms : (x i : ℕ) (T : Typ) → terms (Var x i T) ≡ Var x i (typ_instance typs T)
+
+-- A term without fixed variables and fixed type variables stays as it is under such maps, and so where fixed variables are made schematic.
+abbrev pub FixedMapKeeps : Type 0
+FixedMapKeeps = (typs : Typ → Typ) (terms : Term → Term) → MoveFixedAlone typs terms → (t : Term) → IsSchematic t → term_instance typs terms t ≡ t
+
+abbrev pub GeneralisationKeeps : Type 0
+GeneralisationKeeps = (g : Generalisation) (t : Term) → IsSchematic t → generalised g t ≡ t
 
 -- the maps that raise the indexes of schematic type variables and schematic variables by a number
 abbrev pub raised_typs : (by : ℕ) → Typ → Typ

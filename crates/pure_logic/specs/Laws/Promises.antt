@@ -5,6 +5,8 @@ use Rattle.pure_definitions.specs.Names.{Label}
 use Rattle.pure_definitions.specs.Terms.Term.{Term}
 use Rattle.pure_definitions.specs.Declarations.Decl.{PromiseDecl}
 use Rattle.pure_logic.specs.Content.{Content, IsContent}
+use Rattle.pure_logic.specs.Tree.{Tree, hyps_of, rests_of}
+use Rattle.pure_logic.specs.Concludes.{Concludes}
 use Rattle.pure_logic.specs.Derivable.{Theorem, IsDerivable, IsDerivableAlone}
 use Rattle.pure_logic.specs.Proves.{Proves}
 use Rattle.pure_logic.specs.Fulfilment.{Fulfilment, left_after, AreServing, joined, AreFulfilments, Reaches, HasLabel, AreInOrder}
@@ -21,7 +23,18 @@ AreOpenOrSettled Q left_open rests = Each (λ l. IsIn l left_open ⊎ IsSettled 
 abbrev pub IsProvedFor : (Q : Content) → (rests : List Label) → Label → Type 0
 IsProvedFor Q rests label = (name : ℕ) (A : Term) → IsIn (PromiseDecl name label A) Q.declarations → Proves Q [] rests A
 
--- Promises are cut, all at once: a theorem that rests on promises of which each is left open, or proved resting on those left open, is derivable resting on those left open alone.
+-- A tree for what d concludes, from hypotheses of d, that rests on none but these promises.
+pub record IsCutTree (Q : Content) (left_open : List Label) (d : Tree) (C : Term) : Type 0 where
+  pub tree : Tree
+  pub concludes : Concludes Q tree C
+  pub hyps : Each (λ A. IsIn A (hyps_of d)) (hyps_of tree)
+  pub rests : Each (λ l. IsIn l left_open) (rests_of tree)
+
+-- Promises are cut from a tree, all at once and at whatever instances: where each promise on which it rests is left open, or proved resting on those left open, there is a tree that rests on those left open alone.
+abbrev pub CutOfTrees : Type 0
+CutOfTrees = (Q : Content) → IsContent Q → (left_open : List Label) (d : Tree) (C : Term) → Concludes Q d C → Each (λ l. IsIn l left_open ⊎ IsProvedFor Q left_open l) (rests_of d) → IsCutTree Q left_open d C
+
+-- So from a theorem: one that rests on promises of which each is left open, or proved resting on those left open, is derivable resting on those left open alone.
 abbrev pub CutByProofs : Type 0
 CutByProofs = (Q : Content) → IsContent Q → (th : Theorem) (left_open : List Label) → Each (λ l. IsIn l left_open ⊎ IsProvedFor Q left_open l) th.rests
     → IsDerivable Q th → IsDerivable Q (record th { rests = left_open })

@@ -1,4 +1,4 @@
-use Rattle.pure_logic.proofs.TheoremExamples.{instantiated_example, raised_example, generalised_example, statement_example, weaker_example}
+use Rattle.pure_logic.proofs.TheoremExamples.{instantiated_example, raised_example, generalised_example, statement_example, nothing_fixed_example, weaker_example}
 use Rattle.pure_logic.proofs.examples.theorem_map_example.Goals as goal
 
 pub returns-clause-instantiated : goal.returns-clause-instantiated
@@ -15,3 +15,6 @@ returns-clause-statement c = statement_example
 
 pub returns-clause-weaker : goal.returns-clause-weaker
 returns-clause-weaker c = weaker_example
+
+pub returns-clause-nothing : goal.returns-clause-nothing
+returns-clause-nothing c = nothing_fixed_example

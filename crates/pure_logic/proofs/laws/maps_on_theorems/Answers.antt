@@ -1,4 +1,4 @@
-use Rattle.pure_logic.proofs.TheoremMapLaws.{weaker_is_derivable, instance_from_same_hypotheses, generalised_is_derivable, generalised_is_statement, raised_is_derivable, instantiated_is_derivable}
+use Rattle.pure_logic.proofs.TheoremMapLaws.{weaker_is_derivable, instance_from_same_hypotheses, raised_is_derivable, instantiated_is_derivable}
 use Rattle.pure_logic.proofs.laws.maps_on_theorems.Goals as goal
 
 pub returns-clause-weaker : goal.returns-clause-weaker
@@ -6,12 +6,6 @@ returns-clause-weaker c = weaker_is_derivable
 
 pub returns-clause-same_hypotheses : goal.returns-clause-same_hypotheses
 returns-clause-same_hypotheses c = instance_from_same_hypotheses
-
-pub returns-clause-generalised : goal.returns-clause-generalised
-returns-clause-generalised c = generalised_is_derivable
-
-pub returns-clause-statement : goal.returns-clause-statement
-returns-clause-statement c = generalised_is_statement
 
 pub returns-clause-raised : goal.returns-clause-raised
 returns-clause-raised c = raised_is_derivable

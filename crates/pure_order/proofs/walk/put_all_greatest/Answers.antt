@@ -1,4 +1,4 @@
-use Rattle.pure_order.specs.Places.{Holds}
+use Rattle.pure_order_tables.specs.Rows.{Holds}
 use Rattle.pure_text.proofs.AnswerLaws.{test_fails}
 use Rattle.pure_order.proofs.WalkLaws.{asks_none, asks_turn, asks_skip, asks_all}
 use Rattle.pure_order.proofs.walk.put_all_greatest.Goals as goal

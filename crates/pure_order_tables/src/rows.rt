@@ -1,0 +1,40 @@
+//! Rows of bits: sets of numbers, in words of 64 bits.
+ghost use Rattle.std.specs.Prelude.{◌≡◌, ◌↔◌, ◌⊎◌, ◌<◌, ◌/◌, ℕ, IsTrue, IfOk, length};
+ghost use Rattle.pure_order_tables.specs.Rows.{Holds};
+
+use std::alloc::{AllocError, Global};
+
+/// A row that holds none, with so many words.
+pub(crate) fn empty_row(alloc: Global, count: usize) -> Result<Vec<u64>, AllocError>
+    ensures none { IfOk result (λ row. (place : ℕ) → ¬ Holds row.items place) }
+    ensures count { IfOk result (λ row. length row.items ≡ count) }
+{
+    Vec::from_elem(alloc, 0, count)
+}
+
+/// Whether the row holds the number.
+pub(crate) fn holds(row: &[u64], place: usize) -> bool
+    ensures { IsTrue result ↔ Holds row.now place }
+{
+    place / 64 < row.len() && (row[place / 64] >> (place % 64)) & 1 == 1
+}
+
+/// Puts the number into the row.
+pub(crate) fn put_place(row: &mut Vec<u64>, place: usize)
+    requires { place / 64 < length row.old.items }
+    ensures held { (other : ℕ) → Holds row.new.items other ↔ ((other ≡ place) ⊎ Holds row.old.items other) }
+    ensures count { length row.new.items ≡ length row.old.items }
+{
+    row[place / 64] |= 1 << (place % 64);
+}
+
+/// Puts in what the other row holds, as far as the row goes.
+pub(crate) fn put_row(row: &mut Vec<u64>, other: &[u64])
+    ensures held { (place : ℕ) → Holds row.new.items place ↔ (Holds row.old.items place ⊎ ((place / 64 < length row.old.items) × Holds other.now place)) }
+    ensures count { length row.new.items ≡ length row.old.items }
+{
+    for i in 0..row.len().min(other.len()) {
+        let word = other[i];
+        row[i] |= word;
+    }
+}
