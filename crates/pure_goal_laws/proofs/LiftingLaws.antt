@@ -114,10 +114,10 @@ module _ (Q : Content) (q : IsContent Q) (above : IsBelow pure_content Q) where
     where
       instance : (H : List Term) (ys : List (ℕ × Typ)) → AreFor Q (parameters ps) ys [] → Proves Q H rests (put 0 ys (lifted_behind ps A))
       instance H ys f =
-          let closed_ = typed-closed A prop (proved_is_proposition Q q above [] rests A p).typed in
+          let without_loose = typed-closed A prop (proved_is_proposition Q q above [] rests A p).typed in
           let long : length ys + length {A = Typ} [] ≡ length (parameters ps) = f.long in
           let made = instance_is_proved Q q (λ v. v) (applied_to (parameters ps) ys) (applied_to-respects (parameters ps) ys f) [] rests A p in
-          rw (put-lifted (parameters ps) ys (omega arith) 0 A closed_) (weaker Q [] H rests rests (term_instance (λ v. v) (applied_to (parameters ps) ys) A) (λ B m. absurd m) (λ l m. m) made)
+          rw (put-lifted (parameters ps) ys (omega arith) 0 A without_loose) (weaker Q [] H rests rests (term_instance (λ v. v) (applied_to (parameters ps) ys) A) (λ B m. absurd m) (λ l m. m) made)
 
 lifted-chain : (Ts : List Typ) (As : List Term) (B : Term) → lifted_under Ts 0 (chain As B) ≡ chain (map (lifted_under Ts 0) As) (lifted_under Ts 0 B)
 lifted-chain Ts [] B = refl

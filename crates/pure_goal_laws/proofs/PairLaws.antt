@@ -54,9 +54,9 @@ module _ (Q : Content) (q : IsContent Q) (above : IsBelow pure_content Q) where
       let before = map f th.hyps in
       let given = others-assumed hyps th.rests before is.hyps in
       let instance = smashed-instance th typs terms is.respecting is.pairs h in
-      let closed_ = chain_is_proved Q before hyps th.rests (f th.prop) (each_imply (λ A. IsProposition Q A × Proves Q hyps th.rests A) (IsProposition Q) before (λ A k. k.0) given)
+      let discharged = chain_is_proved Q before hyps th.rests (f th.prop) (each_imply (λ A. IsProposition Q A × Proves Q hyps th.rests A) (IsProposition Q) before (λ A k. k.0) given)
       (weaker Q before (before ++ hyps) th.rests th.rests (f th.prop) (λ A m. in-append_left A before hyps m) (λ l m. m) instance) in
-      let proved = end_of_chain_is_proved Q before hyps th.rests (f th.prop) closed_ (each_imply (λ A. IsProposition Q A × Proves Q hyps th.rests A) (λ A. Proves Q hyps th.rests A) before (λ A k. k.1) given) in
+      let proved = end_of_chain_is_proved Q before hyps th.rests (f th.prop) discharged (each_imply (λ A. IsProposition Q A × Proves Q hyps th.rests A) (λ A. Proves Q hyps th.rests A) before (λ A k. k.1) given) in
       proved-derivable Q q above smashed (record {
         equations = [];
         are_equations = rw is.no_pairs tt;

@@ -72,7 +72,7 @@ module _ (Q : Content) (q : IsContent Q) (above : IsBelow pure_content Q) where
   pub deferred_is_derivable : (goal : Theorem) (A : Term) (others : List Term) (G : Term) → goal.prop ≡ chain (A ∷ others) G → IsDerivable Q goal → IsDerivable Q (record goal { prop = chain (others ++ A ∷ []) G })
   deferred_is_derivable goal A others G e h =
       reordered_is_derivable goal (A ∷ others) (others ++ A ∷ []) G e
-      (λ B. (λ m. elim m [ inl same_ ↦ in-append_right B others (A ∷ []) (inl same_) | inr n ↦ in-append_left B others (A ∷ []) n ], λ m. elim (in_split B others (A ∷ []) m) [ inl n ↦ inr n | inr n ↦ elim n [ inl same_ ↦ inl same_ | inr none ↦ absurd none ] ])) h
+      (λ B. (λ m. elim m [ inl first ↦ in-append_right B others (A ∷ []) (inl first) | inr n ↦ in-append_left B others (A ∷ []) n ], λ m. elim (in_split B others (A ∷ []) m) [ inl n ↦ inr n | inr n ↦ elim n [ inl first ↦ inl first | inr none ↦ absurd none ] ])) h
 
   -- The sides of a derivable theorem's pairs are certified.
   equations-certified : (pairs : List Pair) (es : List Term) → EachTwo IsEquation pairs es → Each (IsProposition Q) es → Each (IsCertifiedPair Q) pairs
