@@ -9,7 +9,7 @@ use crate::front::Front;
 use pure_grammar::TokenKind;
 
 /// How many bytes an identifier may have.
-const LONGEST: usize = 64;
+pub(crate) const LONGEST: usize = 64;
 
 /// The words that the grammar of theories reserves.
 const KEYWORDS: [&[u8]; 21] = [
@@ -37,7 +37,7 @@ const KEYWORDS: [&[u8]; 21] = [
 ];
 
 /// Whether the text is a keyword.
-fn is_keyword(text: &[u8]) -> bool
+pub(crate) fn is_keyword(text: &[u8]) -> bool
     ensures { result ≡ is_keyword text.now }
 {
     KEYWORDS.contains(&text)

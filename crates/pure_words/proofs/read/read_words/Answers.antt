@@ -1,0 +1,13 @@
+use Rattle.std.proofs.Common.{sym}
+use Rattle.pure_words.proofs.Readings.{job_spelled, none_spelled}
+use Rattle.pure_words.proofs.read.read_words.Goals as goal
+
+pub returns-in-Ok-Some-clause-ok : goal.returns-in-Ok-Some-clause-ok
+returns-in-Ok-Some-clause-ok c =
+    let read = rw c.in-Ok-Some.field-0-is at c.in-Ok-Some.ensures in
+    job_spelled c.args.words.now c.in-Ok-Some.job (sym read)
+
+pub returns-in-Ok-None-clause-usage : goal.returns-in-Ok-None-clause-usage
+returns-in-Ok-None-clause-usage c =
+    let read = rw c.in-Ok-None.field-0-is at c.in-Ok-None.ensures in
+    λ _ job spelled. none_spelled c.args.words.now (sym read) job spelled

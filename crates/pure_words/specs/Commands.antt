@@ -1,0 +1,67 @@
+-- The subcommands: the options, flags and arguments of each, and the job that they give.
+use Rattle.std.specs.Prelude.{ℕ, ◌*◌, Bool, true, false, ◌&&◌, List, [], ◌∷◌, Option, Some, None, nat_le, codes, if◌then◌else◌}
+use Rattle.pure_grammar.specs.Theories.Lexeme.{same}
+use Rattle.pure_words.specs.Values.{comma, number_of, within, parts, cancels_in}
+use Rattle.pure_words.specs.declared.job.CancelWord.{CancelWord}
+use Rattle.pure_words.specs.declared.job.Job.{Job}
+use Rattle.pure_words.specs.declared.job.Job.TheVariants.{Check, Generate}
+use Rattle.pure_words.specs.declared.given.Given.{Given}
+use Rattle.pure_words.specs.declared.command.Size.{Size}
+
+abbrev pub is_none : List (List ℕ) → Bool
+is_none [] = true
+is_none (value ∷ values) = false
+
+-- `-j`, `--jobs`: 1 to 64, at most once, and 1 where it isn't given
+abbrev pub workers_of : List (List ℕ) → Option ℕ
+workers_of [] = Some 1
+workers_of (value ∷ []) = within 1 64 (number_of value)
+workers_of _ = None
+
+-- `--fail-fast`: whether it is given, at most once
+abbrev pub fail_fast_of : List (List ℕ) → Option Bool
+fail_fast_of [] = Some false
+fail_fast_of (flag ∷ []) = Some true
+fail_fast_of _ = None
+
+-- `--cancel`: a list of cancellations joined by commas, at most once, and no cancellations where it isn't given
+abbrev pub cancels_of : List (List ℕ) → Option (List CancelWord)
+cancels_of [] = Some []
+cancels_of (value ∷ []) = cancels_in (parts comma value)
+cancels_of _ = None
+
+abbrev pub sized : Option ℕ → Option ℕ → Option ℕ → Option Size
+sized (Some start) (Some theories) (Some lemmas) =
+    if nat_le (theories * lemmas) 4096 then Some (record { start = start; theories = theories; lemmas = lemmas }) else None
+sized _ _ _ = None
+
+-- START, THEORIES and LEMMAS, where THEORIES times LEMMAS is at most 4,096
+abbrev pub size_of : List (List ℕ) → Option Size
+size_of (start ∷ theories ∷ lemmas ∷ []) =
+    sized (within 0 65536 (number_of start)) (within 1 64 (number_of theories)) (within 1 512 (number_of lemmas))
+size_of _ = None
+
+abbrev pub checked : Option ℕ → Option Bool → Option (List CancelWord) → Option Job
+checked (Some workers) (Some fail_fast) (Some cancels) = Some (Check workers fail_fast cancels)
+checked _ _ _ = None
+
+abbrev pub generated : Option ℕ → Option Size → Option Job
+generated (Some workers) (Some size) = Some (Generate workers size.start size.theories size.lemmas)
+generated _ _ = None
+
+-- `check`: --jobs, --fail-fast and --cancel, and no arguments
+abbrev pub check_of : Given → Option Job
+check_of g =
+    if is_none g.arguments then checked (workers_of g.jobs) (fail_fast_of g.fail_fast) (cancels_of g.cancels) else None
+
+-- `generate`: --jobs, and three arguments
+abbrev pub generate_of : Given → Option Job
+generate_of g =
+    if is_none g.cancels && is_none g.fail_fast then generated (workers_of g.jobs) (size_of g.arguments) else None
+
+-- The job of the subcommand with this name, where what is given is right for it.
+unfoldable pub job_of : List ℕ → Given → Option Job
+job_of name g =
+    if same name (codes "check") then check_of g
+    else (if same name (codes "generate") then generate_of g
+    else None)

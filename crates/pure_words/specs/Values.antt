@@ -1,0 +1,41 @@
+-- What the values of options and arguments mean.
+use Rattle.std.specs.Prelude.{ℕ, ◌==◌, ◌&&◌, List, [], ◌∷◌, Option, Some, None, nat_le, option_map, if◌then◌else◌}
+use Rattle.std.specs.List.{slice_split}
+use Rattle.pure_grammar.specs.Tokens.Token.{is_number}
+use Rattle.pure_grammar.specs.Theories.Lexeme.{value_behind}
+use Rattle.pure_lex.specs.Identifier.{is_identifier}
+use Rattle.pure_words.specs.declared.job.CancelWord.{CancelWord}
+
+abbrev pub comma : ℕ
+comma = 44
+
+abbrev pub colon : ℕ
+colon = 58
+
+-- one to nine digits, of which the first may be zeros
+abbrev pub number_of : List ℕ → Option ℕ
+number_of text = if is_number text then Some (value_behind 0 text) else None
+
+-- the number, where it is at least `low` and at most `high`
+abbrev pub within : ℕ → ℕ → Option ℕ → Option ℕ
+within low high None = None
+within low high (Some n) = if nat_le low n && nat_le n high then Some n else None
+
+-- the texts between the bytes of this value
+abbrev pub parts : ℕ → List ℕ → List (List ℕ)
+parts separator text = slice_split (λ b. b == separator) text
+
+-- A cancellation `G:N`, by the texts between its colons: an identifier and a number.
+abbrev pub cancel_of : List (List ℕ) → Option CancelWord
+cancel_of (group ∷ after ∷ []) =
+    if is_identifier group then option_map (λ n. record { group = group; after = n }) (number_of after) else None
+cancel_of _ = None
+
+abbrev pub with_cancel : Option CancelWord → Option (List CancelWord) → Option (List CancelWord)
+with_cancel (Some cancel) (Some cancels) = Some (cancel ∷ cancels)
+with_cancel _ _ = None
+
+-- each text is a cancellation
+abbrev pub cancels_in : List (List ℕ) → Option (List CancelWord)
+cancels_in [] = Some []
+cancels_in (text ∷ texts) = with_cancel (cancel_of (parts colon text)) (cancels_in texts)

@@ -1,0 +1,141 @@
+//! The subcommands.
+ghost use Rattle.std.specs.Prelude.{◌≡◌, IfOk, option_map};
+ghost use Rattle.pure_words.specs.Commands as spec;
+
+use crate::cancel;
+use crate::given::Given;
+use crate::job::{CancelWord, Cancels, Job};
+use crate::number::number_within;
+use pure_text::Text;
+use std::alloc::{AllocError, Global};
+
+/// How many lemmas a generated library may have.
+const MOST_LEMMAS: u32 = 4096;
+
+/// The numbers of a generated library.
+#[derive(Clone, Copy)]
+pub(crate) struct Size {
+    start: u32,
+    theories: u32,
+    lemmas: u32,
+}
+
+/// How many workers the values of `--jobs` ask for.
+fn workers(values: &[Text]) -> Option<u32>
+    ensures { result ≡ spec.workers_of values.now }
+{
+    match values.len() {
+        0 => Some(1),
+        1 => number_within(1, 64, values[0].bytes()),
+        _ => None,
+    }
+}
+
+/// Whether `--fail-fast` is given, or None where it is given twice.
+fn fail_fast(flags: &[Text]) -> Option<bool>
+    ensures { result ≡ spec.fail_fast_of flags.now }
+{
+    match flags.len() {
+        0 => Some(false),
+        1 => Some(true),
+        _ => None,
+    }
+}
+
+/// The cancellations that the values of `--cancel` list.
+fn cancels(alloc: Global, values: &[Text]) -> Result<Option<Cancels>, AllocError>
+    ensures { IfOk result (λ found. found ≡ spec.cancels_of values.now) }
+{
+    match values.len() {
+        0 => Ok(Some(Cancels::make(Vec::new(alloc)))),
+        1 => match cancel::cancels(alloc, values[0].bytes())? {
+            Some(list) => Ok(Some(Cancels::make(list))),
+            None => Ok(None),
+        },
+        _ => Ok(None),
+    }
+}
+
+/// The numbers that the arguments of `generate` are.
+fn size_in(arguments: &[Text]) -> Option<Size>
+    ensures { result ≡ spec.size_of arguments.now }
+{
+    if arguments.len() != 3 {
+        return None;
+    }
+    let Some(start) = number_within(0, 65536, arguments[0].bytes()) else {
+        return None;
+    };
+    let Some(theories) = number_within(1, 64, arguments[1].bytes()) else {
+        return None;
+    };
+    let Some(lemmas) = number_within(1, 512, arguments[2].bytes()) else {
+        return None;
+    };
+    if theories * lemmas > MOST_LEMMAS {
+        return None;
+    }
+    Some(Size {
+        start,
+        theories,
+        lemmas,
+    })
+}
+
+/// The job of `check`.
+fn check(alloc: Global, given: &Given) -> Result<Option<Job>, AllocError>
+    ensures { IfOk result (λ found. found ≡ spec.check_of given.now) }
+{
+    if !given.arguments.list().is_empty() {
+        return Ok(None);
+    }
+    let Some(workers) = workers(given.jobs.list()) else {
+        return Ok(None);
+    };
+    let Some(fail_fast) = fail_fast(given.fail_fast.list()) else {
+        return Ok(None);
+    };
+    match cancels(alloc, given.cancels.list())? {
+        Some(cancels) => Ok(Some(Job::Check {
+            workers,
+            fail_fast,
+            cancels,
+        })),
+        None => Ok(None),
+    }
+}
+
+/// The job of `generate`.
+fn generate(given: &Given) -> Option<Job>
+    ensures { result ≡ spec.generate_of given.now }
+{
+    if !given.cancels.list().is_empty() || !given.fail_fast.list().is_empty() {
+        return None;
+    }
+    let Some(workers) = workers(given.jobs.list()) else {
+        return None;
+    };
+    let Some(size) = size_in(given.arguments.list()) else {
+        return None;
+    };
+    Some(Job::Generate {
+        workers,
+        start: size.start,
+        theories: size.theories,
+        lemmas: size.lemmas,
+    })
+}
+
+/// The job of the subcommand with this name, or None where there is none or what is given isn't right for it.
+#[tactic(auto, unfolding(crate::specs::Commands::job_of))]
+pub(crate) fn job(alloc: Global, name: &[u8], given: &Given) -> Result<Option<Job>, AllocError>
+    ensures { IfOk result (λ found. found ≡ spec.job_of name.now given.now) }
+{
+    if name == b"check".as_slice() {
+        return check(alloc, given);
+    }
+    if name == b"generate".as_slice() {
+        return Ok(generate(given));
+    }
+    Ok(None)
+}

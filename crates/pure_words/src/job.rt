@@ -1,0 +1,72 @@
+//! What the program is asked to do.
+ghost use Rattle.std.specs.Prelude.{◌≡◌};
+
+use pure_text::Text;
+use std::marker::Model;
+
+/// A group of proofs, by its name, which is cancelled when `after` proofs have been kept.
+#[derive(Debug, Drop)]
+pub struct CancelWord {
+    pub group: Text,
+    pub after: u32,
+}
+
+/// Cancellations in the order in which they stand among the words. Contracts see the list.
+#[derive(Debug, Drop)]
+pub struct Cancels {
+    list: Vec<CancelWord>,
+}
+
+impl Model for Cancels {
+    ghost use Rattle.std.specs.Prelude.{List};
+    ghost use Rattle.std.specs.Coded.{coded_list};
+    ghost use Rattle.pure_words.specs.declared.job.CancelWord.{CancelWord};
+    ghost use Rattle.pure_words.specs.Codes.{coded_cancel};
+
+    ghost Value = { List CancelWord };
+
+    ghost coded = { coded_list coded_cancel };
+
+    ghost view = { λ c. c.list.items };
+}
+
+impl Cancels {
+    /// These cancellations. Takes no memory.
+    pub fn make(list: Vec<CancelWord>) -> Cancels
+        ensures { result ≡ list.items }
+    {
+        Cancels { list }
+    }
+
+    /// The cancellations.
+    pub fn list(&self) -> &[CancelWord]
+        ensures { result.now ≡ self.now }
+    {
+        self.list.as_slice()
+    }
+
+    /// The list itself. Takes no memory.
+    pub fn into_list(self) -> Vec<CancelWord>
+        ensures { result.items ≡ self }
+    {
+        self.list
+    }
+}
+
+/// A command with the values of its options and arguments.
+#[derive(Debug, Drop)]
+pub enum Job {
+    /// Check the theories of the directory.
+    Check {
+        workers: u32,
+        fail_fast: bool,
+        cancels: Cancels,
+    },
+    /// Check a library that is made from a number.
+    Generate {
+        workers: u32,
+        start: u32,
+        theories: u32,
+        lemmas: u32,
+    },
+}

@@ -1,0 +1,13 @@
+//! The command line's words, read as a job.
+#![tactic(auto)]
+
+mod cancel;
+mod command;
+mod given;
+mod job;
+pub mod laws;
+mod number;
+mod read;
+
+pub use job::{CancelWord, Cancels, Job};
+pub use read::{WordsFault, read_words};
