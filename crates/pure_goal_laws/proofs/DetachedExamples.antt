@@ -46,8 +46,8 @@ detachment-derivable = chain_is_derivable pure_content (imp (Var 10 0 prop) (Var
 detachment-used : (new : Theorem) → IsRuleFor pure_content new detachment 1 (imp any_a any_b ∷ any_a ∷ []) any_b
 detachment-used new = record {
   used = record { no_hyps = refl; no_pairs = refl; rests = λ l m. absurd m };
-  normal = detachment.prop;
-  is_normal = unchanged [] detachment.prop (imp-proposition (imp (Var 10 0 prop) (Var 11 0 prop)) (imp (Var 10 0 prop) (Var 11 0 prop)) (implication-proposition 0) (implication-proposition 0));
+  form = detachment.prop;
+  is_form = unchanged [] detachment.prop (imp-proposition (imp (Var 10 0 prop) (Var 11 0 prop)) (imp (Var 10 0 prop) (Var 11 0 prop)) (implication-proposition 0) (implication-proposition 0));
   stripped = supposed (imp any_a any_b) (imp any_a any_b) (any_a ∷ []) any_b (supposed any_a any_b [] any_b (bare any_b));
 }
 

@@ -126,8 +126,8 @@ rule_proof =
     let fact : Theorem = record { hyps = []; pairs = []; prop = everywhere; rests = [] } in
     let is_rule : IsRuleFor pure_content goal fact 1 (any_a ∷ []) any_a = record {
       used = record { no_hyps = refl; no_pairs = refl; rests = λ l m. m };
-      normal = everywhere;
-      is_normal = unchanged [] everywhere everywhere-proposition;
+      form = everywhere;
+      is_form = unchanged [] everywhere everywhere-proposition;
       stripped = everywhere_stripped;
     } in
     let step = step_for everywhere everywhere [] (left_over ∷ []) (everywhere ∷ []) terms identity_for_f refl (left_over-equated, tt) in

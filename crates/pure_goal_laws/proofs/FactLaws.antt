@@ -40,8 +40,8 @@ module _ (Q : Content) (q : IsContent Q) (above : IsBelow pure_content Q) where
   -- The rule of a derivable fact is proved.
   rule-proved : (new fact : Theorem) (by : ℕ) (As : List Term) (B : Term) → IsRuleFor Q new fact by As B → IsDerivable Q fact → Proves Q [] new.rests (chain As B)
   rule-proved new fact by As B is h =
-      let normal = equated_proposition_is_proved Q q above [] new.rests [] tt fact.prop is.normal is.is_normal (fact-proved new fact is.used h) in
-      stripped_rule Q q above [] new.rests (term_instance (raised_typs by) (raised_terms by) is.normal) As B is.stripped (raised-proved by new.rests is.normal normal)
+      let form = equated_proposition_is_proved Q q above [] new.rests [] tt fact.prop is.form is.is_form (fact-proved new fact is.used h) in
+      stripped_rule Q q above [] new.rests (term_instance (raised_typs by) (raised_terms by) is.form) As B is.stripped (raised-proved by new.rests is.form form)
 
   pub conversion_step : (goal fact : Theorem) (A B S : Term) (others : List Term) (G : Term) (rests : List Label) → goal.hyps ≡ [] → goal.prop ≡ chain (A ∷ others) G → ((l : Label) → IsIn l goal.rests → IsIn l rests)
       → AreEquated Q.declarations goal.pairs [] prop B S → IsFactFor (record goal { prop = chain (S ∷ others) G; rests = rests }) fact → fact.prop ≡ eq prop A B → IsDerivable Q goal → IsDerivable Q fact
