@@ -15,12 +15,12 @@ pub fn assumption_proof()
     ensures { AssumptionProof }
 {}
 
-/// A proof in which a rule is stripped, lifted over a parameter and unified.
+/// A proof in which a rule is stripped, lifted over a parameter and unified, and leaves its premise.
 pub fn rule_proof()
     ensures { RuleProof }
 {}
 
-/// A proof by elimination.
+/// A proof by elimination of a hypothesis that stands before a parameter.
 pub fn elimination_proof()
     ensures { EliminationProof }
 {}
