@@ -68,6 +68,6 @@ IsEliminated Q new typs terms before H after P =
     let ps = before ++ Hypothesis H ∷ after in
     AreMatched Q new typs terms ps (lifted_behind ps P) (lift_term (length (parameters after)) 0 H)
 
--- the lifted premises of a rule but for the first, and the instance of the subgoal with the conclusion C behind the prefix, with the rule's conclusion B, lifted, as its last hypothesis
+-- the lifted premises of a rule but for the first, and the instance of the conclusion C behind the prefix, which has the rule's conclusion B, lifted, as its last hypothesis
 abbrev pub destructed_premises : (typs : Typ → Typ) → (terms : Term → Term) → List Item → (C : Term) → List Term → (B : Term) → List Term
 destructed_premises typs terms ps C As B = lifted_premises typs terms ps As ++ term_instance typs terms (behind (ps ++ Hypothesis (lifted_behind ps B) ∷ []) C) ∷ []
