@@ -93,11 +93,11 @@ module _ (Q : Content) (q : IsContent Q) (above : IsBelow pure_content Q) (rests
           all-with_hypothesis more As (λ A m. inr (in-append_left A (map at_others As) [] m)) others-propositions.1 whole-propositions.1,
         )))
 
-    -- the subgoal with the rule's conclusion in place of the hypothesis
+    -- the subgoal behind the prefix without the hypothesis, with the rule's conclusion as its last hypothesis
     abbrev pub destructed : Term
     destructed = behind (others ++ Hypothesis (lifted_behind others B) ∷ []) C
 
-    -- The rule, from its first premise behind the whole prefix, the others behind the prefix without the hypothesis, and the subgoal with the rule's conclusion in place of the hypothesis.
+    -- The rule, from its first premise behind the whole prefix, the others behind the prefix without the hypothesis, and the subgoal behind it with the rule's conclusion as its last hypothesis.
     pub replaced : Proves Q [] rests (chain (map at_others As ++ destructed ∷ []) (imp (at_whole P) (behind whole C)))
     replaced =
         rw (chain-append (map at_others As) (destructed ∷ []) (imp (at_whole P) (behind whole C)))

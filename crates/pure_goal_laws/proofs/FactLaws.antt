@@ -28,7 +28,8 @@ module _ (Q : Content) (q : IsContent Q) (above : IsBelow pure_content Q) where
   proved-alone : (hyps : List Term) (pairs : List Pair) (A : Term) (rests : List Label) → hyps ≡ [] → pairs ≡ [] → IsDerivable Q (record { hyps = hyps; pairs = pairs; prop = A; rests = rests }) → Proves Q [] rests A
   proved-alone hyps pairs A rests no_hyps no_pairs h = (derivable_is_proves Q [] rests A).0 (rw (no_hyps, no_pairs) at h)
 
-  fact-proved : (new fact : Theorem) → IsFactFor new fact → IsDerivable Q fact → Proves Q [] new.rests fact.prop
+  -- The proposition of a derivable fact is proved, on the promises of the new goal.
+  pub fact-proved : (new fact : Theorem) → IsFactFor new fact → IsDerivable Q fact → Proves Q [] new.rests fact.prop
   fact-proved new fact is h =
       weaker Q [] [] fact.rests new.rests fact.prop (λ A m. m) is.rests (proved-alone fact.hyps fact.pairs fact.prop fact.rests is.no_hyps is.no_pairs h)
 
@@ -38,10 +39,10 @@ module _ (Q : Content) (q : IsContent Q) (above : IsBelow pure_content Q) where
       (derivable_is_proves Q [] rests (term_instance (raised_typs by) (raised_terms by) A)).0 raised
 
   -- The rule of a derivable fact is proved.
-  rule-proved : (new fact : Theorem) (by : ℕ) (As : List Term) (B : Term) → IsRuleFor Q new fact by As B → IsDerivable Q fact → Proves Q [] new.rests (chain As B)
+  pub rule-proved : (new fact : Theorem) (by : ℕ) (As : List Term) (B : Term) → IsRuleFor Q new fact by As B → IsDerivable Q fact → Proves Q [] new.rests (chain As B)
   rule-proved new fact by As B is h =
-      let normal = equated_proposition_is_proved Q q above [] new.rests [] tt fact.prop is.normal is.is_normal (fact-proved new fact is.used h) in
-      stripped_rule Q q above [] new.rests (term_instance (raised_typs by) (raised_terms by) is.normal) As B is.stripped (raised-proved by new.rests is.normal normal)
+      let form = equated_proposition_is_proved Q q above [] new.rests [] tt fact.prop is.form is.is_form (fact-proved new fact is.used h) in
+      stripped_rule Q q above [] new.rests (term_instance (raised_typs by) (raised_terms by) is.form) As B is.stripped (raised-proved by new.rests is.form form)
 
   pub conversion_step : (goal fact : Theorem) (A B S : Term) (others : List Term) (G : Term) (rests : List Label) → goal.hyps ≡ [] → goal.prop ≡ chain (A ∷ others) G → ((l : Label) → IsIn l goal.rests → IsIn l rests)
       → AreEquated Q.declarations goal.pairs [] prop B S → IsFactFor (record goal { prop = chain (S ∷ others) G; rests = rests }) fact → fact.prop ≡ eq prop A B → IsDerivable Q goal → IsDerivable Q fact

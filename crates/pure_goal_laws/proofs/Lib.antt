@@ -12,3 +12,4 @@ pub mod PairLaws
 pub mod ExampleLaws
 pub mod DetachedExamples
 pub mod PairExamples
+pub mod MovedExamples

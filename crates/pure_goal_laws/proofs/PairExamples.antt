@@ -20,7 +20,8 @@ use Rattle.pure_goal_laws.specs.Examples.Definitions.{a, b, any_b, any_f}
 use Rattle.pure_goal_laws.specs.Examples.Proofs.{goal_for, itself}
 use Rattle.pure_goal_laws.specs.Examples.Pairs.{with_trivial_pair, DroppedExample, with_flexible_pair, without_pair, SmashedExample, flexible, left_open, FlexibleProof}
 use Rattle.pure_goal_laws.specs.Prefix.{Hypothesis}
-use Rattle.pure_goal_laws.specs.GoalStep.{IsGoalStep}
+use Rattle.pure_goal_laws.specs.GoalStep.{IsGoalStep, AreMatched}
+use Rattle.pure_goal_laws.proofs.JustificationLaws.{by_assumption}
 use Rattle.pure_goal_laws.proofs.FactLaws.{assumption_step}
 use Rattle.pure_goal_laws.proofs.StateLaws.{end_is_derivable}
 use Rattle.pure_goal_laws.proofs.PairLaws.{dropped_is_derivable, smashed_is_derivable}
@@ -41,7 +42,7 @@ dropped_example =
 function-certified : IsCertifiedOf pure_content any_f (arrow prop prop)
 function-certified = certified_of pure_content any_f (arrow prop prop) (arrow-certified pure_content pure-below_itself prop prop prop_typ prop_typ) refl
 
-applied-proposition : (A : Term) → IsProposition pure_content A → IsProposition pure_content (App any_f A)
+pub applied-proposition : (A : Term) → IsProposition pure_content A → IsProposition pure_content (App any_f A)
 applied-proposition A h = certified_of pure_content (App any_f A) prop (function-certified.certified.parts, h.certified.parts) (prop, refl, h.typed)
 
 -- `%x. ?B`
@@ -123,10 +124,13 @@ flexible_proof =
       new_prop = refl;
       rests = λ l m. m;
     } in
-    let last = assumption_step pure_content pure_is_content pure-below_itself (goal_for flexible (flexible ∷ [])) left_open [] (protect flexible) (λ T. T) (λ t. t) (Hypothesis (App any_f a) ∷ []) (App any_f a) (App any_f b) step (inl refl)
-    (prop, matched) (started flexible flexible-proposition) in
+    let ps = Hypothesis (App any_f a) ∷ [] in
+    let is : AreMatched pure_content left_open (λ T. T) (λ t. t) ps (App any_f a) (App any_f b) = (prop, matched) in
+    let last = assumption_step pure_content pure_is_content pure-below_itself (goal_for flexible (flexible ∷ [])) left_open [] (protect flexible) (λ T. T) (λ t. t) ps (App any_f a) (App any_f b) step (inl refl) is (started flexible flexible-proposition) in
     let proved = end_is_derivable pure_content pure_is_content pure-below_itself left_open flexible refl last in
     record {
+      matched = is;
+      justified = by_assumption pure_content pure_is_content pure-below_itself left_open (λ T. T) (λ t. t) (identity_respects pure_content) ps (App any_f b) flexible-proposition (App any_f a) (inl refl) is;
       assumption = step;
       last = last;
       proved = proved;

@@ -51,12 +51,12 @@ pub record IsFactFor (new fact : Theorem) : Type 0 where
   pub no_pairs : fact.pairs ≡ []
   pub rests : (l : Label) → IsIn l fact.rests → IsIn l new.rests
 
--- It is used as the rule from the premises to the conclusion: a normal form of its proposition, which is equated with it, with the indexes raised by a number and stripped of its front.
+-- It is used as the rule from the premises to the conclusion: any proposition that is equated with its own, as its long form is, with the indexes raised by a number, and stripped of its front as far as one likes, with any variables.
 pub record IsRuleFor (Q : Content) (new fact : Theorem) (by : ℕ) (premises : List Term) (conclusion : Term) : Type 0 where
   pub used : IsFactFor new fact
-  pub normal : Term
-  pub is_normal : AreEquated Q.declarations [] [] prop fact.prop normal
-  pub stripped : IsStripped (term_instance (raised_typs by) (raised_terms by) normal) premises conclusion
+  pub form : Term
+  pub is_form : AreEquated Q.declarations [] [] prop fact.prop form
+  pub stripped : IsStripped (term_instance (raised_typs by) (raised_terms by) form) premises conclusion
 
 -- the instances of a rule's premises, which are lifted over a prefix and stand behind it
 abbrev pub lifted_premises : (typs : Typ → Typ) → (terms : Term → Term) → List Item → List Term → List Term
@@ -68,6 +68,6 @@ IsEliminated Q new typs terms before H after P =
     let ps = before ++ Hypothesis H ∷ after in
     AreMatched Q new typs terms ps (lifted_behind ps P) (lift_term (length (parameters after)) 0 H)
 
--- the lifted premises of a rule but for the first, and the instance of a subgoal C that has the rule's conclusion B, lifted, as its last hypothesis
+-- the lifted premises of a rule but for the first, and the instance of the conclusion C behind the prefix, which has the rule's conclusion B, lifted, as its last hypothesis
 abbrev pub destructed_premises : (typs : Typ → Typ) → (terms : Term → Term) → List Item → (C : Term) → List Term → (B : Term) → List Term
 destructed_premises typs terms ps C As B = lifted_premises typs terms ps As ++ term_instance typs terms (behind (ps ++ Hypothesis (lifted_behind ps B) ∷ []) C) ∷ []

@@ -6,7 +6,7 @@ use Rattle.pure_definitions.specs.Terms.Bounds.{subst_bound}
 use Rattle.pure_logic.specs.Connectives.{all, imp}
 use Rattle.pure_goal_laws.specs.Prefix.{Item, parameters}
 
--- A rule is read as premises and a conclusion: its front is stripped, from the left. A schematic variable of its type is put for each quantified variable, and each hypothesis becomes a premise.
+-- A rule is read as premises and a conclusion: its front is stripped, from the left, as far as one likes, with any variables. A schematic variable of its type is put for each quantified variable, and each hypothesis becomes a premise.
 pub data IsStripped : Term → List Term → Term → Type 0 where
   bare : (C : Term) → IsStripped C [] C
   quantified : (T : Typ) (B : Term) (x i : ℕ) (As : List Term) (C : Term) → IsStripped (subst_bound B (Var x i T)) As C → IsStripped (all T B) As C

@@ -1,7 +1,7 @@
 //! What goals mean, by worked examples, each carried by the contract of a function that does nothing.
 ghost use Rattle.pure_goal_laws.specs.Examples.Definitions.{PrefixExample, LiftedExample, StrippedExample};
 ghost use Rattle.pure_goal_laws.specs.Examples.Proofs.{AssumptionProof, RuleProof, EliminationProof, DestructionProof, ConversionProof};
-ghost use Rattle.pure_goal_laws.specs.Examples.Pairs.{DroppedExample, SmashedExample, FlexibleProof};
+ghost use Rattle.pure_goal_laws.specs.Examples.Pairs.{DroppedExample, SmashedExample, FlexibleProof, MovedExample};
 
 /// A prefix with parameters and hypotheses, a rule lifted over it, and a rule stripped of its front.
 pub fn prefix_example()
@@ -15,12 +15,12 @@ pub fn assumption_proof()
     ensures { AssumptionProof }
 {}
 
-/// A proof in which a rule is stripped, lifted over a parameter and unified.
+/// A proof in which a rule is stripped, lifted over a parameter and unified, and leaves its premise.
 pub fn rule_proof()
     ensures { RuleProof }
 {}
 
-/// A proof by elimination.
+/// A proof by elimination of a hypothesis that stands before a parameter.
 pub fn elimination_proof()
     ensures { EliminationProof }
 {}
@@ -40,4 +40,9 @@ pub fn pair_example()
     ensures dropped { DroppedExample }
     ensures smashed { SmashedExample }
     ensures left_open { FlexibleProof }
+{}
+
+/// A step from a goal with a pair and two subgoals, by a fact that rests on a promise, which moves the pair and the other subgoal.
+pub fn moved_example()
+    ensures { MovedExample }
 {}

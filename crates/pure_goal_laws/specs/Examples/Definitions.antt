@@ -6,7 +6,7 @@ use Rattle.pure_logic.specs.Connectives.{all, imp}
 use Rattle.pure_goal_laws.specs.Prefix.{Item, Parameter, Hypothesis, behind, below_parameters, hypotheses}
 use Rattle.pure_goal_laws.specs.Lifting.{IsStripped, lifted_behind}
 
--- fixed and schematic variables of type prop, and one for functions of propositions
+-- fixed and schematic variables of type prop, and two for functions of propositions
 abbrev pub a : Term
 a = Free 10 prop
 
@@ -21,6 +21,9 @@ any_b = Var 11 1 prop
 
 abbrev pub any_f : Term
 any_f = Var 10 1 (arrow prop prop)
+
+abbrev pub any_g : Term
+any_g = Var 11 1 (arrow prop prop)
 
 -- the prefix of `!!x :: prop. x ==> (!!f :: prop => prop. f x ==> C)`
 abbrev pub prefix : List Item

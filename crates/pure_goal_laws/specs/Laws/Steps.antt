@@ -39,7 +39,7 @@ ByElimination = ForSteps (λ Q new typs terms. (before : List Item) (H : Term) (
     → (P : Term) (As : List Term) (B : Term) → Proves Q [] new.rests (chain (P ∷ As) B) → IsEliminated Q new typs terms before H after P → AreMatched Q new typs terms ps (lifted_behind ps B) C
     → IsJustified Q new (behind ps C) (lifted_premises typs terms (before ++ after) As) typs terms)
 
--- By destruction: where the first premise of a rule is matched with a hypothesis, the others justify the subgoal together with the subgoal that has the rule's conclusion in place of that hypothesis.
+-- By destruction: where the first premise of a rule is matched with a hypothesis, the others, behind the prefix without that hypothesis, justify the subgoal together with its own conclusion behind that prefix, which has the rule's conclusion as its last hypothesis.
 abbrev pub ByDestruction : Type 0
 ByDestruction = ForSteps (λ Q new typs terms. (before : List Item) (H : Term) (after : List Item) (C : Term) → IsProposition Q (behind (before ++ Hypothesis H ∷ after) C)
     → (P : Term) (As : List Term) (B : Term) → Proves Q [] new.rests (chain (P ∷ As) B) → IsEliminated Q new typs terms before H after P
