@@ -8,7 +8,7 @@ use Rattle.std.proofs.lemmas.Slice.Eq.{bytes_eq-Decides}
 use Rattle.pure_grammar.specs.Tokens.Bytes.{head_is}
 use Rattle.pure_grammar.specs.Theories.Lexeme.{same}
 use Rattle.pure_words.specs.Commands.{job_of}
-use Rattle.pure_words.specs.Words.{Use, Apart, Joined, ShortApart, ShortJoined, FailFast, Argument, is_use, words_of_use, words_of, dash, long_name, no_given, with_value, with_fail_fast, with_argument, with_use, given_by, IsCommand, Spells, OneReading}
+use Rattle.pure_words.specs.Words.{Item, Apart, Joined, ShortApart, ShortJoined, FailFast, Argument, is_well_formed, words_of_item, words_of, dash, long_name, no_given, with_value, with_fail_fast, with_argument, with_item, given_by, IsCommand, IsJob, OneReading}
 use Rattle.pure_words.specs.Reader.{Place, Refused, Idle, Waits, begins, met, met_joined, run, given_in, job_in}
 use Rattle.pure_words.specs.declared.job.Job.{Job}
 use Rattle.pure_words.specs.declared.given.Given.{Given}
@@ -27,20 +27,20 @@ unfolding met met_joined
 argument_met g [] e = refl
 argument_met g (b ∷ bs) e = rw e refl
 
-used : (uses : List Use) (g : Given) → list_all is_use uses ≡ true → run (Idle g) (words_of uses) ≡ Idle (given_by g uses)
+used : (items : List Item) (g : Given) → list_all is_well_formed items ≡ true → run (Idle g) (words_of items) ≡ Idle (given_by g items)
 unfolding met met_joined
 used [] g all = refl
-used (Apart Jobs value ∷ uses) g all = used uses (with_value Jobs value g) all
-used (Apart Cancel value ∷ uses) g all = used uses (with_value Cancel value g) all
-used (Joined Jobs value ∷ uses) g all = used uses (with_value Jobs value g) all
-used (Joined Cancel value ∷ uses) g all = used uses (with_value Cancel value g) all
-used (ShortApart value ∷ uses) g all = used uses (with_value Jobs value g) all
-used (ShortJoined [] ∷ uses) g all = absurd (false≢true all)
-used (ShortJoined (b ∷ bs) ∷ uses) g all = used uses (with_value Jobs (b ∷ bs) g) all
-used (FailFast ∷ uses) g all = used uses (with_fail_fast (codes "--fail-fast") g) all
-used (Argument value ∷ uses) g all =
-    let parts = and_parts (not (head_is (λ b. b == dash) value)) (list_all is_use uses) all in
-    ap (λ p. run p (words_of uses)) (argument_met g value (not_true (head_is (λ b. b == dash) value) parts.0)) ∙ used uses (with_argument value g) parts.1
+used (Apart Jobs value ∷ items) g all = used items (with_value Jobs value g) all
+used (Apart Cancel value ∷ items) g all = used items (with_value Cancel value g) all
+used (Joined Jobs value ∷ items) g all = used items (with_value Jobs value g) all
+used (Joined Cancel value ∷ items) g all = used items (with_value Cancel value g) all
+used (ShortApart value ∷ items) g all = used items (with_value Jobs value g) all
+used (ShortJoined [] ∷ items) g all = absurd (false≢true all)
+used (ShortJoined (b ∷ bs) ∷ items) g all = used items (with_value Jobs (b ∷ bs) g) all
+used (FailFast ∷ items) g all = used items (with_fail_fast (codes "--fail-fast") g) all
+used (Argument value ∷ items) g all =
+    let parts = and_parts (not (head_is (λ b. b == dash) value)) (list_all is_well_formed items) all in
+    ap (λ p. run p (words_of items)) (argument_met g value (not_true (head_is (λ b. b == dash) value) parts.0)) ∙ used items (with_argument value g) parts.1
 
 -- ---- what is read is spelled
 
@@ -53,17 +53,17 @@ same_is word text e = (bytes_eq-Decides word text).0 e
 
 -- the word and this value are a use of the option
 record IsTwo (g : Given) (key : Key) (word value : List ℕ) : Type 0 where
-  pub use' : Use
-  pub words : words_of_use use' ≡ word ∷ value ∷ []
-  pub passes : is_use use' ≡ true
-  pub gives : with_use use' g ≡ with_value key value g
+  pub item : Item
+  pub words : words_of_item item ≡ word ∷ value ∷ []
+  pub passes : is_well_formed item ≡ true
+  pub gives : with_item item g ≡ with_value key value g
 
 -- the word is a use
 record IsOne (g : Given) (word : List ℕ) (next : Given) : Type 0 where
-  pub use' : Use
-  pub words : words_of_use use' ≡ word ∷ []
-  pub passes : is_use use' ≡ true
-  pub gives : with_use use' g ≡ next
+  pub item : Item
+  pub words : words_of_item item ≡ word ∷ []
+  pub passes : is_well_formed item ≡ true
+  pub gives : with_item item g ≡ next
 
 -- what a word that was met is
 data IsMet (g : Given) (word : List ℕ) (place : Place) : Type 0 where
@@ -77,7 +77,7 @@ pick g word false p q yes' no' = no' refl
 
 long_two : (g : Given) (key : Key) (word value : List ℕ) → word ≡ long_name key → IsTwo g key word value
 long_two g key word value is = record {
-  use' = Apart key value;
+  item = Apart key value;
   words = ap (λ w. w ∷ value ∷ []) (sym is);
   passes = refl;
   gives = refl;
@@ -85,7 +85,7 @@ long_two g key word value is = record {
 
 short_two : (g : Given) (word value : List ℕ) → word ≡ codes "-j" → IsTwo g Jobs word value
 short_two g word value is = record {
-  use' = ShortApart value;
+  item = ShortApart value;
   words = ap (λ w. w ∷ value ∷ []) (sym is);
   passes = refl;
   gives = refl;
@@ -93,7 +93,7 @@ short_two g word value is = record {
 
 joined_one : (g : Given) (key : Key) (word value : List ℕ) → word ≡ long_name key ++ 61 ∷ value → IsOne g word (with_value key value g)
 joined_one g key word value is = record {
-  use' = Joined key value;
+  item = Joined key value;
   words = ap (λ w. w ∷ []) (sym is);
   passes = refl;
   gives = refl;
@@ -103,7 +103,7 @@ joined_one g key word value is = record {
 short_one : (g : Given) (word value : List ℕ) → word ≡ codes "-j" ++ value → same word (codes "-j") ≡ false → IsOne g word (with_value Jobs value g)
 short_one g word [] is other = absurd (false≢true (sym other ∙ ap (λ w. same w (codes "-j")) is))
 short_one g word (b ∷ bs) is other = record {
-  use' = ShortJoined (b ∷ bs);
+  item = ShortJoined (b ∷ bs);
   words = ap (λ w. w ∷ []) (sym is);
   passes = refl;
   gives = refl;
@@ -120,7 +120,7 @@ joined_is g word other =
     (λ e. whole _ refl (short_one g word (drop 2 word) (begins_is (codes "-j") word e) other))
     (λ _. pick g word (head_is (λ b. b == dash) word) _ _
     (λ _. refused refl)
-    (λ e. whole _ refl (record { use' = Argument word; words = refl; passes = ap not e; gives = refl })))))
+    (λ e. whole _ refl (record { item = Argument word; words = refl; passes = ap not e; gives = refl })))))
 
 met_is : (g : Given) (word : List ℕ) → IsMet g word (met g word)
 unfolding met
@@ -133,19 +133,19 @@ met_is g word =
     (λ e. waits Cancel refl (λ value. long_two g Cancel word value (same_is word (codes "--cancel") e)))
     (λ _. pick g word (same word (codes "--fail-fast")) _ _
     (λ e. whole _ refl (record {
-      use' = FailFast;
+      item = FailFast;
       words = ap (λ w. w ∷ []) (sym (same_is word (codes "--fail-fast") e));
       passes = refl;
       gives = ap (λ w. with_fail_fast w g) (sym (same_is word (codes "--fail-fast") e));
     }))
     (λ _. joined_is g word other))))
 
--- the words are uses, which lead from what was given to this
-record AreUses (g : Given) (words : List (List ℕ)) (h : Given) : Type 0 where
-  pub uses : List Use
-  pub words_are : words ≡ words_of uses
-  pub passes : list_all is_use uses ≡ true
-  pub gives : given_by g uses ≡ h
+-- the words are items, which lead from what was given to this
+record AreItems (g : Given) (words : List (List ℕ)) (h : Given) : Type 0 where
+  pub items : List Item
+  pub words_are : words ≡ words_of items
+  pub passes : list_all is_well_formed items ≡ true
+  pub gives : given_by g items ≡ h
 
 is_idle : Place → Bool
 is_idle (Idle g) = true
@@ -171,27 +171,27 @@ idle_same : (g h : Given) → Idle g ≡ Idle h → g ≡ h
 unfolding given_or
 idle_same g h e = ap (given_or g) e
 
-one_before : (g next h : Given) (word : List ℕ) (words : List (List ℕ)) → IsOne g word next → AreUses next words h → AreUses g (word ∷ words) h
+one_before : (g next h : Given) (word : List ℕ) (words : List (List ℕ)) → IsOne g word next → AreItems next words h → AreItems g (word ∷ words) h
 one_before g next h word words one rest = record {
-  uses = one.use' ∷ rest.uses;
-  words_are = ap (λ ws. word ∷ ws) rest.words_are ∙ ap (λ ws. ws ++ words_of rest.uses) (sym one.words);
+  items = one.item ∷ rest.items;
+  words_are = ap (λ ws. word ∷ ws) rest.words_are ∙ ap (λ ws. ws ++ words_of rest.items) (sym one.words);
   passes = rw one.passes rest.passes;
-  gives = ap (λ k. given_by k rest.uses) one.gives ∙ rest.gives;
+  gives = ap (λ k. given_by k rest.items) one.gives ∙ rest.gives;
 }
 
-two_before : (g h : Given) (key : Key) (word value : List ℕ) (words : List (List ℕ)) → IsTwo g key word value → AreUses (with_value key value g) words h
-    → AreUses g (word ∷ value ∷ words) h
+two_before : (g h : Given) (key : Key) (word value : List ℕ) (words : List (List ℕ)) → IsTwo g key word value → AreItems (with_value key value g) words h
+    → AreItems g (word ∷ value ∷ words) h
 two_before g h key word value words two rest = record {
-  uses = two.use' ∷ rest.uses;
-  words_are = ap (λ ws. word ∷ value ∷ ws) rest.words_are ∙ ap (λ ws. ws ++ words_of rest.uses) (sym two.words);
+  items = two.item ∷ rest.items;
+  words_are = ap (λ ws. word ∷ value ∷ ws) rest.words_are ∙ ap (λ ws. ws ++ words_of rest.items) (sym two.words);
   passes = rw two.passes rest.passes;
-  gives = ap (λ k. given_by k rest.uses) two.gives ∙ rest.gives;
+  gives = ap (λ k. given_by k rest.items) two.gives ∙ rest.gives;
 }
 
-nothing_left : (g h : Given) → Idle g ≡ Idle h → AreUses g [] h
-nothing_left g h e = record { uses = []; words_are = refl; passes = refl; gives = idle_same g h e }
+nothing_left : (g h : Given) → Idle g ≡ Idle h → AreItems g [] h
+nothing_left g h e = record { items = []; words_are = refl; passes = refl; gives = idle_same g h e }
 
-read_back : (words : List (List ℕ)) (g h : Given) → run (Idle g) words ≡ Idle h → AreUses g words h
+read_back : (words : List (List ℕ)) (g h : Given) → run (Idle g) words ≡ Idle h → AreItems g words h
 read_back [] g h e = nothing_left g h e
 read_back (word ∷ []) g h e = elim (met_is g word) [
   | refused is ↦ absurd (refused_not [] h (sym is ∙ e))
@@ -213,15 +213,15 @@ some_same job other e = ap (λ o. unwrap_or o job) e
 none_not : {X : Type 0} (x : X) → None ≡ Some x → ⊥
 none_not x e = false≢true (ap (λ o. is_some o) e)
 
-words_read : (words : List (List ℕ)) (uses : List Use) → words ≡ words_of uses → list_all is_use uses ≡ true → run (Idle no_given) words ≡ Idle (given_by no_given uses)
-words_read words uses is all = ap (run (Idle no_given)) is ∙ used uses no_given all
+words_read : (words : List (List ℕ)) (items : List Item) → words ≡ words_of items → list_all is_well_formed items ≡ true → run (Idle no_given) words ≡ Idle (given_by no_given items)
+words_read words items is all = ap (run (Idle no_given)) is ∙ used items no_given all
 
 -- The job of words that are a command is read.
-pub job_read : (words : List (List ℕ)) (job : Job) → Spells words job → job_in words ≡ Some job
+pub job_read : (words : List (List ℕ)) (job : Job) → IsJob words job → job_in words ≡ Some job
 job_read [] job c =
-    let same_given = idle_same no_given (given_by no_given c.uses) (words_read [] c.uses c.words_are c.are_uses) in
+    let same_given = idle_same no_given (given_by no_given c.items) (words_read [] c.items c.words_are c.are_well_formed) in
     ap (job_of (codes "check")) same_given ∙ c.job_is
-job_read (name ∷ words) job c = ap (λ p. option_and_then (job_of name) (given_in p)) (words_read words c.uses c.words_are c.are_uses) ∙ c.job_is
+job_read (name ∷ words) job c = ap (λ p. option_and_then (job_of name) (given_in p)) (words_read words c.items c.words_are c.are_well_formed) ∙ c.job_is
 
 command_from : (name : List ℕ) (words : List (List ℕ)) (job : Job) (place : Place) → run (Idle no_given) words ≡ place
     → option_and_then (job_of name) (given_in place) ≡ Some job → IsCommand name words job
@@ -229,15 +229,15 @@ command_from name words job Refused is e = absurd (none_not job e)
 command_from name words job (Waits key g) is e = absurd (none_not job e)
 command_from name words job (Idle g) is e =
     let back = read_back words no_given g is in
-    record { uses = back.uses; words_are = back.words_are; are_uses = back.passes; job_is = ap (job_of name) back.gives ∙ e }
+    record { items = back.items; words_are = back.words_are; are_well_formed = back.passes; job_is = ap (job_of name) back.gives ∙ e }
 
 -- The words whose job is read are that command.
-pub job_spelled : (words : List (List ℕ)) (job : Job) → job_in words ≡ Some job → Spells words job
-job_spelled [] job e = record { uses = []; words_are = refl; are_uses = refl; job_is = e }
+pub job_spelled : (words : List (List ℕ)) (job : Job) → job_in words ≡ Some job → IsJob words job
+job_spelled [] job e = record { items = []; words_are = refl; are_well_formed = refl; job_is = e }
 job_spelled (name ∷ words) job e = command_from name words job (run (Idle no_given) words) refl e
 
 -- No words are read as none and are a command.
-pub none_spelled : (words : List (List ℕ)) → job_in words ≡ None → (job : Job) → Spells words job → ⊥
+pub none_spelled : (words : List (List ℕ)) → job_in words ≡ None → (job : Job) → IsJob words job → ⊥
 none_spelled words e job c = none_not job (sym e ∙ job_read words job c)
 
 pub one_reading : OneReading

@@ -19,37 +19,37 @@ long_name Jobs = codes "--jobs"
 long_name Cancel = codes "--cancel"
 
 -- One option with its value, one flag or one argument, by how it is written.
-pub data Use : Type 0 where
+pub data Item : Type 0 where
   -- `--jobs V`
-  Apart : (key : Key) → (value : List ℕ) → Use
+  Apart : (key : Key) → (value : List ℕ) → Item
   -- `--jobs=V`
-  Joined : (key : Key) → (value : List ℕ) → Use
+  Joined : (key : Key) → (value : List ℕ) → Item
   -- `-j V`
-  ShortApart : (value : List ℕ) → Use
+  ShortApart : (value : List ℕ) → Item
   -- `-jV`
-  ShortJoined : (value : List ℕ) → Use
+  ShortJoined : (value : List ℕ) → Item
   -- `--fail-fast`
-  FailFast : Use
-  Argument : (value : List ℕ) → Use
+  FailFast : Item
+  Argument : (value : List ℕ) → Item
 
 -- Behind `-j` stands something, and an argument doesn't begin with a dash.
-abbrev pub is_use : Use → Bool
-is_use (ShortJoined value) = not (is_empty value)
-is_use (Argument value) = not (head_is (λ b. b == dash) value)
-is_use _ = true
+abbrev pub is_well_formed : Item → Bool
+is_well_formed (ShortJoined value) = not (is_empty value)
+is_well_formed (Argument value) = not (head_is (λ b. b == dash) value)
+is_well_formed _ = true
 
-abbrev pub words_of_use : Use → List (List ℕ)
-words_of_use (Apart key value) = long_name key ∷ value ∷ []
-words_of_use (Joined key value) = (long_name key ++ equals_sign ∷ value) ∷ []
-words_of_use (ShortApart value) = codes "-j" ∷ value ∷ []
-words_of_use (ShortJoined value) = (codes "-j" ++ value) ∷ []
-words_of_use FailFast = codes "--fail-fast" ∷ []
-words_of_use (Argument value) = value ∷ []
+abbrev pub words_of_item : Item → List (List ℕ)
+words_of_item (Apart key value) = long_name key ∷ value ∷ []
+words_of_item (Joined key value) = (long_name key ++ equals_sign ∷ value) ∷ []
+words_of_item (ShortApart value) = codes "-j" ∷ value ∷ []
+words_of_item (ShortJoined value) = (codes "-j" ++ value) ∷ []
+words_of_item FailFast = codes "--fail-fast" ∷ []
+words_of_item (Argument value) = value ∷ []
 
--- the words of uses, one behind another
-abbrev pub words_of : List Use → List (List ℕ)
+-- the words of items, one behind another
+abbrev pub words_of : List Item → List (List ℕ)
 words_of [] = []
-words_of (use' ∷ uses) = words_of_use use' ++ words_of uses
+words_of (item ∷ items) = words_of_item item ++ words_of items
 
 abbrev pub no_given : Given
 no_given = record { jobs = []; cancels = []; fail_fast = []; arguments = [] }
@@ -64,31 +64,31 @@ with_fail_fast flag g = record g { fail_fast = g.fail_fast ++ flag ∷ [] }
 abbrev pub with_argument : List ℕ → Given → Given
 with_argument value g = record g { arguments = g.arguments ++ value ∷ [] }
 
-abbrev pub with_use : Use → Given → Given
-with_use (Apart key value) g = with_value key value g
-with_use (Joined key value) g = with_value key value g
-with_use (ShortApart value) g = with_value Jobs value g
-with_use (ShortJoined value) g = with_value Jobs value g
-with_use FailFast g = with_fail_fast (codes "--fail-fast") g
-with_use (Argument value) g = with_argument value g
+abbrev pub with_item : Item → Given → Given
+with_item (Apart key value) g = with_value key value g
+with_item (Joined key value) g = with_value key value g
+with_item (ShortApart value) g = with_value Jobs value g
+with_item (ShortJoined value) g = with_value Jobs value g
+with_item FailFast g = with_fail_fast (codes "--fail-fast") g
+with_item (Argument value) g = with_argument value g
 
 -- The values of each option, the flags and the arguments, in their order, behind those that were given before.
-abbrev pub given_by : Given → List Use → Given
+abbrev pub given_by : Given → List Item → Given
 given_by g [] = g
-given_by g (use' ∷ uses) = given_by (with_use use' g) uses
+given_by g (item ∷ items) = given_by (with_item item g) items
 
--- The words are uses in any mixture, which give this job of the subcommand.
+-- The words are items in any mixture, which give this job of the subcommand.
 pub record IsCommand (name : List ℕ) (words : List (List ℕ)) (job : Job) : Type 0 where
-  pub uses : List Use
-  pub words_are : words ≡ words_of uses
-  pub are_uses : list_all is_use uses ≡ true
-  pub job_is : job_of name (given_by no_given uses) ≡ Some job
+  pub items : List Item
+  pub words_are : words ≡ words_of items
+  pub are_well_formed : list_all is_well_formed items ≡ true
+  pub job_is : job_of name (given_by no_given items) ≡ Some job
 
--- The words are a command, and this is its job: none is read as `check`, otherwise the first names the subcommand.
-abbrev pub Spells : List (List ℕ) → Job → Type 0
-Spells [] job = IsCommand (codes "check") [] job
-Spells (name ∷ words) job = IsCommand name words job
+-- These words are this job: none is read as `check`, otherwise the first names the subcommand.
+abbrev pub IsJob : List (List ℕ) → Job → Type 0
+IsJob [] job = IsCommand (codes "check") [] job
+IsJob (name ∷ words) job = IsCommand name words job
 
 -- No words are two jobs.
 abbrev pub OneReading : Type 0
-OneReading = (words : List (List ℕ)) (job other : Job) → Spells words job → Spells words other → job ≡ other
+OneReading = (words : List (List ℕ)) (job other : Job) → IsJob words job → IsJob words other → job ≡ other

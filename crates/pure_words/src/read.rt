@@ -1,7 +1,7 @@
 //! Words as a job.
 ghost use Rattle.std.specs.Prelude.{◌≡◌, IfOk, IsErrOf};
 ghost use Rattle.pure_words.specs.Reader.{job_in};
-ghost use Rattle.pure_words.specs.Words.{Spells};
+ghost use Rattle.pure_words.specs.Words.{IsJob};
 
 use crate::command;
 use crate::given::{given_by, nothing};
@@ -11,7 +11,7 @@ use std::alloc::{AllocError, Global};
 use thiserror::Error;
 
 /// Why words give no job.
-#[derive(Debug, Drop, Error)]
+#[derive(Clone, Copy, Debug, PartialEq, Eq, Error)]
 pub enum WordsFault {
     /// They aren't those of a command.
     #[error("usage")]
@@ -36,8 +36,8 @@ fn job(alloc: Global, words: &[Text]) -> Result<Option<Job>, AllocError>
 
 /// Reads the words as a command: Usage comes exactly where they aren't one, as for a request for help.
 pub fn read_words(alloc: Global, words: &[Text]) -> Result<Job, WordsFault>
-    ensures ok { IfOk result (λ job. Spells words.now job) }
-    ensures usage { IsErrOf result WordsFault.Usage → (job : Job) → ¬ Spells words.now job }
+    ensures ok { IfOk result (λ job. IsJob words.now job) }
+    ensures usage { IsErrOf result WordsFault.Usage → (job : Job) → ¬ IsJob words.now job }
 {
     match job(alloc, words) {
         Ok(Some(job)) => Ok(job),
