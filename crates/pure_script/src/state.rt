@@ -15,7 +15,7 @@ use crate::lexeme::{Lexeme, is_word};
 use crate::place::{
     AbovePlace, ArityPlace, ClassPlace, Course, Domains, Item, ItemCourse, ItemPlace, LemmaPlace,
     NamedPlace, NewClass, Place, ProofPlace, SortPlace, Turn, TypePlace, command_begun, ident,
-    leave,
+    leave, leave_with,
 };
 use crate::proof::{proof_course, proved};
 use crate::texts::Texts;
@@ -312,14 +312,10 @@ fn in_class(
             )? {
                 Course::Stays => Ok(true),
                 Course::Refuses => Ok(false),
-                Course::Ends => match command_begun(lexeme) {
-                    None => Ok(false),
-                    Some(begun) => {
-                        commands.push(declared(alloc, class)?)?;
-                        *place = begun;
-                        Ok(true)
-                    }
-                },
+                Course::Ends => {
+                    let command = declared(alloc, class)?;
+                    led(commands, place, leave_with(command, command_begun(lexeme)))
+                }
             },
             _ => moved(alloc, commands, place, lexeme),
         },
