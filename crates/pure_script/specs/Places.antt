@@ -1,6 +1,7 @@
 -- The places and turns of the reader, as contracts see them.
 use Rattle.std.specs.Prelude.{Option, Some, None}
 use Rattle.pure_grammar.specs.Theories.TheoryText as tree
+use Rattle.pure_grammar.specs.Theories.Lexeme.{Lexeme}
 use Rattle.pure_grammar.specs.Theories.Reader as spec
 use Rattle.pure_script.specs.Seen.{span, sorts, seen_steps, seen_command}
 use Rattle.pure_script.specs.declared.place.FactMethod.{FactMethod}
@@ -10,7 +11,10 @@ use Rattle.pure_script.specs.declared.place.ProofPlace.TheVariants.{AtStep, AtNu
 use Rattle.pure_script.specs.declared.place.Place.{Place}
 use Rattle.pure_script.specs.declared.place.Place.TheVariants.{AtCommand, AfterEnd, OfClass, OfType, OfArity, OfItem, OfLemma}
 use Rattle.pure_script.specs.declared.place.ClassPlace.{ClassPlace}
-use Rattle.pure_script.specs.declared.place.ClassPlace.TheVariants.{AtClassName, AfterClassName, AtAbove, AfterAbove}
+use Rattle.pure_script.specs.declared.place.ClassPlace.TheVariants.{AtClassName, InClass}
+use Rattle.pure_script.specs.declared.place.NewClass.{NewClass}
+use Rattle.pure_script.specs.declared.place.AbovePlace.{AbovePlace}
+use Rattle.pure_script.specs.declared.place.AbovePlace.TheVariants as above_place
 use Rattle.pure_script.specs.declared.place.TypePlace.{TypePlace}
 use Rattle.pure_script.specs.declared.place.TypePlace.TheVariants.{AtParams, AtParam, AfterParam, AtTypeName}
 use Rattle.pure_script.specs.declared.place.ArityPlace.{ArityPlace}
@@ -19,7 +23,12 @@ use Rattle.pure_script.specs.declared.place.Domains.{Domains}
 use Rattle.pure_script.specs.declared.place.SortPlace.{SortPlace}
 use Rattle.pure_script.specs.declared.place.SortPlace.TheVariants as sort_place
 use Rattle.pure_script.specs.declared.place.ItemPlace.{ItemPlace}
-use Rattle.pure_script.specs.declared.place.ItemPlace.TheVariants.{AtItem, AfterItem, AtItemType, AfterItemType, AtWhere, AtAxiom, AfterAxiom, AtAxiomText, AfterAxiomText, AtDefinition, AfterDefinition, AtDefinitionType, AfterDefinitionType, AtDefinitionText}
+use Rattle.pure_script.specs.declared.place.ItemPlace.TheVariants.{AtItem, AfterItemType, AtWhere, AtAxiom, AfterAxiomText, AtDefinition, InItem}
+use Rattle.pure_script.specs.declared.place.Item.{Item}
+use Rattle.pure_script.specs.declared.place.NamedPlace.{NamedPlace}
+use Rattle.pure_script.specs.declared.place.NamedPlace.TheVariants as named
+use Rattle.pure_script.specs.declared.place.ItemCourse.{ItemCourse}
+use Rattle.pure_script.specs.declared.place.ItemCourse.TheVariants as item_course
 use Rattle.pure_script.specs.declared.place.LemmaPlace.{LemmaPlace}
 use Rattle.pure_script.specs.declared.place.LemmaPlace.TheVariants.{AtLemma, AfterLemma, AtLemmaText, InProof}
 use Rattle.pure_script.specs.declared.place.Goal.{Goal}
@@ -43,11 +52,14 @@ seen_proof_place (AtFact x0 x1) = spec.AtFact x0 (seen_method x1)
 seen_proof_place (AtUnfolded x0) = spec.AtUnfolded x0
 seen_proof_place (AfterUnfolded x0 x1) = spec.AfterUnfolded x0 x1.items
 
+abbrev pub seen_class : NewClass → AbovePlace → spec.Place
+seen_class class above_place.AfterClassName = spec.AfterClassName class.name
+seen_class class above_place.AtAbove = spec.AtAbove class.name
+seen_class class above_place.AfterAbove = spec.AfterAbove class.name class.above.items
+
 abbrev pub seen_class_place : ClassPlace → spec.Place
 seen_class_place AtClassName = spec.AtClassName
-seen_class_place (AfterClassName x0) = spec.AfterClassName x0
-seen_class_place (AtAbove x0) = spec.AtAbove x0
-seen_class_place (AfterAbove x0 x1) = spec.AfterAbove x0 x1.items
+seen_class_place (InClass class place) = seen_class class place
 
 abbrev pub seen_type_place : TypePlace → spec.Place
 seen_type_place AtParams = spec.AtParams
@@ -69,21 +81,24 @@ seen_arity_place (AtDomains x0) = spec.AtDomains x0
 seen_arity_place (InDomains domains place) = seen_domains domains place
 seen_arity_place (AtArityClass x0 x1) = spec.AtArityClass x0 (sorts x1.items)
 
+abbrev pub seen_named : Item → NamedPlace → spec.Place
+seen_named item named.AfterItem = spec.AfterItem item.name
+seen_named item named.AtItemType = spec.AtItemType item.name
+seen_named item named.AfterAxiom = spec.AfterAxiom item.name
+seen_named item named.AtAxiomText = spec.AtAxiomText item.name
+seen_named item named.AfterDefinition = spec.AfterDefinition item.name
+seen_named item named.AtDefinitionType = spec.AtDefinitionType item.name
+seen_named item named.AfterDefinitionType = spec.AfterDefinitionType item.name (span item.typ)
+seen_named item named.AtDefinitionText = spec.AtDefinitionText item.name (span item.typ)
+
 abbrev pub seen_item_place : ItemPlace → spec.Place
 seen_item_place AtItem = spec.AtItem
-seen_item_place (AfterItem x0) = spec.AfterItem x0
-seen_item_place (AtItemType x0) = spec.AtItemType x0
 seen_item_place AfterItemType = spec.AfterItemType
 seen_item_place AtWhere = spec.AtWhere
 seen_item_place AtAxiom = spec.AtAxiom
-seen_item_place (AfterAxiom x0) = spec.AfterAxiom x0
-seen_item_place (AtAxiomText x0) = spec.AtAxiomText x0
 seen_item_place AfterAxiomText = spec.AfterAxiomText
 seen_item_place AtDefinition = spec.AtDefinition
-seen_item_place (AfterDefinition x0) = spec.AfterDefinition x0
-seen_item_place (AtDefinitionType x0) = spec.AtDefinitionType x0
-seen_item_place (AfterDefinitionType x0 x1) = spec.AfterDefinitionType x0 (span x1)
-seen_item_place (AtDefinitionText x0 x1) = spec.AtDefinitionText x0 (span x1)
+seen_item_place (InItem item place) = seen_named item place
 
 abbrev pub seen_lemma_place : LemmaPlace → spec.Place
 seen_lemma_place AtLemma = spec.AtLemma
@@ -120,3 +135,33 @@ abbrev pub seen_domains_course : Course → Domains → SortPlace → spec.Turn
 seen_domains_course course.Stays domains place = spec.Moves (seen_domains domains place)
 seen_domains_course course.Ends domains place = spec.Moves (spec.AtArityClass domains.con (sorts domains.doms.items))
 seen_domains_course course.Refuses domains place = spec.Refuses
+
+-- where a token behind the name of a class leads to, by the class and the place behind it
+abbrev pub seen_class_course : Course → NewClass → AbovePlace → Lexeme → spec.Turn
+seen_class_course course.Stays class place l = spec.Moves (seen_class class place)
+seen_class_course course.Ends class place l = spec.leave_with (tree.Class class.name class.above.items) (spec.command_begun l)
+seen_class_course course.Refuses class place l = spec.Refuses
+
+-- the command of an item that is read, and where it leads to
+abbrev pub seen_added_item : Item → NamedPlace → spec.Turn
+seen_added_item item named.AtItemType = spec.Adds (tree.Const item.name (span item.typ)) spec.AfterItemType
+seen_added_item item named.AtAxiomText = spec.Adds (tree.Axiom item.name (span item.prop)) spec.AfterAxiomText
+seen_added_item item named.AtDefinitionText = spec.Adds (tree.Definition item.name (span item.typ) (span item.prop)) spec.AtCommand
+seen_added_item item _ = spec.Refuses
+
+abbrev pub seen_added : ItemPlace → spec.Turn
+seen_added (InItem item place) = seen_added_item item place
+seen_added _ = spec.Refuses
+
+-- where a token behind the name of an item leads to, by the item and the place behind it
+abbrev pub seen_named_course : Course → Item → NamedPlace → spec.Turn
+seen_named_course course.Stays item place = spec.Moves (seen_named item place)
+seen_named_course course.Ends item place = seen_added_item item place
+seen_named_course course.Refuses item place = spec.Refuses
+
+-- where a token of an item leads to, by the place behind it
+abbrev pub seen_item_course : ItemCourse → ItemPlace → Lexeme → spec.Turn
+seen_item_course item_course.Stays place l = spec.Moves (seen_item_place place)
+seen_item_course item_course.Adds place l = seen_added place
+seen_item_course item_course.Leaves place l = spec.leave (spec.command_begun l)
+seen_item_course item_course.Refuses place l = spec.Refuses

@@ -13,6 +13,7 @@ use pure_text::Text;
 use std::alloc::{AllocError, Global};
 use std::mem;
 
+/// Behind `arities`.
 pub(crate) fn at_constructor(alloc: Global, lexeme: Lexeme<'_>) -> Result<Turn, AllocError>
     ensures { IfOk result (λ turn. seen_turn turn ≡ spec.turn spec.AtConstructor (seen_lexeme lexeme.entry)) }
 {
@@ -26,6 +27,7 @@ pub(crate) fn at_constructor(alloc: Global, lexeme: Lexeme<'_>) -> Result<Turn, 
     }
 }
 
+/// Behind the constructor.
 pub(crate) fn after_constructor(con: Text, lexeme: Lexeme<'_>) -> Turn
     ensures { seen_turn result ≡ spec.turn (spec.AfterConstructor con) (seen_lexeme lexeme.entry) }
 {
@@ -38,6 +40,7 @@ pub(crate) fn after_constructor(con: Text, lexeme: Lexeme<'_>) -> Turn
     )
 }
 
+/// Behind the domains, where the class stands.
 pub(crate) fn at_arity_class(
     alloc: Global,
     con: Text,
@@ -55,6 +58,7 @@ pub(crate) fn at_arity_class(
     }
 }
 
+/// Behind `::`, where domains may stand.
 pub(crate) fn at_domains(alloc: Global, con: Text, lexeme: Lexeme<'_>) -> Result<Turn, AllocError>
     ensures { IfOk result (λ turn. seen_turn turn ≡ spec.turn (spec.AtDomains con) (seen_lexeme lexeme.entry)) }
 {
@@ -90,6 +94,7 @@ fn add_sort(domains: &mut Domains, sort: Vec<Text>) -> Result<(), AllocError>
     Ok(())
 }
 
+/// Where a sort begins.
 fn at_sort(
     alloc: Global,
     domains: &mut Domains,
@@ -112,6 +117,7 @@ fn at_sort(
     }
 }
 
+/// Behind a sort.
 fn after_sort(domains: &mut Domains, place: &mut SortPlace, lexeme: Lexeme<'_>) -> Course
     ensures { seen_domains_course result domains.new place.new ≡ spec.turn (spec.AfterSort domains.old.con (sorts domains.old.doms.items)) (seen_lexeme lexeme.entry) }
 {
@@ -125,6 +131,7 @@ fn after_sort(domains: &mut Domains, place: &mut SortPlace, lexeme: Lexeme<'_>) 
     Course::Refuses
 }
 
+/// Behind `{`.
 fn at_first_class(
     alloc: Global,
     domains: &mut Domains,
@@ -148,6 +155,7 @@ fn at_first_class(
     }
 }
 
+/// Behind a comma in braces.
 fn at_next_class(
     alloc: Global,
     domains: &mut Domains,
@@ -166,6 +174,7 @@ fn at_next_class(
     }
 }
 
+/// Behind a class in braces.
 fn after_class(
     alloc: Global,
     domains: &mut Domains,

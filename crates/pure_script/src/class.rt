@@ -1,78 +1,143 @@
-//! Declarations of classes.
+//! Declarations of classes. The classes above are read in place, so that no token moves them.
 ghost use Rattle.std.specs.Prelude.{◌≡◌, IfOk};
+ghost use Rattle.pure_grammar.specs.Theories.TheoryText.{Class};
 ghost use Rattle.pure_grammar.specs.Theories.Reader as spec;
+ghost use Rattle.pure_script.specs.Seen.{seen_command};
+ghost use Rattle.pure_script.specs.Places.{seen_turn, seen_class, seen_class_course};
 ghost use Rattle.pure_script.specs.Lexemes.{seen_lexeme};
-ghost use Rattle.pure_script.specs.Places.{seen_turn};
 
 use crate::lexeme::{Lexeme, is_sign};
-use crate::place::{ClassPlace, Place, Turn, command_begun, ident, leave_with, name};
+use crate::place::{
+    AbovePlace, ClassPlace, Course, NewClass, Place, Turn, command_begun, ident, leave_with, name,
+};
 use crate::theory::Command;
 use pure_grammar::Sign;
 use pure_text::Text;
 use std::alloc::{AllocError, Global};
+use std::mem;
 
+/// Behind `class`.
 pub(crate) fn at_class_name(alloc: Global, lexeme: Lexeme<'_>) -> Result<Turn, AllocError>
     ensures { IfOk result (λ turn. seen_turn turn ≡ spec.turn spec.AtClassName (seen_lexeme lexeme.entry)) }
 {
     match ident(alloc, lexeme)? {
         None => Ok(Turn::Refuses),
-        Some(name) => Ok(Turn::Moves {
-            place: Place::OfClass {
-                place: ClassPlace::AfterClassName { name },
-            },
-        }),
+        Some(name) => {
+            let above = Vec::new(alloc);
+            let class = NewClass { name, above };
+            let place = AbovePlace::AfterClassName;
+            Ok(Turn::Moves {
+                place: Place::OfClass {
+                    place: ClassPlace::InClass { class, place },
+                },
+            })
+        }
     }
 }
 
-pub(crate) fn after_class_name(alloc: Global, name: Text, lexeme: Lexeme<'_>) -> Turn
-    ensures { seen_turn result ≡ spec.turn (spec.AfterClassName name) (seen_lexeme lexeme.entry) }
+/// Behind the name of the class.
+fn after_class_name(
+    alloc: Global,
+    class: &mut NewClass,
+    place: &mut AbovePlace,
+    lexeme: Lexeme<'_>,
+) -> Course
+    ensures { seen_class_course result class.new place.new (seen_lexeme lexeme.entry) ≡ spec.turn (spec.AfterClassName class.old.name) (seen_lexeme lexeme.entry) }
 {
+    class.above = Vec::new(alloc);
     if is_sign(Sign::Less, lexeme) {
-        return Turn::Moves {
-            place: Place::OfClass {
-                place: ClassPlace::AtAbove { name },
-            },
-        };
+        *place = AbovePlace::AtAbove;
+        return Course::Stays;
     }
-    let above = Vec::new(alloc);
-    leave_with(Command::Class { name, above }, command_begun(lexeme))
+    Course::Ends
 }
 
-pub(crate) fn at_above(alloc: Global, class: Text, lexeme: Lexeme<'_>) -> Result<Turn, AllocError>
-    ensures { IfOk result (λ turn. seen_turn turn ≡ spec.turn (spec.AtAbove class) (seen_lexeme lexeme.entry)) }
+/// Behind `<`.
+fn at_above(
+    alloc: Global,
+    class: &mut NewClass,
+    place: &mut AbovePlace,
+    lexeme: Lexeme<'_>,
+) -> Result<Course, AllocError>
+    ensures { IfOk result (λ course. seen_class_course course class.new place.new (seen_lexeme lexeme.entry) ≡ spec.turn (spec.AtAbove class.old.name) (seen_lexeme lexeme.entry)) }
 {
     match name(alloc, lexeme)? {
-        None => Ok(Turn::Refuses),
+        None => Ok(Course::Refuses),
         Some(first) => {
             let mut above = Vec::new(alloc);
             above.push(first)?;
-            Ok(Turn::Moves {
-                place: Place::OfClass {
-                    place: ClassPlace::AfterAbove { name: class, above },
-                },
-            })
+            class.above = above;
+            *place = AbovePlace::AfterAbove;
+            Ok(Course::Stays)
         }
     }
 }
 
-pub(crate) fn after_above(
+/// Behind a class above.
+fn after_above(
     alloc: Global,
-    class: Text,
-    above: Vec<Text>,
+    class: &mut NewClass,
+    place: &mut AbovePlace,
+    lexeme: Lexeme<'_>,
+) -> Result<Course, AllocError>
+    ensures { IfOk result (λ course. seen_class_course course class.new place.new (seen_lexeme lexeme.entry) ≡ spec.turn (spec.AfterAbove class.old.name class.old.above.items) (seen_lexeme lexeme.entry)) }
+{
+    match name(alloc, lexeme)? {
+        None => Ok(Course::Ends),
+        Some(next) => {
+            class.above.push(next)?;
+            *place = AbovePlace::AfterAbove;
+            Ok(Course::Stays)
+        }
+    }
+}
+
+/// How a token behind the name of a class goes on, with its place and what is read in place.
+#[inline(never)]
+pub(crate) fn class_course(
+    alloc: Global,
+    class: &mut NewClass,
+    place: &mut AbovePlace,
+    lexeme: Lexeme<'_>,
+) -> Result<Course, AllocError>
+    ensures { IfOk result (λ course. seen_class_course course class.new place.new (seen_lexeme lexeme.entry) ≡ spec.turn (seen_class class.old place.old) (seen_lexeme lexeme.entry)) }
+{
+    match *place {
+        AbovePlace::AfterClassName => Ok(after_class_name(alloc, class, place, lexeme)),
+        AbovePlace::AtAbove => at_above(alloc, class, place, lexeme),
+        AbovePlace::AfterAbove => after_above(alloc, class, place, lexeme),
+    }
+}
+
+/// The class, which is read; it is left empty.
+#[inline(never)]
+pub(crate) fn declared(alloc: Global, class: &mut NewClass) -> Result<Command, AllocError>
+    ensures { IfOk result (λ command. seen_command command ≡ Class class.old.name class.old.above.items) }
+{
+    let name = mem::replace(&mut class.name, Text::make(alloc, b"")?);
+    let above = mem::replace(&mut class.above, Vec::new(alloc));
+    Ok(Command::Class { name, above })
+}
+
+/// Where a token behind the name of a class leads to.
+#[inline(never)]
+pub(crate) fn class_turn(
+    alloc: Global,
+    class: NewClass,
+    place: AbovePlace,
     lexeme: Lexeme<'_>,
 ) -> Result<Turn, AllocError>
-    ensures { IfOk result (λ turn. seen_turn turn ≡ spec.turn (spec.AfterAbove class above.items) (seen_lexeme lexeme.entry)) }
+    ensures { IfOk result (λ turn. seen_turn turn ≡ spec.turn (seen_class class place) (seen_lexeme lexeme.entry)) }
 {
-    let mut above = above;
-    match name(alloc, lexeme)? {
-        Some(next) => {
-            above.push(next)?;
-            Ok(Turn::Moves {
-                place: Place::OfClass {
-                    place: ClassPlace::AfterAbove { name: class, above },
-                },
-            })
-        }
-        None => Ok(leave_with(Command::Class { name: class, above }, command_begun(lexeme))),
+    let mut class = class;
+    let mut place = place;
+    match class_course(alloc, &mut class, &mut place, lexeme)? {
+        Course::Stays => Ok(Turn::Moves {
+            place: Place::OfClass {
+                place: ClassPlace::InClass { class, place },
+            },
+        }),
+        Course::Ends => Ok(leave_with(declared(alloc, &mut class)?, command_begun(lexeme))),
+        Course::Refuses => Ok(Turn::Refuses),
     }
 }

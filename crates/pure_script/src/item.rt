@@ -1,191 +1,326 @@
-//! Constants, axioms and definitions.
+//! Constants, axioms and definitions, which are read in place, so that no token moves them.
 ghost use Rattle.std.specs.Prelude.{◌≡◌, IfOk};
 ghost use Rattle.pure_grammar.specs.Theories.Reader as spec;
 ghost use Rattle.pure_script.specs.Seen.{span};
-ghost use Rattle.pure_script.specs.Places.{seen_turn};
+ghost use Rattle.pure_script.specs.Places.{seen_turn, seen_named, seen_item_place, seen_added_item, seen_added, seen_named_course, seen_item_course};
 ghost use Rattle.pure_script.specs.Lexemes.{seen_lexeme};
 
 use crate::lexeme::{Lexeme, is_sign, is_word, quote_in, type_in};
-use crate::place::{ItemPlace, Place, Turn, command_begun, ident, leave, moves_if};
+use crate::place::{
+    Course, Item, ItemCourse, ItemPlace, NamedPlace, Place, Turn, command_begun, ident, leave,
+};
 use crate::theory::{Command, Span};
 use pure_grammar::{Keyword, Sign};
 use pure_text::Text;
 use std::alloc::{AllocError, Global};
 
-pub(crate) fn at_item(alloc: Global, lexeme: Lexeme<'_>) -> Result<Turn, AllocError>
-    ensures { IfOk result (λ turn. seen_turn turn ≡ spec.turn spec.AtItem (seen_lexeme lexeme.entry)) }
+/// An item of which only the name is read.
+fn item(name: Text) -> Item
+    ensures { result.name ≡ name }
 {
-    match ident(alloc, lexeme)? {
-        None => Ok(Turn::Refuses),
-        Some(name) => Ok(Turn::Moves {
-            place: Place::OfItem {
-                place: ItemPlace::AfterItem { name },
-            },
-        }),
+    let nowhere = Span { from: 0, to: 0 };
+    Item {
+        name,
+        typ: nowhere,
+        prop: nowhere,
     }
 }
 
-pub(crate) fn after_item(name: Text, lexeme: Lexeme<'_>) -> Turn
-    ensures { seen_turn result ≡ spec.turn (spec.AfterItem name) (seen_lexeme lexeme.entry) }
+/// Behind `consts`.
+fn at_item(
+    alloc: Global,
+    place: &mut ItemPlace,
+    lexeme: Lexeme<'_>,
+) -> Result<ItemCourse, AllocError>
+    ensures { IfOk result (λ course. seen_item_course course place.new (seen_lexeme lexeme.entry) ≡ spec.turn spec.AtItem (seen_lexeme lexeme.entry)) }
 {
-    let so = is_sign(Sign::DoubleColon, lexeme);
-    moves_if(
-        so,
-        Place::OfItem {
-            place: ItemPlace::AtItemType { name },
-        },
-    )
+    match ident(alloc, lexeme)? {
+        None => Ok(ItemCourse::Refuses),
+        Some(name) => {
+            *place = ItemPlace::InItem {
+                item: item(name),
+                place: NamedPlace::AfterItem,
+            };
+            Ok(ItemCourse::Stays)
+        }
+    }
 }
 
-pub(crate) fn at_item_type(name: Text, lexeme: Lexeme<'_>) -> Turn
-    ensures { seen_turn result ≡ spec.turn (spec.AtItemType name) (seen_lexeme lexeme.entry) }
+/// Behind the type of a constant.
+fn after_item_type(
+    alloc: Global,
+    place: &mut ItemPlace,
+    lexeme: Lexeme<'_>,
+) -> Result<ItemCourse, AllocError>
+    ensures { IfOk result (λ course. seen_item_course course place.new (seen_lexeme lexeme.entry) ≡ spec.turn spec.AfterItemType (seen_lexeme lexeme.entry)) }
+{
+    match ident(alloc, lexeme)? {
+        None => Ok(ItemCourse::Leaves),
+        Some(name) => {
+            *place = ItemPlace::InItem {
+                item: item(name),
+                place: NamedPlace::AfterItem,
+            };
+            Ok(ItemCourse::Stays)
+        }
+    }
+}
+
+/// Behind `axiomatization`.
+fn at_where(place: &mut ItemPlace, lexeme: Lexeme<'_>) -> ItemCourse
+    ensures { seen_item_course result place.new (seen_lexeme lexeme.entry) ≡ spec.turn spec.AtWhere (seen_lexeme lexeme.entry) }
+{
+    if is_word(Keyword::Where, lexeme) {
+        *place = ItemPlace::AtAxiom;
+        return ItemCourse::Stays;
+    }
+    ItemCourse::Refuses
+}
+
+/// Where the name of an axiom stands.
+fn at_axiom(
+    alloc: Global,
+    place: &mut ItemPlace,
+    lexeme: Lexeme<'_>,
+) -> Result<ItemCourse, AllocError>
+    ensures { IfOk result (λ course. seen_item_course course place.new (seen_lexeme lexeme.entry) ≡ spec.turn spec.AtAxiom (seen_lexeme lexeme.entry)) }
+{
+    match ident(alloc, lexeme)? {
+        None => Ok(ItemCourse::Refuses),
+        Some(name) => {
+            *place = ItemPlace::InItem {
+                item: item(name),
+                place: NamedPlace::AfterAxiom,
+            };
+            Ok(ItemCourse::Stays)
+        }
+    }
+}
+
+/// Behind the proposition of an axiom.
+fn after_axiom_text(place: &mut ItemPlace, lexeme: Lexeme<'_>) -> ItemCourse
+    ensures { seen_item_course result place.new (seen_lexeme lexeme.entry) ≡ spec.turn spec.AfterAxiomText (seen_lexeme lexeme.entry) }
+{
+    if is_word(Keyword::And, lexeme) {
+        *place = ItemPlace::AtAxiom;
+        return ItemCourse::Stays;
+    }
+    ItemCourse::Leaves
+}
+
+/// Behind `definition`.
+fn at_definition(
+    alloc: Global,
+    place: &mut ItemPlace,
+    lexeme: Lexeme<'_>,
+) -> Result<ItemCourse, AllocError>
+    ensures { IfOk result (λ course. seen_item_course course place.new (seen_lexeme lexeme.entry) ≡ spec.turn spec.AtDefinition (seen_lexeme lexeme.entry)) }
+{
+    match ident(alloc, lexeme)? {
+        None => Ok(ItemCourse::Refuses),
+        Some(name) => {
+            *place = ItemPlace::InItem {
+                item: item(name),
+                place: NamedPlace::AfterDefinition,
+            };
+            Ok(ItemCourse::Stays)
+        }
+    }
+}
+
+/// Behind the name of a constant.
+fn after_item(item: &Item, place: &mut NamedPlace, lexeme: Lexeme<'_>) -> Course
+    ensures { seen_named_course result item.now place.new ≡ spec.turn (spec.AfterItem item.now.name) (seen_lexeme lexeme.entry) }
+{
+    if is_sign(Sign::DoubleColon, lexeme) {
+        *place = NamedPlace::AtItemType;
+        return Course::Stays;
+    }
+    Course::Refuses
+}
+
+/// Behind the `::` of a constant.
+fn at_item_type(item: &mut Item, place: &mut NamedPlace, lexeme: Lexeme<'_>) -> Course
+    ensures { seen_named_course result item.new place.new ≡ spec.turn (spec.AtItemType item.old.name) (seen_lexeme lexeme.entry) }
 {
     match type_in(lexeme) {
-        None => Turn::Refuses,
-        Some(typ) => Turn::Adds {
+        None => Course::Refuses,
+        Some(typ) => {
+            item.typ = typ;
+            *place = NamedPlace::AtItemType;
+            Course::Ends
+        }
+    }
+}
+
+/// Behind the name of an axiom.
+fn after_axiom(item: &Item, place: &mut NamedPlace, lexeme: Lexeme<'_>) -> Course
+    ensures { seen_named_course result item.now place.new ≡ spec.turn (spec.AfterAxiom item.now.name) (seen_lexeme lexeme.entry) }
+{
+    if is_sign(Sign::Colon, lexeme) {
+        *place = NamedPlace::AtAxiomText;
+        return Course::Stays;
+    }
+    Course::Refuses
+}
+
+/// Behind the `:` of an axiom.
+fn at_axiom_text(item: &mut Item, place: &mut NamedPlace, lexeme: Lexeme<'_>) -> Course
+    ensures { seen_named_course result item.new place.new ≡ spec.turn (spec.AtAxiomText item.old.name) (seen_lexeme lexeme.entry) }
+{
+    match quote_in(lexeme) {
+        None => Course::Refuses,
+        Some(prop) => {
+            item.prop = prop;
+            *place = NamedPlace::AtAxiomText;
+            Course::Ends
+        }
+    }
+}
+
+/// Behind the name that is defined.
+fn after_definition(item: &Item, place: &mut NamedPlace, lexeme: Lexeme<'_>) -> Course
+    ensures { seen_named_course result item.now place.new ≡ spec.turn (spec.AfterDefinition item.now.name) (seen_lexeme lexeme.entry) }
+{
+    if is_sign(Sign::DoubleColon, lexeme) {
+        *place = NamedPlace::AtDefinitionType;
+        return Course::Stays;
+    }
+    Course::Refuses
+}
+
+/// Behind the `::` of a definition.
+fn at_definition_type(item: &mut Item, place: &mut NamedPlace, lexeme: Lexeme<'_>) -> Course
+    ensures { seen_named_course result item.new place.new ≡ spec.turn (spec.AtDefinitionType item.old.name) (seen_lexeme lexeme.entry) }
+{
+    match type_in(lexeme) {
+        None => Course::Refuses,
+        Some(typ) => {
+            item.typ = typ;
+            *place = NamedPlace::AfterDefinitionType;
+            Course::Stays
+        }
+    }
+}
+
+/// Behind the type of a definition.
+fn after_definition_type(item: &Item, place: &mut NamedPlace, lexeme: Lexeme<'_>) -> Course
+    ensures { seen_named_course result item.now place.new ≡ spec.turn (spec.AfterDefinitionType item.now.name (span item.now.typ)) (seen_lexeme lexeme.entry) }
+{
+    if is_word(Keyword::Where, lexeme) {
+        *place = NamedPlace::AtDefinitionText;
+        return Course::Stays;
+    }
+    Course::Refuses
+}
+
+/// Behind the `where` of a definition.
+fn at_definition_text(item: &mut Item, place: &mut NamedPlace, lexeme: Lexeme<'_>) -> Course
+    ensures { seen_named_course result item.new place.new ≡ spec.turn (spec.AtDefinitionText item.old.name (span item.old.typ)) (seen_lexeme lexeme.entry) }
+{
+    match quote_in(lexeme) {
+        None => Course::Refuses,
+        Some(prop) => {
+            item.prop = prop;
+            *place = NamedPlace::AtDefinitionText;
+            Course::Ends
+        }
+    }
+}
+
+/// How a token behind the name of an item goes on, with its place and what is read in place.
+fn named_course(item: &mut Item, place: &mut NamedPlace, lexeme: Lexeme<'_>) -> Course
+    ensures { seen_named_course result item.new place.new ≡ spec.turn (seen_named item.old place.old) (seen_lexeme lexeme.entry) }
+{
+    match *place {
+        NamedPlace::AfterItem => after_item(item, place, lexeme),
+        NamedPlace::AtItemType => at_item_type(item, place, lexeme),
+        NamedPlace::AfterAxiom => after_axiom(item, place, lexeme),
+        NamedPlace::AtAxiomText => at_axiom_text(item, place, lexeme),
+        NamedPlace::AfterDefinition => after_definition(item, place, lexeme),
+        NamedPlace::AtDefinitionType => at_definition_type(item, place, lexeme),
+        NamedPlace::AfterDefinitionType => after_definition_type(item, place, lexeme),
+        NamedPlace::AtDefinitionText => at_definition_text(item, place, lexeme),
+    }
+}
+
+/// How a token of an item goes on, with its place and what is read in place.
+#[inline(never)]
+pub(crate) fn item_course(
+    alloc: Global,
+    place: &mut ItemPlace,
+    lexeme: Lexeme<'_>,
+) -> Result<ItemCourse, AllocError>
+    ensures { IfOk result (λ course. seen_item_course course place.new (seen_lexeme lexeme.entry) ≡ spec.turn (seen_item_place place.old) (seen_lexeme lexeme.entry)) }
+{
+    match place {
+        ItemPlace::AtItem => at_item(alloc, place, lexeme),
+        ItemPlace::AfterItemType => after_item_type(alloc, place, lexeme),
+        ItemPlace::AtWhere => Ok(at_where(place, lexeme)),
+        ItemPlace::AtAxiom => at_axiom(alloc, place, lexeme),
+        ItemPlace::AfterAxiomText => Ok(after_axiom_text(place, lexeme)),
+        ItemPlace::AtDefinition => at_definition(alloc, place, lexeme),
+        ItemPlace::InItem { item, place: at } => match named_course(item, at, lexeme) {
+            Course::Stays => Ok(ItemCourse::Stays),
+            Course::Ends => Ok(ItemCourse::Adds),
+            Course::Refuses => Ok(ItemCourse::Refuses),
+        },
+    }
+}
+
+/// The command of an item that is read, and the place behind it.
+fn added_item(item: Item, place: NamedPlace) -> Turn
+    ensures { seen_turn result ≡ seen_added_item item place }
+{
+    let Item { name, typ, prop } = item;
+    match place {
+        NamedPlace::AtItemType => Turn::Adds {
             command: Command::Const { name, typ },
             place: Place::OfItem {
                 place: ItemPlace::AfterItemType,
             },
         },
-    }
-}
-
-pub(crate) fn after_item_type(alloc: Global, lexeme: Lexeme<'_>) -> Result<Turn, AllocError>
-    ensures { IfOk result (λ turn. seen_turn turn ≡ spec.turn spec.AfterItemType (seen_lexeme lexeme.entry)) }
-{
-    match ident(alloc, lexeme)? {
-        Some(name) => Ok(Turn::Moves {
-            place: Place::OfItem {
-                place: ItemPlace::AfterItem { name },
-            },
-        }),
-        None => Ok(leave(command_begun(lexeme))),
-    }
-}
-
-pub(crate) fn at_where(lexeme: Lexeme<'_>) -> Turn
-    ensures { seen_turn result ≡ spec.turn spec.AtWhere (seen_lexeme lexeme.entry) }
-{
-    let so = is_word(Keyword::Where, lexeme);
-    moves_if(
-        so,
-        Place::OfItem {
-            place: ItemPlace::AtAxiom,
-        },
-    )
-}
-
-pub(crate) fn at_axiom(alloc: Global, lexeme: Lexeme<'_>) -> Result<Turn, AllocError>
-    ensures { IfOk result (λ turn. seen_turn turn ≡ spec.turn spec.AtAxiom (seen_lexeme lexeme.entry)) }
-{
-    match ident(alloc, lexeme)? {
-        None => Ok(Turn::Refuses),
-        Some(name) => Ok(Turn::Moves {
-            place: Place::OfItem {
-                place: ItemPlace::AfterAxiom { name },
-            },
-        }),
-    }
-}
-
-pub(crate) fn after_axiom(name: Text, lexeme: Lexeme<'_>) -> Turn
-    ensures { seen_turn result ≡ spec.turn (spec.AfterAxiom name) (seen_lexeme lexeme.entry) }
-{
-    let so = is_sign(Sign::Colon, lexeme);
-    moves_if(
-        so,
-        Place::OfItem {
-            place: ItemPlace::AtAxiomText { name },
-        },
-    )
-}
-
-pub(crate) fn at_axiom_text(name: Text, lexeme: Lexeme<'_>) -> Turn
-    ensures { seen_turn result ≡ spec.turn (spec.AtAxiomText name) (seen_lexeme lexeme.entry) }
-{
-    match quote_in(lexeme) {
-        None => Turn::Refuses,
-        Some(prop) => Turn::Adds {
+        NamedPlace::AtAxiomText => Turn::Adds {
             command: Command::Axiom { name, prop },
             place: Place::OfItem {
                 place: ItemPlace::AfterAxiomText,
             },
         },
-    }
-}
-
-pub(crate) fn after_axiom_text(lexeme: Lexeme<'_>) -> Turn
-    ensures { seen_turn result ≡ spec.turn spec.AfterAxiomText (seen_lexeme lexeme.entry) }
-{
-    if is_word(Keyword::And, lexeme) {
-        return Turn::Moves {
-            place: Place::OfItem {
-                place: ItemPlace::AtAxiom,
-            },
-        };
-    }
-    leave(command_begun(lexeme))
-}
-
-pub(crate) fn at_definition(alloc: Global, lexeme: Lexeme<'_>) -> Result<Turn, AllocError>
-    ensures { IfOk result (λ turn. seen_turn turn ≡ spec.turn spec.AtDefinition (seen_lexeme lexeme.entry)) }
-{
-    match ident(alloc, lexeme)? {
-        None => Ok(Turn::Refuses),
-        Some(name) => Ok(Turn::Moves {
-            place: Place::OfItem {
-                place: ItemPlace::AfterDefinition { name },
-            },
-        }),
-    }
-}
-
-pub(crate) fn after_definition(name: Text, lexeme: Lexeme<'_>) -> Turn
-    ensures { seen_turn result ≡ spec.turn (spec.AfterDefinition name) (seen_lexeme lexeme.entry) }
-{
-    let so = is_sign(Sign::DoubleColon, lexeme);
-    moves_if(
-        so,
-        Place::OfItem {
-            place: ItemPlace::AtDefinitionType { name },
-        },
-    )
-}
-
-pub(crate) fn at_definition_type(name: Text, lexeme: Lexeme<'_>) -> Turn
-    ensures { seen_turn result ≡ spec.turn (spec.AtDefinitionType name) (seen_lexeme lexeme.entry) }
-{
-    match type_in(lexeme) {
-        None => Turn::Refuses,
-        Some(typ) => Turn::Moves {
-            place: Place::OfItem {
-                place: ItemPlace::AfterDefinitionType { name, typ },
-            },
-        },
-    }
-}
-
-pub(crate) fn after_definition_type(name: Text, typ: Span, lexeme: Lexeme<'_>) -> Turn
-    ensures { seen_turn result ≡ spec.turn (spec.AfterDefinitionType name (span typ)) (seen_lexeme lexeme.entry) }
-{
-    let so = is_word(Keyword::Where, lexeme);
-    moves_if(
-        so,
-        Place::OfItem {
-            place: ItemPlace::AtDefinitionText { name, typ },
-        },
-    )
-}
-
-pub(crate) fn at_definition_text(name: Text, typ: Span, lexeme: Lexeme<'_>) -> Turn
-    ensures { seen_turn result ≡ spec.turn (spec.AtDefinitionText name (span typ)) (seen_lexeme lexeme.entry) }
-{
-    match quote_in(lexeme) {
-        None => Turn::Refuses,
-        Some(prop) => Turn::Adds {
+        NamedPlace::AtDefinitionText => Turn::Adds {
             command: Command::Definition { name, typ, prop },
             place: Place::AtCommand,
         },
+        _ => Turn::Refuses,
+    }
+}
+
+/// The command of the item that is read, and the place behind it.
+#[inline(never)]
+pub(crate) fn added(place: ItemPlace) -> Turn
+    ensures { seen_turn result ≡ seen_added place }
+{
+    match place {
+        ItemPlace::InItem { item, place } => added_item(item, place),
+        _ => Turn::Refuses,
+    }
+}
+
+/// Where a token of an item leads to.
+#[inline(never)]
+pub(crate) fn item_turn(
+    alloc: Global,
+    place: ItemPlace,
+    lexeme: Lexeme<'_>,
+) -> Result<Turn, AllocError>
+    ensures { IfOk result (λ turn. seen_turn turn ≡ spec.turn (seen_item_place place) (seen_lexeme lexeme.entry)) }
+{
+    let mut place = place;
+    match item_course(alloc, &mut place, lexeme)? {
+        ItemCourse::Stays => Ok(Turn::Moves {
+            place: Place::OfItem { place },
+        }),
+        ItemCourse::Adds => Ok(added(place)),
+        ItemCourse::Leaves => Ok(leave(command_begun(lexeme))),
+        ItemCourse::Refuses => Ok(Turn::Refuses),
     }
 }

@@ -21,6 +21,7 @@ pub(crate) enum Lexeme<'s> {
     Other { kind: TokenKind },
 }
 
+/// The number of a keyword.
 fn keyword_number(word: Keyword) -> u8
     ensures { result ≡ spec.keyword_number word }
 {
@@ -49,6 +50,7 @@ fn keyword_number(word: Keyword) -> u8
     }
 }
 
+/// The number of a sign.
 fn sign_number(sign: Sign) -> u8
     ensures { result ≡ spec.sign_number sign }
 {
@@ -94,6 +96,7 @@ pub(crate) fn is_ident(text: &[u8], lexeme: Lexeme<'_>) -> bool
     }
 }
 
+/// The text, if the token is an identifier.
 pub(crate) fn ident_in<'s>(lexeme: Lexeme<'s>) -> Option<&'s [u8]>
     ensures { seen_text result ≡ spec.ident_in (seen_lexeme lexeme.entry) }
 {
@@ -103,6 +106,7 @@ pub(crate) fn ident_in<'s>(lexeme: Lexeme<'s>) -> Option<&'s [u8]>
     }
 }
 
+/// The text, if the token is a name, qualified or not.
 pub(crate) fn name_in<'s>(lexeme: Lexeme<'s>) -> Option<&'s [u8]>
     ensures { seen_text result ≡ spec.name_in (seen_lexeme lexeme.entry) }
 {
@@ -113,6 +117,7 @@ pub(crate) fn name_in<'s>(lexeme: Lexeme<'s>) -> Option<&'s [u8]>
     }
 }
 
+/// The text, if the token is a type variable.
 pub(crate) fn variable_in<'s>(lexeme: Lexeme<'s>) -> Option<&'s [u8]>
     ensures { seen_text result ≡ spec.variable_in (seen_lexeme lexeme.entry) }
 {
@@ -122,6 +127,7 @@ pub(crate) fn variable_in<'s>(lexeme: Lexeme<'s>) -> Option<&'s [u8]>
     }
 }
 
+/// The value, if the token is a number.
 pub(crate) fn number_in(lexeme: Lexeme<'_>) -> Option<u32>
     ensures { result ≡ spec.number_in (seen_lexeme lexeme.entry) }
 {
@@ -131,6 +137,7 @@ pub(crate) fn number_in(lexeme: Lexeme<'_>) -> Option<u32>
     }
 }
 
+/// The range between the marks, if the token is a quoted text.
 pub(crate) fn quote_in(lexeme: Lexeme<'_>) -> Option<Span>
     ensures { seen_span result ≡ spec.quote_in (seen_lexeme lexeme.entry) }
 {
@@ -140,6 +147,7 @@ pub(crate) fn quote_in(lexeme: Lexeme<'_>) -> Option<Span>
     }
 }
 
+/// The range of the type, if the token is one.
 pub(crate) fn type_in(lexeme: Lexeme<'_>) -> Option<Span>
     ensures { seen_span result ≡ spec.type_in (seen_lexeme lexeme.entry) }
 {
@@ -206,6 +214,7 @@ fn value_of(digits: &[u8]) -> Result<u32, AllocError>
     Ok(value)
 }
 
+/// Whether these are the same bytes.
 fn equals(bytes: &[u8], text: &[u8]) -> bool
     ensures { result ≡ spec.same bytes.now text.now }
 {

@@ -17,6 +17,3 @@ mod typedecl;
 
 pub use read::read_theory;
 pub use theory::{Command, ScriptFault, Span, Step, TheoryText};
-
-#[cfg(test)]
-mod tests;

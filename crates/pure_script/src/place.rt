@@ -42,13 +42,26 @@ pub(crate) struct Goal {
     pub(crate) script: Vec<Step>,
 }
 
+/// A class with those above it so far.
+#[derive(Drop)]
+pub(crate) struct NewClass {
+    pub(crate) name: Text,
+    pub(crate) above: Vec<Text>,
+}
+
+/// A place behind the name of a class.
+#[derive(Clone, Copy)]
+pub(crate) enum AbovePlace {
+    AfterClassName,
+    AtAbove,
+    AfterAbove,
+}
+
 /// A place in the declaration of a class.
 #[derive(Drop)]
 pub(crate) enum ClassPlace {
     AtClassName,
-    AfterClassName { name: Text },
-    AtAbove { name: Text },
-    AfterAbove { name: Text, above: Vec<Text> },
+    InClass { class: NewClass, place: AbovePlace },
 }
 
 /// A place in the declaration of a type.
@@ -88,23 +101,37 @@ pub(crate) enum ArityPlace {
     AtArityClass { con: Text, doms: Vec<Vec<Text>> },
 }
 
+/// A constant, an axiom or a definition, with the ranges that are read so far.
+#[derive(Drop)]
+pub(crate) struct Item {
+    pub(crate) name: Text,
+    pub(crate) typ: Span,
+    pub(crate) prop: Span,
+}
+
+/// A place behind the name of a constant, an axiom or a definition.
+#[derive(Clone, Copy)]
+pub(crate) enum NamedPlace {
+    AfterItem,
+    AtItemType,
+    AfterAxiom,
+    AtAxiomText,
+    AfterDefinition,
+    AtDefinitionType,
+    AfterDefinitionType,
+    AtDefinitionText,
+}
+
 /// A place in the declaration of constants or axioms, or in a definition.
 #[derive(Drop)]
 pub(crate) enum ItemPlace {
     AtItem,
-    AfterItem { name: Text },
-    AtItemType { name: Text },
     AfterItemType,
     AtWhere,
     AtAxiom,
-    AfterAxiom { name: Text },
-    AtAxiomText { name: Text },
     AfterAxiomText,
     AtDefinition,
-    AfterDefinition { name: Text },
-    AtDefinitionType { name: Text },
-    AfterDefinitionType { name: Text, typ: Span },
-    AtDefinitionText { name: Text, typ: Span },
+    InItem { item: Item, place: NamedPlace },
 }
 
 /// A place in a lemma.
@@ -136,11 +163,21 @@ pub(crate) enum Turn {
     Refuses,
 }
 
-/// How a token of a proof or of domains goes on: they go on, or they end, or the token refuses.
+/// How a token of what is read in place goes on: that goes on, or it ends, or the token refuses.
 #[derive(Clone, Copy)]
 pub(crate) enum Course {
     Stays,
     Ends,
+    Refuses,
+}
+
+/// How a token of constants, axioms or a definition goes on: they do, or an item of them ends, or they all end, or the
+/// token refuses.
+#[derive(Clone, Copy)]
+pub(crate) enum ItemCourse {
+    Stays,
+    Adds,
+    Leaves,
     Refuses,
 }
 

@@ -16,6 +16,7 @@ use pure_text::Text;
 use std::alloc::{AllocError, Global};
 use std::mem;
 
+/// Behind `lemma` or `theorem`.
 pub(crate) fn at_lemma(alloc: Global, lexeme: Lexeme<'_>) -> Result<Turn, AllocError>
     ensures { IfOk result (λ turn. seen_turn turn ≡ spec.turn spec.AtLemma (seen_lexeme lexeme.entry)) }
 {
@@ -29,6 +30,7 @@ pub(crate) fn at_lemma(alloc: Global, lexeme: Lexeme<'_>) -> Result<Turn, AllocE
     }
 }
 
+/// Behind the name of the lemma.
 pub(crate) fn after_lemma(name: Text, lexeme: Lexeme<'_>) -> Turn
     ensures { seen_turn result ≡ spec.turn (spec.AfterLemma name) (seen_lexeme lexeme.entry) }
 {
@@ -41,6 +43,7 @@ pub(crate) fn after_lemma(name: Text, lexeme: Lexeme<'_>) -> Turn
     )
 }
 
+/// Behind the `:` of the lemma.
 pub(crate) fn at_lemma_text(alloc: Global, name: Text, lexeme: Lexeme<'_>) -> Turn
     ensures { seen_turn result ≡ spec.turn (spec.AtLemmaText name) (seen_lexeme lexeme.entry) }
 {
@@ -69,6 +72,7 @@ fn step(goal: &mut Goal, step: Step) -> Result<(), AllocError>
     Ok(())
 }
 
+/// The step of a method with its fact.
 fn fact_step(method: FactMethod, fact: Text) -> Step
     ensures { seen_step result ≡ spec.fact_step (seen_method method) fact }
 {
@@ -103,6 +107,7 @@ fn after_method(goal: &mut Goal, place: &mut ProofPlace, last: bool) -> Result<C
     Ok(Course::Ends)
 }
 
+/// Behind `apply` or `by`.
 fn at_method(
     goal: &mut Goal,
     place: &mut ProofPlace,
@@ -122,6 +127,7 @@ fn at_method(
     Ok(Course::Refuses)
 }
 
+/// Where a method in parentheses begins.
 fn at_basic(
     goal: &mut Goal,
     place: &mut ProofPlace,
@@ -157,6 +163,7 @@ fn at_basic(
     Ok(Course::Refuses)
 }
 
+/// Behind a method in parentheses.
 fn after_basic(
     goal: &mut Goal,
     place: &mut ProofPlace,
@@ -175,6 +182,7 @@ fn after_basic(
     Ok(Course::Refuses)
 }
 
+/// Where the fact of a method stands.
 fn at_fact(
     alloc: Global,
     goal: &mut Goal,
@@ -195,6 +203,7 @@ fn at_fact(
     }
 }
 
+/// Behind `unfold`.
 fn at_unfolded(
     alloc: Global,
     goal: &mut Goal,
@@ -215,6 +224,7 @@ fn at_unfolded(
     }
 }
 
+/// Where a step of the proof begins.
 fn at_step(
     goal: &mut Goal,
     place: &mut ProofPlace,
@@ -246,6 +256,7 @@ fn at_step(
     Ok(Course::Refuses)
 }
 
+/// Behind `prefer`.
 fn at_number(
     goal: &mut Goal,
     place: &mut ProofPlace,

@@ -4,15 +4,18 @@ ghost use Rattle.pure_grammar.specs.Theories.Lexeme.{Ends};
 ghost use Rattle.pure_grammar.specs.Theories.PhraseTree.{with_text};
 ghost use Rattle.pure_grammar.specs.Theories.Reader as spec;
 ghost use Rattle.pure_script.specs.Seen.{seen_command, seen_commands};
-ghost use Rattle.pure_script.specs.Places.{seen_place, seen_class_place, seen_type_place, seen_arity_place, seen_item_place, seen_lemma_place, seen_proof_place, seen_domains, seen_turn};
+ghost use Rattle.pure_script.specs.Places.{seen_place, seen_class_place, seen_type_place, seen_arity_place, seen_item_place, seen_lemma_place, seen_proof_place, seen_domains, seen_class, seen_named, seen_turn};
 ghost use Rattle.pure_script.specs.Lexemes.{seen_lexeme};
 ghost use Rattle.pure_script.specs.States.{seen_state, seen_front, seen_next, seen_header, seen_end, IsNext, IsLed, IsImport};
 
 use crate::arity::{closed, domains_course};
+use crate::class::{class_course, declared};
+use crate::item::{added, item_course};
 use crate::lexeme::{Lexeme, is_word};
 use crate::place::{
-    ArityPlace, ClassPlace, Course, Domains, ItemPlace, LemmaPlace, Place, ProofPlace, SortPlace,
-    Turn, TypePlace, ident,
+    AbovePlace, ArityPlace, ClassPlace, Course, Domains, Item, ItemCourse, ItemPlace, LemmaPlace,
+    NamedPlace, NewClass, Place, ProofPlace, SortPlace, Turn, TypePlace, command_begun, ident,
+    leave, leave_with,
 };
 use crate::proof::{proof_course, proved};
 use crate::texts::Texts;
@@ -53,6 +56,7 @@ pub(crate) enum State {
     },
 }
 
+/// The state behind `begin`.
 fn body_begun(alloc: Global, header: Header) -> State
     ensures { seen_state result ≡ spec.body_begun (seen_header header) }
 {
@@ -80,12 +84,14 @@ fn with_import(alloc: Global, imports: Texts, theory: Text) -> Result<Texts, All
     Ok(all)
 }
 
+/// A state before the commands.
 fn in_front(front: Front) -> Option<State>
     ensures { seen_next result ≡ Some (seen_front front) }
 {
     Some(State::InFront { front })
 }
 
+/// Behind `theory`.
 fn at_theory_name(alloc: Global, lexeme: Lexeme<'_>) -> Result<Option<State>, AllocError>
     ensures { IfOk result (λ next. seen_next next ≡ spec.next spec.AtTheoryName (seen_lexeme lexeme.entry)) }
 {
@@ -95,6 +101,7 @@ fn at_theory_name(alloc: Global, lexeme: Lexeme<'_>) -> Result<Option<State>, Al
     }
 }
 
+/// Behind the name of the theory.
 fn after_theory_name(
     alloc: Global,
     name: Text,
@@ -112,6 +119,7 @@ fn after_theory_name(
     Ok(None)
 }
 
+/// Behind `imports`.
 fn at_import(alloc: Global, name: Text, lexeme: Lexeme<'_>) -> Result<Option<State>, AllocError>
     ensures { IfOk result (λ next. seen_next next ≡ spec.next (spec.AtImport name) (seen_lexeme lexeme.entry)) }
 {
@@ -125,6 +133,7 @@ fn at_import(alloc: Global, name: Text, lexeme: Lexeme<'_>) -> Result<Option<Sta
     }
 }
 
+/// Behind an import.
 fn after_import(
     alloc: Global,
     header: Header,
@@ -169,18 +178,11 @@ fn front_next(alloc: Global, front: Front, lexeme: Lexeme<'_>) -> Result<Option<
     }
 }
 
-/// One token more of the commands outside of proofs, and whether it goes on.
-#[inline(never)]
-fn outside_proof(
-    alloc: Global,
-    commands: &mut Vec<Command>,
-    place: &mut Place,
-    lexeme: Lexeme<'_>,
-) -> Result<bool, AllocError>
-    ensures { IfOk result (λ on. IsLed on (seen_commands commands.new.items) (seen_place place.new) (seen_commands commands.old.items) (spec.turn (seen_place place.old) (seen_lexeme lexeme.entry))) }
+/// Follows a turn, and whether it goes on.
+fn led(commands: &mut Vec<Command>, place: &mut Place, turn: Turn) -> Result<bool, AllocError>
+    ensures { IfOk result (λ on. IsLed on (seen_commands commands.new.items) (seen_place place.new) (seen_commands commands.old.items) (seen_turn turn)) }
 {
-    let here = mem::replace(place, Place::AtCommand);
-    match turn(alloc, here, lexeme)? {
+    match turn {
         Turn::Moves { place: behind } => {
             *place = behind;
             Ok(true)
@@ -194,6 +196,44 @@ fn outside_proof(
             Ok(true)
         }
         Turn::Refuses => Ok(false),
+    }
+}
+
+/// One token more of what is not read in place, and whether it goes on.
+#[inline(never)]
+fn moved(
+    alloc: Global,
+    commands: &mut Vec<Command>,
+    place: &mut Place,
+    lexeme: Lexeme<'_>,
+) -> Result<bool, AllocError>
+    ensures { IfOk result (λ on. IsLed on (seen_commands commands.new.items) (seen_place place.new) (seen_commands commands.old.items) (spec.turn (seen_place place.old) (seen_lexeme lexeme.entry))) }
+{
+    let here = mem::replace(place, Place::AtCommand);
+    led(commands, place, turn(alloc, here, lexeme)?)
+}
+
+/// One token more of constants, axioms or a definition, and whether it goes on.
+#[inline(never)]
+fn in_item(
+    alloc: Global,
+    commands: &mut Vec<Command>,
+    place: &mut Place,
+    lexeme: Lexeme<'_>,
+) -> Result<bool, AllocError>
+    ensures { IfOk result (λ on. IsLed on (seen_commands commands.new.items) (seen_place place.new) (seen_commands commands.old.items) (spec.turn (seen_place place.old) (seen_lexeme lexeme.entry))) }
+{
+    match place {
+        Place::OfItem { place: here } => match item_course(alloc, here, lexeme)? {
+            ItemCourse::Stays => Ok(true),
+            ItemCourse::Refuses => Ok(false),
+            ItemCourse::Adds => {
+                let read = mem::replace(here, ItemPlace::AtItem);
+                led(commands, place, added(read))
+            }
+            ItemCourse::Leaves => led(commands, place, leave(command_begun(lexeme))),
+        },
+        _ => moved(alloc, commands, place, lexeme),
     }
 }
 
@@ -220,9 +260,9 @@ fn in_lemma(
                     Ok(true)
                 }
             },
-            _ => outside_proof(alloc, commands, place, lexeme),
+            _ => moved(alloc, commands, place, lexeme),
         },
-        _ => outside_proof(alloc, commands, place, lexeme),
+        _ => moved(alloc, commands, place, lexeme),
     }
 }
 
@@ -249,9 +289,37 @@ fn in_arity(
                     Ok(true)
                 }
             },
-            _ => outside_proof(alloc, commands, place, lexeme),
+            _ => moved(alloc, commands, place, lexeme),
         },
-        _ => outside_proof(alloc, commands, place, lexeme),
+        _ => moved(alloc, commands, place, lexeme),
+    }
+}
+
+/// One token more of a class, and whether it goes on.
+#[inline(never)]
+fn in_class(
+    alloc: Global,
+    commands: &mut Vec<Command>,
+    place: &mut Place,
+    lexeme: Lexeme<'_>,
+) -> Result<bool, AllocError>
+    ensures { IfOk result (λ on. IsLed on (seen_commands commands.new.items) (seen_place place.new) (seen_commands commands.old.items) (spec.turn (seen_place place.old) (seen_lexeme lexeme.entry))) }
+{
+    match place {
+        Place::OfClass { place: here } => match here {
+            ClassPlace::InClass { class, place: at } => match class_course(
+                alloc, class, at, lexeme,
+            )? {
+                Course::Stays => Ok(true),
+                Course::Refuses => Ok(false),
+                Course::Ends => {
+                    let command = declared(alloc, class)?;
+                    led(commands, place, leave_with(command, command_begun(lexeme)))
+                }
+            },
+            _ => moved(alloc, commands, place, lexeme),
+        },
+        _ => moved(alloc, commands, place, lexeme),
     }
 }
 
@@ -268,7 +336,9 @@ fn in_body(
     match place {
         Place::OfLemma { .. } => in_lemma(alloc, commands, place, lexeme),
         Place::OfArity { .. } => in_arity(alloc, commands, place, lexeme),
-        _ => outside_proof(alloc, commands, place, lexeme),
+        Place::OfClass { .. } => in_class(alloc, commands, place, lexeme),
+        Place::OfItem { .. } => in_item(alloc, commands, place, lexeme),
+        _ => moved(alloc, commands, place, lexeme),
     }
 }
 
@@ -336,6 +406,7 @@ pub(crate) fn goes_on(
     }
 }
 
+/// Whether `end` was read.
 fn is_after_end(place: &Place) -> bool
     ensures { result ≡ spec.is_after_end (seen_place place.now) }
 {
@@ -368,6 +439,7 @@ pub(crate) fn ended(state: State) -> Option<TheoryText>
     }
 }
 
+/// What may stand before the commands.
 fn front_kind(front: &Front) -> TokenKind
     ensures { result ≡ spec.expected (seen_front front.now) }
 {
@@ -380,6 +452,7 @@ fn front_kind(front: &Front) -> TokenKind
     }
 }
 
+/// What may stand in a proof.
 fn kind_in_proof(place: &ProofPlace) -> TokenKind
     ensures { result ≡ spec.kind_in_proof (seen_proof_place place.now) }
 {
@@ -395,17 +468,28 @@ fn kind_in_proof(place: &ProofPlace) -> TokenKind
     }
 }
 
+/// What may stand behind the name of a class.
+fn above_kind(class: &NewClass, place: AbovePlace) -> TokenKind
+    ensures { result ≡ spec.kind_at (seen_class class.now place) }
+{
+    match place {
+        AbovePlace::AfterClassName => TokenKind::Word,
+        AbovePlace::AtAbove => TokenKind::Ident,
+        AbovePlace::AfterAbove => TokenKind::Word,
+    }
+}
+
+/// What may stand in a class.
 fn class_kind(place: &ClassPlace) -> TokenKind
     ensures { result ≡ spec.kind_at (seen_class_place place.now) }
 {
     match place {
         ClassPlace::AtClassName => TokenKind::Ident,
-        ClassPlace::AfterClassName { .. } => TokenKind::Word,
-        ClassPlace::AtAbove { .. } => TokenKind::Ident,
-        ClassPlace::AfterAbove { .. } => TokenKind::Word,
+        ClassPlace::InClass { class, place } => above_kind(class, *place),
     }
 }
 
+/// What may stand in the declaration of a type.
 fn type_kind(place: &TypePlace) -> TokenKind
     ensures { result ≡ spec.kind_at (seen_type_place place.now) }
 {
@@ -417,6 +501,7 @@ fn type_kind(place: &TypePlace) -> TokenKind
     }
 }
 
+/// What may stand in domains.
 fn sort_kind(domains: &Domains, place: SortPlace) -> TokenKind
     ensures { result ≡ spec.kind_at (seen_domains domains.now place) }
 {
@@ -429,6 +514,7 @@ fn sort_kind(domains: &Domains, place: SortPlace) -> TokenKind
     }
 }
 
+/// What may stand in an arity.
 fn arity_kind(place: &ArityPlace) -> TokenKind
     ensures { result ≡ spec.kind_at (seen_arity_place place.now) }
 {
@@ -441,27 +527,38 @@ fn arity_kind(place: &ArityPlace) -> TokenKind
     }
 }
 
+/// What may stand behind the name of an item.
+fn named_kind(item: &Item, place: NamedPlace) -> TokenKind
+    ensures { result ≡ spec.kind_at (seen_named item.now place) }
+{
+    match place {
+        NamedPlace::AfterItem => TokenKind::Symbol,
+        NamedPlace::AtItemType => TokenKind::Quote,
+        NamedPlace::AfterAxiom => TokenKind::Symbol,
+        NamedPlace::AtAxiomText => TokenKind::Quote,
+        NamedPlace::AfterDefinition => TokenKind::Symbol,
+        NamedPlace::AtDefinitionType => TokenKind::Quote,
+        NamedPlace::AfterDefinitionType => TokenKind::Word,
+        NamedPlace::AtDefinitionText => TokenKind::Quote,
+    }
+}
+
+/// What may stand in constants, axioms or a definition.
 fn item_kind(place: &ItemPlace) -> TokenKind
     ensures { result ≡ spec.kind_at (seen_item_place place.now) }
 {
     match place {
         ItemPlace::AtItem => TokenKind::Ident,
-        ItemPlace::AfterItem { .. } => TokenKind::Symbol,
-        ItemPlace::AtItemType { .. } => TokenKind::Quote,
         ItemPlace::AfterItemType => TokenKind::Word,
         ItemPlace::AtWhere => TokenKind::Word,
         ItemPlace::AtAxiom => TokenKind::Ident,
-        ItemPlace::AfterAxiom { .. } => TokenKind::Symbol,
-        ItemPlace::AtAxiomText { .. } => TokenKind::Quote,
         ItemPlace::AfterAxiomText => TokenKind::Word,
         ItemPlace::AtDefinition => TokenKind::Ident,
-        ItemPlace::AfterDefinition { .. } => TokenKind::Symbol,
-        ItemPlace::AtDefinitionType { .. } => TokenKind::Quote,
-        ItemPlace::AfterDefinitionType { .. } => TokenKind::Word,
-        ItemPlace::AtDefinitionText { .. } => TokenKind::Quote,
+        ItemPlace::InItem { item, place } => named_kind(item, *place),
     }
 }
 
+/// What may stand in a lemma.
 fn lemma_kind(place: &LemmaPlace) -> TokenKind
     ensures { result ≡ spec.kind_at (seen_lemma_place place.now) }
 {
@@ -473,6 +570,7 @@ fn lemma_kind(place: &LemmaPlace) -> TokenKind
     }
 }
 
+/// What may stand among the commands.
 fn kind_at(place: &Place) -> TokenKind
     ensures { result ≡ spec.kind_at (seen_place place.now) }
 {

@@ -121,6 +121,7 @@ impl From<AllocError> for ScriptFault {
 
     ghost from_gives = { λ _ fault. fault ≡ Memory };
 
+    /// Want of memory.
     fn from(_error: AllocError) -> ScriptFault {
         ScriptFault::Memory
     }

@@ -3,27 +3,27 @@
 ghost use Rattle.std.specs.Prelude.{◌≡◌, IfOk};
 ghost use Rattle.pure_grammar.specs.Theories.Reader as spec;
 ghost use Rattle.pure_script.specs.Lexemes.{seen_lexeme};
-ghost use Rattle.pure_script.specs.Places.{seen_place, seen_class_place, seen_type_place, seen_arity_place, seen_item_place, seen_lemma_place, seen_turn};
+ghost use Rattle.pure_script.specs.Places.{seen_place, seen_class_place, seen_type_place, seen_arity_place, seen_lemma_place, seen_turn};
 
 use crate::lexeme::Lexeme;
 use crate::place::{
-    ArityPlace, ClassPlace, ItemPlace, LemmaPlace, Place, Turn, TypePlace, command_begun, leave,
+    ArityPlace, ClassPlace, LemmaPlace, Place, Turn, TypePlace, command_begun, leave,
 };
 use crate::{arity, class, item, proof, typedecl};
 use std::alloc::{AllocError, Global};
 
+/// Where a token of a class leads to.
 #[inline(never)]
 fn class_turn(alloc: Global, place: ClassPlace, l: Lexeme<'_>) -> Result<Turn, AllocError>
     ensures { IfOk result (λ turn. seen_turn turn ≡ spec.turn (seen_class_place place) (seen_lexeme l.entry)) }
 {
     match place {
         ClassPlace::AtClassName => class::at_class_name(alloc, l),
-        ClassPlace::AfterClassName { name } => Ok(class::after_class_name(alloc, name, l)),
-        ClassPlace::AtAbove { name } => class::at_above(alloc, name, l),
-        ClassPlace::AfterAbove { name, above } => class::after_above(alloc, name, above, l),
+        ClassPlace::InClass { class, place } => class::class_turn(alloc, class, place, l),
     }
 }
 
+/// Where a token of the declaration of a type leads to.
 #[inline(never)]
 fn type_turn(alloc: Global, place: TypePlace, l: Lexeme<'_>) -> Result<Turn, AllocError>
     ensures { IfOk result (λ turn. seen_turn turn ≡ spec.turn (seen_type_place place) (seen_lexeme l.entry)) }
@@ -36,6 +36,7 @@ fn type_turn(alloc: Global, place: TypePlace, l: Lexeme<'_>) -> Result<Turn, All
     }
 }
 
+/// Where a token of an arity leads to.
 #[inline(never)]
 fn arity_turn(alloc: Global, place: ArityPlace, l: Lexeme<'_>) -> Result<Turn, AllocError>
     ensures { IfOk result (λ turn. seen_turn turn ≡ spec.turn (seen_arity_place place) (seen_lexeme l.entry)) }
@@ -49,30 +50,7 @@ fn arity_turn(alloc: Global, place: ArityPlace, l: Lexeme<'_>) -> Result<Turn, A
     }
 }
 
-#[inline(never)]
-fn item_turn(alloc: Global, place: ItemPlace, l: Lexeme<'_>) -> Result<Turn, AllocError>
-    ensures { IfOk result (λ turn. seen_turn turn ≡ spec.turn (seen_item_place place) (seen_lexeme l.entry)) }
-{
-    match place {
-        ItemPlace::AtItem => item::at_item(alloc, l),
-        ItemPlace::AfterItem { name } => Ok(item::after_item(name, l)),
-        ItemPlace::AtItemType { name } => Ok(item::at_item_type(name, l)),
-        ItemPlace::AfterItemType => item::after_item_type(alloc, l),
-        ItemPlace::AtWhere => Ok(item::at_where(l)),
-        ItemPlace::AtAxiom => item::at_axiom(alloc, l),
-        ItemPlace::AfterAxiom { name } => Ok(item::after_axiom(name, l)),
-        ItemPlace::AtAxiomText { name } => Ok(item::at_axiom_text(name, l)),
-        ItemPlace::AfterAxiomText => Ok(item::after_axiom_text(l)),
-        ItemPlace::AtDefinition => item::at_definition(alloc, l),
-        ItemPlace::AfterDefinition { name } => Ok(item::after_definition(name, l)),
-        ItemPlace::AtDefinitionType { name } => Ok(item::at_definition_type(name, l)),
-        ItemPlace::AfterDefinitionType { name, typ } => Ok(item::after_definition_type(
-            name, typ, l,
-        )),
-        ItemPlace::AtDefinitionText { name, typ } => Ok(item::at_definition_text(name, typ, l)),
-    }
-}
-
+/// Where a token of a lemma leads to.
 #[inline(never)]
 fn lemma_turn(alloc: Global, place: LemmaPlace, l: Lexeme<'_>) -> Result<Turn, AllocError>
     ensures { IfOk result (λ turn. seen_turn turn ≡ spec.turn (seen_lemma_place place) (seen_lexeme l.entry)) }
@@ -95,7 +73,7 @@ pub(crate) fn turn(alloc: Global, place: Place, l: Lexeme<'_>) -> Result<Turn, A
         Place::OfClass { place } => class_turn(alloc, place, l),
         Place::OfType { place } => type_turn(alloc, place, l),
         Place::OfArity { place } => arity_turn(alloc, place, l),
-        Place::OfItem { place } => item_turn(alloc, place, l),
+        Place::OfItem { place } => item::item_turn(alloc, place, l),
         Place::OfLemma { place } => lemma_turn(alloc, place, l),
     }
 }

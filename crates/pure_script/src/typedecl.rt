@@ -28,6 +28,7 @@ pub(crate) fn at_type_name(
     }
 }
 
+/// Behind `typedecl`.
 pub(crate) fn at_params(alloc: Global, lexeme: Lexeme<'_>) -> Result<Turn, AllocError>
     ensures { IfOk result (λ turn. seen_turn turn ≡ spec.turn spec.AtParams (seen_lexeme lexeme.entry)) }
 {
@@ -51,6 +52,7 @@ pub(crate) fn at_params(alloc: Global, lexeme: Lexeme<'_>) -> Result<Turn, Alloc
     }
 }
 
+/// Where a type variable stands.
 pub(crate) fn at_param(alloc: Global, params: Texts, lexeme: Lexeme<'_>) -> Result<Turn, AllocError>
     ensures { IfOk result (λ turn. seen_turn turn ≡ spec.turn (spec.AtParam params) (seen_lexeme lexeme.entry)) }
 {
@@ -70,6 +72,7 @@ pub(crate) fn at_param(alloc: Global, params: Texts, lexeme: Lexeme<'_>) -> Resu
     }
 }
 
+/// Behind a type variable.
 pub(crate) fn after_param(params: Texts, lexeme: Lexeme<'_>) -> Result<Turn, AllocError>
     ensures { IfOk result (λ turn. seen_turn turn ≡ spec.turn (spec.AfterParam params) (seen_lexeme lexeme.entry)) }
 {

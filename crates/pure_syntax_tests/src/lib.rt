@@ -1,7 +1,9 @@
-//! Tokens, terms and types of texts, against tables that were written by hand from the rules.
+//! Tokens, theories, terms and types of texts, against tables that were written by hand from the rules.
 #![tactic(auto)]
 
 #[cfg(test)]
 mod lex;
 #[cfg(test)]
 mod read;
+#[cfg(test)]
+mod script;

@@ -1,14 +1,14 @@
 //! The trees of theories, and the places of their faults, by hand from the rules.
 
-use super::*;
-use crate::tests::rows::{CHANGES, Change, FURTHER, WORKED};
+mod rows;
+
 use pure_lex::tokens;
+use pure_script::{Command, ScriptFault, Span, Step, TheoryText, read_theory};
 use pure_text::Text;
+use rows::{CHANGES, Change, FURTHER, WORKED};
 use std::alloc::Global;
 use std::process::Abort;
 use std::test::Fail;
-
-mod rows;
 
 // Each row is a source, and its tree or where its first fault stands and what may stand there. A range of the source
 // is shown by its bytes.
@@ -331,7 +331,7 @@ fn say_command(
             say_text(shown, name)?;
             say_span(shown, source, *prop)?;
             for step in script {
-                say_step(alloc, shown, step)?;
+                say_step(alloc, shown, &step.copy(alloc)?)?;
             }
             Ok(())
         }
