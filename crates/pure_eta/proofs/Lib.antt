@@ -1,4 +1,5 @@
 pub mod LooseLaws
+pub mod BareLaws
 pub mod EtaStepLaws
 pub mod EtaFormLaws
 pub mod FitsLaws

@@ -1,5 +1,5 @@
 -- The eta-normal form of a term, as a function.
-use Rattle.std.specs.Prelude.{ℕ, zero, ◌+◌, ◌-◌, nat_eq, nat_lt, Bool, false, ◌||◌, if◌then◌else◌}
+use Rattle.std.specs.Prelude.{◌≡◌, ◌⊎◌, ℕ, zero, ◌+◌, ◌-◌, ◌<◌, ◌≤◌, nat_eq, nat_lt, Bool, false, ◌||◌, if◌then◌else◌}
 use Rattle.pure_definitions.specs.Types.Typ.{Typ}
 use Rattle.pure_definitions.specs.Terms.Term.{Term, Const, Free, Var, Bound, Abs, App}
 
@@ -29,3 +29,24 @@ abbrev pub eta_form : Term → Term
 eta_form (Abs T b) = contracted T (eta_form b)
 eta_form (App f a) = App (eta_form f) (eta_form a)
 eta_form t = t
+
+-- the term with each loose bound variable from n on lowered by k
+abbrev pub lower_by : (k n : ℕ) → Term → Term
+lower_by k n (Const c T) = Const c T
+lower_by k n (Free x T) = Free x T
+lower_by k n (Var x i T) = Var x i T
+lower_by k n (Bound p) = if nat_lt p n then Bound p else Bound (p - k)
+lower_by k n (Abs T b) = Abs T (lower_by k (n + 1) b)
+lower_by k n (App f a) = App (lower_by k n f) (lower_by k n a)
+
+-- Of the bound variables from n on, the first k aren't loose in the term.
+abbrev pub Lacks : (n k : ℕ) → Term → Type 0
+Lacks n k (Bound p) = (p < n) ⊎ (n + k ≤ p)
+Lacks n k (Abs T b) = Lacks (n + 1) k b
+Lacks n k (App f a) = Lacks n k f × Lacks n k a
+Lacks n k _ = Unit {0}
+
+-- u is the term when what has gone from above it is lowered; at least `free` bound variables aren't loose.
+pub record IsBare (u term : Term) (gone free : ℕ) : Type 0 where
+  pub form : u ≡ lower_by gone 0 term
+  pub lacks : Lacks 0 free term

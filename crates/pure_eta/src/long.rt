@@ -66,7 +66,7 @@ fn abstraction(alloc: Global, typ: &Typ, body: Term) -> Result<Term, AllocError>
 }
 
 /// The application of the function.
-fn application(alloc: Global, function: Term, argument: Term) -> Result<Term, AllocError>
+pub fn application(alloc: Global, function: Term, argument: Term) -> Result<Term, AllocError>
     ensures { IfOk result (λ u. u ≡ term.App function argument) }
 {
     let fun = Box::new(alloc, function)?;

@@ -52,6 +52,9 @@ fn next(alloc: Global, place: u32, arg: &mut Term, left: &mut u32) -> Result<Ter
 {
     *left -= 1;
     let mut u = copied_or_taken(alloc, arg, *left)?;
+    if place == 0 {
+        return Ok(u);
+    }
     raise(&mut u, place, 0);
     Ok(u)
 }
