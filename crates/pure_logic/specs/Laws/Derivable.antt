@@ -48,9 +48,13 @@ TrivialIsDerivable = (Q : Content) (A : Term) → IsProposition Q A → IsDeriva
 abbrev pub WeakenedIsDerivable : Type 0
 WeakenedIsDerivable = (Q : Content) (A B : Term) → IsProposition Q A → IsProposition Q B → IsDerivableAlone Q (imp A (imp B A))
 
--- The content is consistent: the schematic variable `?P` of type prop isn't derivable alone. That Pure's own content is consistent is a gap: no law says so yet.
+-- The content is consistent: the schematic variable `?P` of type prop isn't derivable alone.
 abbrev pub IsConsistent : Content → Type 0
 IsConsistent Q = ¬ IsDerivableAlone Q (proposition_variable 0)
+
+-- Pure's own content is consistent. This is stated and not shown: no function carries it, and only a model of the whole logic would close the gap.
+abbrev pub PureIsConsistent : Type 0
+PureIsConsistent = IsConsistent pure_content
 
 -- A content above Pure's is consistent exactly where some proposition isn't derivable alone.
 abbrev pub ConsistentExactly : Type 0
