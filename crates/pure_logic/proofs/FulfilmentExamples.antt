@@ -69,9 +69,9 @@ promising_is_content =
       coregular = λ a b m. absurd m;
     }
 
--- The promise's own tree.
+-- The promise's own statement is proved, resting on its label.
 promised_is_proved : (name n : ℕ) → IsIn (PromiseDecl name (by_command n) trivial) promising.declarations → Proves promising [] (by_command n ∷ []) trivial
-promised_is_proved name n m = record { tree = Promise (by_command n) (λ T. T) (λ t. t); concludes = (name, trivial, m, identity_respects promising, refl); from = tt; rest_on = (inl refl, tt) }
+promised_is_proved name n m = (derivable_is_proves promising [] (by_command n ∷ []) trivial).0 (promise_is_derivable promising name (by_command n) trivial m)
 
 first-promised : IsIn (PromiseDecl 51 (by_command 1) trivial) promising.declarations
 first-promised = inr (inr (inr (inr (inr (inr (inr (inl refl)))))))
@@ -102,7 +102,7 @@ pub fulfilled_example : FulfilledExample
 fulfilled_example = (promising_is_content, resting, serving, refl, alone, refl, refl)
   where
     resting : IsDerivable promising (record { hyps = []; pairs = []; prop = trivial; rests = by_command 2 ∷ [] })
-    resting = (derivable_is_proves promising [] (by_command 2 ∷ []) trivial).1 (promised_is_proved 52 2 second-promised)
+    resting = promise_is_derivable promising 52 (by_command 2) trivial second-promised
 
     serving : AreServing promising (second_fulfilled ∷ first_fulfilled ∷ []) (by_command 2 ∷ [])
     serving = (λ m. (second-is, serves promising promising_is_content second_fulfilled 52 (λ d n. n) second-promised), (λ m. (first-is, serves promising promising_is_content first_fulfilled 51 (λ d n. n) first-promised), tt))

@@ -65,7 +65,7 @@ abbrev pub weakened_fulfilled : Fulfilment
 weakened_fulfilled = record { label = by_command 2; statement = weakened; content = one_promise; rests = by_command 1 ∷ [] }
 
 -- So both serve the content of both promises, in which a theorem that rests on the second rests on none once both are fulfilled.
--- The second doesn't serve the content below its own, nor would the first with the statement of the second serve one in which its label promises another.
+-- The second doesn't serve Pure's content, which isn't above its own; nor does the statement of the second, under the label of the first, serve a content in which this label promises `?A ==> ?A`.
 abbrev pub GrowingExample : Type 0
 GrowingExample = (¬ IsBelow one_promise pure_content) × (¬ IsBelow two_promises one_promise)
     × IsContent two_promises × IsDerivable two_promises (record { hyps = []; pairs = []; prop = weakened; rests = by_command 2 ∷ [] })

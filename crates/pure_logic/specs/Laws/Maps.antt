@@ -64,7 +64,7 @@ pub record HasOnlyIndex (index : ℕ) (t : Term) : Type 0 where
   pub typs : (x i : ℕ) (s : List ℕ) → TypOccurs (TVar x i s) t → i ≡ index
   pub terms : (x i : ℕ) (T : Typ) → Occurs (Var x i T) t → i ≡ index
 
--- So it is in a term that had no schematic variables before some were made so.
+-- Where a term has no schematic variables and schematic type variables, those that are made so have the index that they are given, and there are no others.
 abbrev pub GeneralisedHasOnlyIndex : Type 0
 GeneralisedHasOnlyIndex = (g : Generalisation) (t : Term) → HasNoSchematic t → HasOnlyIndex g.index (generalised g t)
 
