@@ -130,7 +130,12 @@ pub statement_example : StatementExample
 statement_example = (refl, generalised_is_statement example example_is_content 0 (less x y) (less-of x y x-of y-of))
 
 pub index_example : IndexExample
-index_example = (refl, generalised_has_only_index (everything 5) (less x y) none_schematic, λ h. apart 5 0 (omega arith) (sym (h.terms 40 0 i (inr (inl (inr (inr refl)))))))
+index_example = (
+  refl,
+  generalised_has_only_index (everything 5) (less x y) none_schematic,
+  λ h. apart 5 0 (omega arith) (sym (h.terms 40 0 i (inr (inl (inr (inr refl)))))),
+  refl,
+)
 
 pub nothing_fixed_example : NothingFixedExample
 nothing_fixed_example g = generalisation_keeps g (less any_x any_y) statement_example.1.schematic

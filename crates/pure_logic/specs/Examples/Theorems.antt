@@ -76,9 +76,10 @@ GeneralisedTypExample = IsDerivable example (record { hyps = less y y ∷ []; pa
 abbrev pub StatementExample : Type 0
 StatementExample = (generalised (everything 0) (less x y) ≡ less any_x any_y) × IsStatement example (less any_x any_y)
 
--- With the index 5 it becomes `?x.5 < ?y.5`, which has no other index; and `?x < ?y` has another.
+-- With the index 5 it becomes `?x.5 < ?y.5`, which has no other index; and `?x < ?y` has another. `v :: 'b` becomes `?v.5 :: ?'b.5`.
 abbrev pub IndexExample : Type 0
 IndexExample = (generalised (everything 5) (less x y) ≡ less (Var 40 5 i) (Var 41 5 i)) × HasOnlyIndex 5 (less (Var 40 5 i) (Var 41 5 i)) × (¬ HasOnlyIndex 5 (less any_x any_y))
+    × (generalised (everything 5) (v fixed_right) ≡ Var 44 5 (TVar 1 5 []))
 
 -- Nothing is made schematic in `?x < ?y`.
 abbrev pub NothingFixedExample : Type 0
