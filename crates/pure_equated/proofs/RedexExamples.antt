@@ -15,16 +15,16 @@ use Rattle.pure_logic.specs.Proves.{Proves}
 use Rattle.pure_logic.specs.Concludes.{AreRespecting}
 use Rattle.pure_logic.specs.Examples.Theory.{less, h, example}
 use Rattle.pure_logic.proofs.ConnectiveLaws.{certified_of}
-use Rattle.pure_logic.proofs.ExampleLaws.{example-above, example_is_content, i-certified, a-of, f-of, h-of, x-of, y-of, less-of}
+use Rattle.pure_logic.proofs.ExampleLaws.{example-above, example_is_content, i-certified, a-of, f-of, h-of, x-of, y-of, a-parts, less-parts, less-of}
 use Rattle.pure_logic.proofs.MapLaws.{sent, sent-respects, identity_respects}
 use Rattle.pure_logic.proofs.PropositionLaws.{eq-proposition}
 use Rattle.pure_logic.proofs.ProvesLaws.{assumed, proved-derivable}
 use Rattle.pure_equated.specs.Equated.{IsTypedUnder, AreEquated, AreEqualModulo}
-use Rattle.pure_equated.specs.Examples.{redex, redex_function, one_pair, pairs_with_y, Equates, NormalFormExample, EtaNormalFormExample, LongFormExample, RedexExample, OtherPairsExample, InstanceExample, TwoInstancesExample, FunctionsExample, BodiesExample, PropositionExample, PairsExample}
+use Rattle.pure_equated.specs.Examples.{redex, redex_function, one_pair, pairs_with_y, Equates, NormalFormExample, EtaNormalFormExample, LongFormExample, RedexExample, OtherPairsExample, InstanceExample, TwoInstancesExample, FunctionsExample, BodiesExample, NodesExample, PropositionExample, PairsExample}
 use Rattle.pure_equated.proofs.SidesLaws.{typed-abstraction, typed-application}
 use Rattle.pure_equated.proofs.KeptLaws.{equated_of_instance, equated_modulo_others}
 use Rattle.pure_equated.proofs.ReductionLaws.{beta_step_is_equated, beta_normal_form_is_equated, eta_normal_form_is_equated, long_form_is_equated}
-use Rattle.pure_equated.proofs.NodesLaws.{equated_of_subst, equated_instances, equated_functions, equated_bodies}
+use Rattle.pure_equated.proofs.NodesLaws.{equated_of_subst, equated_node_by_node, equated_instances, equated_functions, equated_bodies}
 use Rattle.pure_equated.proofs.PairsLaws.{proposition_is_replaced, pairs_are_replaced}
 
 -- Typed under binders with certified parts, over the content.
@@ -134,6 +134,18 @@ bodies_example = (equated_bodies example.declarations (one_pair redex_function (
     expanded : Typed [] (Abs i (App h (Bound 0))) (arrow i i)
     expanded = typed-abstraction example.declarations [] i i (App h (Bound 0)) i-certified
         (typed-application example.declarations (i ∷ []) i i h (Bound 0) (record { parts = h-of.certified.parts; typed = refl }) (bound-typed []))
+
+pub nodes_example : NodesExample
+nodes_example = (nodes, equated_node_by_node example.declarations (one_pair a x) [] (arrow i prop) (Abs i (less a (Bound 0))) (Abs i (less x (Bound 0))) typed nodes)
+  where
+    sides : AreEquated example.declarations (one_pair a x) (i ∷ []) i a x
+    sides = AreEquated.pair (record { left = a; right = x }) (inl refl) (of a i a-of) (of x i x-of)
+
+    nodes : AreEqualModulo example.declarations (one_pair a x) [] (Abs i (less a (Bound 0))) (Abs i (less x (Bound 0)))
+    nodes = AreEqualModulo.bodies (AreEqualModulo.applied (AreEqualModulo.applied AreEqualModulo.itself (AreEqualModulo.equated sides)) AreEqualModulo.itself)
+
+    typed : Typed [] (Abs i (less a (Bound 0))) (arrow i prop)
+    typed = typed-abstraction example.declarations [] i prop (less a (Bound 0)) i-certified (record { parts = less-parts a (Bound 0) a-parts tt; typed = (i, (i, refl, refl), refl) })
 
 certified : (t : Term) (T : Typ) → Typed [] t T → IsCertifiedOf example t T
 certified t T k = certified_of example t T k.parts k.typed

@@ -1,12 +1,12 @@
 -- Equations of a beta redex modulo one pair, as examples of the laws, over the content of pure_logic's examples.
 use Rattle.std.specs.Prelude.{List, [], ◌∷◌}
-use Rattle.pure_definitions.specs.Types.Typ.{Typ, arrow}
+use Rattle.pure_definitions.specs.Types.Typ.{Typ, arrow, prop}
 use Rattle.pure_definitions.specs.Terms.Term.{Term, Bound, Abs, App}
 use Rattle.pure_term_laws.specs.LawsExamples.{i, a, f, x, y, any_x}
 use Rattle.pure_logic.specs.Connectives.{eq}
 use Rattle.pure_logic.specs.Derivable.{Pair, IsDerivable}
 use Rattle.pure_logic.specs.Examples.Theory.{less, h, example}
-use Rattle.pure_equated.specs.Equated.{AreEquated}
+use Rattle.pure_equated.specs.Equated.{AreEquated, AreEqualModulo}
 
 -- `(%z. f z) t`
 abbrev pub redex : Term → Term
@@ -61,6 +61,11 @@ FunctionsExample = Equates [] (arrow i i) redex_function f
 -- Modulo the pair of `%z. (%z. f z) z` and `%z. h z` the bodies are equated, under the binder.
 abbrev pub BodiesExample : Type 0
 BodiesExample = AreEquated example.declarations (one_pair redex_function (Abs i (App h (Bound 0)))) (i ∷ []) i (redex (Bound 0)) (App h (Bound 0))
+
+-- Modulo the pair of a and x `%z. a < z` is equal to `%z. x < z` node by node, but for the sides of the pair, under the binder and inside an application; so the two are equated.
+abbrev pub NodesExample : Type 0
+NodesExample = AreEqualModulo example.declarations (one_pair a x) [] (Abs i (less a (Bound 0))) (Abs i (less x (Bound 0)))
+    × Equates (one_pair a x) (arrow i prop) (Abs i (less a (Bound 0))) (Abs i (less x (Bound 0)))
 
 -- Under the pair of a and x, `(%z. f z) a < y` is derivable from the hypothesis `f x < y`, since that is.
 abbrev pub PropositionExample : Type 0

@@ -1,5 +1,5 @@
 //! What the laws give, by example: equations of a beta redex modulo one pair, each carried by the contract of a function that does nothing.
-ghost use Rattle.pure_equated.specs.Examples.{NormalFormExample, EtaNormalFormExample, LongFormExample, RedexExample, OtherPairsExample, InstanceExample, TwoInstancesExample, FunctionsExample, BodiesExample, PropositionExample, PairsExample};
+ghost use Rattle.pure_equated.specs.Examples.{NormalFormExample, EtaNormalFormExample, LongFormExample, RedexExample, OtherPairsExample, InstanceExample, TwoInstancesExample, FunctionsExample, BodiesExample, NodesExample, PropositionExample, PairsExample};
 
 /// A term is equated with its normal forms and its long form.
 pub fn reduction_example()
@@ -15,11 +15,12 @@ pub fn pair_example()
     ensures instance { InstanceExample }
 {}
 
-/// Two instances of a redex, a function that is equated at each argument, and bodies of equated abstractions.
+/// Two instances of a redex, a function that is equated at each argument, bodies of equated abstractions, and terms that differ at the sides of a pair.
 pub fn congruence_example()
     ensures instances { TwoInstancesExample }
     ensures functions { FunctionsExample }
     ensures bodies { BodiesExample }
+    ensures nodes { NodesExample }
 {}
 
 /// Theorems under a pair.

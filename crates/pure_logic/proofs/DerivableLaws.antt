@@ -1,13 +1,16 @@
--- What is derivable, in words of trees.
-use Rattle.std.proofs.Common.{◌≡◌, ◌↔◌, [], refl}
+-- What is derivable, in words of trees; and that axioms and promises are.
+use Rattle.std.proofs.Common.{◌≡◌, ◌↔◌, ℕ, [], ◌∷◌, inl, refl, sym}
 use Rattle.pure_definitions.specs.Names.{Label}
 use Rattle.pure_definitions.specs.Terms.Term.{Term}
+use Rattle.pure_definitions.specs.Declarations.Decl.{AxiomDecl, PromiseDecl}
 use Rattle.pure_text.specs.Lists.{IsIn}
 use Rattle.pure_text.proofs.ListLaws.{each_of, each_at, none_in}
+use Rattle.pure_term_laws.proofs.SubstLaws.{term_instance-identity}
 use Rattle.pure_logic.specs.Content.{Content}
-use Rattle.pure_logic.specs.Tree.{Tree, hyps_of, rests_of}
+use Rattle.pure_logic.specs.Tree.{Tree, Axiom, Promise, hyps_of, rests_of}
 use Rattle.pure_logic.specs.Concludes.{Concludes}
 use Rattle.pure_logic.specs.Derivable.{Theorem, IsUnderPairs, IsDerivable, IsDerivableAlone}
+use Rattle.pure_logic.proofs.MapLaws.{identity_respects}
 
 pub derivable_alone_exactly : (Q : Content) (A : Term) → IsDerivableAlone Q A ↔ ((d : Tree) × Concludes Q d A × (hyps_of d ≡ []) × (rests_of d ≡ []))
 derivable_alone_exactly Q A = (
@@ -28,3 +31,23 @@ derivable_exactly Q th = (
     rests = each_of (λ l. IsIn l th.rests) (rests_of h.0) h.5;
   },
 )
+
+pub axiom_is_derivable : (Q : Content) (name : ℕ) (A : Term) → IsIn (AxiomDecl name A) Q.declarations → IsDerivableAlone Q A
+axiom_is_derivable Q name A m = record {
+  tree = Axiom name (λ T. T) (λ t. t);
+  conclusion = A;
+  concludes = (A, m, identity_respects Q, sym (term_instance-identity A));
+  under_pairs = refl;
+  hyps = tt;
+  rests = tt;
+}
+
+pub promise_is_derivable : (Q : Content) (name : ℕ) (label : Label) (A : Term) → IsIn (PromiseDecl name label A) Q.declarations → IsDerivable Q (record { hyps = []; pairs = []; prop = A; rests = label ∷ [] })
+promise_is_derivable Q name label A m = record {
+  tree = Promise label (λ T. T) (λ t. t);
+  conclusion = A;
+  concludes = (name, A, m, identity_respects Q, sym (term_instance-identity A));
+  under_pairs = refl;
+  hyps = tt;
+  rests = (inl refl, tt);
+}

@@ -1,5 +1,5 @@
 -- Maps on theorems: fixed variables made schematic, indexes raised, and the finite maps of a call.
-use Rattle.std.proofs.Common.{◌≡◌, ℕ, Bool, true, false, cond, List, [], ◌∷◌, map, refl, ap, ◌∙◌}
+use Rattle.std.proofs.Common.{◌≡◌, inl, inr, ℕ, Bool, true, false, cond, List, [], ◌∷◌, map, refl, ap, ◌∙◌}
 use Rattle.pure_text.specs.Lists.{IsIn, Each}
 use Rattle.pure_text.proofs.ListLaws.{each_imply}
 use Rattle.pure_definitions.specs.Names.{Label}
@@ -14,8 +14,8 @@ use Rattle.pure_definitions.specs.Terms.Subst.{TypBind, TermBind, typ_image, typ
 use Rattle.pure_definitions.specs.Declarations.Decl.{algebra_of}
 use Rattle.pure_definitions.specs.Declarations.Certified.{IsCertifiedTyp, HasCertifiedParts}
 use Rattle.pure_definitions.proofs.OrderLaws.{sort_below-itself}
-use Rattle.pure_term_laws.specs.LawsOccurs.{IsTypVariable, TypOccurs}
-use Rattle.pure_term_laws.proofs.OccursLaws.{typ_instances-agree, agreeing_instance, typ_occurs-variable}
+use Rattle.pure_term_laws.specs.LawsOccurs.{IsTypVariable, TypOccurs, HasNoSchematic}
+use Rattle.pure_term_laws.proofs.OccursLaws.{typ_instances-agree, agreeing_instance, typ_occurs-variable, typ_variable_of_typ_instance, variable_of_instance, typ_variable_of_instance}
 use Rattle.pure_term_laws.proofs.SubstLaws.{typ_instance-identity, term_instance-identity}
 use Rattle.pure_logic.specs.Content.{Content, IsContent, IsCertifiedOf, IsProposition, IsSchematicTyp, AreSchematicTyps, IsSchematic, IsStatement}
 use Rattle.pure_logic.specs.Tree.{joined_terms, hyps_of, rests_of}
@@ -23,7 +23,7 @@ use Rattle.pure_logic.specs.Concludes.{AreRespecting}
 use Rattle.pure_logic.specs.Derivable.{Theorem, IsDerivable}
 use Rattle.pure_logic.specs.Laws.Substitution.{pair_instance, theorem_instance}
 use Rattle.pure_logic.specs.Laws.Inferences.{IsAmong}
-use Rattle.pure_logic.specs.Laws.Maps.{MoveFixedAlone, Generalisation, schematic_typs, schematic_terms, generalised, HasNoneOf, everything, raised_typs, raised_terms, instantiated, instantiated_theorem}
+use Rattle.pure_logic.specs.Laws.Maps.{MoveFixedAlone, Generalisation, schematic_typs, schematic_terms, generalised, HasNoneOf, everything, HasOnlyIndex, raised_typs, raised_terms, instantiated, instantiated_theorem}
 use Rattle.pure_logic.proofs.MapLaws.{cond-has, joined_respect, joined_instance}
 use Rattle.pure_logic.proofs.WeakeningLaws.{typ_instance-certified}
 use Rattle.pure_logic.proofs.SubstitutionLaws.{instance_is_derivable, certified_of-instance}
@@ -137,6 +137,44 @@ pub generalised_is_statement : (Q : Content) → IsContent Q → (index : ℕ) (
 generalised_is_statement Q q index A h =
     let g = everything index in
     record { proposition = certified_of-instance Q q (schematic_typs g) (schematic_terms g) (generalisation_respects Q g) A prop h; schematic = generalised-schematic index A }
+
+-- Of a term without schematic variables the schematic ones that a generalisation makes have its index.
+module _ (g : Generalisation) (t : Term) (none : HasNoSchematic t) where
+  typ_index : (x i : ℕ) (s : List ℕ) (u : Typ) → IsTypVariable u → TypOccurs u t → OccursInTyp (TVar x i s) (schematic_typs g u) → i ≡ g.index
+  typ_index x i s (TFree y r) is o h = either_way (λ T. OccursInTyp (TVar x i s) T → i ≡ g.index) (g.typs y) (TVar y g.index r) (TFree y r) (λ e. cc) (λ e. cc) h
+  typ_index x i s (TVar y j r) is o h = absurd (none.typs y j r o)
+  typ_index x i s (Con k ts) is o h = absurd is
+
+  variable_typ_index : (x i : ℕ) (s : List ℕ) (u : Term) → IsVariable u → Occurs u t → TypOccurs (TVar x i s) (schematic_terms g u) → i ≡ g.index
+  variable_typ_index x i s (Free y U) is o h =
+      let V = typ_instance (schematic_typs g) U in
+      let inside = either_way (λ v. TypOccurs (TVar x i s) v → OccursInTyp (TVar x i s) V) (g.terms y) (Var y g.index V) (Free y V) (λ m. m) (λ m. m) h in
+      let found = typ_variable_of_typ_instance (schematic_typs g) (TVar x i s) U tt inside in
+      typ_index x i s found.0 found.1 (typ_occurs-variable found.0 (Free y U) t tt o found.2) found.3
+  variable_typ_index x i s (Var y j U) is o h = absurd (none.terms y j U o)
+  variable_typ_index x i s (Const c U) is o h = absurd is
+  variable_typ_index x i s (Bound n) is o h = absurd is
+  variable_typ_index x i s (Abs U b) is o h = absurd is
+  variable_typ_index x i s (App f a) is o h = absurd is
+
+  variable_index : (x i : ℕ) (T : Typ) (u : Term) → IsVariable u → Occurs u t → Occurs (Var x i T) (schematic_terms g u) → i ≡ g.index
+  variable_index x i T (Free y U) is o h =
+      let V = typ_instance (schematic_typs g) U in
+      either_way (λ v. Occurs (Var x i T) v → i ≡ g.index) (g.terms y) (Var y g.index V) (Free y V) (λ e. cc) (λ e. cc) h
+  variable_index x i T (Var y j U) is o h = absurd (none.terms y j U o)
+  variable_index x i T (Const c U) is o h = absurd is
+  variable_index x i T (Bound n) is o h = absurd is
+  variable_index x i T (Abs U b) is o h = absurd is
+  variable_index x i T (App f a) is o h = absurd is
+
+  pub generalised_has_only_index : HasOnlyIndex g.index (generalised g t)
+  generalised_has_only_index = record {
+    typs = λ x i s o. elim (typ_variable_of_instance (schematic_typs g) (schematic_terms g) (TVar x i s) tt t o) [
+      | inl found ↦ typ_index x i s found.0 found.1 found.2 found.3
+      | inr found ↦ variable_typ_index x i s found.0 found.1 found.2 found.3
+    ];
+    terms = λ x i T o. (let found = variable_of_instance (schematic_typs g) (schematic_terms g) (Var x i T) t tt o in variable_index x i T found.0 found.1 found.2 found.3);
+  }
 
 module _ (typs : Typ → Typ) (terms : Term → Term) (fixed : MoveFixedAlone typs terms) where
   mutual

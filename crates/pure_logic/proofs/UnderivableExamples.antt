@@ -19,8 +19,7 @@ use Rattle.pure_logic.specs.Examples.Underivable.{stated, bare, UnderivableExamp
 use Rattle.pure_logic.proofs.ChainLaws.{chain_is_derivable}
 use Rattle.pure_logic.proofs.ConnectiveLaws.{certified_of, itself-instance}
 use Rattle.pure_logic.proofs.ContentLaws.{named_alike, both_promises, named_alike-so, both_promises-so, apart-once}
-use Rattle.pure_logic.proofs.DerivableLaws.{derivable_alone_exactly}
-use Rattle.pure_logic.proofs.MapLaws.{identity_respects}
+use Rattle.pure_logic.proofs.DerivableLaws.{derivable_alone_exactly, promise_is_derivable}
 use Rattle.pure_logic.proofs.DischargeLaws.{restored}
 
 -- what a term is worth: a connective that waits for its arguments, or a truth value
@@ -168,14 +167,7 @@ underivable_example = (
   bare_is_content,
   stated-of,
   record { tree = Assume stated; conclusion = stated; concludes = (stated-of, refl); under_pairs = refl; hyps = (inl refl, tt); rests = tt },
-  record {
-    tree = Promise promised (λ T. T) (λ t. t);
-    conclusion = stated;
-    concludes = (51, stated, inr (inr (inl refl)), identity_respects bare, refl);
-    under_pairs = refl;
-    hyps = tt;
-    rests = (inl refl, tt);
-  },
+  promise_is_derivable bare 51 promised stated (inr (inr (inl refl))),
   chain_is_derivable bare (stated ∷ []) stated (stated-of, tt) (inl refl),
   λ h. (let k = (derivable_alone_exactly bare stated).0 h in let holds = sound k.0 stated k.1 (rw k.2 tt) k.3 in cc),
 )

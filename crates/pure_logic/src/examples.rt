@@ -1,8 +1,8 @@
 //! What the definitions mean, by computed examples, each carried by the contract of a function that does nothing.
 ghost use Rattle.pure_logic.specs.Examples.Contents.{BeginningExample, AncestorsExample, NotApartExample, NoMergeExample, MiddleMergeExample, NamedTwiceExample, IllFormedExample, SchematicExample, BelowExample, DefinitionExample};
 ghost use Rattle.pure_logic.specs.Examples.Nodes.{ExampleIsContent, AxiomExample, OwnTypeExample, PromiseExample, RestsExample, NoAxiomExample, NoMapExample, AssumeExample, AllIntroExample, NoAllIntroExample, AllElimExample, NoAllElimExample, ImpliesIntroExample, TwiceAssumedExample, ImpliesElimExample, BetaExample, ReflExample, SubstExample, SymmetricExample, ExtExample, IffExample, PairsExample, DerivableExample, OpenHypothesisExample, OpenPromiseExample, NoPropositionExample};
-ghost use Rattle.pure_logic.specs.Examples.Theorems.{InstantiatedExample, RaisedExample, GeneralisedExample, StatementExample, NothingFixedExample, WeakerExample, QuantifiedVariableExample, ContextExample, AbstractedExample, NameExample, KeptExample, ClosedExample};
-ghost use Rattle.pure_logic.specs.Examples.Fulfilments.{FulfilledExample, JoinedExample};
+ghost use Rattle.pure_logic.specs.Examples.Theorems.{InstantiatedExample, RaisedExample, RaisedIndexExample, GeneralisedExample, GeneralisedTypExample, StatementExample, IndexExample, NothingFixedExample, WeakerExample, QuantifiedVariableExample, ContextExample, AbstractedExample, NameExample, KeptExample, ClosedExample};
+ghost use Rattle.pure_logic.specs.Examples.Fulfilments.{FulfilledExample, JoinedExample, GrowingExample};
 ghost use Rattle.pure_logic.specs.Examples.Underivable.{UnderivableExample};
 
 /// Declarations that make no content, contents below others, and what a definition declares.
@@ -82,14 +82,21 @@ pub fn underivable_example()
     ensures without_pure { NoPropositionExample }
 {}
 
-/// Finite maps put into a theorem, indexes raised, and fixed variables made schematic.
+/// Finite maps put into a theorem, indexes raised, and more hypotheses.
 pub fn theorem_map_example()
     ensures instantiated { InstantiatedExample }
     ensures raised { RaisedExample }
-    ensures generalised { GeneralisedExample }
-    ensures statement { StatementExample }
-    ensures nothing { NothingFixedExample }
+    ensures raised_index { RaisedIndexExample }
     ensures weaker { WeakerExample }
+{}
+
+/// Fixed variables and fixed type variables made schematic, and where they may not be.
+pub fn generalised_example()
+    ensures generalised { GeneralisedExample }
+    ensures of_type { GeneralisedTypExample }
+    ensures statement { StatementExample }
+    ensures index { IndexExample }
+    ensures nothing { NothingFixedExample }
 {}
 
 /// A quantification over a variable, an equation in a context, and one that is abstracted.
@@ -106,8 +113,9 @@ pub fn name_example()
     ensures closed { ClosedExample }
 {}
 
-/// Promises that are fulfilled one after another, and which of them are joined.
+/// Promises that are fulfilled one after another, over one content and over growing ones, and which of them are joined.
 pub fn fulfilment_example()
     ensures fulfilled { FulfilledExample }
     ensures joined { JoinedExample }
+    ensures growing { GrowingExample }
 {}

@@ -1,11 +1,11 @@
 //! What the definitions mean: laws, each carried by the contract of a function that does nothing.
-ghost use Rattle.pure_logic.specs.Laws.Derivable.{DerivableAloneExactly, DerivableExactly, PureIsContent, VariableIsProposition, ChainIsDerivable, VariableChainIsDerivable, PureIsBelowItself, TrivialIsDerivable, WeakenedIsDerivable, ConsistentExactly};
+ghost use Rattle.pure_logic.specs.Laws.Derivable.{DerivableAloneExactly, DerivableExactly, AxiomIsDerivable, PromiseIsDerivable, PureIsContent, VariableIsProposition, ChainIsDerivable, VariableChainIsDerivable, PureIsBelowItself, TrivialIsDerivable, WeakenedIsDerivable, ConsistentExactly};
 ghost use Rattle.pure_logic.specs.Laws.Proves.{DerivableIsProves, PairsAreEquations, AssumedIsProved, WeakerIsProved, ImplicationIsProved, ConclusionIsProved, ChainIsProved, EndOfChainIsProved, QuantificationIsProved, InstanceOfBodyIsProved, ProvedIsProposition, CutIsProved};
 ghost use Rattle.pure_logic.specs.Laws.Inferences.{InferredFromOne, InferredFromTwo, ImpliesElimIsDerivable, ImpliesIntroIsDerivable, AllElimIsDerivable, AllIntroIsDerivable};
 ghost use Rattle.pure_logic.specs.Laws.Equality.{ReflexiveEquality, SymmetricEquality, TransitiveEquality, EqualsAreReplaced, EqualApplications, EqualPropositions, EqualIsProved, EqualFunctions, BetaEquality, EtaEquality, EqualAbstractions, MarkMeansNothing};
 ghost use Rattle.pure_logic.specs.Laws.Quantification.{EqualInContext, EqualBodies, AbstractionIsDerivable, InstanceOfFunctionIsProved, ReducedInstanceIsProved, ReducedInstanceIsDerivable};
 ghost use Rattle.pure_logic.specs.Laws.Substitution.{SubstitutionOfTrees, InstanceIsProved, InstanceIsDerivable};
-ghost use Rattle.pure_logic.specs.Laws.Maps.{WeakerIsDerivable, InstanceFromSameHypotheses, GeneralisedIsDerivable, GeneralisedIsStatement, FixedMapKeeps, GeneralisationKeeps, RaisedIsDerivable, InstantiatedIsDerivable};
+ghost use Rattle.pure_logic.specs.Laws.Maps.{WeakerIsDerivable, InstanceFromSameHypotheses, GeneralisedIsDerivable, GeneralisedIsStatement, GeneralisedHasOnlyIndex, FixedMapKeeps, GeneralisationKeeps, RaisedIsDerivable, InstantiatedIsDerivable};
 ghost use Rattle.pure_logic.specs.Laws.Promises.{CutOfTrees, CutByProofs, CutOfPromises, SettledIsDerivable, FulfilledIsDerivable, AllFulfilledIsDerivable, JoinedAreDerivable, JoinedExactly};
 ghost use Rattle.pure_logic.specs.Laws.BuiltFacts.{BuiltFactsAreDerivable, BuiltFactsAreDerivableAbove, BuiltFactsAreStatements};
 ghost use Rattle.pure_logic.specs.Laws.Tree.{OneConclusion, OneUnderPairs, WeakeningOfTrees, WeakeningOfDerivable, IdentityRespects, JoinedMapsRespect, JoinedInstance};
@@ -37,6 +37,12 @@ pub fn chain_is_derivable()
 pub fn derivable_exactly()
     ensures alone { DerivableAloneExactly }
     ensures theorem { DerivableExactly }
+{}
+
+/// What is declared is derivable: an axiom alone, and the statement of a promise resting on its label.
+pub fn declared_is_derivable()
+    ensures axiom_alone { AxiomIsDerivable }
+    ensures promise { PromiseIsDerivable }
 {}
 
 /// What is derivable is what is proved, with the equations of pairs among the hypotheses.
@@ -118,10 +124,11 @@ pub fn maps_on_theorems()
     ensures instantiated { InstantiatedIsDerivable }
 {}
 
-/// Fixed variables that are in no hypothesis are made schematic; where there are none, nothing changes.
+/// Fixed variables that are in no hypothesis are made schematic, with one index; where there are none, nothing changes.
 pub fn fixed_variables_made_schematic()
     ensures generalised { GeneralisedIsDerivable }
     ensures statement { GeneralisedIsStatement }
+    ensures index { GeneralisedHasOnlyIndex }
     ensures fixed { FixedMapKeeps }
     ensures kept { GeneralisationKeeps }
 {}

@@ -1,5 +1,5 @@
--- Maps that agree on what occurs in a term; and terms that maps leave as they are, or closed.
-use Rattle.std.proofs.Common.{◌≡◌, ◌≤◌, ◌+◌, ℕ, inl, inr, refl, ap, ◌∙◌, arith}
+-- Maps that agree on what occurs in a term; where what occurs in an instance comes from; and terms that maps leave as they are, or closed.
+use Rattle.std.proofs.Common.{◌≡◌, ◌⊎◌, ◌≤◌, ◌+◌, ℕ, inl, inr, refl, ap, ◌∙◌, arith}
 use Rattle.pure_definitions.specs.Types.Typ.{Typ, TFree, TVar, Con, Typs, none, also}
 use Rattle.pure_definitions.specs.Types.Occurs.{OccursInTyp, OccursInTyps}
 use Rattle.pure_definitions.specs.Terms.Term.{Term, Const, Free, Var, Bound, Abs, App}
@@ -36,6 +36,49 @@ agreeing_instance typs others terms more (App f a) same =
     let function = agreeing_instance typs others terms more f (record { on_typs = λ v is o. same.on_typs v is (inl o); on_terms = λ u is o. same.on_terms u is (inr (inl o)) }) in
     let argument = agreeing_instance typs others terms more a (record { on_typs = λ v is o. same.on_typs v is (inr o); on_terms = λ u is o. same.on_terms u is (inr (inr o)) }) in
     λ l. App (function l) (argument l)
+
+mutual
+  pub typ_variable_of_typ_instance : (typs : Typ → Typ) (v T : Typ) → IsTypVariable v → OccursInTyp v (typ_instance typs T) → (u : Typ) × IsTypVariable u × OccursInTyp u T × OccursInTyp v (typs u)
+  typ_variable_of_typ_instance typs v (TFree x s) is o = (TFree x s, tt, refl, o)
+  typ_variable_of_typ_instance typs v (TVar x i s) is o = (TVar x i s, tt, refl, o)
+  typ_variable_of_typ_instance typs v (Con k ts) is (inl e) = absurd (rw e at is)
+  typ_variable_of_typ_instance typs v (Con k ts) is (inr o) = let found = typ_variable_of_typs_instance typs v ts is o in (found.0, found.1, inr found.2, found.3)
+
+  typ_variable_of_typs_instance : (typs : Typ → Typ) (v : Typ) (ts : Typs) → IsTypVariable v → OccursInTyps v (typs_instance typs ts) → (u : Typ) × IsTypVariable u × OccursInTyps u ts × OccursInTyp v (typs u)
+  typ_variable_of_typs_instance typs v none is o = absurd o
+  typ_variable_of_typs_instance typs v (also t ts) is (inl o) = let found = typ_variable_of_typ_instance typs v t is o in (found.0, found.1, inl found.2, found.3)
+  typ_variable_of_typs_instance typs v (also t ts) is (inr o) = let found = typ_variable_of_typs_instance typs v ts is o in (found.0, found.1, inr found.2, found.3)
+
+pub variable_of_instance : (typs : Typ → Typ) (terms : Term → Term) (w t : Term) → IsVariable w → Occurs w (term_instance typs terms t) → (u : Term) × IsVariable u × Occurs u t × Occurs w (terms u)
+variable_of_instance typs terms w (Const c T) is o = absurd (rw o at is)
+variable_of_instance typs terms w (Free x T) is o = (Free x T, tt, refl, o)
+variable_of_instance typs terms w (Var x i T) is o = (Var x i T, tt, refl, o)
+variable_of_instance typs terms w (Bound n) is o = absurd (rw o at is)
+variable_of_instance typs terms w (Abs T b) is (inl e) = absurd (rw e at is)
+variable_of_instance typs terms w (Abs T b) is (inr o) = let found = variable_of_instance typs terms w b is o in (found.0, found.1, inr found.2, found.3)
+variable_of_instance typs terms w (App f a) is (inl e) = absurd (rw e at is)
+variable_of_instance typs terms w (App f a) is (inr (inl o)) = let found = variable_of_instance typs terms w f is o in (found.0, found.1, inr (inl found.2), found.3)
+variable_of_instance typs terms w (App f a) is (inr (inr o)) = let found = variable_of_instance typs terms w a is o in (found.0, found.1, inr (inr found.2), found.3)
+
+module _ (typs : Typ → Typ) (terms : Term → Term) (v : Typ) (is : IsTypVariable v) where
+  -- A type variable of the term has v in its image, or a variable of it has.
+  abbrev ComesFrom : Term → Type 0
+  ComesFrom t = ((u : Typ) × IsTypVariable u × TypOccurs u t × OccursInTyp v (typs u)) ⊎ ((u : Term) × IsVariable u × Occurs u t × TypOccurs v (terms u))
+
+  -- What comes from a part of a term comes from the term.
+  comes_from-whole : (part whole : Term) → ((u : Typ) → TypOccurs u part → TypOccurs u whole) → ((u : Term) → Occurs u part → Occurs u whole) → ComesFrom part → ComesFrom whole
+  comes_from-whole part whole on_typs on_terms (inl found) = inl (found.0, found.1, on_typs found.0 found.2, found.3)
+  comes_from-whole part whole on_typs on_terms (inr found) = inr (found.0, found.1, on_terms found.0 found.2, found.3)
+
+  pub typ_variable_of_instance : (t : Term) → TypOccurs v (term_instance typs terms t) → ComesFrom t
+  typ_variable_of_instance (Const c T) o = inl (typ_variable_of_typ_instance typs v T is o)
+  typ_variable_of_instance (Free x T) o = inr (Free x T, tt, refl, o)
+  typ_variable_of_instance (Var x i T) o = inr (Var x i T, tt, refl, o)
+  typ_variable_of_instance (Bound n) o = absurd o
+  typ_variable_of_instance (Abs T b) (inl o) = let found = typ_variable_of_typ_instance typs v T is o in inl (found.0, found.1, inl found.2, found.3)
+  typ_variable_of_instance (Abs T b) (inr o) = comes_from-whole b (Abs T b) (λ u m. inr m) (λ u m. inr m) (typ_variable_of_instance b o)
+  typ_variable_of_instance (App f a) (inl o) = comes_from-whole f (App f a) (λ u m. inl m) (λ u m. inr (inl m)) (typ_variable_of_instance f o)
+  typ_variable_of_instance (App f a) (inr o) = comes_from-whole a (App f a) (λ u m. inr m) (λ u m. inr (inr m)) (typ_variable_of_instance a o)
 
 -- What occurs in the type of a variable of the term occurs in a type in the term.
 pub typ_occurs-variable : (v : Typ) (u t : Term) → IsVariable u → Occurs u t → OccursInTyp v (variable_typ u) → TypOccurs v t

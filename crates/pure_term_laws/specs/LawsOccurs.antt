@@ -1,4 +1,4 @@
--- What occurs in a term, in its types too; maps that agree on it; and terms that maps leave as they are, or closed.
+-- What occurs in a term, in its types too; maps that agree on it; where what occurs in an instance comes from; and terms that maps leave as they are, or closed.
 use Rattle.std.specs.Prelude.{◌≡◌, ◌⊎◌, ℕ, List}
 use Rattle.pure_definitions.specs.Types.Typ.{Typ, TVar, Con}
 use Rattle.pure_definitions.specs.Types.Occurs.{OccursInTyp}
@@ -35,6 +35,18 @@ pub record AgreeOn (typs other_typs : Typ → Typ) (terms other_terms : Term →
 abbrev pub AgreeingInstance : Type 0
 AgreeingInstance = (typs other_typs : Typ → Typ) (terms other_terms : Term → Term) (t : Term) → AgreeOn typs other_typs terms other_terms t
     → term_instance typs terms t ≡ term_instance other_typs other_terms t
+
+-- Each type variable in an instance of a type comes from the image of a type variable of the type.
+abbrev pub TypVariableOfTypInstance : Type 0
+TypVariableOfTypInstance = (typs : Typ → Typ) (v T : Typ) → IsTypVariable v → OccursInTyp v (typ_instance typs T) → (u : Typ) × IsTypVariable u × OccursInTyp u T × OccursInTyp v (typs u)
+
+-- Each variable in an instance of a term comes from the image of a variable of the term, and each type variable in it from that of a type variable or of a variable of the term.
+abbrev pub VariableOfInstance : Type 0
+VariableOfInstance = (typs : Typ → Typ) (terms : Term → Term) (w t : Term) → IsVariable w → Occurs w (term_instance typs terms t) → (u : Term) × IsVariable u × Occurs u t × Occurs w (terms u)
+
+abbrev pub TypVariableOfInstance : Type 0
+TypVariableOfInstance = (typs : Typ → Typ) (terms : Term → Term) (v : Typ) (t : Term) → IsTypVariable v → TypOccurs v (term_instance typs terms t)
+    → ((u : Typ) × IsTypVariable u × TypOccurs u t × OccursInTyp v (typs u)) ⊎ ((u : Term) × IsVariable u × Occurs u t × TypOccurs v (terms u))
 
 -- No schematic type variable is in the term, and no schematic variable.
 pub record HasNoSchematic (t : Term) : Type 0 where

@@ -5,7 +5,7 @@ ghost use Rattle.pure_term_laws.specs.LawsSubst.{IdentityIsSortRespecting, Ident
 ghost use Rattle.pure_term_laws.specs.LawsNormal.{NoStepExactlyWhereNormal, OneBetaSequence, OneBetaSequenceToNormal, EachTermHasBetaAnswer, OneBetaAnswer, BetaStepsExample, BetaAnswerExample, BetaNormalExample, EndlessExample, LargeExample, EtaExample, LongFormExample, TwoArrowsExample, OneLongForm, OneEtaNormalForm};
 ghost use Rattle.pure_term_laws.specs.LawsBounds.{LiftZero, LiftAgain, LiftLift, SizeOfLift, DepthOfLift, SubstLift, SubstBind, BindSubst, NotInBind, BindOfOther, LiftPastSubst, LiftAboveBind, LiftBelowBind, BindPastSubst, BindBelowSubst, TypingOfLift, TypingOfSubst, TypingOfBind, TypingOfInstance};
 ghost use Rattle.pure_term_laws.specs.LawsCertified.{PartsOfLift, PartsOfSubst, PartsOfBind};
-ghost use Rattle.pure_term_laws.specs.LawsOccurs.{TypInstancesAgree, AgreeingInstance, SchematicMapKeeps, InstanceIsClosed};
+ghost use Rattle.pure_term_laws.specs.LawsOccurs.{TypInstancesAgree, AgreeingInstance, TypVariableOfTypInstance, VariableOfInstance, TypVariableOfInstance, SchematicMapKeeps, InstanceIsClosed};
 ghost use Rattle.pure_term_laws.specs.LawsMaps.{SubstPastLift, SubstPastSubst, SizeOfSubst, DepthOfSubst, InstanceOfLift, InstanceOfSubst, InstanceOfBind, SendsAloneExample, InstancesAgree, InstanceSentElsewhere, OccursInInstance, InstanceOfInstance};
 
 /// The mutual list of types stands for a list.
@@ -246,6 +246,13 @@ pub fn instance_by_what_occurs()
     ensures types { TypInstancesAgree }
     ensures terms { AgreeingInstance }
     ensures schematic { SchematicMapKeeps }
+{}
+
+/// The variables and the type variables of an instance come from the images of the term's.
+pub fn variables_of_instance()
+    ensures in_type { TypVariableOfTypInstance }
+    ensures variable { VariableOfInstance }
+    ensures type_variable { TypVariableOfInstance }
 {}
 
 /// Maps leave closed terms closed.

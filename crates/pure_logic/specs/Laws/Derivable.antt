@@ -1,8 +1,9 @@
 -- Laws of what is derivable.
-use Rattle.std.specs.Prelude.{◌≡◌, ◌↔◌, ℕ, List, [], map}
+use Rattle.std.specs.Prelude.{◌≡◌, ◌↔◌, ℕ, List, [], ◌∷◌, map}
 use Rattle.pure_definitions.specs.Names.{Label}
 use Rattle.pure_text.specs.Lists.{IsIn, Each}
 use Rattle.pure_definitions.specs.Terms.Term.{Term}
+use Rattle.pure_definitions.specs.Declarations.Decl.{AxiomDecl, PromiseDecl}
 use Rattle.pure_logic.specs.Connectives.{imp, chain}
 use Rattle.pure_logic.specs.Content.{Content, IsContent, IsBelow, IsProposition}
 use Rattle.pure_logic.specs.PureContent.{pure_content, proposition_variable}
@@ -18,6 +19,13 @@ DerivableAloneExactly = (Q : Content) (A : Term) → IsDerivableAlone Q A ↔ ((
 abbrev pub DerivableExactly : Type 0
 DerivableExactly = (Q : Content) (th : Theorem) → IsDerivable Q th
     ↔ ((d : Tree) × (C : Term) × Concludes Q d C × IsUnderPairs th.pairs th.prop C × ((A : Term) → IsIn A (hyps_of d) → IsIn A th.hyps) × ((l : Label) → IsIn l (rests_of d) → IsIn l th.rests))
+
+-- An axiom of the content is derivable alone, as it stands; and the statement of a promise is derivable resting on the promise's label alone.
+abbrev pub AxiomIsDerivable : Type 0
+AxiomIsDerivable = (Q : Content) (name : ℕ) (A : Term) → IsIn (AxiomDecl name A) Q.declarations → IsDerivableAlone Q A
+
+abbrev pub PromiseIsDerivable : Type 0
+PromiseIsDerivable = (Q : Content) (name : ℕ) (label : Label) (A : Term) → IsIn (PromiseDecl name label A) Q.declarations → IsDerivable Q (record { hyps = []; pairs = []; prop = A; rests = label ∷ [] })
 
 -- Pure's own content is a content.
 abbrev pub PureIsContent : Type 0
@@ -48,9 +56,13 @@ TrivialIsDerivable = (Q : Content) (A : Term) → IsProposition Q A → IsDeriva
 abbrev pub WeakenedIsDerivable : Type 0
 WeakenedIsDerivable = (Q : Content) (A B : Term) → IsProposition Q A → IsProposition Q B → IsDerivableAlone Q (imp A (imp B A))
 
--- The content is consistent: the schematic variable `?P` of type prop isn't derivable alone. That Pure's own content is consistent is a gap: no law says so yet.
+-- The content is consistent: the schematic variable `?P` of type prop isn't derivable alone.
 abbrev pub IsConsistent : Content → Type 0
 IsConsistent Q = ¬ IsDerivableAlone Q (proposition_variable 0)
+
+-- Pure's own content is consistent. This is stated and not shown: no function carries it, and only a model of the whole logic would close the gap.
+abbrev pub PureIsConsistent : Type 0
+PureIsConsistent = IsConsistent pure_content
 
 -- A content above Pure's is consistent exactly where some proposition isn't derivable alone.
 abbrev pub ConsistentExactly : Type 0

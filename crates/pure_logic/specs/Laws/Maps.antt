@@ -8,7 +8,7 @@ use Rattle.pure_definitions.specs.Terms.Bounds.{Occurs}
 use Rattle.pure_definitions.specs.Terms.Subst.{TypBind, TermBind, typ_image, term_image, typ_instance, term_instance, inst_typ, inst_term, retyped_variable, AreSortRespecting}
 use Rattle.pure_definitions.specs.Declarations.Decl.{algebra_of}
 use Rattle.pure_definitions.specs.Declarations.Certified.{IsCertifiedTyp}
-use Rattle.pure_term_laws.specs.LawsOccurs.{TypOccurs}
+use Rattle.pure_term_laws.specs.LawsOccurs.{TypOccurs, HasNoSchematic}
 use Rattle.pure_logic.specs.Content.{Content, IsContent, IsCertifiedOf, IsProposition, IsSchematic, IsStatement}
 use Rattle.pure_logic.specs.Concludes.{AreRespecting}
 use Rattle.pure_logic.specs.Derivable.{Theorem, IsDerivable}
@@ -58,6 +58,15 @@ everything index = record { typs = λ x. true; terms = λ x. true; index = index
 
 abbrev pub GeneralisedIsStatement : Type 0
 GeneralisedIsStatement = (Q : Content) → IsContent Q → (index : ℕ) (A : Term) → IsProposition Q A → IsStatement Q (generalised (everything index) A)
+
+-- Each schematic type variable in the term, and each schematic variable, has this index.
+pub record HasOnlyIndex (index : ℕ) (t : Term) : Type 0 where
+  pub typs : (x i : ℕ) (s : List ℕ) → TypOccurs (TVar x i s) t → i ≡ index
+  pub terms : (x i : ℕ) (T : Typ) → Occurs (Var x i T) t → i ≡ index
+
+-- Where a term has no schematic variables and schematic type variables, those that are made so have the index that they are given, and there are no others.
+abbrev pub GeneralisedHasOnlyIndex : Type 0
+GeneralisedHasOnlyIndex = (g : Generalisation) (t : Term) → HasNoSchematic t → HasOnlyIndex g.index (generalised g t)
 
 -- The maps move fixed variables alone: schematic type variables stay, and schematic variables but for their types.
 pub record MoveFixedAlone (typs : Typ → Typ) (terms : Term → Term) : Type 0 where

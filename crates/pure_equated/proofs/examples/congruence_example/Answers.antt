@@ -1,4 +1,4 @@
-use Rattle.pure_equated.proofs.RedexExamples.{two_instances_example, functions_example, bodies_example}
+use Rattle.pure_equated.proofs.RedexExamples.{two_instances_example, functions_example, bodies_example, nodes_example}
 use Rattle.pure_equated.proofs.examples.congruence_example.Goals as goal
 
 pub returns-clause-instances : goal.returns-clause-instances
@@ -9,3 +9,6 @@ returns-clause-functions c = functions_example
 
 pub returns-clause-bodies : goal.returns-clause-bodies
 returns-clause-bodies c = bodies_example
+
+pub returns-clause-nodes : goal.returns-clause-nodes
+returns-clause-nodes c = nodes_example

@@ -1,4 +1,4 @@
-use Rattle.pure_logic.proofs.TheoremMapLaws.{generalised_is_derivable, generalised_is_statement, fixed_map_keeps, generalisation_keeps}
+use Rattle.pure_logic.proofs.TheoremMapLaws.{generalised_is_derivable, generalised_is_statement, generalised_has_only_index, fixed_map_keeps, generalisation_keeps}
 use Rattle.pure_logic.proofs.laws.fixed_variables_made_schematic.Goals as goal
 
 pub returns-clause-generalised : goal.returns-clause-generalised
@@ -12,3 +12,6 @@ returns-clause-fixed c = fixed_map_keeps
 
 pub returns-clause-kept : goal.returns-clause-kept
 returns-clause-kept c = generalisation_keeps
+
+pub returns-clause-index : goal.returns-clause-index
+returns-clause-index c = generalised_has_only_index
