@@ -2,7 +2,7 @@
 ghost use Rattle.std.specs.Prelude.{◌≡◌, ◌↔◌, IsTrue, IfOk};
 ghost use Rattle.pure_definitions.specs.Terms.Term.{App, Bound};
 ghost use Rattle.pure_definitions.specs.Reduction.Eta.{IsEtaNormalForm};
-ghost use Rattle.pure_eta.specs.EtaForm.{is_loose, lower_term, contracted, eta_form, lower_by, Lacks, IsBare};
+ghost use Rattle.pure_eta.specs.EtaForm.{is_loose, contracted, eta_form, lower_by, Lacks, IsBare};
 
 use crate::long::application;
 use pure_term::{Term, TermNode, Typ};

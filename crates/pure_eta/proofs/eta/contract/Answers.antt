@@ -1,6 +1,6 @@
 use Rattle.std.proofs.Common.{◌≡◌, ◌∙◌, ap, sym, refl}
 use Rattle.pure_definitions.specs.Terms.Term.{App, Bound}
-use Rattle.pure_eta.specs.EtaForm.{is_loose, lower_by}
+use Rattle.pure_eta.specs.EtaForm.{lower_by}
 use Rattle.pure_eta.proofs.BareLaws.{contracted-once}
 use Rattle.pure_eta.proofs.eta.contract.Goals as goal
 
