@@ -1,10 +1,11 @@
 -- Loose bound variables that are lowered at once, after several contractions.
 use Rattle.std.proofs.Common.{◌≡◌, ◌⊎◌, inl, inr, ℕ, ◌+◌, ◌<◌, ◌≤◌, Bool, true, false, refl, ap, sym, ◌∙◌, arith}
 use Rattle.std.proofs.lemmas.Bool.Decides.{nat_tests}
-use Rattle.std.specs.Prelude.{◌-◌, min, ◌||◌, nat_eq, nat_lt, if◌then◌else◌}
+use Rattle.std.specs.Prelude.{◌-◌, min, nat_eq, nat_lt, if◌then◌else◌}
 use Rattle.pure_definitions.specs.Types.Typ.{Typ}
 use Rattle.pure_definitions.specs.Terms.Term.{Term, Const, Free, Var, Bound, Abs, App}
 use Rattle.pure_eta.specs.EtaForm.{is_loose, lower_term, contracted, lower_by, Lacks}
+use Rattle.pure_eta.proofs.LooseLaws.{neither}
 
 -- Lowering by 0 changes nothing.
 pub lower_by-zero : (n : ℕ) (t : Term) → lower_by 0 n t ≡ t
@@ -90,3 +91,24 @@ contracted-bare T f a k free e less h =
 -- what both parts of an application lack
 pub lacks-app : (n k m : ℕ) (f a : Term) → Lacks n k f → Lacks n m a → Lacks n (min k m) (App f a)
 lacks-app n k m f a h g = (lacks-less n k (min k m) f (omega arith) h, lacks-less n m (min k m) a (omega arith) g)
+
+-- Lowering by one, where the place itself isn't loose.
+pub lower_by-one : (n : ℕ) (t : Term) → is_loose n t ≡ false → lower_by 1 n t ≡ lower_term n t
+lower_by-one n (Const c T) h = refl
+lower_by-one n (Free x T) h = refl
+lower_by-one n (Var x i T) h = refl
+lower_by-one n (Bound p) h = by (nat_lt p n) (nat_lt n p) refl refl
+  where
+    by : (b c : Bool) → nat_lt p n ≡ b → nat_lt n p ≡ c → (if b then Bound p else Bound (p - 1)) ≡ (if c then Bound (p - 1) else Bound p)
+    by true true e f = absurd (let no : ⊥ = grind (arith, nat_tests) in no)
+    by true false e f = refl
+    by false true e f = refl
+    by false false e f = absurd (let other : nat_eq p n ≡ false = h in let no : ⊥ = grind (arith, nat_tests) in no)
+lower_by-one n (Abs T b) h = ap (Abs T) (lower_by-one (n + 1) b h)
+lower_by-one n (App f a) h = let parts = neither (is_loose n f) (is_loose n a) h in λ l. App (lower_by-one n f parts.0 l) (lower_by-one n a parts.1 l)
+
+-- one contraction
+pub contracted-once : (T : Typ) (b f a u : Term) → b ≡ App f a → a ≡ Bound 0 → is_loose 0 f ≡ false → u ≡ lower_by 1 0 f → u ≡ contracted T b
+contracted-once T b f a u e own free lowered =
+    let same : contracted T (App f (Bound 0)) ≡ lower_term 0 f = rw free refl in
+    lowered ∙ lower_by-one 0 f free ∙ sym same ∙ ap (contracted T) (sym (e ∙ ap (App f) own))

@@ -2,7 +2,7 @@
 ghost use Rattle.std.specs.Prelude.{◌≡◌, ◌↔◌, IsTrue, IfOk};
 ghost use Rattle.pure_definitions.specs.Terms.Term.{App, Bound};
 ghost use Rattle.pure_definitions.specs.Reduction.Eta.{IsEtaNormalForm};
-ghost use Rattle.pure_eta.specs.EtaForm.{is_loose, lower_term, contracted, eta_form, lower_by, Lacks, IsBare};
+ghost use Rattle.pure_eta.specs.EtaForm.{is_loose, contracted, eta_form, lower_by, Lacks, IsBare};
 
 use crate::long::application;
 use pure_term::{Term, TermNode, Typ};
@@ -66,12 +66,12 @@ fn lowered(bare: Bare) -> Result<Term, AllocError>
         return Ok(bare.term);
     }
     let mut term = bare.term;
-    lower_all(&mut term, bare.gone, 0)?;
+    lower(&mut term, bare.gone, 0)?;
     Ok(term)
 }
 
 /// Lowers each loose bound variable from this place on by so much. Below 2 ^ 32 binders, which no memory holds, it is want of memory.
-fn lower_all(t: &mut Term, by: u32, from: u32) -> Result<(), AllocError>
+fn lower(t: &mut Term, by: u32, from: u32) -> Result<(), AllocError>
     ensures { IfOk result (λ _. t.new ≡ lower_by by from t.old) }
 {
     match &mut t.node {
@@ -85,11 +85,11 @@ fn lower_all(t: &mut Term, by: u32, from: u32) -> Result<(), AllocError>
             let Some(under) = from.checked_add(1) else {
                 return Err(AllocError);
             };
-            lower_all(body, by, under)
+            lower(body, by, under)
         }
         TermNode::App { fun, arg } => {
-            lower_all(fun, by, from)?;
-            lower_all(arg, by, from)
+            lower(fun, by, from)?;
+            lower(arg, by, from)
         }
         _ => Ok(()),
     }
@@ -166,7 +166,7 @@ fn contract(alloc: Global, typ: &Typ, body: Term) -> Result<Term, AllocError>
         TermNode::App { fun, arg } => {
             if is_bound_0(&arg) && !is_loose_at(&fun, 0)? {
                 let mut function = Box::into_inner(fun);
-                lower(&mut function, 0)?;
+                lower(&mut function, 1, 0)?;
                 return Ok(function);
             }
             TermNode::App { fun, arg }
@@ -209,30 +209,5 @@ fn is_loose_at(t: &Term, place: u32) -> Result<bool, AllocError>
             is_loose_at(arg, place)
         }
         _ => Ok(false),
-    }
-}
-
-/// Lowers each loose bound variable above this place by one.
-fn lower(t: &mut Term, place: u32) -> Result<(), AllocError>
-    ensures { IfOk result (λ _. t.new ≡ lower_term place t.old) }
-{
-    match &mut t.node {
-        TermNode::Bound { place: bound } => {
-            if place < *bound {
-                *bound -= 1;
-            }
-            Ok(())
-        }
-        TermNode::Abs { body, .. } => {
-            let Some(under) = place.checked_add(1) else {
-                return Err(AllocError);
-            };
-            lower(body, under)
-        }
-        TermNode::App { fun, arg } => {
-            lower(fun, place)?;
-            lower(arg, place)
-        }
-        _ => Ok(()),
     }
 }

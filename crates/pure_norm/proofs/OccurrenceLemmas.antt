@@ -1,9 +1,8 @@
 -- What the occurrences of a bound variable say of the size and the depth of a body with an argument put in.
-use Rattle.std.proofs.Common.{◌≡◌, ◌⊎◌, inl, inr, ℕ, ◌+◌, ◌*◌, ◌<◌, ◌≤◌, Bool, true, false, refl, ap, arith}
+use Rattle.std.proofs.Common.{◌≡◌, ◌⊎◌, inl, inr, ℕ, ◌+◌, ◌*◌, ◌<◌, ◌≤◌, Bool, true, false, refl, arith}
 use Rattle.std.proofs.Math.Nat.{add-mul}
 use Rattle.std.proofs.lemmas.Bool.Decides.{nat_tests}
-use Rattle.std.specs.Prelude.{◌-◌, max, nat_eq, nat_lt, if◌then◌else◌}
-use Rattle.pure_definitions.specs.Types.Typ.{typ_size, typ_depth}
+use Rattle.std.specs.Prelude.{◌-◌, nat_eq, nat_lt, if◌then◌else◌}
 use Rattle.pure_definitions.specs.Terms.Term.{Term, Const, Free, Var, Bound, Abs, App, term_size, term_depth}
 use Rattle.pure_definitions.specs.Terms.Bounds.{lift_term, place_at, subst_under}
 use Rattle.pure_definitions.proofs.TermLemmas.{term_size-lift, term_depth-lift}

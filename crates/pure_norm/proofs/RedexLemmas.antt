@@ -1,5 +1,5 @@
 -- A redex within the limits: what it leaves of room, and when what it becomes doesn't fit.
-use Rattle.std.proofs.Common.{◌≡◌, ◌⊎◌, ◌∙◌, inl, inr, ℕ, ◌+◌, ◌*◌, ◌<◌, ◌≤◌, refl, sym, subst, arith}
+use Rattle.std.proofs.Common.{◌≡◌, ◌∙◌, inl, inr, ℕ, ◌+◌, ◌*◌, ◌<◌, ◌≤◌, sym, subst, arith}
 use Rattle.std.specs.Prelude.{Some, None}
 use Rattle.pure_definitions.specs.Types.Typ.{Typ, typ_size}
 use Rattle.pure_definitions.specs.Terms.Term.{Term, Abs, App, term_size, term_depth}

@@ -1,6 +1,5 @@
-use Rattle.std.proofs.Common.{◌≡◌, ◌≤◌, refl, arith, subst}
+use Rattle.std.proofs.Common.{◌≡◌, refl}
 use Rattle.pure_definitions.specs.Terms.Term.{App}
-use Rattle.pure_eta.specs.EtaForm.{Lacks}
 use Rattle.pure_eta.proofs.BareLaws.{lacks-app}
 use Rattle.pure_eta.proofs.eta.+free_from.Goals as goal
 

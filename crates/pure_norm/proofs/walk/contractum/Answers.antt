@@ -1,4 +1,4 @@
-use Rattle.std.proofs.Common.{◌≡◌, ◌∙◌, ◌+◌, ◌-◌, refl, arith}
+use Rattle.std.proofs.Common.{◌≡◌, ◌∙◌, ◌-◌, refl, arith}
 use Rattle.pure_definitions.specs.Terms.Term.{Abs}
 use Rattle.pure_definitions.specs.Terms.Bounds.{subst_bound}
 use Rattle.pure_norm.proofs.OccurrenceLemmas.{deepest-none}
