@@ -1,7 +1,6 @@
 -- Sets of places.
-use Rattle.std.proofs.Common.{◌≡◌, ℕ, ◌+◌, ◌*◌, ◌<◌, ◌≤◌, ◌/◌, ◌%◌, ◌^◌, inl, inr, List, length, get_or, set, arith, bit_or, max, min}
+use Rattle.std.proofs.Common.{ℕ, ◌+◌, ◌<◌, ◌/◌, inl, inr, List, length, arith, max, min}
 use Rattle.std.proofs.lemmas.List.{length-set}
-use Rattle.pure_order_tables.specs.Rows.{Holds}
 use Rattle.pure_order_tables.proofs.RowLaws.{with_bit, held_after}
 use Rattle.pure_order.specs.Places.{IsPlaces}
 

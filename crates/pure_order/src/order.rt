@@ -1,11 +1,12 @@
 //! The algebra of declared classes and arities, its questions and its declarations.
 ghost use Rattle.std.specs.Prelude.{◌≡◌, ◌↔◌, ℕ, [], IsTrue, OnOk, OnErr, IfOk, IfErr, IfSome, MatchOption};
+ghost use Rattle.std.specs.Arc.{arc_value};
 ghost use Rattle.std.specs.List.Sorted.{IsStrictlyIncreasing};
 ghost use Rattle.pure_text.specs.Lists.{IsIn, Each};
 ghost use Rattle.pure_definitions.specs.Types.Typ.{Typs, Con};
 ghost use Rattle.pure_definitions.specs.Types.Order.{Arity, IsClassBelow, IsSortBelow, IsOfClass, IsOfSort, AreOfSorts, IsCoregular};
 ghost use Rattle.pure_order_tables.specs.Classes.{Agree, IsAntisymmetric, IsDeclared};
-ghost use Rattle.pure_order_tables.specs.Arities.{IsArityBelow, IsKnown, IsUnion, with_class, with_arity};
+ghost use Rattle.pure_order_tables.specs.Arities.{IsArityBelow, IsKnown, IsUnion, IsUnionInOrder, with_class, with_arity};
 ghost use Rattle.pure_order_tables.specs.Checks.{IsDirected};
 ghost use Rattle.pure_order.specs.Domains.{AreGreatestDomains, IsAboveAnother, IsReduced};
 ghost use Rattle.pure_order_tables.specs.Unknown.{HasArityFor};
@@ -18,6 +19,7 @@ use pure_order_tables::{ArityEntry, Tables};
 use pure_typ::{Name, Sort, Typ, TypNode};
 use std::alloc::{AllocError, Global};
 use std::marker::Model;
+use std::sync::Arc;
 
 /// Declared classes and arities, coregular.
 #[derive(Drop)]
@@ -35,6 +37,14 @@ impl Model for Order {
     ghost invariant = { λ o. IsCoregular o.tables };
 }
 
+/// The domains behind a pointer.
+fn share(alloc: Global, domains: Vec<Sort>) -> Result<Arc<Vec<Sort>>, AllocError>
+    ensures { IfOk result (λ shared. arc_value shared ≡ domains) }
+{
+    let shared = Arc::new(alloc, domains)?;
+    Ok(shared)
+}
+
 impl Order {
     /// No classes and no arities.
     pub fn empty(alloc: Global) -> Order
@@ -43,6 +53,14 @@ impl Order {
         Order {
             tables: Tables::empty(alloc),
         }
+    }
+
+    /// A copy, which shares with the order what stands behind pointers.
+    pub fn copy(&self, alloc: Global) -> Result<Order, AllocError>
+        ensures { IfOk result (λ copy. copy ≡ self.now) }
+    {
+        let tables = self.tables.copy(alloc)?;
+        Ok(Order { tables })
     }
 
     /// Whether the first class is below the second.
@@ -206,10 +224,11 @@ impl Order {
         if self.tables.has_arity(con, class) {
             return Err(OrderFault::Duplicate);
         }
+        let domains = share(alloc, domains)?;
         let arity = ArityEntry {
             con,
-            domains,
             class,
+            domains,
         };
         match self.tables.judge(alloc, &arity)? {
             Ok(greater) => self.tables.push_arity(alloc, arity, greater.as_slice())?,
@@ -256,10 +275,11 @@ impl Order {
         Ok(Sort::make(classes))
     }
 
-    /// The union of two orders that agree on the classes declared to be above a class.
+    /// The union of two orders that agree on the classes declared to be above a class: the declarations of this one, and then those of the other that this one hasn't.
     pub fn merge(&self, alloc: Global, other: &Order) -> Result<Order, OrderFault>
         requires { Agree self.now.classes other.now.classes }
         ensures ok { IfOk result (IsUnion self.now other.now) }
+        ensures in_order { IfOk result (IsUnionInOrder self.now other.now) }
         ensures coregular { IfOk result IsCoregular }
         ensures fault { IfErr result (IsMergeFault self.now other.now) }
     {

@@ -16,7 +16,7 @@ fn domains(tables: &Tables, place: usize) -> &[Sort]
     ensures { result.now ≡ domains_at tables.now place }
 {
     let entry = &tables.arities()[place];
-    entry.domains.as_slice()
+    entry.sorts()
 }
 
 /// The domain at the index of the arity at the place.

@@ -203,9 +203,6 @@ entries-one_more ps ps' a e value count old new longer is view counted t fresh k
     let number : count ≡ length (values_of ps) = counted ∙ sym (length-map ps arc_value) in
     rw (longer, map-append arc_value ps (a ∷ []), is) (table-one_more (values_of ps) e old new t (rw view fresh) (rw view known) (rw view row) up (rw view has) (rw number at updates))
 
-pub view-one_more : (ps ps' : List (Arc ClassEntry Global)) (a : Arc ClassEntry Global) (e : ClassEntry) → ps' ≡ ps ++ a ∷ [] → arc_value a ≡ e → shared_classes ps' ≡ shared_classes ps ++ class_of e ∷ []
-view-one_more ps ps' a e longer is = rw (longer, map-append arc_value ps (a ∷ []), is) (map-append class_of (values_of ps) (e ∷ []))
-
 -- the entry with a number
 pub entry_at : (P : ClassEntry → Type 0) (ps : List (Arc ClassEntry Global)) (n : ℕ) (a : Arc ClassEntry Global) (e : ClassEntry) → n < length ps → a ≡ get_or ps n a → e ≡ arc_value a → Each P (values_of ps) → P e
 entry_at P [] n a e within read is each = absurd (omega arith)
@@ -245,10 +242,6 @@ not_reached cs f c d e named is none h = elim (reaches (of_classes cs) f h) [
   | inl same ↦ none (rw (← same, ← named) is.up.declared)
   | inr m ↦ none m
 ]
-
--- a map with the same numbers
-pub table_same : (es ds : List ClassEntry) (old new : BTreeMap ℕ ℕ) → ds ≡ es → ((q : ℕ) → get nat_cmp new q ≡ get nat_cmp old q) → IsClassTable es old → IsClassTable ds new
-table_same es ds old new e same t = rw e (record { ordered = t.ordered; entries = t.entries; numbered = λ c. rw (same c) (t.numbered c) })
 
 -- one turn of the union of rows
 

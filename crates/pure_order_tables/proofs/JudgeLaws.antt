@@ -15,9 +15,6 @@ pub record AreChosen (P N : ℕ → Type 0) (xs ys : List ℕ) : Type 0 where
   pub chosen : (d : ℕ) → IsIn d ys → IsIn d xs × P d
   pub rest : (d : ℕ) → IsIn d xs → IsIn d ys ⊎ N d
 
-pub chosen_none : (P N : ℕ → Type 0) → AreChosen P N [] []
-chosen_none P N = record { chosen = λ d m. absurd m; rest = λ d m. absurd m }
-
 pub chosen_turn : (P N : ℕ → Type 0) (xs ys ys' : List ℕ) (i r : ℕ) → i < length xs → r ≡ get_or xs i r → ((ys' ≡ ys ++ r ∷ []) × P r) ⊎ ((ys' ≡ ys) × N r) → AreChosen P N (take i xs) ys → AreChosen P N (take (i + 1) xs) ys'
 chosen_turn P N xs ys ys' i r within read (inl w) c = rw w.0 (record {
   chosen = λ d m. elim (in_split d ys (r ∷ []) m) [
@@ -78,12 +75,6 @@ all_below A decided r a d candidate c h b m =
     let g = candidate_greatest A decided a.con d (directed A r a.con d) c.0 c.2 in
     let over : AreDomainsBelow A c.0 a = rw c.1 h in
     two-trans A b.domains c.0.domains a.domains (g.above b m) over
-
-pub fits_none : (A : Algebra) (a : Arity) (d : ℕ) → ((q : Arity) → ¬ IsArityBelow A a.con d q) → FitsAt A a d
-fits_none A a d none = record { settled = inl none; back = λ e b m. absurd (none b m) }
-
-pub fits_covered : (A : Algebra) (a : Arity) (d : ℕ) → ¬ (d ≡ a.class) → IsCovered A a.con d a.domains → FitsAt A a d
-fits_covered A a d other covered = record { settled = inr (inl covered); back = λ e. absurd (other e) }
 
 pub fits_greatest : (A : Algebra) (a : Arity) (d : ℕ) → IsCovered A a.con d a.domains ⊎ ((b : Arity) → IsArityBelow A a.con d b → ¬ (b.class ≡ d)) → AreAllBelow A a d → FitsAt A a d
 fits_greatest A a d w all = record {

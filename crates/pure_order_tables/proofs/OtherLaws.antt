@@ -1,5 +1,5 @@
 -- A list and what another has beside it.
-use Rattle.std.proofs.Common.{◌≡◌, ◌↔◌, ◌⊎◌, List, [], ◌∷◌, ◌++◌, refl, sym, ap, inl, inr, ◌∙◌, append_assoc, append-nil}
+use Rattle.std.proofs.Common.{◌≡◌, ◌↔◌, ◌⊎◌, List, [], ◌∷◌, ◌++◌, sym, ap, inl, inr, ◌∙◌, append_assoc, append-nil}
 use Rattle.pure_text.specs.Lists.{IsIn}
 use Rattle.pure_text.proofs.ListLaws.{in-append_left, in-append_right, in_split}
 use Rattle.pure_order_tables.specs.Others.{AreOthers, none, there, new, AreWithOthers}

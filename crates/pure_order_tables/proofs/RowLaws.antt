@@ -1,5 +1,5 @@
 -- Rows of bits.
-use Rattle.std.proofs.Common.{◌≡◌, ℕ, ◌+◌, ◌*◌, ◌<◌, ◌≤◌, ◌/◌, ◌%◌, ◌^◌, ◌⊎◌, ◌↔◌, inl, inr, List, [], ◌∷◌, length, get_or, set, zero, suc, refl, sym, ap, ◌∙◌, arith, bit_or, w64, max, min}
+use Rattle.std.proofs.Common.{◌≡◌, ℕ, ◌+◌, ◌*◌, ◌<◌, ◌≤◌, ◌/◌, ◌%◌, ◌^◌, ◌⊎◌, ◌↔◌, inl, inr, List, [], ◌∷◌, length, get_or, set, zero, suc, refl, sym, ap, ◌∙◌, arith, bit_or, w64, max}
 use Rattle.std.proofs.Math.ListN.{replicate}
 use Rattle.std.specs.Int.{bit_at}
 use Rattle.std.proofs.lemmas.Nat.Bits.{bit_at-zero, bit_at-lt, bit_at_or, bit_at_set_same, bit_at_set_other}
@@ -79,9 +79,6 @@ pub record AreJoined (old other now : List ℕ) (i : ℕ) : Type 0 where
   pub rest : (j : ℕ) → i ≤ j → get_or now j 0 ≡ get_or old j 0
   pub held : (place : ℕ) → place / 64 < i → Holds now place ↔ (Holds old place ⊎ Holds other place)
 
-pub joined_none : (old other : List ℕ) → AreJoined old other old 0
-joined_none old other = record { count = refl; rest = λ j h. refl; held = λ place h. absurd (omega arith) }
-
 pub joined_turn : (old other now : List ℕ) (i word : ℕ) → i < length now → word ≡ get_or other i 0 → AreJoined old other now i → AreJoined old other (set now i (bit_or (get_or now i 0) word)) (i + 1)
 joined_turn old other now i word within read s = record {
   count = rw length-set s.count;
@@ -105,21 +102,3 @@ joined_turn old other now i word within read s = record {
           let before = s.held place (omega (arith, there.1)) in
           (λ h. before.0 (record { bit = rw (← kept) h.bit }), λ h. record { bit = rw kept (before.1 h).bit })
     ]
-
-pub joined_all : (old other now : List ℕ) (i : ℕ) → min (length old) (length other) ≤ i → i ≤ length old → AreJoined old other now i → (place : ℕ) → Holds now place ↔ (Holds old place ⊎ ((place / 64 < length old) × Holds other place))
-joined_all old other now i full short s place = elim (before (place / 64) i) [
-  | inl early ↦ (let k = s.held place early in (
-    λ h. elim (k.0 h) [ inl o ↦ inl o | inr t ↦ inr (omega arith, t) ],
-    λ h. elim h [ inl o ↦ k.1 (inl o) | inr t ↦ k.1 (inr t.1) ],
-  ))
-  | inr late ↦ (let same = s.rest (place / 64) late in (
-    λ h. inl (record { bit = rw (← same) h.bit }),
-    λ h. elim h [
-      | inl o ↦ record { bit = rw same o.bit }
-      | inr t ↦ (let w = held_within other place t.1 in let o = t.0 in absurd (omega arith))
-    ],
-  ))
-]
-  where
-    before : (m n : ℕ) → (m < n) ⊎ (n ≤ m)
-    before m n = grind arith

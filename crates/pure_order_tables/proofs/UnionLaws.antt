@@ -1,12 +1,12 @@
 -- One turn of a union of classes.
-use Rattle.std.proofs.Common.{◌≡◌, ℕ, ◌+◌, ◌<◌, List, [], ◌∷◌, ◌++◌, length, get_or, take, refl, sym, ap, inl, inr, ◌⊎◌, ◌↔◌, ◌∙◌, append_assoc, append-nil, drop}
+use Rattle.std.proofs.Common.{◌≡◌, ℕ, ◌+◌, ◌<◌, List, [], ◌∷◌, ◌++◌, length, get_or, take, refl, sym, ap, inl, inr, ◌∙◌, append_assoc, append-nil, drop}
 use Rattle.std.specs.declared.alloc.Global.{Global}
 use Rattle.std.specs.declared.sync.Arc.{Arc}
 use Rattle.std.specs.Arc.{arc_value}
 use Rattle.std.proofs.lemmas.List.{map-append}
 use Rattle.pure_text.specs.Lists.{IsIn, Each}
-use Rattle.pure_definitions.specs.Types.Order.{Class, Arity}
-use Rattle.pure_text.proofs.ListLaws.{each_of, in-map, any_some, each_at, read_in, split_at}
+use Rattle.pure_definitions.specs.Types.Order.{Class, Arity, Algebra}
+use Rattle.pure_text.proofs.ListLaws.{each_of, any_some, each_at, split_at}
 use Rattle.pure_text.proofs.LoopLaws.{longer_by}
 use Rattle.pure_order_tables.specs.declared.classes.ClassEntry.{ClassEntry}
 use Rattle.pure_order_tables.specs.ClassView.{class_of, classes_of, shared_classes}
@@ -15,7 +15,7 @@ use Rattle.pure_order_tables.specs.Others.{AreWithOthers}
 use Rattle.pure_order_tables.proofs.OtherLaws.{others_kept, others_put, with_others}
 use Rattle.pure_order_tables.proofs.AgreeLaws.{class_in}
 use Rattle.pure_order_tables.specs.Classes.{IsDeclared, Follows, Agree}
-use Rattle.pure_order_tables.specs.Arities.{IsKnown}
+use Rattle.pure_order_tables.specs.Arities.{IsKnown, IsUnion, IsUnionInOrder}
 use Rattle.pure_order_tables.proofs.BelowLaws.{declared}
 
 -- What an ordered list says of one of its classes.
@@ -58,15 +58,13 @@ pub union_put : (table table' old : List Class) (ps : List (Arc ClassEntry Globa
 union_put table table' old ps i a e within read is longer not w = others_put old (shared_classes (take i ps)) (shared_classes (take (i + 1) ps)) table table' (class_of e) (one_more_class ps i a e within read is) longer
     (λ m. not (declared table (class_of e) e.name ((with_others old (shared_classes (take i ps)) table w (class_of e)).1 (inl m)) refl)) w
 
--- the union of two lists, one after the other put into an empty one
-pub union_two : {A : Type 0} (xs ys none one two xs' ys' : List A) → none ≡ [] → xs' ≡ xs → ys' ≡ ys → ((k : A) → IsIn k one ↔ (IsIn k none ⊎ IsIn k xs')) → ((k : A) → IsIn k two ↔ (IsIn k one ⊎ IsIn k ys')) → (k : A) → IsIn k two ↔ (IsIn k xs ⊎ IsIn k ys)
-union_two xs ys none one two xs' ys' empty ex ey first second k = (
-  λ m. elim ((second k).0 m) [
-    | inl n ↦ elim ((first k).0 n) [ inl bad ↦ absurd (rw empty at bad) | inr x ↦ inl (rw ex at x) ]
-    | inr y ↦ inr (rw ey at y)
-  ],
-  λ m. elim m [ inl x ↦ (second k).1 (inl ((first k).1 (inr (rw ex x)))) | inr y ↦ (second k).1 (inr (rw ey y)) ],
-)
+-- a union in order is a union
+pub union_of : (A B U : Algebra) → IsUnionInOrder A B U → IsUnion A B U
+union_of A B U u = record { classes = with_others A.classes B.classes U.classes u.classes; arities = with_others A.arities B.arities U.arities u.arities }
+
+-- the union by steps: a copy, the classes, the arities
+pub union_in_order : (A B C D U : Algebra) (ks : List Class) (bs : List Arity) → C ≡ A → ks ≡ B.classes → bs ≡ B.arities → AreWithOthers C.classes ks D.classes → U.classes ≡ D.classes → AreWithOthers A.arities bs U.arities → IsUnionInOrder A B U
+union_in_order A B C D U ks bs same ek eb first kept second = record { classes = rw kept (rw (same, ek) at first); arities = rw eb at second }
 
 -- Arities that name declared classes do so with more classes declared.
 pub known_more : (cs ks : List Class) → ((k : Class) → IsIn k cs → IsIn k ks) → (bs : List Arity) → Each (IsKnown cs) bs → Each (IsKnown ks) bs

@@ -3,6 +3,7 @@ use Rattle.std.specs.Prelude.{◌≡◌, ◌↔◌, ◌⊎◌, ℕ, List, [], �
 use Rattle.pure_text.specs.Lists.{IsIn, Each, EachTwo}
 use Rattle.pure_definitions.specs.Types.Order.{Class, Arity, Algebra, IsClassBelow, IsSortBelow, AreDomainsBelow}
 use Rattle.pure_order_tables.specs.Classes.{IsDeclared}
+use Rattle.pure_order_tables.specs.Others.{AreWithOthers}
 
 -- A declared arity of the constructor k for a class below d.
 pub record IsArityBelow (A : Algebra) (k d : ℕ) (q : Arity) : Type 0 where
@@ -39,6 +40,11 @@ with_class A k = record { classes = A.classes ++ k ∷ []; arities = A.arities }
 
 abbrev pub with_arity : Algebra → Arity → Algebra
 with_arity A a = record { classes = A.classes; arities = A.arities ++ a ∷ [] }
+
+-- The third algebra declares what the first does, and then, in order, what the second declares and the first doesn't.
+pub record IsUnionInOrder (A B U : Algebra) : Type 0 where
+  pub classes : AreWithOthers A.classes B.classes U.classes
+  pub arities : AreWithOthers A.arities B.arities U.arities
 
 -- The third algebra is the union of the others: it declares what one of them declares.
 pub record IsUnion (A B U : Algebra) : Type 0 where

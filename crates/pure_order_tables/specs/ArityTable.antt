@@ -1,6 +1,9 @@
 -- What a table of arities keeps.
 use Rattle.std.specs.Prelude.{ℕ, ◌<◌, length, get_or, Option, Some, None, MatchOption}
 use Rattle.std.specs.BTreeMap.{BTreeMap, get}
+use Rattle.std.specs.declared.alloc.Global.{Global}
+use Rattle.std.specs.declared.sync.Arc.{Arc}
+use Rattle.std.specs.Arc.{arc_value}
 use Rattle.std.specs.Ordering.{nat_cmp}
 use Rattle.pure_text.specs.Lists.{Each}
 use Rattle.pure_definitions.specs.Types.Order.{Arity, Algebra}
@@ -16,11 +19,11 @@ abbrev pub ArePlaces : Algebra → ℕ → (ℕ → Option ℕ) → Type 0
 ArePlaces A k place = (d : ℕ) → MatchOption (place d) ((q : Arity) → ¬ IsArityBelow A k d q) (IsPlace A k d)
 
 -- the places of a constructor
-abbrev pub places_in : Option (BTreeMap ℕ ℕ) → ℕ → Option ℕ
+abbrev pub places_in : Option (Arc (BTreeMap ℕ ℕ) Global) → ℕ → Option ℕ
 places_in None d = None
-places_in (Some m) d = get nat_cmp m d
+places_in (Some m) d = get nat_cmp (arc_value m) d
 
 -- Arities name declared classes, and the places of each constructor are right.
-pub record IsArityTable (A : Algebra) (slots : BTreeMap ℕ (BTreeMap ℕ ℕ)) : Type 0 where
+pub record IsArityTable (A : Algebra) (slots : BTreeMap ℕ (Arc (BTreeMap ℕ ℕ) Global)) : Type 0 where
   pub known : Each (IsKnown A.classes) A.arities
   pub places : (k : ℕ) → ArePlaces A k (places_in (get nat_cmp slots k))

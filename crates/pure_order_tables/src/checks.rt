@@ -23,8 +23,8 @@ impl Tables {
     {
         arity.con == con
             && self.below(arity.class, class)
-            && self.domains_below(first, arity.domains.as_slice())
-            && self.domains_below(second, arity.domains.as_slice())
+            && self.domains_below(first, arity.sorts())
+            && self.domains_below(second, arity.sorts())
     }
 
     /// Whether some declared arity of the constructor for a class below this one has domains above both of these.
@@ -46,12 +46,7 @@ impl Tables {
         for class in classes {
             if self.below(first.class, *class)
                 && self.below(second.class, *class)
-                && !self.have_join(
-                    first.con,
-                    *class,
-                    first.domains.as_slice(),
-                    second.domains.as_slice(),
-                )
+                && !self.have_join(first.con, *class, first.sorts(), second.sorts())
             {
                 return false;
             }
@@ -63,8 +58,7 @@ impl Tables {
     pub(crate) fn falls(&self, first: &ArityEntry, second: &ArityEntry) -> bool
         ensures { MatchBool result (IsClassBelow self.now first.now.class second.now.class → AreDomainsBelow self.now (arity_of first.now) (arity_of second.now)) (¬ (IsClassBelow self.now first.now.class second.now.class → AreDomainsBelow self.now (arity_of first.now) (arity_of second.now))) }
     {
-        !self.below(first.class, second.class)
-            || self.domains_below(first.domains.as_slice(), second.domains.as_slice())
+        !self.below(first.class, second.class) || self.domains_below(first.sorts(), second.sorts())
     }
 
     /// Whether two arities of a constructor pass the test of being compatible, the second part at these classes.
@@ -73,7 +67,7 @@ impl Tables {
     {
         self.falls(first, second)
             && self.falls(second, first)
-            && (self.domains_below(second.domains.as_slice(), first.domains.as_slice())
+            && (self.domains_below(second.sorts(), first.sorts())
                 || self.are_joined(first, second, classes))
     }
 

@@ -3,7 +3,6 @@ ghost use Rattle.std.specs.Prelude.{◌≡◌, ◌↔◌, ◌⊎◌, ◌<◌, �
 ghost use Rattle.std.specs.List.Sorted.{IsStrictlyIncreasing};
 ghost use Rattle.pure_text.specs.Lists.{IsIn, Each, AnyOf};
 ghost use Rattle.pure_definitions.specs.Types.Order.{Class, IsClassBelow};
-ghost use Rattle.pure_order_tables.specs.Others.{AreWithOthers};
 ghost use Rattle.pure_order_tables.specs.Classes.{Agree, Follows, IsAntisymmetric, IsDeclared, IsSameIfNamed, of_classes};
 ghost use Rattle.pure_order_tables.specs.Checks.{IsDecided};
 ghost use Rattle.pure_order_tables.specs.ClassTable.{AreAllAbove, IsEntry, IsNewRow, IsNumber, NamedBefore};
@@ -23,8 +22,8 @@ use std::sync::Arc;
 /// A declared class, and the classes declared to be above it; all classes above it, itself among them, ascending; and the numbers of these.
 #[derive(Drop)]
 pub struct ClassEntry {
-    name: Name,
-    above: Vec<Name>,
+    pub(crate) name: Name,
+    pub(crate) above: Vec<Name>,
     up: Vec<Name>,
     row: Vec<u64>,
 }
@@ -235,19 +234,12 @@ impl ClassTable {
         Ok(())
     }
 
-    /// Declares those of the classes that aren't declared yet.
-    fn push_new(&mut self, alloc: Global, entries: &[Arc<ClassEntry>]) -> Result<(), AllocError>
-        requires ordered { Follows [] (shared_classes entries.now) }
-        requires agree { Agree self.old (shared_classes entries.now) }
-        ensures { OnOk result (AreWithOthers self.old (shared_classes entries.now) self.new) }
+    /// The declared classes.
+    pub(crate) fn entries(&self) -> &[Arc<ClassEntry>]
+        ensures are { shared_classes result.now ≡ self.now }
+        ensures ordered { Follows [] self.now }
     {
-        for pointer in entries {
-            let entry = &**pointer;
-            if !self.is_declared(entry.name) {
-                self.push(alloc, entry.name, entry.above.as_slice())?;
-            }
-        }
-        Ok(())
+        self.entries.as_slice()
     }
 
     /// Whether the table declares the class as the entry does, if it declares it.
@@ -272,15 +264,5 @@ impl ClassTable {
             }
         }
         true
-    }
-
-    /// The classes of both tables.
-    pub(crate) fn united(&self, alloc: Global, other: &ClassTable) -> Result<ClassTable, AllocError>
-        requires { Agree self.now other.now }
-        ensures { IfOk result (AreWithOthers self.now other.now) }
-    {
-        let mut table = self.copy(alloc)?;
-        table.push_new(alloc, other.entries.as_slice())?;
-        Ok(table)
     }
 }

@@ -19,7 +19,7 @@ impl Tables {
     {
         arity.con != con
             || !self.below(arity.class, class)
-            || self.domains_below(arity.domains.as_slice(), domains)
+            || self.domains_below(arity.sorts(), domains)
     }
 
     /// Whether the domains are above those of all the constructor's arities for classes below this one.

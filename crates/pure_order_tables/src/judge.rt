@@ -34,10 +34,10 @@ impl Tables {
         requires ascend { IsStrictlyIncreasing own.now }
         requires has { Each (λ b. b.con ≡ arity.now.con → IsIn b.class own.now) self.now.arities }
         ensures fits { IfSome result (λ greatest. FitsAt self.now (arity_of arity.now) class) }
-        ensures stands { IfSome result (λ greatest. MatchBool greatest (IsAboveGreatest self.now arity.now.con class arity.now.domains.items) (IsCovered self.now arity.now.con class arity.now.domains.items)) }
+        ensures stands { IfSome result (λ greatest. MatchBool greatest (IsAboveGreatest self.now arity.now.con class (arity_of arity.now).domains) (IsCovered self.now arity.now.con class (arity_of arity.now).domains)) }
     {
         self.order_is_decided();
-        let domains = arity.domains.as_slice();
+        let domains = arity.sorts();
         let Some(candidate) = self.candidate(arity.con, class) else {
             return Some(true);
         };
@@ -100,7 +100,7 @@ impl Tables {
             return Ok(classes);
         };
         for class in above {
-            if !self.is_covered(arity.con, *class, arity.domains.as_slice()) {
+            if !self.is_covered(arity.con, *class, arity.sorts()) {
                 classes.push(*class)?;
             }
         }
@@ -126,7 +126,7 @@ impl Tables {
         self.falls(first, second)
             && self.falls(second, first)
             && (!self.is_below_some(second.class, classes)
-                || self.domains_below(second.domains.as_slice(), first.domains.as_slice()))
+                || self.domains_below(second.sorts(), first.sorts()))
     }
 
     /// Whether the second arity is of the first one's constructor and isn't clear of it.

@@ -5,34 +5,57 @@ ghost use Rattle.std.specs.Ordering.{nat_cmp};
 ghost use Rattle.std.specs.List.Sorted.{IsStrictlyIncreasing};
 ghost use Rattle.pure_text.specs.Lists.{IsIn, Each, EachTwo};
 ghost use Rattle.pure_definitions.specs.Types.Order.{Arity, IsClassBelow, HasClassBelow, IsSortBelow, IsCoregular};
-ghost use Rattle.pure_order_tables.specs.Classes.{Agree, IsAntisymmetric, IsDeclared};
-ghost use Rattle.pure_order_tables.specs.Arities.{IsArityBelow, IsGreatestIfAny, IsAboveGreatest, IsKnown, IsNotAbove, IsUnion, with_class, with_arity};
+ghost use Rattle.pure_order_tables.specs.Classes.{Agree, Follows, IsAntisymmetric, IsDeclared};
+ghost use Rattle.pure_order_tables.specs.ClassView.{shared_classes};
+ghost use Rattle.pure_order_tables.specs.Arities.{IsArityBelow, IsGreatestIfAny, IsAboveGreatest, IsKnown, IsNotAbove, with_class, with_arity};
 ghost use Rattle.pure_order_tables.specs.Checks.{AreGreater, IsDecided};
 ghost use Rattle.pure_order_tables.specs.ArityView.{arity_of, arities_of};
-ghost use Rattle.pure_order_tables.specs.ArityTable.{IsPlace, ArePlaces};
+ghost use Rattle.pure_order_tables.specs.ArityTable.{IsPlace, ArePlaces, places_in};
 
-use crate::classes::ClassTable;
+use crate::classes::{ClassEntry, ClassTable};
 use crate::maps::copied;
 use crate::room::push_in_room;
 use pure_typ::{Name, Sort};
 use std::alloc::{AllocError, Global};
 use std::collections::BTreeMap;
 use std::marker::Model;
+use std::sync::Arc;
 
-/// A declared arity: applied to types of the domains, the constructor makes a type of the class.
+/// A declared arity: applied to types of the domains, the constructor makes a type of the class. The domains stand behind a pointer that other tables share.
 #[derive(Drop)]
 pub struct ArityEntry {
     pub con: Name,
-    pub domains: Vec<Sort>,
     pub class: Name,
+    pub domains: Arc<Vec<Sort>>,
 }
 
-/// Declared classes and arities. For each constructor and class the slots have the place of the arity with the greatest domains.
+/// Declared classes and arities. For each constructor and class the slots have the place of the arity with the greatest domains; a constructor's places stand behind a pointer that other tables share.
 #[derive(Drop)]
 pub struct Tables {
     classes: ClassTable,
     arities: Vec<ArityEntry>,
-    slots: BTreeMap<u32, BTreeMap<u32, usize>>,
+    slots: BTreeMap<u32, Arc<BTreeMap<u32, usize>>>,
+}
+
+impl ArityEntry {
+    /// The sorts of the domains.
+    pub fn sorts(&self) -> &[Sort]
+        ensures { result.now ≡ (arity_of self.now).domains }
+    {
+        self.domains.as_slice()
+    }
+
+    /// The same arity, which shares the domains.
+    pub(crate) fn share(&self) -> Result<ArityEntry, AllocError>
+        ensures { IfOk result (λ copy. arity_of copy ≡ arity_of self.now) }
+    {
+        let domains = self.domains.clone()?;
+        Ok(ArityEntry {
+            con: self.con,
+            class: self.class,
+            domains,
+        })
+    }
 }
 
 impl Model for Tables {
@@ -58,6 +81,20 @@ impl Tables {
             arities: Vec::new(alloc),
             slots: BTreeMap::new(alloc),
         }
+    }
+
+    /// A copy, which shares what stands behind pointers.
+    pub fn copy(&self, alloc: Global) -> Result<Tables, AllocError>
+        ensures { IfOk result (λ copy. copy ≡ self.now) }
+    {
+        let classes = self.classes.copy(alloc)?;
+        let arities = shared_arities(alloc, self.arities.as_slice())?;
+        let slots = shared_slots(&self.slots)?;
+        Ok(Tables {
+            classes,
+            arities,
+            slots,
+        })
     }
 
     /// Whether the class is declared.
@@ -118,6 +155,9 @@ impl Tables {
     pub fn sort_below(&self, first: &Sort, second: &Sort) -> bool
         ensures { IsTrue result ↔ IsSortBelow self.now first.now second.now }
     {
+        if *first == *second {
+            return true;
+        }
         for class in second.classes() {
             if !self.some_below(first.classes(), *class) {
                 return false;
@@ -175,18 +215,18 @@ impl Tables {
             None => None,
             Some(place) => {
                 let entry = &self.arities[place];
-                Some(entry.domains.as_slice())
+                Some(entry.sorts())
             }
         }
     }
 
     /// Whether the arity's domains are above the greatest of its constructor's arities for classes below this one.
     fn is_greater(&self, arity: &ArityEntry, class: Name) -> bool
-        ensures { MatchBool result (IsAboveGreatest self.now arity.now.con class arity.now.domains.items) (IsNotAbove self.now arity.now.con class arity.now.domains.items) }
+        ensures { MatchBool result (IsAboveGreatest self.now arity.now.con class (arity_of arity.now).domains) (IsNotAbove self.now arity.now.con class (arity_of arity.now).domains) }
     {
         match self.candidate(arity.con, class) {
             None => true,
-            Some(candidate) => self.domains_below(candidate, arity.domains.as_slice()),
+            Some(candidate) => self.domains_below(candidate, arity.sorts()),
         }
     }
 
@@ -203,7 +243,7 @@ impl Tables {
     {
         match self.slots.get(&con.0) {
             None => Ok(BTreeMap::new(alloc)),
-            Some(places) => copied(places),
+            Some(places) => copied(&**places),
         }
     }
 
@@ -273,6 +313,7 @@ impl Tables {
         ensures err { OnErr result (self.new ≡ self.old) }
     {
         let places = self.places_with(alloc, &arity, greater)?;
+        let places = Arc::new(alloc, places)?;
         let con = arity.con;
         self.arities.reserve(1)?;
         self.slots.insert(con.0, places)?;
@@ -288,18 +329,32 @@ impl Tables {
         self.arities.as_slice()
     }
 
-    /// The classes and arities of both tables.
-    pub fn united(&self, alloc: Global, other: &Tables) -> Result<Tables, AllocError>
-        requires { Agree self.now.classes other.now.classes }
-        ensures { IfOk result (IsUnion self.now other.now) }
+    /// The declared classes.
+    pub(crate) fn class_entries(&self) -> &[Arc<ClassEntry>]
+        ensures are { shared_classes result.now ≡ self.now.classes }
+        ensures ordered { Follows [] self.now.classes }
     {
-        let mut tables = Tables {
-            classes: self.classes.united(alloc, &other.classes)?,
-            arities: Vec::new(alloc),
-            slots: BTreeMap::new(alloc),
-        };
-        tables.push_new(alloc, self.arities())?;
-        tables.push_new(alloc, other.arities())?;
-        Ok(tables)
+        self.classes.entries()
     }
+}
+
+/// Arities that share their domains with these.
+fn shared_arities(alloc: Global, arities: &[ArityEntry]) -> Result<Vec<ArityEntry>, AllocError>
+    ensures { IfOk result (λ copies. arities_of copies.items ≡ arities_of arities.now) }
+{
+    let mut copies = Vec::with_capacity(alloc, arities.len())?;
+    for arity in arities {
+        copies.push(arity.share()?)?;
+    }
+    Ok(copies)
+}
+
+/// A map that shares the places of each constructor with this one.
+fn shared_slots(
+    slots: &BTreeMap<u32, Arc<BTreeMap<u32, usize>>>,
+) -> Result<BTreeMap<u32, Arc<BTreeMap<u32, usize>>>, AllocError>
+    ensures { IfOk result (λ copies. (k d : ℕ) → places_in (get nat_cmp copies k) d ≡ places_in (get nat_cmp slots.now k) d) }
+{
+    let copies = slots.clone()?;
+    Ok(copies)
 }

@@ -1,13 +1,17 @@
-//! The arities of two tables united.
-ghost use Rattle.std.specs.Prelude.{◌≡◌, ◌↔◌, ◌⊎◌, IsTrue, OnOk, IfOk};
+//! Two tables united.
+ghost use Rattle.std.specs.Prelude.{◌≡◌, ◌↔◌, [], IsTrue, OnOk, IfOk};
 ghost use Rattle.pure_text.specs.Lists.{IsIn, Each};
-ghost use Rattle.pure_definitions.specs.Types.Order.{Arity};
 ghost use Rattle.pure_order_tables.specs.ArityView.{arity_of, arities_of};
-ghost use Rattle.pure_order_tables.specs.Arities.{IsKnown};
+ghost use Rattle.pure_order_tables.specs.ClassView.{shared_classes};
+ghost use Rattle.pure_order_tables.specs.Classes.{Agree, Follows};
+ghost use Rattle.pure_order_tables.specs.Arities.{IsKnown, IsUnion, IsUnionInOrder};
+ghost use Rattle.pure_order_tables.specs.Others.{AreWithOthers};
 
+use crate::classes::ClassEntry;
 use crate::tables::{ArityEntry, Tables};
 use pure_typ::Sort;
 use std::alloc::{AllocError, Global};
+use std::sync::Arc;
 
 /// Whether the sorts are the same.
 fn are_same_sorts(first: &[Sort], second: &[Sort]) -> bool
@@ -22,30 +26,7 @@ fn is_same_arity(first: &ArityEntry, second: &ArityEntry) -> bool
 {
     first.con == second.con
         && first.class == second.class
-        && are_same_sorts(first.domains.as_slice(), second.domains.as_slice())
-}
-
-/// A copy of the sorts.
-fn copy_sorts(alloc: Global, sorts: &[Sort]) -> Result<Vec<Sort>, AllocError>
-    ensures { IfOk result (λ copies. copies.items ≡ sorts.now) }
-{
-    let mut copies = Vec::new(alloc);
-    for sort in sorts {
-        copies.push(sort.copy(alloc)?)?;
-    }
-    Ok(copies)
-}
-
-/// A copy of the arity.
-fn copy_arity(alloc: Global, arity: &ArityEntry) -> Result<ArityEntry, AllocError>
-    ensures { IfOk result (λ copy. arity_of copy ≡ arity_of arity.now) }
-{
-    let domains = copy_sorts(alloc, arity.domains.as_slice())?;
-    Ok(ArityEntry {
-        con: arity.con,
-        domains,
-        class: arity.class,
-    })
+        && are_same_sorts(first.sorts(), second.sorts())
 }
 
 impl Tables {
@@ -61,22 +42,52 @@ impl Tables {
         false
     }
 
-    /// Declares those of the arities that aren't declared yet.
-    pub(crate) fn push_new(
-        &mut self,
-        alloc: Global,
-        arities: &[ArityEntry],
-    ) -> Result<(), AllocError>
-        requires { Each (IsKnown self.old.classes) (arities_of arities.now) }
-        ensures classes { OnOk result (self.new.classes ≡ self.old.classes) }
-        ensures arities { OnOk result ((a : Arity) → IsIn a self.new.arities ↔ (IsIn a self.old.arities ⊎ IsIn a (arities_of arities.now))) }
+    /// Declares those of the classes that aren't declared yet.
+    fn push_classes(&mut self, alloc: Global, entries: &[Arc<ClassEntry>]) -> Result<(), AllocError>
+        requires ordered { Follows [] (shared_classes entries.now) }
+        requires agree { Agree self.old.classes (shared_classes entries.now) }
+        ensures classes { OnOk result (AreWithOthers self.old.classes (shared_classes entries.now) self.new.classes) }
+        ensures arities { OnOk result (self.new.arities ≡ self.old.arities) }
     {
-        for arity in arities {
-            if !self.has_same(arity) {
-                let greater = self.greater(alloc, arity)?;
-                self.push_arity(alloc, copy_arity(alloc, arity)?, greater.as_slice())?;
+        for pointer in entries {
+            let entry = &**pointer;
+            if !self.is_declared(entry.name) {
+                self.push_class(alloc, entry.name, entry.above.as_slice())?;
             }
         }
         Ok(())
+    }
+
+    /// Declares those of the arities that the first tables, which had these arities, haven't.
+    fn push_arities(
+        &mut self,
+        alloc: Global,
+        first: &Tables,
+        arities: &[ArityEntry],
+    ) -> Result<(), AllocError>
+        requires known { Each (IsKnown self.old.classes) (arities_of arities.now) }
+        requires same { self.old.arities ≡ first.now.arities }
+        ensures classes { OnOk result (self.new.classes ≡ self.old.classes) }
+        ensures arities { OnOk result (AreWithOthers first.now.arities (arities_of arities.now) self.new.arities) }
+    {
+        for arity in arities {
+            if !first.has_same(arity) {
+                let greater = self.greater(alloc, arity)?;
+                self.push_arity(alloc, arity.share()?, greater.as_slice())?;
+            }
+        }
+        Ok(())
+    }
+
+    /// The classes and arities of these tables, and then those of the others that these haven't.
+    pub fn united(&self, alloc: Global, other: &Tables) -> Result<Tables, AllocError>
+        requires { Agree self.now.classes other.now.classes }
+        ensures in_order { IfOk result (IsUnionInOrder self.now other.now) }
+        ensures union { IfOk result (IsUnion self.now other.now) }
+    {
+        let mut tables = self.copy(alloc)?;
+        tables.push_classes(alloc, other.class_entries())?;
+        tables.push_arities(alloc, self, other.arities())?;
+        Ok(tables)
     }
 }

@@ -45,7 +45,7 @@ impl Tables {
     {
         for arity in self.arities() {
             if is_for(arity, con, class) {
-                return Some(arity.domains.as_slice());
+                return Some(arity.sorts());
             }
         }
         None

@@ -9,7 +9,7 @@ use Rattle.pure_text.proofs.LoopLaws.{any_turn}
 use Rattle.pure_order_tables.proofs.tables.Tables.arity.Goals as goal
 
 pub returns-then-is_for : goal.returns-then-is_for
-returns-then-is_for c = arity_in c.arity-item.result c.args.con c.args.class c.as_slice.result.now c.args.self.now.arities (c.is_for.ensures.0 c.if-is_for.true) c.as_slice.ensures.value
+returns-then-is_for c = arity_in c.arity-item.result c.args.con c.args.class c.sorts.result.now c.args.self.now.arities (c.is_for.ensures.0 c.if-is_for.true) c.sorts.ensures
     (rw c.arities-arity-items.ensures.are at (in-map arity_of c.arity-item.result c.arities-arity-items.result.now (read_in c.arities-arity-items.result.now c.loop-arity.arity-index c.arity-item.result c.loop-arity-test.true c.arity-item.is)))
 
 pub loop-arity-preserved : goal.loop-arity-preserved

@@ -7,8 +7,8 @@ use Rattle.pure_order_tables.proofs.tables.Tables.uncovered.Goals.{then-not-is_c
 pub loop-class-preserved : goal.loop-class-preserved
 loop-class-preserved c = chosen_turn _ _ c.in-Some.above.now c.loop-class.classes.items c.if-not-is_covered.classes.items c.loop-class.class-index c.class-item.result c.loop-class-test.true c.class-item.is
     (elim c.if-not-is_covered.branch [
-      | then-not-is_covered+in_ok-push w ↦ inl (rw w.classes-is w.in_ok-push.ensures.items, rw c.as_slice.ensures.value at w.if-not-is_covered.ensures)
-      | else-not-is_covered w ↦ inr (rw w.classes-is refl, rw c.as_slice.ensures.value at w.if-not-is_covered.ensures)
+      | then-not-is_covered+in_ok-push w ↦ inl (rw w.classes-is w.in_ok-push.ensures.items, rw c.sorts.ensures at w.if-not-is_covered.ensures)
+      | else-not-is_covered w ↦ inr (rw w.classes-is refl, rw c.sorts.ensures at w.if-not-is_covered.ensures)
     ])
     c.loop-class.invariant
 
