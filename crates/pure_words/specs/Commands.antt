@@ -8,6 +8,7 @@ use Rattle.pure_words.specs.declared.job.Job.TheVariants.{Check, Generate}
 use Rattle.pure_words.specs.declared.given.Given.{Given}
 use Rattle.pure_words.specs.declared.command.Size.{Size}
 
+-- nothing is given
 abbrev pub is_none : List (List ℕ) → Bool
 is_none [] = true
 is_none (value ∷ values) = false
@@ -30,6 +31,7 @@ cancels_of [] = Some []
 cancels_of (value ∷ []) = cancels_in (parts comma value)
 cancels_of _ = None
 
+-- the numbers of a library, where all are in range and their product is
 abbrev pub sized : Option ℕ → Option ℕ → Option ℕ → Option Size
 sized (Some start) (Some theories) (Some lemmas) =
     if nat_le (theories * lemmas) 4096 then Some (record { start = start; theories = theories; lemmas = lemmas }) else None
@@ -41,10 +43,12 @@ size_of (start ∷ theories ∷ lemmas ∷ []) =
     sized (within 0 65536 (number_of start)) (within 1 64 (number_of theories)) (within 1 512 (number_of lemmas))
 size_of _ = None
 
+-- the job of `check`, where all its values are right
 abbrev pub checked : Option ℕ → Option Bool → Option (List CancelWord) → Option Job
 checked (Some workers) (Some fail_fast) (Some cancels) = Some (Check workers fail_fast cancels)
 checked _ _ _ = None
 
+-- the job of `generate`, where all its values are right
 abbrev pub generated : Option ℕ → Option Size → Option Job
 generated (Some workers) (Some size) = Some (Generate workers size.start size.theories size.lemmas)
 generated _ _ = None

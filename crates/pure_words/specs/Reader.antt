@@ -18,6 +18,7 @@ pub data Place : Type 0 where
   Idle : Given → Place
   Waits : Key → Given → Place
 
+-- the word begins so
 abbrev pub begins : List ℕ → List ℕ → Bool
 begins front word = pointwise nat_eq (take (length front) word) front
 
@@ -39,19 +40,23 @@ met g word =
     else (if same word (codes "--fail-fast") then Idle (with_fail_fast word g)
     else met_joined g word)))
 
+-- one more word
 abbrev pub step : Place → List ℕ → Place
 step Refused word = Refused
 step (Idle g) word = met g word
 step (Waits key g) word = Idle (with_value key word g)
 
+-- all of these words, one after the other
 abbrev pub run : Place → List (List ℕ) → Place
 run place [] = place
 run place (word ∷ words) = run (step place word) words
 
+-- what was given, where no option waits and no word was refused
 abbrev pub given_in : Place → Option Given
 given_in (Idle g) = Some g
 given_in _ = None
 
+-- what the words give
 abbrev pub read : List (List ℕ) → Option Given
 read words = given_in (run (Idle no_given) words)
 
@@ -60,6 +65,7 @@ abbrev pub job_in : List (List ℕ) → Option Job
 job_in [] = job_of (codes "check") no_given
 job_in (name ∷ words) = option_and_then (job_of name) (read words)
 
+-- the code's state as such a place
 abbrev pub seen : Turn → Given → Place
 seen turn.Refused g = Refused
 seen turn.Idle g = Idle g

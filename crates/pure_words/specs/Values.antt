@@ -31,6 +31,7 @@ cancel_of (group ∷ after ∷ []) =
     if is_identifier group then option_map (λ n. record { group = group; after = n }) (number_of after) else None
 cancel_of _ = None
 
+-- a cancellation before others, where both are in form
 abbrev pub with_cancel : Option CancelWord → Option (List CancelWord) → Option (List CancelWord)
 with_cancel (Some cancel) (Some cancels) = Some (cancel ∷ cancels)
 with_cancel _ _ = None

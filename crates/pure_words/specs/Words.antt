@@ -14,6 +14,7 @@ dash = 45
 abbrev pub equals_sign : ℕ
 equals_sign = 61
 
+-- an option's long name
 abbrev pub long_name : Key → List ℕ
 long_name Jobs = codes "--jobs"
 long_name Cancel = codes "--cancel"
@@ -38,6 +39,7 @@ is_well_formed (ShortJoined value) = not (is_empty value)
 is_well_formed (Argument value) = not (head_is (λ b. b == dash) value)
 is_well_formed _ = true
 
+-- the words as which an item is written
 abbrev pub words_of_item : Item → List (List ℕ)
 words_of_item (Apart key value) = long_name key ∷ value ∷ []
 words_of_item (Joined key value) = (long_name key ++ equals_sign ∷ value) ∷ []
@@ -51,19 +53,24 @@ abbrev pub words_of : List Item → List (List ℕ)
 words_of [] = []
 words_of (item ∷ items) = words_of_item item ++ words_of items
 
+-- nothing is given
 abbrev pub no_given : Given
 no_given = record { jobs = []; cancels = []; fail_fast = []; arguments = [] }
 
+-- one more value of an option, behind the others
 abbrev pub with_value : Key → List ℕ → Given → Given
 with_value Jobs value g = record g { jobs = g.jobs ++ value ∷ [] }
 with_value Cancel value g = record g { cancels = g.cancels ++ value ∷ [] }
 
+-- the flag once more
 abbrev pub with_fail_fast : List ℕ → Given → Given
 with_fail_fast flag g = record g { fail_fast = g.fail_fast ++ flag ∷ [] }
 
+-- one more argument
 abbrev pub with_argument : List ℕ → Given → Given
 with_argument value g = record g { arguments = g.arguments ++ value ∷ [] }
 
+-- what an item adds
 abbrev pub with_item : Item → Given → Given
 with_item (Apart key value) g = with_value key value g
 with_item (Joined key value) g = with_value key value g
