@@ -4,4 +4,6 @@
 #[cfg(test)]
 mod asked;
 #[cfg(test)]
+mod bases;
+#[cfg(test)]
 mod calls;
