@@ -1,4 +1,4 @@
-//! Orders with as many classes and arities as there are bits in a word, one fewer and one more, and none; copies; and more arities than a set of places holds.
+//! Orders with as many classes and arities as there are bits in a word, one fewer and one more, and none.
 use crate::notation::sort_of;
 use pure_order::{Order, OrderFault};
 use pure_typ::{Name, Sort, Typ, TypNode};
@@ -90,30 +90,9 @@ fn is_flat(alloc: Global, count: u32) -> Result<bool, Fail> {
     Ok(all && !fewer && !more)
 }
 
-/// A copy goes its own way.
-fn is_copy(alloc: Global, count: u32) -> Result<bool, Fail> {
-    let order = flat(alloc, count)?;
-    let mut copy = order.copy(alloc)?;
-    add(alloc, &mut copy, Name(count))?;
-    let more = count.saturating_add(1);
-    let copied = is_of_all(alloc, &copy, more, more)? && copy.is_declared(Name(count));
-    Ok(copied && !order.is_declared(Name(count)) && order.arity(K, Name(count)).is_none())
-}
-
-/// So many arities, of which the last one and another are asked.
-fn is_one_of(alloc: Global, count: u32) -> Result<bool, Fail> {
-    let order = flat(alloc, count)?;
-    let last = Name(count.saturating_sub(1));
-    let own = sort_of(alloc, one_name(alloc, last)?);
-    let other = sort_of(alloc, one_name(alloc, Name(0))?);
-    let typ = applied(alloc, sort_of(alloc, one_name(alloc, last)?))?;
-    Ok(order.of_sort(&typ, &own) && !order.of_sort(&typ, &other))
-}
-
 fn check<R: Abort + AllocGlobal>(rt: &R, count: u32) -> Result<(), Fail> {
     assert!(rt; is_chain(rt.alloc(), count)?, "{count} classes in a chain");
     assert!(rt; is_flat(rt.alloc(), count)?, "{count} unrelated classes");
-    assert!(rt; is_copy(rt.alloc(), count)?, "a copy of {count} classes");
     Ok(())
 }
 
@@ -123,16 +102,4 @@ fn words(rt: HostRuntime) -> Result<(), Fail> {
         check(&rt, count)?;
     }
     Ok(())
-}
-
-fn check_past<R: Abort + AllocGlobal>(rt: &R, count: u32) -> Result<(), Fail> {
-    assert!(rt; is_one_of(rt.alloc(), count)?, "{count} arities");
-    Ok(())
-}
-
-/// As many arities as a set of places holds, and one more.
-#[test]
-fn more_than_a_set_holds(rt: HostRuntime) -> Result<(), Fail> {
-    check_past(&rt, 8192)?;
-    check_past(&rt, 8193)
 }
