@@ -1,0 +1,8 @@
+//! Finite maps in sorted runs behind shared pointers, so that a map and the maps that grow from it share their parts.
+#![tactic(auto)]
+
+mod entries;
+mod runs;
+mod shelf;
+
+pub use shelf::Shelf;
