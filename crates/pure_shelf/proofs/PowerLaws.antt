@@ -73,3 +73,23 @@ item_within (n ∷ ns) (suc i) = omega (arith, item_within ns i)
 
 pub item_fits : (ns : List ℕ) (i : ℕ) → Descends 32 ns → get_or ns i 0 < 2 ^ 32
 item_fits ns i h = let t = total_below 32 ns h in let w = item_within ns i in omega (arith, t, w)
+
+descends_more : (k : ℕ) (ns : List ℕ) → Descends k ns → Descends (suc k) ns
+descends_more k [] h = tt
+descends_more k (n ∷ ns) h = (h.0, (let l = h.1 in omega (arith, l)), h.2, h.3)
+
+powers_fit : (k n : ℕ) → n < 2 ^ k → Descends k (powers_below k n) × (total (powers_below k n) ≡ n)
+powers_fit zero n less = rw (none_below n) (tt, omega arith)
+powers_fit (suc k) n less = elim (cases_lt n (2 ^ k)) [
+  | inl below ↦ (let w = powers_fit k n below in rw (above k n below) (descends_more k (powers_below k n) w.0, w.1))
+  | inr least ↦ (let rest : n - 2 ^ k < 2 ^ k = (let double : 2 ^ suc k ≡ 2 ^ k + 2 ^ k = omega arith in omega (arith, less, double, least)) in
+    let w = powers_fit k (n - 2 ^ k) rest in
+    let sum : total (powers_below k (n - 2 ^ k)) ≡ n - 2 ^ k = w.1 in
+    let split : n ≡ 2 ^ k + (n - 2 ^ k) = omega (arith, least) in
+    let is : powers_below (suc k) n ≡ 2 ^ k ∷ powers_below k (n - 2 ^ k) = ap (powers_below (suc k)) split ∙ with_power k (n - 2 ^ k) in
+    rw is ((k, omega arith, refl, w.0), omega (arith, sum, split)))
+]
+
+pub powers_are : (n : ℕ) → n < 2 ^ 32 → Descends 32 (powers_of n) × (total (powers_of n) ≡ n)
+unfolding powers_of
+powers_are n less = powers_fit 32 n less

@@ -24,3 +24,7 @@ IsPower n = (e : ℕ) × (n ≡ 2 ^ e)
 abbrev pub total : List ℕ → ℕ
 total [] = 0
 total (n ∷ ns) = n + total ns
+
+-- Each number of 32 bits is the sum of its powers of two, each of which is greater than those after it.
+abbrev pub ArePowers : Type 0
+ArePowers = (n : ℕ) → n < 2 ^ 32 → Descends 32 (powers_of n) × (total (powers_of n) ≡ n)

@@ -2,7 +2,9 @@
 #![tactic(auto)]
 
 mod entries;
+mod powers;
 mod runs;
 mod shelf;
 
+pub use powers::powers_law;
 pub use shelf::Shelf;

@@ -1,9 +1,13 @@
 //! The runs of a shelf, which grow by merging those that are as long as the new one.
-ghost use Rattle.std.specs.Prelude.{◌≡◌, ◌∷◌, [], ◌++◌, IfOk};
+ghost use Rattle.std.specs.Prelude.{◌≡◌, ◌∷◌, [], ◌++◌, IfOk, MatchOption, None, Some};
+ghost use Rattle.std.specs.Ordering.{nat_cmp};
+ghost use Rattle.std.specs.FinMap.{find};
+ghost use Rattle.pure_text.specs.Lists.{Each};
+ghost use Rattle.pure_shelf.specs.Pairs.{Ascends, joined};
 ghost use Rattle.pure_shelf.specs.Runs.{CanTake, HasTaken};
 ghost use Rattle.pure_shelf.specs.View.{pairs_of, runs_of};
 
-use crate::entries::{Entry, merged};
+use crate::entries::{Entry, found, merged};
 use std::alloc::{AllocError, Global};
 use std::sync::Arc;
 
@@ -50,4 +54,18 @@ pub(crate) fn grown<V: Drop>(
     }
     let run = merged(alloc, last.as_slice(), run.as_slice())?;
     grown(alloc, rest, run)
+}
+
+/// The value at a key, in the first run that has it.
+pub(crate) fn found_in<V>(runs: &[Arc<Vec<Entry<V>>>], key: u32) -> Option<&V>
+    requires { Each Ascends (runs_of runs.now) }
+    ensures { MatchOption result (find nat_cmp key (joined (runs_of runs.now)) ≡ None) (λ v. find nat_cmp key (joined (runs_of runs.now)) ≡ Some v.now) }
+{
+    for pointer in runs {
+        let run = &**pointer;
+        if let Some(value) = found(run.as_slice(), key) {
+            return Some(value);
+        }
+    }
+    None
 }

@@ -4,8 +4,8 @@ ghost use Rattle.std.specs.Ordering.{nat_cmp};
 ghost use Rattle.std.specs.FinMap as map;
 ghost use Rattle.pure_shelf.specs.Powers.{powers_of};
 
-use crate::entries::{Entry, found};
-use crate::runs::{grown, shared_runs};
+use crate::entries::Entry;
+use crate::runs::{found_in, grown, shared_runs};
 use std::alloc::{AllocError, Global};
 use std::marker::Model;
 use std::sync::Arc;
@@ -64,13 +64,7 @@ impl<V: Drop> Shelf<V> {
     pub fn get(&self, key: u32) -> Option<&V>
         ensures { MatchOption result (map.get self.now key ≡ None) (λ v. map.get self.now key ≡ Some v.now) }
     {
-        for pointer in self.parts.as_slice() {
-            let run = &**pointer;
-            if let Some(value) = found(run.as_slice(), key) {
-                return Some(value);
-            }
-        }
-        None
+        found_in(self.parts.as_slice(), key)
     }
 
     /// The map with one pair more.
