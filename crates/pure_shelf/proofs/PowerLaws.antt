@@ -1,5 +1,5 @@
 -- The powers of two that sum to a number.
-use Rattle.std.proofs.Common.{◌≡◌, ℕ, zero, suc, ◌+◌, ◌-◌, ◌≤◌, ◌<◌, ◌^◌, List, [], ◌∷◌, ◌++◌, map, length, length-append, get_or, refl, sym, ap, ◌∙◌, arith, inl, inr, true, false, nat_le, if◌then◌else◌}
+use Rattle.std.proofs.Common.{◌≡◌, ℕ, zero, suc, ◌+◌, ◌-◌, ◌≤◌, ◌<◌, ◌^◌, List, [], ◌∷◌, map, length, length-append, get_or, refl, sym, ap, ◌∙◌, arith, inl, inr, true, false, nat_le}
 use Rattle.std.proofs.lemmas.Nat.{pow_pos}
 use Rattle.std.proofs.lemmas.Bool.{cases_lt}
 use Rattle.std.proofs.lemmas.Bool.Decides.{nat_tests}
@@ -83,11 +83,11 @@ powers_fit zero n less = rw (none_below n) (tt, omega arith)
 powers_fit (suc k) n less = elim (cases_lt n (2 ^ k)) [
   | inl below ↦ (let w = powers_fit k n below in rw (above k n below) (descends_more k (powers_below k n) w.0, w.1))
   | inr least ↦ (let rest : n - 2 ^ k < 2 ^ k = (let double : 2 ^ suc k ≡ 2 ^ k + 2 ^ k = omega arith in omega (arith, less, double, least)) in
-    let w = powers_fit k (n - 2 ^ k) rest in
-    let sum : total (powers_below k (n - 2 ^ k)) ≡ n - 2 ^ k = w.1 in
-    let split : n ≡ 2 ^ k + (n - 2 ^ k) = omega (arith, least) in
-    let is : powers_below (suc k) n ≡ 2 ^ k ∷ powers_below k (n - 2 ^ k) = ap (powers_below (suc k)) split ∙ with_power k (n - 2 ^ k) in
-    rw is ((k, omega arith, refl, w.0), omega (arith, sum, split)))
+      let w = powers_fit k (n - 2 ^ k) rest in
+      let sum : total (powers_below k (n - 2 ^ k)) ≡ n - 2 ^ k = w.1 in
+      let split : n ≡ 2 ^ k + (n - 2 ^ k) = omega (arith, least) in
+      let is : powers_below (suc k) n ≡ 2 ^ k ∷ powers_below k (n - 2 ^ k) = ap (powers_below (suc k)) split ∙ with_power k (n - 2 ^ k) in
+      rw is ((k, omega arith, refl, w.0), omega (arith, sum, split)))
 ]
 
 pub powers_are : (n : ℕ) → n < 2 ^ 32 → Descends 32 (powers_of n) × (total (powers_of n) ≡ n)

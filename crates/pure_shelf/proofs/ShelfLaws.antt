@@ -3,7 +3,7 @@ use Rattle.std.proofs.Common.{◌≡◌, ℕ, zero, suc, ◌+◌, ◌<◌, ◌�
 use Rattle.std.specs.Prelude.{is_some}
 use Rattle.std.specs.Ordering.{nat_cmp, eq_by_cmp}
 use Rattle.std.specs.Cmp.{nat_cmp_total}
-use Rattle.std.specs.FinMap.{FinMap, from_entries, get, len, insert, find, empty, len-empty, get-from_entries, len-insert, same_map, from_entries_push, nat_cmp-IsAntisymmetric}
+use Rattle.std.specs.FinMap.{FinMap, from_entries, get, len, insert, find, len-empty, get-from_entries, len-insert, same_map, from_entries_push, nat_cmp-IsAntisymmetric}
 use Rattle.std.specs.declared.alloc.Global.{Global}
 use Rattle.std.specs.declared.sync.Arc.{Arc}
 use Rattle.std.specs.declared.vec.Vec.{Vec}
@@ -11,7 +11,7 @@ use Rattle.std.proofs.lemmas.Nat.{pow_pos}
 use Rattle.pure_text.specs.Lists.{Each}
 use Rattle.pure_text.proofs.ListLaws.{each_read}
 use Rattle.pure_shelf.specs.declared.entries.Entry.{Entry}
-use Rattle.pure_shelf.specs.Pairs.{Ascends, HasSame, joined}
+use Rattle.pure_shelf.specs.Pairs.{Ascends, joined}
 use Rattle.pure_shelf.specs.Powers.{Descends, powers_of, total}
 use Rattle.pure_shelf.specs.Runs.{IsShelf, CanTake, HasTaken}
 use Rattle.pure_shelf.specs.View.{pair_of, pairs_of, runs_of}

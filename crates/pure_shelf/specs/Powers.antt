@@ -1,5 +1,5 @@
 -- Numbers as sums of powers of two.
-use Rattle.std.specs.Prelude.{◌≡◌, ◌<◌, ◌≤◌, ℕ, zero, suc, ◌+◌, ◌-◌, ◌^◌, List, [], ◌∷◌, if◌then◌else◌, nat_le}
+use Rattle.std.specs.Prelude.{◌≡◌, ◌<◌, ℕ, zero, suc, ◌+◌, ◌-◌, ◌^◌, List, [], ◌∷◌, if◌then◌else◌, nat_le}
 
 -- the powers of two that sum to n, the greatest first, for an n below 2 ^ k
 unfoldable pub powers_below : ℕ → ℕ → List ℕ

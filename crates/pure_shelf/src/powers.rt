@@ -4,5 +4,4 @@ ghost use Rattle.pure_shelf.specs.Powers.{ArePowers};
 /// Each number of 32 bits is the sum of its powers of two, the greatest first.
 pub fn powers_law()
     ensures { ArePowers }
-{
-}
+{}

@@ -1,6 +1,6 @@
-use Rattle.std.proofs.Common.{◌≡◌, ◌⊎◌, ◌∙◌, ap, sym, inl, inr, drop, [], ◌++◌}
+use Rattle.std.proofs.Common.{◌≡◌, ◌⊎◌, inl, inr, drop, []}
 use Rattle.pure_shelf.specs.View.{pairs_of}
-use Rattle.pure_shelf.proofs.FindLaws.{at_place, nothing_left, drop-pairs}
+use Rattle.pure_shelf.proofs.FindLaws.{at_place, nothing_left}
 use Rattle.pure_shelf.proofs.MergeLaws.{left_step, right_step, all_ascends, all_same, more_pairs}
 use Rattle.pure_shelf.proofs.entries.merged.Goals as goal
 use Rattle.pure_shelf.proofs.entries.merged.Goals.{then-loop-of_first-test+else-of_second-second, else-loop-of_first-test}

@@ -1,4 +1,4 @@
-use Rattle.std.proofs.Common.{length, ◌-◌, ◌≡◌, ◌++◌, ◌+◌, drop}
+use Rattle.std.proofs.Common.{length, ◌-◌, ◌++◌, ◌+◌, drop}
 use Rattle.pure_shelf.specs.View.{pairs_of}
 use Rattle.pure_shelf.proofs.MergeLaws.{IsMerging}
 use Rattle.pure_shelf.proofs.entries.merged.Given as goal

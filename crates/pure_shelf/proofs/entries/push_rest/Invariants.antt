@@ -1,4 +1,4 @@
-use Rattle.std.proofs.Common.{◌≡◌, ◌++◌, drop, take, ◌-◌}
+use Rattle.std.proofs.Common.{◌≡◌, ◌++◌, drop}
 use Rattle.pure_shelf.specs.View.{pairs_of}
 use Rattle.pure_shelf.proofs.entries.push_rest.Given as goal
 

@@ -1,7 +1,4 @@
-use Rattle.std.proofs.Common.{◌≡◌, ◌++◌, ◌∷◌, [], length, ap, sym, ◌∙◌, map, arith}
-use Rattle.pure_text.proofs.ListLaws.{each-right}
-use Rattle.pure_shelf.specs.View.{pairs_of, runs_of}
-use Rattle.pure_shelf.specs.Pairs.{Ascends, HasSame}
+use Rattle.std.proofs.Common.{◌∙◌, arith}
 use Rattle.pure_shelf.proofs.RunLaws.{runs_split, put_first, put_last, merges, taken, long-mapped-runs, lens_alike, if_ok_then, last_ascends}
 use Rattle.pure_shelf.proofs.runs.+grown.Goals as goal
 

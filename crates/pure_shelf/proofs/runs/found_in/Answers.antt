@@ -1,4 +1,4 @@
-use Rattle.std.proofs.Common.{◌≡◌, ap, ◌∙◌}
+use Rattle.std.proofs.Common.{ap, ◌∙◌}
 use Rattle.pure_shelf.proofs.ShelfLaws.{run_ascends, found_in_run, not_in_run}
 use Rattle.pure_shelf.proofs.runs.found_in.Goals as goal
 

@@ -1,4 +1,4 @@
-use Rattle.std.proofs.Common.{◌≡◌, arith}
+use Rattle.std.proofs.Common.{arith}
 use Rattle.pure_shelf.proofs.ShelfLaws.{place_within, len_of_run, run_fits}
 use Rattle.pure_shelf.proofs.shelf.Shelf.run_len.Goals as goal
 

@@ -1,5 +1,4 @@
-use Rattle.std.proofs.Common.{◌≡◌, arith, ap, sym, ◌∙◌}
-use Rattle.pure_shelf.specs.View.{runs_of}
+use Rattle.std.proofs.Common.{arith}
 use Rattle.pure_shelf.proofs.ShelfLaws.{few_parts, parts_long, parts_few}
 use Rattle.pure_shelf.proofs.shelf.Shelf.runs.Goals as goal
 

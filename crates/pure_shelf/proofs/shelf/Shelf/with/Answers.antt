@@ -1,7 +1,4 @@
-use Rattle.std.proofs.Common.{◌≡◌, ◌++◌, ◌∷◌, [], arith, ap, sym, ◌∙◌, List}
-use Rattle.pure_shelf.specs.declared.entries.Entry.{Entry}
-use Rattle.pure_shelf.specs.View.{runs_of, pairs_of, pair_of}
-use Rattle.pure_shelf.specs.Runs.{CanTake, HasTaken}
+use Rattle.pure_shelf.specs.View.{runs_of}
 use Rattle.pure_shelf.proofs.ShelfLaws.{new_run, can_take, more_shelf, more_map}
 use Rattle.pure_shelf.proofs.shelf.Shelf.with.Goals as goal
 
