@@ -6,6 +6,7 @@ use Rattle.std.specs.List.{AllWithin}
 use Rattle.std.specs.List.Sorted.{IsNonDecreasingBy}
 use Rattle.std.proofs.lemmas.Bool.Decides.{nat_tests}
 use Rattle.pure_text.specs.Lists.{Each}
+use Rattle.pure_text.proofs.ListLaws.{each_imply}
 use Rattle.pure_shelf.specs.declared.entries.Entry.{Entry}
 use Rattle.pure_shelf.specs.Pairs.{Ascends, IsPlaceOf}
 use Rattle.pure_shelf.specs.View.{pair_of, pairs_of}
@@ -22,9 +23,8 @@ module _ {V : Type 0} where
   find-rest key (suc place) [] h = refl
   find-rest key (suc place) (p ∷ ps) h = grind (arith, nat_tests, h.0, find-rest key place ps h.1)
 
-  each_above : (k m : ℕ) (ps : List (ℕ × V)) → k < m → Each (λ p. m ≤ p.0) ps → Each (λ p. k < p.0) ps
-  each_above k m [] less h = tt
-  each_above k m (p ∷ ps) less h = (omega (arith, h.0), each_above k m ps less h.1)
+  pub each_above : (k m : ℕ) (ps : List (ℕ × V)) → k < m → Each (λ p. m ≤ p.0) ps → Each (λ p. k < p.0) ps
+  each_above k m ps less h = each_imply (λ p. m ≤ p.0) (λ p. k < p.0) ps (λ p h. omega (arith, less, h)) h
 
   pub ascends-drop : (n : ℕ) (ps : List (ℕ × V)) → Ascends ps → Ascends (drop n ps)
   ascends-drop zero ps h = h

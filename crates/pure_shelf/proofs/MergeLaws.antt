@@ -3,11 +3,13 @@ use Rattle.std.proofs.Common.{◌≡◌, ℕ, ◌≤◌, ◌<◌, List, [], ◌�
 use Rattle.std.specs.Ordering.{nat_cmp, eq_by_cmp}
 use Rattle.std.specs.FinMap.{find}
 use Rattle.std.proofs.lemmas.Bool.Decides.{nat_tests}
+use Rattle.std.proofs.lemmas.List.{append-nil}
 use Rattle.pure_text.specs.Lists.{Each}
+use Rattle.pure_text.proofs.ListLaws.{each_imply}
 use Rattle.pure_shelf.specs.Pairs.{Ascends, HasSame}
 use Rattle.pure_shelf.specs.declared.entries.Entry.{Entry}
 use Rattle.pure_shelf.specs.View.{pairs_of}
-use Rattle.pure_shelf.proofs.FindLaws.{drop-pairs, nothing_left}
+use Rattle.pure_shelf.proofs.FindLaws.{drop-pairs, each_above, nothing_left}
 
 -- The pairs that were taken, and what is left of two lists: each of these goes on from what was taken, and nothing was lost.
 pub record IsMerging {V : Type 0} (all done left right : List (ℕ × V)) : Type 0 where
@@ -30,12 +32,7 @@ module _ {V : Type 0} where
   tail_ascends (d ∷ done) qs h = tail_ascends done qs h.1
 
   each_least : (k m : ℕ) (ps : List (ℕ × V)) → k ≤ m → Each (λ p. m ≤ p.0) ps → Each (λ p. k ≤ p.0) ps
-  each_least k m [] le h = tt
-  each_least k m (p ∷ ps) le h = (omega (arith, h.0), each_least k m ps le h.1)
-
-  each_more : (k m : ℕ) (ps : List (ℕ × V)) → k < m → Each (λ p. m ≤ p.0) ps → Each (λ p. k < p.0) ps
-  each_more k m [] le h = tt
-  each_more k m (p ∷ ps) le h = (omega (arith, h.0), each_more k m ps le h.1)
+  each_least k m ps le h = each_imply (λ p. m ≤ p.0) (λ p. k ≤ p.0) ps (λ p h. omega (arith, le, h)) h
 
   -- The first pair of the left list is next.
   pub takes_left : (all done : List (ℕ × V)) (a : ℕ × V) (left : List (ℕ × V)) (b : ℕ × V) (right : List (ℕ × V)) → IsMerging all done (a ∷ left) (b ∷ right) → a.0 ≤ b.0 → IsMerging all (done ++ a ∷ []) left (b ∷ right)
@@ -60,7 +57,7 @@ module _ {V : Type 0} where
   -- The first pair of the right list is next.
   pub takes_right : (all done : List (ℕ × V)) (a : ℕ × V) (left : List (ℕ × V)) (b : ℕ × V) (right : List (ℕ × V)) → IsMerging all done (a ∷ left) (b ∷ right) → b.0 < a.0 → IsMerging all (done ++ b ∷ []) (a ∷ left) right
   takes_right all done a left b right m least =
-      let above : Each (λ p. b.0 < p.0) (a ∷ left) = (least, each_more b.0 a.0 left least (tail_ascends done (a ∷ left) m.first).0) in
+      let above : Each (λ p. b.0 < p.0) (a ∷ left) = (least, each_above b.0 a.0 left least (tail_ascends done (a ∷ left) m.first).0) in
       record {
         first = squeezed done b right (a ∷ left) m.second m.first (omega arith, each_least b.0 a.0 left (omega arith) (tail_ascends done (a ∷ left) m.first).0);
         second = rw (append_assoc done (b ∷ []) right) m.second;
@@ -70,10 +67,6 @@ module _ {V : Type 0} where
         });
       }
 
-  pub nothing_more : (ps : List (ℕ × V)) → ps ++ [] ≡ ps
-  nothing_more [] = refl
-  nothing_more (p ∷ ps) = ap (λ qs. p ∷ qs) (nothing_more ps)
-
   pub left_step : (all done next : List (ℕ × V)) (a : ℕ × V) (left rest : List (ℕ × V)) (b : ℕ × V) (right others : List (ℕ × V)) → left ≡ a ∷ rest → right ≡ b ∷ others → next ≡ done ++ a ∷ [] → a.0 ≤ b.0 → IsMerging all done left right → IsMerging all next rest right
   left_step all done next a left rest b right others el er en least m = rw (en, er) (takes_left all done a rest b others (rw (el, er) at m) least)
 
@@ -82,8 +75,8 @@ module _ {V : Type 0} where
 
   -- Where one list is taken, the other is what is left.
   one_left : (all done left right : List (ℕ × V)) → IsMerging all done left right → (left ≡ []) ⊎ (right ≡ []) → Ascends ((done ++ left) ++ right)
-  one_left all done left right m (inl none) = rw (none, nothing_more done) m.second
-  one_left all done left right m (inr none) = rw (none, nothing_more (done ++ left)) m.first
+  one_left all done left right m (inl none) = rw (none, append-nil done) m.second
+  one_left all done left right m (inr none) = rw (none, append-nil (done ++ left)) m.first
 
   pub all_ascends : (all done left right next last : List (ℕ × V)) → IsMerging all done left right → (left ≡ []) ⊎ (right ≡ []) → next ≡ done ++ left → last ≡ next ++ right → Ascends last
   all_ascends all done left right next last m ended en el = rw (el, en) (one_left all done left right m ended)
@@ -96,7 +89,7 @@ module _ {V : Type 0} where
 
   pub all_pushed : (run start : List (ℕ × V)) (n from : ℕ) (es : List (Entry V)) → length es ≤ n → run ++ drop n (pairs_of es) ≡ start ++ drop from (pairs_of es) → run ≡ start ++ pairs_of (drop from es)
   all_pushed run start n from es past is =
-      sym (ap (λ qs. run ++ qs) (nothing_left n es past) ∙ nothing_more run) ∙ is ∙ ap (λ qs. start ++ qs) (drop-pairs from es)
+      sym (ap (λ qs. run ++ qs) (nothing_left n es past) ∙ append-nil run) ∙ is ∙ ap (λ qs. start ++ qs) (drop-pairs from es)
 
   pub more_pairs : (next run : List (ℕ × V)) (n : ℕ) (es : List (Entry V)) → next ≡ run ++ pairs_of (drop n es) → next ≡ run ++ drop n (pairs_of es)
   more_pairs next run n es is = is ∙ ap (λ qs. run ++ qs) (sym (drop-pairs n es))

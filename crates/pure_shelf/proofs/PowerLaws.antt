@@ -7,7 +7,8 @@ use Rattle.std.proofs.Math.Pow.{pow_mono}
 use Rattle.pure_shelf.specs.Pairs.{joined}
 use Rattle.pure_shelf.specs.Powers.{Descends, powers_below, powers_of, total}
 
-twice : (e f : ℕ) → e < f → 2 ^ e + 2 ^ e ≤ 2 ^ f
+-- The greater of two powers is at least twice the lesser.
+pub twice : (e f : ℕ) → e < f → 2 ^ e + 2 ^ e ≤ 2 ^ f
 twice e f less = let step : 2 ^ suc e ≤ 2 ^ f = pow_mono less in let double : 2 ^ suc e ≡ 2 ^ e + 2 ^ e = omega arith in omega (arith, step, double)
 
 -- Powers of two below a power sum to less.

@@ -1,6 +1,6 @@
 -- Runs that take one run more.
 use Rattle.std.proofs.Common.{◌≡◌, ℕ, suc, ◌+◌, ◌≤◌, ◌<◌, ◌^◌, List, [], ◌∷◌, ◌++◌, map, length, length-append, append_assoc, refl, sym, ap, ◌∙◌, arith, inl, inr, ◌↔◌, Result, Ok, Err, IfOk}
-use Rattle.std.proofs.lemmas.List.{map-append}
+use Rattle.std.proofs.lemmas.List.{append-nil, length-map, map-append}
 use Rattle.std.proofs.lemmas.Bool.{cases_lt}
 use Rattle.std.proofs.Math.Pow.{pow_mono}
 use Rattle.std.specs.List.{AllZip}
@@ -9,20 +9,14 @@ use Rattle.std.specs.declared.sync.Arc.{Arc}
 use Rattle.std.specs.declared.vec.Vec.{Vec}
 use Rattle.std.specs.Arc.{arc_value}
 use Rattle.pure_text.specs.Lists.{Each}
-use Rattle.pure_text.proofs.ListLaws.{each-append, each-left, each-right}
+use Rattle.pure_text.proofs.ListLaws.{each-append, each-left, each-right, each_imply}
 use Rattle.pure_shelf.specs.declared.entries.Entry.{Entry}
 use Rattle.pure_shelf.specs.Pairs.{Ascends, HasSame, joined}
 use Rattle.pure_shelf.specs.Powers.{Descends, IsPower}
 use Rattle.pure_shelf.specs.Runs.{CanTake, HasTaken}
-use Rattle.pure_shelf.specs.View.{pairs_of, runs_of}
-use Rattle.pure_shelf.proofs.MergeLaws.{find_under, nothing_more}
-
-double : (e : ℕ) → 2 ^ suc e ≡ 2 ^ e + 2 ^ e
-double e = omega arith
-
--- The greater of two powers is at least twice the lesser.
-twice : (e f : ℕ) → e < f → 2 ^ e + 2 ^ e ≤ 2 ^ f
-twice e f less = let step : 2 ^ suc e ≤ 2 ^ f = pow_mono less in omega (arith, step, double e)
+use Rattle.pure_shelf.specs.View.{pair_of, pairs_of, runs_of}
+use Rattle.pure_shelf.proofs.MergeLaws.{find_under}
+use Rattle.pure_shelf.proofs.PowerLaws.{twice}
 
 less_exponent : (e f : ℕ) → 2 ^ e < 2 ^ f → e < f
 less_exponent e f less = elim (cases_lt e f) [
@@ -48,24 +42,12 @@ descends_further : (k m : ℕ) (ns : List ℕ) → Descends k ns → IsPower m �
 descends_further k m [] h power below least = (power.0, less_exponent power.0 k (rw power.1 at below), power.1, tt)
 descends_further k m (n ∷ ns) h power below least = (h.0, h.1, h.2, descends_further h.0 m ns h.3 power (rw h.2 at least.0) least.1)
 
-each_mapped : {A B : Type 0} (f : A → B) (P : B → Type 0) (xs : List A) → Each (λ x. P (f x)) xs → Each P (map f xs)
-each_mapped f P [] h = tt
-each_mapped f P (x ∷ xs) h = (h.0, each_mapped f P xs h.1)
-
 pub each_unmapped : {A B : Type 0} (f : A → B) (P : B → Type 0) (xs : List A) → Each P (map f xs) → Each (λ x. P (f x)) xs
 each_unmapped f P [] h = tt
 each_unmapped f P (x ∷ xs) h = (h.0, each_unmapped f P xs h.1)
 
-each_less : (m k : ℕ) (ns : List ℕ) → m < k → Each (λ n. k + k ≤ n) ns → Each (λ n. m < n) ns
-each_less m k [] less h = tt
-each_less m k (n ∷ ns) less h = (omega (arith, h.0), each_less m k ns less h.1)
-
-each_at_least : (m k : ℕ) (ns : List ℕ) → m ≡ k + k → Each (λ n. k + k ≤ n) ns → Each (λ n. m ≤ n) ns
-each_at_least m k [] is h = tt
-each_at_least m k (n ∷ ns) is h = (omega (arith, h.0), each_at_least m k ns is h.1)
-
 power_twice : (n m l : ℕ) → IsPower n → l ≡ n → m ≡ l + n → IsPower m
-power_twice n m l power same is = (suc power.0, (let p : n ≡ 2 ^ power.0 = power.1 in omega (arith, p, double power.0)))
+power_twice n m l power same is = (suc power.0, (let p : n ≡ 2 ^ power.0 = power.1 in omega (arith, p)))
 
 pub if_ok_then : {A E : Type 0} (P Q : A → Type 0) (r : Result A E) → IfOk r P → ((x : A) → P x → Q x) → IfOk r Q
 if_ok_then P Q (Ok x) h f = f x h
@@ -86,7 +68,7 @@ module _ {V : Type 0} where
   lens-last runs run = map-append length runs (run ∷ [])
 
   pub joined-last : (runs : List (List (ℕ × V))) (run : List (ℕ × V)) → joined (runs ++ run ∷ []) ≡ joined runs ++ run
-  joined-last [] run = nothing_more run
+  joined-last [] run = append-nil run
   joined-last (r ∷ runs) run = ap (λ qs. r ++ qs) (joined-last runs run) ∙ sym (append_assoc r (joined runs) run)
 
   -- A new run that is shorter than the last goes behind the runs.
@@ -107,7 +89,7 @@ module _ {V : Type 0} where
       let less : length run < length last = omega (arith, least.0, other) in
       let lens : map length runs ≡ map length rest ++ length last ∷ [] = ap (λ (rs : List (List (ℕ × V))). map length rs) split ∙ lens-last rest last in
       let down = rw lens at can.lengths in
-      let each : Each (λ n. length run < n) (map length runs) = rw lens (each-append (λ n. length run < n) (map length rest) (length last ∷ []) (each_less (length run) (length last) (map length rest) less (before_last 32 (length last) (map length rest) down)) (less, tt)) in
+      let each : Each (λ n. length run < n) (map length runs) = rw lens (each-append (λ n. length run < n) (map length rest) (length last ∷ []) (each_imply (λ n. length last + length last ≤ n) (λ n. length run < n) (map length rest) (λ n h. omega (arith, less, h)) (before_last 32 (length last) (map length rest) down)) (less, tt)) in
       rw is (put_behind runs run can each)
 
   -- The last run, merged with the new one, is a new run for those before it.
@@ -124,7 +106,7 @@ module _ {V : Type 0} where
         ascends = up;
         lengths = front_descends 32 (length last) (map length rest) down;
         power = power_twice (length run) (length new) (length last) can.power equal long;
-        least = each_unmapped length (λ n. length new ≤ n) rest (each_at_least (length new) (length last) (map length rest) twice_last (before_last 32 (length last) (map length rest) down));
+        least = each_unmapped length (λ n. length new ≤ n) rest (each_imply (λ n. length last + length last ≤ n) (λ n. length new ≤ n) (map length rest) (λ n h. omega (arith, twice_last, h)) (before_last 32 (length last) (map length rest) down));
         room = omega (arith, can.room, long, all);
       }
 
@@ -141,20 +123,15 @@ module _ {V : Type 0} where
         });
       }
 
-  pub long-mapped : (es : List (Entry V)) → length (pairs_of es) ≡ length es
-  long-mapped [] = refl
-  long-mapped (e ∷ es) = ap suc (long-mapped es)
-
   -- As many pairs as entries.
   pub lens_alike : (v w : Vec (Entry V) Global) (m n : ℕ) → m ≡ v.len → n ≡ w.len → (m ≡ n) ↔ (length (pairs_of v.items) ≡ length (pairs_of w.items))
   lens_alike v w m n em en =
-      let ev : m ≡ length (pairs_of v.items) = em ∙ v.ok.0 ∙ sym (long-mapped v.items) in
-      let ew : n ≡ length (pairs_of w.items) = en ∙ w.ok.0 ∙ sym (long-mapped w.items) in
+      let ev : m ≡ length (pairs_of v.items) = em ∙ v.ok.0 ∙ sym (length-map v.items pair_of) in
+      let ew : n ≡ length (pairs_of w.items) = en ∙ w.ok.0 ∙ sym (length-map w.items pair_of) in
       (λ h. sym ev ∙ h ∙ ew, λ h. ev ∙ h ∙ sym ew)
 
-  pub long-mapped-runs : (rs : List (Arc (Vec (Entry V) Global) Global)) → length (runs_of rs) ≡ length rs
-  long-mapped-runs [] = refl
-  long-mapped-runs (r ∷ rs) = ap suc (long-mapped-runs rs)
+  pub runs_long : (rs : List (Arc (Vec (Entry V) Global) Global)) → length (runs_of rs) ≡ length rs
+  runs_long rs = length-map rs (λ (r : Arc (Vec (Entry V) Global) Global). pairs_of r.value.items)
 
   pub last_ascends : (runs rest : List (List (ℕ × V))) (last run : List (ℕ × V)) → CanTake runs run → runs ≡ rest ++ last ∷ [] → Ascends last
   last_ascends runs rest last run can split = (each-right Ascends rest (last ∷ []) (rw split at can.ascend)).0

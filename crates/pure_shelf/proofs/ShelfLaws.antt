@@ -8,6 +8,7 @@ use Rattle.std.specs.declared.alloc.Global.{Global}
 use Rattle.std.specs.declared.sync.Arc.{Arc}
 use Rattle.std.specs.declared.vec.Vec.{Vec}
 use Rattle.std.proofs.lemmas.Nat.{pow_pos}
+use Rattle.std.proofs.lemmas.List.{length-map}
 use Rattle.pure_text.specs.Lists.{Each}
 use Rattle.pure_text.proofs.ListLaws.{each_read}
 use Rattle.pure_shelf.specs.declared.entries.Entry.{Entry}
@@ -16,7 +17,7 @@ use Rattle.pure_shelf.specs.Powers.{Descends, powers_of, total}
 use Rattle.pure_shelf.specs.Runs.{IsShelf, CanTake, HasTaken}
 use Rattle.pure_shelf.specs.View.{pair_of, pairs_of, runs_of}
 use Rattle.pure_shelf.proofs.PowerLaws.{are_powers, at_most_32, few_powers, total-joined, item_fits}
-use Rattle.pure_shelf.proofs.RunLaws.{long-mapped, long-mapped-runs, each_unmapped}
+use Rattle.pure_shelf.proofs.RunLaws.{each_unmapped, runs_long}
 
 positive : (k : ℕ) (ns : List ℕ) → Descends k ns → Each (λ n. 1 ≤ n) ns
 positive k [] h = tt
@@ -70,12 +71,8 @@ module _ {V : Type 0} where
   pub lengths_are : (runs : List (List (ℕ × V))) (count : ℕ) (m : FinMap nat_cmp V) → IsShelf runs count → from_entries (joined runs) ≡ m → powers_of (len m) ≡ map length runs
   lengths_are runs count m is view = ap powers_of (count_is runs count m is view ∙ sym is.long ∙ sym (total-joined runs)) ∙ are_powers (map length runs) is.lengths
 
-  long_lengths : (runs : List (List (ℕ × V))) → length (map length runs) ≡ length runs
-  long_lengths [] = refl
-  long_lengths (r ∷ runs) = ap suc (long_lengths runs)
-
   part_count : (v : Vec (Arc (Vec (Entry V) Global) Global) Global) (n : ℕ) → n ≡ v.len → n ≡ length (map length (runs_of v.items))
-  part_count v n is = is ∙ v.ok.0 ∙ sym (long-mapped-runs v.items) ∙ sym (long_lengths (runs_of v.items))
+  part_count v n is = is ∙ v.ok.0 ∙ sym (runs_long v.items) ∙ sym (length-map (runs_of v.items) length)
 
   pub few_parts : (v : Vec (Arc (Vec (Entry V) Global) Global) Global) (count n : ℕ) → IsShelf (runs_of v.items) count → n ≡ v.len → n ≤ 32
   few_parts v count n is counted = rw (part_count v n counted) (at_most_32 (map length (runs_of v.items)) is.lengths)
@@ -124,12 +121,12 @@ module _ {V : Type 0} where
 
   pub place_within : (rs ps : List (Arc (Vec (Entry V) Global) Global)) (count place : ℕ) (m : FinMap nat_cmp V) → ps ≡ rs → IsShelf (runs_of rs) count → from_entries (joined (runs_of rs)) ≡ m → place < length (powers_of (len m)) → place < length ps
   place_within rs ps count place m same is view within =
-      let long : length (powers_of (len m)) ≡ length rs = ap (λ (ns : List ℕ). length ns) (lengths_are (runs_of rs) count m is view) ∙ long_lengths (runs_of rs) ∙ long-mapped-runs rs in
+      let long : length (powers_of (len m)) ≡ length rs = ap (λ (ns : List ℕ). length ns) (lengths_are (runs_of rs) count m is view) ∙ length-map (runs_of rs) length ∙ runs_long rs in
       rw same (rw long at within)
 
   len_at : (rs : List (Arc (Vec (Entry V) Global) Global)) (i : ℕ) (r : Arc (Vec (Entry V) Global) Global) → i < length rs → r ≡ get_or rs i r → get_or (map length (runs_of rs)) i 0 ≡ length r.value.items
   len_at [] i r within read = absurd (omega arith)
-  len_at (x ∷ rs) zero r within read = long-mapped x.value.items ∙ ap (λ (y : Arc (Vec (Entry V) Global) Global). length y.value.items) (sym read)
+  len_at (x ∷ rs) zero r within read = length-map x.value.items pair_of ∙ ap (λ (y : Arc (Vec (Entry V) Global) Global). length y.value.items) (sym read)
   len_at (x ∷ rs) (suc i) r within read = len_at rs i r (omega arith) read
 
   pub len_of_run : (rs ps : List (Arc (Vec (Entry V) Global) Global)) (count place : ℕ) (m : FinMap nat_cmp V) (r : Arc (Vec (Entry V) Global) Global) (v : Vec (Entry V) Global) (n : ℕ) → ps ≡ rs → IsShelf (runs_of rs) count → from_entries (joined (runs_of rs)) ≡ m → place < length ps → r ≡ get_or ps place r → v ≡ r.value → n ≡ v.len → n ≡ get_or (powers_of (len m)) place 0

@@ -1,10 +1,10 @@
 use Rattle.std.proofs.Common.{◌∙◌, arith}
-use Rattle.pure_shelf.proofs.RunLaws.{runs_split, put_first, put_last, merges, taken, long-mapped-runs, lens_alike, if_ok_then, last_ascends}
+use Rattle.pure_shelf.proofs.RunLaws.{runs_split, put_first, put_last, merges, taken, runs_long, lens_alike, if_ok_then, last_ascends}
 use Rattle.pure_shelf.proofs.runs.+grown.Goals as goal
 
 pub returns-in_default : goal.returns-in_default
 returns-in_default g t c =
-    if_ok_then _ _ c.appended.result c.appended.ensures (λ all is. put_first _ _ _ c.requires (long-mapped-runs c.args.runs.now ∙ c.in_default.ensures.cases) is)
+    if_ok_then _ _ c.appended.result c.appended.ensures (λ all is. put_first _ _ _ c.requires (runs_long c.args.runs.now ∙ c.in_default.ensures.cases) is)
 
 pub returns-then-len : goal.returns-then-len
 returns-then-len g t c =
