@@ -5,6 +5,7 @@ use Rattle.std.specs.FinMap.{find}
 use Rattle.std.specs.List.{AllWithin}
 use Rattle.std.specs.List.Sorted.{IsNonDecreasingBy}
 use Rattle.std.proofs.lemmas.Bool.Decides.{nat_tests}
+use Rattle.std.proofs.lemmas.List.{drop-map}
 use Rattle.pure_text.specs.Lists.{Each}
 use Rattle.pure_text.proofs.ListLaws.{each_imply}
 use Rattle.pure_shelf.specs.declared.entries.Entry.{Entry}
@@ -35,18 +36,13 @@ module _ {V : Type 0} where
   pub find-other : (key : ℕ) (p : ℕ × V) (ps : List (ℕ × V)) → Ascends (p ∷ ps) → key ≤ p.0 → ¬ (p.0 ≡ key) → find nat_cmp key (p ∷ ps) ≡ None
   find-other key p ps h least other = find-above key (p ∷ ps) (omega arith, each_above key p.0 ps (omega arith) h.0)
 
-  pub drop-pairs : (n : ℕ) (es : List (Entry V)) → drop n (pairs_of es) ≡ pairs_of (drop n es)
-  drop-pairs zero es = refl
-  drop-pairs (suc n) [] = refl
-  drop-pairs (suc n) (e ∷ es) = drop-pairs n es
-
   -- the entries from a place on begin with the one at the place
   entries_at : (n : ℕ) (es : List (Entry V)) (e : Entry V) → n < length es → e ≡ get_or es n e → drop n es ≡ e ∷ drop (n + 1) es
   entries_at n es e within read = drop-cons es n e within ∙ rw (← read, add-one) refl
 
   -- the pairs from a place on begin with the one at the place
   pub at_place : (n : ℕ) (es : List (Entry V)) (e : Entry V) → n < length es → e ≡ get_or es n e → drop n (pairs_of es) ≡ pair_of e ∷ drop (n + 1) (pairs_of es)
-  at_place n es e within read = drop-pairs n es ∙ ap (λ (xs : List (Entry V)). pairs_of xs) (entries_at n es e within read) ∙ ap (λ (ps : List (ℕ × V)). pair_of e ∷ ps) (sym (drop-pairs (n + 1) es))
+  at_place n es e within read = drop-map pair_of n es ∙ ap (λ (xs : List (Entry V)). pairs_of xs) (entries_at n es e within read) ∙ ap (λ (ps : List (ℕ × V)). pair_of e ∷ ps) (sym (drop-map pair_of (n + 1) es))
 
   -- The pair at the place of a key that has the key is found.
   pub found-here : (key n : ℕ) (es : List (Entry V)) (e : Entry V) → IsPlaceOf (pairs_of es) key n → n < length es → e ≡ get_or es n e → e.key ≡ key → find nat_cmp key (pairs_of es) ≡ Some e.value.value

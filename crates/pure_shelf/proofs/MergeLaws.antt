@@ -3,13 +3,13 @@ use Rattle.std.proofs.Common.{◌≡◌, ℕ, ◌≤◌, ◌<◌, List, [], ◌�
 use Rattle.std.specs.Ordering.{nat_cmp, eq_by_cmp}
 use Rattle.std.specs.FinMap.{find}
 use Rattle.std.proofs.lemmas.Bool.Decides.{nat_tests}
-use Rattle.std.proofs.lemmas.List.{append-nil}
+use Rattle.std.proofs.lemmas.List.{append-nil, drop-map}
 use Rattle.pure_text.specs.Lists.{Each}
 use Rattle.pure_text.proofs.ListLaws.{each_imply}
 use Rattle.pure_shelf.specs.Pairs.{Ascends, HasSame}
 use Rattle.pure_shelf.specs.declared.entries.Entry.{Entry}
-use Rattle.pure_shelf.specs.View.{pairs_of}
-use Rattle.pure_shelf.proofs.FindLaws.{drop-pairs, each_above, nothing_left}
+use Rattle.pure_shelf.specs.View.{pair_of, pairs_of}
+use Rattle.pure_shelf.proofs.FindLaws.{each_above, nothing_left}
 
 -- The pairs that were taken, and what is left of two lists: each of these goes on from what was taken, and nothing was lost.
 pub record IsMerging {V : Type 0} (all done left right : List (ℕ × V)) : Type 0 where
@@ -89,7 +89,7 @@ module _ {V : Type 0} where
 
   pub all_pushed : (run start : List (ℕ × V)) (n from : ℕ) (es : List (Entry V)) → length es ≤ n → run ++ drop n (pairs_of es) ≡ start ++ drop from (pairs_of es) → run ≡ start ++ pairs_of (drop from es)
   all_pushed run start n from es past is =
-      sym (ap (λ qs. run ++ qs) (nothing_left n es past) ∙ append-nil run) ∙ is ∙ ap (λ qs. start ++ qs) (drop-pairs from es)
+      sym (ap (λ qs. run ++ qs) (nothing_left n es past) ∙ append-nil run) ∙ is ∙ ap (λ qs. start ++ qs) (drop-map pair_of from es)
 
   pub more_pairs : (next run : List (ℕ × V)) (n : ℕ) (es : List (Entry V)) → next ≡ run ++ pairs_of (drop n es) → next ≡ run ++ drop n (pairs_of es)
-  more_pairs next run n es is = is ∙ ap (λ qs. run ++ qs) (sym (drop-pairs n es))
+  more_pairs next run n es is = is ∙ ap (λ qs. run ++ qs) (sym (drop-map pair_of n es))
