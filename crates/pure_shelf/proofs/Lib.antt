@@ -1,0 +1,5 @@
+pub mod FindLaws
+pub mod MergeLaws
+pub mod RunLaws
+pub mod PowerLaws
+pub mod ShelfLaws

@@ -1,0 +1,4 @@
+pub mod Pairs
+pub mod Powers
+pub mod View
+pub mod Runs

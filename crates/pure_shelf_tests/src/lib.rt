@@ -1,0 +1,5 @@
+//! Shelves against runs and values that were written by hand.
+#![tactic(auto)]
+
+#[cfg(test)]
+mod shelves;
