@@ -80,6 +80,7 @@ impl Order {
     /// The classes above a declared class, itself among them, ascending; none where the class isn't declared.
     pub fn above(&self, class: Name) -> Option<&[Name]>
         ensures are { MatchOption result (¬ IsDeclared self.now.classes class) (λ names. (d : ℕ) → IsIn d names.now ↔ IsClassBelow self.now class d) }
+        ensures declared { IfSome result (λ _. IsDeclared self.now.classes class) }
         ensures ascend { IfSome result (λ names. IsStrictlyIncreasing names.now) }
     {
         match self.tables.above(class) {
@@ -88,7 +89,7 @@ impl Order {
         }
     }
 
-    /// The domains of a declared arity of the constructor for the class itself, the first one; none where there is none.
+    /// The domains of a declared arity of the constructor for the class itself; none where there is none.
     pub fn arity(&self, con: Name, class: Name) -> Option<&[Sort]>
         ensures { MatchOption result (¬ HasArityFor self.now con class) (λ domains. IsIn (record { con = con; domains = domains.now; class = class }) self.now.arities) }
     {

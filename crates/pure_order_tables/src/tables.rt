@@ -114,6 +114,7 @@ impl Tables {
     /// The classes above a declared class, itself among them, ascending.
     pub fn above(&self, class: Name) -> Option<&[Name]>
         ensures are { MatchOption result (¬ IsDeclared self.now.classes class) (λ names. (d : ℕ) → IsIn d names.now ↔ IsClassBelow self.now class d) }
+        ensures declared { IfSome result (λ _. IsDeclared self.now.classes class) }
         ensures ascend { IfSome result (λ names. IsStrictlyIncreasing names.now) }
     {
         match self.classes.above(class) {
@@ -248,7 +249,7 @@ impl Tables {
     }
 
     /// The classes at which a new arity would be the greatest.
-    pub(crate) fn greater(&self, alloc: Global, arity: &ArityEntry) -> Result<Vec<Name>, AllocError>
+    pub fn greater(&self, alloc: Global, arity: &ArityEntry) -> Result<Vec<Name>, AllocError>
         requires { IsDeclared self.now.classes arity.now.class }
         ensures { IfOk result (λ greater. AreGreater self.now (arity_of arity.now) greater.items) }
     {
