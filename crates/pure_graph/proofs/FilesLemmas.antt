@@ -1,0 +1,133 @@
+-- What was read of a library so far.
+use Rattle.std.proofs.Common.{◌≡◌, ℕ, zero, suc, ◌+◌, ◌<◌, ◌≤◌, Bool, true, false, cond, List, [], ◌∷◌, ◌++◌, length, map, refl, sym, ◌∙◌, ap, subst, arith, append_assoc, length-append, get_or, take, take_all, Option, Some, None, IfSome, nat_lt, nat_le}
+use Rattle.std.proofs.lemmas.List.{map-append, append-nil, length-map}
+use Rattle.std.proofs.lemmas.Bool.{leb-true}
+use Rattle.std.proofs.lemmas.Bool.Decides.{nat_tests}
+use Rattle.pure_io.specs.declared.library.File as library
+use Rattle.pure_io.specs.Outside.{text_named}
+use Rattle.pure_graph.specs.Limits.{most_files, most_bytes, most_session_commands}
+use Rattle.pure_graph.specs.Listing.{AreTheories, file_name}
+use Rattle.pure_graph.specs.Outcome.{Outcome, Refused, Stands, IsOwnOutcome}
+use Rattle.pure_graph.specs.Reading.{Answer, File, IsTried, AreReadFrom, AreRead, fits, counted, command_count}
+use Rattle.pure_graph.specs.Session.{answer_in}
+use Rattle.pure_graph.specs.Told.{IsHeld, TellsBytes, IsTriedOf, AreReadOf, AreFilesOf}
+use Rattle.pure_graph.specs.declared.outcome.Reason.TheVariants.{TooManyFiles, TooLarge}
+use Rattle.pure_graph.specs.Seen.{seen_outcome, seen_file, seen_files}
+use Rattle.pure_graph.specs.declared.outcome.TheoryFile.{TheoryFile}
+use Rattle.pure_text.proofs.LoopLaws.{longer_by}
+use Rattle.pure_graph.proofs.SourceLemmas.{front-outcome}
+
+-- ---- one file
+pub past-limit : (m n : ℕ) → m ≤ n → nat_lt n m ≡ false
+past-limit m n h = grind (arith, nat_tests)
+
+pub before-limit : (m n : ℕ) → n < m → nat_lt n m ≡ true
+before-limit m n h = grind (arith, nat_tests)
+
+tells-some : (told : Option (List library.File)) (theory : List ℕ) → (bytes : Option (List ℕ)) × TellsBytes told theory bytes
+tells-some None theory = (None, tt)
+tells-some (Some files) theory = (text_named (file_name theory) files, refl)
+
+pub unread-file : (told : Option (List library.File)) (theory : List ℕ) (place : ℕ) (outcome : Outcome) → most_files ≤ place → outcome ≡ Refused TooManyFiles → IsTriedOf told (nat_lt place most_files) theory outcome
+unread-file told theory place outcome past is =
+    let some = tells-some told theory in
+    (some.0, some.1, subst (λ b. IsTried b (record { theory = theory; bytes = some.0 }) outcome) (sym (past-limit most_files place past)) is)
+
+held-file : (told : Option (List library.File)) (theory : List ℕ) (held : Option (List ℕ)) (outcome : Outcome)
+    → IfSome told (λ files. IsHeld (text_named (file_name theory) files) held) → IsOwnOutcome theory held outcome → IsTriedOf told true theory outcome
+held-file None theory held outcome is own = (held, tt, own)
+held-file (Some files) theory None outcome is own = (None, sym is, own)
+held-file (Some files) theory (Some text) outcome is own = (Some is.0, sym is.1, front-outcome theory is.0 text outcome is.2 own)
+
+pub read-file : (told : Option (List library.File)) (theory : List ℕ) (place : ℕ) (held : Option (List ℕ)) (outcome : Outcome)
+    → place < most_files → IfSome told (λ files. IsHeld (text_named (file_name theory) files) held) → IsOwnOutcome theory held outcome
+    → IsTriedOf told (nat_lt place most_files) theory outcome
+read-file told theory place held outcome before is own =
+    subst (λ b. IsTriedOf told b theory outcome) (sym (before-limit most_files place before)) (held-file told theory held outcome is own)
+
+-- ---- the commands so far
+pub fits-few : (before : ℕ) (outcome : Outcome) → before ≤ most_session_commands → fits before outcome ≡ true → before + command_count outcome ≤ most_session_commands
+fits-few before (Refused reason) few h = omega arith
+fits-few before (Stands source text) few h = leb-true (before + length text.commands) most_session_commands h
+
+-- ---- the files so far
+pub record IsReadSoFar (told : Option (List library.File)) (theories : List (List ℕ)) (files : List File) (before : ℕ) : Type 0 where
+  pub answers : List Answer
+  pub of_theories : map (λ (a : Answer). a.theory) answers ≡ theories
+  pub tells : IfSome told (λ library_files. answers ≡ map (answer_in library_files) theories)
+  pub on : (more : List Answer) (others : List File) → AreReadFrom (length files) before more others → AreRead (answers ++ more) (files ++ others)
+
+tells-none : (told : Option (List library.File)) → IfSome told (λ library_files. [] ≡ map (answer_in library_files) [])
+tells-none None = tt
+tells-none (Some files) = refl
+
+pub IsReadSoFar-none : (told : Option (List library.File)) (files : List File) → files ≡ [] → IsReadSoFar told [] files 0
+IsReadSoFar-none told files none = rw none (record {
+  answers = [];
+  of_theories = refl;
+  tells = tells-none told;
+  on = λ more others h. h;
+})
+
+tells-more : (told : Option (List library.File)) (theories : List (List ℕ)) (theory : List ℕ) (answers : List Answer) (bytes : Option (List ℕ))
+    → IfSome told (λ library_files. answers ≡ map (answer_in library_files) theories) → TellsBytes told theory bytes
+    → IfSome told (λ library_files. answers ++ record { theory = theory; bytes = bytes } ∷ [] ≡ map (answer_in library_files) (theories ++ theory ∷ []))
+tells-more None theories theory answers bytes all one = tt
+tells-more (Some files) theories theory answers bytes all one =
+    rw (all, one) (sym (map-append (answer_in files) theories (theory ∷ [])))
+
+pub IsReadSoFar-more : (told : Option (List library.File)) (theories : List (List ℕ)) (theory : List ℕ) (files : List File) (file : File) (before : ℕ) (own : Outcome)
+    → IsReadSoFar told theories files before → IsTriedOf told (nat_lt (length files) most_files) theory own → file ≡ record { theory = theory; outcome = counted before own }
+    → IsReadSoFar told (theories ++ theory ∷ []) (files ++ file ∷ []) (before + command_count (counted before own))
+IsReadSoFar-more told theories theory files file before own so_far tried is =
+    let answer : Answer = record { theory = theory; bytes = tried.0 } in
+    record {
+      answers = so_far.answers ++ answer ∷ [];
+      of_theories = map-append (λ (a : Answer). a.theory) so_far.answers (answer ∷ []) ∙ ap (λ ts. ts ++ theory ∷ []) so_far.of_theories;
+      tells = tells-more told theories theory so_far.answers tried.0 so_far.tells tried.1;
+      on = λ more others rest.
+          let behind : AreReadFrom (length files + 1) (before + command_count (counted before own)) more others =
+          subst (λ n. AreReadFrom n (before + command_count (counted before own)) more others) (length-append files (file ∷ [])) rest in
+          subst (λ given. AreRead given ((files ++ file ∷ []) ++ others)) (sym (append_assoc so_far.answers (answer ∷ []) more))
+          (subst (λ fs. AreRead (so_far.answers ++ answer ∷ more) fs) (sym (append_assoc files (file ∷ []) others))
+          (so_far.on (answer ∷ more) (file ∷ others) (own, tried.2, is, behind)));
+    }
+
+-- one turn of the loop
+pub IsReadSoFar-step : (told now : Option (List library.File)) (theories : List (List ℕ)) (i : ℕ) (theory : List ℕ) (items items' : List TheoryFile) (pushed : TheoryFile) (before place count : ℕ) (own : Outcome)
+    → now ≡ told → i < length theories → theory ≡ get_or theories i theory → place ≡ length items → IsReadSoFar told (take i theories) (seen_files items) before
+    → IsTriedOf now (nat_lt place most_files) theory own → pushed.theory ≡ theory → seen_outcome pushed.outcome ≡ counted before own → items' ≡ items ++ pushed ∷ []
+    → count ≡ command_count (seen_outcome pushed.outcome) → IsReadSoFar told (take (i + 1) theories) (seen_files items') (before + count)
+IsReadSoFar-step told now theories i theory items items' pushed before place count own same within read place_is so_far tried copied said longer count_is =
+    let listed : take i theories ++ theory ∷ [] ≡ take (i + 1) theories = sym (longer_by theories i theory within read) in
+    let file : seen_file pushed ≡ record { theory = theory; outcome = counted before own } = λ j. record { theory = copied j; outcome = said j } in
+    let files : seen_files items ++ seen_file pushed ∷ [] ≡ seen_files items' = sym (map-append seen_file items (pushed ∷ [])) ∙ ap seen_files (sym longer) in
+    let place_seen : place ≡ length (seen_files items) = place_is ∙ sym (length-map items seen_file) in
+    let tried_told : IsTriedOf told (nat_lt (length (seen_files items)) most_files) theory own =
+    subst (λ n. IsTriedOf told (nat_lt n most_files) theory own) place_seen (subst (λ o. IsTriedOf o (nat_lt place most_files) theory own) same tried) in
+    let counts : before + command_count (counted before own) ≡ before + count = ap (λ n. before + n) (sym (count_is ∙ ap command_count said)) in
+    let grown = IsReadSoFar-more told (take i theories) theory (seen_files items) (seen_file pushed) before own so_far tried_told file in
+    subst (λ n. IsReadSoFar told (take (i + 1) theories) (seen_files items') n) counts
+    (subst (λ fs. IsReadSoFar told (take (i + 1) theories) fs (before + command_count (counted before own))) files
+    (subst (λ ts. IsReadSoFar told ts (seen_files items ++ seen_file pushed ∷ []) (before + command_count (counted before own))) listed grown))
+
+pub IsReadSoFar-all : (told : Option (List library.File)) (theories : List (List ℕ)) (files : List File) (before : ℕ) → IsReadSoFar told theories files before → AreReadOf told theories files
+IsReadSoFar-all told theories files before so_far = record {
+  answers = so_far.answers;
+  of_theories = so_far.of_theories;
+  tells = so_far.tells;
+  are_read = subst (λ given. AreRead given files) (append-nil so_far.answers) (subst (λ fs. AreRead (so_far.answers ++ []) fs) (append-nil files) (so_far.on [] [] tt));
+}
+
+pub IsReadSoFar-end : (told : Option (List library.File)) (theories : List (List ℕ)) (files : List File) (i before : ℕ) → length theories ≤ i → IsReadSoFar told (take i theories) files before → AreReadOf told theories files
+IsReadSoFar-end told theories files i before past so_far = IsReadSoFar-all told theories files before (subst (λ ts. IsReadSoFar told ts files before) (take_all i theories past) so_far)
+
+pub files-of : (told now : Option (List library.File)) (names theories : List (List ℕ)) (files : List File) → now ≡ told
+    → IfSome told (λ library_files. names ≡ map (λ (f : library.File). f.name) library_files) → AreTheories names theories → AreReadOf now theories files → AreFilesOf told files
+files-of told now names theories files same tells listed read = record {
+  names = names;
+  theories = theories;
+  tells = tells;
+  listed = listed;
+  read = subst (λ o. AreReadOf o theories files) same read;
+}

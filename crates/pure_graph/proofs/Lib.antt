@@ -1,0 +1,7 @@
+pub mod HeaderLemmas
+pub mod IdentifierLemmas
+pub mod ListingLemmas
+pub mod SourceLemmas
+pub mod FilesLemmas
+pub mod Ascending
+pub mod LawsLemmas

@@ -1,0 +1,15 @@
+use Rattle.std.proofs.Common.{refl}
+use Rattle.pure_graph.specs.Outcome.{Refused}
+use Rattle.pure_graph.specs.Seen.{seen_outcome}
+use Rattle.pure_graph.specs.declared.outcome.Reason.TheVariants.{TooManyFiles}
+use Rattle.pure_graph.proofs.FilesLemmas.{unread-file, read-file}
+use Rattle.pure_graph.proofs.files.outcome_at.Goals as goal
+
+pub returns-then-place-ge-MOST_FILES-clause-told : goal.returns-then-place-ge-MOST_FILES-clause-told
+returns-then-place-ge-MOST_FILES-clause-told g c =
+    unread-file (g.L.Library.files c.args.library.now) c.args.theory.now c.args.place (Refused TooManyFiles) c.if-place-ge-MOST_FILES.true refl
+
+pub returns-in-Ok-clause-told : goal.returns-in-Ok-clause-told
+returns-in-Ok-clause-told g c =
+    read-file (g.L.Library.files c.args.library.now) c.args.theory.now c.args.place c.in_ok-held.held (seen_outcome c.in-Ok.outcome)
+    c.if-place-ge-MOST_FILES.false c.in_ok-held.ensures.told c.in-Ok.ensures

@@ -1,0 +1,12 @@
+pub mod Limits
+pub mod Listing
+pub mod Outcome
+pub mod Reading
+pub mod Graph
+pub mod Order
+pub mod SessionNames
+pub mod Session
+pub mod Seen
+pub mod Told
+pub mod Parsed
+pub mod Laws

@@ -1,0 +1,76 @@
+-- What the file of a theory says by itself.
+use Rattle.std.specs.Prelude.{◌≡◌, ◌⊎◌, ℕ, ◌<◌, ◌≤◌, Bool, true, false, not, ◌&&◌, ◌||◌, List, length, take, codes, count_by, nat_lt, Option, Some, None, if◌then◌else◌}
+use Rattle.std.specs.List.{list_any}
+use Rattle.pure_grammar.specs.declared.token.Token.{Token}
+use Rattle.pure_grammar.specs.declared.token.TokenKind.{TokenKind}
+use Rattle.pure_grammar.specs.Tokens.Spelling.{Spells, HasFault}
+use Rattle.pure_grammar.specs.Theories.Lexeme.{same}
+use Rattle.pure_grammar.specs.Theories.Outer.{SpellsTheory, HasSyntaxFault}
+use Rattle.pure_grammar.specs.Theories.TheoryText.{Step, Close, Command, Lemma, TheoryText}
+use Rattle.pure_lex.specs.Lines.{line_behind, column_behind}
+use Rattle.pure_graph.specs.Limits.{most_bytes, most_commands, most_steps}
+use Rattle.pure_graph.specs.declared.outcome.Reason.{Reason}
+use Rattle.pure_graph.specs.declared.outcome.Reason.TheVariants.{NoFile, TooLarge, Syntax, HeaderName}
+
+-- A file is refused, or it stands: its bytes, and the tree that they spell.
+pub data Outcome : Type 0 where
+  Refused : (reason : Reason) → Outcome
+  Stands : (source : List ℕ) → (text : TheoryText) → Outcome
+
+-- the source is a theory of the grammar with this tree
+abbrev pub IsTheoryText : List ℕ → TheoryText → Type 0
+IsTheoryText source text = (tokens : List Token) × Spells (length source) tokens source × SpellsTheory source tokens text
+
+-- The source isn't in the grammar, and its first fault stands at this place: a fault of its tokens, or else one of the
+-- grammar.
+abbrev pub IsFaultPlace : List ℕ → ℕ → Type 0
+IsFaultPlace source at =
+    HasFault (length source) source at
+    ⊎ ((tokens : List Token) × (expected : TokenKind) × Spells (length source) tokens source × HasSyntaxFault source tokens at expected)
+
+-- its line and its column, both from 1, columns in bytes
+abbrev pub syntax_at : List ℕ → ℕ → Reason
+syntax_at source at = Syntax (line_behind (take at source)) (column_behind (take at source))
+
+-- all steps of a proof are numbered but the one that closes subgoals
+abbrev pub is_numbered : Step → Bool
+is_numbered Close = false
+is_numbered _ = true
+
+-- a lemma with more steps than a proof may have
+abbrev pub has_long_proof : Command → Bool
+has_long_proof (Lemma name prop script) = nat_lt most_steps (count_by is_numbered script)
+has_long_proof _ = false
+
+-- more commands than a theory may have, or a proof that is too long
+abbrev pub is_large : TheoryText → Bool
+is_large text = nat_lt most_commands (length text.commands) || list_any has_long_proof text.commands
+
+unfoldable pub pure_theory : List ℕ
+pure_theory = codes "Pure"
+
+-- the header's name is the file's, and it isn't Pure
+abbrev pub is_headed : List ℕ → TheoryText → Bool
+is_headed theory text = same text.name theory && not (same text.name pure_theory)
+
+-- what the tree of a theory's file says
+abbrev pub tree_outcome : (theory source : List ℕ) → TheoryText → Outcome
+tree_outcome theory source text =
+    if is_headed theory text then (if is_large text then Refused TooLarge else Stands source text) else Refused HeaderName
+
+-- what the bytes of a theory's file say, where they aren't too many
+abbrev pub IsSourceOutcome : (theory source : List ℕ) → Outcome → Type 0
+IsSourceOutcome theory source outcome =
+    ((at : ℕ) × IsFaultPlace source at × (outcome ≡ Refused (syntax_at source at)))
+    ⊎ ((text : TheoryText) × IsTheoryText source text × (outcome ≡ tree_outcome theory source text))
+
+-- what the bytes of a theory's file say
+abbrev pub IsBytesOutcome : (theory source : List ℕ) → Outcome → Type 0
+IsBytesOutcome theory source outcome =
+    ((most_bytes < length source) × (outcome ≡ Refused TooLarge))
+    ⊎ ((length source ≤ most_bytes) × IsSourceOutcome theory source outcome)
+
+-- what the file of a theory says by itself: these are its bytes, or it is missing
+abbrev pub IsOwnOutcome : (theory : List ℕ) → Option (List ℕ) → Outcome → Type 0
+IsOwnOutcome theory None outcome = outcome ≡ Refused (NoFile theory)
+IsOwnOutcome theory (Some source) outcome = IsBytesOutcome theory source outcome

@@ -1,0 +1,16 @@
+//! The theories of a directory: which of its files are loaded, and why the others are refused.
+#![tactic(auto)]
+
+mod fault;
+mod files;
+mod header;
+mod identifier;
+pub mod laws;
+mod listing;
+mod outcome;
+mod source;
+mod sum;
+
+pub use fault::LoadFault;
+pub use files::read_files;
+pub use outcome::{Outcome, Reason, TheoryFile};

@@ -1,0 +1,36 @@
+//! What loading says of a file.
+use pure_script::TheoryText;
+use pure_text::Text;
+
+/// Why a file is refused in loading.
+#[derive(Debug, Drop)]
+pub enum Reason {
+    /// It isn't among the first files.
+    TooManyFiles,
+    /// The file of this theory, its own or that of an import, is missing.
+    NoFile { theory: Text },
+    /// It has too many bytes, commands or steps of a proof, or there are too many commands with it.
+    TooLarge,
+    /// It isn't in the grammar.
+    Syntax { line: u32, column: u32 },
+    /// Its header has another name than the file, or that of Pure.
+    HeaderName,
+    /// It lies on a cycle of imports.
+    CyclicImports,
+    /// This import is refused.
+    ParentRefused { theory: Text },
+}
+
+/// A file is refused, or it stands: its bytes, and the tree that they spell.
+#[derive(Debug, Drop)]
+pub enum Outcome {
+    Refused { reason: Reason },
+    Stands { source: Text, text: TheoryText },
+}
+
+/// A theory, and what loading says of its file.
+#[derive(Debug, Drop)]
+pub struct TheoryFile {
+    pub theory: Text,
+    pub outcome: Outcome,
+}
