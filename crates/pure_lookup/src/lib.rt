@@ -1,0 +1,4 @@
+//! What a written name means over a content, and the look-ups by it.
+#![tactic(auto)]
+
+pub mod laws;
