@@ -1,0 +1,21 @@
+//! Tables of declarations, as certification asks them.
+use pure_order::Order;
+use pure_typ::Name;
+
+/// Tables that answer exactly what a list of declarations says.
+pub trait Tables {
+    ghost use Rattle.std.specs.Prelude.{◌≡◌, List};
+    ghost use Rattle.pure_definitions.specs.Declarations.Decl.{Decl, algebra_of};
+    ghost use Rattle.pure_certify.specs.Tables.{IsParams};
+
+    // The declarations.
+    ghost declarations: { Self → List Decl };
+
+    /// How many arguments the type constructor takes; none exactly where it isn't declared.
+    fn typ_params(&self, name: Name) -> Option<u32>
+        ensures { IsParams (declarations self.now) name result };
+
+    /// The classes and arities.
+    fn order(&self) -> &Order
+        ensures { result.now ≡ algebra_of (declarations self.now) };
+}

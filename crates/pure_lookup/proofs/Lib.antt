@@ -1,0 +1,3 @@
+pub mod TextLemmas
+pub mod MeaningLaws
+pub mod ExampleLemmas

@@ -1,0 +1,4 @@
+pub mod Meaning
+pub mod LookUps
+pub mod Laws
+pub mod Examples

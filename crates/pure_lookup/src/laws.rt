@@ -1,0 +1,21 @@
+//! What the definitions mean: laws, each carried by the contract of a function that does nothing.
+ghost use Rattle.pure_lookup.specs.Laws.{OneMeaning, OneName, OneFact, FoundIsDeclared, ProtectIsNeverFound, MeaningIsKept, NewIsMeant};
+
+/// A written name means one thing at most, so each look-up has one answer at most.
+pub fn one_meaning()
+    ensures meaning { OneMeaning }
+    ensures name { OneName }
+    ensures fact { OneFact }
+{}
+
+/// What is found is declared, and is never the mark of a goal or its axiom.
+pub fn found_is_declared()
+    ensures declared { FoundIsDeclared }
+    ensures other { ProtectIsNeverFound }
+{}
+
+/// What a further declaration changes: what is written otherwise keeps its meaning, and its own name is found.
+pub fn further_declaration()
+    ensures kept { MeaningIsKept }
+    ensures new { NewIsMeant }
+{}
