@@ -1,0 +1,4 @@
+pub mod Unifiers
+pub mod Asks
+pub mod Steps
+pub mod Laws
