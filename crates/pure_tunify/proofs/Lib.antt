@@ -1,3 +1,4 @@
 pub mod MapLaws
 pub mod StepLaws
 pub mod AskLaws
+pub mod MeetLaws

@@ -1,5 +1,5 @@
 //! Laws of unification: each is the contract of a function that does nothing.
-ghost use Rattle.pure_tunify.specs.Laws.{StepIsReduction, MostGeneralAlongReduction, SolvedIsMostGeneral, FailedHasNoUnifier, RefutedHasNoUnifier};
+ghost use Rattle.pure_tunify.specs.Laws.{StepIsReduction, MostGeneralAlongReduction, SolvedIsMostGeneral, FailedHasNoUnifier, RefutedHasNoUnifier, EachIsAsked, NothingToNarrow, OnlyThere, AskedHasInstance};
 
 /// A step takes unifiers there and back.
 pub fn step_is_reduction()
@@ -24,4 +24,21 @@ pub fn failed_has_no_unifier()
 /// Pairs that the steps refute have no unifier.
 pub fn refuted_has_no_unifier()
     ensures { RefutedHasNoUnifier }
+{}
+
+/// What stands in the list of what is asked is asked, as the step that narrows a variable wants it.
+pub fn each_is_asked()
+    ensures { EachIsAsked }
+{}
+
+/// The type is of the sort, as the step that sets a variable wants it, exactly where each variable's own sort is below
+/// what is asked of it.
+pub fn nothing_to_narrow()
+    ensures there { NothingToNarrow }
+    ensures only_there { OnlyThere }
+{}
+
+/// What is asked can be met.
+pub fn asked_has_instance()
+    ensures { AskedHasInstance }
 {}
