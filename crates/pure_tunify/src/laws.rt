@@ -1,5 +1,6 @@
 //! Laws of unification: each is the contract of a function that does nothing.
 ghost use Rattle.pure_tunify.specs.Laws.{StepIsReduction, MostGeneralAlongReduction, SolvedIsMostGeneral, FailedHasNoUnifier, RefutedHasNoUnifier, EachIsAsked, NothingToNarrow, OnlyThere, AskedHasInstance};
+ghost use Rattle.pure_tunify.specs.Examples.{NarrowedExample, OccursExample};
 
 /// A step takes unifiers there and back.
 pub fn step_is_reduction()
@@ -41,4 +42,14 @@ pub fn nothing_to_narrow()
 /// What is asked can be met.
 pub fn asked_has_instance()
     ensures { AskedHasInstance }
+{}
+
+/// A variable of a class and one of none are solved by a fresh one of the class.
+pub fn narrowed_example()
+    ensures { NarrowedExample }
+{}
+
+/// A variable and a type of functions from it are refuted.
+pub fn occurs_example()
+    ensures { OccursExample }
 {}
