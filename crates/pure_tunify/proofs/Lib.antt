@@ -1,0 +1,5 @@
+pub mod MapLaws
+pub mod StepLaws
+pub mod AskLaws
+pub mod MeetLaws
+pub mod ExampleLaws

@@ -1,0 +1,5 @@
+use Rattle.pure_tunify.proofs.StepLaws.{refuted_has_no_unifier as lemma}
+use Rattle.pure_tunify.proofs.laws.refuted_has_no_unifier.Goals as goal
+
+pub returns : goal.returns
+returns c = lemma
