@@ -1,3 +1,4 @@
 pub mod TextLemmas
 pub mod MeaningLaws
 pub mod ExampleLemmas
+pub mod PlaceLemmas

@@ -107,7 +107,7 @@ one_fact texts Q s q written (Some f) (Some g) h k =
     ap Some (fact-once Q q f g k.0 (rw (← same) h.2) k.2)
 
 -- What is visible under a name may be written.
-visible-writable : (texts : List (List ℕ)) (Q : Content) (space : Space) (p : ℕ) (t b : List ℕ) (n : ℕ) → IsVisible texts Q space p t b (Declared n) → IsWritable Q space n
+pub visible-writable : (texts : List (List ℕ)) (Q : Content) (space : Space) (p : ℕ) (t b : List ℕ) (n : ℕ) → IsVisible texts Q space p t b (Declared n) → IsWritable Q space n
 visible-writable texts Q space p t b n (inl h) = h.2.0
 visible-writable texts Q space p t b n (inr (v, i, place, text, h)) = h.0
 

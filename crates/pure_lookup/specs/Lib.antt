@@ -1,4 +1,5 @@
 pub mod Meaning
 pub mod LookUps
+pub mod Places
 pub mod Laws
 pub mod Examples

@@ -2,4 +2,9 @@
 #![tactic(auto)]
 
 pub mod examples;
+mod find;
 pub mod laws;
+mod scope;
+
+pub use find::find_name;
+pub use scope::Scope;

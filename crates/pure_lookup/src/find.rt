@@ -1,0 +1,108 @@
+//! Look-ups of written names.
+ghost use Rattle.std.specs.Prelude.{◌≡◌, ◌≤◌, ℕ, MatchOption};
+ghost use Rattle.pure_text.specs.Lists.{IsIn};
+ghost use Rattle.pure_definitions.specs.Names.{builtin_count};
+ghost use Rattle.pure_typ.specs.NameTexts.{HasText, NameHasBase};
+ghost use Rattle.pure_lookup.specs.Meaning.{Declared, IsWritable, IsMeantInFull, IsMeantByBase, IsMeant};
+ghost use Rattle.pure_lookup.specs.Laws.{IsInSession};
+ghost use Rattle.pure_lookup.specs.Places.{IsPlaceOf, IsTheoryIn, IsBest};
+
+use crate::scope::Scope;
+use pure_typ::{BUILTIN_COUNT, Name, Names, NamesByBase};
+
+/// What stands in front of the text's first dot.
+fn theory_in(text: &[u8]) -> Option<&[u8]>
+    ensures { MatchOption result (¬ IsIn 46 text.now) (λ theory. IsTheoryIn text.now theory.now) }
+{
+    for (at, byte) in text.iter().enumerate() {
+        if *byte == b'.' {
+            return Some(&text[..at]);
+        }
+    }
+    None
+}
+
+/// The place in load order of the theory whose text stands in front of the first dot: that of Pure is 0.
+fn place_in_theory<S: Scope>(scope: &S, names: &Names, text: &[u8]) -> Option<u64>
+    requires { IsInSession names.now (S.content scope.now) }
+    ensures { (n : ℕ) → HasText names.now n text.now → builtin_count ≤ n → IsWritable (S.content scope.now) (S.space scope.now) n → IsPlaceOf names.now (S.content scope.now) (S.space scope.now) n result }
+{
+    let Some(theory) = theory_in(text) else {
+        return None;
+    };
+    let Some(name) = names.find(theory) else {
+        return None;
+    };
+    match scope.index_of(name) {
+        None => None,
+        Some(index) => Some(index as u64 + 1),
+    }
+}
+
+/// The place in load order at which the name is visible.
+fn place_of<S: Scope>(scope: &S, names: &Names, name: Name) -> Option<u64>
+    requires { IsInSession names.now (S.content scope.now) }
+    ensures { IsPlaceOf names.now (S.content scope.now) (S.space scope.now) name result }
+{
+    if name == Name::PROTECT {
+        return None;
+    }
+    if !scope.is_declared(name) {
+        return None;
+    }
+    if name.0 < BUILTIN_COUNT {
+        return Some(0);
+    }
+    let Some(text) = names.text(name) else {
+        return None;
+    };
+    place_in_theory(scope, names, text)
+}
+
+/// The name of the name space that is visible under just this full name.
+fn find_in_full<S: Scope>(scope: &S, names: &Names, written: &[u8]) -> Option<Name>
+    requires { IsInSession names.now (S.content scope.now) }
+    ensures { MatchOption result
+        ((n : ℕ) → ¬ IsMeantInFull names.now (S.content scope.now) (S.space scope.now) written.now (Declared n))
+        (λ n. IsMeantInFull names.now (S.content scope.now) (S.space scope.now) written.now (Declared n)) }
+{
+    let Some(name) = names.find(written) else {
+        return None;
+    };
+    match place_of(scope, names, name) {
+        None => None,
+        Some(_) => Some(name),
+    }
+}
+
+/// Of these names, whose texts have the base, one that is visible last in load order.
+fn last_of<S: Scope>(scope: &S, names: &Names, written: &[u8], candidates: &[Name]) -> Option<Name>
+    requires session { IsInSession names.now (S.content scope.now) }
+    requires bases { (n : ℕ) → IsIn n candidates.now → NameHasBase names.now written.now n }
+    ensures { (last : ℕ) × IsBest names.now (S.content scope.now) (S.space scope.now) written.now candidates.now result last }
+{
+    let mut best = None;
+    let mut last: u64 = 0;
+    for name in candidates {
+        if let Some(place) = place_of(scope, names, *name) {
+            if last <= place {
+                best = Some(*name);
+                last = place;
+            }
+        }
+    }
+    best
+}
+
+/// The name that is declared in the name space and is written so; none where the written name means no name. It takes no memory.
+pub fn find_name<S: Scope>(scope: &S, names: &NamesByBase, written: &[u8]) -> Option<Name>
+    requires { IsInSession names.now (S.content scope.now) }
+    ensures { MatchOption result
+        ((n : ℕ) → ¬ IsMeant names.now (S.content scope.now) (S.space scope.now) written.now (Declared n))
+        (λ n. IsMeant names.now (S.content scope.now) (S.space scope.now) written.now (Declared n)) }
+{
+    match theory_in(written) {
+        Some(_) => find_in_full(scope, names.names(), written),
+        None => last_of(scope, names.names(), written, names.with_base(written)),
+    }
+}
