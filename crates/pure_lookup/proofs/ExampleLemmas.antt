@@ -12,7 +12,7 @@ use Rattle.pure_lookup.specs.Examples.{example_texts, over_two, LastExample, Ful
 use Rattle.pure_lookup.proofs.TextLemmas.{builtin-not_built}
 
 -- whether a dot is in a text, tested
-no_dot : (w : List ℕ) → is_in 46 w ≡ false → ¬ IsIn 46 w
+pub no_dot : (w : List ℕ) → is_in 46 w ≡ false → ¬ IsIn 46 w
 no_dot w h m = true≢false (sym (in-is_in 46 w m) ∙ h)
 
 -- No ancestor of the example's theory that declares x comes after this place.
@@ -27,11 +27,11 @@ texts-of : slice_get (builtin_texts ++ example_texts) 7 ≡ Some (full_text (cod
 unfolding builtin_texts example_texts
 texts-of = refl
 
-text-A : slice_get (builtin_texts ++ example_texts) 6 ≡ Some (codes "A")
+pub text-A : slice_get (builtin_texts ++ example_texts) 6 ≡ Some (codes "A")
 unfolding builtin_texts example_texts
 text-A = refl
 
-text-B : slice_get (builtin_texts ++ example_texts) 8 ≡ Some (codes "B")
+pub text-B : slice_get (builtin_texts ++ example_texts) 8 ≡ Some (codes "B")
 unfolding builtin_texts example_texts
 text-B = refl
 

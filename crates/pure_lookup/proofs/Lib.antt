@@ -2,3 +2,4 @@ pub mod TextLemmas
 pub mod MeaningLaws
 pub mod ExampleLemmas
 pub mod PlaceLemmas
+pub mod SessionExample

@@ -51,7 +51,7 @@ ascending-once texts ascend w m n e f = elim (cases_lt m n) [
 ]
 
 -- whether no text of the list stands in it twice
-abbrev all_once : List (List ℕ) → Bool
+abbrev pub all_once : List (List ℕ) → Bool
 all_once [] = true
 all_once (x ∷ xs) = not (list_any (bytes_eq x) xs) && all_once xs
 
@@ -67,7 +67,7 @@ any-at x (y ∷ ys) (suc n) e = let later = any-at x ys n e in by (bytes_eq x y)
 twice : (x : List ℕ) (xs : List (List ℕ)) (n : ℕ) → not (list_any (bytes_eq x) xs) ≡ true → slice_get xs n ≡ Some x → ⊥
 twice x xs n h e = let yes = any-at x xs n e in let no : not true ≡ true = rw yes at h in absurd (cc)
 
-tested-once : (xs : List (List ℕ)) → all_once xs ≡ true → StandOnce xs
+pub tested-once : (xs : List (List ℕ)) → all_once xs ≡ true → StandOnce xs
 tested-once [] h w m n e f = absurd (cc)
 tested-once (x ∷ xs) h w zero zero e f = refl
 tested-once (x ∷ xs) h w zero (suc n) e f = absurd (twice x xs n (first_so (not (list_any (bytes_eq x) xs)) (all_once xs) h) (f ∙ sym e))

@@ -6,6 +6,7 @@ use Rattle.pure_definitions.specs.Declarations.Decl.{ConstDecl}
 use Rattle.pure_logic.specs.Content.{Content}
 use Rattle.pure_logic.specs.PureContent.{pure_content, pure_declarations}
 use Rattle.pure_lookup.specs.Meaning.{constructors, constants, facts, Meaning, Declared, Built, IsMeant}
+use Rattle.pure_lookup.specs.Laws.{IsInSession}
 
 -- the texts of the names 6 to 9
 unfoldable pub example_texts : List (List ℕ)
@@ -32,3 +33,7 @@ PureExample = IsMeant [] pure_content constructors (codes "fun") (Declared fun_n
 
 abbrev pub ProtectExample : Type 0
 ProtectExample = (m : Meaning) → (¬ IsMeant [] pure_content facts (codes "protect") m) × (¬ IsMeant [] pure_content facts (codes "Pure.protect") m)
+
+-- This is a content that a session may give, so that the premise of the laws can be met.
+abbrev pub SessionExample : Type 0
+SessionExample = IsInSession example_texts (over_two 1 2)
