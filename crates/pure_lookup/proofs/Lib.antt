@@ -1,3 +1,4 @@
+pub mod NamedTheories
 pub mod TextLemmas
 pub mod MeaningLaws
 pub mod ExampleLemmas
