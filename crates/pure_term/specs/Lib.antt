@@ -4,3 +4,4 @@ pub mod Grown
 pub mod Scope
 pub mod TypeAnswer
 pub mod TermPlaces
+pub mod TermBound

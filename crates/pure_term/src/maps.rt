@@ -6,6 +6,7 @@ ghost use Rattle.pure_definitions.specs.Terms.Term.{term_eq};
 ghost use Rattle.pure_definitions.specs.Terms.Subst.{IsTermMap, term_variable, term_image};
 ghost use Rattle.pure_definitions.specs.Models.Comparison.{term_cmp};
 ghost use Rattle.pure_term.specs.TermPlaces.{AreTermPlaces, IsTermPlace};
+ghost use Rattle.pure_term.specs.TermBound.{IsTermBound};
 
 use crate::term::Term;
 use pure_typ::{Name, Typ, insert_in_room};
@@ -84,9 +85,12 @@ impl TermMap {
 
     /// The image of a schematic variable, where an entry replaces it. It takes no memory.
     pub fn find(&self, name: Name, index: u32, typ: &Typ) -> Option<&Term>
-        ensures { MatchOption result
+        ensures image { MatchOption result
             (term_image self.now (term_tree.Var name index typ.now) ≡ term_tree.Var name index typ.now)
             (λ t. term_image self.now (term_tree.Var name index typ.now) ≡ t.now) }
+        ensures bound { MatchOption result
+            (¬ IsIn (term_tree.Var name index typ.now) (map term_variable self.now))
+            (λ t. IsTermBound self.now (term_tree.Var name index typ.now) t.now) }
     {
         let (binds, places) = (self.binds.as_slice(), self.places.as_slice());
         let at = place_of(binds, places, name, index, typ);

@@ -6,3 +6,4 @@ pub mod SortUnion
 pub mod Ascending
 pub mod TypPlaces
 pub mod NameBases
+pub mod TypBound

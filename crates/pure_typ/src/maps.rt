@@ -6,6 +6,7 @@ ghost use Rattle.pure_definitions.specs.Types.Typ.{typ_eq};
 ghost use Rattle.pure_definitions.specs.Terms.Subst.{IsTypMap, typ_variable, typ_image};
 ghost use Rattle.pure_definitions.specs.Models.Comparison.{typ_cmp};
 ghost use Rattle.pure_typ.specs.TypPlaces.{AreTypPlaces, IsTypPlace};
+ghost use Rattle.pure_typ.specs.TypBound.{IsTypBound};
 
 use crate::name::Name;
 use crate::room::insert_in_room;
@@ -86,9 +87,12 @@ impl TypMap {
 
     /// The image of a schematic type variable, where an entry replaces it. It takes no memory.
     pub fn find(&self, name: Name, index: u32, sort: &Sort) -> Option<&Typ>
-        ensures { MatchOption result
+        ensures image { MatchOption result
             (typ_image self.now (typ_tree.TVar name index sort.now) ≡ typ_tree.TVar name index sort.now)
             (λ t. typ_image self.now (typ_tree.TVar name index sort.now) ≡ t.now) }
+        ensures bound { MatchOption result
+            (¬ IsIn (typ_tree.TVar name index sort.now) (map typ_variable self.now))
+            (λ t. IsTypBound self.now (typ_tree.TVar name index sort.now) t.now) }
     {
         let (binds, places) = (self.binds.as_slice(), self.places.as_slice());
         let at = place_of(binds, places, name, index, sort);
