@@ -7,13 +7,13 @@ use Rattle.std.proofs.lemmas.Bool.Decides.{eqb_tells}
 use Rattle.std.proofs.lemmas.Option.{slice_get_within}
 use Rattle.std.specs.List.{range_with_len}
 use Rattle.std.specs.List.Sorted.{IsStrictlyIncreasing}
-use Rattle.std.specs.Option.{option_and_then, option_map_or}
-use Rattle.std.specs.Prelude.{Option, Some, None, Bool, true, false, cond, slice_get, bytes_eq}
+use Rattle.std.specs.Option.{option_map_or}
+use Rattle.std.specs.Prelude.{Option, Some, None, Bool, true, false, cond, bytes_eq}
 use Rattle.std.specs.Cmp.Lexicographic.{bytes_decides}
 use Rattle.pure_text.specs.Lists.{IsIn}
-use Rattle.pure_typ.specs.NameTexts.{name_texts, HasBase, NameHasBase}
-use Rattle.pure_typ.specs.NameBases.{base_of, name_base, has_base, names_with_base}
-use Rattle.pure_typ.proofs.BaseLemmas.{base-is, base-has}
+use Rattle.pure_typ.specs.NameTexts.{name_texts, NameHasBase}
+use Rattle.pure_typ.specs.NameBases.{name_base, has_base, names_with_base}
+use Rattle.pure_typ.proofs.BaseLemmas.{name-has, name-is}
 
 range-more : (a n : ℕ) → range_with_len a (n + 1) ≡ range_with_len a n ++ (a + n) ∷ []
 range-more a zero = let e : a + 0 ≡ a = omega arith in rw e refl
@@ -57,19 +57,14 @@ own-base : (base : List ℕ) (o : Option (List ℕ)) → option_map_or (bytes_eq
 own-base base None e = absurd (cc)
 own-base base (Some own) e = ap Some (sym ((bytes_decides base own).0 e))
 
-text-behind : (base : List ℕ) (o : Option (List ℕ)) → option_and_then base_of o ≡ Some base → (text : List ℕ) × (o ≡ Some text) × HasBase base text
-text-behind base None e = absurd (cc)
-text-behind base (Some text) e = (text, refl, base-has base text e)
-
 -- A name is among those with the base exactly where its text has it.
 pub with_base-exact : (texts : List (List ℕ)) (base : List ℕ) (n : ℕ) → IsIn n (names_with_base texts base) ↔ NameHasBase texts base n
 with_base-exact texts base n =
     let range = in-range (has_base texts base) 0 (length (name_texts texts)) n in (
-      λ i. text-behind base (slice_get (name_texts texts) n) (own-base base (name_base texts n) (range.0 i).2),
-      λ (text, has, is).
-          let within = slice_get_within (name_texts texts) n text has in
-          let own : name_base texts n ≡ Some base = ap (option_and_then base_of) has ∙ base-is base text is in
-          range.1 (omega arith, omega arith, ap (λ o. option_map_or (bytes_eq base) o false) own ∙ (bytes_decides base base).1 refl),
+      λ i. name-has texts base n (own-base base (name_base texts n) (range.0 i).2),
+      λ h.
+          let within = slice_get_within (name_texts texts) n h.0 h.1 in
+          range.1 (omega arith, omega arith, ap (λ o. option_map_or (bytes_eq base) o false) (name-is texts base n h) ∙ (bytes_decides base base).1 refl),
     )
 
 pub with_base-ascends : (texts : List (List ℕ)) (base : List ℕ) → IsStrictlyIncreasing (names_with_base texts base)

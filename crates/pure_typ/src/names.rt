@@ -1,9 +1,9 @@
 //! The texts of names.
-ghost use Rattle.std.specs.Prelude.{◌≡◌, ◌<◌, ◌∷◌, ◌++◌, length, MatchOption, IfOk, option_map, slice_get, Some, None};
+ghost use Rattle.std.specs.Prelude.{◌≡◌, ◌<◌, ◌∷◌, ◌++◌, ℕ, List, length, MatchOption, IfOk, option_map, slice_get, Some, None};
 ghost use Rattle.std.specs.Ordering.{nat_cmp};
 ghost use Rattle.std.specs.Cmp.Lexicographic.{slice_cmp};
 ghost use Rattle.pure_definitions.specs.Names.{builtin_count};
-ghost use Rattle.pure_typ.specs.NameTexts.{builtin_texts, name_texts, HasText, DoAscend, AreSessionTexts, IsFound};
+ghost use Rattle.pure_typ.specs.NameTexts.{builtin_texts, name_texts, HasText, DoAscend, AreSessionTexts, IsFound, NameHasBase};
 ghost use Rattle.pure_typ.specs.NameBases.{base_of, name_base};
 
 use crate::name::{BUILTIN_COUNT, Name};
@@ -75,7 +75,10 @@ impl Names {
 
     /// The base of the name's text: what stands behind its first dot.
     pub fn base(&self, name: Name) -> Option<&[u8]>
-        ensures { option_map (λ base. base.now) result ≡ name_base self.now name }
+        ensures value { option_map (λ base. base.now) result ≡ name_base self.now name }
+        ensures base { MatchOption result
+            ((other : List ℕ) → ¬ NameHasBase self.now other name)
+            (λ base. NameHasBase self.now base.now name) }
     {
         match self.text(name) {
             Some(text) => base_in(text),
