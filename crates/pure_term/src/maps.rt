@@ -1,5 +1,5 @@
 //! Finite maps of schematic variables.
-ghost use Rattle.std.specs.Prelude.{◌≡◌, List, [], ◌∷◌, ◌++◌, map, MatchOption, MatchResult};
+ghost use Rattle.std.specs.Prelude.{◌≡◌, List, [], ◌∷◌, ◌++◌, map, IfOk, MatchOption, MatchResult};
 ghost use Rattle.pure_text.specs.Lists.{IsIn};
 ghost use Rattle.pure_definitions.specs.Terms.Term as term_tree;
 ghost use Rattle.pure_definitions.specs.Terms.Term.{term_eq};
@@ -67,6 +67,18 @@ impl TermMap {
             binds: Vec::new(alloc),
             places: Vec::new(alloc),
         }
+    }
+
+    /// The map with these entries.
+    pub fn make(alloc: Global, binds: Vec<TermBind>) -> Result<TermMap, AllocError>
+        requires { IsTermMap binds.items }
+        ensures { IfOk result (λ m. m ≡ binds.items) }
+    {
+        let mut made = TermMap::empty(alloc);
+        for bind in binds {
+            made.push(bind)?;
+        }
+        Ok(made)
     }
 
     /// Adds an entry at the end, for a variable that no entry replaces yet. The map stays as it is where memory runs out.

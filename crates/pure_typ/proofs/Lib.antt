@@ -6,3 +6,4 @@ pub mod AscendingLemmas
 pub mod TypPlacesLemmas
 pub mod ByBaseLemmas
 pub mod BaseMapLemmas
+pub mod KeyLemmas

@@ -1,5 +1,5 @@
 //! Finite maps of schematic type variables.
-ghost use Rattle.std.specs.Prelude.{◌≡◌, List, [], ◌∷◌, ◌++◌, map, MatchOption, MatchResult};
+ghost use Rattle.std.specs.Prelude.{◌≡◌, List, [], ◌∷◌, ◌++◌, map, IfOk, MatchOption, MatchResult};
 ghost use Rattle.pure_text.specs.Lists.{IsIn};
 ghost use Rattle.pure_definitions.specs.Types.Typ as typ_tree;
 ghost use Rattle.pure_definitions.specs.Types.Typ.{typ_eq};
@@ -69,6 +69,18 @@ impl TypMap {
             binds: Vec::new(alloc),
             places: Vec::new(alloc),
         }
+    }
+
+    /// The map with these entries.
+    pub fn make(alloc: Global, binds: Vec<TypBind>) -> Result<TypMap, AllocError>
+        requires { IsTypMap binds.items }
+        ensures { IfOk result (λ m. m ≡ binds.items) }
+    {
+        let mut made = TypMap::empty(alloc);
+        for bind in binds {
+            made.push(bind)?;
+        }
+        Ok(made)
     }
 
     /// Adds an entry at the end, for a variable that no entry replaces yet. The map stays as it is where memory runs out.
