@@ -1,23 +1,21 @@
 -- A worked example: a step by a fact that rests on a promise, which moves another subgoal and a pair.
-use Rattle.std.proofs.Common.{List, [], ◌∷◌, ◌++◌, inl, inr, refl}
+use Rattle.std.proofs.Common.{List, [], ◌∷◌, inl, inr, refl}
 use Rattle.pure_text.specs.Lists.{IsIn}
-use Rattle.pure_text.proofs.ListLaws.{in-append_left}
 use Rattle.pure_definitions.specs.Types.Typ.{prop}
 use Rattle.pure_definitions.specs.Terms.Term.{Term, Var, App}
-use Rattle.pure_definitions.specs.Declarations.Decl.{Decl, PromiseDecl}
+use Rattle.pure_definitions.specs.Declarations.Decl.{PromiseDecl}
 use Rattle.pure_term_laws.specs.LawsMaps.{sent}
 use Rattle.pure_logic.specs.Connectives.{imp, eq, protect}
-use Rattle.pure_logic.specs.Content.{IsContent, IsBelow, IsProposition}
-use Rattle.pure_logic.specs.PureContent.{pure_content, pure_declarations, proposition_variable}
+use Rattle.pure_logic.specs.Content.{IsContent, IsProposition}
+use Rattle.pure_logic.specs.PureContent.{pure_content, proposition_variable}
 use Rattle.pure_logic.specs.Tree.{Promise}
 use Rattle.pure_logic.specs.Concludes.{AreRespecting}
 use Rattle.pure_logic.specs.Derivable.{Pair, IsDerivable}
 use Rattle.pure_logic.specs.Proves.{Proves}
-use Rattle.pure_logic.specs.Examples.Contents.{content_of}
 use Rattle.pure_logic.specs.Examples.Fulfilments.{by_command, trivial, promising}
 use Rattle.pure_logic.proofs.AboveLaws.{certified_of-above}
 use Rattle.pure_logic.proofs.EqualityLaws.{mark_means_nothing}
-use Rattle.pure_logic.proofs.FulfilmentExamples.{fulfilled_example}
+use Rattle.pure_logic.proofs.FulfilmentExamples.{above, fulfilled_example}
 use Rattle.pure_logic.proofs.ConnectiveLaws.{certified_of}
 use Rattle.pure_logic.proofs.MapLaws.{identity_respects, sent-respects}
 use Rattle.pure_logic.proofs.PropositionLaws.{eq-proposition}
@@ -38,12 +36,6 @@ use Rattle.pure_goal_laws.proofs.PairExamples.{applied-proposition}
 
 is_content : IsContent promising
 is_content = fulfilled_example.0
-
-below_more : (more : List Decl) → IsBelow pure_content (content_of (pure_declarations ++ more))
-below_more more d m = in-append_left d pure_declarations more m
-
-above : IsBelow pure_content promising
-above = below_more (PromiseDecl 51 (by_command 1) trivial ∷ PromiseDecl 52 (by_command 2) trivial ∷ PromiseDecl 53 (by_command 3) trivial ∷ PromiseDecl 54 (by_command 4) trivial ∷ [])
 
 -- A proposition of Pure is one here.
 there : (A : Term) → IsProposition pure_content A → IsProposition promising A

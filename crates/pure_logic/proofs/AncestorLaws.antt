@@ -77,13 +77,13 @@ option-in t None e = absurd (cc)
 option-in t (Some u) e = inl (cc)
 
 -- A theory that a content names is its own or one of its ancestors.
-abbrev Names : TheoryId → Content → Type 0
+abbrev pub Names : TheoryId → Content → Type 0
 Names t P = (P.own ≡ Some t) ⊎ IsIn t P.ancestors
 
-in-theories : (t : TheoryId) (P : Content) → IsIn t (theories_of P) → Names t P
+pub in-theories : (t : TheoryId) (P : Content) → IsIn t (theories_of P) → Names t P
 in-theories t P m = elim (in_split t P.ancestors (option_to_list P.own) m) [ inl n ↦ inr n | inr n ↦ inl (in-option t P.own n) ]
 
-theories-in : (t : TheoryId) (P : Content) → Names t P → IsIn t (theories_of P)
+pub theories-in : (t : TheoryId) (P : Content) → Names t P → IsIn t (theories_of P)
 theories-in t P (inl own) = in-append_right t P.ancestors (option_to_list P.own) (option-in t P.own own)
 theories-in t P (inr m) = in-append_left t P.ancestors (option_to_list P.own) m
 

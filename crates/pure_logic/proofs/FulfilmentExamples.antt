@@ -37,7 +37,7 @@ abbrev is_promise_of : ℕ → Decl → Bool
 is_promise_of n (PromiseDecl x l A) = nat_eq l.command n
 is_promise_of n _ = false
 
-above : IsBelow pure_content promising
+pub above : IsBelow pure_content promising
 above d m = in-append_left d pure_declarations (PromiseDecl 51 (by_command 1) trivial ∷ PromiseDecl 52 (by_command 2) trivial ∷ PromiseDecl 53 (by_command 3) trivial ∷ PromiseDecl 54 (by_command 4) trivial ∷ []) m
 
 module _ (Q : Content) (above : IsBelow pure_content Q) where

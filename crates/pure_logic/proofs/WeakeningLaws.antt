@@ -1,6 +1,6 @@
 -- Weakening: what a tree concludes over a content, a tree concludes over each content above it.
-use Rattle.std.proofs.Common.{◌≡◌, ℕ, List, [], ◌+◌, ◌++◌, ap, refl}
-use Rattle.pure_definitions.specs.Types.Typ.{Typ, TFree, TVar, Con, Typs, none, also, typs_count, arrow, prop}
+use Rattle.std.proofs.Common.{◌≡◌, ℕ, List, [], ◌++◌, ap, refl}
+use Rattle.pure_definitions.specs.Types.Typ.{Typ, TFree, TVar, Con, Typs, none, also, arrow, prop}
 use Rattle.pure_definitions.specs.Terms.Term.{Term, Free, Var}
 use Rattle.pure_definitions.specs.Terms.Typing.{HasType}
 use Rattle.pure_definitions.specs.Types.Order.{IsOfSort}
@@ -8,6 +8,7 @@ use Rattle.pure_definitions.specs.Terms.Subst.{typ_instance, typs_instance, IsSo
 use Rattle.pure_definitions.specs.Declarations.Decl.{Decl, AxiomDecl, PromiseDecl, algebra_of}
 use Rattle.pure_definitions.specs.Declarations.Certified.{IsCertifiedSort, IsCertifiedTyp, AreCertifiedTyps, HasCertifiedParts, AreImagesCertified}
 use Rattle.pure_definitions.proofs.OrderLaws.{sort_below-itself}
+use Rattle.pure_term_laws.proofs.MapLaws.{typs_count-instance}
 use Rattle.pure_logic.specs.Connectives.{all, imp}
 use Rattle.pure_logic.specs.Content.{Content, IsContent, IsBelow, IsWellFormed}
 use Rattle.pure_logic.specs.Tree.{Tree, Axiom, Promise, Assume, AllIntro, AllElim, ImpliesIntro, ImpliesElim, Beta, Refl, Subst, Ext, Iff, without, hyps_of, rests_of}
@@ -16,10 +17,6 @@ use Rattle.pure_logic.specs.Derivable.{Theorem, IsDerivable}
 use Rattle.pure_logic.proofs.AboveLaws.{respecting-above, typ-above, parts-above, certified_of-above}
 use Rattle.pure_logic.proofs.KnownLaws.{chosen-has, decided_sort, decided_typ, known-certified, restricted_typs, restricted_terms, typ_instance-restricted, term_instance-restricted}
 use Rattle.pure_text.proofs.ListLaws.{each_at}
-
-typs_count-instance : (typs : Typ → Typ) (ts : Typs) → typs_count (typs_instance typs ts) ≡ typs_count ts
-typs_count-instance typs none = refl
-typs_count-instance typs (also t ts) = ap (λ n. 1 + n) (typs_count-instance typs ts)
 
 -- A type map with certified images makes certified types of certified ones.
 mutual

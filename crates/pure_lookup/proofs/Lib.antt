@@ -1,4 +1,3 @@
-pub mod NamedTheories
 pub mod TextLemmas
 pub mod MeaningLaws
 pub mod ExampleLemmas

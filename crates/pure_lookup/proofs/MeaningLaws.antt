@@ -9,11 +9,10 @@ use Rattle.pure_typ.specs.NameTexts.{builtin_texts, HasText}
 use Rattle.pure_typ.proofs.NamesLemmas.{slice_get-left, Some-inj}
 use Rattle.pure_logic.specs.Content.{TheoryId, Content, IsContent}
 use Rattle.pure_logic.specs.Beginning.{theories_of}
-use Rattle.pure_logic.proofs.AncestorLaws.{theories_are_told_apart}
+use Rattle.pure_logic.proofs.AncestorLaws.{in-theories, theories-in, theories_are_told_apart}
 use Rattle.pure_lookup.specs.Meaning.{Space, classes, constructors, constants, facts, IsDeclaredIn, pure_text, full_text, Meaning, Declared, Built, IsWritable, IsOfPure, IsOfTheory, IsVisible, IsMeant}
 use Rattle.pure_lookup.specs.LookUps.{Fact, BuiltFact, AxiomFact, PromisedFact, IsFoundName, HasMeaning, IsFoundFact}
 use Rattle.pure_lookup.specs.Laws.{IsInSession, Declares, with_decl}
-use Rattle.pure_lookup.proofs.NamedTheories.{named-theory, own-theory}
 use Rattle.pure_lookup.proofs.TextLemmas.{one_builtin, one_built, builtin-not_built, one_name, pure-has_no_dot, one_cut}
 
 -- Under one full name there is one thing at most in Pure, and one in the other theories.
@@ -203,7 +202,7 @@ module _ (texts : List (List ℕ)) (Q : Content) (d : Decl) (space : Space) wher
 
 -- No theory of a content comes after its own.
 not-after : (Q : Content) (s : (texts : List (List ℕ)) × IsInSession texts Q) (t u : TheoryId) → Q.own ≡ Some t → IsIn u (theories_of Q) → u.index ≤ t.index
-not-after Q (texts, s) t u own m = elim (named-theory u Q m) [
+not-after Q (texts, s) t u own m = elim (in-theories u Q m) [
   | inl e ↦ (let same : t ≡ u = Some-inj (sym own ∙ e) in rw same (omega arith))
   | inr a ↦ (let less = each_at (λ v. v.index < t.index) Q.ancestors (s.apart.own t own).index u a in omega arith)
 ]
@@ -211,7 +210,7 @@ not-after Q (texts, s) t u own m = elim (named-theory u Q m) [
 module _ (texts : List (List ℕ)) (Q : Content) (s : IsInSession texts Q) (t : TheoryId) (own : Q.own ≡ Some t) (theory base : List ℕ) (text : HasText texts t.name theory) where
   module _ (d : Decl) (space : Space) (n : ℕ) (other : n ≢ protect_name) (full : HasText texts n (full_text theory base)) (new : Declares d space n) where
     new-visible : IsVisible texts (with_decl Q d) space (1 + t.index) theory base (Declared n)
-    new-visible = inr (t, own-theory t Q own, refl, text, (record { declared = declared-right space Q.declarations (d ∷ []) n new; other = other }, full))
+    new-visible = inr (t, theories-in t Q (inl own), refl, text, (record { declared = declared-right space Q.declarations (d ∷ []) n new; other = other }, full))
 
     place-last : (q : ℕ) (u : List ℕ) (m : Meaning) → IsVisible texts (with_decl Q d) space q u base m → q ≤ 1 + t.index
     place-last q u m (inl h) = let first = h.0 in omega arith

@@ -2,7 +2,7 @@
 use Rattle.std.proofs.Common.{◌≡◌, ◌≢◌, ◌⊎◌, ℕ, zero, suc, ◌+◌, ◌≤◌, Bool, true, false, refl, ap, sym, ◌∙◌, arith, inl, inr}
 use Rattle.std.proofs.lemmas.Bool.Decides.{nat_tests}
 use Rattle.std.specs.Prelude.{◌-◌, max, nat_eq, nat_lt, if◌then◌else◌}
-use Rattle.pure_definitions.specs.Types.Typ.{Typ, TFree, TVar, Con, Typs, none, also, typ_depth}
+use Rattle.pure_definitions.specs.Types.Typ.{Typ, TFree, TVar, Con, Typs, none, also, typs_count, typ_depth}
 use Rattle.pure_definitions.specs.Terms.Term.{Term, Const, Free, Var, Bound, Abs, App, term_eq, term_size, term_depth}
 use Rattle.pure_definitions.specs.Terms.Bounds.{IsClosedUnder, IsClosed, lift_term, place_at, subst_under, bind_under, Occurs}
 use Rattle.pure_definitions.specs.Terms.Conditions.{IsVariable}
@@ -12,6 +12,7 @@ use Rattle.pure_term_laws.specs.LawsMaps.{AreImagesClosed, SendsAlone, sent, Sen
 use Rattle.pure_term_laws.specs.LawsExamples.{p, x, y, z}
 use Rattle.pure_definitions.proofs.LiftLaws.{lifted, lift_term-bound, subst-lift}
 use Rattle.pure_term_laws.proofs.BoundLaws.{lift-again}
+use Rattle.pure_definitions.proofs.TermLemmas.{term_size-some, term_depth-some}
 use Rattle.pure_definitions.proofs.BindLemmas.{term_eq-other, bind_under-same, bind_under-other}
 use Rattle.pure_term_laws.proofs.TypingLaws.{lift-closed_under}
 
@@ -101,28 +102,12 @@ subst-past-subst m n b c (Bound p) = past-subst-bound m n b c p (beside m p)
 subst-past-subst m n b c (Abs T t) = let raised : (m + n) + 1 ≡ (m + 1) + n = omega arith in rw raised (ap (Abs T) (subst-past-subst (m + 1) n b c t))
 subst-past-subst m n b c (App f a) = λ l. App (subst-past-subst m n b c f l) (subst-past-subst m n b c a l)
 
-term_size-positive : (t : Term) → 1 ≤ term_size t
-term_size-positive (Const c T) = omega arith
-term_size-positive (Free x T) = omega arith
-term_size-positive (Var x i T) = omega arith
-term_size-positive (Bound p) = omega arith
-term_size-positive (Abs T b) = omega arith
-term_size-positive (App f a) = omega arith
-
-term_depth-positive : (t : Term) → 1 ≤ term_depth t
-term_depth-positive (Const c T) = omega arith
-term_depth-positive (Free x T) = omega arith
-term_depth-positive (Var x i T) = omega arith
-term_depth-positive (Bound p) = omega arith
-term_depth-positive (Abs T b) = omega arith
-term_depth-positive (App f a) = omega arith
-
 -- An instance of a bound variable is at least as large and as deep as the body.
 pub size-le-subst : (n : ℕ) (arg b : Term) → term_size b ≤ term_size (subst_under n arg b)
 size-le-subst n arg (Const c T) = omega arith
 size-le-subst n arg (Free x T) = omega arith
 size-le-subst n arg (Var x i T) = omega arith
-size-le-subst n arg (Bound p) = term_size-positive (place_at n arg p)
+size-le-subst n arg (Bound p) = let some = term_size-some (place_at n arg p) in omega arith
 size-le-subst n arg (Abs T b) = let inside = size-le-subst (n + 1) arg b in omega arith
 size-le-subst n arg (App f a) = let first = size-le-subst n arg f in let second = size-le-subst n arg a in omega arith
 
@@ -133,7 +118,7 @@ pub depth-le-subst : (n : ℕ) (arg b : Term) → term_depth b ≤ term_depth (s
 depth-le-subst n arg (Const c T) = omega arith
 depth-le-subst n arg (Free x T) = omega arith
 depth-le-subst n arg (Var x i T) = omega arith
-depth-le-subst n arg (Bound p) = term_depth-positive (place_at n arg p)
+depth-le-subst n arg (Bound p) = let some = term_depth-some (place_at n arg p) in omega arith
 depth-le-subst n arg (Abs T b) =
     let inside = max-le (typ_depth T) (term_depth b) (typ_depth T) (term_depth (subst_under (n + 1) arg b)) (omega arith) (depth-le-subst (n + 1) arg b) in omega arith
 depth-le-subst n arg (App f a) =
@@ -156,8 +141,13 @@ bind-fresh n k w (Bound p) h is fresh = let e : nat_lt p n ≡ true = grind (ari
 bind-fresh n k w (Abs T b) h is fresh = ap (Abs T) (bind-fresh (n + 1) (k + 1) w b (omega arith) is (λ o. fresh (inr o)))
 bind-fresh n k w (App f a) h is fresh = λ l. App (bind-fresh n k w f h is.0 (λ o. fresh (inr (inl o))) l) (bind-fresh n k w a h is.1 (λ o. fresh (inr (inr o))) l)
 
+pub typs_count-instance : (typs : Typ → Typ) (ts : Typs) → typs_count (typs_instance typs ts) ≡ typs_count ts
+typs_count-instance typs none = refl
+typs_count-instance typs (also t ts) = ap (λ n. 1 + n) (typs_count-instance typs ts)
+
+-- Type maps one after the other are one map.
 mutual
-  typ_instance-again : (typs more : Typ → Typ) (T : Typ) → typ_instance more (typ_instance typs T) ≡ typ_instance (λ v. typ_instance more (typs v)) T
+  pub typ_instance-again : (typs more : Typ → Typ) (T : Typ) → typ_instance more (typ_instance typs T) ≡ typ_instance (λ v. typ_instance more (typs v)) T
   typ_instance-again typs more (TFree x s) = refl
   typ_instance-again typs more (TVar x i s) = refl
   typ_instance-again typs more (Con k ts) = ap (Con k) (typs_instance-again typs more ts)

@@ -1,11 +1,21 @@
--- A set of texts beside the list of them.
+-- Texts told apart, and a set of texts beside the list of them.
 use Rattle.std.proofs.Common.{◌≡◌, ℕ, Bool, true, false, ◌||◌, cond, List, [], ◌∷◌, ◌++◌, refl, sym, ◌∙◌, ap, nat_eq}
-use Rattle.std.specs.Cmp.Lexicographic.{pointwise, nat_list_eq_equiv, slice_cmp, texts_ties}
+use Rattle.std.specs.Cmp.Lexicographic.{pointwise, same_text, nat_list_eq_equiv, slice_cmp, texts_ties}
 use Rattle.std.proofs.Math.Bool.{or-false}
 use Rattle.std.proofs.lemmas.List.Folds.{list_any-append}
 use Rattle.std.specs.BTreeSet.{BTreeSet, contains, Updates}
 use Rattle.std.specs.Ordering.{nat_cmp, is_eq}
 use Rattle.std.specs.List.{list_any}
+
+-- two texts that aren't equal differ
+pub differs : (a b : List ℕ) (x : Bool) → x ≡ pointwise nat_eq a b → (a ≡ b → ⊥) → x ≡ false
+differs a b true h apart = absurd (apart (same_text a b h))
+differs a b false h apart = refl
+
+-- Tests that agree on each text agree on some text of a list.
+pub list_any-same : (p q : List ℕ → Bool) → ((x : List ℕ) → p x ≡ q x) → (xs : List (List ℕ)) → list_any p xs ≡ list_any q xs
+list_any-same p q h [] = refl
+list_any-same p q h (x ∷ xs) = rw (h x, list_any-same p q h xs) refl
 
 cond_or : (a b : Bool) → cond a true b ≡ (b || a)
 cond_or true true = refl
