@@ -3,13 +3,9 @@ use Rattle.std.proofs.Common.{◌≡◌, ℕ, List, [], ◌∷◌, inl, inr, ref
 use Rattle.pure_text.specs.Lists.{IsIn, EachTwo}
 use Rattle.pure_definitions.specs.Types.Order.{Arity, Algebra, IsSortBelow, AreCompatible, IsCoregular}
 use Rattle.pure_definitions.specs.Declarations.Decl.{Decl, ArityDecl, algebra_of}
-use Rattle.pure_definitions.proofs.OrderLaws.{sort_below-itself}
+use Rattle.pure_definitions.proofs.OrderLaws.{two_same}
 use Rattle.pure_term_laws.proofs.DeclLaws.{declared_arities}
 use Rattle.pure_logic.proofs.AboveLaws.{class_below-above, sort_below-above}
-
-domains-itself : (A : Algebra) (ss : List (List ℕ)) → EachTwo (IsSortBelow A) ss ss
-domains-itself A [] = tt
-domains-itself A (s ∷ ss) = (sort_below-itself A s, domains-itself A ss)
 
 -- one arity alone is coregular
 pub lone_arity : (A : Algebra) (g : Arity) → A.arities ≡ g ∷ [] → IsCoregular A
@@ -24,9 +20,9 @@ lone_arity A g only a b m n e = alone a b (one a (rw only at m)) (one b (rw only
 
     alone : (a b : Arity) → a ≡ g → b ≡ g → AreCompatible A a b
     alone a b p r = record {
-      forth = λ h. rw (p, r) (domains-itself A g.domains);
-      back = λ h. rw (p, r) (domains-itself A g.domains);
-      joined = λ top h k. (g, record { declared = here; con = rw p refl; class = rw p at h; first = rw p (domains-itself A g.domains); second = rw r (domains-itself A g.domains) });
+      forth = λ h. rw (p, r) (two_same A g.domains);
+      back = λ h. rw (p, r) (two_same A g.domains);
+      joined = λ top h k. (g, record { declared = here; con = rw p refl; class = rw p at h; first = rw p (two_same A g.domains); second = rw r (two_same A g.domains) });
     }
 
 module _ (ds es : List Decl) (above : (d : Decl) → IsIn d ds → IsIn d es) where

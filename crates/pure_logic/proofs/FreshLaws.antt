@@ -6,10 +6,11 @@ use Rattle.pure_definitions.specs.Terms.Term.{Term, Const, Free, Var, Bound, Abs
 use Rattle.pure_definitions.specs.Terms.Bounds.{IsClosed, subst_under, bind_under, Occurs}
 use Rattle.pure_definitions.specs.Terms.Conditions.{IsVariable}
 use Rattle.pure_definitions.specs.Terms.Subst.{typ_instance, term_instance}
-use Rattle.pure_definitions.proofs.BindLemmas.{term_eq-other, bind_under-same}
+use Rattle.pure_definitions.proofs.BindLemmas.{bind_under-same}
 use Rattle.pure_definitions.proofs.LiftLaws.{subst-lift}
 use Rattle.pure_term_laws.specs.LawsMaps.{AreImagesClosed}
 use Rattle.pure_term_laws.proofs.BoundLaws.{bind-subst}
+use Rattle.pure_term_laws.proofs.MapLaws.{instance-sent_elsewhere}
 use Rattle.pure_term_laws.proofs.TypingLaws.{lift-closed}
 use Rattle.pure_logic.proofs.MapLaws.{sent}
 
@@ -65,15 +66,6 @@ module _ (typs : Typ → Typ) (terms : Term → Term) (closed : AreImagesClosed 
   instance-renamed n (App f a) fresh = λ l. App (instance-renamed n f (λ o. fresh (inr (inl o))) l) (instance-renamed n a (λ o. fresh (inr (inr o))) l)
 
 -- A map may be changed at a variable that doesn't occur in the term.
-pub instance-unchanged : (typs : Typ → Typ) (terms : Term → Term) (v w t : Term) → ¬ Occurs v t → term_instance typs (sent v w terms) t ≡ term_instance typs terms t
-instance-unchanged typs terms v w (Const c T) none = refl
-instance-unchanged typs terms v w (Free x T) none = rw (term_eq-other v (Free x T) none) refl
-instance-unchanged typs terms v w (Var x i T) none = rw (term_eq-other v (Var x i T) none) refl
-instance-unchanged typs terms v w (Bound p) none = refl
-instance-unchanged typs terms v w (Abs T b) none = ap (Abs (typ_instance typs T)) (instance-unchanged typs terms v w b (λ o. none (inr o)))
-instance-unchanged typs terms v w (App f a) none =
-    λ l. App (instance-unchanged typs terms v w f (λ o. none (inr (inl o))) l) (instance-unchanged typs terms v w a (λ o. none (inr (inr o))) l)
-
 pub instances-unchanged : (typs : Typ → Typ) (terms : Term → Term) (v w : Term) (ts : List Term) → Each (λ t. ¬ Occurs v t) ts → map (term_instance typs (sent v w terms)) ts ≡ map (term_instance typs terms) ts
 instances-unchanged typs terms v w [] none = refl
-instances-unchanged typs terms v w (t ∷ ts) none = λ l. instance-unchanged typs terms v w t none.0 l ∷ instances-unchanged typs terms v w ts none.1 l
+instances-unchanged typs terms v w (t ∷ ts) none = λ l. instance-sent_elsewhere typs terms v w t none.0 l ∷ instances-unchanged typs terms v w ts none.1 l

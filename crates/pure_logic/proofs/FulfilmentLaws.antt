@@ -15,7 +15,7 @@ use Rattle.pure_logic.specs.Laws.Promises.{IsSettled, IsProvedFor}
 use Rattle.pure_logic.proofs.ProvesLaws.{weaker, derivable_is_proves}
 use Rattle.pure_logic.proofs.WeakeningLaws.{weakening_of_derivable}
 use Rattle.pure_logic.proofs.PromiseLaws.{cut_by_proofs, settled_is_derivable}
-use Rattle.pure_logic.proofs.MapLaws.{cond-has}
+use Rattle.pure_definitions.proofs.EntryLemmas.{chosen}
 
 label_eq-same : (k l : Label) → label_eq k l ≡ true → k ≡ l
 label_eq-same k l e =
@@ -32,7 +32,7 @@ module _ (e : Fulfilment) where
   label-stays l (k ∷ ks) apart (inl same) = rw (← same) (rw apart (inl refl))
   label-stays l (k ∷ ks) apart (inr m) =
       let later = label-stays l ks apart m in
-      cond-has (λ ls. IsIn l ls) (label_eq e.label k) (e.rests ++ put_for_label e ks) (k ∷ put_for_label e ks) (λ t. in-append_right l e.rests (put_for_label e ks) later) (inr later)
+      chosen (λ ls. IsIn l ls) (label_eq e.label k) (e.rests ++ put_for_label e ks) (k ∷ put_for_label e ks) (λ t. in-append_right l e.rests (put_for_label e ks) later) (inr later)
 
   -- In the place of its own label stand those on which its proof rests.
   labels-put : (l : Label) (ls : List Label) → label_eq e.label l ≡ true → IsIn l ls → (k : Label) → IsIn k e.rests → IsIn k (put_for_label e ls)
@@ -40,7 +40,7 @@ module _ (e : Fulfilment) where
   labels-put l (j ∷ js) own (inl same) k n = rw (← same) (rw own (in-append_left k e.rests (put_for_label e js) n))
   labels-put l (j ∷ js) own (inr m) k n =
       let later = labels-put l js own m k n in
-      cond-has (λ ls. IsIn k ls) (label_eq e.label j) (e.rests ++ put_for_label e js) (j ∷ put_for_label e js) (λ t. in-append_left k e.rests (put_for_label e js) n) (inr later)
+      chosen (λ ls. IsIn k ls) (label_eq e.label j) (e.rests ++ put_for_label e js) (j ∷ put_for_label e js) (λ t. in-append_left k e.rests (put_for_label e js) n) (inr later)
 
 -- What is proved over a content is proved over each above it.
 proves-above : (Q R : Content) → IsContent Q → IsBelow Q R → (rests : List Label) (A : Term) → Proves Q [] rests A → Proves R [] rests A

@@ -1,50 +1,15 @@
--- Instances of certified terms: a map that respects sorts keeps the sorts of types, and an instance of an instance of a schematic type is an instance of it.
-use Rattle.std.proofs.Common.{◌≡◌, ℕ, List, [], ◌∷◌, inl, inr, ap, refl, ◌∙◌}
+-- Instances of certified terms: an instance of an instance of a schematic type is an instance of it.
+use Rattle.std.proofs.Common.{◌≡◌, List, ap, refl, ◌∙◌}
 use Rattle.pure_definitions.specs.Types.Typ.{Typ, TFree, TVar, Con, Typs, none, also}
 use Rattle.pure_definitions.specs.Terms.Term.{Term, Const, Free, Var, Bound, Abs, App}
-use Rattle.pure_definitions.specs.Types.Order.{Algebra, IsClassBelow, itself, along, HasClassBelow, IsOfClass, AreOfSorts, IsOfSort}
 use Rattle.pure_definitions.specs.Terms.Subst.{typ_instance, typs_instance, term_instance, IsSortRespecting}
 use Rattle.pure_definitions.specs.Declarations.Decl.{Decl, ConstDecl, algebra_of}
 use Rattle.pure_definitions.specs.Declarations.Certified.{IsCertifiedTyp, IsInstance, HasCertifiedParts}
-use Rattle.pure_definitions.proofs.OrderLaws.{sort_below-itself}
+use Rattle.pure_definitions.proofs.OrderLaws.{sort_below-itself, of_sort-instance}
 use Rattle.pure_logic.specs.Content.{Content, IsContent, IsWellFormed, IsSchematicTyp, AreSchematicTyps}
 use Rattle.pure_logic.specs.Concludes.{AreRespecting}
 use Rattle.pure_logic.proofs.WeakeningLaws.{typ_instance-certified}
-use Rattle.pure_text.proofs.ListLaws.{each_imply, any_imply, each_at}
-
-class_below-below : (A : Algebra) {b c d : ℕ} → IsClassBelow A b c → IsClassBelow A c d → IsClassBelow A b d
-class_below-below A itself k = k
-class_below-below A (along i h) k = along i (class_below-below A h k)
-
-has_class-below : (A : Algebra) (s : List ℕ) (c d : ℕ) → HasClassBelow A s c → IsClassBelow A c d → HasClassBelow A s d
-has_class-below A s c d h k = any_imply (λ b. IsClassBelow A b c) (λ b. IsClassBelow A b d) s (λ b p. class_below-below A p k) h
-
--- A type of a class is of each class above it.
-of_class-below : (A : Algebra) (T : Typ) (c d : ℕ) → IsOfClass A T c → IsClassBelow A c d → IsOfClass A T d
-of_class-below A (TFree x s) c d h k = has_class-below A s c d h k
-of_class-below A (TVar x i s) c d h k = has_class-below A s c d h k
-of_class-below A (Con n ts) c d h k = (h.0, h.1, h.2, class_below-below A h.3 k, h.4)
-
-of_sort-below : (A : Algebra) (T : Typ) (s : List ℕ) (c : ℕ) → IsOfSort A T s → HasClassBelow A s c → IsOfClass A T c
-of_sort-below A T [] c h k = absurd k
-of_sort-below A T (b ∷ bs) c h k = elim k [ inl p ↦ of_class-below A T b c h.0 p | inr q ↦ of_sort-below A T bs c h.1 q ]
-
--- A map that respects sorts makes of a type of a sort another of that sort.
-module _ (A : Algebra) (typs : Typ → Typ) (r : IsSortRespecting A typs) where
-  mutual
-    of_class-instance : (T : Typ) (c : ℕ) → IsOfClass A T c → IsOfClass A (typ_instance typs T) c
-    of_class-instance (TFree x s) c h = of_sort-below A (typs (TFree x s)) s c (r.fixed x s) h
-    of_class-instance (TVar x i s) c h = of_sort-below A (typs (TVar x i s)) s c (r.schematic x i s) h
-    of_class-instance (Con k ts) c h = (h.0, h.1, h.2, h.3, of_sorts-instance ts h.0.domains h.4)
-
-    of_sorts-instance : (ts : Typs) (ss : List (List ℕ)) → AreOfSorts A ts ss → AreOfSorts A (typs_instance typs ts) ss
-    of_sorts-instance none [] h = tt
-    of_sorts-instance (also t ts) (s ∷ ss) h = (each_imply (IsOfClass A t) (IsOfClass A (typ_instance typs t)) s (of_class-instance t) h.0, of_sorts-instance ts ss h.1)
-    of_sorts-instance none (s ∷ ss) h = h
-    of_sorts-instance (also t ts) [] h = h
-
-  pub of_sort-instance : (T : Typ) (s : List ℕ) → IsOfSort A T s → IsOfSort A (typ_instance typs T) s
-  of_sort-instance T s h = each_imply (IsOfClass A T) (IsOfClass A (typ_instance typs T)) s (of_class-instance T) h
+use Rattle.pure_text.proofs.ListLaws.{each_at}
 
 -- the map that makes an instance of an instance of a schematic type; fixed type variables stay
 abbrev pub composed : (first second : Typ → Typ) → Typ → Typ

@@ -7,7 +7,7 @@ use Rattle.pure_text.proofs.ListLaws.{each_of, each_at}
 use Rattle.pure_definitions.specs.Names.{Label}
 use Rattle.pure_logic.specs.Fulfilment.{label_eq, Fulfilment, is_label_of, joined, Reaches, rests_on, through, HasLabel, AreInOrder}
 use Rattle.pure_logic.proofs.FulfilmentLaws.{label_of-some, each_passes}
-use Rattle.pure_logic.proofs.MapLaws.{cond-has}
+use Rattle.pure_definitions.proofs.EntryLemmas.{chosen}
 
 -- Joined ones are of the list.
 joined-among : (es : List Fulfilment) (e : Fulfilment) → IsIn e (joined es) → IsIn e es
@@ -113,7 +113,7 @@ module _ (e : Fulfilment) (es : List Fulfilment) (h : AreInOrder (e ∷ es)) (be
   behind-exactly : (g : Fulfilment) → IsIn g es → IsIn g (joined (e ∷ es)) ↔ OnlyLabels (e ∷ es) g
   behind-exactly g m = (
     λ n k r. (let label = (behind g m).0 (by test n) k (reaches-behind e es h g k m r) in (label.0, inr label.1, label.2)),
-    λ only. (let inside = (behind g m).1 (only-behind g m only) in cond-has (λ fs. IsIn g fs) test (e ∷ joined es) (joined es) (λ t. inr inside) inside),
+    λ only. (let inside = (behind g m).1 (only-behind g m only) in chosen (λ fs. IsIn g fs) test (e ∷ joined es) (joined es) (λ t. inr inside) inside),
   )
     where
       by : (b : Bool) → IsIn g (cond b (e ∷ joined es) (joined es)) → IsIn g (joined es)

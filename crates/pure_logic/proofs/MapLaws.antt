@@ -1,5 +1,5 @@
 -- Maps that respect a content: the identity, and the finite maps of a call, joined.
-use Rattle.std.proofs.Common.{◌≡◌, ℕ, List, [], ◌∷◌, Bool, true, false, cond, ap, refl}
+use Rattle.std.proofs.Common.{◌≡◌, ℕ, List, [], ◌∷◌, cond, ap, refl}
 use Rattle.pure_text.specs.Lists.{Each}
 use Rattle.pure_text.proofs.ListLaws.{each_imply}
 use Rattle.pure_definitions.specs.Types.Typ.{Typ, TFree, TVar, typ_eq}
@@ -10,6 +10,7 @@ use Rattle.pure_definitions.specs.Terms.Conditions.{variable_typ}
 use Rattle.pure_definitions.specs.Models.Equality.{term_eq-same}
 use Rattle.pure_definitions.specs.Declarations.Decl.{Decl, algebra_of}
 use Rattle.pure_definitions.specs.Declarations.Certified.{IsCertifiedSort, IsCertifiedTyp, HasCertifiedParts, AreImagesCertified}
+use Rattle.pure_definitions.proofs.EntryLemmas.{chosen}
 use Rattle.pure_term_laws.proofs.SubstLaws.{identity-respects_sorts, identity-respects_types, entries-respect_sorts, entries-respect_types, typ_instance-identity}
 use Rattle.pure_logic.specs.Content.{Content, IsCertifiedOf}
 use Rattle.pure_logic.specs.Tree.{joined_terms}
@@ -23,18 +24,13 @@ identity_respects Q = record {
   certified = record { fixed_typ = λ x s c. c; schematic_typ = λ x i s c. c; fixed = λ x T c. c; schematic = λ x i T c. c };
 }
 
--- What holds of the first where the test holds, and of the second, holds of the chosen one.
-pub cond-has : {A : Type 0} (P : A → Type 0) (b : Bool) (x y : A) → (b ≡ true → P x) → P y → P (cond b x y)
-cond-has P true x y h k = h refl
-cond-has P false x y h k = k
-
 typ_image-certified : (ds : List Decl) (binds : List TypBind) → Each (λ b. IsCertifiedTyp ds b.image) binds → (v : Typ) → IsCertifiedTyp ds v → IsCertifiedTyp ds (typ_image binds v)
 typ_image-certified ds [] h v c = c
-typ_image-certified ds (b ∷ bs) h v c = cond-has (IsCertifiedTyp ds) (typ_eq (typ_variable b) v) b.image (typ_image bs v) (λ e. h.0) (typ_image-certified ds bs h.1 v c)
+typ_image-certified ds (b ∷ bs) h v c = chosen (IsCertifiedTyp ds) (typ_eq (typ_variable b) v) b.image (typ_image bs v) (λ e. h.0) (typ_image-certified ds bs h.1 v c)
 
 term_image-parts : (ds : List Decl) (binds : List TermBind) → Each (λ b. HasCertifiedParts ds b.image) binds → (v : Term) → HasCertifiedParts ds v → HasCertifiedParts ds (term_image binds v)
 term_image-parts ds [] h v c = c
-term_image-parts ds (b ∷ bs) h v c = cond-has (HasCertifiedParts ds) (term_eq (term_variable b) v) b.image (term_image bs v) (λ e. h.0) (term_image-parts ds bs h.1 v c)
+term_image-parts ds (b ∷ bs) h v c = chosen (HasCertifiedParts ds) (term_eq (term_variable b) v) b.image (term_image bs v) (λ e. h.0) (term_image-parts ds bs h.1 v c)
 
 module _ (Q : Content) (typs : List TypBind) (terms : List TermBind) where
   joined-types : Each (λ b. IsCertifiedOf Q b.image b.typ) terms → IsTypeRespecting (typ_image typs) (joined_terms typs terms)
@@ -84,13 +80,13 @@ pub sent-respects : (Q : Content) (typs : Typ → Typ) (terms : Term → Term) (
 sent-respects Q typs terms v image r h = record {
   sorts = r.sorts;
   types = record {
-    fixed = λ x T. cond-has (λ t. HasType [] t (typ_instance typs T)) (term_eq v (Free x T)) image (terms (Free x T)) (λ e. rw (ap variable_typ (term_eq-same v (Free x T) e)) at h.typed) (r.types.fixed x T);
-    schematic = λ x i T. cond-has (λ t. HasType [] t (typ_instance typs T)) (term_eq v (Var x i T)) image (terms (Var x i T)) (λ e. rw (ap variable_typ (term_eq-same v (Var x i T) e)) at h.typed) (r.types.schematic x i T);
+    fixed = λ x T. chosen (λ t. HasType [] t (typ_instance typs T)) (term_eq v (Free x T)) image (terms (Free x T)) (λ e. rw (ap variable_typ (term_eq-same v (Free x T) e)) at h.typed) (r.types.fixed x T);
+    schematic = λ x i T. chosen (λ t. HasType [] t (typ_instance typs T)) (term_eq v (Var x i T)) image (terms (Var x i T)) (λ e. rw (ap variable_typ (term_eq-same v (Var x i T) e)) at h.typed) (r.types.schematic x i T);
   };
   certified = record {
     fixed_typ = r.certified.fixed_typ;
     schematic_typ = r.certified.schematic_typ;
-    fixed = λ x T c. cond-has (HasCertifiedParts Q.declarations) (term_eq v (Free x T)) image (terms (Free x T)) (λ e. h.certified.parts) (r.certified.fixed x T c);
-    schematic = λ x i T c. cond-has (HasCertifiedParts Q.declarations) (term_eq v (Var x i T)) image (terms (Var x i T)) (λ e. h.certified.parts) (r.certified.schematic x i T c);
+    fixed = λ x T c. chosen (HasCertifiedParts Q.declarations) (term_eq v (Free x T)) image (terms (Free x T)) (λ e. h.certified.parts) (r.certified.fixed x T c);
+    schematic = λ x i T c. chosen (HasCertifiedParts Q.declarations) (term_eq v (Var x i T)) image (terms (Var x i T)) (λ e. h.certified.parts) (r.certified.schematic x i T c);
   };
 }

@@ -13,8 +13,9 @@ use Rattle.pure_definitions.specs.Terms.Subst.{typ_instance, term_instance}
 use Rattle.pure_definitions.specs.Declarations.Decl.{algebra_of}
 use Rattle.pure_definitions.specs.Declarations.Certified.{IsCertifiedTyp}
 use Rattle.pure_definitions.proofs.BindLemmas.{abstract_over-variable}
+use Rattle.pure_definitions.proofs.OrderLaws.{of_sort-instance}
 use Rattle.pure_term_laws.specs.LawsMaps.{AreImagesClosed}
-use Rattle.pure_term_laws.proofs.MapLaws.{instance-instance, instance-subst}
+use Rattle.pure_term_laws.proofs.MapLaws.{typ_instance-again, instance-instance, instance-subst}
 use Rattle.pure_term_laws.proofs.TypingLaws.{typed-closed}
 use Rattle.pure_term_laws.proofs.TypingBoundLaws.{typing-instance}
 use Rattle.pure_logic.specs.Connectives.{all_of, all, imp, eq}
@@ -25,14 +26,10 @@ use Rattle.pure_logic.specs.Derivable.{Pair, Theorem, IsUnderPairs, IsDerivable}
 use Rattle.pure_logic.specs.Proves.{Proves}
 use Rattle.pure_logic.specs.Laws.Substitution.{IsInstanceTree, pair_instance, theorem_instance}
 use Rattle.pure_logic.proofs.WeakeningLaws.{typ_instance-certified}
-use Rattle.pure_logic.proofs.InstanceLaws.{of_sort-instance, parts-instance}
+use Rattle.pure_logic.proofs.InstanceLaws.{parts-instance}
 use Rattle.pure_logic.proofs.MapLaws.{sent, sent-respects}
 use Rattle.pure_logic.proofs.FreshLaws.{above_all, fresh-above_all, instance-renamed, instances-unchanged}
 use Rattle.pure_logic.proofs.DischargeLaws.{discharged}
-
--- Type maps one after the other are one type map.
-typ-again : (first second : Typ → Typ) (T : Typ) → typ_instance second (typ_instance first T) ≡ typ_instance (λ v. typ_instance second (first v)) T
-typ-again first second T = let whole = instance-instance first second (λ t. t) (λ t. t) (Const 0 T) in cc
 
 pub images_closed : (Q : Content) (typs : Typ → Typ) (terms : Term → Term) → AreRespecting Q typs terms → AreImagesClosed terms
 images_closed Q typs terms r = record {
@@ -71,8 +68,8 @@ module _ (Q : Content) (q : IsContent Q) where
         schematic = λ x i c. of_sort-instance (algebra_of Q.declarations) typs r.sorts (first (TVar x i c)) c (s.sorts.schematic x i c);
       };
       types = record {
-        fixed = λ x T. rw (typ-again first typs T) at (typing-instance typs terms r.types [] (inner (Free x T)) (typ_instance first T) (s.types.fixed x T));
-        schematic = λ x i T. rw (typ-again first typs T) at (typing-instance typs terms r.types [] (inner (Var x i T)) (typ_instance first T) (s.types.schematic x i T));
+        fixed = λ x T. rw (typ_instance-again first typs T) at (typing-instance typs terms r.types [] (inner (Free x T)) (typ_instance first T) (s.types.fixed x T));
+        schematic = λ x i T. rw (typ_instance-again first typs T) at (typing-instance typs terms r.types [] (inner (Var x i T)) (typ_instance first T) (s.types.schematic x i T));
       };
       certified = record {
         fixed_typ = λ x c k. typ_instance-certified Q.declarations typs r.certified.fixed_typ r.certified.schematic_typ (first (TFree x c)) (s.certified.fixed_typ x c k);

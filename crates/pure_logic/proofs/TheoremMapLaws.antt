@@ -24,7 +24,8 @@ use Rattle.pure_logic.specs.Derivable.{Theorem, IsDerivable}
 use Rattle.pure_logic.specs.Laws.Substitution.{pair_instance, theorem_instance}
 use Rattle.pure_logic.specs.Laws.Inferences.{IsAmong}
 use Rattle.pure_logic.specs.Laws.Maps.{MoveFixedAlone, Generalisation, schematic_typs, schematic_terms, generalised, HasNoneOf, everything, HasOnlyIndex, raised_typs, raised_terms, instantiated, instantiated_theorem}
-use Rattle.pure_logic.proofs.MapLaws.{cond-has, joined_respect, joined_instance}
+use Rattle.pure_definitions.proofs.EntryLemmas.{chosen}
+use Rattle.pure_logic.proofs.MapLaws.{joined_respect, joined_instance}
 use Rattle.pure_logic.proofs.WeakeningLaws.{typ_instance-certified}
 use Rattle.pure_logic.proofs.SubstitutionLaws.{instance_is_derivable, certified_of-instance}
 
@@ -57,7 +58,7 @@ instance_from_same_hypotheses Q q typs terms r th kept h =
 
 -- Either answer of a test has the property that both answers have.
 either_way : {A : Type 0} (P : A → Type 0) (b : Bool) (x y : A) → P x → P y → P (cond b x y)
-either_way P b x y h k = cond-has P b x y (λ e. h) k
+either_way P b x y h k = chosen P b x y (λ e. h) k
 
 module _ (Q : Content) (g : Generalisation) where
   generalised_typ-certified : (T : Typ) → IsCertifiedTyp Q.declarations T → IsCertifiedTyp Q.declarations (typ_instance (schematic_typs g) T)
