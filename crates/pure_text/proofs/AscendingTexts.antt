@@ -19,7 +19,7 @@ abbrev same : List ℕ → List ℕ → Bool
 same = pointwise nat_eq
 
 -- a text below others isn't among them
-pub not_among-below : (x : List ℕ) (ys : List (List ℕ)) → IsBelowAll x ys → list_any (same x) ys ≡ false
+not_among-below : (x : List ℕ) (ys : List (List ℕ)) → IsBelowAll x ys → list_any (same x) ys ≡ false
 not_among-below x [] below = refl
 not_among-below x (y ∷ ys) below =
     let apart : same x y ≡ false = texts_ties x y ∙ ap is_eq below.0 in

@@ -70,27 +70,9 @@ grown_put x now now' old xs ys longer read has k = rw (longer, read) (
   ],
 )
 
-pub grown_kept : {A : Type 0} (x : A) (now old xs ys : List A) → IsIn x now → ys ≡ xs ++ x ∷ [] → ((k : A) → IsIn k now ↔ (IsIn k old ⊎ IsIn k xs)) → (k : A) → IsIn k now ↔ (IsIn k old ⊎ IsIn k ys)
-grown_kept x now old xs ys there read has k = rw read (
-  λ n. elim ((has k).0 n) [ inl o ↦ inl o | inr t ↦ inr (in-append_left k xs (x ∷ []) t) ],
-  λ n. elim n [
-    | inl o ↦ (has k).1 (inl o)
-    | inr t ↦ elim (in_split k xs (x ∷ []) t) [
-      | inl early ↦ (has k).1 (inr early)
-      | inr v ↦ elim v [ inl same ↦ rw same there | inr none ↦ absurd none ]
-    ]
-  ],
-)
-
 -- what is there after a turn: new or old, and old as it was before
 pub turned : (N R S T U O : Type 0) → U ↔ (T ⊎ R) → N ↔ (R ⊎ S) → S ↔ (T ⊎ O) → N ↔ (U ⊎ O)
 turned N R S T U O u n s = (
   λ m. elim (n.0 m) [ inl r ↦ inl (u.1 (inr r)) | inr o ↦ elim (s.0 o) [ inl t ↦ inl (u.1 (inl t)) | inr p ↦ inr p ] ],
   λ m. elim m [ inl v ↦ elim (u.0 v) [ inl t ↦ n.1 (inr (s.1 (inl t))) | inr r ↦ n.1 (inl r) ] | inr o ↦ n.1 (inr (s.1 (inr o))) ],
-)
-
-pub turned_back : (N R S T U O : Type 0) → U ↔ (T ⊎ R) → N ↔ (R ⊎ S) → S ↔ (O ⊎ T) → N ↔ (O ⊎ U)
-turned_back N R S T U O u n s = (
-  λ m. elim (n.0 m) [ inl r ↦ inr (u.1 (inr r)) | inr o ↦ elim (s.0 o) [ inl p ↦ inl p | inr t ↦ inr (u.1 (inl t)) ] ],
-  λ m. elim m [ inl o ↦ n.1 (inr (s.1 (inl o))) | inr v ↦ elim (u.0 v) [ inl t ↦ n.1 (inr (s.1 (inr t))) | inr r ↦ n.1 (inl r) ] ],
 )
