@@ -2,16 +2,10 @@
 use Rattle.std.proofs.Common.{◌≡◌, ◌≢◌, ℕ, ◌+◌, ◌-◌, ◌<◌, ◌≤◌, max, refl, ap, sym, subst, ◌∙◌, arith}
 use Rattle.std.proofs.lemmas.Bool.Decides.{nat_tests}
 use Rattle.std.specs.Prelude.{Option, Some, None, nat_eq, nat_lt, true, false}
-use Rattle.pure_definitions.specs.Terms.Term.{Term, Bound, term_size, term_depth, IsWithin}
+use Rattle.pure_definitions.specs.Terms.Term.{Term, Bound, term_size, term_depth}
 use Rattle.pure_definitions.specs.Terms.Bounds.{lift_term, place_at, subst_under}
 use Rattle.pure_definitions.specs.Terms.Limits.{cut_off, Leaves}
 use Rattle.pure_definitions.proofs.TermLemmas.{term_size-lift, term_depth-lift, term_depth-le-size}
-
-pub leaves-within : (t : Term) (rest : ℕ) → Leaves 200000 2000 (term_size t) (term_depth t) (Some rest) → IsWithin t
-leaves-within t rest h = record { size = omega (arith, h.0); depth = h.1 }
-
-pub leaves-not_within : (t : Term) → Leaves 200000 2000 (term_size t) (term_depth t) None → ¬ IsWithin t
-leaves-not_within t h w = let deep : 2000 < term_depth t = h w.size in let b = w.depth in omega arith
 
 -- Small rooms don't tell a number from what is left of it when it is cut off.
 leaves-cut_off : (left room size depth s d : ℕ) (r : Option ℕ) → s ≡ cut_off size → d ≡ cut_off depth → left ≤ 200000 → room ≤ 2000 → Leaves left room s d r → Leaves left room size depth r

@@ -1,5 +1,5 @@
 -- Lists of types, gone over one type after another.
-use Rattle.std.proofs.Common.{◌≡◌, ℕ, zero, suc, ◌+◌, ◌<◌, ◌≤◌, List, [], ◌∷◌, length, get_or, take, drop, max, refl, arith, ap, add-one, drop-cons, sym, subst, inl, inr, ◌≢◌, ◌↔◌}
+use Rattle.std.proofs.Common.{◌≡◌, ℕ, zero, suc, ◌+◌, ◌<◌, ◌≤◌, List, [], ◌∷◌, length, get_or, take, drop, max, refl, arith, sym, subst, inl, inr, ◌≢◌, ◌↔◌}
 use Rattle.std.specs.declared.cmp.Ordering.TheVariants.{Less}
 use Rattle.pure_definitions.specs.Types.Typ.{Typ, TFree, TVar, Con, Typs, none, typ_size, typs_size, typ_depth, typs_depth, typs_of}
 use Rattle.pure_definitions.specs.Types.Occurs.{OccursInTyp, OccursInTyps}
@@ -10,10 +10,6 @@ pub typ_depth-item : (ts : List Typ) (i : ℕ) (t : Typ) → i < length ts → t
 typ_depth-item [] i t h e = absurd (omega arith)
 typ_depth-item (u ∷ us) zero t h e = rw e (omega arith)
 typ_depth-item (u ∷ us) (suc i) t h e = omega (arith, typ_depth-item us i t (omega arith) e)
-
--- the rest of a list, from a type on
-pub drop-item : (ts : List Typ) (i : ℕ) (t : Typ) → i < length ts → t ≡ get_or ts i t → drop i ts ≡ t ∷ drop (i + 1) ts
-drop-item ts i t h e = rw (add-one, drop-cons ts i t h) (ap (λ u. u ∷ drop (suc i) ts) (sym e))
 
 -- nothing is left behind a list's end
 pub drop-end : (ts : List Typ) (i : ℕ) → length ts ≤ i → drop i ts ≡ []
