@@ -174,9 +174,6 @@ reduces-f = EtaReduces.next (EtaStep.contract refl) EtaReduces.done
 constant-eta_normal : (c : ℕ) (T : Typ) → IsEtaNormal (Const c T)
 constant-eta_normal c T u h = elim h [ ]
 
-bound-eta_normal : (n : ℕ) → IsEtaNormal (Bound n)
-bound-eta_normal n u h = elim h [ ]
-
 not_lifted : (p : ℕ) → ¬ (0 ≡ lifted 1 0 p)
 not_lifted p e = grind (arith, nat_tests)
 

@@ -18,9 +18,6 @@ one : {P : Type 0} → P ⊎ ⊥ → P
 one (inl p) = p
 one (inr absent) = absurd absent
 
-c-below_e : IsClassBelow ladder c e
-c-below_e = along (class_above c (e ∷ []), inr (inr (inl refl)), refl, inl refl) itself
-
 c-below_g : IsClassBelow ladder c g
 c-below_g = along (class_above c (e ∷ []), inr (inr (inl refl)), refl, inl refl) (along (class_above e (g ∷ []), inr (inl refl), refl, inl refl) itself)
 

@@ -9,6 +9,7 @@ use Rattle.pure_text.specs.Lists.{IsIn}
 use Rattle.pure_text.proofs.ListLaws.{each_of}
 use Rattle.pure_definitions.specs.Models.Equality.{typ_eq-same, term_eq-same}
 use Rattle.pure_definitions.proofs.OrderLaws.{sort_below-itself}
+use Rattle.pure_definitions.proofs.InstanceLemmas.{typ_image-fixed, term_image-fixed}
 use Rattle.pure_definitions.proofs.EntryLemmas.{chosen, typ_image-entry, term_image-entry}
 
 pub identity-respects_sorts : (A : Algebra) → IsSortRespecting A (λ v. v)
@@ -64,8 +65,7 @@ entries-respect_sorts_exactly A binds h = (
 )
 
 pub entries-keep_fixed_typs : (binds : List TypBind) → KeepsFixedTyps (typ_image binds)
-entries-keep_fixed_typs [] x s = refl
-entries-keep_fixed_typs (b ∷ bs) x s = entries-keep_fixed_typs bs x s
+entries-keep_fixed_typs = typ_image-fixed
 
 typed_fixed : (binds : List TermBind) (x : ℕ) (T : Typ) → HasType [] (term_image binds (Free x T)) T
 typed_fixed [] x T = refl
@@ -90,9 +90,5 @@ entries-respect_types_exactly binds h = (entries-respect_types binds, λ r. each
     entry : IsTypeRespecting (λ v. v) (term_image binds) → (b : TermBind) → IsIn b binds → HasType [] b.image b.typ
     entry r b m = rw (term_image-entry binds b h m, typ_instance-identity b.typ) at (r.schematic b.name b.index b.typ)
 
-kept_fixed : (binds : List TermBind) (x : ℕ) (T : Typ) → term_image binds (Free x T) ≡ Free x T
-kept_fixed [] x T = refl
-kept_fixed (b ∷ bs) x T = kept_fixed bs x T
-
 pub entries-keep_fixed : (binds : List TermBind) → KeepsFixedTerms (λ v. v) (term_image binds)
-entries-keep_fixed binds x T = kept_fixed binds x T ∙ ap (Free x) (sym (typ_instance-identity T))
+entries-keep_fixed binds x T = term_image-fixed binds x T ∙ ap (Free x) (sym (typ_instance-identity T))
