@@ -15,7 +15,6 @@ use Rattle.pure_lookup.specs.Meaning.{Space, IsDeclaredIn, pure_text, full_text,
 use Rattle.pure_lookup.specs.Places.{IsIndexOf, IsPlaceOf, IsTheoryIn, IsBest}
 use Rattle.pure_lookup.specs.Laws.{IsInSession}
 use Rattle.pure_lookup.proofs.TextLemmas.{one_name, pure-has_no_dot, one_cut}
-use Rattle.pure_lookup.proofs.MeaningLaws.{visible-writable}
 
 -- Pure's own names have full texts in Pure.
 pub builtin-in_pure : (n : ℕ) → n < builtin_count → (base : List ℕ) × (slice_get builtin_texts n ≡ Some (full_text pure_text base))
@@ -33,9 +32,6 @@ module _ (texts : List (List ℕ)) (Q : Content) (space : Space) where
   visible-text : (p : ℕ) (t b : List ℕ) (n : ℕ) → IsVisible texts Q space p t b (Declared n) → HasText texts n (full_text t b)
   visible-text p t b n (inl h) = slice_get-left builtin_texts texts n (full_text t b) h.2.1
   visible-text p t b n (inr (v, i, place, text, h)) = h.1
-
-  pub place-unwritable : (n : ℕ) → ¬ IsWritable Q space n → IsPlaceOf texts Q space n None
-  place-unwritable n other p t b v = other (visible-writable texts Q space p t b n v)
 
   pub place-in_pure : (n : ℕ) → n < builtin_count → IsWritable Q space n → IsPlaceOf texts Q space n (Some 0)
   place-in_pure n h w = let text = builtin-in_pure n h in (pure_text, text.0, inl (refl, refl, (w, text.1)))
@@ -82,9 +78,6 @@ module _ (texts : List (List ℕ)) (Q : Content) (space : Space) where
     -- Look-ups by full names.
     pub full-found : (written : List ℕ) (n : ℕ) (place : ℕ) → HasText texts n written → IsPlaceOf texts Q space n (Some place) → IsMeantInFull texts Q space written (Declared n)
     full-found written n place has (t, b, v) = record { place = place; theory = t; base = b; full = Some-inj (sym has ∙ visible-text place t b n v); visible = v }
-
-    pub full-absent : (written : List ℕ) → IsFound (name_texts texts) written None → (n : ℕ) → ¬ IsMeantInFull texts Q space written (Declared n)
-    full-absent written absent n h = absent n (visible-text h.place h.theory h.base n h.visible ∙ ap Some (sym h.full))
 
     pub full-invisible : (written : List ℕ) (k : ℕ) → HasText texts k written → IsPlaceOf texts Q space k None → (n : ℕ) → ¬ IsMeantInFull texts Q space written (Declared n)
     full-invisible written k has absent n h =
