@@ -19,9 +19,8 @@ use Rattle.pure_logic.specs.Content.{Content, IsContent}
 use Rattle.pure_logic.specs.Concludes.{AreRespecting}
 use Rattle.pure_logic.specs.Derivable.{Pair}
 use Rattle.pure_logic.specs.Laws.Substitution.{pair_instance}
-use Rattle.pure_logic.proofs.InstanceLaws.{parts-instance}
+use Rattle.pure_logic.proofs.InstanceLaws.{certified-instance, parts-instance}
 use Rattle.pure_logic.proofs.SubstitutionLaws.{images_closed}
-use Rattle.pure_logic.proofs.WeakeningLaws.{typ_instance-certified}
 use Rattle.pure_equated.specs.Equated.{IsTypedUnder, AreEquated, IsPairEquated}
 use Rattle.pure_equated.proofs.SidesLaws.{equated_are_typed}
 
@@ -83,9 +82,6 @@ module _ (Q : Content) (q : IsContent Q) (typs : Typ → Typ) (terms : Term → 
   pub typed-instance : (bs : List Typ) (t : Term) (T : Typ) → IsTypedUnder Q.declarations bs t T → IsTypedUnder Q.declarations (map (typ_instance typs) bs) (term_instance typs terms t) (typ_instance typs T)
   typed-instance bs t T h = record { parts = parts-instance Q q typs terms r t h.parts; typed = typing-instance typs terms r.types bs t T h.typed }
 
-  certified-instance : (V : Typ) → IsCertifiedTyp Q.declarations V → IsCertifiedTyp Q.declarations (typ_instance typs V)
-  certified-instance V v = typ_instance-certified Q.declarations typs r.certified.fixed_typ r.certified.schematic_typ V v
-
   -- what stands equated modulo the pairs' instances
   abbrev AreInstancesEquated : List Typ → Typ → Term → Term → Type 0
   AreInstancesEquated bs T t u = AreEquated Q.declarations (map (pair_instance typs terms) pairs) (map (typ_instance typs) bs) (typ_instance typs T) t u
@@ -106,10 +102,10 @@ module _ (Q : Content) (q : IsContent Q) (typs : Typ → Typ) (terms : Term → 
       let image = term_instance typs terms f in
       instances-along bs (arrow V U) (term_instance typs terms (Abs V (App (lift_term 1 0 f) (Bound 0)))) image (Abs (typ_instance typs V) (App (lift_term 1 0 image) (Bound 0))) image
       (ap (λ g. Abs (typ_instance typs V) (App g (Bound 0))) (instance-lift typs terms (images_closed Q typs terms r) 1 0 f)) refl
-      (AreEquated.eta (certified-instance V v) (typed-instance bs f (arrow V U) h))
+      (AreEquated.eta (certified-instance Q q typs terms r V v) (typed-instance bs f (arrow V U) h))
   equated-instance bs T t u (AreEquated.pair p i h j) =
       AreEquated.pair (pair_instance typs terms p) (in-map (pair_instance typs terms) p pairs i) (typed-instance [] p.left T h) (typed-instance [] p.right T j)
-  equated-instance bs T t u (AreEquated.abstraction {V = V} {U = U} {b = b} {c = c} v e) = AreEquated.abstraction (certified-instance V v) (equated-instance (V ∷ bs) U b c e)
+  equated-instance bs T t u (AreEquated.abstraction {V = V} {U = U} {b = b} {c = c} v e) = AreEquated.abstraction (certified-instance Q q typs terms r V v) (equated-instance (V ∷ bs) U b c e)
   equated-instance bs T t u (AreEquated.application {T = V} {f = f} {g = g} {a = a} {b = b} e j) = AreEquated.application (equated-instance bs (arrow V T) f g e) (equated-instance bs V a b j)
 
 pub equated_of_instance : (Q : Content) → IsContent Q → (typs : Typ → Typ) (terms : Term → Term) → AreRespecting Q typs terms → (pairs : List Pair) (bs : List Typ) (T : Typ) (t u : Term)

@@ -6,6 +6,7 @@ use Rattle.pure_definitions.specs.Terms.Term.{Term, Const, Bound, Abs, App}
 use Rattle.pure_definitions.specs.Terms.Bounds.{Occurs}
 use Rattle.pure_definitions.specs.Terms.Conditions.{IsVariable}
 use Rattle.pure_term_laws.specs.LawsExamples.{i, a, f, x, y, any_x}
+use Rattle.pure_term_laws.specs.LawsMaps.{sent}
 use Rattle.pure_term_laws.proofs.BoundLaws.{lift-zero}
 use Rattle.pure_term_laws.proofs.EtaLaws.{eta_example, long_form_example}
 use Rattle.pure_logic.specs.Connectives.{eq}
@@ -16,7 +17,7 @@ use Rattle.pure_logic.specs.Concludes.{AreRespecting}
 use Rattle.pure_logic.specs.Examples.Theory.{less, h, example}
 use Rattle.pure_logic.proofs.ConnectiveLaws.{certified_of}
 use Rattle.pure_logic.proofs.ExampleLaws.{example-above, example_is_content, i-certified, a-of, f-of, h-of, x-of, y-of, a-parts, less-parts, less-of}
-use Rattle.pure_logic.proofs.MapLaws.{sent, sent-respects, identity_respects}
+use Rattle.pure_logic.proofs.MapLaws.{sent-respects, identity_respects}
 use Rattle.pure_logic.proofs.PropositionLaws.{eq-proposition}
 use Rattle.pure_logic.proofs.ProvesLaws.{assumed, proved-derivable}
 use Rattle.pure_equated.specs.Equated.{IsTypedUnder, AreEquated, AreEqualModulo}

@@ -2,13 +2,14 @@
 use Rattle.std.proofs.Common.{◌↔◌, []}
 use Rattle.pure_definitions.specs.Types.Typ.{prop}
 use Rattle.pure_definitions.specs.Terms.Term.{Term}
+use Rattle.pure_term_laws.specs.LawsMaps.{sent}
 use Rattle.pure_logic.specs.Content.{Content, IsContent, IsBelow, IsProposition}
 use Rattle.pure_logic.specs.PureContent.{pure_content, proposition_variable}
 use Rattle.pure_logic.specs.Derivable.{IsDerivableAlone}
 use Rattle.pure_logic.specs.Laws.Derivable.{IsConsistent}
 use Rattle.pure_logic.proofs.ChainLaws.{variable_is_proposition}
 use Rattle.pure_logic.proofs.AboveLaws.{certified_of-above}
-use Rattle.pure_logic.proofs.MapLaws.{identity_respects, sent, sent-respects}
+use Rattle.pure_logic.proofs.MapLaws.{identity_respects, sent-respects}
 use Rattle.pure_logic.proofs.SubstitutionLaws.{instance_is_derivable}
 
 everything_follows : (Q : Content) → IsContent Q → IsDerivableAlone Q (proposition_variable 0) → (A : Term) → IsProposition Q A → IsDerivableAlone Q A

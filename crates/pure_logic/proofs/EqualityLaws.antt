@@ -8,6 +8,7 @@ use Rattle.pure_definitions.specs.Terms.Typing.{HasType}
 use Rattle.pure_definitions.specs.Terms.Bounds.{subst_under, subst_bound}
 use Rattle.pure_definitions.specs.Declarations.Certified.{IsCertifiedTyp, HasCertifiedParts}
 use Rattle.pure_definitions.proofs.LiftLaws.{subst-lift}
+use Rattle.pure_term_laws.specs.LawsMaps.{sent}
 use Rattle.pure_term_laws.proofs.BoundLaws.{lift-zero}
 use Rattle.pure_term_laws.proofs.TypingLaws.{typed-closed, lift-closed}
 use Rattle.pure_term_laws.proofs.TypingBoundLaws.{typing-weaken}
@@ -19,7 +20,7 @@ use Rattle.pure_logic.specs.Concludes.{extensionality}
 use Rattle.pure_logic.specs.Proves.{Proves}
 use Rattle.pure_logic.specs.Laws.Quantification.{beta_applied}
 use Rattle.pure_logic.proofs.ConnectiveLaws.{certified_of, eq-parts, prop-certified}
-use Rattle.pure_logic.proofs.MapLaws.{identity_respects, sent, sent-respects}
+use Rattle.pure_logic.proofs.MapLaws.{identity_respects, sent-respects}
 use Rattle.pure_logic.proofs.PropositionLaws.{body-typed, typ-of_certified}
 use Rattle.pure_logic.proofs.ProvesLaws.{conclusion_is_proved, proved_is_proposition, quantification_is_proved, instance_of_body_is_proved}
 

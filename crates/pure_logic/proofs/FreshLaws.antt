@@ -8,11 +8,10 @@ use Rattle.pure_definitions.specs.Terms.Conditions.{IsVariable}
 use Rattle.pure_definitions.specs.Terms.Subst.{typ_instance, term_instance}
 use Rattle.pure_definitions.proofs.BindLemmas.{bind_under-same}
 use Rattle.pure_definitions.proofs.LiftLaws.{subst-lift}
-use Rattle.pure_term_laws.specs.LawsMaps.{AreImagesClosed}
+use Rattle.pure_term_laws.specs.LawsMaps.{AreImagesClosed, sent}
 use Rattle.pure_term_laws.proofs.BoundLaws.{bind-subst}
 use Rattle.pure_term_laws.proofs.MapLaws.{instance-sent_elsewhere}
 use Rattle.pure_term_laws.proofs.TypingLaws.{lift-closed}
-use Rattle.pure_logic.proofs.MapLaws.{sent}
 
 -- a number above the names of the term's fixed variables, and of those of a list of terms
 abbrev pub above_names : Term → ℕ

@@ -40,7 +40,7 @@ instance-instance ds typs r declared T schematic h = record {
 
 -- The parts of a term's instance by respecting maps are certified where the term's own are.
 module _ (Q : Content) (q : IsContent Q) (typs : Typ → Typ) (terms : Term → Term) (r : AreRespecting Q typs terms) where
-  certified-instance : (T : Typ) → IsCertifiedTyp Q.declarations T → IsCertifiedTyp Q.declarations (typ_instance typs T)
+  pub certified-instance : (T : Typ) → IsCertifiedTyp Q.declarations T → IsCertifiedTyp Q.declarations (typ_instance typs T)
   certified-instance T h = typ_instance-certified Q.declarations typs r.certified.fixed_typ r.certified.schematic_typ T h
 
   pub parts-instance : (t : Term) → HasCertifiedParts Q.declarations t → HasCertifiedParts Q.declarations (term_instance typs terms t)

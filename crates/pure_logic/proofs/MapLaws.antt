@@ -1,5 +1,5 @@
 -- Maps that respect a content: the identity, and the finite maps of a call, joined.
-use Rattle.std.proofs.Common.{◌≡◌, ℕ, List, [], ◌∷◌, cond, ap, refl}
+use Rattle.std.proofs.Common.{◌≡◌, ℕ, List, [], ◌∷◌, ap, refl}
 use Rattle.pure_text.specs.Lists.{Each}
 use Rattle.pure_text.proofs.ListLaws.{each_imply}
 use Rattle.pure_definitions.specs.Types.Typ.{Typ, TFree, TVar, typ_eq}
@@ -11,6 +11,7 @@ use Rattle.pure_definitions.specs.Models.Equality.{term_eq-same}
 use Rattle.pure_definitions.specs.Declarations.Decl.{Decl, algebra_of}
 use Rattle.pure_definitions.specs.Declarations.Certified.{IsCertifiedSort, IsCertifiedTyp, HasCertifiedParts, AreImagesCertified}
 use Rattle.pure_definitions.proofs.EntryLemmas.{chosen}
+use Rattle.pure_term_laws.specs.LawsMaps.{sent}
 use Rattle.pure_term_laws.proofs.SubstLaws.{identity-respects_sorts, identity-respects_types, entries-respect_sorts, entries-respect_types, typ_instance-identity}
 use Rattle.pure_logic.specs.Content.{Content, IsCertifiedOf}
 use Rattle.pure_logic.specs.Tree.{joined_terms}
@@ -70,10 +71,6 @@ joined_instance typs terms (Var x i T) = refl
 joined_instance typs terms (Bound n) = refl
 joined_instance typs terms (Abs T b) = ap (Abs (typ_instance (typ_image typs) T)) (joined_instance typs terms b)
 joined_instance typs terms (App f a) = λ l. App (joined_instance typs terms f l) (joined_instance typs terms a l)
-
--- the term map that gives one variable this image, and each other what it gave before
-abbrev pub sent : (v image : Term) → (Term → Term) → Term → Term
-sent v image terms u = cond (term_eq v u) image (terms u)
 
 -- Respecting maps stay so where one variable is given another certified image of its type under the type map.
 pub sent-respects : (Q : Content) (typs : Typ → Typ) (terms : Term → Term) (v image : Term) → AreRespecting Q typs terms → IsCertifiedOf Q image (typ_instance typs (variable_typ v)) → AreRespecting Q typs (sent v image terms)

@@ -10,6 +10,7 @@ use Rattle.pure_definitions.specs.Declarations.Decl.{ConDecl, ConstDecl, AxiomDe
 use Rattle.pure_definitions.specs.Declarations.Certified.{HasCertifiedParts}
 use Rattle.pure_term_laws.specs.LawsExamples.{i, j, c, a, f, x, y, any_x, sort_of}
 use Rattle.pure_term_laws.specs.LawsSubst.{for_a}
+use Rattle.pure_term_laws.specs.LawsMaps.{sent}
 use Rattle.pure_logic.specs.Connectives.{all, imp, eq}
 use Rattle.pure_logic.specs.Content.{IsContent, IsCertifiedOf, IsProposition}
 use Rattle.pure_logic.specs.Tree.{Tree, Promise, Assume, ImpliesIntro, ImpliesElim, joined_terms, hyps_of, rests_of}
@@ -19,7 +20,7 @@ use Rattle.pure_logic.specs.Examples.Contents.{content_of}
 use Rattle.pure_logic.specs.Examples.Theory.{less, holds, any_c, any_z, any_left, any_right, any_w, related, i_arity, promised, example}
 use Rattle.pure_logic.specs.Examples.Nodes.{for_z, both_to_i, image_of_own, AxiomExample, OwnTypeExample, PromiseExample, NoAxiomExample, NoMapExample, AssumeExample, AllIntroExample, NoAllIntroExample, AllElimExample, NoAllElimExample, ImpliesIntroExample, TwiceAssumedExample, ImpliesElimExample, BetaExample, ReflExample, SubstExample, SymmetricExample, ExtExample, IffExample, DerivableExample, OpenHypothesisExample, OpenPromiseExample, NoPropositionExample}
 use Rattle.pure_logic.proofs.ConnectiveLaws.{certified_of, imp-parts, all-parts, eq-parts}
-use Rattle.pure_logic.proofs.MapLaws.{identity_respects, joined_respect, sent, sent-respects}
+use Rattle.pure_logic.proofs.MapLaws.{identity_respects, joined_respect, sent-respects}
 use Rattle.pure_logic.proofs.ExampleLaws.{example-above, example-has, none_passes, is_const, is_con, is_axiom, is_promised_part, i-certified, j-certified, any_c-certified, i-of_c, x-of, y-of, a-of, f-of, h-of, a-parts, f-parts, less-parts, less-of}
 
 pub axiom_example : AxiomExample

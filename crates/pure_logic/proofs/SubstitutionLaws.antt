@@ -14,7 +14,7 @@ use Rattle.pure_definitions.specs.Declarations.Decl.{algebra_of}
 use Rattle.pure_definitions.specs.Declarations.Certified.{IsCertifiedTyp}
 use Rattle.pure_definitions.proofs.BindLemmas.{abstract_over-variable}
 use Rattle.pure_definitions.proofs.OrderLaws.{of_sort-instance}
-use Rattle.pure_term_laws.specs.LawsMaps.{AreImagesClosed}
+use Rattle.pure_term_laws.specs.LawsMaps.{AreImagesClosed, sent}
 use Rattle.pure_term_laws.proofs.MapLaws.{typ_instance-again, instance-instance, instance-subst}
 use Rattle.pure_term_laws.proofs.TypingLaws.{typed-closed}
 use Rattle.pure_term_laws.proofs.TypingBoundLaws.{typing-instance}
@@ -27,7 +27,7 @@ use Rattle.pure_logic.specs.Proves.{Proves}
 use Rattle.pure_logic.specs.Laws.Substitution.{IsInstanceTree, pair_instance, theorem_instance}
 use Rattle.pure_logic.proofs.WeakeningLaws.{typ_instance-certified}
 use Rattle.pure_logic.proofs.InstanceLaws.{parts-instance}
-use Rattle.pure_logic.proofs.MapLaws.{sent, sent-respects}
+use Rattle.pure_logic.proofs.MapLaws.{sent-respects}
 use Rattle.pure_logic.proofs.FreshLaws.{above_all, fresh-above_all, instance-renamed, instances-unchanged}
 use Rattle.pure_logic.proofs.DischargeLaws.{discharged}
 
