@@ -1,25 +1,16 @@
--- The look-ups of classes, type constructors, constants and facts by their written names.
+-- The look-ups of names and facts by how they are written.
 use Rattle.std.specs.Prelude.{◌≡◌, ℕ, List, Option, Some, None}
 use Rattle.pure_text.specs.Lists.{IsIn}
 use Rattle.pure_definitions.specs.Names.{Label}
 use Rattle.pure_definitions.specs.Terms.Term.{Term}
 use Rattle.pure_definitions.specs.Declarations.Decl.{Decl, AxiomDecl, PromiseDecl}
 use Rattle.pure_logic.specs.Content.{Content}
-use Rattle.pure_lookup.specs.Meaning.{Space, classes, constructors, constants, facts, Meaning, Declared, Built, IsMeant}
+use Rattle.pure_lookup.specs.Meaning.{Space, facts, Meaning, Declared, Built, IsMeant}
 
 -- The answer to the question which name of the name space is written so: that name, or none where the written name means nothing.
 abbrev pub IsFoundName : (texts : List (List ℕ)) → Content → Space → (written : List ℕ) → Option ℕ → Type 0
 IsFoundName texts Q space written (Some n) = IsMeant texts Q space written (Declared n)
 IsFoundName texts Q space written None = (m : Meaning) → ¬ IsMeant texts Q space written m
-
-abbrev pub IsFoundClass : (texts : List (List ℕ)) → Content → (written : List ℕ) → Option ℕ → Type 0
-IsFoundClass texts Q = IsFoundName texts Q classes
-
-abbrev pub IsFoundTyp : (texts : List (List ℕ)) → Content → (written : List ℕ) → Option ℕ → Type 0
-IsFoundTyp texts Q = IsFoundName texts Q constructors
-
-abbrev pub IsFoundConst : (texts : List (List ℕ)) → Content → (written : List ℕ) → Option ℕ → Type 0
-IsFoundConst texts Q = IsFoundName texts Q constants
 
 -- A fact: a built one by its place in their list, an axiom, or the statement of a promise.
 pub data Fact : Type 0 where
