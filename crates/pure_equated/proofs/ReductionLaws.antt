@@ -1,5 +1,5 @@
 -- Terms are equated with what they reduce to.
-use Rattle.std.proofs.Common.{◌≡◌, inl, inr, List, [], ◌∷◌, refl}
+use Rattle.std.proofs.Common.{◌≡◌, inl, inr, List, [], ◌∷◌}
 use Rattle.std.specs.Prelude.{Some}
 use Rattle.pure_text.specs.Lists.{Each}
 use Rattle.pure_definitions.specs.Types.Typ.{Typ, arrow}
@@ -14,17 +14,13 @@ use Rattle.pure_definitions.proofs.LiftLaws.{subst-lift}
 use Rattle.pure_term_laws.proofs.BetaLaws.{app_step-some, map-some}
 use Rattle.pure_term_laws.proofs.CertifiedLaws.{parts-lift, parts-subst}
 use Rattle.pure_term_laws.proofs.TypingLaws.{typed-once}
-use Rattle.pure_term_laws.proofs.TypingBoundLaws.{typing-subst}
+use Rattle.pure_term_laws.proofs.TypingBoundLaws.{typing-unlift}
 use Rattle.pure_logic.specs.Content.{Content, IsBelow}
 use Rattle.pure_logic.specs.PureContent.{pure_content}
 use Rattle.pure_logic.specs.Derivable.{Pair}
 use Rattle.pure_logic.proofs.PartsLaws.{typ-certified}
 use Rattle.pure_equated.specs.Equated.{IsTypedUnder, AreEquated}
 use Rattle.pure_equated.proofs.SidesLaws.{equated_are_typed, typed-function, typed-argument, typed-body}
-
--- A term has its type without a binder over which it is lifted.
-typing-unlift : (bs : List Typ) (V : Typ) (t : Term) (T : Typ) → HasType (V ∷ bs) (lift_term 1 0 t) T → HasType bs t T
-typing-unlift bs V t T h = rw (subst-lift 0 (Free 0 V) t) at (typing-subst [] bs 0 (Free 0 V) (lift_term 1 0 t) V T refl refl h)
 
 -- The contractum of an eta redex is a function from the binder's type.
 typing-contracted : (bs : List Typ) (V : Typ) (f g : Term) (T : Typ) → g ≡ lift_term 1 0 f → HasType bs (Abs V (App g (Bound 0))) T → (U : Typ) × HasType bs f (arrow V U) × (arrow V U ≡ T)

@@ -9,7 +9,7 @@ use Rattle.pure_definitions.specs.Terms.Bounds.{lift_term, place_at, subst_under
 use Rattle.pure_definitions.specs.Terms.Conditions.{variable_typ}
 use Rattle.pure_definitions.specs.Models.Equality.{term_eq-same}
 use Rattle.pure_definitions.specs.Terms.Subst.{typ_instance, term_instance, IsTypeRespecting}
-use Rattle.pure_definitions.proofs.LiftLaws.{lifted, lift_term-bound}
+use Rattle.pure_definitions.proofs.LiftLaws.{lifted, lift_term-bound, subst-lift}
 
 -- a place in lists, one after another
 get-left : (bs cs : List Typ) (p : ℕ) → p < length bs → slice_get (bs ++ cs) p ≡ slice_get bs p
@@ -120,3 +120,7 @@ typing-bind bs cs n v (Var x i V) T e h = typing-bind_variable bs cs n v (Var x 
 typing-bind bs cs n v (Bound p) T e h = typing-lift bs (variable_typ v ∷ []) cs n 1 (Bound p) T e refl h
 typing-bind bs cs n v (Abs V b) T e h = (h.0, typing-bind (V ∷ bs) cs (n + 1) v b h.0 (omega arith) h.1, h.2)
 typing-bind bs cs n v (App f a) T e h = (h.0, typing-bind bs cs n v f (arrow h.0 T) e h.1, typing-bind bs cs n v a h.0 e h.2)
+
+-- A term has its type without a binder over which it is lifted.
+pub typing-unlift : (bs : List Typ) (V : Typ) (t : Term) (T : Typ) → HasType (V ∷ bs) (lift_term 1 0 t) T → HasType bs t T
+typing-unlift bs V t T h = rw (subst-lift 0 (Free 0 V) t) at (typing-subst [] bs 0 (Free 0 V) (lift_term 1 0 t) V T refl refl h)
