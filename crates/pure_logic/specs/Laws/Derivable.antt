@@ -60,7 +60,7 @@ WeakenedIsDerivable = (Q : Content) (A B : Term) → IsProposition Q A → IsPro
 abbrev pub IsConsistent : Content → Type 0
 IsConsistent Q = ¬ IsDerivableAlone Q (proposition_variable 0)
 
--- Pure's own content is consistent. This is stated and not shown: no function carries it, and only a model of the whole logic would close the gap.
+-- Pure's own content is consistent. A finite model shows it, in `pure_consistency`.
 abbrev pub PureIsConsistent : Type 0
 PureIsConsistent = IsConsistent pure_content
 

@@ -1,0 +1,7 @@
+mod ValueLaws
+mod TableLaws
+mod DomainLaws
+mod MeaningLaws
+mod ConnectiveLaws
+mod TruthLaws
+mod ConsistencyLaws
