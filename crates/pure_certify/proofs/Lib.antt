@@ -1,1 +1,4 @@
+pub mod MatchLemmas
+pub mod ConstLemmas
 pub mod PartLemmas
+pub mod TermLemmas

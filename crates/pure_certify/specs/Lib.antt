@@ -1,3 +1,5 @@
-pub mod Parts
 pub mod Tables
+pub mod Matching
+pub mod Parts
+pub mod Answer
 pub mod Laws

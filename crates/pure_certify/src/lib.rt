@@ -1,11 +1,16 @@
-//! Which types are certified over given declarations, and the first fault of one that isn't.
+//! Which types and terms are certified over given declarations, and the first fault of one that isn't.
 #![tactic(auto)]
 
+mod constant;
 mod fault;
 pub mod laws;
+mod matching;
 mod tables;
+mod term;
 mod typ;
 
+pub use constant::fault_of_const;
 pub use fault::CertFault;
 pub use tables::Tables;
+pub use term::{certify, fault_of_term};
 pub use typ::fault_of_typ;
