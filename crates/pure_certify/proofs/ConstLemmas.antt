@@ -1,11 +1,10 @@
 -- A constant's answer, from what a walk over its declared type and its type says.
 use Rattle.std.proofs.Common.{◌≡◌, ℕ, List, [], ◌∷◌, length, refl, sym, subst, arith}
 use Rattle.std.specs.Prelude.{Option, Result, Ok, Err, IfOk, MatchOption}
-use Rattle.pure_text.specs.Lists.{IsIn}
 use Rattle.pure_definitions.specs.Types.Typ.{Typ}
 use Rattle.pure_definitions.specs.Types.Order.{Algebra, IsOfSort}
 use Rattle.pure_definitions.specs.Terms.Subst.{TypBind, typ_image, IsTypMap, AreSortRespecting}
-use Rattle.pure_definitions.specs.Declarations.Decl.{Decl, ConstDecl, algebra_of}
+use Rattle.pure_definitions.specs.Declarations.Decl.{Decl, algebra_of}
 use Rattle.pure_definitions.specs.Declarations.Certified.{IsMatch, IsCertifiedConst}
 use Rattle.pure_term_laws.proofs.SubstLaws.{entries-respect_sorts}
 use Rattle.pure_certify.specs.declared.fault.CertFault.{CertFault}

@@ -6,15 +6,15 @@ use Rattle.pure_text.specs.Lists.{IsIn, Each}
 use Rattle.pure_text.proofs.ListLaws.{any_of, any_some, each-append, each-left, each-right, split_at}
 use Rattle.pure_definitions.specs.Types.Typ.{Typ, TFree, TVar, Con, Typs, none, also, typs_of, typs_count}
 use Rattle.pure_definitions.specs.Types.Order.{Algebra}
-use Rattle.pure_definitions.specs.Declarations.Decl.{Decl, ConDecl, ConstDecl, classes_of, algebra_of, IsDeclaredClass}
-use Rattle.pure_definitions.specs.Declarations.Certified.{IsCertifiedTyp, AreCertifiedTyps, IsCertifiedConst, IsInstance, HasCertifiedParts}
+use Rattle.pure_definitions.specs.Declarations.Decl.{Decl, ConDecl, classes_of, algebra_of, IsDeclaredClass}
+use Rattle.pure_definitions.specs.Declarations.Certified.{IsCertifiedTyp, AreCertifiedTyps, IsCertifiedConst}
 use Rattle.pure_term_laws.proofs.DeclLaws.{declared_classes}
 use Rattle.pure_order_tables.specs.Classes.{IsDeclared}
 use Rattle.pure_certify.specs.declared.fault.CertFault.{CertFault}
 use Rattle.pure_certify.specs.declared.fault.CertFault.TheVariants.{UnknownType, WrongCount, UnknownClass, UnknownConst, NotInstance, SortFails}
 use Rattle.pure_certify.specs.Tables.{IsUnknownConst}
 use Rattle.pure_certify.specs.Matching.{HasNoMatch, IsSortFault}
-use Rattle.pure_certify.specs.Parts.{Part, ClassPart, ConPart, ConstPart, typ_parts, typs_parts, term_parts, IsSound, HasClassFault, HasConFault, HasConstFault, HasFault, IsDeclaredAs, IsFirstFault}
+use Rattle.pure_certify.specs.Parts.{Part, ClassPart, ConPart, ConstPart, typ_parts, typs_parts, IsSound, HasClassFault, HasConFault, HasConstFault, HasFault, IsDeclaredAs, IsFirstFault}
 use Rattle.pure_certify.specs.Laws.{DoSortsAscend, DoAllSortsAscend}
 use Rattle.pure_certify.proofs.MatchLemmas.{same_cut, sort_fault-once, sort_fault-no_instance}
 

@@ -1,5 +1,5 @@
 -- The parts of terms, their faults, and the one answer of a term.
-use Rattle.std.proofs.Common.{◌≡◌, ◌≢◌, ◌↔◌, ℕ, List, [], ◌∷◌, ◌++◌, refl, ap, sym, ◌∙◌}
+use Rattle.std.proofs.Common.{◌≡◌, ◌≢◌, ◌↔◌, ℕ, List, [], ◌∷◌, refl, ap, sym, ◌∙◌}
 use Rattle.std.specs.Prelude.{Option, Some, None, Result, Ok, Err, IfOk, OnOk, MatchOption}
 use Rattle.pure_text.specs.Lists.{Each}
 use Rattle.pure_text.proofs.ListLaws.{each-append, each-left, each-right}
@@ -17,8 +17,8 @@ use Rattle.pure_certify.specs.declared.fault.CertFault.{CertFault}
 use Rattle.pure_certify.specs.declared.fault.CertFault.TheVariants.{NotTyped, Memory}
 use Rattle.pure_certify.specs.Parts.{Part, ClassPart, ConPart, ConstPart, typ_parts, term_parts, IsSound, HasFault, IsFirstFault}
 use Rattle.pure_certify.specs.Answer.{IsTermFault, IsCertAnswer, fault_of_type}
-use Rattle.pure_certify.specs.Laws.{DoSortsAscend, DoTermSortsAscend}
-use Rattle.pure_certify.proofs.PartLemmas.{certified_typ_exactly, one_fault, faulty_is_not_sound, fault_left, fault_right}
+use Rattle.pure_certify.specs.Laws.{DoTermSortsAscend}
+use Rattle.pure_certify.proofs.PartLemmas.{certified_typ_exactly, one_fault, faulty_is_not_sound, fault_right}
 
 -- A term's parts are certified exactly where its sorts ascend and they are sound.
 parts-exactly : (ds : List Decl) (t : Term) → HasCertifiedParts ds t ↔ (DoTermSortsAscend t × Each (IsSound ds) (term_parts t))

@@ -1,5 +1,5 @@
 //! Matches of declared types with types.
-ghost use Rattle.std.specs.Prelude.{◌≡◌, ◌≢◌, List, [], ◌∷◌, map, MatchBool, MatchOption, IfOk};
+ghost use Rattle.std.specs.Prelude.{◌≡◌, ◌≢◌, [], ◌∷◌, map, MatchBool, MatchOption, IfOk};
 ghost use Rattle.pure_text.specs.Lists.{IsIn};
 ghost use Rattle.pure_definitions.specs.Types.Typ as tree;
 ghost use Rattle.pure_definitions.specs.Types.Typ.{typs_of};

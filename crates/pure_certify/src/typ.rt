@@ -1,8 +1,6 @@
 //! Certified types.
 ghost use Rattle.std.specs.Prelude.{MatchOption, map};
-ghost use Rattle.pure_text.specs.Lists.{Each};
 ghost use Rattle.pure_definitions.specs.Types.Typ.{typs_of};
-ghost use Rattle.pure_definitions.specs.Declarations.Decl.{IsDeclaredClass};
 ghost use Rattle.pure_definitions.specs.Declarations.Certified.{IsCertifiedTyp, AreCertifiedTyps, IsCertifiedSort};
 ghost use Rattle.pure_certify.specs.Parts.{ClassPart, ConPart, typ_parts, typs_parts, IsSound, IsFirstFault, HasFault};
 

@@ -1,6 +1,5 @@
 use Rattle.pure_text.proofs.AnswerLaws.{test_fails}
 use Rattle.pure_certify.proofs.MatchLemmas.{unsorted-at, sorted-next}
-use Rattle.pure_certify.specs.Matching.{IsFirstUnsorted}
 use Rattle.pure_certify.proofs.constant.first_unsorted.Goals as goal
 
 pub returns-then-not-is_of_sort-clause-first : goal.returns-then-not-is_of_sort-clause-first

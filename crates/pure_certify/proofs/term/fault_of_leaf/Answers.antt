@@ -1,4 +1,3 @@
-use Rattle.pure_definitions.specs.Types.Typ.{Typ}
 use Rattle.std.proofs.Common.{[], ◌∷◌}
 use Rattle.pure_certify.specs.Parts.{ConstPart, typ_parts}
 use Rattle.pure_certify.proofs.PartLemmas.{fault_left}
