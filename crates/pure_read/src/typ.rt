@@ -11,7 +11,7 @@ use crate::binder::{body_place, bound};
 use crate::frame::{Frame, Popped, Stack, TypeOpen};
 use crate::lexeme::{Lexeme, Written, is_end, is_mark, name_in, opening_at, variable_in};
 use crate::raw::{Raw, RawClass, RawTyp};
-use crate::state::{Place, State, goes, goes_if};
+use crate::state::{Place, State, goes, goes_if, type_inside};
 use crate::term::con_ends;
 use pure_grammar::{Mark, Opening};
 use std::alloc::{AllocError, Global};
@@ -75,8 +75,7 @@ fn domain_ends(
 {
     let stack = stack.with(Frame::Range { at, domain })?;
     if is_mark(Mark::Comma, l) {
-        let around = TypeOpen::NextDomain;
-        return Ok(goes(Place::AtType, stack.with(Frame::InType { around })?));
+        return type_inside(stack, TypeOpen::NextDomain);
     }
     if is_mark(Mark::CloseBracket, l) {
         return Ok(goes(Place::AtArrow, stack));
@@ -97,8 +96,7 @@ fn enclosed_ends(
     if is_mark(Mark::Comma, l) {
         let mut arguments = Vec::new(alloc);
         arguments.push(typ)?;
-        let around = TypeOpen::MoreArguments { at, arguments };
-        return Ok(goes(Place::AtType, stack.with(Frame::InType { around })?));
+        return type_inside(stack, TypeOpen::MoreArguments { at, arguments });
     }
     if is_mark(Mark::CloseParenthesis, l) {
         return Ok(goes(Place::AfterPost { at, typ }, stack));
@@ -116,8 +114,7 @@ fn argument_ends(
     ensures { IfOk result (λ next. seen_next next ≡ spec.argument_ends at arguments.items (spec.In (spec.AtConstructor at arguments.items) (seen_stack stack)) (seen_stack stack) (seen_lexeme l.entry)) }
 {
     if is_mark(Mark::Comma, l) {
-        let around = TypeOpen::MoreArguments { at, arguments };
-        return Ok(goes(Place::AtType, stack.with(Frame::InType { around })?));
+        return type_inside(stack, TypeOpen::MoreArguments { at, arguments });
     }
     if is_mark(Mark::CloseParenthesis, l) {
         return Ok(goes(Place::AtConstructor { at, arguments }, stack));
@@ -153,8 +150,9 @@ fn open_ends(
             if !is_mark(Mark::Dot, l) {
                 return Ok(None);
             }
-            let place = body_place(binder.quantifier);
-            Ok(goes(place, stack.with(bound(binder, Some(typ)))?))
+            let quantifier = binder.quantifier;
+            let stack = stack.with(bound(binder, Some(typ)))?;
+            Ok(goes(body_place(quantifier), stack))
         }
         TypeOpen::FirstDomain { at: whole } => domain_ends(whole, typ, stack, l),
         TypeOpen::NextDomain => domain_ends(at, typ, stack, l),
@@ -178,7 +176,10 @@ fn part_ends(alloc: Global, part: TypePart, l: Lexeme<'_>) -> Result<Option<Stat
     match stack.pop() {
         Popped::Nothing => Ok(goes_if(is_end(l), State::DoneType { typ })),
         Popped::Open { frame, below } => match frame {
-            Frame::Joined { .. } => Ok(None),
+            Frame::Joined { join } => {
+                join.discard();
+                Ok(None)
+            }
             Frame::InTerm { .. } => Ok(None),
             Frame::Range { .. } => Ok(None),
             Frame::InType { around } => open_ends(alloc, at, typ, around, below, l),
@@ -197,8 +198,8 @@ fn type_ends(
     ensures { IfOk result (λ next. seen_next next ≡ spec.type_ends at typ (seen_stack stack) (seen_lexeme l.entry)) }
 {
     if is_mark(Mark::Arrow, l) {
-        let frame = Frame::Range { at, domain: typ };
-        return Ok(goes(Place::AtType, stack.with(frame)?));
+        let stack = stack.with(Frame::Range { at, domain: typ })?;
+        return Ok(goes(Place::AtType, stack));
     }
     part_ends(alloc, ranged(alloc, at, typ, stack)?, l)
 }
@@ -267,12 +268,12 @@ pub(crate) fn type_begun(
     match opening_at(Opening::Bracket, l) {
         Some(at) => {
             let around = TypeOpen::FirstDomain { at };
-            Ok(goes(Place::AtType, stack.with(Frame::InType { around })?))
+            type_inside(stack, around)
         }
         None => match opening_at(Opening::Parenthesis, l) {
             Some(at) => {
                 let around = TypeOpen::EnclosedType { at };
-                Ok(goes(Place::AtType, stack.with(Frame::InType { around })?))
+                type_inside(stack, around)
             }
             None => name_begun(alloc, stack, l),
         },
