@@ -1,5 +1,5 @@
 //! Where a token of a term leads to.
-ghost use Rattle.std.specs.Prelude.{◌≡◌, IfOk, ◌∷◌, Some};
+ghost use Rattle.std.specs.Prelude.{◌≡◌, IfOk, ◌∷◌, Some, None};
 ghost use Rattle.pure_grammar.specs.Terms.InnerReader as spec;
 ghost use Rattle.pure_read.specs.Seen.{seen_lexeme, seen_one};
 ghost use Rattle.pure_read.specs.Frames.{seen_frame, seen_stack, seen_term_open};
@@ -163,6 +163,14 @@ fn open_ends(
     }
 }
 
+/// No text goes on behind a term in this frame.
+fn refuses(frame: Frame) -> Option<State>
+    ensures { seen_next result ≡ None }
+{
+    frame.discard();
+    None
+}
+
 /// Behind a whole term.
 fn part_ends(alloc: Global, part: TermPart, l: Lexeme<'_>) -> Result<Option<State>, AllocError>
     ensures { IfOk result (λ next. seen_next next ≡ spec.part_ends (seen_term_part part) (seen_lexeme l.entry)) }
@@ -171,16 +179,10 @@ fn part_ends(alloc: Global, part: TermPart, l: Lexeme<'_>) -> Result<Option<Stat
     match stack.pop() {
         Popped::Nothing => Ok(goes_if(is_end(l), State::DoneTerm { term })),
         Popped::Open { frame, below } => match frame {
-            Frame::Joined { join } => {
-                join.discard();
-                Ok(None)
-            }
+            Frame::Joined { join } => Ok(refuses(Frame::Joined { join })),
             Frame::InTerm { around } => open_ends(alloc, at, term, around, below, l),
-            Frame::Range { .. } => Ok(None),
-            Frame::InType { around } => {
-                around.discard();
-                Ok(None)
-            }
+            Frame::Range { at, domain } => Ok(refuses(Frame::Range { at, domain })),
+            Frame::InType { around } => Ok(refuses(Frame::InType { around })),
         },
     }
 }

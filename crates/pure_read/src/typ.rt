@@ -1,14 +1,15 @@
 //! Where a token of a type leads to.
-ghost use Rattle.std.specs.Prelude.{◌≡◌, IfOk, [], ◌∷◌, ◌++◌};
+ghost use Rattle.std.specs.Prelude.{◌≡◌, IfOk, Some, None, [], ◌∷◌, ◌++◌};
+ghost use Rattle.pure_grammar.specs.declared.inner.Mark.TheVariants as mark;
 ghost use Rattle.pure_grammar.specs.Terms.InnerReader as spec;
 ghost use Rattle.pure_grammar.specs.Terms.RawTree as tree;
 ghost use Rattle.pure_read.specs.Seen.{seen_lexeme, seen_one};
-ghost use Rattle.pure_read.specs.Frames.{seen_frame, seen_stack, seen_type_open};
+ghost use Rattle.pure_read.specs.Frames.{seen_frame, seen_quantifier, seen_stack, seen_type_open};
 ghost use Rattle.pure_read.specs.States.{seen_next, seen_state};
 ghost use Rattle.pure_read.specs.Parts.{seen_type_part};
 
 use crate::binder::{body_place, bound};
-use crate::frame::{Frame, Popped, Stack, TypeOpen};
+use crate::frame::{Binder, Frame, Popped, Stack, TypeOpen};
 use crate::lexeme::{Lexeme, Written, is_end, is_mark, name_in, opening_at, variable_in};
 use crate::raw::{Raw, RawClass, RawTyp};
 use crate::state::{Place, State, goes, goes_if, type_inside};
@@ -122,6 +123,38 @@ fn argument_ends(
     Ok(None)
 }
 
+/// Behind the type of a binder in parentheses.
+fn binder_ends(
+    binder: Binder,
+    typ: RawTyp,
+    stack: Stack,
+    l: Lexeme<'_>,
+) -> Result<Option<State>, AllocError>
+    ensures { IfOk result (λ next. seen_next next ≡ spec.goes_if (spec.is_mark mark.CloseParenthesis (seen_lexeme l.entry)) (spec.In (spec.AfterBinder (seen_quantifier binder.quantifier)) (spec.bound (seen_quantifier binder.quantifier) binder.at binder.binder binder.var (Some typ) ∷ seen_stack stack))) }
+{
+    let quantifier = binder.quantifier;
+    let stack = stack.with(bound(binder, Some(typ)))?;
+    let place = Place::AfterBinder { quantifier };
+    let closed = is_mark(Mark::CloseParenthesis, l);
+    Ok(goes_if(closed, State::In { place, stack }))
+}
+
+/// Behind the type of the only binder.
+fn only_binder_ends(
+    binder: Binder,
+    typ: RawTyp,
+    stack: Stack,
+    l: Lexeme<'_>,
+) -> Result<Option<State>, AllocError>
+    ensures { IfOk result (λ next. seen_next next ≡ spec.goes_if (spec.is_mark mark.Dot (seen_lexeme l.entry)) (spec.In (spec.body_place (seen_quantifier binder.quantifier)) (spec.bound (seen_quantifier binder.quantifier) binder.at binder.binder binder.var (Some typ) ∷ seen_stack stack))) }
+{
+    let quantifier = binder.quantifier;
+    let stack = stack.with(bound(binder, Some(typ)))?;
+    let place = body_place(quantifier);
+    let dot = is_mark(Mark::Dot, l);
+    Ok(goes_if(dot, State::In { place, stack }))
+}
+
 /// Behind a type, by what it stands in.
 fn open_ends(
     alloc: Global,
@@ -138,22 +171,8 @@ fn open_ends(
             let typed = Raw::typed(alloc, whole, term, typ)?;
             con_ends(alloc, whole, typed, stack, l)
         }
-        TypeOpen::BinderType { binder } => {
-            if !is_mark(Mark::CloseParenthesis, l) {
-                return Ok(None);
-            }
-            let quantifier = binder.quantifier;
-            let stack = stack.with(bound(binder, Some(typ)))?;
-            Ok(goes(Place::AfterBinder { quantifier }, stack))
-        }
-        TypeOpen::OnlyBinderType { binder } => {
-            if !is_mark(Mark::Dot, l) {
-                return Ok(None);
-            }
-            let quantifier = binder.quantifier;
-            let stack = stack.with(bound(binder, Some(typ)))?;
-            Ok(goes(body_place(quantifier), stack))
-        }
+        TypeOpen::BinderType { binder } => binder_ends(binder, typ, stack, l),
+        TypeOpen::OnlyBinderType { binder } => only_binder_ends(binder, typ, stack, l),
         TypeOpen::FirstDomain { at: whole } => domain_ends(whole, typ, stack, l),
         TypeOpen::NextDomain => domain_ends(at, typ, stack, l),
         TypeOpen::EnclosedType { at: whole } => enclosed_ends(alloc, whole, typ, stack, l),
@@ -168,6 +187,14 @@ fn open_ends(
     }
 }
 
+/// No text goes on behind this type in this frame.
+fn refuses(_typ: RawTyp, frame: Frame) -> Option<State>
+    ensures { seen_next result ≡ None }
+{
+    frame.discard();
+    None
+}
+
 /// Behind a whole type.
 fn part_ends(alloc: Global, part: TypePart, l: Lexeme<'_>) -> Result<Option<State>, AllocError>
     ensures { IfOk result (λ next. seen_next next ≡ spec.type_part_ends (seen_type_part part) (seen_lexeme l.entry)) }
@@ -176,12 +203,9 @@ fn part_ends(alloc: Global, part: TypePart, l: Lexeme<'_>) -> Result<Option<Stat
     match stack.pop() {
         Popped::Nothing => Ok(goes_if(is_end(l), State::DoneType { typ })),
         Popped::Open { frame, below } => match frame {
-            Frame::Joined { join } => {
-                join.discard();
-                Ok(None)
-            }
-            Frame::InTerm { .. } => Ok(None),
-            Frame::Range { .. } => Ok(None),
+            Frame::Joined { join } => Ok(refuses(typ, Frame::Joined { join })),
+            Frame::InTerm { around } => Ok(refuses(typ, Frame::InTerm { around })),
+            Frame::Range { at, domain } => Ok(refuses(typ, Frame::Range { at, domain })),
             Frame::InType { around } => open_ends(alloc, at, typ, around, below, l),
         },
     }
