@@ -100,6 +100,15 @@ pub(crate) fn type_inside(stack: Stack, around: TypeOpen) -> Result<Option<State
 /// Drops the place. Apart, since each function that drops one itself pays for all its variants.
 pub(crate) fn discard(_place: Place) {}
 
+/// Drops the state.
+fn discard_state(state: State) {
+    match state {
+        State::In { place, .. } => discard(place),
+        State::DoneTerm { .. } => {}
+        State::DoneType { .. } => {}
+    }
+}
+
 /// To the state, if so.
 pub(crate) fn goes_if(so: bool, state: State) -> Option<State>
     ensures { seen_next result ≡ spec.goes_if so (seen_state state) }
@@ -107,10 +116,6 @@ pub(crate) fn goes_if(so: bool, state: State) -> Option<State>
     if so {
         return Some(state);
     }
-    match state {
-        State::In { place, .. } => discard(place),
-        State::DoneTerm { .. } => {}
-        State::DoneType { .. } => {}
-    }
+    discard_state(state);
     None
 }
