@@ -21,18 +21,18 @@ seen_quantifier quantifier.Lambda = spec.OfLambda
 
 abbrev pub seen_join : Join → spec.Join
 seen_join (LambdaBody at x T) = spec.LambdaBody at x T
-seen_join (RightSide at left) = spec.RightSide at left
-seen_join (Conclusion at a) = spec.Conclusion at a
+seen_join (RightSide at left) = spec.RightSide at left.value
+seen_join (Conclusion at a) = spec.Conclusion at a.value
 seen_join (AllBody at b x T) = spec.AllBody at b x T
 
 abbrev pub seen_term_open : TermOpen → spec.TermOpen
 seen_term_open (FirstPremise at) = spec.FirstPremise at
 seen_term_open NextPremise = spec.NextPremise
 seen_term_open (Enclosed at) = spec.Enclosed at
-seen_term_open (Argument at f) = spec.Argument at f
+seen_term_open (Argument at f) = spec.Argument at f.value
 
 abbrev pub seen_type_open : TypeOpen → spec.TypeOpen
-seen_type_open (Constraint at t) = spec.Constraint at t
+seen_type_open (Constraint at t) = spec.Constraint at t.value
 seen_type_open (BinderType b) = spec.BinderType (seen_quantifier b.quantifier) b.at b.binder b.var
 seen_type_open (OnlyBinderType b) = spec.OnlyBinderType (seen_quantifier b.quantifier) b.at b.binder b.var
 seen_type_open (FirstDomain at) = spec.FirstDomain at

@@ -5,7 +5,7 @@ use Rattle.pure_read.specs.declared.term.TermPart.{TermPart}
 use Rattle.pure_read.specs.declared.typ.TypePart.{TypePart}
 
 abbrev pub seen_term_part : TermPart → spec.TermPart
-seen_term_part p = record { at = p.at; term = p.term; stack = seen_stack p.stack }
+seen_term_part p = record { at = p.at; term = p.term.value; stack = seen_stack p.stack }
 
 abbrev pub seen_type_part : TypePart → spec.TypePart
 seen_type_part p = record { at = p.at; typ = p.typ; stack = seen_stack p.stack }

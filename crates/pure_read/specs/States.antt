@@ -11,7 +11,7 @@ use Rattle.pure_read.specs.declared.state.State.TheVariants.{In, DoneTerm, DoneT
 abbrev pub seen_place : Place → spec.Place
 seen_place AtTerm = spec.AtTerm
 seen_place AtCon = spec.AtCon
-seen_place (AfterAtom at app) = spec.AfterAtom at app
+seen_place (AfterAtom at app) = spec.AfterAtom at app.value
 seen_place AtImplies = spec.AtImplies
 seen_place (AtBinder q at) = spec.AtBinder (seen_quantifier q) at
 seen_place (AfterFirstVar b) = spec.AfterFirstVar (seen_quantifier b.quantifier) b.at b.binder b.var
@@ -30,7 +30,7 @@ seen_place AtArrow = spec.AtArrow
 
 abbrev pub seen_state : State → spec.State
 seen_state (In place stack) = spec.In (seen_place place) (seen_stack stack)
-seen_state (DoneTerm t) = spec.DoneTerm t
+seen_state (DoneTerm t) = spec.DoneTerm t.value
 seen_state (DoneType t) = spec.DoneType t
 
 abbrev pub seen_next : Option State → Option spec.State

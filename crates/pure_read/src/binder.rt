@@ -8,7 +8,7 @@ ghost use Rattle.pure_read.specs.States.{seen_next, seen_place};
 use crate::frame::{Binder, Frame, Join, Quantifier, Stack, TypeOpen};
 use crate::lexeme::{Lexeme, is_mark, opening_at, var_in};
 use crate::raw::RawTyp;
-use crate::state::{Place, State, goes};
+use crate::state::{Place, State, goes, type_inside};
 use pure_grammar::{Mark, Opening};
 use std::alloc::{AllocError, Global};
 
@@ -123,8 +123,7 @@ pub(crate) fn after_first_var(
     ensures { IfOk result (λ next. seen_next next ≡ spec.after_first_var (seen_quantifier binder.quantifier) binder.at binder.binder binder.var (seen_stack stack) (seen_lexeme l.entry)) }
 {
     if is_mark(Mark::DoubleColon, l) {
-        let around = TypeOpen::OnlyBinderType { binder };
-        return Ok(goes(Place::AtType, stack.with(Frame::InType { around })?));
+        return type_inside(stack, TypeOpen::OnlyBinderType { binder });
     }
     let quantifier = binder.quantifier;
     let stack = stack.with(bound(binder, None))?;
@@ -165,8 +164,7 @@ pub(crate) fn after_binder_var(
     ensures { IfOk result (λ next. seen_next next ≡ spec.turn (spec.AfterBinderVar (seen_quantifier binder.quantifier) binder.at binder.binder binder.var) (seen_stack stack) (seen_lexeme l.entry)) }
 {
     if is_mark(Mark::DoubleColon, l) {
-        let around = TypeOpen::BinderType { binder };
-        return Ok(goes(Place::AtType, stack.with(Frame::InType { around })?));
+        return type_inside(stack, TypeOpen::BinderType { binder });
     }
     Ok(None)
 }

@@ -34,11 +34,11 @@ pub(crate) enum Join {
     },
     RightSide {
         at: u32,
-        left: Raw,
+        left: Box<Raw>,
     },
     Conclusion {
         at: u32,
-        premise: Raw,
+        premise: Box<Raw>,
     },
     AllBody {
         at: u32,
@@ -54,14 +54,14 @@ pub(crate) enum TermOpen {
     FirstPremise { at: u32 },
     NextPremise,
     Enclosed { at: u32 },
-    Argument { at: u32, function: Raw },
+    Argument { at: u32, function: Box<Raw> },
 }
 
 /// What a type stands in: a constraint on a term, a binder in parentheses, a binder by itself, a list of domains,
 /// parentheses, or parentheses with arguments before it.
 #[derive(Drop)]
 pub(crate) enum TypeOpen {
-    Constraint { at: u32, term: Raw },
+    Constraint { at: u32, term: Box<Raw> },
     BinderType { binder: Binder },
     OnlyBinderType { binder: Binder },
     FirstDomain { at: u32 },
@@ -126,6 +126,16 @@ impl Stack {
 }
 
 impl Frame {
+    /// Drops it. Apart, since each function that drops one itself pays for all its variants.
+    pub(crate) fn discard(self) {
+        match self {
+            Frame::Joined { join } => join.discard(),
+            Frame::InTerm { .. } => {}
+            Frame::Range { .. } => {}
+            Frame::InType { around } => around.discard(),
+        }
+    }
+
     /// Whether it is the right side of `==`.
     pub(crate) fn is_right_side(&self) -> bool
         ensures { result ≡ spec.is_right_side (seen_frame self.now) }
@@ -139,7 +149,15 @@ impl Frame {
     }
 }
 
+impl TypeOpen {
+    /// Drops it.
+    pub(crate) fn discard(self) {}
+}
+
 impl Join {
+    /// Drops it.
+    pub(crate) fn discard(self) {}
+
     /// How tightly: what has at least the level of a token ends before it.
     pub(crate) fn level(&self) -> u8
         ensures { result ≡ spec.join_level (seen_join self.now) }
@@ -165,8 +183,8 @@ impl Join {
     }
 
     /// The whole, with the term that ends it.
-    pub(crate) fn term(self, alloc: Global, term: Raw) -> Result<Raw, AllocError>
-        ensures { IfOk result (λ whole. whole ≡ spec.join_term (seen_join self) term) }
+    pub(crate) fn term(self, alloc: Global, term: Box<Raw>) -> Result<Box<Raw>, AllocError>
+        ensures { IfOk result (λ whole. whole.value ≡ spec.join_term (seen_join self) term.value) }
     {
         match self {
             Join::LambdaBody { at, var, typ } => Raw::abs(alloc, at, var, typ, term),

@@ -129,12 +129,16 @@ impl Model for Raw {
 
 impl Raw {
     /// A variable or constant.
-    pub(crate) fn leaf(at: u32, kind: TokenKind, text: Text) -> Raw
-        ensures { result ≡ tree.Leaf at kind text }
+    pub(crate) fn leaf(
+        alloc: Global,
+        at: u32,
+        kind: TokenKind,
+        text: Text,
+    ) -> Result<Box<Raw>, AllocError>
+        ensures { IfOk result (λ t. t.value ≡ tree.Leaf at kind text) }
     {
-        Raw {
-            node: RawNode::Leaf { at, kind, text },
-        }
+        let node = RawNode::Leaf { at, kind, text };
+        Ok(Box::new(alloc, Raw { node })?)
     }
 
     /// An abstraction.
@@ -143,68 +147,74 @@ impl Raw {
         at: u32,
         var: Text,
         typ: Option<RawTyp>,
-        body: Raw,
-    ) -> Result<Raw, AllocError>
-        ensures { IfOk result (λ t. t ≡ tree.Abs at var typ body) }
+        body: Box<Raw>,
+    ) -> Result<Box<Raw>, AllocError>
+        ensures { IfOk result (λ t. t.value ≡ tree.Abs at var typ body.value) }
     {
-        let body = Box::new(alloc, body)?;
-        Ok(Raw {
-            node: RawNode::Abs { at, var, typ, body },
-        })
+        let node = RawNode::Abs { at, var, typ, body };
+        Ok(Box::new(alloc, Raw { node })?)
     }
 
     /// `fun arg`.
-    pub(crate) fn app(alloc: Global, at: u32, fun: Raw, arg: Raw) -> Result<Raw, AllocError>
-        ensures { IfOk result (λ t. t ≡ tree.App at fun arg) }
+    pub(crate) fn app(
+        alloc: Global,
+        at: u32,
+        fun: Box<Raw>,
+        arg: Box<Raw>,
+    ) -> Result<Box<Raw>, AllocError>
+        ensures { IfOk result (λ t. t.value ≡ tree.App at fun.value arg.value) }
     {
-        let fun = Box::new(alloc, fun)?;
-        let arg = Box::new(alloc, arg)?;
-        Ok(Raw {
-            node: RawNode::App { at, fun, arg },
-        })
+        let node = RawNode::App { at, fun, arg };
+        Ok(Box::new(alloc, Raw { node })?)
     }
 
     /// `term :: typ`.
-    pub(crate) fn typed(alloc: Global, at: u32, term: Raw, typ: RawTyp) -> Result<Raw, AllocError>
-        ensures { IfOk result (λ t. t ≡ tree.Typed at term typ) }
+    pub(crate) fn typed(
+        alloc: Global,
+        at: u32,
+        term: Box<Raw>,
+        typ: RawTyp,
+    ) -> Result<Box<Raw>, AllocError>
+        ensures { IfOk result (λ t. t.value ≡ tree.Typed at term.value typ) }
     {
-        let term = Box::new(alloc, term)?;
-        Ok(Raw {
-            node: RawNode::Typed { at, term, typ },
-        })
+        let node = RawNode::Typed { at, term, typ };
+        Ok(Box::new(alloc, Raw { node })?)
     }
 
     /// A constant of the notation.
-    fn constant(alloc: Global, at: u32, name: &[u8]) -> Result<Raw, AllocError>
-        ensures { IfOk result (λ t. t ≡ tree.constant at name.now) }
+    fn constant(alloc: Global, at: u32, name: &[u8]) -> Result<Box<Raw>, AllocError>
+        ensures { IfOk result (λ t. t.value ≡ tree.constant at name.now) }
     {
-        Ok(Raw::leaf(at, TokenKind::Qualified, Text::make(alloc, name)?))
+        let text = Text::make(alloc, name)?;
+        Raw::leaf(alloc, at, TokenKind::Qualified, text)
     }
 
     /// `premise ==> conclusion`.
     pub(crate) fn implication(
         alloc: Global,
         at: u32,
-        premise: Raw,
-        conclusion: Raw,
-    ) -> Result<Raw, AllocError>
-        ensures { IfOk result (λ t. t ≡ tree.implication at premise conclusion) }
+        premise: Box<Raw>,
+        conclusion: Box<Raw>,
+    ) -> Result<Box<Raw>, AllocError>
+        ensures { IfOk result (λ t. t.value ≡ tree.implication at premise.value conclusion.value) }
     {
         let constant = Raw::constant(alloc, at, b"Pure.imp")?;
-        Raw::app(
-            alloc,
-            at,
-            Raw::app(alloc, at, constant, premise)?,
-            conclusion,
-        )
+        let function = Raw::app(alloc, at, constant, premise)?;
+        Raw::app(alloc, at, function, conclusion)
     }
 
     /// `left == right`.
-    pub(crate) fn equation(alloc: Global, at: u32, left: Raw, right: Raw) -> Result<Raw, AllocError>
-        ensures { IfOk result (λ t. t ≡ tree.equation at left right) }
+    pub(crate) fn equation(
+        alloc: Global,
+        at: u32,
+        left: Box<Raw>,
+        right: Box<Raw>,
+    ) -> Result<Box<Raw>, AllocError>
+        ensures { IfOk result (λ t. t.value ≡ tree.equation at left.value right.value) }
     {
         let constant = Raw::constant(alloc, at, b"Pure.eq")?;
-        Raw::app(alloc, at, Raw::app(alloc, at, constant, left)?, right)
+        let function = Raw::app(alloc, at, constant, left)?;
+        Raw::app(alloc, at, function, right)
     }
 
     /// `!!var. body`, with its binder at the place `binder`.
@@ -214,17 +224,13 @@ impl Raw {
         binder: u32,
         var: Text,
         typ: Option<RawTyp>,
-        body: Raw,
-    ) -> Result<Raw, AllocError>
-        ensures { IfOk result (λ t. t ≡ tree.generality at binder var typ body) }
+        body: Box<Raw>,
+    ) -> Result<Box<Raw>, AllocError>
+        ensures { IfOk result (λ t. t.value ≡ tree.generality at binder var typ body.value) }
     {
+        let predicate = Raw::abs(alloc, binder, var, typ, body)?;
         let constant = Raw::constant(alloc, at, b"Pure.all")?;
-        Raw::app(
-            alloc,
-            at,
-            constant,
-            Raw::abs(alloc, binder, var, typ, body)?,
-        )
+        Raw::app(alloc, at, constant, predicate)
     }
 }
 

@@ -10,7 +10,7 @@ ghost use Rattle.pure_read.specs.Stuck.{IsStuckAs, IsTooLong, IsTermFaultOf, IsT
 use crate::frame::Stack;
 use crate::lexeme::{Lexeme, lexeme_of};
 use crate::raw::{Raw, RawTyp};
-use crate::state::{Place, State};
+use crate::state::{Place, State, discard};
 use crate::turn::next;
 use pure_grammar::Token;
 use std::alloc::{AllocError, Global};
@@ -86,9 +86,12 @@ pub fn read_raw(alloc: Global, source: &[u8], tokens: &[Token]) -> Result<Raw, R
     let stack = Stack::empty(alloc);
     match run(alloc, State::In { place, stack }, source, tokens) {
         Err(fault) => Err(fault),
-        Ok(State::DoneTerm { term }) => Ok(term),
+        Ok(State::DoneTerm { term }) => Ok(Box::into_inner(term)),
         Ok(State::DoneType { .. }) => Err(end_fault(source)),
-        Ok(State::In { .. }) => Err(end_fault(source)),
+        Ok(State::In { place, .. }) => {
+            discard(place);
+            Err(end_fault(source))
+        }
     }
 }
 
@@ -110,6 +113,9 @@ pub fn read_raw_typ(alloc: Global, source: &[u8], tokens: &[Token]) -> Result<Ra
         Err(fault) => Err(fault),
         Ok(State::DoneType { typ }) => Ok(typ),
         Ok(State::DoneTerm { .. }) => Err(end_fault(source)),
-        Ok(State::In { .. }) => Err(end_fault(source)),
+        Ok(State::In { place, .. }) => {
+            discard(place);
+            Err(end_fault(source))
+        }
     }
 }

@@ -1,12 +1,13 @@
 //! The places of a text of terms and types.
-ghost use Rattle.std.specs.Prelude.{◌≡◌, Some};
+ghost use Rattle.std.specs.Prelude.{◌≡◌, ◌∷◌, IfOk, Some};
 ghost use Rattle.pure_grammar.specs.Terms.InnerReader as spec;
-ghost use Rattle.pure_read.specs.Frames.{seen_stack};
+ghost use Rattle.pure_read.specs.Frames.{seen_stack, seen_term_open, seen_type_open};
 ghost use Rattle.pure_read.specs.States.{seen_place, seen_state, seen_next};
 
-use crate::frame::{Binder, Quantifier, Stack};
+use crate::frame::{Binder, Frame, Quantifier, Stack, TermOpen, TypeOpen};
 use crate::lexeme::Written;
 use crate::raw::{Raw, RawClass, RawTyp};
+use std::alloc::AllocError;
 
 /// A place in the text, with what was read of the part that it is in.
 #[derive(Drop)]
@@ -15,7 +16,7 @@ pub(crate) enum Place {
     AtCon,
     AfterAtom {
         at: u32,
-        app: Raw,
+        app: Box<Raw>,
     },
     AtImplies,
     AtBinder {
@@ -69,7 +70,7 @@ pub(crate) enum Place {
 #[derive(Drop)]
 pub(crate) enum State {
     In { place: Place, stack: Stack },
-    DoneTerm { term: Raw },
+    DoneTerm { term: Box<Raw> },
     DoneType { typ: RawTyp },
 }
 
@@ -80,9 +81,41 @@ pub(crate) fn goes(place: Place, stack: Stack) -> Option<State>
     Some(State::In { place, stack })
 }
 
+/// To a term that stands in this.
+pub(crate) fn term_inside(stack: Stack, around: TermOpen) -> Result<Option<State>, AllocError>
+    ensures { IfOk result (λ next. seen_next next ≡ Some (spec.In spec.AtTerm (spec.InTerm (seen_term_open around) ∷ seen_stack stack))) }
+{
+    let stack = stack.with(Frame::InTerm { around })?;
+    Ok(goes(Place::AtTerm, stack))
+}
+
+/// To a type that stands in this.
+pub(crate) fn type_inside(stack: Stack, around: TypeOpen) -> Result<Option<State>, AllocError>
+    ensures { IfOk result (λ next. seen_next next ≡ Some (spec.In spec.AtType (spec.InType (seen_type_open around) ∷ seen_stack stack))) }
+{
+    let stack = stack.with(Frame::InType { around })?;
+    Ok(goes(Place::AtType, stack))
+}
+
+/// Drops the place. Apart, since each function that drops one itself pays for all its variants.
+pub(crate) fn discard(_place: Place) {}
+
+/// Drops the state.
+fn discard_state(state: State) {
+    match state {
+        State::In { place, .. } => discard(place),
+        State::DoneTerm { .. } => {}
+        State::DoneType { .. } => {}
+    }
+}
+
 /// To the state, if so.
 pub(crate) fn goes_if(so: bool, state: State) -> Option<State>
     ensures { seen_next result ≡ spec.goes_if so (seen_state state) }
 {
-    if so { Some(state) } else { None }
+    if so {
+        return Some(state);
+    }
+    discard_state(state);
+    None
 }

@@ -1,5 +1,5 @@
 //! Where a token of a term leads to.
-ghost use Rattle.std.specs.Prelude.{◌≡◌, IfOk, ◌∷◌, Some};
+ghost use Rattle.std.specs.Prelude.{◌≡◌, IfOk, ◌∷◌, Some, None};
 ghost use Rattle.pure_grammar.specs.Terms.InnerReader as spec;
 ghost use Rattle.pure_read.specs.Seen.{seen_lexeme, seen_one};
 ghost use Rattle.pure_read.specs.Frames.{seen_frame, seen_stack, seen_term_open};
@@ -9,7 +9,7 @@ ghost use Rattle.pure_read.specs.Parts.{seen_term_part};
 use crate::frame::{Frame, Join, Popped, Quantifier, Stack, TermOpen, TypeOpen};
 use crate::lexeme::{Lexeme, Written, is_end, is_mark, leaf_in, opening_at};
 use crate::raw::Raw;
-use crate::state::{Place, State, goes, goes_if};
+use crate::state::{Place, State, goes, goes_if, term_inside, type_inside};
 use pure_grammar::{Mark, Opening};
 use std::alloc::{AllocError, Global};
 
@@ -17,20 +17,20 @@ use std::alloc::{AllocError, Global};
 #[derive(Drop)]
 pub(crate) struct TermPart {
     pub(crate) at: u32,
-    pub(crate) term: Raw,
+    pub(crate) term: Box<Raw>,
     pub(crate) stack: Stack,
 }
 
 /// A name or a variable as a term.
-fn leaf(written: Written) -> Raw
-    ensures { result ≡ spec.leaf (seen_one written) }
+fn leaf(alloc: Global, written: Written) -> Result<Box<Raw>, AllocError>
+    ensures { IfOk result (λ t. t.value ≡ spec.leaf (seen_one written)) }
 {
-    Raw::leaf(written.at, written.kind, written.text)
+    Raw::leaf(alloc, written.at, written.kind, written.text)
 }
 
 /// The term, which no frame that is given ends.
-fn kept(at: u32, term: Raw, below: Stack, frame: Frame) -> Result<TermPart, AllocError>
-    ensures { IfOk result (λ part. seen_term_part part ≡ record { at = at; term = term; stack = seen_frame frame ∷ seen_stack below }) }
+fn kept(at: u32, term: Box<Raw>, below: Stack, frame: Frame) -> Result<TermPart, AllocError>
+    ensures { IfOk result (λ part. seen_term_part part ≡ record { at = at; term = term.value; stack = seen_frame frame ∷ seen_stack below }) }
 {
     let stack = below.with(frame)?;
     Ok(TermPart { at, term, stack })
@@ -41,10 +41,10 @@ pub(crate) fn reduced(
     alloc: Global,
     level: u8,
     at: u32,
-    term: Raw,
+    term: Box<Raw>,
     stack: Stack,
 ) -> Result<TermPart, AllocError>
-    ensures { IfOk result (λ part. seen_term_part part ≡ spec.reduced level at term (seen_stack stack)) }
+    ensures { IfOk result (λ part. seen_term_part part ≡ spec.reduced level at term.value (seen_stack stack)) }
 {
     let mut at = at;
     let mut term = term;
@@ -73,8 +73,8 @@ pub(crate) fn reduced(
 }
 
 /// Behind the left side of an equation.
-fn at_right_side(at: u32, left: Raw, stack: Stack) -> Result<Option<State>, AllocError>
-    ensures { IfOk result (λ next. seen_next next ≡ Some (spec.In spec.AtCon (spec.Joined (spec.RightSide at left) ∷ seen_stack stack))) }
+fn at_right_side(at: u32, left: Box<Raw>, stack: Stack) -> Result<Option<State>, AllocError>
+    ensures { IfOk result (λ next. seen_next next ≡ Some (spec.In spec.AtCon (spec.Joined (spec.RightSide at left.value) ∷ seen_stack stack))) }
 {
     let join = Join::RightSide { at, left };
     let stack = stack.with(Frame::Joined { join })?;
@@ -90,6 +90,7 @@ fn equals(alloc: Global, part: TermPart) -> Result<Option<State>, AllocError>
         Popped::Nothing => at_right_side(at, term, Stack::empty(alloc)),
         Popped::Open { frame, below } => {
             if frame.is_right_side() {
+                frame.discard();
                 return Ok(None);
             }
             at_right_side(at, term, below.with(frame)?)
@@ -112,17 +113,16 @@ fn implies(part: TermPart) -> Result<Option<State>, AllocError>
 /// Behind a premise in a list.
 fn premise_ends(
     at: u32,
-    premise: Raw,
+    premise: Box<Raw>,
     stack: Stack,
     l: Lexeme<'_>,
 ) -> Result<Option<State>, AllocError>
-    ensures { IfOk result (λ next. seen_next next ≡ spec.premise_ends (spec.Joined (spec.Conclusion at premise) ∷ seen_stack stack) (seen_lexeme l.entry)) }
+    ensures { IfOk result (λ next. seen_next next ≡ spec.premise_ends (spec.Joined (spec.Conclusion at premise.value) ∷ seen_stack stack) (seen_lexeme l.entry)) }
 {
     let join = Join::Conclusion { at, premise };
     let stack = stack.with(Frame::Joined { join })?;
     if is_mark(Mark::Semicolon, l) {
-        let around = TermOpen::NextPremise;
-        return Ok(goes(Place::AtTerm, stack.with(Frame::InTerm { around })?));
+        return term_inside(stack, TermOpen::NextPremise);
     }
     if is_mark(Mark::ClosePremises, l) {
         return Ok(goes(Place::AtImplies, stack));
@@ -134,12 +134,12 @@ fn premise_ends(
 fn open_ends(
     alloc: Global,
     at: u32,
-    term: Raw,
+    term: Box<Raw>,
     around: TermOpen,
     stack: Stack,
     l: Lexeme<'_>,
 ) -> Result<Option<State>, AllocError>
-    ensures { IfOk result (λ next. seen_next next ≡ spec.open_ends at term (seen_term_open around) (seen_stack stack) (seen_lexeme l.entry)) }
+    ensures { IfOk result (λ next. seen_next next ≡ spec.open_ends at term.value (seen_term_open around) (seen_stack stack) (seen_lexeme l.entry)) }
 {
     let closed = is_mark(Mark::CloseParenthesis, l);
     match around {
@@ -163,6 +163,14 @@ fn open_ends(
     }
 }
 
+/// No text goes on behind a term in this frame.
+fn refuses(frame: Frame) -> Option<State>
+    ensures { seen_next result ≡ None }
+{
+    frame.discard();
+    None
+}
+
 /// Behind a whole term.
 fn part_ends(alloc: Global, part: TermPart, l: Lexeme<'_>) -> Result<Option<State>, AllocError>
     ensures { IfOk result (λ next. seen_next next ≡ spec.part_ends (seen_term_part part) (seen_lexeme l.entry)) }
@@ -171,10 +179,10 @@ fn part_ends(alloc: Global, part: TermPart, l: Lexeme<'_>) -> Result<Option<Stat
     match stack.pop() {
         Popped::Nothing => Ok(goes_if(is_end(l), State::DoneTerm { term })),
         Popped::Open { frame, below } => match frame {
-            Frame::Joined { .. } => Ok(None),
+            Frame::Joined { join } => Ok(refuses(Frame::Joined { join })),
             Frame::InTerm { around } => open_ends(alloc, at, term, around, below, l),
-            Frame::Range { .. } => Ok(None),
-            Frame::InType { .. } => Ok(None),
+            Frame::Range { at, domain } => Ok(refuses(Frame::Range { at, domain })),
+            Frame::InType { around } => Ok(refuses(Frame::InType { around })),
         },
     }
 }
@@ -183,11 +191,11 @@ fn part_ends(alloc: Global, part: TermPart, l: Lexeme<'_>) -> Result<Option<Stat
 pub(crate) fn con_ends(
     alloc: Global,
     at: u32,
-    term: Raw,
+    term: Box<Raw>,
     stack: Stack,
     l: Lexeme<'_>,
 ) -> Result<Option<State>, AllocError>
-    ensures { IfOk result (λ next. seen_next next ≡ spec.con_ends at term (seen_stack stack) (seen_lexeme l.entry)) }
+    ensures { IfOk result (λ next. seen_next next ≡ spec.con_ends at term.value (seen_stack stack) (seen_lexeme l.entry)) }
 {
     if is_mark(Mark::Equals, l) {
         return equals(alloc, reduced(alloc, 3, at, term, stack)?);
@@ -202,15 +210,14 @@ pub(crate) fn con_ends(
 fn after_leaf(
     alloc: Global,
     at: u32,
-    function: Raw,
+    function: Box<Raw>,
     stack: Stack,
     l: Lexeme<'_>,
 ) -> Result<Option<State>, AllocError>
-    ensures { IfOk result (λ next. seen_next next ≡ spec.after_leaf at function (seen_stack stack) (seen_lexeme l.entry)) }
+    ensures { IfOk result (λ next. seen_next next ≡ spec.after_leaf at function.value (seen_stack stack) (seen_lexeme l.entry)) }
 {
     if is_mark(Mark::DoubleColon, l) {
-        let around = TypeOpen::Constraint { at, term: function };
-        return Ok(goes(Place::AtType, stack.with(Frame::InType { around })?));
+        return type_inside(stack, TypeOpen::Constraint { at, term: function });
     }
     con_ends(alloc, at, function, stack, l)
 }
@@ -219,20 +226,21 @@ fn after_leaf(
 pub(crate) fn after_atom(
     alloc: Global,
     at: u32,
-    function: Raw,
+    function: Box<Raw>,
     stack: Stack,
     l: Lexeme<'_>,
 ) -> Result<Option<State>, AllocError>
-    ensures { IfOk result (λ next. seen_next next ≡ spec.after_atom at function (seen_stack stack) (seen_lexeme l.entry)) }
+    ensures { IfOk result (λ next. seen_next next ≡ spec.after_atom at function.value (seen_stack stack) (seen_lexeme l.entry)) }
 {
     match opening_at(Opening::Parenthesis, l) {
         Some(_) => {
             let around = TermOpen::Argument { at, function };
-            Ok(goes(Place::AtTerm, stack.with(Frame::InTerm { around })?))
+            term_inside(stack, around)
         }
         None => match leaf_in(alloc, l)? {
             Some(written) => {
-                let app = Raw::app(alloc, at, function, leaf(written))?;
+                let argument = leaf(alloc, written)?;
+                let app = Raw::app(alloc, at, function, argument)?;
                 Ok(goes(Place::AfterAtom { at, app }, stack))
             }
             None => after_leaf(alloc, at, function, stack, l),
@@ -247,12 +255,12 @@ fn atom_begun(alloc: Global, stack: Stack, l: Lexeme<'_>) -> Result<Option<State
     match opening_at(Opening::Parenthesis, l) {
         Some(at) => {
             let around = TermOpen::Enclosed { at };
-            Ok(goes(Place::AtTerm, stack.with(Frame::InTerm { around })?))
+            term_inside(stack, around)
         }
         None => match leaf_in(alloc, l)? {
             Some(written) => {
                 let at = written.at;
-                let app = leaf(written);
+                let app = leaf(alloc, written)?;
                 Ok(goes(Place::AfterAtom { at, app }, stack))
             }
             None => Ok(None),
@@ -293,7 +301,7 @@ pub(crate) fn term_begun(
         None => match opening_at(Opening::Premises, l) {
             Some(at) => {
                 let around = TermOpen::FirstPremise { at };
-                Ok(goes(Place::AtTerm, stack.with(Frame::InTerm { around })?))
+                term_inside(stack, around)
             }
             None => con_begun(alloc, stack, l),
         },

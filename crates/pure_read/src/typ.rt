@@ -1,17 +1,18 @@
 //! Where a token of a type leads to.
-ghost use Rattle.std.specs.Prelude.{◌≡◌, IfOk, [], ◌∷◌, ◌++◌};
+ghost use Rattle.std.specs.Prelude.{◌≡◌, IfOk, Some, None, [], ◌∷◌, ◌++◌};
+ghost use Rattle.pure_grammar.specs.declared.inner.Mark.TheVariants as mark;
 ghost use Rattle.pure_grammar.specs.Terms.InnerReader as spec;
 ghost use Rattle.pure_grammar.specs.Terms.RawTree as tree;
 ghost use Rattle.pure_read.specs.Seen.{seen_lexeme, seen_one};
-ghost use Rattle.pure_read.specs.Frames.{seen_frame, seen_stack, seen_type_open};
+ghost use Rattle.pure_read.specs.Frames.{seen_frame, seen_quantifier, seen_stack, seen_type_open};
 ghost use Rattle.pure_read.specs.States.{seen_next, seen_state};
 ghost use Rattle.pure_read.specs.Parts.{seen_type_part};
 
 use crate::binder::{body_place, bound};
-use crate::frame::{Frame, Popped, Stack, TypeOpen};
+use crate::frame::{Binder, Frame, Popped, Stack, TypeOpen};
 use crate::lexeme::{Lexeme, Written, is_end, is_mark, name_in, opening_at, variable_in};
 use crate::raw::{Raw, RawClass, RawTyp};
-use crate::state::{Place, State, goes, goes_if};
+use crate::state::{Place, State, goes, goes_if, type_inside};
 use crate::term::con_ends;
 use pure_grammar::{Mark, Opening};
 use std::alloc::{AllocError, Global};
@@ -75,8 +76,7 @@ fn domain_ends(
 {
     let stack = stack.with(Frame::Range { at, domain })?;
     if is_mark(Mark::Comma, l) {
-        let around = TypeOpen::NextDomain;
-        return Ok(goes(Place::AtType, stack.with(Frame::InType { around })?));
+        return type_inside(stack, TypeOpen::NextDomain);
     }
     if is_mark(Mark::CloseBracket, l) {
         return Ok(goes(Place::AtArrow, stack));
@@ -97,8 +97,7 @@ fn enclosed_ends(
     if is_mark(Mark::Comma, l) {
         let mut arguments = Vec::new(alloc);
         arguments.push(typ)?;
-        let around = TypeOpen::MoreArguments { at, arguments };
-        return Ok(goes(Place::AtType, stack.with(Frame::InType { around })?));
+        return type_inside(stack, TypeOpen::MoreArguments { at, arguments });
     }
     if is_mark(Mark::CloseParenthesis, l) {
         return Ok(goes(Place::AfterPost { at, typ }, stack));
@@ -116,13 +115,44 @@ fn argument_ends(
     ensures { IfOk result (λ next. seen_next next ≡ spec.argument_ends at arguments.items (spec.In (spec.AtConstructor at arguments.items) (seen_stack stack)) (seen_stack stack) (seen_lexeme l.entry)) }
 {
     if is_mark(Mark::Comma, l) {
-        let around = TypeOpen::MoreArguments { at, arguments };
-        return Ok(goes(Place::AtType, stack.with(Frame::InType { around })?));
+        return type_inside(stack, TypeOpen::MoreArguments { at, arguments });
     }
     if is_mark(Mark::CloseParenthesis, l) {
         return Ok(goes(Place::AtConstructor { at, arguments }, stack));
     }
     Ok(None)
+}
+
+/// Behind the type of a binder in parentheses.
+fn binder_ends(
+    binder: Binder,
+    typ: RawTyp,
+    stack: Stack,
+    l: Lexeme<'_>,
+) -> Result<Option<State>, AllocError>
+    ensures { IfOk result (λ next. seen_next next ≡ spec.goes_if (spec.is_mark mark.CloseParenthesis (seen_lexeme l.entry)) (spec.In (spec.AfterBinder (seen_quantifier binder.quantifier)) (spec.bound (seen_quantifier binder.quantifier) binder.at binder.binder binder.var (Some typ) ∷ seen_stack stack))) }
+{
+    let quantifier = binder.quantifier;
+    let stack = stack.with(bound(binder, Some(typ)))?;
+    let place = Place::AfterBinder { quantifier };
+    let closed = is_mark(Mark::CloseParenthesis, l);
+    Ok(goes_if(closed, State::In { place, stack }))
+}
+
+/// Behind the type of the only binder.
+fn only_binder_ends(
+    binder: Binder,
+    typ: RawTyp,
+    stack: Stack,
+    l: Lexeme<'_>,
+) -> Result<Option<State>, AllocError>
+    ensures { IfOk result (λ next. seen_next next ≡ spec.goes_if (spec.is_mark mark.Dot (seen_lexeme l.entry)) (spec.In (spec.body_place (seen_quantifier binder.quantifier)) (spec.bound (seen_quantifier binder.quantifier) binder.at binder.binder binder.var (Some typ) ∷ seen_stack stack))) }
+{
+    let quantifier = binder.quantifier;
+    let stack = stack.with(bound(binder, Some(typ)))?;
+    let place = body_place(quantifier);
+    let dot = is_mark(Mark::Dot, l);
+    Ok(goes_if(dot, State::In { place, stack }))
 }
 
 /// Behind a type, by what it stands in.
@@ -141,21 +171,8 @@ fn open_ends(
             let typed = Raw::typed(alloc, whole, term, typ)?;
             con_ends(alloc, whole, typed, stack, l)
         }
-        TypeOpen::BinderType { binder } => {
-            if !is_mark(Mark::CloseParenthesis, l) {
-                return Ok(None);
-            }
-            let quantifier = binder.quantifier;
-            let stack = stack.with(bound(binder, Some(typ)))?;
-            Ok(goes(Place::AfterBinder { quantifier }, stack))
-        }
-        TypeOpen::OnlyBinderType { binder } => {
-            if !is_mark(Mark::Dot, l) {
-                return Ok(None);
-            }
-            let place = body_place(binder.quantifier);
-            Ok(goes(place, stack.with(bound(binder, Some(typ)))?))
-        }
+        TypeOpen::BinderType { binder } => binder_ends(binder, typ, stack, l),
+        TypeOpen::OnlyBinderType { binder } => only_binder_ends(binder, typ, stack, l),
         TypeOpen::FirstDomain { at: whole } => domain_ends(whole, typ, stack, l),
         TypeOpen::NextDomain => domain_ends(at, typ, stack, l),
         TypeOpen::EnclosedType { at: whole } => enclosed_ends(alloc, whole, typ, stack, l),
@@ -170,6 +187,14 @@ fn open_ends(
     }
 }
 
+/// No text goes on behind this type in this frame.
+fn refuses(_typ: RawTyp, frame: Frame) -> Option<State>
+    ensures { seen_next result ≡ None }
+{
+    frame.discard();
+    None
+}
+
 /// Behind a whole type.
 fn part_ends(alloc: Global, part: TypePart, l: Lexeme<'_>) -> Result<Option<State>, AllocError>
     ensures { IfOk result (λ next. seen_next next ≡ spec.type_part_ends (seen_type_part part) (seen_lexeme l.entry)) }
@@ -178,9 +203,9 @@ fn part_ends(alloc: Global, part: TypePart, l: Lexeme<'_>) -> Result<Option<Stat
     match stack.pop() {
         Popped::Nothing => Ok(goes_if(is_end(l), State::DoneType { typ })),
         Popped::Open { frame, below } => match frame {
-            Frame::Joined { .. } => Ok(None),
-            Frame::InTerm { .. } => Ok(None),
-            Frame::Range { .. } => Ok(None),
+            Frame::Joined { join } => Ok(refuses(typ, Frame::Joined { join })),
+            Frame::InTerm { around } => Ok(refuses(typ, Frame::InTerm { around })),
+            Frame::Range { at, domain } => Ok(refuses(typ, Frame::Range { at, domain })),
             Frame::InType { around } => open_ends(alloc, at, typ, around, below, l),
         },
     }
@@ -197,8 +222,8 @@ fn type_ends(
     ensures { IfOk result (λ next. seen_next next ≡ spec.type_ends at typ (seen_stack stack) (seen_lexeme l.entry)) }
 {
     if is_mark(Mark::Arrow, l) {
-        let frame = Frame::Range { at, domain: typ };
-        return Ok(goes(Place::AtType, stack.with(frame)?));
+        let stack = stack.with(Frame::Range { at, domain: typ })?;
+        return Ok(goes(Place::AtType, stack));
     }
     part_ends(alloc, ranged(alloc, at, typ, stack)?, l)
 }
@@ -267,12 +292,12 @@ pub(crate) fn type_begun(
     match opening_at(Opening::Bracket, l) {
         Some(at) => {
             let around = TypeOpen::FirstDomain { at };
-            Ok(goes(Place::AtType, stack.with(Frame::InType { around })?))
+            type_inside(stack, around)
         }
         None => match opening_at(Opening::Parenthesis, l) {
             Some(at) => {
                 let around = TypeOpen::EnclosedType { at };
-                Ok(goes(Place::AtType, stack.with(Frame::InType { around })?))
+                type_inside(stack, around)
             }
             None => name_begun(alloc, stack, l),
         },

@@ -1,6 +1,6 @@
 -- What is read so far, and what it says in the end.
-use Rattle.std.proofs.Common.{◌≡◌, ℕ, suc, ◌+◌, ◌-◌, ◌<◌, ◌≤◌, List, [], ◌∷◌, length, drop, get_or, refl, sym, ◌∙◌, ap, arith, drop-cons, length-drop}
-use Rattle.std.proofs.lemmas.List.{length-append, drop_all}
+use Rattle.std.proofs.Common.{◌≡◌, ℕ, suc, ◌+◌, ◌-◌, ◌<◌, List, [], ◌∷◌, length, drop, get_or, refl, sym, ◌∙◌, ap, arith, drop-cons, length-drop}
+use Rattle.std.proofs.lemmas.List.{length-append}
 use Rattle.std.specs.Prelude.{Bool, true, false, Option, Some, None}
 use Rattle.pure_grammar.specs.declared.token.Token.{Token}
 use Rattle.pure_grammar.specs.Theories.TheoryText.{TheoryText}
@@ -33,11 +33,6 @@ run-drop : (source : List ℕ) (ts : List Token) (i : ℕ) (s : spec.State) (d t
 run-drop source ts i s d t below at reads =
     reads ∙ ap (λ z. run s (lexemes source z)) (drop-cons ts i d below) ∙ ap (λ z. run s (lexemes source (z ∷ drop (suc i) ts))) (sym at)
 
-pub reads-more : (source : List ℕ) (ts : List Token) (i : ℕ) (s u : spec.State) (d t : Token) → i < length ts → t ≡ get_or ts i d → run AtStart (lexemes source ts) ≡ run s (lexemes source (drop i ts))
-    → next s (lexeme source t) ≡ Some u → run AtStart (lexemes source ts) ≡ run u (lexemes source (drop (suc i) ts))
-reads-more source ts i s u d t below at reads on =
-    run-drop source ts i s d t below at reads ∙ ap (λ z. goes_on z (Stuck s (lexeme source t) (lexemes source (drop (suc i) ts))) (λ u. run u (lexemes source (drop (suc i) ts)))) on
-
 length-lexemes : (source : List ℕ) (ts : List Token) → length (lexemes source ts) ≡ suc (length ts)
 length-lexemes source [] = refl
 length-lexemes source (t ∷ ts) = ap suc (length-lexemes source ts)
@@ -67,10 +62,9 @@ fault-token source ts i s d t below at reads stuck last =
       at_place = place_of-token ts (length source) i d t below at ∙ ap (place_of ts (length source)) (sym n);
     }
 
-pub fault-end : (source : List ℕ) (ts : List Token) (i : ℕ) (s : spec.State) → length ts ≤ i → run AtStart (lexemes source ts) ≡ run s (lexemes source (drop i ts))
-    → next s Ends ≡ None → is_last s ≡ false → HasSyntaxFault source ts (length source) (expected s)
-fault-end source ts i s past reads stuck last =
-    let g : run AtStart (lexemes source ts) ≡ Stuck s Ends [] = reads ∙ ap (λ z. run s (lexemes source z)) (drop_all i ts past) ∙ ap (λ z. goes_on z (Stuck s Ends []) (λ u. run u [])) stuck in
+pub fault-end : (source : List ℕ) (ts : List Token) (s : spec.State) → run AtStart (lexemes source ts) ≡ run s (Ends ∷ []) → next s Ends ≡ None → is_last s ≡ false → HasSyntaxFault source ts (length source) (expected s)
+fault-end source ts s reads stuck last =
+    let g : run AtStart (lexemes source ts) ≡ Stuck s Ends [] = reads ∙ ap (λ z. goes_on z (Stuck s Ends []) (λ u. run u [])) stuck in
     let w : Wrong (lexemes source ts) s Ends [] = goes-wrong (lexemes source ts) s Ends [] g last in
     let l = before-length source ts s Ends [] w in
     let n : length w.before ≡ length ts = omega (arith, l) in
@@ -83,6 +77,5 @@ fault-end source ts i s past reads stuck last =
       at_place = place_of-end ts (length source) (length w.before) n;
     }
 
-pub spells-end : (source : List ℕ) (ts : List Token) (i : ℕ) (s : spec.State) (t : TheoryText) → length ts ≤ i → run AtStart (lexemes source ts) ≡ run s (lexemes source (drop i ts))
-    → next s Ends ≡ Some (AtLast t) → SpellsTheory source ts t
-spells-end source ts i s t past reads on = Gets-IsTheory (lexemes source ts) t (reads ∙ ap (λ z. run s (lexemes source z)) (drop_all i ts past) ∙ ap (λ z. goes_on z (Stuck s Ends []) (λ u. run u [])) on)
+pub spells-end : (source : List ℕ) (ts : List Token) (s : spec.State) (t : TheoryText) → run AtStart (lexemes source ts) ≡ run s (Ends ∷ []) → next s Ends ≡ Some (AtLast t) → SpellsTheory source ts t
+spells-end source ts s t reads on = Gets-IsTheory (lexemes source ts) t (reads ∙ ap (λ z. goes_on z (Stuck s Ends []) (λ u. run u [])) on)

@@ -2,11 +2,14 @@
 ghost use Rattle.std.specs.Prelude.{◌≡◌, IfOk, [], ◌∷◌, ◌++◌};
 ghost use Rattle.pure_grammar.specs.Theories.Reader as spec;
 ghost use Rattle.pure_script.specs.Seen.{sorts};
-ghost use Rattle.pure_script.specs.Places.{seen_place, seen_turn, seen_domains, seen_domains_course};
+ghost use Rattle.pure_script.specs.Places.{seen_turn, seen_domains, seen_domains_course};
 ghost use Rattle.pure_script.specs.Lexemes.{seen_lexeme};
 
 use crate::lexeme::{Lexeme, is_sign};
-use crate::place::{ArityPlace, Course, Domains, Place, SortPlace, Turn, moves_if, name};
+use crate::place::{
+    ArityPlace, Course, Domains, Place, RestPlace, SortPlace, Turn, at_command, moves_if, name,
+    of_arity,
+};
 use crate::theory::Command;
 use pure_grammar::Sign;
 use pure_text::Text;
@@ -20,9 +23,7 @@ pub(crate) fn at_constructor(alloc: Global, lexeme: Lexeme<'_>) -> Result<Turn, 
     match name(alloc, lexeme)? {
         None => Ok(Turn::Refuses),
         Some(con) => Ok(Turn::Moves {
-            place: Place::OfArity {
-                place: ArityPlace::AfterConstructor { con },
-            },
+            place: of_arity(ArityPlace::AfterConstructor { con }),
         }),
     }
 }
@@ -32,12 +33,7 @@ pub(crate) fn after_constructor(con: Text, lexeme: Lexeme<'_>) -> Turn
     ensures { seen_turn result ≡ spec.turn (spec.AfterConstructor con) (seen_lexeme lexeme.entry) }
 {
     let so = is_sign(Sign::DoubleColon, lexeme);
-    moves_if(
-        so,
-        Place::OfArity {
-            place: ArityPlace::AtDomains { con },
-        },
-    )
+    moves_if(so, of_arity(ArityPlace::AtDomains { con }))
 }
 
 /// Behind the domains, where the class stands.
@@ -53,7 +49,7 @@ pub(crate) fn at_arity_class(
         None => Ok(Turn::Refuses),
         Some(class) => Ok(Turn::Adds {
             command: Command::Arity { con, doms, class },
-            place: Place::AtCommand,
+            place: at_command(),
         }),
     }
 }
@@ -68,8 +64,8 @@ pub(crate) fn at_domains(alloc: Global, con: Text, lexeme: Lexeme<'_>) -> Result
         let domains = Domains { con, doms, sort };
         let place = SortPlace::AtSort;
         return Ok(Turn::Moves {
-            place: Place::OfArity {
-                place: ArityPlace::InDomains { domains, place },
+            place: Place::AtRest {
+                place: RestPlace::InDomains { domains, place },
             },
         });
     }
@@ -101,7 +97,7 @@ fn at_sort(
     place: &mut SortPlace,
     lexeme: Lexeme<'_>,
 ) -> Result<Course, AllocError>
-    ensures { IfOk result (λ course. seen_domains_course course domains.new place.new ≡ spec.turn (spec.AtSort domains.old.con (sorts domains.old.doms.items)) (seen_lexeme lexeme.entry)) }
+    ensures { IfOk result (λ course. seen_domains_course course domains.new place.new (seen_lexeme lexeme.entry) ≡ spec.turn (spec.AtSort domains.old.con (sorts domains.old.doms.items)) (seen_lexeme lexeme.entry)) }
 {
     if is_sign(Sign::OpenBrace, lexeme) {
         *place = SortPlace::AtFirstClass;
@@ -119,7 +115,7 @@ fn at_sort(
 
 /// Behind a sort.
 fn after_sort(domains: &mut Domains, place: &mut SortPlace, lexeme: Lexeme<'_>) -> Course
-    ensures { seen_domains_course result domains.new place.new ≡ spec.turn (spec.AfterSort domains.old.con (sorts domains.old.doms.items)) (seen_lexeme lexeme.entry) }
+    ensures { seen_domains_course result domains.new place.new (seen_lexeme lexeme.entry) ≡ spec.turn (spec.AfterSort domains.old.con (sorts domains.old.doms.items)) (seen_lexeme lexeme.entry) }
 {
     if is_sign(Sign::Comma, lexeme) {
         *place = SortPlace::AtSort;
@@ -138,7 +134,7 @@ fn at_first_class(
     place: &mut SortPlace,
     lexeme: Lexeme<'_>,
 ) -> Result<Course, AllocError>
-    ensures { IfOk result (λ course. seen_domains_course course domains.new place.new ≡ spec.turn (spec.AtFirstClass domains.old.con (sorts domains.old.doms.items)) (seen_lexeme lexeme.entry)) }
+    ensures { IfOk result (λ course. seen_domains_course course domains.new place.new (seen_lexeme lexeme.entry) ≡ spec.turn (spec.AtFirstClass domains.old.con (sorts domains.old.doms.items)) (seen_lexeme lexeme.entry)) }
 {
     if is_sign(Sign::CloseBrace, lexeme) {
         add_sort(domains, Vec::new(alloc))?;
@@ -162,7 +158,7 @@ fn at_next_class(
     place: &mut SortPlace,
     lexeme: Lexeme<'_>,
 ) -> Result<Course, AllocError>
-    ensures { IfOk result (λ course. seen_domains_course course domains.new place.new ≡ spec.turn (spec.AtNextClass domains.old.con (sorts domains.old.doms.items) domains.old.sort.items) (seen_lexeme lexeme.entry)) }
+    ensures { IfOk result (λ course. seen_domains_course course domains.new place.new (seen_lexeme lexeme.entry) ≡ spec.turn (spec.AtNextClass domains.old.con (sorts domains.old.doms.items) domains.old.sort.items) (seen_lexeme lexeme.entry)) }
 {
     match name(alloc, lexeme)? {
         None => Ok(Course::Refuses),
@@ -181,7 +177,7 @@ fn after_class(
     place: &mut SortPlace,
     lexeme: Lexeme<'_>,
 ) -> Result<Course, AllocError>
-    ensures { IfOk result (λ course. seen_domains_course course domains.new place.new ≡ spec.turn (spec.AfterClass domains.old.con (sorts domains.old.doms.items) domains.old.sort.items) (seen_lexeme lexeme.entry)) }
+    ensures { IfOk result (λ course. seen_domains_course course domains.new place.new (seen_lexeme lexeme.entry) ≡ spec.turn (spec.AfterClass domains.old.con (sorts domains.old.doms.items) domains.old.sort.items) (seen_lexeme lexeme.entry)) }
 {
     if is_sign(Sign::Comma, lexeme) {
         *place = SortPlace::AtNextClass;
@@ -204,7 +200,7 @@ pub(crate) fn domains_course(
     place: &mut SortPlace,
     lexeme: Lexeme<'_>,
 ) -> Result<Course, AllocError>
-    ensures { IfOk result (λ course. seen_domains_course course domains.new place.new ≡ spec.turn (seen_domains domains.old place.old) (seen_lexeme lexeme.entry)) }
+    ensures { IfOk result (λ course. seen_domains_course course domains.new place.new (seen_lexeme lexeme.entry) ≡ spec.turn (seen_domains domains.old place.old) (seen_lexeme lexeme.entry)) }
 {
     match *place {
         SortPlace::AtSort => at_sort(alloc, domains, place, lexeme),
@@ -215,39 +211,12 @@ pub(crate) fn domains_course(
     }
 }
 
-/// The place behind the domains, which are left empty.
-#[inline(never)]
-pub(crate) fn closed(alloc: Global, domains: &mut Domains) -> Result<Place, AllocError>
-    ensures { IfOk result (λ place. seen_place place ≡ spec.AtArityClass domains.old.con (sorts domains.old.doms.items)) }
+/// To the place behind the domains.
+pub(crate) fn closed(domains: Domains) -> Turn
+    ensures { seen_turn result ≡ spec.Moves (spec.AtArityClass domains.con (sorts domains.doms.items)) }
 {
-    let con = mem::replace(&mut domains.con, Text::make(alloc, b"")?);
-    let doms = mem::replace(&mut domains.doms, Vec::new(alloc));
-    Ok(Place::OfArity {
-        place: ArityPlace::AtArityClass { con, doms },
-    })
-}
-
-/// Where a token of the domains leads to.
-#[inline(never)]
-pub(crate) fn domains_turn(
-    alloc: Global,
-    domains: Domains,
-    place: SortPlace,
-    lexeme: Lexeme<'_>,
-) -> Result<Turn, AllocError>
-    ensures { IfOk result (λ turn. seen_turn turn ≡ spec.turn (seen_domains domains place) (seen_lexeme lexeme.entry)) }
-{
-    let mut domains = domains;
-    let mut place = place;
-    match domains_course(alloc, &mut domains, &mut place, lexeme)? {
-        Course::Stays => Ok(Turn::Moves {
-            place: Place::OfArity {
-                place: ArityPlace::InDomains { domains, place },
-            },
-        }),
-        Course::Ends => Ok(Turn::Moves {
-            place: closed(alloc, &mut domains)?,
-        }),
-        Course::Refuses => Ok(Turn::Refuses),
+    let Domains { con, doms, .. } = domains;
+    Turn::Moves {
+        place: of_arity(ArityPlace::AtArityClass { con, doms }),
     }
 }

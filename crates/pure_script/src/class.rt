@@ -2,19 +2,16 @@
 ghost use Rattle.std.specs.Prelude.{◌≡◌, IfOk};
 ghost use Rattle.pure_grammar.specs.Theories.TheoryText.{Class};
 ghost use Rattle.pure_grammar.specs.Theories.Reader as spec;
-ghost use Rattle.pure_script.specs.Seen.{seen_command};
 ghost use Rattle.pure_script.specs.Places.{seen_turn, seen_class, seen_class_course};
 ghost use Rattle.pure_script.specs.Lexemes.{seen_lexeme};
 
 use crate::lexeme::{Lexeme, is_sign};
 use crate::place::{
-    AbovePlace, ClassPlace, Course, NewClass, Place, Turn, command_begun, ident, leave_with, name,
+    AbovePlace, Course, NewClass, Place, RestPlace, Turn, command_begun, ident, leave_with, name,
 };
 use crate::theory::Command;
 use pure_grammar::Sign;
-use pure_text::Text;
 use std::alloc::{AllocError, Global};
-use std::mem;
 
 /// Behind `class`.
 pub(crate) fn at_class_name(alloc: Global, lexeme: Lexeme<'_>) -> Result<Turn, AllocError>
@@ -27,8 +24,8 @@ pub(crate) fn at_class_name(alloc: Global, lexeme: Lexeme<'_>) -> Result<Turn, A
             let class = NewClass { name, above };
             let place = AbovePlace::AfterClassName;
             Ok(Turn::Moves {
-                place: Place::OfClass {
-                    place: ClassPlace::InClass { class, place },
+                place: Place::AtRest {
+                    place: RestPlace::InClass { class, place },
                 },
             })
         }
@@ -109,35 +106,10 @@ pub(crate) fn class_course(
     }
 }
 
-/// The class, which is read; it is left empty.
-#[inline(never)]
-pub(crate) fn declared(alloc: Global, class: &mut NewClass) -> Result<Command, AllocError>
-    ensures { IfOk result (λ command. seen_command command ≡ Class class.old.name class.old.above.items) }
+/// The class, which is read, and the place that the token behind it begins.
+pub(crate) fn declared(class: NewClass, lexeme: Lexeme<'_>) -> Turn
+    ensures { seen_turn result ≡ spec.leave_with (Class class.name class.above.items) (spec.command_begun (seen_lexeme lexeme.entry)) }
 {
-    let name = mem::replace(&mut class.name, Text::make(alloc, b"")?);
-    let above = mem::replace(&mut class.above, Vec::new(alloc));
-    Ok(Command::Class { name, above })
-}
-
-/// Where a token behind the name of a class leads to.
-#[inline(never)]
-pub(crate) fn class_turn(
-    alloc: Global,
-    class: NewClass,
-    place: AbovePlace,
-    lexeme: Lexeme<'_>,
-) -> Result<Turn, AllocError>
-    ensures { IfOk result (λ turn. seen_turn turn ≡ spec.turn (seen_class class place) (seen_lexeme lexeme.entry)) }
-{
-    let mut class = class;
-    let mut place = place;
-    match class_course(alloc, &mut class, &mut place, lexeme)? {
-        Course::Stays => Ok(Turn::Moves {
-            place: Place::OfClass {
-                place: ClassPlace::InClass { class, place },
-            },
-        }),
-        Course::Ends => Ok(leave_with(declared(alloc, &mut class)?, command_begun(lexeme))),
-        Course::Refuses => Ok(Turn::Refuses),
-    }
+    let NewClass { name, above } = class;
+    leave_with(Command::Class { name, above }, command_begun(lexeme))
 }

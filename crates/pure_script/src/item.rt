@@ -6,9 +6,7 @@ ghost use Rattle.pure_script.specs.Places.{seen_turn, seen_named, seen_item_plac
 ghost use Rattle.pure_script.specs.Lexemes.{seen_lexeme};
 
 use crate::lexeme::{Lexeme, is_sign, is_word, quote_in, type_in};
-use crate::place::{
-    Course, Item, ItemCourse, ItemPlace, NamedPlace, Place, Turn, command_begun, ident, leave,
-};
+use crate::place::{Course, Item, ItemPlace, NamedPlace, Turn, at_command, ident, of_item};
 use crate::theory::{Command, Span};
 use pure_grammar::{Keyword, Sign};
 use pure_text::Text;
@@ -27,21 +25,17 @@ fn item(name: Text) -> Item
 }
 
 /// Behind `consts`.
-fn at_item(
-    alloc: Global,
-    place: &mut ItemPlace,
-    lexeme: Lexeme<'_>,
-) -> Result<ItemCourse, AllocError>
+fn at_item(alloc: Global, place: &mut ItemPlace, lexeme: Lexeme<'_>) -> Result<Course, AllocError>
     ensures { IfOk result (λ course. seen_item_course course place.new (seen_lexeme lexeme.entry) ≡ spec.turn spec.AtItem (seen_lexeme lexeme.entry)) }
 {
     match ident(alloc, lexeme)? {
-        None => Ok(ItemCourse::Refuses),
+        None => Ok(Course::Refuses),
         Some(name) => {
             *place = ItemPlace::InItem {
                 item: item(name),
                 place: NamedPlace::AfterItem,
             };
-            Ok(ItemCourse::Stays)
+            Ok(Course::Stays)
         }
     }
 }
@@ -51,61 +45,57 @@ fn after_item_type(
     alloc: Global,
     place: &mut ItemPlace,
     lexeme: Lexeme<'_>,
-) -> Result<ItemCourse, AllocError>
+) -> Result<Course, AllocError>
     ensures { IfOk result (λ course. seen_item_course course place.new (seen_lexeme lexeme.entry) ≡ spec.turn spec.AfterItemType (seen_lexeme lexeme.entry)) }
 {
     match ident(alloc, lexeme)? {
-        None => Ok(ItemCourse::Leaves),
+        None => Ok(Course::Leaves),
         Some(name) => {
             *place = ItemPlace::InItem {
                 item: item(name),
                 place: NamedPlace::AfterItem,
             };
-            Ok(ItemCourse::Stays)
+            Ok(Course::Stays)
         }
     }
 }
 
 /// Behind `axiomatization`.
-fn at_where(place: &mut ItemPlace, lexeme: Lexeme<'_>) -> ItemCourse
+fn at_where(place: &mut ItemPlace, lexeme: Lexeme<'_>) -> Course
     ensures { seen_item_course result place.new (seen_lexeme lexeme.entry) ≡ spec.turn spec.AtWhere (seen_lexeme lexeme.entry) }
 {
     if is_word(Keyword::Where, lexeme) {
         *place = ItemPlace::AtAxiom;
-        return ItemCourse::Stays;
+        return Course::Stays;
     }
-    ItemCourse::Refuses
+    Course::Refuses
 }
 
 /// Where the name of an axiom stands.
-fn at_axiom(
-    alloc: Global,
-    place: &mut ItemPlace,
-    lexeme: Lexeme<'_>,
-) -> Result<ItemCourse, AllocError>
+fn at_axiom(alloc: Global, place: &mut ItemPlace, lexeme: Lexeme<'_>) -> Result<Course, AllocError>
     ensures { IfOk result (λ course. seen_item_course course place.new (seen_lexeme lexeme.entry) ≡ spec.turn spec.AtAxiom (seen_lexeme lexeme.entry)) }
 {
     match ident(alloc, lexeme)? {
-        None => Ok(ItemCourse::Refuses),
+        None => Ok(Course::Refuses),
         Some(name) => {
             *place = ItemPlace::InItem {
                 item: item(name),
                 place: NamedPlace::AfterAxiom,
             };
-            Ok(ItemCourse::Stays)
+            Ok(Course::Stays)
         }
     }
 }
 
 /// Behind the proposition of an axiom.
-fn after_axiom_text(place: &mut ItemPlace, lexeme: Lexeme<'_>) -> ItemCourse
+fn after_axiom_text(place: &mut ItemPlace, lexeme: Lexeme<'_>) -> Course
     ensures { seen_item_course result place.new (seen_lexeme lexeme.entry) ≡ spec.turn spec.AfterAxiomText (seen_lexeme lexeme.entry) }
 {
     if is_word(Keyword::And, lexeme) {
         *place = ItemPlace::AtAxiom;
-        return ItemCourse::Stays;
+        return Course::Stays;
     }
-    ItemCourse::Leaves
+    Course::Leaves
 }
 
 /// Behind `definition`.
@@ -113,24 +103,24 @@ fn at_definition(
     alloc: Global,
     place: &mut ItemPlace,
     lexeme: Lexeme<'_>,
-) -> Result<ItemCourse, AllocError>
+) -> Result<Course, AllocError>
     ensures { IfOk result (λ course. seen_item_course course place.new (seen_lexeme lexeme.entry) ≡ spec.turn spec.AtDefinition (seen_lexeme lexeme.entry)) }
 {
     match ident(alloc, lexeme)? {
-        None => Ok(ItemCourse::Refuses),
+        None => Ok(Course::Refuses),
         Some(name) => {
             *place = ItemPlace::InItem {
                 item: item(name),
                 place: NamedPlace::AfterDefinition,
             };
-            Ok(ItemCourse::Stays)
+            Ok(Course::Stays)
         }
     }
 }
 
 /// Behind the name of a constant.
 fn after_item(item: &Item, place: &mut NamedPlace, lexeme: Lexeme<'_>) -> Course
-    ensures { seen_named_course result item.now place.new ≡ spec.turn (spec.AfterItem item.now.name) (seen_lexeme lexeme.entry) }
+    ensures { seen_named_course result item.now place.new (seen_lexeme lexeme.entry) ≡ spec.turn (spec.AfterItem item.now.name) (seen_lexeme lexeme.entry) }
 {
     if is_sign(Sign::DoubleColon, lexeme) {
         *place = NamedPlace::AtItemType;
@@ -141,7 +131,7 @@ fn after_item(item: &Item, place: &mut NamedPlace, lexeme: Lexeme<'_>) -> Course
 
 /// Behind the `::` of a constant.
 fn at_item_type(item: &mut Item, place: &mut NamedPlace, lexeme: Lexeme<'_>) -> Course
-    ensures { seen_named_course result item.new place.new ≡ spec.turn (spec.AtItemType item.old.name) (seen_lexeme lexeme.entry) }
+    ensures { seen_named_course result item.new place.new (seen_lexeme lexeme.entry) ≡ spec.turn (spec.AtItemType item.old.name) (seen_lexeme lexeme.entry) }
 {
     match type_in(lexeme) {
         None => Course::Refuses,
@@ -155,7 +145,7 @@ fn at_item_type(item: &mut Item, place: &mut NamedPlace, lexeme: Lexeme<'_>) -> 
 
 /// Behind the name of an axiom.
 fn after_axiom(item: &Item, place: &mut NamedPlace, lexeme: Lexeme<'_>) -> Course
-    ensures { seen_named_course result item.now place.new ≡ spec.turn (spec.AfterAxiom item.now.name) (seen_lexeme lexeme.entry) }
+    ensures { seen_named_course result item.now place.new (seen_lexeme lexeme.entry) ≡ spec.turn (spec.AfterAxiom item.now.name) (seen_lexeme lexeme.entry) }
 {
     if is_sign(Sign::Colon, lexeme) {
         *place = NamedPlace::AtAxiomText;
@@ -166,7 +156,7 @@ fn after_axiom(item: &Item, place: &mut NamedPlace, lexeme: Lexeme<'_>) -> Cours
 
 /// Behind the `:` of an axiom.
 fn at_axiom_text(item: &mut Item, place: &mut NamedPlace, lexeme: Lexeme<'_>) -> Course
-    ensures { seen_named_course result item.new place.new ≡ spec.turn (spec.AtAxiomText item.old.name) (seen_lexeme lexeme.entry) }
+    ensures { seen_named_course result item.new place.new (seen_lexeme lexeme.entry) ≡ spec.turn (spec.AtAxiomText item.old.name) (seen_lexeme lexeme.entry) }
 {
     match quote_in(lexeme) {
         None => Course::Refuses,
@@ -180,7 +170,7 @@ fn at_axiom_text(item: &mut Item, place: &mut NamedPlace, lexeme: Lexeme<'_>) ->
 
 /// Behind the name that is defined.
 fn after_definition(item: &Item, place: &mut NamedPlace, lexeme: Lexeme<'_>) -> Course
-    ensures { seen_named_course result item.now place.new ≡ spec.turn (spec.AfterDefinition item.now.name) (seen_lexeme lexeme.entry) }
+    ensures { seen_named_course result item.now place.new (seen_lexeme lexeme.entry) ≡ spec.turn (spec.AfterDefinition item.now.name) (seen_lexeme lexeme.entry) }
 {
     if is_sign(Sign::DoubleColon, lexeme) {
         *place = NamedPlace::AtDefinitionType;
@@ -191,7 +181,7 @@ fn after_definition(item: &Item, place: &mut NamedPlace, lexeme: Lexeme<'_>) -> 
 
 /// Behind the `::` of a definition.
 fn at_definition_type(item: &mut Item, place: &mut NamedPlace, lexeme: Lexeme<'_>) -> Course
-    ensures { seen_named_course result item.new place.new ≡ spec.turn (spec.AtDefinitionType item.old.name) (seen_lexeme lexeme.entry) }
+    ensures { seen_named_course result item.new place.new (seen_lexeme lexeme.entry) ≡ spec.turn (spec.AtDefinitionType item.old.name) (seen_lexeme lexeme.entry) }
 {
     match type_in(lexeme) {
         None => Course::Refuses,
@@ -205,7 +195,7 @@ fn at_definition_type(item: &mut Item, place: &mut NamedPlace, lexeme: Lexeme<'_
 
 /// Behind the type of a definition.
 fn after_definition_type(item: &Item, place: &mut NamedPlace, lexeme: Lexeme<'_>) -> Course
-    ensures { seen_named_course result item.now place.new ≡ spec.turn (spec.AfterDefinitionType item.now.name (span item.now.typ)) (seen_lexeme lexeme.entry) }
+    ensures { seen_named_course result item.now place.new (seen_lexeme lexeme.entry) ≡ spec.turn (spec.AfterDefinitionType item.now.name (span item.now.typ)) (seen_lexeme lexeme.entry) }
 {
     if is_word(Keyword::Where, lexeme) {
         *place = NamedPlace::AtDefinitionText;
@@ -216,7 +206,7 @@ fn after_definition_type(item: &Item, place: &mut NamedPlace, lexeme: Lexeme<'_>
 
 /// Behind the `where` of a definition.
 fn at_definition_text(item: &mut Item, place: &mut NamedPlace, lexeme: Lexeme<'_>) -> Course
-    ensures { seen_named_course result item.new place.new ≡ spec.turn (spec.AtDefinitionText item.old.name (span item.old.typ)) (seen_lexeme lexeme.entry) }
+    ensures { seen_named_course result item.new place.new (seen_lexeme lexeme.entry) ≡ spec.turn (spec.AtDefinitionText item.old.name (span item.old.typ)) (seen_lexeme lexeme.entry) }
 {
     match quote_in(lexeme) {
         None => Course::Refuses,
@@ -230,7 +220,7 @@ fn at_definition_text(item: &mut Item, place: &mut NamedPlace, lexeme: Lexeme<'_
 
 /// How a token behind the name of an item goes on, with its place and what is read in place.
 fn named_course(item: &mut Item, place: &mut NamedPlace, lexeme: Lexeme<'_>) -> Course
-    ensures { seen_named_course result item.new place.new ≡ spec.turn (seen_named item.old place.old) (seen_lexeme lexeme.entry) }
+    ensures { seen_named_course result item.new place.new (seen_lexeme lexeme.entry) ≡ spec.turn (seen_named item.old place.old) (seen_lexeme lexeme.entry) }
 {
     match *place {
         NamedPlace::AfterItem => after_item(item, place, lexeme),
@@ -250,7 +240,7 @@ pub(crate) fn item_course(
     alloc: Global,
     place: &mut ItemPlace,
     lexeme: Lexeme<'_>,
-) -> Result<ItemCourse, AllocError>
+) -> Result<Course, AllocError>
     ensures { IfOk result (λ course. seen_item_course course place.new (seen_lexeme lexeme.entry) ≡ spec.turn (seen_item_place place.old) (seen_lexeme lexeme.entry)) }
 {
     match place {
@@ -260,11 +250,7 @@ pub(crate) fn item_course(
         ItemPlace::AtAxiom => at_axiom(alloc, place, lexeme),
         ItemPlace::AfterAxiomText => Ok(after_axiom_text(place, lexeme)),
         ItemPlace::AtDefinition => at_definition(alloc, place, lexeme),
-        ItemPlace::InItem { item, place: at } => match named_course(item, at, lexeme) {
-            Course::Stays => Ok(ItemCourse::Stays),
-            Course::Ends => Ok(ItemCourse::Adds),
-            Course::Refuses => Ok(ItemCourse::Refuses),
-        },
+        ItemPlace::InItem { item, place: at } => Ok(named_course(item, at, lexeme)),
     }
 }
 
@@ -276,51 +262,26 @@ fn added_item(item: Item, place: NamedPlace) -> Turn
     match place {
         NamedPlace::AtItemType => Turn::Adds {
             command: Command::Const { name, typ },
-            place: Place::OfItem {
-                place: ItemPlace::AfterItemType,
-            },
+            place: of_item(ItemPlace::AfterItemType),
         },
         NamedPlace::AtAxiomText => Turn::Adds {
             command: Command::Axiom { name, prop },
-            place: Place::OfItem {
-                place: ItemPlace::AfterAxiomText,
-            },
+            place: of_item(ItemPlace::AfterAxiomText),
         },
         NamedPlace::AtDefinitionText => Turn::Adds {
             command: Command::Definition { name, typ, prop },
-            place: Place::AtCommand,
+            place: at_command(),
         },
         _ => Turn::Refuses,
     }
 }
 
 /// The command of the item that is read, and the place behind it.
-#[inline(never)]
 pub(crate) fn added(place: ItemPlace) -> Turn
     ensures { seen_turn result ≡ seen_added place }
 {
     match place {
         ItemPlace::InItem { item, place } => added_item(item, place),
         _ => Turn::Refuses,
-    }
-}
-
-/// Where a token of an item leads to.
-#[inline(never)]
-pub(crate) fn item_turn(
-    alloc: Global,
-    place: ItemPlace,
-    lexeme: Lexeme<'_>,
-) -> Result<Turn, AllocError>
-    ensures { IfOk result (λ turn. seen_turn turn ≡ spec.turn (seen_item_place place) (seen_lexeme lexeme.entry)) }
-{
-    let mut place = place;
-    match item_course(alloc, &mut place, lexeme)? {
-        ItemCourse::Stays => Ok(Turn::Moves {
-            place: Place::OfItem { place },
-        }),
-        ItemCourse::Adds => Ok(added(place)),
-        ItemCourse::Leaves => Ok(leave(command_begun(lexeme))),
-        ItemCourse::Refuses => Ok(Turn::Refuses),
     }
 }

@@ -3,7 +3,7 @@ ghost use Rattle.std.specs.Prelude.{◌≡◌, IfOk};
 ghost use Rattle.pure_grammar.specs.Theories.Lexeme as lexeme;
 ghost use Rattle.pure_grammar.specs.Theories.Reader as spec;
 ghost use Rattle.pure_script.specs.Seen.{seen_command};
-ghost use Rattle.pure_script.specs.Places.{seen_place, seen_begun, seen_turn};
+ghost use Rattle.pure_script.specs.Places.{seen_place, seen_type_place, seen_arity_place, seen_lemma_place, seen_item_place, seen_begun, seen_turn};
 ghost use Rattle.pure_script.specs.Lexemes.{seen_lexeme};
 
 use crate::lexeme::{Lexeme, ident_in, is_word, name_in, variable_in};
@@ -22,7 +22,7 @@ pub(crate) enum FactMethod {
 }
 
 /// A place in a proof; `last` says that the method is that of `by`.
-#[derive(Drop)]
+#[derive(Clone, Copy)]
 pub(crate) enum ProofPlace {
     AtStep,
     AtNumber,
@@ -31,15 +31,16 @@ pub(crate) enum ProofPlace {
     AfterBasic { last: bool },
     AtFact { last: bool, method: FactMethod },
     AtUnfolded { last: bool },
-    AfterUnfolded { last: bool, facts: Vec<Text> },
+    AfterUnfolded { last: bool },
 }
 
-/// A lemma with the steps of its proof so far.
+/// A lemma with the steps of its proof so far, and the facts so far of the `unfold` that stands open.
 #[derive(Drop)]
 pub(crate) struct Goal {
     pub(crate) name: Text,
     pub(crate) prop: Span,
     pub(crate) script: Vec<Step>,
+    pub(crate) facts: Vec<Text>,
 }
 
 /// A class with those above it so far.
@@ -55,13 +56,6 @@ pub(crate) enum AbovePlace {
     AfterClassName,
     AtAbove,
     AfterAbove,
-}
-
-/// A place in the declaration of a class.
-#[derive(Drop)]
-pub(crate) enum ClassPlace {
-    AtClassName,
-    InClass { class: NewClass, place: AbovePlace },
 }
 
 /// A place in the declaration of a type.
@@ -91,13 +85,12 @@ pub(crate) enum SortPlace {
     AfterClass,
 }
 
-/// A place in the declaration of an arity.
+/// A place in an arity, outside its domains.
 #[derive(Drop)]
 pub(crate) enum ArityPlace {
     AtConstructor,
     AfterConstructor { con: Text },
     AtDomains { con: Text },
-    InDomains { domains: Domains, place: SortPlace },
     AtArityClass { con: Text, doms: Vec<Vec<Text>> },
 }
 
@@ -134,25 +127,39 @@ pub(crate) enum ItemPlace {
     InItem { item: Item, place: NamedPlace },
 }
 
-/// A place in a lemma.
+/// A place in a lemma, before its proof.
 #[derive(Drop)]
 pub(crate) enum LemmaPlace {
     AtLemma,
     AfterLemma { name: Text },
     AtLemmaText { name: Text },
+}
+
+/// A place between commands or in the head of one, which a token moves.
+#[derive(Drop)]
+pub(crate) enum HeadPlace {
+    AtCommand,
+    AfterEnd,
+    AtClassName,
+    OfType { place: TypePlace },
+    OfArity { place: ArityPlace },
+    OfLemma { place: LemmaPlace },
+}
+
+/// A place in the rest of a command, which is read in place, so that no token moves it.
+#[derive(Drop)]
+pub(crate) enum RestPlace {
+    InClass { class: NewClass, place: AbovePlace },
+    InDomains { domains: Domains, place: SortPlace },
+    OfItem { place: ItemPlace },
     InProof { goal: Goal, place: ProofPlace },
 }
 
 /// A place among the commands, with what was read of the current one.
 #[derive(Drop)]
 pub(crate) enum Place {
-    AtCommand,
-    AfterEnd,
-    OfClass { place: ClassPlace },
-    OfType { place: TypePlace },
-    OfArity { place: ArityPlace },
-    OfItem { place: ItemPlace },
-    OfLemma { place: LemmaPlace },
+    AtHead { place: HeadPlace },
+    AtRest { place: RestPlace },
 }
 
 /// What a token leads to: another place, or a command that it ends and another place, or nothing.
@@ -163,33 +170,73 @@ pub(crate) enum Turn {
     Refuses,
 }
 
-/// How a token of what is read in place goes on: that goes on, or it ends, or the token refuses.
+/// How a token of the rest of a command goes on: the rest does, or it or an item of it ends, or the token begins the next
+/// command, or the token refuses.
 #[derive(Clone, Copy)]
 pub(crate) enum Course {
     Stays,
     Ends,
-    Refuses,
-}
-
-/// How a token of constants, axioms or a definition goes on: they do, or an item of them ends, or they all end, or the
-/// token refuses.
-#[derive(Clone, Copy)]
-pub(crate) enum ItemCourse {
-    Stays,
-    Adds,
     Leaves,
     Refuses,
 }
+
+/// Between commands.
+pub(crate) fn at_command() -> Place
+    ensures { seen_place result ≡ spec.AtCommand }
+{
+    Place::AtHead {
+        place: HeadPlace::AtCommand,
+    }
+}
+
+/// In the declaration of a type.
+pub(crate) fn of_type(place: TypePlace) -> Place
+    ensures { seen_place result ≡ seen_type_place place }
+{
+    Place::AtHead {
+        place: HeadPlace::OfType { place },
+    }
+}
+
+/// In an arity, outside its domains.
+pub(crate) fn of_arity(place: ArityPlace) -> Place
+    ensures { seen_place result ≡ seen_arity_place place }
+{
+    Place::AtHead {
+        place: HeadPlace::OfArity { place },
+    }
+}
+
+/// In a lemma, before its proof.
+pub(crate) fn of_lemma(place: LemmaPlace) -> Place
+    ensures { seen_place result ≡ seen_lemma_place place }
+{
+    Place::AtHead {
+        place: HeadPlace::OfLemma { place },
+    }
+}
+
+/// In constants, axioms or a definition.
+pub(crate) fn of_item(place: ItemPlace) -> Place
+    ensures { seen_place result ≡ seen_item_place place }
+{
+    Place::AtRest {
+        place: RestPlace::OfItem { place },
+    }
+}
+
+/// Drops the place. Apart, since each function that drops one itself pays for all its variants.
+pub(crate) fn discard(_place: Place) {}
 
 /// To the place, if so.
 pub(crate) fn moves_if(so: bool, place: Place) -> Turn
     ensures { seen_turn result ≡ spec.moves_if so (seen_place place) }
 {
     if so {
-        Turn::Moves { place }
-    } else {
-        Turn::Refuses
+        return Turn::Moves { place };
     }
+    discard(place);
+    Turn::Refuses
 }
 
 /// The place that a token begins: a command, or the end.
@@ -197,47 +244,35 @@ pub(crate) fn command_begun(lexeme: Lexeme<'_>) -> Option<Place>
     ensures { seen_begun result ≡ spec.command_begun (seen_lexeme lexeme.entry) }
 {
     if is_word(Keyword::Class, lexeme) {
-        return Some(Place::OfClass {
-            place: ClassPlace::AtClassName,
+        return Some(Place::AtHead {
+            place: HeadPlace::AtClassName,
         });
     }
     if is_word(Keyword::Typedecl, lexeme) {
-        return Some(Place::OfType {
-            place: TypePlace::AtParams,
-        });
+        return Some(of_type(TypePlace::AtParams));
     }
     if is_word(Keyword::Arities, lexeme) {
-        return Some(Place::OfArity {
-            place: ArityPlace::AtConstructor,
-        });
+        return Some(of_arity(ArityPlace::AtConstructor));
     }
     if is_word(Keyword::Consts, lexeme) {
-        return Some(Place::OfItem {
-            place: ItemPlace::AtItem,
-        });
+        return Some(of_item(ItemPlace::AtItem));
     }
     if is_word(Keyword::Axiomatization, lexeme) {
-        return Some(Place::OfItem {
-            place: ItemPlace::AtWhere,
-        });
+        return Some(of_item(ItemPlace::AtWhere));
     }
     if is_word(Keyword::Definition, lexeme) {
-        return Some(Place::OfItem {
-            place: ItemPlace::AtDefinition,
-        });
+        return Some(of_item(ItemPlace::AtDefinition));
     }
     if is_word(Keyword::Lemma, lexeme) {
-        return Some(Place::OfLemma {
-            place: LemmaPlace::AtLemma,
-        });
+        return Some(of_lemma(LemmaPlace::AtLemma));
     }
     if is_word(Keyword::Theorem, lexeme) {
-        return Some(Place::OfLemma {
-            place: LemmaPlace::AtLemma,
-        });
+        return Some(of_lemma(LemmaPlace::AtLemma));
     }
     if is_word(Keyword::End, lexeme) {
-        return Some(Place::AfterEnd);
+        return Some(Place::AtHead {
+            place: HeadPlace::AfterEnd,
+        });
     }
     None
 }

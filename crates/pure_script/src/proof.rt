@@ -1,14 +1,16 @@
 //! Lemmas and their proofs.
 ghost use Rattle.std.specs.Prelude.{◌≡◌, IfOk, [], ◌∷◌, ◌++◌};
 ghost use Rattle.pure_grammar.specs.Theories.TheoryText.{Lemma};
+ghost use Rattle.pure_grammar.specs.Theories.Lexeme as spec_lexeme;
 ghost use Rattle.pure_grammar.specs.Theories.Reader as spec;
-ghost use Rattle.pure_script.specs.Seen.{span, seen_command, seen_step, seen_steps};
-ghost use Rattle.pure_script.specs.Places.{seen_turn, seen_course, seen_method, seen_proof_place};
+ghost use Rattle.pure_script.specs.Seen.{span, seen_step, seen_steps};
+ghost use Rattle.pure_script.specs.Places.{seen_turn, seen_proof_course, seen_method, seen_proof_place};
 ghost use Rattle.pure_script.specs.Lexemes.{seen_lexeme};
 
 use crate::lexeme::{Lexeme, is_ident, is_sign, is_word, number_in, quote_in};
 use crate::place::{
-    Course, FactMethod, Goal, LemmaPlace, Place, ProofPlace, Turn, ident, moves_if, name,
+    Course, FactMethod, Goal, LemmaPlace, Place, ProofPlace, RestPlace, Turn, at_command, ident,
+    moves_if, name, of_lemma,
 };
 use crate::theory::{Command, Span, Step};
 use pure_grammar::{Keyword, Sign};
@@ -23,9 +25,7 @@ pub(crate) fn at_lemma(alloc: Global, lexeme: Lexeme<'_>) -> Result<Turn, AllocE
     match ident(alloc, lexeme)? {
         None => Ok(Turn::Refuses),
         Some(name) => Ok(Turn::Moves {
-            place: Place::OfLemma {
-                place: LemmaPlace::AfterLemma { name },
-            },
+            place: of_lemma(LemmaPlace::AfterLemma { name }),
         }),
     }
 }
@@ -35,12 +35,7 @@ pub(crate) fn after_lemma(name: Text, lexeme: Lexeme<'_>) -> Turn
     ensures { seen_turn result ≡ spec.turn (spec.AfterLemma name) (seen_lexeme lexeme.entry) }
 {
     let colon = is_sign(Sign::Colon, lexeme);
-    moves_if(
-        colon,
-        Place::OfLemma {
-            place: LemmaPlace::AtLemmaText { name },
-        },
-    )
+    moves_if(colon, of_lemma(LemmaPlace::AtLemmaText { name }))
 }
 
 /// Behind the `:` of the lemma.
@@ -51,11 +46,17 @@ pub(crate) fn at_lemma_text(alloc: Global, name: Text, lexeme: Lexeme<'_>) -> Tu
         None => Turn::Refuses,
         Some(prop) => {
             let script = Vec::new(alloc);
-            let goal = Goal { name, prop, script };
+            let facts = Vec::new(alloc);
+            let goal = Goal {
+                name,
+                prop,
+                script,
+                facts,
+            };
             let place = ProofPlace::AtStep;
             Turn::Moves {
-                place: Place::OfLemma {
-                    place: LemmaPlace::InProof { goal, place },
+                place: Place::AtRest {
+                    place: RestPlace::InProof { goal, place },
                 },
             }
         }
@@ -83,20 +84,25 @@ fn fact_step(method: FactMethod, fact: Text) -> Step
     }
 }
 
-/// The lemma, whose proof is read; the goal is left empty.
-#[inline(never)]
-pub(crate) fn proved(alloc: Global, goal: &mut Goal) -> Result<Command, AllocError>
-    ensures { IfOk result (λ command. seen_command command ≡ Lemma goal.old.name (span goal.old.prop) (seen_steps goal.old.script.items)) }
+/// The lemma, whose proof is read.
+pub(crate) fn proved(goal: Goal) -> Turn
+    ensures { seen_turn result ≡ spec.Adds (Lemma goal.name (span goal.prop) (seen_steps goal.script.items)) spec.AtCommand }
 {
-    let name = mem::replace(&mut goal.name, Text::make(alloc, b"")?);
-    let script = mem::replace(&mut goal.script, Vec::new(alloc));
-    let prop = goal.prop;
-    Ok(Command::Lemma { name, prop, script })
+    let Goal {
+        name,
+        prop,
+        script,
+        ..
+    } = goal;
+    Turn::Adds {
+        command: Command::Lemma { name, prop, script },
+        place: at_command(),
+    }
 }
 
 /// Behind a method; that of `by` closes the proof.
 fn after_method(goal: &mut Goal, place: &mut ProofPlace, last: bool) -> Result<Course, AllocError>
-    ensures { IfOk result (λ course. seen_course course goal.new place.new ≡ spec.after_method goal.old.name (span goal.old.prop) last (seen_steps goal.old.script.items)) }
+    ensures { IfOk result (λ course. (l : spec_lexeme.Lexeme) → seen_proof_course course goal.new place.new l ≡ spec.after_method goal.old.name (span goal.old.prop) last (seen_steps goal.old.script.items)) }
 {
     if !last {
         *place = ProofPlace::AtStep;
@@ -114,11 +120,11 @@ fn at_method(
     last: bool,
     lexeme: Lexeme<'_>,
 ) -> Result<Course, AllocError>
-    ensures { IfOk result (λ course. seen_course course goal.new place.new ≡ spec.proof_turn goal.old.name (span goal.old.prop) (seen_steps goal.old.script.items) (spec.AtMethod last) (seen_lexeme lexeme.entry)) }
+    ensures { IfOk result (λ course. seen_proof_course course goal.new place.new (seen_lexeme lexeme.entry) ≡ spec.proof_turn goal.old.name (span goal.old.prop) (seen_steps goal.old.script.items) (spec.AtMethod last) (seen_lexeme lexeme.entry)) }
 {
     if is_ident(b"assumption", lexeme) {
         step(goal, Step::Assumption)?;
-        return after_method(goal, place, last);
+        return Ok(after_method(goal, place, last)?);
     }
     if is_sign(Sign::OpenParenthesis, lexeme) {
         *place = ProofPlace::AtBasic { last };
@@ -134,7 +140,7 @@ fn at_basic(
     last: bool,
     lexeme: Lexeme<'_>,
 ) -> Result<Course, AllocError>
-    ensures { IfOk result (λ course. seen_course course goal.new place.new ≡ spec.proof_turn goal.old.name (span goal.old.prop) (seen_steps goal.old.script.items) (spec.AtBasic last) (seen_lexeme lexeme.entry)) }
+    ensures { IfOk result (λ course. seen_proof_course course goal.new place.new (seen_lexeme lexeme.entry) ≡ spec.proof_turn goal.old.name (span goal.old.prop) (seen_steps goal.old.script.items) (spec.AtBasic last) (seen_lexeme lexeme.entry)) }
 {
     if is_ident(b"assumption", lexeme) {
         step(goal, Step::Assumption)?;
@@ -170,14 +176,14 @@ fn after_basic(
     last: bool,
     lexeme: Lexeme<'_>,
 ) -> Result<Course, AllocError>
-    ensures { IfOk result (λ course. seen_course course goal.new place.new ≡ spec.basic_end goal.old.name (span goal.old.prop) (seen_steps goal.old.script.items) last (seen_lexeme lexeme.entry)) }
+    ensures { IfOk result (λ course. seen_proof_course course goal.new place.new (seen_lexeme lexeme.entry) ≡ spec.basic_end goal.old.name (span goal.old.prop) (seen_steps goal.old.script.items) last (seen_lexeme lexeme.entry)) }
 {
     if is_sign(Sign::Comma, lexeme) {
         *place = ProofPlace::AtBasic { last };
         return Ok(Course::Stays);
     }
     if is_sign(Sign::CloseParenthesis, lexeme) {
-        return after_method(goal, place, last);
+        return Ok(after_method(goal, place, last)?);
     }
     Ok(Course::Refuses)
 }
@@ -191,7 +197,7 @@ fn at_fact(
     method: FactMethod,
     lexeme: Lexeme<'_>,
 ) -> Result<Course, AllocError>
-    ensures { IfOk result (λ course. seen_course course goal.new place.new ≡ spec.proof_turn goal.old.name (span goal.old.prop) (seen_steps goal.old.script.items) (spec.AtFact last (seen_method method)) (seen_lexeme lexeme.entry)) }
+    ensures { IfOk result (λ course. seen_proof_course course goal.new place.new (seen_lexeme lexeme.entry) ≡ spec.proof_turn goal.old.name (span goal.old.prop) (seen_steps goal.old.script.items) (spec.AtFact last (seen_method method)) (seen_lexeme lexeme.entry)) }
 {
     match name(alloc, lexeme)? {
         None => Ok(Course::Refuses),
@@ -211,15 +217,40 @@ fn at_unfolded(
     last: bool,
     lexeme: Lexeme<'_>,
 ) -> Result<Course, AllocError>
-    ensures { IfOk result (λ course. seen_course course goal.new place.new ≡ spec.proof_turn goal.old.name (span goal.old.prop) (seen_steps goal.old.script.items) (spec.AtUnfolded last) (seen_lexeme lexeme.entry)) }
+    ensures { IfOk result (λ course. seen_proof_course course goal.new place.new (seen_lexeme lexeme.entry) ≡ spec.proof_turn goal.old.name (span goal.old.prop) (seen_steps goal.old.script.items) (spec.AtUnfolded last) (seen_lexeme lexeme.entry)) }
 {
     match name(alloc, lexeme)? {
         None => Ok(Course::Refuses),
         Some(fact) => {
             let mut facts = Vec::new(alloc);
             facts.push(fact)?;
-            *place = ProofPlace::AfterUnfolded { last, facts };
+            goal.facts = facts;
+            *place = ProofPlace::AfterUnfolded { last };
             Ok(Course::Stays)
+        }
+    }
+}
+
+/// Behind a fact to unfold by.
+fn after_unfolded(
+    alloc: Global,
+    goal: &mut Goal,
+    place: &mut ProofPlace,
+    last: bool,
+    lexeme: Lexeme<'_>,
+) -> Result<Course, AllocError>
+    ensures { IfOk result (λ course. seen_proof_course course goal.new place.new (seen_lexeme lexeme.entry) ≡ spec.proof_turn goal.old.name (span goal.old.prop) (seen_steps goal.old.script.items) (spec.AfterUnfolded last goal.old.facts.items) (seen_lexeme lexeme.entry)) }
+{
+    match name(alloc, lexeme)? {
+        Some(fact) => {
+            goal.facts.push(fact)?;
+            *place = ProofPlace::AfterUnfolded { last };
+            Ok(Course::Stays)
+        }
+        None => {
+            let facts = mem::replace(&mut goal.facts, Vec::new(alloc));
+            step(goal, Step::Unfold { facts })?;
+            after_basic(goal, place, last, lexeme)
         }
     }
 }
@@ -230,7 +261,7 @@ fn at_step(
     place: &mut ProofPlace,
     lexeme: Lexeme<'_>,
 ) -> Result<Course, AllocError>
-    ensures { IfOk result (λ course. seen_course course goal.new place.new ≡ spec.proof_turn goal.old.name (span goal.old.prop) (seen_steps goal.old.script.items) spec.AtStep (seen_lexeme lexeme.entry)) }
+    ensures { IfOk result (λ course. seen_proof_course course goal.new place.new (seen_lexeme lexeme.entry) ≡ spec.proof_turn goal.old.name (span goal.old.prop) (seen_steps goal.old.script.items) spec.AtStep (seen_lexeme lexeme.entry)) }
 {
     if is_word(Keyword::Apply, lexeme) {
         *place = ProofPlace::AtMethod { last: false };
@@ -262,7 +293,7 @@ fn at_number(
     place: &mut ProofPlace,
     lexeme: Lexeme<'_>,
 ) -> Result<Course, AllocError>
-    ensures { IfOk result (λ course. seen_course course goal.new place.new ≡ spec.proof_turn goal.old.name (span goal.old.prop) (seen_steps goal.old.script.items) spec.AtNumber (seen_lexeme lexeme.entry)) }
+    ensures { IfOk result (λ course. seen_proof_course course goal.new place.new (seen_lexeme lexeme.entry) ≡ spec.proof_turn goal.old.name (span goal.old.prop) (seen_steps goal.old.script.items) spec.AtNumber (seen_lexeme lexeme.entry)) }
 {
     match number_in(lexeme) {
         None => Ok(Course::Refuses),
@@ -282,66 +313,16 @@ pub(crate) fn proof_course(
     place: &mut ProofPlace,
     lexeme: Lexeme<'_>,
 ) -> Result<Course, AllocError>
-    ensures { IfOk result (λ course. seen_course course goal.new place.new ≡ spec.proof_turn goal.old.name (span goal.old.prop) (seen_steps goal.old.script.items) (seen_proof_place place.old) (seen_lexeme lexeme.entry)) }
+    ensures { IfOk result (λ course. seen_proof_course course goal.new place.new (seen_lexeme lexeme.entry) ≡ spec.proof_turn goal.old.name (span goal.old.prop) (seen_steps goal.old.script.items) (seen_proof_place goal.old place.old) (seen_lexeme lexeme.entry)) }
 {
-    match place {
+    match *place {
         ProofPlace::AtStep => at_step(goal, place, lexeme),
         ProofPlace::AtNumber => at_number(goal, place, lexeme),
-        ProofPlace::AtMethod { last } => {
-            let last = *last;
-            at_method(goal, place, last, lexeme)
-        }
-        ProofPlace::AtBasic { last } => {
-            let last = *last;
-            at_basic(goal, place, last, lexeme)
-        }
-        ProofPlace::AfterBasic { last } => {
-            let last = *last;
-            after_basic(goal, place, last, lexeme)
-        }
-        ProofPlace::AtFact { last, method } => {
-            let (last, method) = (*last, *method);
-            at_fact(alloc, goal, place, last, method, lexeme)
-        }
-        ProofPlace::AtUnfolded { last } => {
-            let last = *last;
-            at_unfolded(alloc, goal, place, last, lexeme)
-        }
-        ProofPlace::AfterUnfolded { last, facts } => {
-            let last = *last;
-            if let Some(fact) = name(alloc, lexeme)? {
-                facts.push(fact)?;
-                return Ok(Course::Stays);
-            }
-            let facts = mem::replace(facts, Vec::new(alloc));
-            step(goal, Step::Unfold { facts })?;
-            after_basic(goal, place, last, lexeme)
-        }
-    }
-}
-
-/// Where a token of a proof leads to.
-#[inline(never)]
-pub(crate) fn proof_turn(
-    alloc: Global,
-    goal: Goal,
-    place: ProofPlace,
-    lexeme: Lexeme<'_>,
-) -> Result<Turn, AllocError>
-    ensures { IfOk result (λ turn. seen_turn turn ≡ spec.proof_turn goal.name (span goal.prop) (seen_steps goal.script.items) (seen_proof_place place) (seen_lexeme lexeme.entry)) }
-{
-    let mut goal = goal;
-    let mut place = place;
-    match proof_course(alloc, &mut goal, &mut place, lexeme)? {
-        Course::Stays => Ok(Turn::Moves {
-            place: Place::OfLemma {
-                place: LemmaPlace::InProof { goal, place },
-            },
-        }),
-        Course::Ends => Ok(Turn::Adds {
-            command: proved(alloc, &mut goal)?,
-            place: Place::AtCommand,
-        }),
-        Course::Refuses => Ok(Turn::Refuses),
+        ProofPlace::AtMethod { last } => at_method(goal, place, last, lexeme),
+        ProofPlace::AtBasic { last } => at_basic(goal, place, last, lexeme),
+        ProofPlace::AfterBasic { last } => after_basic(goal, place, last, lexeme),
+        ProofPlace::AtFact { last, method } => at_fact(alloc, goal, place, last, method, lexeme),
+        ProofPlace::AtUnfolded { last } => at_unfolded(alloc, goal, place, last, lexeme),
+        ProofPlace::AfterUnfolded { last } => after_unfolded(alloc, goal, place, last, lexeme),
     }
 }

@@ -4,23 +4,19 @@ ghost use Rattle.pure_grammar.specs.Theories.Lexeme.{Ends};
 ghost use Rattle.pure_grammar.specs.Theories.PhraseTree.{with_text};
 ghost use Rattle.pure_grammar.specs.Theories.Reader as spec;
 ghost use Rattle.pure_script.specs.Seen.{seen_command, seen_commands};
-ghost use Rattle.pure_script.specs.Places.{seen_place, seen_class_place, seen_type_place, seen_arity_place, seen_item_place, seen_lemma_place, seen_proof_place, seen_domains, seen_class, seen_named, seen_turn};
+ghost use Rattle.pure_script.specs.Places.{seen_place, seen_head, seen_rest, seen_type_place, seen_arity_place, seen_item_place, seen_lemma_place, seen_proof_place, seen_domains, seen_class, seen_named, seen_turn, seen_ended};
 ghost use Rattle.pure_script.specs.Lexemes.{seen_lexeme};
 ghost use Rattle.pure_script.specs.States.{seen_state, seen_front, seen_next, seen_header, seen_end, IsNext, IsLed, IsImport};
 
-use crate::arity::{closed, domains_course};
-use crate::class::{class_course, declared};
-use crate::item::{added, item_course};
 use crate::lexeme::{Lexeme, is_word};
 use crate::place::{
-    AbovePlace, ArityPlace, ClassPlace, Course, Domains, Item, ItemCourse, ItemPlace, LemmaPlace,
-    NamedPlace, NewClass, Place, ProofPlace, SortPlace, Turn, TypePlace, command_begun, ident,
-    leave, leave_with,
+    AbovePlace, ArityPlace, Course, Domains, Goal, HeadPlace, Item, ItemPlace, LemmaPlace,
+    NamedPlace, NewClass, Place, ProofPlace, RestPlace, SortPlace, Turn, TypePlace, at_command,
+    command_begun, discard, ident, leave,
 };
-use crate::proof::{proof_course, proved};
 use crate::texts::Texts;
 use crate::theory::{Command, TheoryText};
-use crate::turn::turn;
+use crate::turn::{self, head_turn, rest_course};
 use pure_grammar::{Keyword, TokenKind};
 use pure_text::Text;
 use std::alloc::{AllocError, Global};
@@ -64,7 +60,7 @@ fn body_begun(alloc: Global, header: Header) -> State
     State::InBody {
         header,
         commands,
-        place: Place::AtCommand,
+        place: at_command(),
     }
 }
 
@@ -178,149 +174,71 @@ fn front_next(alloc: Global, front: Front, lexeme: Lexeme<'_>) -> Result<Option<
     }
 }
 
+/// The place becomes this one. Apart, as `discard`.
+fn put(place: &mut Place, behind: Place)
+    ensures { seen_place place.new ≡ seen_place behind }
+{
+    discard(mem::replace(place, behind));
+}
+
 /// Follows a turn, and whether it goes on.
 fn led(commands: &mut Vec<Command>, place: &mut Place, turn: Turn) -> Result<bool, AllocError>
     ensures { IfOk result (λ on. IsLed on (seen_commands commands.new.items) (seen_place place.new) (seen_commands commands.old.items) (seen_turn turn)) }
 {
     match turn {
         Turn::Moves { place: behind } => {
-            *place = behind;
+            put(place, behind);
             Ok(true)
         }
         Turn::Adds {
             command,
             place: behind,
         } => {
+            put(place, behind);
             commands.push(command)?;
-            *place = behind;
             Ok(true)
         }
         Turn::Refuses => Ok(false),
     }
 }
 
-/// One token more of what is not read in place, and whether it goes on.
+/// One token more of the head of a command, and whether it goes on.
 #[inline(never)]
-fn moved(
+fn in_head(
     alloc: Global,
     commands: &mut Vec<Command>,
     place: &mut Place,
+    head: HeadPlace,
     lexeme: Lexeme<'_>,
 ) -> Result<bool, AllocError>
-    ensures { IfOk result (λ on. IsLed on (seen_commands commands.new.items) (seen_place place.new) (seen_commands commands.old.items) (spec.turn (seen_place place.old) (seen_lexeme lexeme.entry))) }
+    ensures { IfOk result (λ on. IsLed on (seen_commands commands.new.items) (seen_place place.new) (seen_commands commands.old.items) (spec.turn (seen_head head) (seen_lexeme lexeme.entry))) }
 {
-    let here = mem::replace(place, Place::AtCommand);
-    led(commands, place, turn(alloc, here, lexeme)?)
+    led(commands, place, head_turn(alloc, head, lexeme)?)
 }
 
-/// One token more of constants, axioms or a definition, and whether it goes on.
+/// The rest of a command ends, or an item of it, and whether the text goes on.
 #[inline(never)]
-fn in_item(
-    alloc: Global,
+fn finish(
     commands: &mut Vec<Command>,
     place: &mut Place,
+    rest: RestPlace,
     lexeme: Lexeme<'_>,
 ) -> Result<bool, AllocError>
-    ensures { IfOk result (λ on. IsLed on (seen_commands commands.new.items) (seen_place place.new) (seen_commands commands.old.items) (spec.turn (seen_place place.old) (seen_lexeme lexeme.entry))) }
+    ensures { IfOk result (λ on. IsLed on (seen_commands commands.new.items) (seen_place place.new) (seen_commands commands.old.items) (seen_ended rest (seen_lexeme lexeme.entry))) }
 {
-    match place {
-        Place::OfItem { place: here } => match item_course(alloc, here, lexeme)? {
-            ItemCourse::Stays => Ok(true),
-            ItemCourse::Refuses => Ok(false),
-            ItemCourse::Adds => {
-                let read = mem::replace(here, ItemPlace::AtItem);
-                led(commands, place, added(read))
-            }
-            ItemCourse::Leaves => led(commands, place, leave(command_begun(lexeme))),
-        },
-        _ => moved(alloc, commands, place, lexeme),
-    }
+    led(commands, place, turn::ended(rest, lexeme))
 }
 
-/// One token more of a lemma, and whether it goes on.
+/// The next command begins, or the end, and whether the text goes on.
 #[inline(never)]
-fn in_lemma(
-    alloc: Global,
+fn left(
     commands: &mut Vec<Command>,
     place: &mut Place,
     lexeme: Lexeme<'_>,
 ) -> Result<bool, AllocError>
-    ensures { IfOk result (λ on. IsLed on (seen_commands commands.new.items) (seen_place place.new) (seen_commands commands.old.items) (spec.turn (seen_place place.old) (seen_lexeme lexeme.entry))) }
+    ensures { IfOk result (λ on. IsLed on (seen_commands commands.new.items) (seen_place place.new) (seen_commands commands.old.items) (spec.leave (spec.command_begun (seen_lexeme lexeme.entry)))) }
 {
-    match place {
-        Place::OfLemma { place: lemma } => match lemma {
-            LemmaPlace::InProof { goal, place: step } => match proof_course(
-                alloc, goal, step, lexeme,
-            )? {
-                Course::Stays => Ok(true),
-                Course::Refuses => Ok(false),
-                Course::Ends => {
-                    commands.push(proved(alloc, goal)?)?;
-                    *place = Place::AtCommand;
-                    Ok(true)
-                }
-            },
-            _ => moved(alloc, commands, place, lexeme),
-        },
-        _ => moved(alloc, commands, place, lexeme),
-    }
-}
-
-/// One token more of an arity, and whether it goes on.
-#[inline(never)]
-fn in_arity(
-    alloc: Global,
-    commands: &mut Vec<Command>,
-    place: &mut Place,
-    lexeme: Lexeme<'_>,
-) -> Result<bool, AllocError>
-    ensures { IfOk result (λ on. IsLed on (seen_commands commands.new.items) (seen_place place.new) (seen_commands commands.old.items) (spec.turn (seen_place place.old) (seen_lexeme lexeme.entry))) }
-{
-    match place {
-        Place::OfArity { place: arity } => match arity {
-            ArityPlace::InDomains {
-                domains,
-                place: sort,
-            } => match domains_course(alloc, domains, sort, lexeme)? {
-                Course::Stays => Ok(true),
-                Course::Refuses => Ok(false),
-                Course::Ends => {
-                    *place = closed(alloc, domains)?;
-                    Ok(true)
-                }
-            },
-            _ => moved(alloc, commands, place, lexeme),
-        },
-        _ => moved(alloc, commands, place, lexeme),
-    }
-}
-
-/// One token more of a class, and whether it goes on.
-#[inline(never)]
-fn in_class(
-    alloc: Global,
-    commands: &mut Vec<Command>,
-    place: &mut Place,
-    lexeme: Lexeme<'_>,
-) -> Result<bool, AllocError>
-    ensures { IfOk result (λ on. IsLed on (seen_commands commands.new.items) (seen_place place.new) (seen_commands commands.old.items) (spec.turn (seen_place place.old) (seen_lexeme lexeme.entry))) }
-{
-    match place {
-        Place::OfClass { place: here } => match here {
-            ClassPlace::InClass { class, place: at } => match class_course(
-                alloc, class, at, lexeme,
-            )? {
-                Course::Stays => Ok(true),
-                Course::Refuses => Ok(false),
-                Course::Ends => {
-                    let command = declared(alloc, class)?;
-                    led(commands, place, leave_with(command, command_begun(lexeme)))
-                }
-            },
-            _ => moved(alloc, commands, place, lexeme),
-        },
-        _ => moved(alloc, commands, place, lexeme),
-    }
+    led(commands, place, leave(command_begun(lexeme)))
 }
 
 /// One token more of the commands, and whether it goes on.
@@ -334,11 +252,20 @@ fn in_body(
     ensures { IfOk result (λ on. IsLed on (seen_commands commands.new.items) (seen_place place.new) (seen_commands commands.old.items) (spec.turn (seen_place place.old) (seen_lexeme lexeme.entry))) }
 {
     match place {
-        Place::OfLemma { .. } => in_lemma(alloc, commands, place, lexeme),
-        Place::OfArity { .. } => in_arity(alloc, commands, place, lexeme),
-        Place::OfClass { .. } => in_class(alloc, commands, place, lexeme),
-        Place::OfItem { .. } => in_item(alloc, commands, place, lexeme),
-        _ => moved(alloc, commands, place, lexeme),
+        Place::AtHead { place: here } => {
+            let head = mem::replace(here, HeadPlace::AtCommand);
+            in_head(alloc, commands, place, head, lexeme)
+        }
+        Place::AtRest { place: here } => match rest_course(alloc, here, lexeme)? {
+            Course::Stays => Ok(true),
+            Course::Refuses => Ok(false),
+            Course::Leaves => left(commands, place, lexeme),
+            Course::Ends => {
+                let nothing = ItemPlace::AtItem;
+                let rest = mem::replace(here, RestPlace::OfItem { place: nothing });
+                finish(commands, place, rest, lexeme)
+            }
+        },
     }
 }
 
@@ -357,6 +284,24 @@ fn is_import(alloc: Global, front: &mut Front, lexeme: Lexeme<'_>) -> Result<boo
         },
         _ => Ok(false),
     }
+}
+
+/// Drops the place before the commands. Apart, as the other `discard`.
+fn discard_front(_front: Front) {}
+
+/// Drops the state.
+pub(crate) fn discard_state(state: State) {
+    match state {
+        State::InFront { front } => discard_front(front),
+        State::InBody { place, .. } => discard(place),
+    }
+}
+
+/// The state becomes this one.
+fn enter(state: &mut State, behind: State)
+    ensures { seen_state state.new ≡ seen_state behind }
+{
+    discard_state(mem::replace(state, behind));
 }
 
 /// Goes to the state behind a token. Apart from `goes_on`, whose every call would pay for the room that the front takes.
@@ -379,7 +324,7 @@ fn goes_anywhere(alloc: Global, state: &mut State, lexeme: Lexeme<'_>) -> Result
             match front_next(alloc, here, lexeme)? {
                 None => Ok(false),
                 Some(behind) => {
-                    *state = behind;
+                    enter(state, behind);
                     Ok(true)
                 }
             }
@@ -411,7 +356,9 @@ fn is_after_end(place: &Place) -> bool
     ensures { result ≡ spec.is_after_end (seen_place place.now) }
 {
     match place {
-        Place::AfterEnd => true,
+        Place::AtHead {
+            place: HeadPlace::AfterEnd,
+        } => true,
         _ => false,
     }
 }
@@ -426,7 +373,9 @@ pub(crate) fn ended(state: State) -> Option<TheoryText>
             commands,
             place,
         } => {
-            if is_after_end(&place) {
+            let may_end = is_after_end(&place);
+            discard(place);
+            if may_end {
                 return Some(TheoryText {
                     name: header.name,
                     imports: header.imports.into_list(),
@@ -435,7 +384,10 @@ pub(crate) fn ended(state: State) -> Option<TheoryText>
             }
             None
         }
-        State::InFront { .. } => None,
+        State::InFront { front } => {
+            discard_front(front);
+            None
+        }
     }
 }
 
@@ -453,8 +405,8 @@ fn front_kind(front: &Front) -> TokenKind
 }
 
 /// What may stand in a proof.
-fn kind_in_proof(place: &ProofPlace) -> TokenKind
-    ensures { result ≡ spec.kind_in_proof (seen_proof_place place.now) }
+fn kind_in_proof(goal: &Goal, place: ProofPlace) -> TokenKind
+    ensures { result ≡ spec.kind_in_proof (seen_proof_place goal.now place) }
 {
     match place {
         ProofPlace::AtStep => TokenKind::Word,
@@ -476,16 +428,6 @@ fn above_kind(class: &NewClass, place: AbovePlace) -> TokenKind
         AbovePlace::AfterClassName => TokenKind::Word,
         AbovePlace::AtAbove => TokenKind::Ident,
         AbovePlace::AfterAbove => TokenKind::Word,
-    }
-}
-
-/// What may stand in a class.
-fn class_kind(place: &ClassPlace) -> TokenKind
-    ensures { result ≡ spec.kind_at (seen_class_place place.now) }
-{
-    match place {
-        ClassPlace::AtClassName => TokenKind::Ident,
-        ClassPlace::InClass { class, place } => above_kind(class, *place),
     }
 }
 
@@ -514,7 +456,7 @@ fn sort_kind(domains: &Domains, place: SortPlace) -> TokenKind
     }
 }
 
-/// What may stand in an arity.
+/// What may stand in an arity, outside its domains.
 fn arity_kind(place: &ArityPlace) -> TokenKind
     ensures { result ≡ spec.kind_at (seen_arity_place place.now) }
 {
@@ -522,7 +464,6 @@ fn arity_kind(place: &ArityPlace) -> TokenKind
         ArityPlace::AtConstructor => TokenKind::Ident,
         ArityPlace::AfterConstructor { .. } => TokenKind::Symbol,
         ArityPlace::AtDomains { .. } => TokenKind::Ident,
-        ArityPlace::InDomains { domains, place } => sort_kind(domains, *place),
         ArityPlace::AtArityClass { .. } => TokenKind::Ident,
     }
 }
@@ -558,7 +499,7 @@ fn item_kind(place: &ItemPlace) -> TokenKind
     }
 }
 
-/// What may stand in a lemma.
+/// What may stand in a lemma, before its proof.
 fn lemma_kind(place: &LemmaPlace) -> TokenKind
     ensures { result ≡ spec.kind_at (seen_lemma_place place.now) }
 {
@@ -566,7 +507,32 @@ fn lemma_kind(place: &LemmaPlace) -> TokenKind
         LemmaPlace::AtLemma => TokenKind::Ident,
         LemmaPlace::AfterLemma { .. } => TokenKind::Symbol,
         LemmaPlace::AtLemmaText { .. } => TokenKind::Quote,
-        LemmaPlace::InProof { place, .. } => kind_in_proof(place),
+    }
+}
+
+/// What may stand between commands or in the head of one.
+fn head_kind(place: &HeadPlace) -> TokenKind
+    ensures { result ≡ spec.kind_at (seen_head place.now) }
+{
+    match place {
+        HeadPlace::AtCommand => TokenKind::Word,
+        HeadPlace::AfterEnd => TokenKind::End,
+        HeadPlace::AtClassName => TokenKind::Ident,
+        HeadPlace::OfType { place } => type_kind(place),
+        HeadPlace::OfArity { place } => arity_kind(place),
+        HeadPlace::OfLemma { place } => lemma_kind(place),
+    }
+}
+
+/// What may stand in the rest of a command.
+fn rest_kind(place: &RestPlace) -> TokenKind
+    ensures { result ≡ spec.kind_at (seen_rest place.now) }
+{
+    match place {
+        RestPlace::InClass { class, place } => above_kind(class, *place),
+        RestPlace::InDomains { domains, place } => sort_kind(domains, *place),
+        RestPlace::OfItem { place } => item_kind(place),
+        RestPlace::InProof { goal, place } => kind_in_proof(goal, *place),
     }
 }
 
@@ -575,13 +541,8 @@ fn kind_at(place: &Place) -> TokenKind
     ensures { result ≡ spec.kind_at (seen_place place.now) }
 {
     match place {
-        Place::AtCommand => TokenKind::Word,
-        Place::AfterEnd => TokenKind::End,
-        Place::OfClass { place } => class_kind(place),
-        Place::OfType { place } => type_kind(place),
-        Place::OfArity { place } => arity_kind(place),
-        Place::OfItem { place } => item_kind(place),
-        Place::OfLemma { place } => lemma_kind(place),
+        Place::AtHead { place } => head_kind(place),
+        Place::AtRest { place } => rest_kind(place),
     }
 }
 

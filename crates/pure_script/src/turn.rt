@@ -3,25 +3,14 @@
 ghost use Rattle.std.specs.Prelude.{◌≡◌, IfOk};
 ghost use Rattle.pure_grammar.specs.Theories.Reader as spec;
 ghost use Rattle.pure_script.specs.Lexemes.{seen_lexeme};
-ghost use Rattle.pure_script.specs.Places.{seen_place, seen_class_place, seen_type_place, seen_arity_place, seen_lemma_place, seen_turn};
+ghost use Rattle.pure_script.specs.Places.{seen_head, seen_rest, seen_type_place, seen_arity_place, seen_lemma_place, seen_turn, seen_course, seen_ended};
 
 use crate::lexeme::Lexeme;
 use crate::place::{
-    ArityPlace, ClassPlace, LemmaPlace, Place, Turn, TypePlace, command_begun, leave,
+    ArityPlace, Course, HeadPlace, LemmaPlace, RestPlace, Turn, TypePlace, command_begun, leave,
 };
 use crate::{arity, class, item, proof, typedecl};
 use std::alloc::{AllocError, Global};
-
-/// Where a token of a class leads to.
-#[inline(never)]
-fn class_turn(alloc: Global, place: ClassPlace, l: Lexeme<'_>) -> Result<Turn, AllocError>
-    ensures { IfOk result (λ turn. seen_turn turn ≡ spec.turn (seen_class_place place) (seen_lexeme l.entry)) }
-{
-    match place {
-        ClassPlace::AtClassName => class::at_class_name(alloc, l),
-        ClassPlace::InClass { class, place } => class::class_turn(alloc, class, place, l),
-    }
-}
 
 /// Where a token of the declaration of a type leads to.
 #[inline(never)]
@@ -36,7 +25,7 @@ fn type_turn(alloc: Global, place: TypePlace, l: Lexeme<'_>) -> Result<Turn, All
     }
 }
 
-/// Where a token of an arity leads to.
+/// Where a token of an arity, outside its domains, leads to.
 #[inline(never)]
 fn arity_turn(alloc: Global, place: ArityPlace, l: Lexeme<'_>) -> Result<Turn, AllocError>
     ensures { IfOk result (λ turn. seen_turn turn ≡ spec.turn (seen_arity_place place) (seen_lexeme l.entry)) }
@@ -45,12 +34,11 @@ fn arity_turn(alloc: Global, place: ArityPlace, l: Lexeme<'_>) -> Result<Turn, A
         ArityPlace::AtConstructor => arity::at_constructor(alloc, l),
         ArityPlace::AfterConstructor { con } => Ok(arity::after_constructor(con, l)),
         ArityPlace::AtDomains { con } => arity::at_domains(alloc, con, l),
-        ArityPlace::InDomains { domains, place } => arity::domains_turn(alloc, domains, place, l),
         ArityPlace::AtArityClass { con, doms } => arity::at_arity_class(alloc, con, doms, l),
     }
 }
 
-/// Where a token of a lemma leads to.
+/// Where a token of a lemma, before its proof, leads to.
 #[inline(never)]
 fn lemma_turn(alloc: Global, place: LemmaPlace, l: Lexeme<'_>) -> Result<Turn, AllocError>
     ensures { IfOk result (λ turn. seen_turn turn ≡ spec.turn (seen_lemma_place place) (seen_lexeme l.entry)) }
@@ -59,21 +47,47 @@ fn lemma_turn(alloc: Global, place: LemmaPlace, l: Lexeme<'_>) -> Result<Turn, A
         LemmaPlace::AtLemma => proof::at_lemma(alloc, l),
         LemmaPlace::AfterLemma { name } => Ok(proof::after_lemma(name, l)),
         LemmaPlace::AtLemmaText { name } => Ok(proof::at_lemma_text(alloc, name, l)),
-        LemmaPlace::InProof { goal, place } => proof::proof_turn(alloc, goal, place, l),
     }
 }
 
-/// Where the token leads to from the place.
-pub(crate) fn turn(alloc: Global, place: Place, l: Lexeme<'_>) -> Result<Turn, AllocError>
-    ensures { IfOk result (λ turn. seen_turn turn ≡ spec.turn (seen_place place) (seen_lexeme l.entry)) }
+/// Where the token leads to from a place between commands or in the head of one.
+pub(crate) fn head_turn(alloc: Global, place: HeadPlace, l: Lexeme<'_>) -> Result<Turn, AllocError>
+    ensures { IfOk result (λ turn. seen_turn turn ≡ spec.turn (seen_head place) (seen_lexeme l.entry)) }
 {
     match place {
-        Place::AtCommand => Ok(leave(command_begun(l))),
-        Place::AfterEnd => Ok(Turn::Refuses),
-        Place::OfClass { place } => class_turn(alloc, place, l),
-        Place::OfType { place } => type_turn(alloc, place, l),
-        Place::OfArity { place } => arity_turn(alloc, place, l),
-        Place::OfItem { place } => item::item_turn(alloc, place, l),
-        Place::OfLemma { place } => lemma_turn(alloc, place, l),
+        HeadPlace::AtCommand => Ok(leave(command_begun(l))),
+        HeadPlace::AfterEnd => Ok(Turn::Refuses),
+        HeadPlace::AtClassName => class::at_class_name(alloc, l),
+        HeadPlace::OfType { place } => type_turn(alloc, place, l),
+        HeadPlace::OfArity { place } => arity_turn(alloc, place, l),
+        HeadPlace::OfLemma { place } => lemma_turn(alloc, place, l),
+    }
+}
+
+/// How a token of the rest of a command goes on, with its place and what is read in place.
+pub(crate) fn rest_course(
+    alloc: Global,
+    place: &mut RestPlace,
+    l: Lexeme<'_>,
+) -> Result<Course, AllocError>
+    ensures { IfOk result (λ course. seen_course course place.new (seen_lexeme l.entry) ≡ spec.turn (seen_rest place.old) (seen_lexeme l.entry)) }
+{
+    match place {
+        RestPlace::InClass { class, place: at } => class::class_course(alloc, class, at, l),
+        RestPlace::InDomains { domains, place: at } => arity::domains_course(alloc, domains, at, l),
+        RestPlace::OfItem { place: at } => item::item_course(alloc, at, l),
+        RestPlace::InProof { goal, place: at } => proof::proof_course(alloc, goal, at, l),
+    }
+}
+
+/// What the token leads to that ends the rest of a command, or an item of it.
+pub(crate) fn ended(place: RestPlace, l: Lexeme<'_>) -> Turn
+    ensures { seen_turn result ≡ seen_ended place (seen_lexeme l.entry) }
+{
+    match place {
+        RestPlace::InClass { class, .. } => class::declared(class, l),
+        RestPlace::InDomains { domains, .. } => arity::closed(domains),
+        RestPlace::OfItem { place } => item::added(place),
+        RestPlace::InProof { goal, .. } => proof::proved(goal),
     }
 }

@@ -5,7 +5,7 @@ ghost use Rattle.pure_script.specs.Lexemes.{seen_lexeme};
 ghost use Rattle.pure_script.specs.Places.{seen_turn};
 
 use crate::lexeme::{Lexeme, is_sign, variable_in};
-use crate::place::{Place, Turn, TypePlace, ident, moves_if, variable};
+use crate::place::{Turn, TypePlace, at_command, ident, moves_if, of_type, variable};
 use crate::texts::Texts;
 use crate::theory::Command;
 use pure_grammar::Sign;
@@ -23,7 +23,7 @@ pub(crate) fn at_type_name(
         None => Ok(Turn::Refuses),
         Some(name) => Ok(Turn::Adds {
             command: Command::TypeDecl { name, params },
-            place: Place::AtCommand,
+            place: at_command(),
         }),
     }
 }
@@ -34,17 +34,13 @@ pub(crate) fn at_params(alloc: Global, lexeme: Lexeme<'_>) -> Result<Turn, Alloc
 {
     match variable_in(lexeme) {
         Some(_) => Ok(Turn::Moves {
-            place: Place::OfType {
-                place: TypePlace::AtTypeName { params: 1 },
-            },
+            place: of_type(TypePlace::AtTypeName { params: 1 }),
         }),
         None => {
             if is_sign(Sign::OpenParenthesis, lexeme) {
                 let params = Texts::none(alloc);
                 return Ok(Turn::Moves {
-                    place: Place::OfType {
-                        place: TypePlace::AtParam { params },
-                    },
+                    place: of_type(TypePlace::AtParam { params }),
                 });
             }
             at_type_name(alloc, 0, lexeme)
@@ -64,9 +60,7 @@ pub(crate) fn at_param(alloc: Global, params: Texts, lexeme: Lexeme<'_>) -> Resu
                 return Ok(Turn::Refuses);
             }
             Ok(Turn::Moves {
-                place: Place::OfType {
-                    place: TypePlace::AfterParam { params },
-                },
+                place: of_type(TypePlace::AfterParam { params }),
             })
         }
     }
@@ -78,16 +72,12 @@ pub(crate) fn after_param(params: Texts, lexeme: Lexeme<'_>) -> Result<Turn, All
 {
     if is_sign(Sign::Comma, lexeme) {
         return Ok(Turn::Moves {
-            place: Place::OfType {
-                place: TypePlace::AtParam { params },
-            },
+            place: of_type(TypePlace::AtParam { params }),
         });
     }
     let params = params.count()?;
     Ok(moves_if(
         is_sign(Sign::CloseParenthesis, lexeme),
-        Place::OfType {
-            place: TypePlace::AtTypeName { params },
-        },
+        of_type(TypePlace::AtTypeName { params }),
     ))
 }

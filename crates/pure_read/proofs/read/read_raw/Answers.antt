@@ -10,8 +10,8 @@ returns-in-Err-clause-fault c =
 
 pub returns-in-Ok-DoneTerm-clause-ok : goal.returns-in-Ok-DoneTerm-clause-ok
 returns-in-Ok-DoneTerm-clause-ok c =
-    spells-term c.args.source.now c.args.tokens.now (seen_stack c.empty-stack.result) c.in-Ok-DoneTerm.term (seen_state c.in-Ok-DoneTerm.field-0) c.empty-stack.ensures (ap seen_state c.in-Ok-DoneTerm.field-0-is)
-    c.in-Ok-DoneTerm.ensures.ok
+    rw c.into_inner.ensures (spells-term c.args.source.now c.args.tokens.now (seen_stack c.empty-stack.result) c.in-Ok-DoneTerm.term.value (seen_state c.in-Ok-DoneTerm.field-0) c.empty-stack.ensures (ap seen_state c.in-Ok-DoneTerm.field-0-is)
+    c.in-Ok-DoneTerm.ensures.ok)
 
 pub returns-in-Ok-DoneType-clause-fault : goal.returns-in-Ok-DoneType-clause-fault
 returns-in-Ok-DoneType-clause-fault c =

@@ -15,5 +15,5 @@ returns-in-Ok-DoneType-clause-ok c =
 
 pub returns-in-Ok-DoneTerm-clause-fault : goal.returns-in-Ok-DoneTerm-clause-fault
 returns-in-Ok-DoneTerm-clause-fault c =
-    absurd (no-term-of-type c.args.source.now c.args.tokens.now (seen_stack c.empty-stack.result) c.in-Ok-DoneTerm.field-0-0 (seen_state c.in-Ok-DoneTerm.field-0) c.empty-stack.ensures (ap seen_state c.in-Ok-DoneTerm.field-0-is)
+    absurd (no-term-of-type c.args.source.now c.args.tokens.now (seen_stack c.empty-stack.result) c.in-Ok-DoneTerm.field-0-0.value (seen_state c.in-Ok-DoneTerm.field-0) c.empty-stack.ensures (ap seen_state c.in-Ok-DoneTerm.field-0-is)
     c.in-Ok-DoneTerm.ensures.ok)
