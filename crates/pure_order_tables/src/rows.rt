@@ -1,5 +1,5 @@
 //! Rows of bits: sets of numbers, in words of 64 bits.
-ghost use Rattle.std.specs.Prelude.{◌≡◌, ◌↔◌, ◌⊎◌, ◌<◌, ◌/◌, ℕ, IsTrue, IfOk, length};
+ghost use Rattle.std.specs.Prelude.{◌≡◌, ◌↔◌, ◌⊎◌, ◌<◌, ◌/◌, ℕ, IsTrue, MatchBool, IfOk, length};
 ghost use Rattle.pure_order_tables.specs.Rows.{Holds};
 
 use std::alloc::{AllocError, Global};
@@ -17,6 +17,13 @@ pub(crate) fn holds(row: &[u64], place: usize) -> bool
     ensures { IsTrue result ↔ Holds row.now place }
 {
     place / 64 < row.len() && (row[place / 64] >> (place % 64)) & 1 == 1
+}
+
+/// Whether the first row holds the number, and the second doesn't.
+pub(crate) fn holds_only(first: &[u64], second: &[u64], place: usize) -> bool
+    ensures { MatchBool result (Holds first.now place × (¬ Holds second.now place)) ((¬ Holds first.now place) ⊎ Holds second.now place) }
+{
+    holds(first, place) && !holds(second, place)
 }
 
 /// Puts the number into the row.
