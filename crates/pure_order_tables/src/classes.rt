@@ -9,7 +9,7 @@ ghost use Rattle.pure_order_tables.specs.ClassTable.{AreAllAbove, HasNumbers, Is
 ghost use Rattle.pure_order_tables.specs.ClassView.{class_of, classes_of, shared_classes};
 
 use crate::maps::copied;
-use crate::names::{put, put_all};
+use crate::names::put;
 use crate::room::push_in_room;
 use crate::rows::{empty_row, holds, holds_only, put_place, put_row};
 use crate::shares::shared;
@@ -78,14 +78,14 @@ impl ClassTable {
     }
 
     /// The count of classes.
-    fn count(&self) -> usize
+    pub(crate) fn count(&self) -> usize
         ensures { result ≡ length self.now }
     {
         self.entries.len()
     }
 
     /// The number of a declared class.
-    fn number(&self, class: Name) -> Option<usize>
+    pub(crate) fn number(&self, class: Name) -> Option<usize>
         ensures { MatchOption result (¬ IsDeclared self.now class) (IsNumber self.now class) }
     {
         self.numbers.get(&class.0).copied()
@@ -101,8 +101,16 @@ impl ClassTable {
         &**pointer
     }
 
+    /// The class with a number.
+    pub(crate) fn name(&self, number: usize) -> Name
+        requires { number < length self.now }
+        ensures { result ≡ name_at self.now number }
+    {
+        self.numbered(number).name
+    }
+
     /// The numbers of the classes above the class with a number.
-    fn row_of(&self, number: usize) -> &[u64]
+    pub(crate) fn row_of(&self, number: usize) -> &[u64]
         requires { number < length self.now }
         ensures { IsRow self.now (name_at self.now number) result.now }
     {
@@ -172,18 +180,6 @@ impl ClassTable {
         ensures { IsAntisymmetric (of_classes self.now) }
     {
         let _ = &self.numbers;
-    }
-
-    /// Puts the classes above this one among the names.
-    pub(crate) fn put_above(&self, names: &mut Vec<Name>, class: Name) -> Result<(), AllocError>
-        requires { IsStrictlyIncreasing names.old.items }
-        ensures ascend { IsStrictlyIncreasing names.new.items }
-        ensures has { OnOk result ((x : ℕ) → IsIn x names.new.items ↔ (IsClassBelow (of_classes self.now) class x ⊎ IsIn x names.old.items)) }
-    {
-        match self.above(class) {
-            None => put(names, class),
-            Some(above) => put_all(names, above),
-        }
     }
 
     /// The numbers of these classes.

@@ -45,3 +45,25 @@ pub(crate) fn put_row(row: &mut Vec<u64>, other: &[u64])
         row[i] |= word;
     }
 }
+
+/// Puts into the words, which stand in a frame, what the row holds, as far as they go.
+pub(crate) fn put_words(words: &mut [u64; 64], row: &[u64])
+    ensures { (place : ℕ) → Holds words.new place ↔ (Holds words.old place ⊎ ((place < 4096) × Holds row.now place)) }
+{
+    for i in 0..row.len().min(64) {
+        let word = row[i];
+        words[i] |= word;
+    }
+}
+
+/// Whether some number is in both rows.
+pub(crate) fn meet(first: &[u64], second: &[u64]) -> bool
+    ensures { IsTrue result ↔ ((place : ℕ) × Holds first.now place × Holds second.now place) }
+{
+    for i in 0..first.len().min(second.len()) {
+        if first[i] & second[i] != 0 {
+            return true;
+        }
+    }
+    false
+}
