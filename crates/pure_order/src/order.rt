@@ -284,14 +284,13 @@ impl Order {
         ensures coregular { IfOk result IsCoregular }
         ensures fault { IfErr result (IsMergeFault self.now other.now) }
     {
-        let tables = self.tables.united(alloc, &other.tables)?;
-        if let Some(found) = tables.least_conflict(alloc)? {
-            return Err(OrderFault::NotCoregular {
+        match self.tables.united(alloc, &other.tables)? {
+            Ok(tables) => Ok(Order { tables }),
+            Err(found) => Err(OrderFault::NotCoregular {
                 con: found.0,
                 c1: found.1,
                 c2: found.2,
-            });
+            }),
         }
-        Ok(Order { tables })
     }
 }

@@ -50,11 +50,6 @@ candidate_at cs es B k d i e domains same read there p =
     let place : IsPlace (algebra_of cs es) k d i = rw same p in
     (arity_of e, sym there, rw same at (rw found at (place.greatest (arity_of e))))
 
--- What is above the candidate is above the greatest.
-pub greater_or_not : (A : Algebra) (k d : ℕ) (q : Arity) (candidate domains : List (List ℕ)) (b : Bool) → q.domains ≡ candidate → IsGreatestIfAny A k d q → (IsTrue b ↔ EachTwo (IsSortBelow A) candidate domains) → MatchBool b (IsAboveGreatest A k d domains) (IsNotAbove A k d domains)
-greater_or_not A k d q candidate domains true there g test = λ b h. two-trans A b.domains q.domains domains (g.above b h) (rw there (test.0 refl))
-greater_or_not A k d q candidate domains false there g test = (q, g.is, λ h. (let t = test.1 (rw there at h) in cc))
-
 -- the classes above a class, in the algebra of the table
 pub above_in : (cs : List Class) (es : List ArityEntry) (A : Algebra) (c : ℕ) (names : List ℕ) → algebra_of cs es ≡ A → AreAllAbove cs c names → (d : ℕ) → IsIn d names ↔ IsClassBelow A c d
 above_in cs es A c names same all d = rw (← same) (λ m. (below-classes (algebra_of cs es) c d).0 ((all.are d).0 m), λ h. (all.are d).1 ((below-classes (algebra_of cs es) c d).1 h))
@@ -112,3 +107,11 @@ algebra_copied cs ds es fs e f = λ i. record { classes = e i; arities = f i }
 -- one turn of the sharing of arities
 pub more_shared : (xs zs ys ys' : List ArityEntry) (e f : ArityEntry) → ys' ≡ ys ++ f ∷ [] → arity_of f ≡ arity_of e → arities_of zs ≡ arities_of xs ++ arity_of e ∷ [] → arities_of ys ≡ arities_of xs → arities_of ys' ≡ arities_of zs
 more_shared xs zs ys ys' e f longer same read before = ap arities_of longer ∙ map-append arity_of ys (f ∷ []) ∙ ap (λ bs. bs ++ arity_of f ∷ []) before ∙ ap (λ a. arities_of xs ++ a ∷ []) same ∙ sym read
+
+-- Where a constructor has an arity for a class below another, its places have one.
+pub some_greatest : (A B : Algebra) (slots : BTreeMap ℕ (Arc (BTreeMap ℕ ℕ) Global)) → A ≡ B → IsArityTable A slots → (k d : ℕ) (q : Arity) → IsArityBelow B k d q → (c : Arity) × IsGreatestIfAny B k d c
+some_greatest A B slots same t = subst (λ (X : Algebra). (k d : ℕ) (q : Arity) → IsArityBelow X k d q → (c : Arity) × IsGreatestIfAny X k d c) same (λ k d q h. by k d q (places_in (get nat_cmp slots k) d) (t.places k d) h)
+  where
+    by : (k d : ℕ) (q : Arity) (o : Option ℕ) → MatchOption o ((q : Arity) → ¬ IsArityBelow A k d q) (IsPlace A k d) → IsArityBelow A k d q → (c : Arity) × IsGreatestIfAny A k d c
+    by k d q None m h = absurd (m q h)
+    by k d q (Some i) m h = (get_or A.arities i q, m.greatest q)

@@ -27,7 +27,7 @@ above_declared done (l ∷ ls) k d f m n = elim m [
 old_inclusion : (cs : List Class) (k l : Class) (c : ℕ) → IsIn l (cs ++ k ∷ []) → l.name ≡ c → ¬ (c ≡ k.name) → IsIn l cs
 old_inclusion cs k l c m n other = elim (in_split l cs (k ∷ []) m) [ inl a ↦ a | inr w ↦ elim w [ inl same ↦ absurd (other (sym n ∙ ap (λ (x : Class). x.name) same)) | inr none ↦ absurd none ] ]
 
-declared_at : (cs : List Class) (b c : ℕ) → b ≡ c → IsDeclared cs b → IsDeclared cs c
+pub declared_at : (cs : List Class) (b c : ℕ) → b ≡ c → IsDeclared cs b → IsDeclared cs c
 declared_at cs b c e m = rw (← e) m
 
 -- A further class changes nothing below other classes.

@@ -1,5 +1,5 @@
 -- A table of classes with one more class.
-use Rattle.std.proofs.Common.{◌≡◌, ℕ, ◌+◌, ◌<◌, ◌/◌, zero, suc, List, [], ◌∷◌, ◌++◌, length, get_or, refl, sym, ap, inl, inr, ◌⊎◌, ◌↔◌, Option, Some, None, MatchOption, ◌∙◌, arith, length-append}
+use Rattle.std.proofs.Common.{◌≡◌, ℕ, ◌+◌, ◌-◌, ◌<◌, ◌≤◌, ◌/◌, zero, suc, List, [], ◌∷◌, ◌++◌, length, get_or, refl, sym, ap, inl, inr, ◌⊎◌, ◌↔◌, Option, Some, None, MatchOption, ◌∙◌, arith, length-append}
 use Rattle.std.proofs.Math.ListN.{get_or-append}
 use Rattle.std.proofs.Math.Seq.{get_or-append_seam}
 use Rattle.std.proofs.lemmas.List.{length-map}
@@ -11,18 +11,18 @@ use Rattle.std.specs.declared.alloc.Global.{Global}
 use Rattle.std.specs.Ordering.{nat_cmp}
 use Rattle.pure_text.specs.Lists.{IsIn, Each, AnyOf}
 use Rattle.pure_definitions.specs.Types.Order.{Class, IsClassBelow, itself, along}
-use Rattle.pure_text.proofs.ListLaws.{any_of, any_imply, in-append_left, in-append_right, in_split, in_or_not, any_split, any_some, each_of, each_at, each-append, any-append_left, any-append_right}
+use Rattle.pure_text.proofs.ListLaws.{any_of, any_imply, each_imply, in-append_left, in-append_right, in_split, in_or_not, any_split, any_some, each_of, each_at, each-append, any-append_left, any-append_right}
 use Rattle.std.proofs.lemmas.List.{map-append}
 use Rattle.pure_order_tables.specs.declared.classes.ClassEntry.{ClassEntry}
 use Rattle.pure_order_tables.specs.ClassView.{class_of, classes_of, shared_classes}
 use Rattle.pure_order_tables.specs.Shares.{values_of}
 use Rattle.pure_order_tables.specs.Rows.{Holds}
 use Rattle.pure_order_tables.specs.Classes.{IsDeclared, Follows, of_classes}
-use Rattle.pure_order_tables.specs.ClassTable.{AreAllAbove, IsClassTable, IsEntry, IsNewRow, IsNumber, IsRow, NamedBefore, name_at, no_class}
+use Rattle.pure_order_tables.specs.ClassTable.{AreAllAbove, HasNumbers, IsClassTable, IsEntry, IsNewRow, IsNumber, IsRow, NamedBefore, name_at, no_class}
 use Rattle.std.proofs.lemmas.Bool.Decides.{eqb_tells}
 use Rattle.pure_order_tables.specs.Checks.{IsDecided}
 use Rattle.pure_order_tables.proofs.MapLaws.{get_after}
-use Rattle.pure_definitions.proofs.OrderLaws.{below-more, below_same}
+use Rattle.pure_definitions.proofs.OrderLaws.{below-trans, below-more, below_same}
 use Rattle.pure_order_tables.proofs.BelowLaws.{below-one_more, below-undeclared, follows-one_more, declared, reaches}
 
 from_new : (cs : List Class) (k : Class) → Follows [] cs → ¬ IsDeclared cs k.name → Each (IsDeclared cs) k.above → (c d : ℕ) → c ≡ k.name → IsClassBelow (of_classes (cs ++ k ∷ [])) c d → (d ≡ k.name) ⊎ AnyOf (λ b. IsClassBelow (of_classes cs) b d) k.above
@@ -82,6 +82,9 @@ declared_at_number [] n h = absurd (omega arith)
 declared_at_number (k ∷ ks) zero h = inl refl
 declared_at_number (k ∷ ks) (suc n) h = inr (declared_at_number ks n (omega arith))
 
+pub declared_by : (cs : List Class) (c n : ℕ) → IsNumber cs c n → IsDeclared cs c
+declared_by cs c n w = rw w.named at (declared_at_number cs n w.within)
+
 pub number_of : (cs : List Class) (c : ℕ) → IsDeclared cs c → (n : ℕ) × IsNumber cs c n
 number_of [] c m = absurd m
 number_of (k ∷ ks) c m = elim m [
@@ -89,7 +92,7 @@ number_of (k ∷ ks) c m = elim m [
   | inr t ↦ (let w = number_of ks c t in (suc w.0, record { within = omega (arith, w.1.within); named = w.1.named }))
 ]
 
-last_or_before : (m n : ℕ) → m < n + 1 → (m < n) ⊎ (m ≡ n)
+pub last_or_before : (m n : ℕ) → m < n + 1 → (m < n) ⊎ (m ≡ n)
 last_or_before m n h = grind arith
 
 inside : (cs : List Class) (k : Class) (n : ℕ) → n < length (cs ++ k ∷ []) → (n < length cs) ⊎ (n ≡ length cs)
@@ -248,19 +251,76 @@ not_reached cs f c d e named is none h = elim (reaches (of_classes cs) f h) [
 pub row_at : (cs : List Class) (e : ClassEntry) (c : ℕ) (words : List ℕ) → e.name ≡ c → words ≡ e.row.items → IsEntry cs e → IsRow cs c words
 row_at cs e c words named same is = rw (← named, same) is.row
 
-pub row_turn : (cs : List Class) (old other new : List ℕ) (b last : ℕ) (P P' : ℕ → Type 0) → ((n : ℕ) → P' n ↔ (P n ⊎ ((n < length cs) × IsClassBelow (of_classes cs) b (name_at cs n)))) → length cs ≡ last → length old ≡ last / 64 + 1 → IsRow cs b other
-    → ((n : ℕ) → Holds new n ↔ (Holds old n ⊎ ((n / 64 < length old) × Holds other n))) → ((n : ℕ) → Holds old n ↔ ((n ≡ last) ⊎ P n)) → (n : ℕ) → Holds new n ↔ ((n ≡ last) ⊎ P' n)
-row_turn cs old other new b last P P' more count long row joined before n = (
-  λ h. elim ((joined n).0 h) [
-    | inl o ↦ elim ((before n).0 o) [ inl e ↦ inl e | inr p ↦ inr ((more n).1 (inl p)) ]
-    | inr w ↦ inr ((more n).1 (inr ((row n).0 w.1)))
-  ],
+-- one turn of the gathering of numbers
+pub number_only : (cs : List Class) (names words words' : List ℕ) (c n : ℕ) → IsIn c names → IsNumber cs c n → ((m : ℕ) → Holds words' m ↔ ((m ≡ n) ⊎ Holds words m)) → ((m : ℕ) → Holds words m → (m < length cs) × IsIn (name_at cs m) names)
+    → (m : ℕ) → Holds words' m → (m < length cs) × IsIn (name_at cs m) names
+number_only cs names words words' c n among is put before m h = elim ((put m).0 h) [ inl e ↦ rw e (is.within, rw is.named among) | inr o ↦ before m o ]
+
+pub number_each : (cs : List Class) (read words words' : List ℕ) (n : ℕ) → ((m : ℕ) → Holds words' m ↔ ((m ≡ n) ⊎ Holds words m)) → Each (λ c. (m : ℕ) × IsNumber cs c m × Holds words m) read → Each (λ c. (m : ℕ) × IsNumber cs c m × Holds words' m) read
+number_each cs read words words' n put before = each_imply (λ c. (m : ℕ) × IsNumber cs c m × Holds words m) (λ c. (m : ℕ) × IsNumber cs c m × Holds words' m) read (λ c w. (w.0, w.1, (put w.0).1 (inr w.2))) before
+
+-- The row of a new class so far: the numbers from an end on of the classes above it have been seen. It goes up with the order.
+pub record IsRowSoFar (cs : List Class) (above numbers row : List ℕ) (i : ℕ) : Type 0 where
+  pub count : length row ≡ length cs / 64 + 1
+  pub last : Holds row (length cs)
+  pub only : (n : ℕ) → Holds row n → (n ≡ length cs) ⊎ AnyOf (λ b. (n < length cs) × IsClassBelow (of_classes cs) b (name_at cs n)) above
+  pub closed : (m n : ℕ) → Holds row m → m < length cs → n < length cs → IsClassBelow (of_classes cs) (name_at cs m) (name_at cs n) → Holds row n
+  pub seen : (m : ℕ) → Holds numbers m → length cs ≤ m + i → Holds row m
+
+pub so_far_start : (cs : List Class) (above numbers empty row : List ℕ) → HasNumbers cs above numbers → length row ≡ length cs / 64 + 1 → ((n : ℕ) → ¬ Holds empty n) → ((n : ℕ) → Holds row n ↔ ((n ≡ length cs) ⊎ Holds empty n)) → IsRowSoFar cs above numbers row 0
+so_far_start cs above numbers empty row has count none put = record {
+  count = count;
+  last = (put (length cs)).1 (inl refl);
+  only = λ n h. elim ((put n).0 h) [ inl e ↦ inl e | inr o ↦ absurd (none n o) ];
+  closed = λ m n h within. elim ((put m).0 h) [ inl e ↦ absurd (omega arith) | inr o ↦ absurd (none m o) ];
+  seen = λ m h end. (let w = has.only m h in absurd (omega (arith, w.0)));
+}
+
+pub here_or_before : (last i m : ℕ) → i < last → last ≤ m + (i + 1) → m < last → (m ≡ last - 1 - i) ⊎ (last ≤ m + i)
+here_or_before last i m h end within = grind arith
+
+pub so_far_put : (cs : List Class) (above numbers row other row' : List ℕ) (i number : ℕ) → HasNumbers cs above numbers → i < length cs → number ≡ length cs - 1 - i → Holds numbers number → IsRow cs (name_at cs number) other → ((n : ℕ) → Holds row' n ↔ (Holds row n ⊎ ((n / 64 < length row) × Holds other n))) → length row' ≡ length row
+    → IsRowSoFar cs above numbers row i → IsRowSoFar cs above numbers row' (i + 1)
+so_far_put cs above numbers row other row' i number has within is held theirs put long s = record {
+  count = long ∙ s.count;
+  last = (put (length cs)).1 (inl s.last);
+  only = λ n h. elim ((put n).0 h) [
+    | inl o ↦ s.only n o
+    | inr w ↦ inr (any_of (λ b. (n < length cs) × IsClassBelow (of_classes cs) b (name_at cs n)) (name_at cs number) above (has.only number held).1 ((theirs n).0 w.1))
+  ];
+  closed = λ m n h m_within n_within below. elim ((put m).0 h) [
+    | inl o ↦ (put n).1 (inl (s.closed m n o m_within n_within below))
+    | inr w ↦ reach n n_within (below-trans ((theirs m).0 w.1).1 below)
+  ];
+  seen = λ m h end. elim (here_or_before (length cs) i m within end (has.only m h).0) [
+    | inl e ↦ reach m (has.only m h).0 (rw (e ∙ sym is) itself)
+    | inr before ↦ (put m).1 (inl (s.seen m h before))
+  ];
+}
+  where
+    reach : (n : ℕ) → n < length cs → IsClassBelow (of_classes cs) (name_at cs number) (name_at cs n) → Holds row' n
+    reach n n_within below = (put n).1 (inr (rw s.count (omega (arith, n_within)), (theirs n).1 (n_within, below)))
+
+pub so_far_kept : (cs : List Class) (above numbers row : List ℕ) (i number : ℕ) → HasNumbers cs above numbers → i < length cs → number ≡ length cs - 1 - i → (¬ Holds numbers number) ⊎ Holds row number → IsRowSoFar cs above numbers row i → IsRowSoFar cs above numbers row (i + 1)
+so_far_kept cs above numbers row i number has within is held s = record {
+  count = s.count;
+  last = s.last;
+  only = s.only;
+  closed = s.closed;
+  seen = λ m h end. elim (here_or_before (length cs) i m within end (has.only m h).0) [
+    | inl e ↦ elim held [ inl not ↦ absurd (not (rw (e ∙ sym is) at h)) | inr there ↦ rw (e ∙ sym is) there ]
+    | inr before ↦ s.seen m h before
+  ];
+}
+
+pub so_far_all : (cs : List Class) (above numbers row : List ℕ) (i : ℕ) → HasNumbers cs above numbers → length cs ≤ i → IsRowSoFar cs above numbers row i → IsNewRow cs above row
+so_far_all cs above numbers row i has end s n = (
+  s.only n,
   λ w. elim w [
-    | inl e ↦ (joined n).1 (inl ((before n).1 (inl e)))
-    | inr p ↦ elim ((more n).0 p) [
-      | inl q ↦ (joined n).1 (inl ((before n).1 (inr q)))
-      | inr q ↦ (joined n).1 (inr (let within = q.0 in omega arith, (row n).1 q))
-    ]
+    | inl e ↦ rw e s.last
+    | inr some ↦ (let b = any_some (λ b. (n < length cs) × IsClassBelow (of_classes cs) b (name_at cs n)) above some in
+        let m = each_at (λ c. (m : ℕ) × IsNumber cs c m × Holds numbers m) above has.each b.0 b.1 in
+        s.closed m.0 n (s.seen m.0 m.2 (omega arith)) m.1.within b.2.0 (rw m.1.named b.2.1))
   ],
 )
 

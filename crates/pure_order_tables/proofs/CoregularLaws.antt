@@ -6,7 +6,7 @@ use Rattle.pure_order_tables.specs.ArityView.{arity_of, arities_of}
 use Rattle.std.proofs.lemmas.Bool.Decides.{eqb_tells}
 use Rattle.pure_text.specs.Lists.{IsIn, Each}
 use Rattle.pure_definitions.specs.Types.Order.{Class, Arity, Algebra, IsClassBelow, AreDomainsBelow, AreCompatible, IsCoregular}
-use Rattle.pure_text.proofs.ListLaws.{each_of, in-append_left, in-append_right, in_split, any_imply, each_at, each-append, any-append_left, any-append_right}
+use Rattle.pure_text.proofs.ListLaws.{each_of, in-map, read_in, in-append_left, in-append_right, in_split, any_imply, each_at, each-append, any-append_left, any-append_right}
 use Rattle.pure_text.proofs.LoopLaws.{longer_by}
 use Rattle.pure_order_tables.specs.Arities.{IsArityBelow, IsGreatest, IsGreatestIfAny, IsKnown, with_class, with_arity}
 use Rattle.pure_order_tables.specs.Checks.{IsDirected, IsDecided, PassesAt, FailsAt, FindsAt}
@@ -111,6 +111,10 @@ found_fail Q k bs (Some d) b c h below is f = record {
 
 pub one_more_arity : (es : List ArityEntry) (i : ℕ) (e : ArityEntry) → i < length es → e ≡ get_or es i e → arities_of (take (i + 1) es) ≡ arities_of (take i es) ++ arity_of e ∷ []
 one_more_arity es i e within read = ap arities_of (longer_by es i e within read) ∙ map-append arity_of (take i es) (e ∷ [])
+
+-- The class of an arity of the table is declared.
+pub declared_read : (cs : List Class) (es : List ArityEntry) (bs : List Arity) (i : ℕ) (e : ArityEntry) → i < length es → e ≡ get_or es i e → arities_of es ≡ bs → Each (IsKnown cs) bs → IsDeclared cs e.class
+declared_read cs es bs i e within read are known = (each_at (IsKnown cs) bs known (arity_of e) (rw (← are) (in-map arity_of e es (read_in es i e within read)))).class
 
 -- One more class keeps the algebra coregular.
 pub coregular_with_class : (A : Algebra) (l : Class) → Follows [] A.classes → ¬ IsDeclared A.classes l.name → Each (IsKnown A.classes) A.arities → IsCoregular A → IsCoregular (with_class A l)

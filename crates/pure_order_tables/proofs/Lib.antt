@@ -7,8 +7,11 @@ pub mod ClassTableLaws
 pub mod ArityLaws
 pub mod ArityTableLaws
 pub mod CoregularLaws
-pub mod JudgeLaws
 pub mod UnknownLaws
 pub mod UnionLaws
+pub mod SideLaws
+pub mod UncoveredLaws
+pub mod SortLaws
 pub mod ConflictLaws
+pub mod JudgeLaws
 pub mod AgreeLaws

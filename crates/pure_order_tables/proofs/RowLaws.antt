@@ -1,10 +1,11 @@
 -- Rows of bits.
-use Rattle.std.proofs.Common.{◌≡◌, ℕ, ◌+◌, ◌*◌, ◌<◌, ◌≤◌, ◌/◌, ◌%◌, ◌^◌, ◌⊎◌, ◌↔◌, inl, inr, List, [], ◌∷◌, length, get_or, set, zero, suc, refl, sym, ap, ◌∙◌, arith, bit_or, w64, max}
+use Rattle.std.proofs.Common.{◌≡◌, ℕ, ◌+◌, ◌*◌, ◌<◌, ◌≤◌, ◌/◌, ◌%◌, ◌^◌, ◌⊎◌, ◌↔◌, inl, inr, List, [], ◌∷◌, length, get_or, set, zero, suc, refl, sym, ap, ◌∙◌, arith, bit_and, bit_or, w64, max, min}
 use Rattle.std.proofs.Math.ListN.{replicate}
 use Rattle.std.specs.Int.{bit_at}
-use Rattle.std.proofs.lemmas.Nat.Bits.{bit_at-zero, bit_at-lt, bit_at_or, bit_at_set_same, bit_at_set_other}
+use Rattle.std.proofs.lemmas.Nat.Bits.{bit_at-zero, bit_at-lt, bit_at_and, bit_at_or, bit_at_lowest, bit_at-suc, bit_at_above, bit_at_set_same, bit_at_set_other}
 use Rattle.std.proofs.lemmas.List.{get_or-set_other, length-set}
 use Rattle.std.proofs.lemmas.Grind.{get_or-set_at}
+use Rattle.std.proofs.lemmas.Bool.{cases_lt}
 use Rattle.std.proofs.lemmas.Bool.Decides.{eqb_tells}
 use Rattle.pure_order_tables.specs.Rows.{Holds}
 
@@ -102,3 +103,50 @@ joined_turn old other now i word within read s = record {
           let before = s.held place (omega (arith, there.1)) in
           (λ h. before.0 (record { bit = rw (← kept) h.bit }), λ h. record { bit = rw kept (before.1 h).bit })
     ]
+
+-- numbers in two rows
+
+pub no_common_bit : (a b i : ℕ) → bit_and a b ≡ 0 → bit_at a i ≡ 1 → bit_at b i ≡ 1 → ⊥
+no_common_bit a b i none p q =
+    let m : bit_at (bit_and a b) i ≡ min (bit_at a i) (bit_at b i) = bit_at_and a b i in
+    let z : bit_at (bit_and a b) i ≡ 0 = rw none (bit_at-zero i) in
+    omega (arith, m, z, p, q)
+
+-- A number other than 0 has a bit.
+some_bit : (most n : ℕ) → n ≤ most → ¬ (n ≡ 0) → (i : ℕ) × (bit_at n i ≡ 1)
+some_bit zero n within some = absurd (some (omega arith))
+some_bit (suc most) n within some = elim (eqb_tells (n % 2) 1) [
+  | inl odd ↦ (0, bit_at_lowest n ∙ odd.1)
+  | inr even ↦ (let w = some_bit most (n / 2) (half most n within some) (halved n some even.1) in (suc w.0, bit_at-suc n w.0 ∙ w.1))
+]
+  where
+    half : (most n : ℕ) → n ≤ suc most → ¬ (n ≡ 0) → n / 2 ≤ most
+    half most n within some = grind arith
+
+    halved : (n : ℕ) → ¬ (n ≡ 0) → ¬ (n % 2 ≡ 1) → ¬ (n / 2 ≡ 0)
+    halved n some even = grind arith
+
+common_bit : (a b : ℕ) → a < 18446744073709551616 → ¬ (bit_and a b ≡ 0) → (i : ℕ) × (i < 64) × (bit_at a i ≡ 1) × (bit_at b i ≡ 1)
+common_bit a b fits some =
+    let w = some_bit (bit_and a b) (bit_and a b) (omega arith) some in
+    let m = bit_at_and a b w.0 in
+    let p = bit_at-lt a w.0 in
+    let q = bit_at-lt b w.0 in
+    let first : bit_at a w.0 ≡ 1 = omega (arith, w.1, m, p, q) in
+    (w.0, elim (cases_lt w.0 64) [ inl few ↦ few | inr past ↦ absurd (let z = bit_at_above a 64 w.0 fits past in omega (arith, z, first)) ], first, omega (arith, w.1, m, p, q))
+
+pub common_place : (first second : List ℕ) (i : ℕ) → get_or first i 0 < 18446744073709551616 → ¬ (bit_and (get_or first i 0) (get_or second i 0) ≡ 0) → (place : ℕ) × Holds first place × Holds second place
+common_place first second i fits some =
+    let w = common_bit (get_or first i 0) (get_or second i 0) fits some in
+    let word : (i * 64 + w.0) / 64 ≡ i = (let k = w.1 in omega arith) in
+    let bit : (i * 64 + w.0) % 64 ≡ w.0 = (let k = w.1 in omega arith) in
+    (i * 64 + w.0, record { bit = rw (word, bit) w.2 }, record { bit = rw (word, bit) w.3 })
+
+pub apart_turn : (first second : List ℕ) (i : ℕ) → bit_and (get_or first i 0) (get_or second i 0) ≡ 0 → ((place : ℕ) → place / 64 < i → Holds first place → ¬ Holds second place) → (place : ℕ) → place / 64 < i + 1 → Holds first place → ¬ Holds second place
+apart_turn first second i none before place within h k = elim (here_or_there (place / 64) i within) [
+  | inl early ↦ before place early h k
+  | inr here ↦ no_common_bit (get_or first i 0) (get_or second i 0) (place % 64) none (rw here at h.bit) (rw here at k.bit)
+]
+  where
+    here_or_there : (m n : ℕ) → m < n + 1 → (m < n) ⊎ (m ≡ n)
+    here_or_there m n h = grind arith

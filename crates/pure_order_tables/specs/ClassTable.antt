@@ -37,6 +37,11 @@ pub record IsEntry (cs : List Class) (e : ClassEntry) : Type 0 where
   pub up : AreAllAbove cs e.name e.up.items
   pub row : IsRow cs e.name e.row.items
 
+-- The row holds numbers of these classes alone, and one of each.
+pub record HasNumbers (cs : List Class) (names words : List ℕ) : Type 0 where
+  pub only : (n : ℕ) → Holds words n → (n < length cs) × IsIn (name_at cs n) names
+  pub each : Each (λ c. (n : ℕ) × IsNumber cs c n × Holds words n) names
+
 -- The row holds the next number, and those of the classes above one of these.
 abbrev pub IsNewRow : List Class → List ℕ → List ℕ → Type 0
 IsNewRow cs above words = (n : ℕ) → Holds words n ↔ ((n ≡ length cs) ⊎ AnyOf (λ b. (n < length cs) × IsClassBelow (of_classes cs) b (name_at cs n)) above)

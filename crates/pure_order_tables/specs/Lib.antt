@@ -9,3 +9,6 @@ pub mod ArityView
 pub mod ArityTable
 pub mod Checks
 pub mod Unknown
+pub mod Sorts
+pub mod Uncovered
+pub mod Exposed

@@ -5,13 +5,13 @@ ghost use Rattle.pure_text.specs.Lists.{IsIn, Each, AnyOf};
 ghost use Rattle.pure_definitions.specs.Types.Order.{Class, IsClassBelow};
 ghost use Rattle.pure_order_tables.specs.Classes.{Agree, Follows, IsAntisymmetric, IsDeclared, IsSameIfNamed, of_classes};
 ghost use Rattle.pure_order_tables.specs.Checks.{IsDecided};
-ghost use Rattle.pure_order_tables.specs.ClassTable.{AreAllAbove, IsEntry, IsNewRow, IsNumber, NamedBefore};
+ghost use Rattle.pure_order_tables.specs.ClassTable.{AreAllAbove, HasNumbers, IsEntry, IsNewRow, IsNumber, IsRow, NamedBefore, name_at};
 ghost use Rattle.pure_order_tables.specs.ClassView.{class_of, classes_of, shared_classes};
 
 use crate::maps::copied;
-use crate::names::{put, put_all};
+use crate::names::put;
 use crate::room::push_in_room;
-use crate::rows::{empty_row, holds, put_place, put_row};
+use crate::rows::{empty_row, holds, holds_only, put_place, put_row};
 use crate::shares::shared;
 use pure_typ::Name;
 use std::alloc::{AllocError, Global};
@@ -78,14 +78,14 @@ impl ClassTable {
     }
 
     /// The count of classes.
-    fn count(&self) -> usize
+    pub(crate) fn count(&self) -> usize
         ensures { result ≡ length self.now }
     {
         self.entries.len()
     }
 
     /// The number of a declared class.
-    fn number(&self, class: Name) -> Option<usize>
+    pub(crate) fn number(&self, class: Name) -> Option<usize>
         ensures { MatchOption result (¬ IsDeclared self.now class) (IsNumber self.now class) }
     {
         self.numbers.get(&class.0).copied()
@@ -99,6 +99,22 @@ impl ClassTable {
     {
         let pointer = &self.entries[number];
         &**pointer
+    }
+
+    /// The class with a number.
+    pub(crate) fn name(&self, number: usize) -> Name
+        requires { number < length self.now }
+        ensures { result ≡ name_at self.now number }
+    {
+        self.numbered(number).name
+    }
+
+    /// The numbers of the classes above the class with a number.
+    pub(crate) fn row_of(&self, number: usize) -> &[u64]
+        requires { number < length self.now }
+        ensures { IsRow self.now (name_at self.now number) result.now }
+    {
+        self.numbered(number).row.as_slice()
     }
 
     /// The entry of a declared class.
@@ -115,7 +131,7 @@ impl ClassTable {
     pub fn is_declared(&self, class: Name) -> bool
         ensures { IsTrue result ↔ IsDeclared self.now class }
     {
-        match self.above(class) {
+        match self.number(class) {
             None => false,
             Some(_) => true,
         }
@@ -166,29 +182,33 @@ impl ClassTable {
         let _ = &self.numbers;
     }
 
-    /// Puts the classes above this one among the names.
-    pub(crate) fn put_above(&self, names: &mut Vec<Name>, class: Name) -> Result<(), AllocError>
-        requires { IsStrictlyIncreasing names.old.items }
-        ensures ascend { IsStrictlyIncreasing names.new.items }
-        ensures has { OnOk result ((x : ℕ) → IsIn x names.new.items ↔ (IsClassBelow (of_classes self.now) class x ⊎ IsIn x names.old.items)) }
+    /// The numbers of these classes.
+    fn numbers_of(&self, alloc: Global, classes: &[Name]) -> Result<Vec<u64>, AllocError>
+        requires { Each (IsDeclared self.now) classes.now }
+        ensures { IfOk result (λ row. HasNumbers self.now classes.now row.items) }
     {
-        match self.above(class) {
-            None => put(names, class),
-            Some(above) => put_all(names, above),
+        let mut row = empty_row(alloc, self.count() / 64 + 1)?;
+        for class in classes {
+            if let Some(number) = self.number(*class) {
+                put_place(&mut row, number);
+            }
         }
+        Ok(row)
     }
 
-    /// The row of a new class: its own number, and those of the classes above one of these.
+    /// The row of a new class: its own number, and those of the classes above one of these. The lowest of these come first, so that a row is read only where it adds something.
     fn new_row(&self, alloc: Global, above: &[Name]) -> Result<Vec<u64>, AllocError>
         requires { Each (IsDeclared self.now) above.now }
         ensures { IfOk result (λ row. IsNewRow self.now above.now row.items) }
     {
         let last = self.count();
+        let numbers = self.numbers_of(alloc, above)?;
         let mut row = empty_row(alloc, last / 64 + 1)?;
         put_place(&mut row, last);
-        for class in above {
-            if let Some(entry) = self.entry(*class) {
-                put_row(&mut row, entry.row.as_slice());
+        for i in 0..last {
+            let number = last - 1 - i;
+            if holds_only(numbers.as_slice(), row.as_slice(), number) {
+                put_row(&mut row, self.row_of(number));
             }
         }
         Ok(row)

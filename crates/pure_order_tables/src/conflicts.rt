@@ -1,114 +1,115 @@
-//! The conflicts among the declared arities, and the least of them.
-ghost use Rattle.std.specs.Prelude.{◌≡◌, ◌⊎◌, ◌<◌, ℕ, IfOk, MatchOption};
-ghost use Rattle.std.specs.Bool.{OnTrue};
-ghost use Rattle.std.specs.List.Sorted.{IsStrictlyIncreasing};
-ghost use Rattle.pure_text.specs.Lists.{IsIn, Each};
-ghost use Rattle.pure_definitions.specs.Types.Order.{IsClassBelow, IsCoregular};
+//! The conflicts between the arities of two tables, and the least of them.
+ghost use Rattle.std.specs.Prelude.{◌≡◌, ◌↔◌, IsTrue, IfOk};
+ghost use Rattle.pure_text.specs.Lists.{Each};
+ghost use Rattle.pure_order_tables.specs.Arities.{IsKnown};
 ghost use Rattle.pure_order_tables.specs.ArityView.{arity_of};
-ghost use Rattle.pure_order_tables.specs.Checks.{FindsPair, IsBelowOf, IsDirected, IsLeastConflict};
+ghost use Rattle.pure_order_tables.specs.Classes.{IsDeclared};
+ghost use Rattle.pure_order_tables.specs.Uncovered.{Extends};
+ghost use Rattle.pure_order_tables.specs.Exposed.{AreExposed, AreIn, AreSides, Clash, FindsClash, FindsConflict, IsExposed, names_in};
 
-use crate::names::{lesser_pair, put};
+use crate::names::lesser_names;
+use crate::rows::{holds, meet};
 use crate::tables::{ArityEntry, Tables};
-use pure_typ::{Name, Sort};
+use pure_typ::Name;
 use std::alloc::{AllocError, Global};
 
+/// An arity that other tables lack: its constructor and class, the number of the class, and the numbers of the classes above it at which the others don't cover it.
+#[derive(Drop)]
+pub(crate) struct Exposed {
+    con: Name,
+    class: Name,
+    number: usize,
+    row: Vec<u64>,
+}
+
+/// Whether the arities are in conflict.
+fn clash(first: &Exposed, second: &Exposed) -> bool
+    ensures { IsTrue result ↔ Clash first.now second.now }
+{
+    first.con == second.con
+        && (holds(first.row.as_slice(), second.number)
+            || holds(second.row.as_slice(), first.number)
+            || meet(first.row.as_slice(), second.row.as_slice()))
+}
+
+/// Their constructor and their classes, the lesser first.
+fn names(first: &Exposed, second: &Exposed) -> (Name, Name, Name)
+    ensures { result ≡ names_in first.now second.now }
+{
+    let lower = first.class.0.min(second.class.0);
+    let upper = first.class.0.max(second.class.0);
+    (first.con, Name(lower), Name(upper))
+}
+
+/// The least constructor and the least two classes of a first and a second arity in conflict.
+fn least_clash(firsts: &[Exposed], seconds: &[Exposed]) -> Option<(Name, Name, Name)>
+    ensures { FindsClash (AreIn firsts.now seconds.now) result }
+{
+    let mut least = None;
+    for first in firsts {
+        for second in seconds {
+            if clash(first, second) {
+                least = Some(lesser_names(least, names(first, second)));
+            }
+        }
+    }
+    least
+}
+
 impl Tables {
-    /// Whether the arity's domains are below these, where it is one of the constructor for a class below this one.
-    fn is_below_of(&self, arity: &ArityEntry, con: Name, class: Name, domains: &[Sort]) -> bool
-        ensures { OnTrue result (IsBelowOf self.now con class domains.now (arity_of arity.now)) }
+    /// What the conflicts of an arity rest on, beside the arities of other tables.
+    fn expose(
+        &self,
+        alloc: Global,
+        arity: &ArityEntry,
+        other: &Tables,
+    ) -> Result<Exposed, AllocError>
+        requires extends { Extends self.now other.now }
+        requires declared { IsDeclared self.now.classes arity.now.class }
+        ensures { IfOk result (IsExposed self.now other.now (arity_of arity.now)) }
     {
-        arity.con != con
-            || !self.below(arity.class, class)
-            || self.domains_below(arity.sorts(), domains)
+        let number = self.number_of(arity.class);
+        let row = self.uncovered(alloc, arity, other)?;
+        Ok(Exposed {
+            con: arity.con,
+            class: arity.class,
+            number,
+            row,
+        })
     }
 
-    /// Whether the domains are above those of all the constructor's arities for classes below this one.
-    fn are_all_below(&self, con: Name, class: Name, domains: &[Sort]) -> bool
-        ensures { OnTrue result (Each (IsBelowOf self.now con class domains.now) self.now.arities) }
+    /// The same of each of some tables' arities that the others lack.
+    fn exposed(
+        &self,
+        alloc: Global,
+        own: &Tables,
+        other: &Tables,
+    ) -> Result<Vec<Exposed>, AllocError>
+        requires extends { Extends self.now other.now }
+        requires known { Each (IsKnown self.now.classes) own.now.arities }
+        ensures { IfOk result (λ exposed. AreExposed self.now own.now other.now exposed.items) }
     {
-        for arity in self.arities() {
-            if !self.is_below_of(arity, con, class, domains) {
-                return false;
+        let mut exposed = Vec::new(alloc);
+        for arity in own.arities() {
+            if !other.has_same(arity) {
+                exposed.push(self.expose(alloc, arity, other)?)?;
             }
         }
-        true
+        Ok(exposed)
     }
 
-    /// Whether the constructor's arities for classes below this one are directed, by their candidate.
-    fn is_directed(&self, con: Name, class: Name) -> bool
-        ensures { OnTrue result (IsDirected self.now con class) }
+    /// The least constructor and the least two classes of arities in conflict, once the arities of both tables stand with these classes.
+    pub(crate) fn least_conflict(
+        &self,
+        alloc: Global,
+        first: &Tables,
+        second: &Tables,
+    ) -> Result<Option<(Name, Name, Name)>, AllocError>
+        requires { AreSides self.now first.now second.now }
+        ensures { IfOk result (FindsConflict self.now first.now second.now) }
     {
-        match self.candidate(con, class) {
-            None => true,
-            Some(candidate) => self.are_all_below(con, class, candidate),
-        }
-    }
-
-    /// The classes above those of the constructor's arities.
-    fn classes_over(&self, alloc: Global, con: Name) -> Result<Vec<Name>, AllocError>
-        ensures { IfOk result (λ classes. Each (λ a. a.con ≡ con → (d : ℕ) → IsClassBelow self.now a.class d → IsIn d classes.items) self.now.arities) }
-    {
-        let mut classes = Vec::new(alloc);
-        for arity in self.arities() {
-            if arity.con == con {
-                self.put_above(&mut classes, arity.class)?;
-            }
-        }
-        Ok(classes)
-    }
-
-    /// The classes at which the constructor's arities aren't found to be directed.
-    fn undirected(&self, alloc: Global, con: Name) -> Result<Vec<Name>, AllocError>
-        ensures { IfOk result (λ classes. (d : ℕ) → IsDirected self.now con d ⊎ IsIn d classes.items) }
-    {
-        let all = self.classes_over(alloc, con)?;
-        let mut classes = Vec::new(alloc);
-        for class in all.as_slice() {
-            if !self.is_directed(con, *class) {
-                classes.push(*class)?;
-            }
-        }
-        Ok(classes)
-    }
-
-    /// The least classes of two arities of the constructor that fail the test.
-    fn least_pair(&self, con: Name, classes: &[Name]) -> Option<(Name, Name)>
-        ensures { FindsPair self.now con classes.now self.now.arities result }
-    {
-        let mut least = None;
-        for arity in self.arities() {
-            if arity.con == con {
-                if let Some(second) = self.least_failing(arity, classes) {
-                    least = Some(lesser_pair(least, arity.class, second));
-                }
-            }
-        }
-        least
-    }
-
-    /// The constructors with a declared arity.
-    fn constructors(&self, alloc: Global) -> Result<Vec<Name>, AllocError>
-        ensures ascend { IfOk result (λ cons. IsStrictlyIncreasing cons.items) }
-        ensures has { IfOk result (λ cons. Each (λ a. IsIn a.con cons.items) self.now.arities) }
-    {
-        let mut cons = Vec::new(alloc);
-        for arity in self.arities() {
-            put(&mut cons, arity.con)?;
-        }
-        Ok(cons)
-    }
-
-    /// The least constructor and the least two classes of declared arities in conflict.
-    pub fn least_conflict(&self, alloc: Global) -> Result<Option<(Name, Name, Name)>, AllocError>
-        ensures { IfOk result (λ found. MatchOption found (IsCoregular self.now) (λ f. IsLeastConflict self.now f.0 f.1 f.2)) }
-    {
-        let cons = self.constructors(alloc)?;
-        for con in cons.as_slice() {
-            let classes = self.undirected(alloc, *con)?;
-            if let Some(pair) = self.least_pair(*con, classes.as_slice()) {
-                return Ok(Some((*con, pair.0, pair.1)));
-            }
-        }
-        Ok(None)
+        let firsts = self.exposed(alloc, first, second)?;
+        let seconds = self.exposed(alloc, second, first)?;
+        Ok(least_clash(firsts.as_slice(), seconds.as_slice()))
     }
 }

@@ -1,7 +1,6 @@
 //! Completed tables of classes and arities: queries by look-up, which answer the order of classes by its paths.
 #![tactic(auto)]
 
-mod checks;
 mod classes;
 mod conflicts;
 mod judge;
@@ -10,7 +9,9 @@ mod names;
 mod room;
 mod rows;
 mod shares;
+mod sorts;
 mod tables;
+mod uncovered;
 mod union;
 mod unknown;
 

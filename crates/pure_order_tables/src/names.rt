@@ -1,7 +1,8 @@
 //! Names that ascend, and the lesser of names.
-ghost use Rattle.std.specs.Prelude.{◌≡◌, ◌↔◌, ◌⊎◌, ◌<◌, ◌≤◌, ℕ, IsTrue, OnOk, MatchOption};
+ghost use Rattle.std.specs.Prelude.{◌≡◌, ◌↔◌, ◌⊎◌, ◌<◌, ◌≤◌, ℕ, IsTrue, OnOk, MatchBool, MatchOption};
 ghost use Rattle.std.specs.List.Sorted.{IsStrictlyIncreasing};
 ghost use Rattle.pure_text.specs.Lists.{IsIn};
+ghost use Rattle.pure_order_tables.specs.Checks.{IsNotAfter};
 
 use pure_typ::Name;
 use std::alloc::AllocError;
@@ -17,21 +18,37 @@ pub(crate) fn lesser(least: Option<Name>, name: Name) -> Name
     }
 }
 
-/// Of the two names and the least so far those that come first.
-pub(crate) fn lesser_pair(least: Option<(Name, Name)>, first: Name, second: Name) -> (Name, Name)
-    ensures within { (result.0 < first) ⊎ ((result.0 ≡ first) × (result.1 ≤ second)) }
-    ensures one { MatchOption least (result ≡ (first, second)) (λ other. ((result.0 < other.0) ⊎ ((result.0 ≡ other.0) × (result.1 ≤ other.1))) × ((result ≡ other) ⊎ (result ≡ (first, second)))) }
+/// Whether the first names come before the second.
+fn is_before(first: &(Name, Name, Name), second: &(Name, Name, Name)) -> bool
+    ensures { MatchBool result (IsNotAfter first.now.0 first.now.1 first.now.2 second.now.0 second.now.1 second.now.2) (IsNotAfter second.now.0 second.now.1 second.now.2 first.now.0 first.now.1 first.now.2) }
 {
-    let Some((other_first, other_second)) = least else {
-        return (first, second);
-    };
-    if other_first < first {
-        return (other_first, other_second);
+    if first.0 != second.0 {
+        return first.0 < second.0;
     }
-    if other_first == first && other_second < second {
-        return (other_first, other_second);
+    if first.1 != second.1 {
+        return first.1 < second.1;
     }
-    (first, second)
+    first.2 < second.2
+}
+
+/// Of these names and the least so far those that come first.
+pub(crate) fn lesser_names(
+    least: Option<(Name, Name, Name)>,
+    names: (Name, Name, Name),
+) -> (Name, Name, Name)
+    ensures within { IsNotAfter result.0 result.1 result.2 names.0 names.1 names.2 }
+    ensures one { MatchOption least (result ≡ names) (λ other. IsNotAfter result.0 result.1 result.2 other.0 other.1 other.2 × ((result ≡ other) ⊎ (result ≡ names))) }
+{
+    match least {
+        None => names,
+        Some(other) => {
+            if is_before(&other, &names) {
+                other
+            } else {
+                names
+            }
+        }
+    }
 }
 
 /// Whether the name is among these, which ascend.
@@ -51,18 +68,6 @@ pub(crate) fn put(names: &mut Vec<Name>, name: Name) -> Result<(), AllocError>
     match names.binary_search(&name) {
         Ok(_) => {}
         Err(place) => names.insert(place, name)?,
-    }
-    Ok(())
-}
-
-/// Puts each of the second names among the first, which ascend.
-pub(crate) fn put_all(names: &mut Vec<Name>, more: &[Name]) -> Result<(), AllocError>
-    requires { IsStrictlyIncreasing names.old.items }
-    ensures ascend { IsStrictlyIncreasing names.new.items }
-    ensures has { OnOk result ((x : ℕ) → IsIn x names.new.items ↔ (IsIn x more.now ⊎ IsIn x names.old.items)) }
-{
-    for name in more {
-        put(names, *name)?;
     }
     Ok(())
 }

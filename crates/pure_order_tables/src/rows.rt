@@ -1,5 +1,5 @@
 //! Rows of bits: sets of numbers, in words of 64 bits.
-ghost use Rattle.std.specs.Prelude.{◌≡◌, ◌↔◌, ◌⊎◌, ◌<◌, ◌/◌, ℕ, IsTrue, IfOk, length};
+ghost use Rattle.std.specs.Prelude.{◌≡◌, ◌↔◌, ◌⊎◌, ◌<◌, ◌/◌, ℕ, IsTrue, MatchBool, IfOk, length};
 ghost use Rattle.pure_order_tables.specs.Rows.{Holds};
 
 use std::alloc::{AllocError, Global};
@@ -17,6 +17,13 @@ pub(crate) fn holds(row: &[u64], place: usize) -> bool
     ensures { IsTrue result ↔ Holds row.now place }
 {
     place / 64 < row.len() && (row[place / 64] >> (place % 64)) & 1 == 1
+}
+
+/// Whether the first row holds the number, and the second doesn't.
+pub(crate) fn holds_only(first: &[u64], second: &[u64], place: usize) -> bool
+    ensures { MatchBool result (Holds first.now place × (¬ Holds second.now place)) ((¬ Holds first.now place) ⊎ Holds second.now place) }
+{
+    holds(first, place) && !holds(second, place)
 }
 
 /// Puts the number into the row.
@@ -37,4 +44,26 @@ pub(crate) fn put_row(row: &mut Vec<u64>, other: &[u64])
         let word = other[i];
         row[i] |= word;
     }
+}
+
+/// Puts into the words, which stand in a frame, what the row holds, as far as they go.
+pub(crate) fn put_words(words: &mut [u64; 64], row: &[u64])
+    ensures { (place : ℕ) → Holds words.new place ↔ (Holds words.old place ⊎ ((place < 4096) × Holds row.now place)) }
+{
+    for i in 0..row.len().min(64) {
+        let word = row[i];
+        words[i] |= word;
+    }
+}
+
+/// Whether some number is in both rows.
+pub(crate) fn meet(first: &[u64], second: &[u64]) -> bool
+    ensures { IsTrue result ↔ ((place : ℕ) × Holds first.now place × Holds second.now place) }
+{
+    for i in 0..first.len().min(second.len()) {
+        if first[i] & second[i] != 0 {
+            return true;
+        }
+    }
+    false
 }

@@ -1,5 +1,5 @@
 //! The declared classes and arities, and the place of the greatest arity of each constructor for each class.
-ghost use Rattle.std.specs.Prelude.{◌≡◌, ◌↔◌, ◌⊎◌, ℕ, [], IsTrue, OnOk, OnErr, IfOk, IfSome, MatchBool, MatchOption, length};
+ghost use Rattle.std.specs.Prelude.{◌≡◌, ◌↔◌, ◌⊎◌, ◌<◌, ℕ, [], IsTrue, OnOk, OnErr, IfOk, IfSome, MatchBool, MatchOption, length};
 ghost use Rattle.std.specs.BTreeMap.{get};
 ghost use Rattle.std.specs.Ordering.{nat_cmp};
 ghost use Rattle.std.specs.List.Sorted.{IsStrictlyIncreasing};
@@ -7,6 +7,8 @@ ghost use Rattle.pure_text.specs.Lists.{IsIn, Each, EachTwo};
 ghost use Rattle.pure_definitions.specs.Types.Order.{Arity, IsClassBelow, HasClassBelow, IsSortBelow, IsCoregular};
 ghost use Rattle.pure_order_tables.specs.Classes.{Agree, Follows, IsAntisymmetric, IsDeclared};
 ghost use Rattle.pure_order_tables.specs.ClassView.{shared_classes};
+ghost use Rattle.pure_order_tables.specs.ClassTable.{IsNumber, name_at};
+ghost use Rattle.pure_order_tables.specs.Uncovered.{IsUpRow};
 ghost use Rattle.pure_order_tables.specs.Arities.{IsArityBelow, IsGreatestIfAny, IsAboveGreatest, IsKnown, IsNotAbove, with_class, with_arity};
 ghost use Rattle.pure_order_tables.specs.Checks.{AreGreater, IsDecided};
 ghost use Rattle.pure_order_tables.specs.ArityView.{arity_of, arities_of};
@@ -123,21 +125,55 @@ impl Tables {
         }
     }
 
+    /// The count of classes.
+    pub(crate) fn class_count(&self) -> usize
+        ensures { result ≡ length self.now.classes }
+    {
+        self.classes.count()
+    }
+
+    /// The class with a number.
+    pub(crate) fn class_name(&self, number: usize) -> Name
+        requires { number < length self.now.classes }
+        ensures { result ≡ name_at self.now.classes number }
+    {
+        self.classes.name(number)
+    }
+
+    /// The number of the class, if it is declared.
+    pub(crate) fn find_number(&self, class: Name) -> Option<usize>
+        ensures { MatchOption result (¬ IsDeclared self.now.classes class) (IsNumber self.now.classes class) }
+    {
+        match self.classes.number(class) {
+            None => None,
+            Some(number) => Some(number),
+        }
+    }
+
+    /// The number of a declared class.
+    pub(crate) fn number_of(&self, class: Name) -> usize
+        requires { IsDeclared self.now.classes class }
+        ensures { IsNumber self.now.classes class result }
+    {
+        match self.classes.number(class) {
+            None => 0,
+            Some(number) => number,
+        }
+    }
+
+    /// The numbers of the classes above the class with a number.
+    pub(crate) fn row_of(&self, number: usize) -> &[u64]
+        requires { number < length self.now.classes }
+        ensures { IsUpRow self.now (name_at self.now.classes number) result.now }
+    {
+        self.classes.row_of(number)
+    }
+
     /// Whether a class that both tables declare has the same classes declared above it in both.
     pub fn agrees(&self, other: &Tables) -> bool
         ensures { IsTrue result ↔ Agree self.now.classes other.now.classes }
     {
         self.classes.agrees(&other.classes)
-    }
-
-    /// Puts the classes above this one among the names.
-    pub(crate) fn put_above(&self, names: &mut Vec<Name>, class: Name) -> Result<(), AllocError>
-        requires { IsStrictlyIncreasing names.old.items }
-        ensures ascend { IsStrictlyIncreasing names.new.items }
-        ensures has { OnOk result ((x : ℕ) → IsIn x names.new.items ↔ (IsClassBelow self.now class x ⊎ IsIn x names.old.items)) }
-    {
-        self.classes.put_above(names, class)?;
-        Ok(())
     }
 
     /// Whether one of the classes is below the class.
@@ -150,21 +186,6 @@ impl Tables {
             }
         }
         false
-    }
-
-    /// Whether the first sort is below the second.
-    pub fn sort_below(&self, first: &Sort, second: &Sort) -> bool
-        ensures { IsTrue result ↔ IsSortBelow self.now first.now second.now }
-    {
-        if *first == *second {
-            return true;
-        }
-        for class in second.classes() {
-            if !self.some_below(first.classes(), *class) {
-                return false;
-            }
-        }
-        true
     }
 
     /// Whether the first sorts are as many as the second, and each is below its own.
@@ -189,6 +210,14 @@ impl Tables {
         ensures { IsDecided self.now }
     {
         self.classes.order_is_decided();
+    }
+
+    /// Classes are declared in order, and arities name declared classes.
+    pub(crate) fn are_in_order(&self)
+        ensures ordered { Follows [] self.now.classes }
+        ensures known { Each (IsKnown self.now.classes) self.now.arities }
+    {
+        self.classes.are_in_order();
     }
 
     /// No two classes are below each other.
@@ -221,14 +250,11 @@ impl Tables {
         }
     }
 
-    /// Whether the arity's domains are above the greatest of its constructor's arities for classes below this one.
-    fn is_greater(&self, arity: &ArityEntry, class: Name) -> bool
-        ensures { MatchBool result (IsAboveGreatest self.now arity.now.con class (arity_of arity.now).domains) (IsNotAbove self.now arity.now.con class (arity_of arity.now).domains) }
+    /// Where there is an arity of a constructor for a class below another, there is one that is the greatest if there is a greatest.
+    pub(crate) fn have_candidates(&self)
+        ensures { (k d : ℕ) (q : Arity) → IsArityBelow self.now k d q → (c : Arity) × IsGreatestIfAny self.now k d c }
     {
-        match self.candidate(arity.con, class) {
-            None => true,
-            Some(candidate) => self.domains_below(candidate, arity.sorts()),
-        }
+        let _ = &self.slots;
     }
 
     /// The count of arities.
@@ -246,23 +272,6 @@ impl Tables {
             None => Ok(BTreeMap::new(alloc)),
             Some(places) => copied(&**places),
         }
-    }
-
-    /// The classes at which a new arity would be the greatest.
-    pub fn greater(&self, alloc: Global, arity: &ArityEntry) -> Result<Vec<Name>, AllocError>
-        requires { IsDeclared self.now.classes arity.now.class }
-        ensures { IfOk result (λ greater. AreGreater self.now (arity_of arity.now) greater.items) }
-    {
-        let mut greater = Vec::new(alloc);
-        let Some(above) = self.above(arity.class) else {
-            return Ok(greater);
-        };
-        for upper in above {
-            if self.is_greater(arity, *upper) {
-                greater.push(*upper)?;
-            }
-        }
-        Ok(greater)
     }
 
     /// The places of the constructor's arities once this one stands behind the others.

@@ -1,6 +1,8 @@
 //! Two tables united.
-ghost use Rattle.std.specs.Prelude.{◌≡◌, ◌↔◌, [], IsTrue, OnOk, IfOk};
+ghost use Rattle.std.specs.Prelude.{◌≡◌, ◌↔◌, [], IsTrue, OnOk, IfOk, IfErr};
 ghost use Rattle.pure_text.specs.Lists.{IsIn, Each};
+ghost use Rattle.pure_definitions.specs.Types.Order.{Algebra, IsCoregular};
+ghost use Rattle.pure_order_tables.specs.Checks.{IsLeastConflict};
 ghost use Rattle.pure_order_tables.specs.ArityView.{arity_of, arities_of};
 ghost use Rattle.pure_order_tables.specs.ClassView.{shared_classes};
 ghost use Rattle.pure_order_tables.specs.Classes.{Agree, Follows};
@@ -9,7 +11,7 @@ ghost use Rattle.pure_order_tables.specs.Others.{AreWithOthers};
 
 use crate::classes::ClassEntry;
 use crate::tables::{ArityEntry, Tables};
-use pure_typ::Sort;
+use pure_typ::{Name, Sort};
 use std::alloc::{AllocError, Global};
 use std::sync::Arc;
 
@@ -31,7 +33,7 @@ fn is_same_arity(first: &ArityEntry, second: &ArityEntry) -> bool
 
 impl Tables {
     /// Whether the arity is declared.
-    fn has_same(&self, arity: &ArityEntry) -> bool
+    pub(crate) fn has_same(&self, arity: &ArityEntry) -> bool
         ensures { IsTrue result ↔ IsIn (arity_of arity.now) self.now.arities }
     {
         for other in self.arities() {
@@ -72,22 +74,37 @@ impl Tables {
     {
         for arity in arities {
             if !first.has_same(arity) {
-                let greater = self.greater(alloc, arity)?;
+                let uncovered = self.uncovered(alloc, arity, self)?;
+                let greater = self.greater(alloc, arity, uncovered.as_slice())?;
                 self.push_arity(alloc, arity.share()?, greater.as_slice())?;
             }
         }
         Ok(())
     }
 
-    /// The classes and arities of these tables, and then those of the others that these haven't.
-    pub fn united(&self, alloc: Global, other: &Tables) -> Result<Tables, AllocError>
-        requires { Agree self.now.classes other.now.classes }
-        ensures in_order { IfOk result (IsUnionInOrder self.now other.now) }
-        ensures union { IfOk result (IsUnion self.now other.now) }
+    /// The classes and arities of these tables, and then those of the others that these haven't; or, where they aren't coregular, the least constructor and the least two classes of arities in conflict.
+    pub fn united(
+        &self,
+        alloc: Global,
+        other: &Tables,
+    ) -> Result<Result<Tables, (Name, Name, Name)>, AllocError>
+        requires agree { Agree self.now.classes other.now.classes }
+        requires coregular { IsCoregular self.now }
+        requires other_coregular { IsCoregular other.now }
+        ensures in_order { IfOk result (λ united. IfOk united (IsUnionInOrder self.now other.now)) }
+        ensures union { IfOk result (λ united. IfOk united (IsUnion self.now other.now)) }
+        ensures coregular { IfOk result (λ united. IfOk united IsCoregular) }
+        ensures conflict { IfOk result (λ united. IfErr united (λ f. (U : Algebra) × IsUnion self.now other.now U × IsLeastConflict U f.0 f.1 f.2)) }
     {
+        self.are_in_order();
+        other.are_in_order();
         let mut tables = self.copy(alloc)?;
         tables.push_classes(alloc, other.class_entries())?;
+        tables.are_in_order();
+        if let Some(found) = tables.least_conflict(alloc, self, other)? {
+            return Ok(Err(found));
+        }
         tables.push_arities(alloc, self, other.arities())?;
-        Ok(tables)
+        Ok(Ok(tables))
     }
 }

@@ -1,36 +1,24 @@
-use Rattle.std.proofs.Common.{◌∙◌, ◌<◌, length, take, take_all, sym, inl, inr}
-use Rattle.pure_text.specs.Lists.{AnyOf}
-use Rattle.pure_text.proofs.ListLaws.{each_read}
-use Rattle.pure_text.proofs.LoopLaws.{any_turn}
-use Rattle.pure_definitions.specs.Types.Order.{IsClassBelow}
-use Rattle.pure_order_tables.specs.Classes.{IsDeclared, of_classes}
-use Rattle.pure_order_tables.specs.ClassTable.{name_at}
-use Rattle.pure_order_tables.proofs.ClassTableLaws.{row_at, row_turn}
+use Rattle.std.proofs.Common.{◌∙◌, ◌≡◌, ◌-◌, ◌<◌, ◌≤◌, length, refl, arith}
+use Rattle.pure_order_tables.proofs.ClassTableLaws.{so_far_start, so_far_put, so_far_kept, so_far_all}
 use Rattle.pure_order_tables.proofs.classes.ClassTable.new_row.Goals as goal
-use Rattle.pure_order_tables.proofs.classes.ClassTable.new_row.Goals.{in-Some, in_default}
+use Rattle.pure_order_tables.proofs.classes.ClassTable.new_row.Goals.{then-holds_only, else-holds_only}
 
-pub loop-class-init : goal.loop-class-init
-loop-class-init c = record {
-  count = c.put_place.ensures.count ∙ c.in_ok-row.ensures.count;
-  held = λ n. (
-    λ h. elim ((c.put_place.ensures.held n).0 h) [ inl e ↦ inl e | inr o ↦ absurd (c.in_ok-row.ensures.none n o) ],
-    λ w. elim w [ inl e ↦ (c.put_place.ensures.held n).1 (inl e) | inr nothing ↦ absurd nothing ],
-  );
-}
+pub loop-i-init : goal.loop-i-init
+loop-i-init c = so_far_start c.args.self.now c.args.above.now c.in_ok-numbers.numbers.items c.in_ok-row.row.items c.put_place.new.row.items c.in_ok-numbers.ensures
+    (rw (← c.count-last.ensures) (c.put_place.ensures.count ∙ c.in_ok-row.ensures.count)) c.in_ok-row.ensures.none (rw c.count-last.ensures at c.put_place.ensures.held)
 
-pub loop-class-preserved : goal.loop-class-preserved
-loop-class-preserved c = elim c.match-entry.branch [
-  | in-Some w ↦ record {
-    count = rw w.row-is (w.put_row.ensures.count ∙ c.loop-class.invariant.count);
-    held = rw w.row-is (row_turn c.args.self.now c.loop-class.row.items w.as_slice.result.now w.put_row.new.row.items c.class-item.result c.count-last.result
-        (λ n. AnyOf (λ b. (n < length c.args.self.now) × IsClassBelow (of_classes c.args.self.now) b (name_at c.args.self.now n)) (take c.loop-class.class-index c.args.above.now)) _
-        (λ n. any_turn (λ b. (n < length c.args.self.now) × IsClassBelow (of_classes c.args.self.now) b (name_at c.args.self.now n)) c.args.above.now c.loop-class.class-index c.class-item.result c.loop-class-test.true c.class-item.is)
-        (sym c.count-last.ensures) c.loop-class.invariant.count
-        (row_at c.args.self.now w.in-Some.entry.now c.class-item.result w.as_slice.result.now w.in-Some.ensures.0 w.as_slice.ensures.value w.in-Some.ensures.1)
-        w.put_row.ensures.held c.loop-class.invariant.held);
-  }
-  | in_default w ↦ absurd (w.in_default.ensures (each_read (IsDeclared c.args.self.now) c.args.above.now c.loop-class.class-index c.class-item.result c.loop-class-test.true c.class-item.is c.requires))
-]
+pub loop-i-preserved : goal.loop-i-preserved
+loop-i-preserved c =
+    let within : c.loop-i.i < length c.args.self.now = omega (arith, c.loop-i-test.true, c.count-last.ensures) in
+    let number : c.count-last.result - 1 - c.loop-i.i ≡ length c.args.self.now - 1 - c.loop-i.i = rw c.count-last.ensures refl in
+    elim c.if-holds_only.branch [
+      | then-holds_only w ↦ rw w.row-is (so_far_put c.args.self.now c.args.above.now c.in_ok-numbers.numbers.items c.loop-i.row.items w.row_of.result.now w.put_row.new.row.items c.loop-i.i (c.count-last.result - 1 - c.loop-i.i) c.in_ok-numbers.ensures within number
+          (rw c.as_slice.ensures.value at w.if-holds_only.ensures.0) w.row_of.ensures w.put_row.ensures.held w.put_row.ensures.count c.loop-i.invariant)
+      | else-holds_only w ↦ rw w.row-is (so_far_kept c.args.self.now c.args.above.now c.in_ok-numbers.numbers.items c.loop-i.row.items c.loop-i.i (c.count-last.result - 1 - c.loop-i.i) c.in_ok-numbers.ensures within number
+          (rw (c.as_slice.ensures.value, c.as_slice-in-loop-i.ensures.value) at w.if-holds_only.ensures) c.loop-i.invariant)
+    ]
 
 pub returns : goal.returns
-returns c = rw (take_all c.loop-class.class-index c.args.above.now c.loop-class-test.false, c.count-last.ensures) at c.loop-class.invariant.held
+returns c =
+    let end : length c.args.self.now ≤ c.loop-i.i = omega (arith, c.loop-i-test.false, c.count-last.ensures) in
+    so_far_all c.args.self.now c.args.above.now c.in_ok-numbers.numbers.items c.loop-i.row.items c.loop-i.i c.in_ok-numbers.ensures end c.loop-i.invariant

@@ -1,27 +1,37 @@
-use Rattle.std.proofs.Common.{take_all, refl, inl, inr}
+use Rattle.std.proofs.Common.{◌≤◌, length, arith}
+use Rattle.pure_text.proofs.AnswerLaws.{test_fails}
 use Rattle.pure_order_tables.specs.ArityView.{arity_of}
-use Rattle.pure_text.proofs.LoopLaws.{in_turn}
-use Rattle.pure_order_tables.proofs.JudgeLaws.{chosen_turn, raised_all, fits_coregular}
+use Rattle.pure_order_tables.proofs.JudgeLaws.{fits_coregular, greater_all, greater_passed, greater_put}
+use Rattle.pure_order_tables.proofs.UncoveredLaws.{above_greatest, within_place}
 use Rattle.pure_order_tables.proofs.tables.Tables.fits.Goals as goal
-use Rattle.pure_order_tables.proofs.tables.Tables.fits.Goals.{then-is_greatest+in_ok-push, else-is_greatest}
+use Rattle.pure_order_tables.proofs.tables.Tables.fits.Goals.{then-holds+else-not-is_above_new+in_ok-push, else-holds}
 
-pub loop-class-preserved : goal.loop-class-preserved
-loop-class-preserved c = record {
-  fits = λ d m. elim ((in_turn d c.in-Some.above.now c.loop-class.class-index c.class-item.result c.loop-class-test.true c.class-item.is).0 m) [
-    | inl old ↦ c.loop-class.invariant.fits d old
-    | inr e ↦ rw e c.in-Some-stand.ensures.fits
-  ];
-  raised = chosen_turn _ _ c.in-Some.above.now c.loop-class.greater.items c.if-is_greatest.greater.items c.loop-class.class-index c.class-item.result c.loop-class-test.true c.class-item.is
-      (elim c.if-is_greatest.branch [
-        | then-is_greatest+in_ok-push w ↦ inl (rw w.greater-is w.in_ok-push.ensures.items, rw w.if-is_greatest.true at c.in-Some-stand.ensures.stands)
-        | else-is_greatest w ↦ inr (rw w.greater-is refl, inl (rw w.if-is_greatest.false at c.in-Some-stand.ensures.stands))
-      ])
-      c.loop-class.invariant.raised;
-}
+pub is_above_at-requires : goal.is_above_at-requires
+is_above_at-requires c = within_place c.args.self.now c.args.arity.now.con c.args.arity.now.class c.place-top.result c.place-top.ensures
+
+pub is_above_new-requires-clause-within : goal.is_above_new-requires-clause-within
+is_above_new-requires-clause-within c = within_place c.args.self.now c.args.arity.now.con c.class_name-class.result c.place-place.result c.place-place.ensures
+
+pub loop-number-init : goal.loop-number-init
+loop-number-init c = record { top = c.is_above_at.ensures.0 c.if-not-is_above_at.false; seen = record { above = λ d m. absurd (rw c.new-greater.ensures.items at m); seen = λ n before. absurd (omega (arith, before)) } }
+
+pub loop-number-preserved : goal.loop-number-preserved
+loop-number-preserved c = elim c.if-holds.branch [
+  | then-holds+else-not-is_above_new+in_ok-push w ↦ record {
+    top = rw w.top-is w.if-not-is_above_new.ensures;
+    seen = rw w.greater-is (greater_put c.args.self.now (arity_of c.args.arity.now) _ c.args.uncovered.now c.loop-number.greater.items w.push.new.self.items c.loop-number.number w.class_name-class.result c.requires.uncovered (c.holds.ensures.0 w.if-holds.true) w.class_name-class.ensures w.in_ok-push.ensures.items
+        (above_greatest c.args.self.now (arity_of c.args.arity.now) w.class_name-class.result w.place-place.result w.place-place.ensures w.if-not-is_above_new.ensures) c.loop-number.invariant.seen);
+  }
+  | else-holds w ↦ record {
+    top = rw w.top-is c.loop-number.invariant.top;
+    seen = rw w.greater-is (greater_passed c.args.self.now (arity_of c.args.arity.now) _ c.args.uncovered.now c.loop-number.greater.items c.loop-number.number (test_fails _ c.holds.result c.holds.ensures w.if-holds.false) c.loop-number.invariant.seen);
+  }
+]
 
 pub returns : goal.returns
 returns c =
-    let all = take_all c.loop-class.class-index c.in-Some.above.now c.loop-class-test.false in (
-      raised_all c.args.self.now (arity_of c.args.arity.now) c.in-Some.above.now c.loop-class.greater.items c.in-Some.ensures.are (rw all at c.loop-class.invariant.raised),
-      fits_coregular c.args.self.now c.order_is_decided.ensures c.requires.coregular (arity_of c.args.arity.now) (λ d h. (rw all at (c.loop-class.invariant.fits d)) ((c.in-Some.ensures.are d).1 h)),
+    let end : length c.args.self.now.classes ≤ c.loop-number.number = omega (arith, c.loop-number-test.false, c.class_count-number-end.ensures) in (
+      greater_all c.args.self.now c.are_in_order.ensures.ordered c.order_is_decided.ensures c.have_candidates.ensures (arity_of c.args.arity.now) (λ d. ⊥) c.args.uncovered.now c.loop-number.greater.items c.loop-number.number c.requires.declared c.requires.uncovered end (λ d n. absurd n) c.loop-number.invariant.seen,
+      fits_coregular c.args.self.now c.are_in_order.ensures.ordered c.order_is_decided.ensures c.requires.coregular (arity_of c.args.arity.now) c.args.uncovered.now c.loop-number.greater.items c.loop-number.number c.requires.declared c.requires.uncovered
+          (above_greatest c.args.self.now (arity_of c.args.arity.now) c.args.arity.now.class c.place-top.result c.place-top.ensures (c.is_above_at.ensures.0 c.if-not-is_above_at.false)) c.if-not-are_elsewhere.ensures end c.loop-number.invariant.seen,
     )

@@ -1,16 +1,37 @@
-use Rattle.std.proofs.Common.{take_all, refl, inl, inr}
+use Rattle.std.proofs.Common.{◌≤◌, length, arith}
+use Rattle.pure_text.proofs.AnswerLaws.{test_fails}
+use Rattle.pure_order_tables.specs.Arities.{IsNotAbove}
 use Rattle.pure_order_tables.specs.ArityView.{arity_of}
-use Rattle.pure_order_tables.proofs.JudgeLaws.{chosen_turn, raised_all}
+use Rattle.pure_order_tables.proofs.JudgeLaws.{greater_all, greater_left, greater_passed, greater_put}
+use Rattle.pure_order_tables.proofs.UncoveredLaws.{above_greatest, not_above, within_place}
 use Rattle.pure_order_tables.proofs.tables.Tables.greater.Goals as goal
-use Rattle.pure_order_tables.proofs.tables.Tables.greater.Goals.{then-is_greater+in_ok-push, else-is_greater}
+use Rattle.pure_order_tables.proofs.tables.Tables.greater.Goals.{then-holds+then-is_above_new+in_ok-push, then-holds+else-is_above_new, else-holds}
 
-pub loop-upper-preserved : goal.loop-upper-preserved
-loop-upper-preserved c = chosen_turn _ _ c.in-Some.above.now c.loop-upper.greater.items c.if-is_greater.greater.items c.loop-upper.upper-index c.upper-item.result c.loop-upper-test.true c.upper-item.is
-    (elim c.if-is_greater.branch [
-      | then-is_greater+in_ok-push w ↦ inl (rw w.greater-is w.in_ok-push.ensures.items, w.if-is_greater.ensures)
-      | else-is_greater w ↦ inr (rw w.greater-is refl, inr w.if-is_greater.ensures)
-    ])
-    c.loop-upper.invariant
+pub is_above_new-requires-clause-within : goal.is_above_new-requires-clause-within
+is_above_new-requires-clause-within c = within_place c.args.self.now c.args.arity.now.con c.class_name-class.result c.place-place.result c.place-place.ensures
+
+pub loop-number-init : goal.loop-number-init
+loop-number-init c = record { top = tt; seen = record { above = λ d m. absurd (rw c.new-greater.ensures.items at m); seen = λ n before. absurd (omega (arith, before)) } }
+
+pub loop-number-preserved : goal.loop-number-preserved
+loop-number-preserved c = elim c.if-holds.branch [
+  | then-holds+then-is_above_new+in_ok-push w ↦ record {
+    top = rw w.top-is w.if-is_above_new.ensures;
+    seen = rw w.greater-is (greater_put c.args.self.now (arity_of c.args.arity.now) _ c.args.uncovered.now c.loop-number.greater.items w.push.new.self.items c.loop-number.number w.class_name-class.result c.requires.uncovered (c.holds.ensures.0 w.if-holds.true) w.class_name-class.ensures w.in_ok-push.ensures.items
+        (above_greatest c.args.self.now (arity_of c.args.arity.now) w.class_name-class.result w.place-place.result w.place-place.ensures w.if-is_above_new.ensures) c.loop-number.invariant.seen);
+  }
+  | then-holds+else-is_above_new w ↦ record {
+    top = rw w.top-is c.loop-number.invariant.top;
+    seen = rw w.greater-is (greater_left c.args.self.now (arity_of c.args.arity.now) (λ d. IsNotAbove c.args.self.now c.args.arity.now.con d (arity_of c.args.arity.now).domains) c.args.uncovered.now c.loop-number.greater.items c.loop-number.number w.class_name-class.result w.class_name-class.ensures
+        (not_above c.args.self.now (arity_of c.args.arity.now) w.class_name-class.result w.place-place.result w.place-place.ensures w.if-is_above_new.ensures) c.loop-number.invariant.seen);
+  }
+  | else-holds w ↦ record {
+    top = rw w.top-is c.loop-number.invariant.top;
+    seen = rw w.greater-is (greater_passed c.args.self.now (arity_of c.args.arity.now) _ c.args.uncovered.now c.loop-number.greater.items c.loop-number.number (test_fails _ c.holds.result c.holds.ensures w.if-holds.false) c.loop-number.invariant.seen);
+  }
+]
 
 pub returns : goal.returns
-returns c = raised_all c.args.self.now (arity_of c.args.arity.now) c.in-Some.above.now c.loop-upper.greater.items c.in-Some.ensures.are (rw (take_all c.loop-upper.upper-index c.in-Some.above.now c.loop-upper-test.false) at c.loop-upper.invariant)
+returns c =
+    let end : length c.args.self.now.classes ≤ c.loop-number.number = omega (arith, c.loop-number-test.false, c.class_count-number-end.ensures) in
+    greater_all c.args.self.now c.are_in_order.ensures.ordered c.order_is_decided.ensures c.have_candidates.ensures (arity_of c.args.arity.now) (λ d. IsNotAbove c.args.self.now c.args.arity.now.con d (arity_of c.args.arity.now).domains) c.args.uncovered.now c.loop-number.greater.items c.loop-number.number c.requires.declared c.requires.uncovered end (λ d n. n) c.loop-number.invariant.seen

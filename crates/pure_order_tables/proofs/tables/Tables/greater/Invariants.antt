@@ -1,7 +1,11 @@
-use Rattle.std.proofs.Common.{take}
+use Rattle.pure_order_tables.specs.Arities.{IsNotAbove}
 use Rattle.pure_order_tables.specs.ArityView.{arity_of}
-use Rattle.pure_order_tables.proofs.JudgeLaws.{AreRaised}
+use Rattle.pure_order_tables.specs.Uncovered.{IsAbovePlace}
+use Rattle.pure_order_tables.proofs.JudgeLaws.{AreGreaterSoFar}
 use Rattle.pure_order_tables.proofs.tables.Tables.greater.Given as goal
 
-abbrev pub invariant-loop-upper : goal.invariant-loop-upper
-invariant-loop-upper l = AreRaised l.self (arity_of l.arity) (take l.upper-index l.above) l.greater.items
+abbrev pub invariant-loop-number : goal.invariant-loop-number
+invariant-loop-number l = record {
+  top : IsAbovePlace l.self (arity_of l.arity) l.top;
+  seen : AreGreaterSoFar l.self (arity_of l.arity) (λ d. IsNotAbove l.self l.arity.con d (arity_of l.arity).domains) l.uncovered l.greater.items l.number;
+}

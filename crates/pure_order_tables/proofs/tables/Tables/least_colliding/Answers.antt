@@ -1,14 +1,17 @@
 use Rattle.pure_order_tables.specs.ArityView.{arity_of, arities_of}
 use Rattle.std.proofs.Common.{take}
-use Rattle.pure_order_tables.specs.Checks.{Clears}
-use Rattle.pure_order_tables.proofs.CoregularLaws.{found_pass, found_fail, one_more_arity}
+use Rattle.pure_order_tables.specs.Uncovered.{Clears}
+use Rattle.pure_order_tables.proofs.CoregularLaws.{declared_read, found_pass, found_fail, one_more_arity}
 use Rattle.pure_order_tables.proofs.tables.Tables.least_colliding.Goals as goal
 use Rattle.pure_order_tables.proofs.tables.Tables.least_colliding.Goals.{then-collides, else-collides}
+
+pub collides-requires : goal.collides-requires
+collides-requires c = declared_read c.args.self.now.classes c.arities-other-items.result.now c.args.self.now.arities c.loop-other.other-index c.other-item.result c.loop-other-test.true c.other-item.is c.arities-other-items.ensures.are c.arities-other-items.ensures.known
 
 pub loop-other-preserved : goal.loop-other-preserved
 loop-other-preserved c =
     rw (one_more_arity c.arities-other-items.result.now c.loop-other.other-index c.other-item.result c.loop-other-test.true c.other-item.is)
     (elim c.if-collides.branch [
-      | then-collides w ↦ rw w.least-is (found_fail (Clears c.args.self.now (arity_of c.args.arity.now) c.args.classes.now) c.args.arity.now.con (arities_of (take c.loop-other.other-index c.arities-other-items.result.now)) c.loop-other.least (arity_of c.other-item.result) w.lesser.result w.if-collides.ensures w.lesser.ensures.within w.lesser.ensures.one c.loop-other.invariant)
-      | else-collides w ↦ rw w.least-is (found_pass (Clears c.args.self.now (arity_of c.args.arity.now) c.args.classes.now) c.args.arity.now.con (arities_of (take c.loop-other.other-index c.arities-other-items.result.now)) c.loop-other.least (arity_of c.other-item.result) w.if-collides.ensures c.loop-other.invariant)
+      | then-collides w ↦ rw w.least-is (found_fail (Clears c.args.self.now (arity_of c.args.arity.now) c.args.uncovered.now) c.args.arity.now.con (arities_of (take c.loop-other.other-index c.arities-other-items.result.now)) c.loop-other.least (arity_of c.other-item.result) w.lesser.result w.if-collides.ensures w.lesser.ensures.within w.lesser.ensures.one c.loop-other.invariant)
+      | else-collides w ↦ rw w.least-is (found_pass (Clears c.args.self.now (arity_of c.args.arity.now) c.args.uncovered.now) c.args.arity.now.con (arities_of (take c.loop-other.other-index c.arities-other-items.result.now)) c.loop-other.least (arity_of c.other-item.result) w.if-collides.ensures c.loop-other.invariant)
     ])

@@ -1,7 +1,8 @@
 use Rattle.std.proofs.Common.{take}
 use Rattle.pure_order_tables.specs.ArityView.{arity_of, arities_of}
-use Rattle.pure_order_tables.specs.Checks.{Clears, FindsAt}
+use Rattle.pure_order_tables.specs.Checks.{FindsAt}
+use Rattle.pure_order_tables.specs.Uncovered.{Clears}
 use Rattle.pure_order_tables.proofs.tables.Tables.least_colliding.Given as goal
 
 abbrev pub invariant-loop-other : goal.invariant-loop-other
-invariant-loop-other l = FindsAt (Clears l.self (arity_of l.arity) l.classes) l.arity.con (arities_of (take l.other-index l.other-items)) l.least
+invariant-loop-other l = FindsAt (Clears l.self (arity_of l.arity) l.uncovered) l.arity.con (arities_of (take l.other-index l.other-items)) l.least

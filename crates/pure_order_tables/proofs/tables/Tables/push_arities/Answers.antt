@@ -5,18 +5,28 @@ use Rattle.pure_text.proofs.ListLaws.{in-map, each_at, read_in}
 use Rattle.pure_order_tables.specs.Arities.{IsKnown}
 use Rattle.pure_order_tables.specs.ArityView.{arity_of, arities_of}
 use Rattle.pure_order_tables.proofs.CoregularLaws.{one_more_arity}
+use Rattle.pure_order_tables.proofs.JudgeLaws.{extends_itself}
 use Rattle.pure_order_tables.proofs.OtherLaws.{others_none, others_kept, others_put}
 use Rattle.pure_order_tables.proofs.tables.Tables.push_arities.Goals as goal
-use Rattle.pure_order_tables.proofs.tables.Tables.push_arities.Goals.{then-not-has_same+in_ok-greater+in_ok-share+in_ok-push_arity, else-not-has_same}
+use Rattle.pure_order_tables.proofs.tables.Tables.push_arities.Goals.{then-not-has_same+in_ok-uncovered+in_ok-greater+in_ok-share+in_ok-push_arity, else-not-has_same}
 
-pub greater-requires : goal.greater-requires
-greater-requires c = rw c.loop-arity.invariant.classes (each_at (IsKnown c.args.self.now.classes) (arities_of c.args.arities.now) c.requires.known (arity_of c.arity-item.result) (in-map arity_of c.arity-item.result c.args.arities.now (read_in c.args.arities.now c.loop-arity.arity-index c.arity-item.result c.loop-arity-test.true c.arity-item.is))).class
+pub uncovered-requires-clause-extends : goal.uncovered-requires-clause-extends
+uncovered-requires-clause-extends c = extends_itself c.loop-arity.self
+
+pub uncovered-requires-clause-declared : goal.uncovered-requires-clause-declared
+uncovered-requires-clause-declared c = rw c.loop-arity.invariant.classes (each_at (IsKnown c.args.self.now.classes) (arities_of c.args.arities.now) c.requires.known (arity_of c.arity-item.result) (in-map arity_of c.arity-item.result c.args.arities.now (read_in c.args.arities.now c.loop-arity.arity-index c.arity-item.result c.loop-arity-test.true c.arity-item.is))).class
+
+pub greater-requires-clause-declared : goal.greater-requires-clause-declared
+greater-requires-clause-declared c = rw c.loop-arity.invariant.classes (each_at (IsKnown c.args.self.now.classes) (arities_of c.args.arities.now) c.requires.known (arity_of c.arity-item.result) (in-map arity_of c.arity-item.result c.args.arities.now (read_in c.args.arities.now c.loop-arity.arity-index c.arity-item.result c.loop-arity-test.true c.arity-item.is))).class
+
+pub greater-requires-clause-uncovered : goal.greater-requires-clause-uncovered
+greater-requires-clause-uncovered c = rw c.as_slice.ensures.value c.in_ok-uncovered.ensures
 
 pub push_arity-requires-clause-known : goal.push_arity-requires-clause-known
 push_arity-requires-clause-known c = rw (c.in_ok-share.ensures, c.loop-arity.invariant.classes) (each_at (IsKnown c.args.self.now.classes) (arities_of c.args.arities.now) c.requires.known (arity_of c.arity-item.result) (in-map arity_of c.arity-item.result c.args.arities.now (read_in c.args.arities.now c.loop-arity.arity-index c.arity-item.result c.loop-arity-test.true c.arity-item.is)))
 
 pub push_arity-requires-clause-greater : goal.push_arity-requires-clause-greater
-push_arity-requires-clause-greater c = rw (c.in_ok-share.ensures, c.as_slice.ensures.value) c.in_ok-greater.ensures
+push_arity-requires-clause-greater c = rw (c.in_ok-share.ensures, c.as_slice-then-not-has_same.ensures.value) c.in_ok-greater.ensures
 
 pub loop-arity-init : goal.loop-arity-init
 loop-arity-init c = record { classes = refl; arities = rw c.requires.same (others_none c.args.first.now.arities) }
@@ -25,7 +35,7 @@ pub loop-arity-preserved : goal.loop-arity-preserved
 loop-arity-preserved c =
     let read = one_more_arity c.args.arities.now c.loop-arity.arity-index c.arity-item.result c.loop-arity-test.true c.arity-item.is in
     elim c.if-not-has_same.branch [
-      | then-not-has_same+in_ok-greater+in_ok-share+in_ok-push_arity w ↦ record {
+      | then-not-has_same+in_ok-uncovered+in_ok-greater+in_ok-share+in_ok-push_arity w ↦ record {
         classes = rw w.self-is (ap (λ (A : Algebra). A.classes) w.in_ok-push_arity.ensures.ok ∙ c.loop-arity.invariant.classes);
         arities = rw w.self-is (others_put c.args.first.now.arities (arities_of (take c.loop-arity.arity-index c.args.arities.now)) _ c.loop-arity.self.arities w.push_arity.new.self.arities (arity_of c.arity-item.result) read
             (ap (λ (A : Algebra). A.arities) w.in_ok-push_arity.ensures.ok ∙ ap (λ a. c.loop-arity.self.arities ++ a ∷ []) w.in_ok-share.ensures) (test_fails _ c.has_same.result c.has_same.ensures w.if-not-has_same.true) c.loop-arity.invariant.arities);

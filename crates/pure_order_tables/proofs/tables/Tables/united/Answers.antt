@@ -1,9 +1,15 @@
-use Rattle.std.proofs.Common.{inr}
+use Rattle.std.proofs.Common.{inr, refl}
 use Rattle.pure_order_tables.specs.ArityView.{arities_of}
 use Rattle.pure_order_tables.specs.ClassView.{shared_classes}
 use Rattle.pure_order_tables.proofs.OtherLaws.{with_others}
 use Rattle.pure_order_tables.proofs.UnionLaws.{known_more, union_in_order, union_of}
+use Rattle.pure_order_tables.proofs.SideLaws.{sides_of}
+use Rattle.pure_order_tables.proofs.ConflictLaws.{union_conflict, union_coregular}
 use Rattle.pure_order_tables.proofs.tables.Tables.united.Goals as goal
+
+pub least_conflict-requires : goal.least_conflict-requires
+least_conflict-requires c = sides_of c.args.self.now c.args.other.now c.in_ok-tables.tables c.push_classes.new.self (shared_classes c.class_entries.result.now) c.in_ok-tables.ensures c.class_entries.ensures.are c.in_ok-push_classes.ensures.classes
+    c.are_in_order.ensures.ordered c.are_in_order-2.ensures.ordered c.are_in_order-3.ensures.ordered c.requires.agree c.are_in_order.ensures.known c.are_in_order-2.ensures.known c.requires.coregular c.requires.other_coregular
 
 pub push_arities-requires-clause-known : goal.push_arities-requires-clause-known
 push_arities-requires-clause-known c = rw c.arities.ensures.are (known_more c.args.other.now.classes c.push_classes.new.self.classes (λ k m. (with_others _ _ _ c.in_ok-push_classes.ensures.classes k).1 (inr (rw c.class_entries.ensures.are m))) c.args.other.now.arities c.arities.ensures.known)
@@ -15,3 +21,12 @@ returns-clause-in_order c = union_in_order c.args.self.now c.args.other.now c.in
 pub returns-clause-union : goal.returns-clause-union
 returns-clause-union c = union_of c.args.self.now c.args.other.now c.push_arities.new.self (union_in_order c.args.self.now c.args.other.now c.in_ok-tables.tables c.push_classes.new.self c.push_arities.new.self (shared_classes c.class_entries.result.now) (arities_of c.arities.result.now)
     c.in_ok-tables.ensures c.class_entries.ensures.are c.arities.ensures.are c.in_ok-push_classes.ensures.classes c.in_ok-push_arities.ensures.classes c.in_ok-push_arities.ensures.arities)
+
+pub returns-in-Some-clause-conflict : goal.returns-in-Some-clause-conflict
+returns-in-Some-clause-conflict c = union_conflict c.args.self.now c.args.other.now c.in_ok-tables.tables c.push_classes.new.self (shared_classes c.class_entries.result.now) c.in_ok-found.field-0 c.in-Some.found c.in_ok-tables.ensures c.class_entries.ensures.are c.in_ok-push_classes.ensures.classes c.in-Some.is c.in_ok-found.ensures
+
+pub returns-clause-coregular : goal.returns-clause-coregular
+returns-clause-coregular c = union_coregular c.push_classes.new.self c.args.self.now c.args.other.now c.push_arities.new.self c.in_ok-found.field-0 c.in_default.not-Some c.in_ok-push_arities.ensures.classes
+    (union_of c.args.self.now c.args.other.now c.push_arities.new.self (union_in_order c.args.self.now c.args.other.now c.in_ok-tables.tables c.push_classes.new.self c.push_arities.new.self (shared_classes c.class_entries.result.now) (arities_of c.arities.result.now)
+    c.in_ok-tables.ensures c.class_entries.ensures.are c.arities.ensures.are c.in_ok-push_classes.ensures.classes c.in_ok-push_arities.ensures.classes c.in_ok-push_arities.ensures.arities))
+    c.in_ok-found.ensures

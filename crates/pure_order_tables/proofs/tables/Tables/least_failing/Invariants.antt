@@ -1,7 +1,0 @@
-use Rattle.std.proofs.Common.{take}
-use Rattle.pure_order_tables.specs.ArityView.{arity_of, arities_of}
-use Rattle.pure_order_tables.specs.Checks.{FindsFailing}
-use Rattle.pure_order_tables.proofs.tables.Tables.least_failing.Given as goal
-
-abbrev pub invariant-loop-other : goal.invariant-loop-other
-invariant-loop-other l = FindsFailing l.self (arity_of l.arity) l.classes (arities_of (take l.other-index l.other-items)) l.least
