@@ -6,11 +6,10 @@ use Rattle.pure_definitions.specs.Terms.Term.{Term, IsWithin, term_size, term_de
 use Rattle.pure_definitions.specs.Terms.Limits.{Leaves}
 use Rattle.pure_definitions.specs.Reduction.Beta.{IsBetaNormal, beta_step, IsBetaSequence, TooLarge, NormalForm, TooManySteps, max_steps, IsBetaAnswer}
 use Rattle.pure_term_laws.proofs.BetaLaws.{step-not_normal}
-use Rattle.pure_norm.specs.declared.walk.Until.TheVariants.{Normal}
-use Rattle.pure_norm.specs.declared.walk.Walk.{Walk}
+use Rattle.pure_norm.specs.declared.contract.Walk.{Walk}
 use Rattle.pure_norm.specs.declared.fault.NormFault.{NormFault}
 use Rattle.pure_norm.specs.declared.fault.NormFault.TheVariants.{Steps, Big, Memory}
-use Rattle.pure_norm.specs.Walk.{Fits, Leads, nodes_at, Walked, Outgrows, RunsOut, Fails}
+use Rattle.pure_norm.specs.Walk.{Normal, Fits, Leads, nodes_at, Walked, Outgrows, RunsOut, Fails}
 use Rattle.pure_norm.specs.NormAnswer.{IsNormAnswer}
 
 fits-within : (t : Term) → Fits max_size 0 t → IsWithin t
@@ -47,8 +46,8 @@ pub record IsBeginning (walk : Walk) (t : Term) : Type 0 where
   pub all_steps : walk.steps ≡ max_steps
   pub all_room : nodes_at walk t ≡ max_size
 
-pub beginning : (rest : ℕ) (t u : Term) → Leaves max_size max_depth (term_size t) (term_depth t) (Some rest) → u ≡ t → IsBeginning (record { steps = max_steps; room = rest }) u
-beginning rest t u h same = record { all_steps = refl; all_room = rw same h.0 }
+pub beginning : (rest : ℕ) (t : Term) → Leaves max_size max_depth (term_size t) (term_depth t) (Some rest) → IsBeginning (record { steps = max_steps; room = rest }) t
+beginning rest t h = record { all_steps = refl; all_room = h.0 }
 
 whole-leads : (walk : Walk) (n : ℕ) (t u : Term) → IsBeginning walk t → Leads Normal (nodes_at walk t) 0 t n u → Leads Normal max_size 0 t n u
 whole-leads walk n t u b h = subst (λ k. Leads Normal k 0 t n u) b.all_room h

@@ -1,10 +1,9 @@
--- Terms whose loose bound variables all have binders above them: lifted, instantiated, and ready to be put into a body.
+-- Terms whose loose bound variables all have binders above them: lifted and instantiated.
 use Rattle.std.proofs.Common.{◌≡◌, ℕ, ◌+◌, ◌<◌, ◌≤◌, Bool, true, false, refl, arith}
 use Rattle.std.proofs.lemmas.Bool.Decides.{nat_tests}
 use Rattle.std.specs.Prelude.{◌-◌, nat_eq, nat_lt, if◌then◌else◌}
-use Rattle.pure_definitions.specs.Terms.Term.{Term, Const, Free, Var, Bound, Abs, App, term_depth}
+use Rattle.pure_definitions.specs.Terms.Term.{Term, Const, Free, Var, Bound, Abs, App}
 use Rattle.pure_definitions.specs.Terms.Bounds.{IsClosedUnder, lift_term, place_at, subst_under}
-use Rattle.pure_definitions.specs.Terms.Conditions.{IsLiftable, IsPuttable}
 use Rattle.pure_definitions.proofs.LiftLaws.{lift_term-bound}
 
 pub closed-lift : (n by from m : ℕ) (t : Term) → n + by ≤ m → IsClosedUnder n t → IsClosedUnder m (lift_term by from t)
@@ -35,20 +34,3 @@ closed-subst n k m arg (Var x i T) e h g = tt
 closed-subst n k m arg (Bound p) e h g = closed-place n k m p arg e h g
 closed-subst n k m arg (Abs T b) e h g = closed-subst (n + 1) k (m + 1) arg b (omega arith) h g
 closed-subst n k m arg (App f a) e h g = (closed-subst n k m arg f e h g.0, closed-subst n k m arg a e h g.1)
-
-liftable-closed : (k by from : ℕ) (t : Term) → IsClosedUnder k t → k + by + term_depth t ≤ 10000 → IsLiftable by from t
-liftable-closed k by from (Const c T) h low = tt
-liftable-closed k by from (Free x T) h low = tt
-liftable-closed k by from (Var x i T) h low = tt
-liftable-closed k by from (Bound p) h low = λ above. omega arith
-liftable-closed k by from (Abs T b) h low = liftable-closed (k + 1) by (from + 1) b h (omega arith)
-liftable-closed k by from (App f a) h low = (liftable-closed k by from f h.0 (omega arith), liftable-closed k by from a h.1 (omega arith))
-
--- Below few binders a shallow argument can be put into a shallow body.
-pub puttable-closed : (n k : ℕ) (arg b : Term) → IsClosedUnder k arg → k + n + term_depth b + term_depth arg ≤ 10000 → IsPuttable n arg b
-puttable-closed n k arg (Const c T) h low = tt
-puttable-closed n k arg (Free x T) h low = tt
-puttable-closed n k arg (Var x i T) h low = tt
-puttable-closed n k arg (Bound p) h low = λ same. liftable-closed k n 0 arg h (omega arith)
-puttable-closed n k arg (Abs T b) h low = puttable-closed (n + 1) k arg b h (omega arith)
-puttable-closed n k arg (App f a) h low = (puttable-closed n k arg f h (omega arith), puttable-closed n k arg a h (omega arith))

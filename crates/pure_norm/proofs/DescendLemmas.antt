@@ -1,35 +1,14 @@
 -- A walk that goes down into an abstraction or an application: what it needs there, and what it says of the whole.
-use Rattle.std.proofs.Common.{◌≡◌, ℕ, ◌+◌, ◌≤◌, refl, ap, sym, subst, arith}
-use Rattle.std.proofs.Common.{Box}
-use Rattle.std.specs.Prelude.{Some}
-use Rattle.std.specs.declared.alloc.Global.{Global}
-use Rattle.pure_typ.specs.declared.typ.Typ as typ
-use Rattle.pure_term.specs.declared.term.Term as term
-use Rattle.pure_term.specs.declared.term.TermNode.{TermNode}
-use Rattle.pure_term.specs.declared.term.TermNode.TheVariants as node
-use Rattle.pure_term.specs.TermView.{view_term}
+use Rattle.std.proofs.Common.{◌≡◌, ℕ, ◌+◌, ◌≤◌, sym, subst, arith}
 use Rattle.pure_definitions.specs.Types.Typ.{Typ, typ_size}
-use Rattle.pure_definitions.specs.Terms.Term.{Term, Abs, App, term_size, term_depth}
-use Rattle.pure_definitions.specs.Terms.Bounds.{subst_bound}
-use Rattle.pure_definitions.specs.Terms.Conditions.{IsPuttable}
-use Rattle.pure_definitions.specs.Reduction.Beta.{IsAbs, IsBetaNormal, beta_step}
-use Rattle.pure_norm.specs.declared.walk.Until.{Until}
-use Rattle.pure_norm.specs.declared.walk.Until.TheVariants.{Abstraction, Normal}
-use Rattle.pure_norm.specs.declared.walk.Walk.{Walk}
+use Rattle.pure_definitions.specs.Terms.Term.{Term, Abs, App, term_size}
+use Rattle.pure_definitions.specs.Reduction.Beta.{IsAbs, IsBetaNormal}
+use Rattle.pure_norm.specs.declared.contract.Walk.{Walk}
 use Rattle.pure_norm.specs.declared.fault.NormFault.{NormFault}
-use Rattle.pure_norm.specs.Walk.{CanWalk, IsOver, Walked, Fails, Contracted, CannotContract}
+use Rattle.pure_norm.specs.Walk.{Until, Abstraction, Normal, CanWalk, Walked, Fails, Contracted, CannotContract}
 use Rattle.pure_term_laws.proofs.OccursLaws.{closed-more}
-use Rattle.pure_norm.proofs.ClosedLemmas.{puttable-closed}
 use Rattle.pure_norm.proofs.LeadsLemmas.{app-goes_on, function-frame, argument-frame, body-frame}
 use Rattle.pure_norm.proofs.WalkLemmas.{walked-chain, fails-chain, walked-whole, fails-whole, walked-contracted, fails-contract, can_walk-after}
-
-pub redex-step : (f a b : Term) (T : Typ) → f ≡ Abs T b → beta_step (App f a) ≡ Some (subst_bound b a)
-redex-step f a b T e = ap (λ (g : Term). beta_step (App g a)) e
-
-pub redex-puttable : (deep : ℕ) (walk : Walk) (f a b : Term) (T : Typ) → f ≡ Abs T b → CanWalk deep walk (App f a) → IsPuttable 0 a b
-redex-puttable deep walk f a b T e h =
-    let low : deep + term_depth (App (Abs T b) a) ≤ 2000 = subst (λ g. deep + term_depth (App g a) ≤ 2000) e h.shallow in
-    puttable-closed 0 deep a b h.closed.1 (omega arith)
 
 -- the body of an abstraction
 pub can_walk-body : (deep : ℕ) (walk : Walk) (t b : Term) (T : Typ) → t ≡ Abs T b → CanWalk deep walk t → CanWalk (deep + 1) walk b
@@ -118,17 +97,6 @@ pub record IsFunctionOver (until : Until) (deep : ℕ) (before now : Walk) (t f 
   pub other : ¬ IsAbs f
   pub normal : IsBetaNormal f
 
-pub function-over : (until : Until) (deep : ℕ) (before middle now : Walk) (t f g a b : Term) → CanWalk deep before t → Walked until deep before middle t (App f a)
-    → (¬ IsAbs f) × (now ≡ middle) × (g ≡ f) × (b ≡ a) → IsOver Abstraction f → IsFunctionOver until deep before now t g b
-function-over until deep before middle now t f g a b h w none over =
-    let walked : Walked until deep before now t (App g b) = rw (none.1, none.2, none.3) w in
-    record {
-      walked = walked;
-      can = can_walk-after until deep before now t (App g b) h walked;
-      other = rw none.2 none.0;
-      normal = rw none.2 (over none.0);
-    }
-
 module _ (until : Until) (deep : ℕ) (before middle : Walk) (t f a : Term) (known : IsFunctionOver until deep before middle t f a) where
   pub walked-after_function : (now : Walk) (b : Term) → Walked Normal (deep + 1) middle now a b → Walked until deep before now t (App f b)
   walked-after_function now b w =
@@ -137,15 +105,3 @@ module _ (until : Until) (deep : ℕ) (before middle : Walk) (t f a : Term) (kno
   pub fails-after_function : (fault : NormFault) → Fails Normal (deep + 1) middle a fault → Fails until deep before t fault
   fails-after_function fault h =
       fails-chain until deep before middle t (App f a) fault known.walked (fails-argument until deep middle f a fault known.other known.normal known.can h)
-
--- A walk is over where it pauses, and at a term that is neither an abstraction nor an application.
-pub over-paused : (until : Until) (T : Typ) (b : Term) → until ≡ Abstraction → IsOver until (Abs T b)
-over-paused until T b u = rw u (λ goes. absurd (goes tt))
-
-pub leaf-normal : (n : TermNode) → ((T : typ.Typ) (b : Box term.Term Global) → n ≡ node.Abs T b → ⊥) → ((f a : Box term.Term Global) → n ≡ node.App f a → ⊥) → IsBetaNormal (view_term n)
-leaf-normal (node.Const c T) h k = tt
-leaf-normal (node.Free x T) h k = tt
-leaf-normal (node.Var x i T) h k = tt
-leaf-normal (node.Bound n) h k = tt
-leaf-normal (node.Abs T b) h k = absurd (h T b refl)
-leaf-normal (node.App f a) h k = absurd (k f a refl)

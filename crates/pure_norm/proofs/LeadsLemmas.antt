@@ -5,9 +5,7 @@ use Rattle.pure_definitions.specs.Types.Typ.{Typ, typ_size, typ_depth}
 use Rattle.pure_definitions.specs.Terms.Term.{Term, Abs, App, term_size, term_depth, max_depth}
 use Rattle.pure_definitions.specs.Terms.Bounds.{IsClosedUnder}
 use Rattle.pure_definitions.specs.Reduction.Beta.{IsAbs, IsBetaNormal, beta_step}
-use Rattle.pure_norm.specs.declared.walk.Until.{Until}
-use Rattle.pure_norm.specs.declared.walk.Until.TheVariants.{Abstraction, Normal}
-use Rattle.pure_norm.specs.Walk.{Pauses, Fits, Leads}
+use Rattle.pure_norm.specs.Walk.{Until, Abstraction, Normal, Pauses, Fits, Leads}
 use Rattle.pure_norm.proofs.StepLemmas.{step-function, step-argument, step-body, step-closed}
 
 pub leads-chain : (until : Until) (nodes deep n m k : ℕ) (t u v : Term) → k ≡ n + m → Leads until nodes deep t n u → Leads until nodes deep u m v → Leads until nodes deep t k v

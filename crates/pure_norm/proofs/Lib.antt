@@ -1,9 +1,15 @@
 pub mod ClosedLemmas
 pub mod OccurrenceLemmas
+pub mod MeantLemmas
+pub mod FoundLemmas
+pub mod KeptLemmas
+pub mod MeasureLemmas
 pub mod StepLemmas
 pub mod LeadsLemmas
 pub mod WalkLemmas
 pub mod DescendLemmas
 pub mod RedexLemmas
+pub mod ContractLemmas
+pub mod TurnLemmas
 pub mod AnswerLemmas
 pub mod BetaLaws

@@ -1,11 +1,10 @@
 -- Walks with what they leave of steps and room: one after another, of a part as of the whole, and one contraction.
 use Rattle.std.proofs.Common.{◌≡◌, ℕ, ◌+◌, refl, subst, arith}
 use Rattle.pure_definitions.specs.Terms.Term.{Term}
-use Rattle.pure_norm.specs.declared.walk.Until.{Until}
-use Rattle.pure_norm.specs.declared.walk.Walk.{Walk}
+use Rattle.pure_norm.specs.declared.contract.Walk.{Walk}
 use Rattle.pure_norm.specs.declared.fault.NormFault.{NormFault}
 use Rattle.pure_norm.specs.declared.fault.NormFault.TheVariants.{Steps, Big, Memory}
-use Rattle.pure_norm.specs.Walk.{Pauses, Fits, Leads, nodes_at, CanWalk, Walked, Fails, Contracted, CannotContract}
+use Rattle.pure_norm.specs.Walk.{Until, Pauses, Fits, Leads, nodes_at, CanWalk, Walked, Fails, Contracted, CannotContract}
 use Rattle.pure_norm.proofs.LeadsLemmas.{leads-chain, leads-closed, IsFrame, fits-part, leads-whole}
 
 pub walked-chain : (until : Until) (deep : ℕ) (before middle now : Walk) (t u v : Term) → Walked until deep before middle t u → Walked until deep middle now u v → Walked until deep before now t v

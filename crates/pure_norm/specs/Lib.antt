@@ -1,5 +1,12 @@
+pub mod Env
+pub mod EnvCodes
+pub mod Measures
+pub mod ScopeView
+pub mod ScopeFalls
+pub mod Held
+pub mod Function
 pub mod Occurrences
-pub mod Put
 pub mod Walk
+pub mod Turn
 pub mod NormAnswer
 pub mod LawsBeta

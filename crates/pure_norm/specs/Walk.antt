@@ -1,23 +1,22 @@
 -- A subterm reduced in its place in a whole term: what its steps lead to within the limits of the whole. The walk knows how many nodes are on the path above the subterm,
 -- how many nodes more the whole may have, and how many steps are left.
-use Rattle.std.specs.Prelude.{◌≡◌, ℕ, zero, suc, ◌+◌, ◌<◌, ◌≤◌, Option, Some, None}
-use Rattle.pure_definitions.specs.Terms.Term.{Term, App, term_size, term_depth, max_size, max_depth}
+use Rattle.std.specs.Prelude.{◌≡◌, ℕ, zero, suc, ◌+◌, ◌<◌, ◌≤◌, Some}
+use Rattle.pure_definitions.specs.Terms.Term.{Term, term_size, term_depth, max_size, max_depth}
 use Rattle.pure_definitions.specs.Terms.Bounds.{IsClosedUnder}
-use Rattle.pure_definitions.specs.Reduction.Beta.{IsAbs, IsBetaNormal, beta_step}
-use Rattle.pure_norm.specs.declared.walk.Until.{Until}
-use Rattle.pure_norm.specs.declared.walk.Until.TheVariants.{Abstraction, Normal}
-use Rattle.pure_norm.specs.declared.walk.Walk.{Walk}
+use Rattle.pure_definitions.specs.Reduction.Beta.{IsAbs, beta_step}
+use Rattle.pure_norm.specs.declared.contract.Walk.{Walk}
 use Rattle.pure_norm.specs.declared.fault.NormFault.{NormFault}
 use Rattle.pure_norm.specs.declared.fault.NormFault.TheVariants.{Steps, Big, Memory}
+
+-- what a walk looks for: an abstraction to apply, or the normal form
+pub data Until : Type 0 where
+  Abstraction : Until
+  Normal : Until
 
 -- A walk that looks for an abstraction pauses there; one that looks for the normal form pauses nowhere.
 abbrev pub Pauses : Until → Term → Type 0
 Pauses Abstraction t = IsAbs t
 Pauses Normal t = ⊥
-
--- The walk is over where the term is normal; or, short of that, where it pauses.
-abbrev pub IsOver : Until → Term → Type 0
-IsOver until t = ¬ Pauses until t → IsBetaNormal t
 
 -- The term fits in its place: it has at most so many nodes, and below a path of so many it is within the limit of depth.
 pub record Fits (nodes deep : ℕ) (t : Term) : Type 0 where
@@ -68,22 +67,12 @@ Fails until deep before t Big = Outgrows until deep before t
 Fails until deep before t Steps = RunsOut until deep before t
 Fails until deep before t Memory = Unit {0}
 
--- Going down through t once either ends the walk, at what t has become, or takes a step of the whole of it to u, where the walk goes on.
-abbrev pub Descended : Until → (deep : ℕ) → (before now : Walk) → (t become : Term) → Option Term → Type 0
-Descended until deep before now t become None = Walked until deep before now t become × IsOver until become
-Descended until deep before now t become (Some u) = Walked until deep before now t u × (now.steps < before.steps)
-
 -- The step from the redex t to u is taken: u fits.
 pub record Contracted (deep : ℕ) (before now : Walk) (t u : Term) : Type 0 where
   pub step : beta_step t ≡ Some u
   pub counted : now.steps + 1 ≡ before.steps
   pub kept : nodes_at now u ≡ nodes_at before t
   pub shallow : deep + term_depth u ≤ max_depth
-
--- The function applied is no abstraction, and stays with its argument; or its redex is contracted.
-abbrev pub IsContracted : (deep : ℕ) → (before now : Walk) → (function function_now argument argument_now : Term) → Option Term → Type 0
-IsContracted deep before now f g a b None = (¬ IsAbs f) × (now ≡ before) × (g ≡ f) × (b ≡ a)
-IsContracted deep before now f g a b (Some u) = Contracted deep before now (App f a) u
 
 -- why the step from the redex t isn't taken: it leads to a term that doesn't fit, or no step is left
 abbrev pub CannotContract : (deep : ℕ) → (before : Walk) → (t : Term) → NormFault → Type 0

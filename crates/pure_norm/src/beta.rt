@@ -2,8 +2,10 @@
 ghost use Rattle.pure_definitions.specs.Terms.Bounds.{IsClosed};
 ghost use Rattle.pure_norm.specs.NormAnswer.{IsNormAnswer};
 
+use crate::contract::Walk;
 use crate::fault::NormFault;
-use crate::walk::{Until, Walk, reduce};
+use crate::scope::empty_scope;
+use crate::walk::normal_form;
 use pure_term::{MAX_DEPTH, MAX_SIZE, Term, term_leaves};
 use std::alloc::Global;
 
@@ -19,11 +21,11 @@ pub fn beta_norm(alloc: Global, t: &Term) -> Result<Term, NormFault>
     let Some(room) = term_leaves(t, MAX_SIZE, MAX_DEPTH) else {
         return Err(NormFault::Big);
     };
-    let mut u = t.copy(alloc)?;
     let mut walk = Walk {
         steps: MAX_STEPS,
         room,
     };
-    reduce(alloc, &mut u, Until::Normal, 0, &mut walk)?;
-    Ok(u)
+    let scope = empty_scope(alloc)?;
+    let u = normal_form(alloc, t, &scope, 0, &mut walk)?;
+    Ok(Box::into_inner(u))
 }

@@ -2,10 +2,13 @@
 #![tactic(auto)]
 
 mod beta;
+mod contract;
 mod fault;
+mod held;
 pub mod laws;
+mod measure;
 mod occurrences;
-mod put;
+mod scope;
 mod walk;
 
 pub use beta::{MAX_STEPS, beta_norm};

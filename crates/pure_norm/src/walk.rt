@@ -1,140 +1,200 @@
-//! The walk through a term, in which steps are taken in place.
-ghost use Rattle.std.specs.Prelude.{◌≡◌, ◌+◌, ◌*◌, ◌<◌, ◌≤◌, IfOk, IfErr, MatchOption};
-ghost use Rattle.pure_definitions.specs.Types.Typ.{typ_size};
-ghost use Rattle.pure_definitions.specs.Terms.Term.{App, term_size, term_depth, max_depth};
-ghost use Rattle.pure_norm.specs.Occurrences.{LeavesAfter};
-ghost use Rattle.pure_norm.specs.Walk.{CanWalk, Walked, Fails, IsOver, Descended, IsContracted, CannotContract};
+//! The walk through a term, which takes steps on the way. Terms are held unchanged in scopes: a step binds its argument there.
+ghost use Rattle.std.specs.Prelude.{◌≡◌, ◌+◌, ◌*◌, ◌<◌, ◌≤◌, IfOk, IfErr};
+ghost use Rattle.pure_definitions.specs.Terms.Term as tree;
+ghost use Rattle.pure_definitions.specs.Reduction.Beta.{IsBetaNormal};
+ghost use Rattle.pure_norm.specs.Env.{meant};
+ghost use Rattle.pure_norm.specs.Walk.{Normal, Abstraction, CanWalk, Walked, Fails};
+ghost use Rattle.pure_norm.specs.Turn.{head_term, IsHead, IsLeaf, IsTurn, IsFoundTurn};
 
+use crate::contract::{Function, Walk, contract};
 use crate::fault::NormFault;
-use crate::occurrences::{Occurrences, find_occurrences};
-use crate::put::{put_argument, set, taken};
-use pure_term::{MAX_DEPTH, MAX_SIZE, Term, TermNode, Typ, term_leaves};
-use pure_typ::size_of_typ;
-use std::alloc::Global;
+use crate::held::{Found, find};
+use crate::scope::{Closure, Scope, scope_under};
+use pure_term::{Term, TermNode, Typ};
+use std::alloc::{AllocError, Global};
+use std::rc::Rc;
 
-/// What a walk looks for: an abstraction to apply, or the normal form.
-#[derive(Clone, Copy)]
-pub enum Until {
-    Abstraction,
-    Normal,
-}
-
-/// What is left: steps, and how many nodes more the whole term may have.
+/// What a walk to an abstraction finds: one, or else a normal form.
 #[derive(Drop)]
-pub struct Walk {
-    pub steps: u32,
-    pub room: u32,
+pub enum Head<'t> {
+    Function(Function<'t>),
+    Reduced(Box<Term>),
 }
 
-/// Takes steps in the term, which stands below a path of `deep` nodes, until it is what is looked for, or else normal.
+/// A turn of the walk: it is over, or goes on at a term in a scope.
+#[derive(Drop)]
+pub enum Turn<'t> {
+    Over(Head<'t>),
+    Next(Closure<'t>),
+}
+
+/// The normal form of what is meant by the term in its scope, which stands below a path of `deep` nodes.
 #[cycle(walk)]
-pub fn reduce(
+pub fn normal_form<'t>(
     alloc: Global,
-    t: &mut Term,
-    until: Until,
+    t: &'t Term,
+    scope: &Rc<Scope<'t>>,
     deep: u32,
     walk: &mut Walk,
-) -> Result<(), NormFault>
-    requires { CanWalk deep walk.old t.old }
-    ensures walked { IfOk result (λ _. Walked until deep walk.old walk.new t.old t.new) }
-    ensures over { IfOk result (λ _. IsOver until t.new) }
-    ensures fault { IfErr result (λ fault. Fails until deep walk.old t.old fault) }
+) -> Result<Box<Term>, NormFault>
+    requires { CanWalk deep walk.old (meant scope.now.value t.now) }
+    ensures walked { IfOk result (λ u. Walked Normal deep walk.old walk.new (meant scope.now.value t.now) u.value) }
+    ensures over { IfOk result (λ u. IsBetaNormal u.value) }
+    ensures fault { IfErr result (λ fault. Fails Normal deep walk.old (meant scope.now.value t.now) fault) }
 {
-    'contractions: while let Some(u) = descend(alloc, t, until, deep, walk)? {
-        set(t, u);
+    let found = head_of(alloc, t, scope, deep, walk)?;
+    match found {
+        Head::Reduced(u) => Ok(u),
+        Head::Function(function) => {
+            let inner = scope_under(alloc, &function.scope)?;
+            let body = normal_form(alloc, function.body, &inner, deep + 1, walk)?;
+            Ok(abstracted(alloc, function.typ, body)?)
+        }
     }
-    Ok(())
 }
 
-/// Goes down through the term once, function first, to what is looked for. Where that makes a redex of the term itself, the answer is what it is contracted to.
+/// Takes steps in what is meant until it is an abstraction, or else normal.
 #[cycle(walk)]
-fn descend(
+fn head_of<'t>(
     alloc: Global,
-    t: &mut Term,
-    until: Until,
+    t: &'t Term,
+    scope: &Rc<Scope<'t>>,
     deep: u32,
     walk: &mut Walk,
-) -> Result<Option<Term>, NormFault>
-    requires { CanWalk deep walk.old t.old }
-    ensures walked { IfOk result (λ next. Descended until deep walk.old walk.new t.old t.new next) }
-    ensures fault { IfErr result (λ fault. Fails until deep walk.old t.old fault) }
+) -> Result<Head<'t>, NormFault>
+    requires { CanWalk deep walk.old (meant scope.now.value t.now) }
+    ensures walked { IfOk result (λ head. Walked Abstraction deep walk.old walk.new (meant scope.now.value t.now) (head_term head)) }
+    ensures over { IfOk result (λ head. IsHead head) }
+    ensures fault { IfErr result (λ fault. Fails Abstraction deep walk.old (meant scope.now.value t.now) fault) }
 {
-    match &mut t.node {
-        TermNode::Abs { body, .. } => {
-            if let Until::Normal = until {
-                reduce(alloc, body, Until::Normal, deep + 1, walk)?;
+    let mut term = t;
+    let mut place = scope.clone()?;
+    'contractions: loop {
+        let turn = turn_at(alloc, term, &place, deep, walk)?;
+        match turn {
+            Turn::Over(found) => return Ok(found),
+            Turn::Next(next) => {
+                term = next.term;
+                place = next.scope;
             }
+        }
+    }
+}
+
+/// Goes down through the term once, function first. Where that makes a redex of the whole, it goes on at what that is contracted to.
+#[cycle(walk)]
+fn turn_at<'t>(
+    alloc: Global,
+    t: &'t Term,
+    scope: &Rc<Scope<'t>>,
+    deep: u32,
+    walk: &mut Walk,
+) -> Result<Turn<'t>, NormFault>
+    requires { CanWalk deep walk.old (meant scope.now.value t.now) }
+    ensures turned { IfOk result (λ turn. IsTurn deep walk.old walk.new t.now (meant scope.now.value t.now) turn) }
+    ensures fault { IfErr result (λ fault. Fails Abstraction deep walk.old (meant scope.now.value t.now) fault) }
+{
+    match &t.node {
+        TermNode::Abs { typ, body } => {
+            let head = lambda(typ, body, scope)?;
+            Ok(Turn::Over(head))
+        }
+        TermNode::Bound { place } => {
+            let turn = at_bound(alloc, *place, scope)?;
+            Ok(turn)
         }
         TermNode::App { fun, arg } => {
-            reduce(alloc, fun, Until::Abstraction, deep + 1, walk)?;
-            if let Some(u) = contractum(alloc, fun, arg, deep, walk)? {
-                return Ok(Some(u));
-            }
-            reduce(alloc, arg, Until::Normal, deep + 1, walk)?;
+            let next = apply(alloc, fun, arg, scope, deep, walk)?;
+            Ok(next)
         }
-        _ => {}
+        _ => {
+            let head = leaf(alloc, t)?;
+            Ok(Turn::Over(head))
+        }
     }
-    Ok(None)
 }
 
-/// The function's body with the argument in place of its bound variable, where the function is an abstraction: the redex is used up. What it costs are two walks through the body, and one through an argument that comes deeper or is copied.
-fn contractum(
+/// The turn at an application.
+#[cycle(walk)]
+fn apply<'t>(
     alloc: Global,
-    fun: &mut Term,
-    arg: &mut Term,
+    fun: &'t Term,
+    arg: &'t Term,
+    scope: &Rc<Scope<'t>>,
     deep: u32,
     walk: &mut Walk,
-) -> Result<Option<Term>, NormFault>
-    requires { CanWalk deep walk.old (App fun.old arg.old) }
-    ensures contracted { IfOk result (λ u. IsContracted deep walk.old walk.new fun.old fun.new arg.old arg.new u) }
-    ensures fault { IfErr result (λ fault. CannotContract deep walk.old (App fun.old arg.old) fault) }
+) -> Result<Turn<'t>, NormFault>
+    requires { CanWalk deep walk.old (tree.App (meant scope.now.value fun.now) (meant scope.now.value arg.now)) }
+    ensures turned { IfOk result (λ turn. IsTurn deep walk.old walk.new (tree.App fun.now arg.now) (tree.App (meant scope.now.value fun.now) (meant scope.now.value arg.now)) turn) }
+    ensures fault { IfErr result (λ fault. Fails Abstraction deep walk.old (tree.App (meant scope.now.value fun.now) (meant scope.now.value arg.now)) fault) }
 {
-    let TermNode::Abs { typ, body } = &mut fun.node else {
-        return Ok(None);
-    };
-    if walk.steps == 0 {
-        return Err(NormFault::Steps);
+    let found = head_of(alloc, fun, scope, deep + 1, walk)?;
+    match found {
+        Head::Function(function) => {
+            let next = contract(alloc, &function, arg, scope, deep, walk)?;
+            Ok(Turn::Next(next))
+        }
+        Head::Reduced(front) => {
+            let back = normal_form(alloc, arg, scope, deep + 1, walk)?;
+            let whole = applied(alloc, front, back)?;
+            Ok(Turn::Over(Head::Reduced(whole)))
+        }
     }
-    let found = find_occurrences(body, 0, deep);
-    let Some(room) = room_after(typ, arg, found, deep, walk.room) else {
-        return Err(NormFault::Big);
-    };
-    let mut left = found.count;
-    put_argument(alloc, body, 0, arg, &mut left)?;
-    walk.steps -= 1;
-    walk.room = room;
-    Ok(Some(taken(body)))
 }
 
-/// How many nodes are left of room when the argument of a redex goes to its occurrences, below the binder's type. One that goes to a single place, no deeper than it was, is not looked at.
-fn room_after(typ: &Typ, arg: &Term, found: Occurrences, deep: u32, room: u32) -> Option<u32>
-    requires few { room + 2 + typ_size typ.now + term_size arg.now ≤ 200000 }
-    requires shallow { deep + 1 + term_depth arg.now ≤ max_depth }
-    requires count { found.count ≤ 200000 }
-    requires deepest { found.deepest ≤ max_depth }
-    requires none { found.count ≡ 0 → found.deepest ≡ 0 }
-    ensures { LeavesAfter (room + 2 + typ_size typ.now) found.count found.deepest (term_size arg.now) (term_depth arg.now) result }
+/// What is found at an abstraction: itself.
+fn lambda<'t>(typ: &'t Typ, body: &'t Term, scope: &Rc<Scope<'t>>) -> Result<Head<'t>, AllocError>
+    ensures found { IfOk result (λ head. head_term head ≡ meant scope.now.value (tree.Abs typ.now body.now)) }
+    ensures over { IfOk result (λ head. IsHead head) }
 {
-    let freed = room + 2 + size_of_typ(typ);
-    if found.count == 1 && found.deepest <= deep + 1 {
-        return Some(freed + 1);
-    }
-    let Some(rest) = term_leaves(arg, MAX_SIZE, MAX_DEPTH - found.deepest) else {
-        return None;
-    };
-    let nodes = MAX_SIZE - rest;
-    room_left(freed + nodes + found.count, found.count, nodes)
+    let scope = scope.clone()?;
+    Ok(Head::Function(Function { typ, body, scope }))
 }
 
-/// What is left of room for `all` nodes when so many nodes are put in so often.
-fn room_left(all: u32, count: u32, nodes: u32) -> Option<u32>
-    requires count { count ≤ 200000 }
-    requires nodes { nodes ≤ 200000 }
-    ensures { MatchOption result (all < count * nodes) (λ rest. rest + count * nodes ≡ all) }
+/// What is found at a constant or a variable: itself.
+fn leaf<'t>(alloc: Global, t: &Term) -> Result<Head<'t>, AllocError>
+    requires { IsLeaf t.now }
+    ensures found { IfOk result (λ head. head_term head ≡ t.now) }
+    ensures over { IfOk result (λ head. IsHead head) }
 {
-    let added = u64::from(count) * u64::from(nodes);
-    if u64::from(all) < added {
-        return None;
+    Ok(Head::Reduced(Box::new(alloc, t.copy(alloc)?)?))
+}
+
+/// The turn at a bound variable: it is over where the variable stays, and else goes on at the term that it stands for.
+fn at_bound<'t>(alloc: Global, place: u32, scope: &Rc<Scope<'t>>) -> Result<Turn<'t>, AllocError>
+    ensures { IfOk result (λ turn. IsFoundTurn (meant scope.now.value (tree.Bound place)) turn) }
+{
+    let found = find(alloc, scope, place, 0)?;
+    match found {
+        Found::Place(place) => {
+            let variable = bound(alloc, place)?;
+            Ok(Turn::Over(Head::Reduced(variable)))
+        }
+        Found::Kept(held) => Ok(Turn::Next(held.closure)),
     }
-    Some((u64::from(all) - added) as u32)
+}
+
+/// A bound variable.
+fn bound(alloc: Global, place: u32) -> Result<Box<Term>, AllocError>
+    ensures { IfOk result (λ t. t.value ≡ tree.Bound place) }
+{
+    let node = TermNode::Bound { place };
+    Ok(Box::new(alloc, Term { node })?)
+}
+
+/// The application of the function to the argument.
+fn applied(alloc: Global, fun: Box<Term>, arg: Box<Term>) -> Result<Box<Term>, AllocError>
+    ensures { IfOk result (λ t. t.value ≡ tree.App fun.value arg.value) }
+{
+    let node = TermNode::App { fun, arg };
+    Ok(Box::new(alloc, Term { node })?)
+}
+
+/// The abstraction of the body over a variable of this type.
+fn abstracted(alloc: Global, typ: &Typ, body: Box<Term>) -> Result<Box<Term>, AllocError>
+    ensures { IfOk result (λ t. t.value ≡ tree.Abs typ.now body.value) }
+{
+    let typ = typ.copy(alloc)?;
+    let node = TermNode::Abs { typ, body };
+    Ok(Box::new(alloc, Term { node })?)
 }

@@ -1,140 +1,160 @@
-use Rattle.std.proofs.Common.{◌≡◌, ◌∙◌, refl, subst, arith}
+use Rattle.std.proofs.Common.{◌≡◌, ◌∙◌, refl, ap, sym, subst, arith}
 use Rattle.std.proofs.lemmas.Result.{err_from_is_err_and}
-use Rattle.pure_definitions.specs.Terms.Term.{Abs, App}
-use Rattle.pure_definitions.specs.Reduction.Beta.{IsBetaNormal}
-use Rattle.pure_norm.specs.Walk.{Walked, Contracted}
+use Rattle.pure_definitions.specs.Terms.Term.{Term, Bound, App}
+use Rattle.pure_definitions.specs.Reduction.Beta.{IsAbs, IsBetaNormal}
+use Rattle.pure_norm.specs.Env.{meant, meant_under}
+use Rattle.pure_norm.specs.Function.{function_term}
+use Rattle.pure_norm.specs.Held.{closure_term}
+use Rattle.pure_norm.specs.Turn.{IsLeaf, head_term}
+use Rattle.pure_norm.specs.Walk.{Abstraction, CanWalk, Walked}
+use Rattle.pure_norm.proofs.MeantLemmas.{meant-app, meant-leaf}
 use Rattle.pure_norm.proofs.WalkLemmas.{walked-chain, fails-chain, can_walk-after, walked-nowhere}
-use Rattle.pure_norm.proofs.DescendLemmas.{walked-body, fails-body, can_walk-function, walked-function, fails-function, walked-redex, fails-redex, can_walk-argument, function-over, walked-after_function, fails-after_function, over-paused, leaf-normal}
+use Rattle.pure_norm.proofs.TurnLemmas.{walked-on, fails-on, can-body, walked-abs, fails-abs, can-function, fails-in_function, can-redex, fewer, redex-walked, redex-fails, can-argument, argument-walked, argument-fails, turns-contracted, walked-same, turn-found, turn-same, fails-same, leaf-node}
 use Rattle.pure_norm.proofs.walk.+walk.Goals as goal
-use Rattle.pure_norm.proofs.walk.+walk.Goals.{descend-in-Abs+in-Normal+in_ok-reduce-in-Abs, descend-in-Abs+in_default-until, descend-in-App+in_ok-reduce-in-App+in_ok-u-in-App+in_default-2+in_ok-reduce-in-App-2, descend-in_default}
 
-pub descend-returns-in_err-reduce-in-Abs-clause-fault : goal.descend-returns-in_err-reduce-in-Abs-clause-fault
-descend-returns-in_err-reduce-in-Abs-clause-fault t c =
-    let e : c.args.t.now ≡ Abs c.in-Abs.typ c.deref_mut.result.now = rw (← c.t.view_is, c.in-Abs.is, c.deref_mut.ensures.value) refl in
+pub normal_form-returns-in_err-found-clause-fault : goal.normal_form-returns-in_err-found-clause-fault
+normal_form-returns-in_err-found-clause-fault t c =
     let p = err_from_is_err_and c.from_residual.result c.from_residual.ensures.1 in
     rw (p.1, p.2)
-    (fails-body c.args.until c.args.deep c.args.walk.now c.args.t.now c.deref_mut.result.now c.in-Abs.typ c.in_err-reduce-in-Abs.field-0.0 c.in-Normal.is e c.requires c.in_err-reduce-in-Abs.ensures.fault)
+    (fails-on c.args.deep c.args.walk.now (meant c.args.scope.now.value c.args.t.now) c.in_err-found.field-0.0 c.in_err-found.ensures.fault)
 
-pub descend-reduce-requires-in-App : goal.descend-reduce-requires-in-App
-descend-reduce-requires-in-App t c =
-    let e : c.args.t.now ≡ App c.deref_mut-in-App.result.now c.in-App.arg.value = rw (← c.t.view_is, c.in-App.is, c.deref_mut-in-App.ensures.value) refl in
-    let can = can_walk-function c.args.deep c.args.walk.now c.args.t.now c.deref_mut-in-App.result.now c.in-App.arg.value e c.requires in
+pub normal_form-normal_form-requires : goal.normal_form-normal_form-requires
+normal_form-normal_form-requires t c =
+    let walked = rw c.in-Function.is at c.in_ok-found.ensures.walked in
+    let can = can-body c.args.deep c.args.walk.now c.head_of.new.walk (meant c.args.scope.now.value c.args.t.now) (meant_under 1 c.in-Function.function.scope.value c.in-Function.function.body.now) c.in-Function.function.typ.now c.requires walked in
+    let low = can.shallow in
+    (omega arith, rw c.in_ok-inner-in-Function.ensures can)
+
+pub normal_form-returns-in_err-body-in-Function-clause-fault : goal.normal_form-returns-in_err-body-in-Function-clause-fault
+normal_form-returns-in_err-body-in-Function-clause-fault t c =
+    let walked = rw c.in-Function.is at c.in_ok-found.ensures.walked in
+    let p = err_from_is_err_and c.from_residual-in_err-body-in-Function.result c.from_residual-in_err-body-in-Function.ensures.1 in
+    rw (p.1, p.2)
+    (fails-abs c.args.deep c.args.walk.now c.head_of.new.walk (meant c.args.scope.now.value c.args.t.now) (meant_under 1 c.in-Function.function.scope.value c.in-Function.function.body.now) c.in-Function.function.typ.now c.requires walked c.in_err-body-in-Function.field-0.0
+    (rw c.in_ok-inner-in-Function.ensures at c.in_err-body-in-Function.ensures.fault))
+
+pub normal_form-returns-in-Reduced-clause-walked : goal.normal_form-returns-in-Reduced-clause-walked
+normal_form-returns-in-Reduced-clause-walked t c =
+    walked-on c.args.deep c.args.walk.now c.head_of.new.walk (meant c.args.scope.now.value c.args.t.now) c.in-Reduced.u.value (rw c.in-Reduced.is at c.in_ok-found.ensures.walked)
+
+pub normal_form-returns-in_ok-abstracted-in-Function-clause-walked : goal.normal_form-returns-in_ok-abstracted-in-Function-clause-walked
+normal_form-returns-in_ok-abstracted-in-Function-clause-walked t c =
+    let walked = rw c.in-Function.is at c.in_ok-found.ensures.walked in
+    rw c.in_ok-abstracted-in-Function.ensures
+    (walked-abs c.args.deep c.args.walk.now c.head_of.new.walk (meant c.args.scope.now.value c.args.t.now) (meant_under 1 c.in-Function.function.scope.value c.in-Function.function.body.now) c.in-Function.function.typ.now c.requires walked c.normal_form.new.walk c.in_ok-body-in-Function.body.value
+    (rw c.in_ok-inner-in-Function.ensures at c.in_ok-body-in-Function.ensures.walked))
+
+pub apply-head_of-requires : goal.apply-head_of-requires
+apply-head_of-requires t c =
+    let can = can-function c.args.deep c.args.walk.now (meant c.args.scope.now.value c.args.fun.now) (meant c.args.scope.now.value c.args.arg.now) c.requires in
     let low = can.shallow in
     (omega arith, can)
 
-pub descend-returns-in_err-reduce-in-App-clause-fault : goal.descend-returns-in_err-reduce-in-App-clause-fault
-descend-returns-in_err-reduce-in-App-clause-fault t c =
-    let e : c.args.t.now ≡ App c.deref_mut-in-App.result.now c.in-App.arg.value = rw (← c.t.view_is, c.in-App.is, c.deref_mut-in-App.ensures.value) refl in
-    let p = err_from_is_err_and c.from_residual-in_err-reduce-in-App.result c.from_residual-in_err-reduce-in-App.ensures.1 in
+pub apply-returns-in_err-found-clause-fault : goal.apply-returns-in_err-found-clause-fault
+apply-returns-in_err-found-clause-fault t c =
+    let p = err_from_is_err_and c.from_residual.result c.from_residual.ensures.1 in
     rw (p.1, p.2)
-    (fails-function c.args.until c.args.deep c.args.walk.now c.args.t.now c.deref_mut-in-App.result.now c.in-App.arg.value c.in_err-reduce-in-App.field-0.0 e c.requires c.in_err-reduce-in-App.ensures.fault)
+    (fails-in_function c.args.deep c.args.walk.now (meant c.args.scope.now.value c.args.fun.now) (meant c.args.scope.now.value c.args.arg.now) c.requires c.in_err-found.field-0.0 c.in_err-found.ensures.fault)
 
-pub descend-contractum-requires : goal.descend-contractum-requires
-descend-contractum-requires t c =
-    let e : c.args.t.now ≡ App c.deref_mut-in-App.result.now c.in-App.arg.value = rw (← c.t.view_is, c.in-App.is, c.deref_mut-in-App.ensures.value) refl in
-    let walked = walked-function c.args.until c.args.deep c.args.walk.now c.reduce-in-App.new.walk c.args.t.now c.deref_mut-in-App.result.now c.reduce-in-App.new.t c.in-App.arg.value e c.requires c.in_ok-reduce-in-App.ensures.walked in
-    let can = can_walk-after c.args.until c.args.deep c.args.walk.now c.reduce-in-App.new.walk c.args.t.now (App c.reduce-in-App.new.t c.in-App.arg.value) c.requires walked in
-    rw (c.deref_mut-in-App-2.ensures.value, c.deref_mut-in-App-3.ensures.value) can
+pub apply-contract-requires : goal.apply-contract-requires
+apply-contract-requires t c =
+    let walked = rw c.in-Function.is at c.in_ok-found.ensures.walked in
+    can-redex c.args.deep c.args.walk.now (meant c.args.scope.now.value c.args.fun.now) (meant c.args.scope.now.value c.args.arg.now) c.requires c.head_of.new.walk (function_term c.in-Function.function) walked
 
-pub descend-returns-in_err-u-in-App-clause-fault : goal.descend-returns-in_err-u-in-App-clause-fault
-descend-returns-in_err-u-in-App-clause-fault t c =
-    let e : c.args.t.now ≡ App c.deref_mut-in-App.result.now c.in-App.arg.value = rw (← c.t.view_is, c.in-App.is, c.deref_mut-in-App.ensures.value) refl in
-    let walked : Walked c.args.until c.args.deep c.args.walk.now c.reduce-in-App.new.walk c.args.t.now (App c.deref_mut-in-App-2.result.now c.deref_mut-in-App-3.result.now) =
-    rw (c.deref_mut-in-App-2.ensures.value, c.deref_mut-in-App-3.ensures.value)
-    (walked-function c.args.until c.args.deep c.args.walk.now c.reduce-in-App.new.walk c.args.t.now c.deref_mut-in-App.result.now c.reduce-in-App.new.t c.in-App.arg.value e c.requires c.in_ok-reduce-in-App.ensures.walked) in
-    let p = err_from_is_err_and c.from_residual-in_err-u-in-App.result c.from_residual-in_err-u-in-App.ensures.1 in
+pub apply-returns-in_err-next-in-Function-clause-fault : goal.apply-returns-in_err-next-in-Function-clause-fault
+apply-returns-in_err-next-in-Function-clause-fault t c =
+    let walked = rw c.in-Function.is at c.in_ok-found.ensures.walked in
+    let p = err_from_is_err_and c.from_residual-in_err-next-in-Function.result c.from_residual-in_err-next-in-Function.ensures.1 in
     rw (p.1, p.2)
-    (fails-redex c.args.until c.args.deep c.args.walk.now c.reduce-in-App.new.walk c.args.t.now c.deref_mut-in-App-2.result.now c.deref_mut-in-App-3.result.now c.in_err-u-in-App.field-0.0 walked c.requires c.in_err-u-in-App.ensures.fault)
+    (redex-fails c.args.deep c.args.walk.now (meant c.args.scope.now.value c.args.fun.now) (meant c.args.scope.now.value c.args.arg.now) c.requires c.head_of.new.walk (function_term c.in-Function.function) walked c.in_err-next-in-Function.field-0.0 c.in_err-next-in-Function.ensures.fault)
 
-pub descend-returns-in-Some-clause-walked : goal.descend-returns-in-Some-clause-walked
-descend-returns-in-Some-clause-walked t c =
-    let e : c.args.t.now ≡ App c.deref_mut-in-App.result.now c.in-App.arg.value = rw (← c.t.view_is, c.in-App.is, c.deref_mut-in-App.ensures.value) refl in
-    let walked : Walked c.args.until c.args.deep c.args.walk.now c.reduce-in-App.new.walk c.args.t.now (App c.deref_mut-in-App-2.result.now c.deref_mut-in-App-3.result.now) =
-    rw (c.deref_mut-in-App-2.ensures.value, c.deref_mut-in-App-3.ensures.value)
-    (walked-function c.args.until c.args.deep c.args.walk.now c.reduce-in-App.new.walk c.args.t.now c.deref_mut-in-App.result.now c.reduce-in-App.new.t c.in-App.arg.value e c.requires c.in_ok-reduce-in-App.ensures.walked) in
-    let step : Contracted c.args.deep c.reduce-in-App.new.walk c.contractum.new.walk (App c.deref_mut-in-App-2.result.now c.deref_mut-in-App-3.result.now) c.in-Some.u = rw c.in-Some.is at c.in_ok-u-in-App.ensures.contracted in
-    let before = walked.counted in
-    let after = step.counted in
-    (walked-redex c.args.until c.args.deep c.args.walk.now c.reduce-in-App.new.walk c.contractum.new.walk c.args.t.now c.deref_mut-in-App-2.result.now c.deref_mut-in-App-3.result.now c.in-Some.u walked c.requires step, omega arith)
-
-pub descend-reduce-requires-in-App-2 : goal.descend-reduce-requires-in-App-2
-descend-reduce-requires-in-App-2 t c =
-    let e : c.args.t.now ≡ App c.deref_mut-in-App.result.now c.in-App.arg.value = rw (← c.t.view_is, c.in-App.is, c.deref_mut-in-App.ensures.value) refl in
-    let walked : Walked c.args.until c.args.deep c.args.walk.now c.reduce-in-App.new.walk c.args.t.now (App c.deref_mut-in-App-2.result.now c.deref_mut-in-App-3.result.now) =
-    rw (c.deref_mut-in-App-2.ensures.value, c.deref_mut-in-App-3.ensures.value)
-    (walked-function c.args.until c.args.deep c.args.walk.now c.reduce-in-App.new.walk c.args.t.now c.deref_mut-in-App.result.now c.reduce-in-App.new.t c.in-App.arg.value e c.requires c.in_ok-reduce-in-App.ensures.walked) in
-    let none = rw c.in_default-2.is at c.in_ok-u-in-App.ensures.contracted in
-    let known = function-over c.args.until c.args.deep c.args.walk.now c.reduce-in-App.new.walk c.contractum.new.walk c.args.t.now c.deref_mut-in-App-2.result.now c.contractum.new.fun c.deref_mut-in-App-3.result.now c.deref_mut-in-App-4.result.now c.requires walked
-    (none.0, none.1, none.2, c.deref_mut-in-App-4.ensures.value ∙ none.3) (rw c.deref_mut-in-App-2.ensures.value c.in_ok-reduce-in-App.ensures.over) in
-    let can = can_walk-argument c.args.deep c.contractum.new.walk c.contractum.new.fun c.deref_mut-in-App-4.result.now known.can in
+pub apply-normal_form-requires : goal.apply-normal_form-requires
+apply-normal_form-requires t c =
+    let walked = rw c.in-Reduced.is at c.in_ok-found.ensures.walked in
+    let over = rw c.in-Reduced.is at c.in_ok-found.ensures.over in
+    let can = can-argument c.args.deep c.args.walk.now (meant c.args.scope.now.value c.args.fun.now) (meant c.args.scope.now.value c.args.arg.now) c.requires c.head_of.new.walk c.in-Reduced.front.value walked over.0 over.1 in
     let low = can.shallow in
     (omega arith, can)
 
-pub descend-returns-in_err-reduce-in-App-2-clause-fault : goal.descend-returns-in_err-reduce-in-App-2-clause-fault
-descend-returns-in_err-reduce-in-App-2-clause-fault t c =
-    let e : c.args.t.now ≡ App c.deref_mut-in-App.result.now c.in-App.arg.value = rw (← c.t.view_is, c.in-App.is, c.deref_mut-in-App.ensures.value) refl in
-    let walked : Walked c.args.until c.args.deep c.args.walk.now c.reduce-in-App.new.walk c.args.t.now (App c.deref_mut-in-App-2.result.now c.deref_mut-in-App-3.result.now) =
-    rw (c.deref_mut-in-App-2.ensures.value, c.deref_mut-in-App-3.ensures.value)
-    (walked-function c.args.until c.args.deep c.args.walk.now c.reduce-in-App.new.walk c.args.t.now c.deref_mut-in-App.result.now c.reduce-in-App.new.t c.in-App.arg.value e c.requires c.in_ok-reduce-in-App.ensures.walked) in
-    let none = rw c.in_default-2.is at c.in_ok-u-in-App.ensures.contracted in
-    let known = function-over c.args.until c.args.deep c.args.walk.now c.reduce-in-App.new.walk c.contractum.new.walk c.args.t.now c.deref_mut-in-App-2.result.now c.contractum.new.fun c.deref_mut-in-App-3.result.now c.deref_mut-in-App-4.result.now c.requires walked
-    (none.0, none.1, none.2, c.deref_mut-in-App-4.ensures.value ∙ none.3) (rw c.deref_mut-in-App-2.ensures.value c.in_ok-reduce-in-App.ensures.over) in
-    let p = err_from_is_err_and c.from_residual-in_err-reduce-in-App-2.result c.from_residual-in_err-reduce-in-App-2.ensures.1 in
+pub apply-returns-in_err-back-in-Reduced-clause-fault : goal.apply-returns-in_err-back-in-Reduced-clause-fault
+apply-returns-in_err-back-in-Reduced-clause-fault t c =
+    let walked = rw c.in-Reduced.is at c.in_ok-found.ensures.walked in
+    let over = rw c.in-Reduced.is at c.in_ok-found.ensures.over in
+    let p = err_from_is_err_and c.from_residual-in_err-back-in-Reduced.result c.from_residual-in_err-back-in-Reduced.ensures.1 in
     rw (p.1, p.2)
-    (fails-after_function c.args.until c.args.deep c.args.walk.now c.contractum.new.walk c.args.t.now c.contractum.new.fun c.deref_mut-in-App-4.result.now known c.in_err-reduce-in-App-2.field-0.0 c.in_err-reduce-in-App-2.ensures.fault)
+    (argument-fails c.args.deep c.args.walk.now (meant c.args.scope.now.value c.args.fun.now) (meant c.args.scope.now.value c.args.arg.now) c.requires c.head_of.new.walk c.in-Reduced.front.value walked over.0 over.1 c.in_err-back-in-Reduced.field-0.0 c.in_err-back-in-Reduced.ensures.fault)
 
-pub descend-returns-clause-walked : goal.descend-returns-clause-walked
-descend-returns-clause-walked t c =
-    elim c.match-t.branch [
-      | descend-in-Abs+in-Normal+in_ok-reduce-in-Abs w ↦ (
-          let e : c.args.t.now ≡ Abs w.in-Abs.typ w.deref_mut.result.now = rw (← c.t.view_is, w.in-Abs.is, w.deref_mut.ensures.value) refl in
-          rw (w.walk-is, w.t-inside-is) (
-            walked-body c.args.until c.args.deep c.args.walk.now w.reduce.new.walk c.args.t.now w.deref_mut.result.now w.reduce.new.t w.in-Abs.typ w.in-Normal.is e c.requires w.in_ok-reduce-in-Abs.ensures.walked,
-            λ goes. w.in_ok-reduce-in-Abs.ensures.over (λ x. x),
-          ))
-      | descend-in-Abs+in_default-until w ↦ (
-          let e : c.args.t.now ≡ Abs w.in-Abs.typ w.in-Abs.body.value = rw (← c.t.view_is, w.in-Abs.is) refl in
-          rw (w.walk-is, w.t-inside-is) (
-            subst (λ v. Walked c.args.until c.args.deep c.args.walk.now c.args.walk.now c.args.t.now v) e (walked-nowhere c.args.until c.args.deep c.args.walk.now c.args.t.now c.requires),
-            over-paused c.args.until w.in-Abs.typ w.in-Abs.body.value w.in_default-until.is,
-          ))
-      | descend-in-App+in_ok-reduce-in-App+in_ok-u-in-App+in_default-2+in_ok-reduce-in-App-2 w ↦ (
-          let e : c.args.t.now ≡ App w.deref_mut-in-App.result.now w.in-App.arg.value = rw (← c.t.view_is, w.in-App.is, w.deref_mut-in-App.ensures.value) refl in
-          let walked : Walked c.args.until c.args.deep c.args.walk.now w.reduce-in-App.new.walk c.args.t.now (App w.deref_mut-in-App-2.result.now w.deref_mut-in-App-3.result.now) =
-          rw (w.deref_mut-in-App-2.ensures.value, w.deref_mut-in-App-3.ensures.value)
-          (walked-function c.args.until c.args.deep c.args.walk.now w.reduce-in-App.new.walk c.args.t.now w.deref_mut-in-App.result.now w.reduce-in-App.new.t w.in-App.arg.value e c.requires w.in_ok-reduce-in-App.ensures.walked) in
-          let none = rw w.in_default-2.is at w.in_ok-u-in-App.ensures.contracted in
-          let known = function-over c.args.until c.args.deep c.args.walk.now w.reduce-in-App.new.walk w.contractum.new.walk c.args.t.now w.deref_mut-in-App-2.result.now w.contractum.new.fun w.deref_mut-in-App-3.result.now w.deref_mut-in-App-4.result.now c.requires walked
-          (none.0, none.1, none.2, w.deref_mut-in-App-4.ensures.value ∙ none.3) (rw w.deref_mut-in-App-2.ensures.value w.in_ok-reduce-in-App.ensures.over) in
-          rw (w.walk-is, w.t-inside-is) (
-            walked-after_function c.args.until c.args.deep c.args.walk.now w.contractum.new.walk c.args.t.now w.contractum.new.fun w.deref_mut-in-App-4.result.now known w.reduce-in-App-2.new.walk w.reduce-in-App-2.new.t w.in_ok-reduce-in-App-2.ensures.walked,
-            λ goes. (known.other, known.normal, w.in_ok-reduce-in-App-2.ensures.over (λ x. x)),
-          ))
-      | descend-in_default w ↦ (
-          let leaf = leaf-normal c.t.inside.node w.in_default.not-Abs w.in_default.not-App in
-          let normal : IsBetaNormal c.args.t.now = rw c.t.view_is at leaf in
-          rw (w.walk-is, w.t-inside-is, c.t.view_is)
-          (walked-nowhere c.args.until c.args.deep c.args.walk.now c.args.t.now c.requires, λ goes. normal))
-    ]
+pub apply-returns-in_ok-next-in-Function-clause-turned : goal.apply-returns-in_ok-next-in-Function-clause-turned
+apply-returns-in_ok-next-in-Function-clause-turned t c =
+    let walked = rw c.in-Function.is at c.in_ok-found.ensures.walked in
+    let step = c.in_ok-next-in-Function.ensures.contracted in
+    let less = fewer c.args.deep c.args.walk.now (meant c.args.scope.now.value c.args.fun.now) (meant c.args.scope.now.value c.args.arg.now) c.requires c.head_of.new.walk (function_term c.in-Function.function) walked in (
+      redex-walked c.args.deep c.args.walk.now (meant c.args.scope.now.value c.args.fun.now) (meant c.args.scope.now.value c.args.arg.now) c.requires c.head_of.new.walk (function_term c.in-Function.function) walked c.contract.new.walk (closure_term c.in_ok-next-in-Function.next) step,
+      turns-contracted c.args.walk.now c.head_of.new.walk c.contract.new.walk c.in_ok-next-in-Function.next.term.now less step.counted,
+    )
 
-pub reduce-descend-requires : goal.reduce-descend-requires
-reduce-descend-requires t c =
-    let can = can_walk-after c.args.until c.args.deep c.args.walk.now c.contractions.walk c.args.t.now c.contractions.t c.requires c.contractions.invariant in
+pub apply-returns-in_ok-whole-in-Reduced-clause-turned : goal.apply-returns-in_ok-whole-in-Reduced-clause-turned
+apply-returns-in_ok-whole-in-Reduced-clause-turned t c =
+    let walked = rw c.in-Reduced.is at c.in_ok-found.ensures.walked in
+    let over = rw c.in-Reduced.is at c.in_ok-found.ensures.over in
+    rw c.in_ok-whole-in-Reduced.ensures (
+      argument-walked c.args.deep c.args.walk.now (meant c.args.scope.now.value c.args.fun.now) (meant c.args.scope.now.value c.args.arg.now) c.requires c.head_of.new.walk c.in-Reduced.front.value walked over.0 over.1 c.normal_form.new.walk c.in_ok-back-in-Reduced.back.value c.in_ok-back-in-Reduced.ensures.walked,
+      ((λ x. x), (over.0, over.1, c.in_ok-back-in-Reduced.ensures.over)),
+    )
+
+pub head_of-turn_at-requires : goal.head_of-turn_at-requires
+head_of-turn_at-requires t c =
+    let can = can_walk-after Abstraction c.args.deep c.args.walk.now c.contractions.walk (meant c.args.scope.now.value c.args.t.now) (meant c.contractions.place.value c.contractions.term.now) c.requires c.contractions.invariant in
     (omega arith, can)
 
-pub reduce-returns-in_err-u-clause-fault : goal.reduce-returns-in_err-u-clause-fault
-reduce-returns-in_err-u-clause-fault t c =
-    let p = err_from_is_err_and c.from_residual.result c.from_residual.ensures.1 in
+pub head_of-returns-in_err-turn-clause-fault : goal.head_of-returns-in_err-turn-clause-fault
+head_of-returns-in_err-turn-clause-fault t c =
+    let p = err_from_is_err_and c.from_residual-in_err-turn.result c.from_residual-in_err-turn.ensures.1 in
     rw (p.1, p.2)
-    (fails-chain c.args.until c.args.deep c.args.walk.now c.contractions.walk c.args.t.now c.contractions.t c.in_err-u.field-0.0 c.contractions.invariant c.in_err-u.ensures.fault)
+    (fails-chain Abstraction c.args.deep c.args.walk.now c.contractions.walk (meant c.args.scope.now.value c.args.t.now) (meant c.contractions.place.value c.contractions.term.now) c.in_err-turn.field-0.0 c.contractions.invariant c.in_err-turn.ensures.fault)
 
-pub reduce-contractions-preserved : goal.reduce-contractions-preserved
-reduce-contractions-preserved t c =
-    let more = rw c.in-Some.is at c.in_ok-u.ensures.walked in
-    rw c.set.ensures
-    (walked-chain c.args.until c.args.deep c.args.walk.now c.contractions.walk c.descend.new.walk c.args.t.now c.contractions.t c.in-Some.u c.contractions.invariant more.0)
+pub head_of-returns-in-Over-clause-walked : goal.head_of-returns-in-Over-clause-walked
+head_of-returns-in-Over-clause-walked t c =
+    let more = rw c.in-Over.is at c.in_ok-turn.ensures.turned in
+    walked-chain Abstraction c.args.deep c.args.walk.now c.contractions.walk c.turn_at.new.walk (meant c.args.scope.now.value c.args.t.now) (meant c.contractions.place.value c.contractions.term.now) (head_term c.in-Over.found) c.contractions.invariant more.0
 
-pub reduce-returns-clause-walked : goal.reduce-returns-clause-walked
-reduce-returns-clause-walked t c =
-    let more = rw c.in_default.is at c.in_ok-u.ensures.walked in
-    walked-chain c.args.until c.args.deep c.args.walk.now c.contractions.walk c.descend.new.walk c.args.t.now c.contractions.t c.descend.new.t c.contractions.invariant more.0
+pub head_of-contractions-preserved : goal.head_of-contractions-preserved
+head_of-contractions-preserved t c =
+    let more = rw c.in-Next.is at c.in_ok-turn.ensures.turned in
+    walked-chain Abstraction c.args.deep c.args.walk.now c.contractions.walk c.turn_at.new.walk (meant c.args.scope.now.value c.args.t.now) (meant c.contractions.place.value c.contractions.term.now) (meant c.in-Next.next.scope.value c.in-Next.next.term.now) c.contractions.invariant more.0
+
+pub turn_at-returns-in_ok-turn-in-Bound-clause-turned : goal.turn_at-returns-in_ok-turn-in-Bound-clause-turned
+turn_at-returns-in_ok-turn-in-Bound-clause-turned t c =
+    let e : c.args.t.now ≡ Bound c.in-Bound.place = rw (← c.t.view_is, c.in-Bound.is) refl in
+    let can = subst (λ (v : Term). CanWalk c.args.deep c.args.walk.now (meant c.args.scope.now.value v)) e c.requires in
+    rw e (turn-found c.args.deep c.in-Bound.place c.args.walk.now (meant c.args.scope.now.value (Bound c.in-Bound.place)) c.in_ok-turn-in-Bound.turn can c.in_ok-turn-in-Bound.ensures)
+
+pub turn_at-apply-requires : goal.turn_at-apply-requires
+turn_at-apply-requires t c =
+    let e : c.args.t.now ≡ App c.deref-in-App.result.now c.deref-in-App-2.result.now = rw (← c.t.view_is, c.in-App.is, c.deref-in-App.ensures, c.deref-in-App-2.ensures) refl in
+    let m : meant c.args.scope.now.value c.args.t.now ≡ App (meant c.args.scope.now.value c.deref-in-App.result.now) (meant c.args.scope.now.value c.deref-in-App-2.result.now) =
+    ap (meant c.args.scope.now.value) e ∙ meant-app 0 c.args.scope.now.value c.deref-in-App.result.now c.deref-in-App-2.result.now in
+    (omega arith, subst (CanWalk c.args.deep c.args.walk.now) m c.requires)
+
+pub turn_at-returns-in_ok-next-in-App-clause-turned : goal.turn_at-returns-in_ok-next-in-App-clause-turned
+turn_at-returns-in_ok-next-in-App-clause-turned t c =
+    let e : c.args.t.now ≡ App c.deref-in-App.result.now c.deref-in-App-2.result.now = rw (← c.t.view_is, c.in-App.is, c.deref-in-App.ensures, c.deref-in-App-2.ensures) refl in
+    let m : meant c.args.scope.now.value c.args.t.now ≡ App (meant c.args.scope.now.value c.deref-in-App.result.now) (meant c.args.scope.now.value c.deref-in-App-2.result.now) =
+    ap (meant c.args.scope.now.value) e ∙ meant-app 0 c.args.scope.now.value c.deref-in-App.result.now c.deref-in-App-2.result.now in
+    turn-same c.args.deep c.args.walk.now c.apply.new.walk c.args.t.now (App c.deref-in-App.result.now c.deref-in-App-2.result.now) (meant c.args.scope.now.value c.args.t.now) (App (meant c.args.scope.now.value c.deref-in-App.result.now) (meant c.args.scope.now.value c.deref-in-App-2.result.now)) c.in_ok-next-in-App.next e m
+    c.in_ok-next-in-App.ensures.turned
+
+pub turn_at-returns-in_err-next-in-App-clause-fault : goal.turn_at-returns-in_err-next-in-App-clause-fault
+turn_at-returns-in_err-next-in-App-clause-fault t c =
+    let e : c.args.t.now ≡ App c.deref-in-App.result.now c.deref-in-App-2.result.now = rw (← c.t.view_is, c.in-App.is, c.deref-in-App.ensures, c.deref-in-App-2.ensures) refl in
+    let m : meant c.args.scope.now.value c.args.t.now ≡ App (meant c.args.scope.now.value c.deref-in-App.result.now) (meant c.args.scope.now.value c.deref-in-App-2.result.now) =
+    ap (meant c.args.scope.now.value) e ∙ meant-app 0 c.args.scope.now.value c.deref-in-App.result.now c.deref-in-App-2.result.now in
+    let p = err_from_is_err_and c.from_residual-in_err-next-in-App.result c.from_residual-in_err-next-in-App.ensures.1 in
+    rw (p.1, p.2)
+    (fails-same c.args.deep c.args.walk.now (meant c.args.scope.now.value c.args.t.now) (App (meant c.args.scope.now.value c.deref-in-App.result.now) (meant c.args.scope.now.value c.deref-in-App-2.result.now)) c.in_err-next-in-App.field-0.0 m c.in_err-next-in-App.ensures.fault)
+
+pub turn_at-returns-in_ok-head-in_default-clause-turned : goal.turn_at-returns-in_ok-head-in_default-clause-turned
+turn_at-returns-in_ok-head-in_default-clause-turned t c =
+    let is : IsLeaf c.args.t.now = rw c.t.view_is at (leaf-node c.t.inside.node c.in_default.not-Bound c.in_default.not-Abs c.in_default.not-App) in
+    let same = c.in_ok-head-in_default.ensures.found ∙ sym (meant-leaf 0 c.args.scope.now.value c.args.t.now is) in
+    (walked-same c.args.deep c.args.walk.now (meant c.args.scope.now.value c.args.t.now) (head_term c.in_ok-head-in_default.head) c.requires same, c.in_ok-head-in_default.ensures.over)

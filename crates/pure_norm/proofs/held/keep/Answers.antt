@@ -1,0 +1,14 @@
+use Rattle.std.proofs.Common.{◌∙◌, sym, ap}
+use Rattle.pure_norm.specs.Measures.{measure_of}
+use Rattle.pure_norm.proofs.MeasureLemmas.{measure-lift}
+use Rattle.pure_norm.specs.Env.{meant}
+use Rattle.pure_norm.proofs.held.keep.Goals as goal
+
+pub returns : goal.returns
+returns c = (
+  record {
+    meaning = c.in_ok-scope.ensures c.args.term.now;
+    measured = c.requires.measured ∙ sym (measure-lift c.args.up 0 (meant c.args.inner.now.value c.args.term.now));
+  },
+  c.requires.other,
+)

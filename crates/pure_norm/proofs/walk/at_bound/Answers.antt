@@ -1,0 +1,20 @@
+use Rattle.std.proofs.Common.{◌≡◌, ◌∙◌, sym}
+use Rattle.pure_definitions.specs.Terms.Term.{Bound}
+use Rattle.pure_definitions.specs.Terms.Bounds.{lift_term}
+use Rattle.pure_term_laws.proofs.BoundLaws.{lift-zero}
+use Rattle.pure_norm.specs.Env.{meant}
+use Rattle.pure_norm.proofs.walk.at_bound.Goals as goal
+
+pub returns-in_ok-variable-in-Place : goal.returns-in_ok-variable-in-Place
+returns-in_ok-variable-in-Place c =
+    let found : lift_term 0 0 (meant c.deref.result.now (Bound c.args.place)) ≡ Bound c.in-Place.place = rw c.in-Place.is at c.in_ok-found.ensures in
+    let same : lift_term 0 0 (meant c.deref.result.now (Bound c.args.place)) ≡ meant c.args.scope.now.value (Bound c.args.place) =
+    rw c.deref.ensures (lift-zero 0 (meant c.args.scope.now.value (Bound c.args.place))) in
+    rw c.in_ok-variable-in-Place.ensures (sym found ∙ same, ((λ x. x), tt))
+
+pub returns-in-Kept : goal.returns-in-Kept
+returns-in-Kept c =
+    let found = rw c.in-Kept.is at c.in_ok-found.ensures in
+    let same : lift_term 0 0 (meant c.deref.result.now (Bound c.args.place)) ≡ meant c.args.scope.now.value (Bound c.args.place) =
+    rw c.deref.ensures (lift-zero 0 (meant c.args.scope.now.value (Bound c.args.place))) in
+    (found.0.meaning ∙ same, found.1)
