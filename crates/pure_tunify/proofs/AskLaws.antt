@@ -1,6 +1,6 @@
 -- Unions of sorts, place by place, and what sorts ask of the arguments of a constructor and of the variables of types.
-use Rattle.std.proofs.Common.{◌≡◌, ℕ, ◌+◌, ◌<◌, ◌≤◌, List, [], ◌∷◌, ◌++◌, map, length, get_or, take, take_all, inl, inr, ◌↔◌, refl, sym, ◌∙◌, arith, Bool, true, false, IsTrue, MatchBool}
-use Rattle.std.proofs.lemmas.List.{length-map, length-take-le}
+use Rattle.std.proofs.Common.{◌≡◌, ℕ, ◌+◌, ◌<◌, ◌≤◌, List, [], ◌∷◌, ◌++◌, map, length, get_or, take, take_all, inl, inr, ◌↔◌, refl, ap, sym, ◌∙◌, arith, Bool, true, false, IsTrue, MatchBool}
+use Rattle.std.proofs.lemmas.List.{length-map, length-take-le, append-nil, append_assoc}
 use Rattle.pure_text.specs.Lists.{Each, EachTwo}
 use Rattle.pure_text.proofs.ListLaws.{each_of, each_at, each-append, each-left, each-right, two_long, two_read, read_in}
 use Rattle.pure_text.proofs.LoopLaws.{longer_by, two_turn}
@@ -12,6 +12,8 @@ use Rattle.pure_definitions.proofs.InstanceLemmas.{typs_instance-of}
 use Rattle.pure_order.proofs.DomainLaws.{are_of_sorts}
 use Rattle.pure_order.proofs.WalkLaws.{sort_turn}
 use Rattle.pure_tunify.specs.declared.asks.Asked.{Asked}
+use Rattle.pure_tunify.specs.Occurrences.{schematics, schematics_of}
+use Rattle.pure_tunify.specs.Asking.{asked_variable}
 use Rattle.pure_tunify.specs.Asks.{AreUnions, AreAskedOfArguments, HasNoSuchArguments, IsMet, AreAsked, HasNoInstance, AskMore, AreOfEach, AllAskMore, HaveNoInstances, IsMeet}
 
 -- A type is of a union exactly where it is of both sorts.
@@ -101,15 +103,25 @@ not_true : IsTrue false → ⊥
 not_true h = cc
 
 -- What is asked of a fixed variable is met by all instances or by none.
-pub ask_fixed : (A : Algebra) (x : ℕ) (own s : List ℕ) (old : List Asked) (b : Bool) → (IsTrue b ↔ IsSortBelow A own s) → MatchBool b (AskMore A (TFree x own) s old old) (HasNoInstance A (TFree x own) s)
-ask_fixed A x own s old true test = λ typs sub. (λ h. (rw (sub.keeps x own) (test.0 refl), h), λ w. w.1)
+pub ask_fixed : (A : Algebra) (x : ℕ) (own s : List ℕ) (old : List Asked) (b : Bool) → (IsTrue b ↔ IsSortBelow A own s)
+    → MatchBool b (AskMore A (TFree x own) s old old × (map asked_variable old ≡ map asked_variable old ++ [])) (HasNoInstance A (TFree x own) s)
+ask_fixed A x own s old true test = (λ typs sub. (λ h. (rw (sub.keeps x own) (test.0 refl), h), λ w. w.1), sym (append-nil (map asked_variable old)))
 ask_fixed A x own s old false test = λ typs sub h. (let below : IsOfSort A (TFree x own) s = rw (sub.keeps x own) at h in not_true (test.1 below))
 
-pub ask_schematic : (A : Algebra) (x i : ℕ) (own s : List ℕ) (old new : List Asked) (a : Asked) → a.name ≡ x → a.index ≡ i → a.sort ≡ own → a.asked ≡ s → new ≡ old ++ a ∷ [] → AskMore A (TVar x i own) s old new
-ask_schematic A x i own s old new a name index sort asked grown typs sub = (λ h. met (rw grown at h), λ w. rw grown (each-append (IsMet A typs) old (a ∷ []) w.1 (rw (name, index, sort, asked) w.0, tt)))
+variables-snoc : (old : List Asked) (a : Asked) → map asked_variable (old ++ a ∷ []) ≡ map asked_variable old ++ asked_variable a ∷ []
+variables-snoc [] a = refl
+variables-snoc (x ∷ old) a = ap (λ vs. asked_variable x ∷ vs) (variables-snoc old a)
+
+pub ask_schematic : (A : Algebra) (x i : ℕ) (own s : List ℕ) (old new : List Asked) (a : Asked) → a.name ≡ x → a.index ≡ i → a.sort ≡ own → a.asked ≡ s → new ≡ old ++ a ∷ []
+    → AskMore A (TVar x i own) s old new × (map asked_variable new ≡ map asked_variable old ++ TVar x i own ∷ [])
+ask_schematic A x i own s old new a name index sort asked grown =
+    (λ typs sub. (λ h. met typs (rw grown at h), λ w. rw grown (each-append (IsMet A typs) old (a ∷ []) w.1 (rw (name, index, sort, asked) w.0, tt))), variables)
   where
-    met : Each (IsMet A typs) (old ++ a ∷ []) → IsOfSort A (typs (TVar x i own)) s × Each (IsMet A typs) old
-    met h = (rw (sym name, sym index, sym sort, sym asked) (each-right (IsMet A typs) old (a ∷ []) h).0, each-left (IsMet A typs) old (a ∷ []) h)
+    met : (typs : Typ → Typ) → Each (IsMet A typs) (old ++ a ∷ []) → IsOfSort A (typs (TVar x i own)) s × Each (IsMet A typs) old
+    met typs h = (rw (sym name, sym index, sym sort, sym asked) (each-right (IsMet A typs) old (a ∷ []) h).0, each-left (IsMet A typs) old (a ∷ []) h)
+
+    variables : map asked_variable new ≡ map asked_variable old ++ TVar x i own ∷ []
+    variables = ap (map asked_variable) grown ∙ (variables-snoc old a ∙ ap (λ v. map asked_variable old ++ v ∷ []) (λ l. TVar (name l) (index l) (sort l)))
 
 two_map : (A : Algebra) (f : Typ → Typ) (ts : List Typ) (ss : List (List ℕ)) → EachTwo (IsOfSort A) (map f ts) ss ↔ EachTwo (λ t s. IsOfSort A (f t) s) ts ss
 two_map A f [] [] = (λ h. h, λ h. h)
@@ -129,11 +141,15 @@ pub ask_none : (A : Algebra) (k : ℕ) (s : List ℕ) (ts : List Typ) → HasNoS
 ask_none A k s ts none typs sub h = none (map (typ_instance typs) ts) (length-map ts (typ_instance typs)) (rw (typs_instance-of typs ts) at h)
 
 pub ask_constructor : (A : Algebra) (k : ℕ) (s : List ℕ) (ts : List Typ) (sorts : List (List ℕ)) (old new : List Asked) (b : Bool) → AreAskedOfArguments A k s (length ts) sorts
-    → MatchBool b (AllAskMore A ts sorts old new) (HaveNoInstances A ts sorts) → MatchBool b (AskMore A (Con k (typs_of ts)) s old new) (HasNoInstance A (Con k (typs_of ts)) s)
-ask_constructor A k s ts sorts old new true asked h = λ typs sub. (
-    let by = of_sort_by_arguments A k s ts sorts asked typs in
-    let all = h typs sub in
-    (λ met. (by.1 (all.0 met).0, (all.0 met).1), λ w. all.1 (by.0 w.0, w.1)))
+    → MatchBool b (AllAskMore A ts sorts old new × (map asked_variable new ≡ map asked_variable old ++ schematics_of (typs_of ts))) (HaveNoInstances A ts sorts)
+    → MatchBool b (AskMore A (Con k (typs_of ts)) s old new × (map asked_variable new ≡ map asked_variable old ++ schematics_of (typs_of ts))) (HasNoInstance A (Con k (typs_of ts)) s)
+ask_constructor A k s ts sorts old new true asked h = (
+  λ typs sub. (
+      let by = of_sort_by_arguments A k s ts sorts asked typs in
+      let all = h.0 typs sub in
+      (λ met. (by.1 (all.0 met).0, (all.0 met).1), λ w. all.1 (by.0 w.0, w.1))),
+  h.1,
+)
 ask_constructor A k s ts sorts old new false asked h = λ typs sub of. h typs sub ((of_sort_by_arguments A k s ts sorts asked typs).0 of)
 
 pub each_none : (A : Algebra) (old : List Asked) → AllAskMore A [] [] old old
@@ -168,6 +184,20 @@ each_turn A ts ss i t s old now next same within at_type at_sort before one typs
     let last = one typs sub in
     let turn = two_turned (λ t s. IsOfSort A (typ_instance typs t) s) ts ss i t s same within at_type at_sort in
     (λ met. (turn.1 ((first.0 (last.0 met).1).0, (last.0 met).0), (first.0 (last.0 met).1).1), λ w. last.1 ((turn.0 w.0).1, first.1 ((turn.0 w.0).0, w.1)))
+
+schematics-snoc : (ts : List Typ) (t : Typ) → schematics_of (typs_of (ts ++ t ∷ [])) ≡ schematics_of (typs_of ts) ++ schematics t
+schematics-snoc [] t = append-nil (schematics t)
+schematics-snoc (u ∷ ts) t = ap (λ vs. schematics u ++ vs) (schematics-snoc ts t) ∙ sym (append_assoc (schematics u) (schematics_of (typs_of ts)) (schematics t))
+
+-- The variables of one type more.
+pub variables_turn : (ts : List Typ) (i : ℕ) (t : Typ) (old now next : List Asked) → i < length ts → t ≡ get_or ts i t → map asked_variable now ≡ map asked_variable old ++ schematics_of (typs_of (take i ts))
+    → map asked_variable next ≡ map asked_variable now ++ schematics t → map asked_variable next ≡ map asked_variable old ++ schematics_of (typs_of (take (i + 1) ts))
+variables_turn ts i t old now next within at_type before one =
+    one
+    ∙ (ap (λ vs. vs ++ schematics t) before
+    ∙ (append_assoc (map asked_variable old) (schematics_of (typs_of (take i ts))) (schematics t)
+    ∙ (ap (λ vs. map asked_variable old ++ vs) (sym (schematics-snoc (take i ts) t))
+    ∙ ap (λ us. map asked_variable old ++ schematics_of (typs_of us)) (sym (longer_by ts i t within at_type)))))
 
 pub each_full : (A : Algebra) (ts : List Typ) (ss : List (List ℕ)) (i : ℕ) (old now : List Asked) → length ts ≡ length ss → length ts ≤ i → AllAskMore A (take i ts) (take i ss) old now → AllAskMore A ts ss old now
 each_full A ts ss i old now same full all =

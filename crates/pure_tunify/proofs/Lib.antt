@@ -3,3 +3,16 @@ pub mod StepLaws
 pub mod AskLaws
 pub mod MeetLaws
 pub mod ExampleLaws
+pub mod PlaceLaws
+pub mod SettingLaws
+pub mod AskingLaws
+pub mod NarrowLaws
+pub mod PursueLaws
+pub mod ReductionLaws
+pub mod WrittenLaws
+pub mod UnifyLaws
+pub mod IndexLaws
+pub mod TreatLaws
+pub mod WorkLaws
+pub mod MeetingLaws
+pub mod OneAnswerLaws

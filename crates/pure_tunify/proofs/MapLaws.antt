@@ -10,7 +10,8 @@ use Rattle.pure_definitions.proofs.OrderLaws.{sort_below-itself, of_sort-instanc
 use Rattle.pure_definitions.proofs.EntryLemmas.{chosen}
 use Rattle.pure_term_laws.specs.LawsOccurs.{IsTypVariable}
 use Rattle.pure_term_laws.proofs.OccursLaws.{typ_instances-agree, typ_variable_of_typ_instance}
-use Rattle.pure_tunify.specs.Unifiers.{TypPair, IsSubstitution, Equates, IsFresh, IsOld, IsOldPair, AreTogether}
+use Rattle.pure_tunify.specs.declared.pair.TypPair.{TypPair}
+use Rattle.pure_tunify.specs.Unifiers.{IsSubstitution, Equates, IsFresh, IsOld, IsOldPair, AreTogether}
 use Rattle.pure_tunify.specs.Steps.{setting, instance_pair}
 
 mutual

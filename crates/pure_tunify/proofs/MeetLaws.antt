@@ -4,6 +4,7 @@ use Rattle.pure_text.specs.Lists.{IsIn, Each}
 use Rattle.pure_text.proofs.ListLaws.{each_of, each_at, any_of, in-append_left, in-append_right}
 use Rattle.pure_definitions.specs.Types.Typ.{Typ, TFree, TVar, Con, typ_eq}
 use Rattle.pure_definitions.specs.Types.Order.{Algebra, IsClassBelow, itself, HasClassBelow, IsSortBelow, IsOfSort}
+use Rattle.pure_definitions.specs.Terms.Subst.{typ_instance}
 use Rattle.pure_definitions.specs.Models.Equality.{typ_eq-itself}
 use Rattle.pure_definitions.proofs.OrderLaws.{sort_below-itself}
 use Rattle.pure_term_laws.proofs.SubstLaws.{typ_instance-identity}
@@ -36,7 +37,7 @@ meeting asked (Con k ts) = Con k ts
 below-more_classes : (A : Algebra) (s r : List ℕ) → ((c : ℕ) → IsIn c r → IsIn c s) → IsSortBelow A s r
 below-more_classes A s r among = each_of (HasClassBelow A s) r (λ c m. any_of (λ b. IsClassBelow A b c) c s (among c m) itself)
 
-meeting_is_substitution : (A : Algebra) (asked : List Asked) → IsSubstitution A (meeting asked)
+pub meeting_is_substitution : (A : Algebra) (asked : List Asked) → IsSubstitution A (meeting asked)
 meeting_is_substitution A asked = record {
   respects = record {
     fixed = λ x s. sort_below-itself A s;
@@ -58,12 +59,13 @@ asked_among (b ∷ asked) a (inl e) c k = subst (λ (x : Asked). IsIn c x.asked 
 asked_among (b ∷ asked) a (inr m) c k =
     in_later c (typ_eq (TVar a.name a.index a.sort) (TVar b.name b.index b.sort)) b.asked (asked_classes (TVar a.name a.index a.sort) asked) (asked_among asked a m c k)
 
-pub asked_has_instance : (A : Algebra) (t : Typ) (s : List ℕ) (asked : List Asked) → AreAsked A t s asked → ¬ HasNoInstance A t s
-asked_has_instance A t s asked are none = none (meeting asked) sub ((are (meeting asked) sub).1 (each_of (IsMet A (meeting asked)) asked met))
+-- Under the map that meets what is asked, the type is of the sort.
+pub meeting_meets : (A : Algebra) (t : Typ) (s : List ℕ) (asked : List Asked) → AreAsked A t s asked → IsOfSort A (typ_instance (meeting asked) t) s
+meeting_meets A t s asked are = (are (meeting asked) (meeting_is_substitution A asked)).1 (each_of (IsMet A (meeting asked)) asked met)
   where
-    sub : IsSubstitution A (meeting asked)
-    sub = meeting_is_substitution A asked
-
     met : (a : Asked) → IsIn a asked → IsMet A (meeting asked) a
     met a m = below-more_classes A (a.sort ++ asked_classes (TVar a.name a.index a.sort) asked) a.asked
         (λ c k. in-append_right c a.sort (asked_classes (TVar a.name a.index a.sort) asked) (asked_among asked a m c k))
+
+pub asked_has_instance : (A : Algebra) (t : Typ) (s : List ℕ) (asked : List Asked) → AreAsked A t s asked → ¬ HasNoInstance A t s
+asked_has_instance A t s asked are none = none (meeting asked) (meeting_is_substitution A asked) (meeting_meets A t s asked are)

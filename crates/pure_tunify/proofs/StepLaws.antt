@@ -8,13 +8,14 @@ use Rattle.pure_definitions.specs.Types.Order.{Algebra, IsOfSort}
 use Rattle.pure_definitions.specs.Terms.Subst.{typ_instance, typs_instance}
 use Rattle.pure_term_laws.specs.LawsOccurs.{IsTypVariable}
 use Rattle.pure_term_laws.proofs.OccursLaws.{typ_instances-agree}
-use Rattle.pure_tunify.specs.Unifiers.{TypPair, IsSubstitution, Equates, IsUnifier, IsFresh, IsOld, IsOldPair, AreTogether, IsMostGeneral}
+use Rattle.pure_tunify.specs.declared.pair.TypPair.{TypPair}
+use Rattle.pure_tunify.specs.Unifiers.{IsSubstitution, Equates, IsUnifier, IsFresh, IsOld, IsOldPair, AreTogether, IsMostGeneral}
 use Rattle.pure_tunify.specs.Asks.{IsMeet}
 use Rattle.pure_tunify.specs.Steps.{pair, pairs_of, setting, instance_pair, Asks, Steps, drop, decompose, orient, narrow, eliminate, Fails, clash, fixed, fixed_left, fixed_right, occurs, occurs_left, sort, sort_left, Solves, solved, step, Refutes, failed, step_on, IsReduction}
 use Rattle.pure_tunify.proofs.MapLaws.{identity_is_substitution, after_is_substitution, setting-cases, setting-itself, setting-other, setting_is_substitution, changed, changed-cases, changed-itself, changed_is_substitution, fresh-later, variable_is_old, old-instances, together, equates-forth, equates-back, equates-nothing_first}
 
 -- A step that sets nothing, whose pairs have the same unifiers.
-nothing_set : (A : Algebra) (index n : ℕ) (ps qs : List TypPair) → Each (IsOldPair index n) qs
+pub nothing_set : (A : Algebra) (index n : ℕ) (ps qs : List TypPair) → Each (IsOldPair index n) qs
     → ((typs : Typ → Typ) → Each (Equates typs) qs → Each (Equates typs) ps) → ((typs : Typ → Typ) → Each (Equates typs) ps → Each (Equates typs) qs) → IsReduction A index n ps (λ v. v) n qs
 nothing_set A index n ps qs old back forth = record {
   substitution = identity_is_substitution A;
@@ -171,7 +172,7 @@ solved_is_most_general A index n ps typs old (step {m = m} {qs = qs} {first = fi
     let r = step_is_reduction A index n m ps qs first old one in
     most_general_along A index n m ps qs first second r (solved_is_most_general A index m qs second r.left_old rest)
 
-typs_count-instance : (typs : Typ → Typ) (ts : Typs) → typs_count (typs_instance typs ts) ≡ typs_count ts
+pub typs_count-instance : (typs : Typ → Typ) (ts : Typs) → typs_count (typs_instance typs ts) ≡ typs_count ts
 typs_count-instance typs none = refl
 typs_count-instance typs (also t ts) = let rest = typs_count-instance typs ts in omega arith
 

@@ -5,7 +5,8 @@ use Rattle.pure_text.specs.Lists.{IsIn, Each}
 use Rattle.pure_definitions.specs.Types.Typ.{Typ, TVar}
 use Rattle.pure_definitions.specs.Types.Order.{Algebra, IsSortBelow, IsOfSort}
 use Rattle.pure_definitions.specs.Terms.Subst.{typ_instance}
-use Rattle.pure_tunify.specs.Unifiers.{TypPair, IsUnifier, IsOldPair, IsMostGeneral}
+use Rattle.pure_tunify.specs.declared.pair.TypPair.{TypPair}
+use Rattle.pure_tunify.specs.Unifiers.{IsUnifier, IsOldPair, IsMostGeneral}
 use Rattle.pure_tunify.specs.Asks.{AreAsked, HasNoInstance}
 use Rattle.pure_tunify.specs.Steps.{Asks, Steps, Fails, Solves, Refutes, IsReduction}
 

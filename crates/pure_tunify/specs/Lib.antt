@@ -1,5 +1,15 @@
 pub mod Unifiers
+pub mod Occurrences
 pub mod Asks
 pub mod Steps
+pub mod Settings
+pub mod ProgressCode
+pub mod Procedure
+pub mod Asking
+pub mod Working
+pub mod NarrowingStep
+pub mod Meeting
+pub mod ProcedureLaws
+pub mod Answers
 pub mod Laws
 pub mod Examples

@@ -5,7 +5,8 @@ use Rattle.pure_definitions.specs.Types.Typ.{Typ, TFree, TVar, Con, Typs, also, 
 use Rattle.pure_definitions.specs.Types.Occurs.{OccursInTyp, OccursInTyps}
 use Rattle.pure_definitions.specs.Types.Order.{Algebra, IsOfSort}
 use Rattle.pure_definitions.specs.Terms.Subst.{typ_instance, typ_image}
-use Rattle.pure_tunify.specs.Unifiers.{TypPair, IsSubstitution, IsUnifier, IsOld, IsOldPair, AreTogether, IsFresh}
+use Rattle.pure_tunify.specs.declared.pair.TypPair.{TypPair}
+use Rattle.pure_tunify.specs.Unifiers.{IsSubstitution, IsUnifier, IsOld, IsOldPair, AreTogether, IsFresh}
 use Rattle.pure_tunify.specs.Asks.{HasNoInstance, IsMeet}
 
 -- the pair of two types

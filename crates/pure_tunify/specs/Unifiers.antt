@@ -5,11 +5,7 @@ use Rattle.pure_definitions.specs.Types.Typ.{Typ, TFree, TVar, Con}
 use Rattle.pure_definitions.specs.Types.Occurs.{OccursInTyp}
 use Rattle.pure_definitions.specs.Types.Order.{Algebra}
 use Rattle.pure_definitions.specs.Terms.Subst.{typ_instance, IsSortRespecting, KeepsFixedTyps}
-
--- two types that are to be made equal
-pub record TypPair : Type 0 where
-  pub left : Typ
-  pub right : Typ
+use Rattle.pure_tunify.specs.declared.pair.TypPair.{TypPair}
 
 -- A substitution is a type map that respects sorts and leaves the fixed type variables as they are.
 pub record IsSubstitution (A : Algebra) (typs : Typ → Typ) : Type 0 where

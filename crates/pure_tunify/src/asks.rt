@@ -1,6 +1,9 @@
 //! What a sort asks of the arguments of a constructor, and of the variables of a type.
-ghost use Rattle.std.specs.Prelude.{◌≡◌, [], length, IfOk, MatchBool, MatchOption};
+ghost use Rattle.std.specs.Prelude.{◌≡◌, [], ◌++◌, map, length, IfOk, IfSome, MatchBool, MatchOption};
 ghost use Rattle.pure_text.specs.Lists.{Each};
+ghost use Rattle.pure_definitions.specs.Types.Typ.{typs_of};
+ghost use Rattle.pure_tunify.specs.Occurrences.{schematics, schematics_of};
+ghost use Rattle.pure_tunify.specs.Asking.{asked_variable};
 ghost use Rattle.pure_tunify.specs.Asks.{AreUnions, AreAskedOfArguments, HasNoSuchArguments, AreAsked, HasNoInstance, AskMore, AllAskMore, HaveNoInstances, IsMeet};
 
 use pure_order::Order;
@@ -83,7 +86,9 @@ fn ask(
     sort: &Sort,
     asked: &mut Vec<Asked>,
 ) -> Result<bool, AllocError>
-    ensures { IfOk result (λ can. MatchBool can (AskMore order.now t.now sort.now asked.old.items asked.new.items) (HasNoInstance order.now t.now sort.now)) }
+    ensures { IfOk result (λ can. MatchBool can
+        (AskMore order.now t.now sort.now asked.old.items asked.new.items × (map asked_variable asked.new.items ≡ map asked_variable asked.old.items ++ schematics t.now))
+        (HasNoInstance order.now t.now sort.now)) }
 {
     match &t.node {
         TypNode::TFree { sort: own, .. } => Ok(order.sort_below(own, sort)),
@@ -124,7 +129,9 @@ fn ask_each(
     asked: &mut Vec<Asked>,
 ) -> Result<bool, AllocError>
     requires { length types.now ≡ length sorts.now }
-    ensures { IfOk result (λ can. MatchBool can (AllAskMore order.now types.now sorts.now asked.old.items asked.new.items) (HaveNoInstances order.now types.now sorts.now)) }
+    ensures { IfOk result (λ can. MatchBool can
+        (AllAskMore order.now types.now sorts.now asked.old.items asked.new.items × (map asked_variable asked.new.items ≡ map asked_variable asked.old.items ++ schematics_of (typs_of types.now)))
+        (HaveNoInstances order.now types.now sorts.now)) }
 {
     for i in 0..types.len() {
         let (typ, sort) = (&types[i], &sorts[i]);
@@ -137,14 +144,16 @@ fn ask_each(
 }
 
 /// What a sort asks of the schematic variables of a type: an instance by a substitution is of the sort exactly where each
-/// variable's image is of what is asked of it. None exactly where no instance is of the sort.
+/// variable's image is of what is asked of it. The variables stand in order of occurrence. None exactly where no instance is
+/// of the sort.
 pub fn asked_of(
     order: &Order,
     alloc: Global,
     t: &Typ,
     sort: &Sort,
 ) -> Result<Option<Vec<Asked>>, AllocError>
-    ensures { IfOk result (λ answer. MatchOption answer (HasNoInstance order.now t.now sort.now) (λ asked. AreAsked order.now t.now sort.now asked.items)) }
+    ensures asked { IfOk result (λ answer. MatchOption answer (HasNoInstance order.now t.now sort.now) (λ asked. AreAsked order.now t.now sort.now asked.items)) }
+    ensures in_order { IfOk result (λ answer. IfSome answer (λ asked. map asked_variable asked.items ≡ schematics t.now)) }
 {
     let mut asked = Vec::new(alloc);
     let can = ask(order, alloc, t, sort, &mut asked)?;

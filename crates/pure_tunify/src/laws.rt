@@ -1,5 +1,6 @@
 //! Laws of unification: each is the contract of a function that does nothing.
 ghost use Rattle.pure_tunify.specs.Laws.{StepIsReduction, MostGeneralAlongReduction, SolvedIsMostGeneral, FailedHasNoUnifier, RefutedHasNoUnifier, EachIsAsked, NothingToNarrow, OnlyThere, AskedHasInstance};
+ghost use Rattle.pure_tunify.specs.ProcedureLaws.{ProcedureIsMeant, ProcedureHasOneOutcome};
 ghost use Rattle.pure_tunify.specs.Examples.{NarrowedExample, OccursExample};
 
 /// A step takes unifiers there and back.
@@ -25,6 +26,16 @@ pub fn failed_has_no_unifier()
 /// Pairs that the steps refute have no unifier.
 pub fn refuted_has_no_unifier()
     ensures { RefutedHasNoUnifier }
+{}
+
+/// What the procedure comes to is a most general unifier, or the first pair without one, or beyond the limits.
+pub fn procedure_is_meant()
+    ensures { ProcedureIsMeant }
+{}
+
+/// The procedure comes to one outcome at most.
+pub fn procedure_has_one_outcome()
+    ensures { ProcedureHasOneOutcome }
 {}
 
 /// What stands in the list of what is asked is asked, as the step that narrows a variable wants it.

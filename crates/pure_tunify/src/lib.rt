@@ -2,6 +2,20 @@
 #![tactic(auto)]
 
 mod asks;
+mod fault;
+mod index;
 pub mod laws;
+mod meeting;
+mod narrow;
+mod pair;
+mod resolve;
+mod settings;
+mod solve;
+mod turn;
+mod unifier;
 
 pub use asks::{Asked, asked_of, asked_of_arguments, meet};
+pub use fault::TypFault;
+pub use index::index_above_each as index_above;
+pub use pair::TypPair;
+pub use unifier::{unify, unify_from};

@@ -1,0 +1,5 @@
+use Rattle.pure_tunify.proofs.ReductionLaws.{procedure_is_meant as lemma}
+use Rattle.pure_tunify.proofs.laws.procedure_is_meant.Goals as goal
+
+pub returns : goal.returns
+returns c = lemma

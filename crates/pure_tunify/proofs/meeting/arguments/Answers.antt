@@ -1,0 +1,6 @@
+use Rattle.std.proofs.Common.{◌∙◌}
+use Rattle.pure_tunify.proofs.MeetingLaws.{arguments_are}
+use Rattle.pure_tunify.proofs.meeting.arguments.Goals as goal
+
+pub returns-in-Con : goal.returns-in-Con
+returns-in-Con c = λ k ts e. arguments_are c.in-Con.name k c.in-Con.args.items ts ((rw c.in-Con.is at c.t.view_is) ∙ e)

@@ -1,0 +1,5 @@
+use Rattle.pure_tunify.proofs.UnifyLaws.{HasCome}
+use Rattle.pure_tunify.proofs.unifier.solve_all.Given as goal
+
+abbrev pub invariant-loop-pair : goal.invariant-loop-pair
+invariant-loop-pair l = HasCome l.order l.initial.settings.index l.initial.settings.next l.pairs l.pair-index l.settings

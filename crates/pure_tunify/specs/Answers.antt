@@ -1,0 +1,58 @@
+-- What calls that unify answer.
+use Rattle.std.specs.Prelude.{◌≡◌, ℕ, ◌+◌, ◌≤◌, ◌^◌, max, List, [], ◌∷◌, ◌++◌}
+use Rattle.pure_text.specs.Lists.{Each}
+use Rattle.pure_definitions.specs.Types.Typ.{Typ, TFree, TVar, Con, Typs, none, also}
+use Rattle.pure_definitions.specs.Types.Order.{Algebra}
+use Rattle.pure_definitions.specs.Terms.Subst.{TypBind, typ_image, typ_instance}
+use Rattle.pure_tunify.specs.declared.pair.TypPair.{TypPair}
+use Rattle.pure_tunify.specs.declared.fault.TypFault.{TypFault}
+use Rattle.pure_tunify.specs.declared.fault.TypFault.TheVariants.{NoTyping, Big, Memory}
+use Rattle.pure_tunify.specs.Steps.{instance_pair}
+use Rattle.pure_tunify.specs.Settings.{composed, Progress}
+use Rattle.pure_tunify.specs.Procedure.{Equalises, Blocks, Unifies, Unified, NotTyped, TooBig}
+use Rattle.pure_tunify.specs.Working.{IsFurther, IsWritten}
+use Rattle.pure_tunify.specs.ProcedureLaws.{IsFirstWithout, IsBeyond}
+
+-- A pair has been made equal by further settings.
+pub record IsEqualised (A : Algebra) (old new : Progress) (p : TypPair) : Type 0 where
+  pub more : List TypBind
+  pub further : IsFurther old new more
+  pub equalises : Equalises A old.index old.next (instance_pair (composed old.sets) p) more new.next
+
+-- The pairs come to this map, written out, and this first name that isn't used.
+pub record AreUnified (A : Algebra) (index from : ℕ) (pairs : List TypPair) (map : List TypBind) (next : ℕ) : Type 0 where
+  pub sets : List TypBind
+  pub unifies : Unifies A index 0 from [] pairs (Unified sets next)
+  pub written : IsWritten sets map
+
+-- The pair of this number decides, for this reason.
+abbrev pub IsDecided : Algebra → (index from : ℕ) → List TypPair → TypFault → Type 0
+IsDecided A index from pairs (NoTyping k) = Unifies A index 0 from [] pairs (NotTyped k)
+IsDecided A index from pairs (Big k) = Unifies A index 0 from [] pairs (TooBig k)
+IsDecided A index from pairs Memory = Unit {0}
+
+-- The map applied again changes nothing.
+abbrev pub IsIdempotent : List TypBind → Type 0
+IsIdempotent map = (x i : ℕ) (s : List ℕ) → typ_instance (typ_image map) (typ_image map (TVar x i s)) ≡ typ_image map (TVar x i s)
+
+-- The pair of this number is the first such that it and those before have no unifier, or their most general unifier is beyond the limits.
+abbrev pub IsReason : Algebra → (index from : ℕ) → List TypPair → TypFault → Type 0
+IsReason A index from pairs (NoTyping k) = IsFirstWithout A index from pairs k
+IsReason A index from pairs (Big k) = IsBeyond A index from pairs k
+IsReason A index from pairs Memory = Unit {0}
+
+-- one above the greatest index of a schematic variable of a type, or 0
+abbrev mutual
+  pub index_above : Typ → ℕ
+  index_above (TFree x s) = 0
+  index_above (TVar x i s) = i + 1
+  index_above (Con k ts) = index_above_all ts
+
+  pub index_above_all : Typs → ℕ
+  index_above_all none = 0
+  index_above_all (also t ts) = max (index_above t) (index_above_all ts)
+
+-- the same of pairs of types
+abbrev pub index_above_pairs : List TypPair → ℕ
+index_above_pairs [] = 0
+index_above_pairs (p ∷ ps) = max (max (index_above p.left) (index_above p.right)) (index_above_pairs ps)

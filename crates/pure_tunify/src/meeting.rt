@@ -1,0 +1,127 @@
+//! How two types meet at a place, and the arguments of constructors.
+ghost use Rattle.std.specs.Prelude.{◌≡◌, ◌++◌, ◌↔◌, ℕ, List, length, reverse, IsTrue, OnOk, MatchBool};
+ghost use Rattle.pure_definitions.specs.Types.Typ as tree;
+ghost use Rattle.pure_definitions.specs.Types.Typ.{typs_of};
+ghost use Rattle.pure_tunify.specs.Procedure.{IsSchematic};
+ghost use Rattle.pure_tunify.specs.Working.{pairs_along};
+ghost use Rattle.pure_tunify.specs.Meeting.{HasArguments, HasOtherNode, HaveArguments, HaveNoArguments, IsMeeting};
+
+use crate::pair::TypPair;
+use pure_typ::{Name, Typ, TypNode};
+use std::alloc::{AllocError, Global};
+
+/// How two types that aren't set variables meet.
+#[derive(Clone, Copy)]
+pub enum Meeting {
+    /// They are the same variable.
+    Same,
+    /// The left one is a schematic variable, and the right one another type.
+    Left,
+    /// The right one is a schematic variable, and the left one isn't.
+    Right,
+    /// They are one constructor with as many arguments.
+    Arguments,
+    /// Neither is a schematic variable, and their nodes differ.
+    Apart,
+}
+
+/// Whether the type is a schematic variable.
+fn is_schematic(t: &Typ) -> bool
+    ensures { IsTrue result ↔ IsSchematic t.now }
+{
+    match &t.node {
+        TypNode::TVar { .. } => true,
+        TypNode::TFree { .. } => false,
+        TypNode::Con { .. } => false,
+    }
+}
+
+/// Whether the type is this constructor with so many arguments.
+fn has_arguments(t: &Typ, name: Name, count: usize) -> bool
+    ensures { MatchBool result (HasArguments t.now name count) (HasOtherNode t.now name count) }
+{
+    match &t.node {
+        TypNode::TFree { .. } => false,
+        TypNode::TVar { .. } => false,
+        TypNode::Con { name: other, args } => {
+            let args = args.as_slice();
+            if name != *other {
+                return false;
+            }
+            if args.len() != count {
+                return false;
+            }
+            true
+        }
+    }
+}
+
+/// Whether the types are one constructor with as many arguments.
+fn have_arguments(left: &Typ, right: &Typ) -> bool
+    ensures { MatchBool result (HaveArguments left.now right.now) (HaveNoArguments left.now right.now) }
+{
+    match &left.node {
+        TypNode::TFree { .. } => false,
+        TypNode::TVar { .. } => false,
+        TypNode::Con { name, args } => {
+            let args = args.as_slice();
+            let same = has_arguments(right, *name, args.len());
+            same
+        }
+    }
+}
+
+/// How the types meet.
+pub fn meeting_of(left: &Typ, right: &Typ) -> Meeting
+    ensures { IsMeeting left.now right.now result }
+{
+    if is_schematic(left) {
+        if left == right {
+            return Meeting::Same;
+        }
+        return Meeting::Left;
+    }
+    if is_schematic(right) {
+        return Meeting::Right;
+    }
+    if have_arguments(left, right) {
+        return Meeting::Arguments;
+    }
+    if left == right {
+        return Meeting::Same;
+    }
+    Meeting::Apart
+}
+
+/// The arguments of a constructor; of a variable none.
+pub fn arguments(alloc: Global, t: Typ) -> Vec<Typ>
+    ensures { (k : ℕ) (ts : List tree.Typ) → t ≡ tree.Con k (typs_of ts) → result.items ≡ ts }
+{
+    let Typ { node } = t;
+    match node {
+        TypNode::Con { args, .. } => args,
+        TypNode::TFree { .. } => Vec::new(alloc),
+        TypNode::TVar { .. } => Vec::new(alloc),
+    }
+}
+
+/// Puts the pairs of arguments on top of the pairs that are left, the first on the very top.
+pub fn push_arguments(
+    work: &mut Vec<TypPair>,
+    mut left: Vec<Typ>,
+    mut right: Vec<Typ>,
+) -> Result<(), AllocError>
+    requires { length left.items ≡ length right.items }
+    ensures { OnOk result (reverse work.new.items ≡ pairs_along left.items right.items ++ reverse work.old.items) }
+{
+    while let Some(first) = left.pop() {
+        let Some(second) = right.pop() else {
+            return Ok(());
+        };
+        work.push(TypPair {
+            left: first,
+            right: second,
+        })?;
+    }
+    Ok(())
+}

@@ -1,0 +1,231 @@
+//! Narrowing a type to a sort.
+ghost use Rattle.std.specs.Prelude.{◌≡◌, ◌↔◌, ◌⊎◌, ℕ, IfOk, MatchOption};
+ghost use Rattle.pure_text.specs.Lists.{IsIn, Each};
+ghost use Rattle.pure_definitions.specs.Types.Typ.{typ_eq};
+ghost use Rattle.pure_definitions.specs.Types.Typ as tree;
+ghost use Rattle.pure_definitions.specs.Terms.Subst.{typ_instance};
+ghost use Rattle.pure_tunify.specs.Unifiers.{IsOld};
+ghost use Rattle.pure_tunify.specs.Steps.{setting};
+ghost use Rattle.pure_tunify.specs.Asks.{HasNoInstance};
+ghost use Rattle.pure_tunify.specs.Asking.{asked_variable, IsOwnOrAsked, AsksNoMore, IsUnionAsked, IsFirstAsking};
+ghost use Rattle.pure_tunify.specs.Working.{IsFreeOf, IsNarrowing, IsNarrowed};
+ghost use Rattle.pure_tunify.specs.NarrowingStep.{IsToNarrow, IsNarrowingStep};
+
+use crate::asks::{Asked, asked_of};
+use crate::settings::Settings;
+use pure_order::Order;
+use pure_typ::{Name, Sort, Typ, TypBind, TypMap, TypNode, instance_of};
+use std::alloc::{AllocError, Global};
+
+/// Whether something is asked of the same variable in both.
+fn is_same_variable(first: &Asked, second: &Asked) -> bool
+    ensures { result ≡ typ_eq (asked_variable first.now) (asked_variable second.now) }
+{
+    first.name == second.name && first.index == second.index && first.sort == second.sort
+}
+
+/// The classes, and those that are asked of the variable here.
+fn with_asked(
+    alloc: Global,
+    classes: Sort,
+    asked: &Asked,
+    variable: &Asked,
+) -> Result<Sort, AllocError>
+    ensures { IfOk result (λ all. (c : ℕ) → IsIn c all ↔ (IsIn c classes ⊎ ((asked_variable asked.now ≡ asked_variable variable.now) × IsIn c asked.now.asked))) }
+{
+    if is_same_variable(asked, variable) {
+        let all = classes.union(alloc, &asked.asked)?;
+        Ok(all)
+    } else {
+        Ok(classes)
+    }
+}
+
+/// The classes of the variable's own sort and all that are asked of it.
+fn all_asked(alloc: Global, asked: &[Asked], variable: &Asked) -> Result<Sort, AllocError>
+    ensures { IfOk result (λ all. (c : ℕ) → IsIn c all ↔ IsOwnOrAsked asked.now variable.now c) }
+{
+    let mut classes = variable.sort.copy(alloc)?;
+    for other in asked {
+        classes = with_asked(alloc, classes, other, variable)?;
+    }
+    Ok(classes)
+}
+
+/// The reduced union of the variable's own sort and all that is asked of it; none exactly where its own sort is below
+/// all that is asked of it.
+fn union_asked(
+    order: &Order,
+    alloc: Global,
+    asked: &[Asked],
+    variable: &Asked,
+) -> Result<Option<Sort>, AllocError>
+    ensures { IfOk result (λ o. MatchOption o (AsksNoMore order.now asked.now variable.now) (λ u. (¬ AsksNoMore order.now asked.now variable.now) × IsUnionAsked order.now asked.now variable.now u)) }
+{
+    let all = all_asked(alloc, asked, variable)?;
+    if order.sort_below(&variable.sort, &all) {
+        return Ok(None);
+    }
+    let union = order.reduce(alloc, &all)?;
+    let _ = union.classes();
+    Ok(Some(union))
+}
+
+/// The variable with the sort that is asked of it.
+fn asked_again(alloc: Global, variable: &Asked, asked: Sort) -> Result<Asked, AllocError>
+    ensures { IfOk result (λ a. (asked_variable a ≡ asked_variable variable.now) × (a.asked ≡ asked)) }
+{
+    let sort = variable.sort.copy(alloc)?;
+    Ok(Asked {
+        name: variable.name,
+        index: variable.index,
+        sort,
+        asked,
+    })
+}
+
+/// The first variable whose own sort isn't below all that is asked of it, with the reduced union of the two; none exactly
+/// where there is no such variable.
+fn first_asking(order: &Order, alloc: Global, asked: &[Asked]) -> Result<Option<Asked>, AllocError>
+    ensures { IfOk result (λ o. MatchOption o (Each (AsksNoMore order.now asked.now) asked.now) (λ found. IsFirstAsking order.now asked.now found)) }
+{
+    for variable in asked {
+        let union = union_asked(order, alloc, asked, variable)?;
+        match union {
+            None => {}
+            Some(sort) => {
+                let found = asked_again(alloc, variable, sort)?;
+                return Ok(Some(found));
+            }
+        }
+    }
+    Ok(None)
+}
+
+/// The type with another one for a variable.
+fn with_variable(
+    alloc: Global,
+    t: &Typ,
+    name: Name,
+    index: u32,
+    sort: &Sort,
+    image: &Typ,
+) -> Result<Typ, AllocError>
+    ensures { IfOk result (λ u. u ≡ typ_instance (setting name index sort.now image.now) t.now) }
+{
+    let mut map = TypMap::empty(alloc);
+    let (sort, image) = (sort.copy(alloc)?, image.copy(alloc)?);
+    map.push(TypBind {
+        name,
+        index,
+        sort,
+        image,
+    })?;
+    let u = instance_of(alloc, t, &map)?;
+    Ok(u)
+}
+
+/// A schematic variable of this name, index and sort.
+pub fn variable(alloc: Global, name: Name, index: u32, sort: &Sort) -> Result<Typ, AllocError>
+    ensures { IfOk result (λ t. t ≡ tree.TVar name index sort.now) }
+{
+    let sort = sort.copy(alloc)?;
+    Ok(Typ {
+        node: TypNode::TVar { name, index, sort },
+    })
+}
+
+/// What one step of narrowing comes to.
+#[derive(Drop)]
+pub enum Narrowing {
+    /// The type is of the sort.
+    Fits(Typ),
+    /// Its first variable to narrow has been replaced.
+    Replaced(Typ),
+    /// No instance of it is of the sort.
+    Never,
+}
+
+/// Replaces the first variable to narrow by a fresh one.
+fn replace_first(
+    order: &Order,
+    alloc: Global,
+    settings: &mut Settings,
+    sort: &Sort,
+    t: Typ,
+    found: Asked,
+) -> Result<Typ, AllocError>
+    requires old { IsOld settings.old.index settings.old.next t }
+    requires free { IsFreeOf settings.old.sets t }
+    requires first { IsToNarrow order.now t sort.now found }
+    ensures { IfOk result (λ u. IsNarrowing order.now sort.now settings.old settings.new t u) }
+{
+    let next = settings.next();
+    let Some(later) = next.checked_add(1) else {
+        return Err(AllocError);
+    };
+    let index = settings.index();
+    let image = variable(alloc, Name(next), index, &found.asked)?;
+    let u = with_variable(alloc, &t, found.name, found.index, &found.sort, &image)?;
+    let own = found.sort.copy(alloc)?;
+    let bind = TypBind {
+        name: found.name,
+        index: found.index,
+        sort: own,
+        image,
+    };
+    settings.put(bind, later)?;
+    Ok(u)
+}
+
+/// One step of narrowing.
+fn narrow_once(
+    order: &Order,
+    alloc: Global,
+    settings: &mut Settings,
+    sort: &Sort,
+    t: Typ,
+) -> Result<Narrowing, AllocError>
+    requires old { IsOld settings.old.index settings.old.next t }
+    requires free { IsFreeOf settings.old.sets t }
+    ensures { IfOk result (IsNarrowingStep order.now sort.now settings.old settings.new t) }
+{
+    if sort.classes().is_empty() {
+        return Ok(Narrowing::Fits(t));
+    }
+    let found = asked_of(order, alloc, &t, sort)?;
+    let Some(asked) = found else {
+        return Ok(Narrowing::Never);
+    };
+    let first = first_asking(order, alloc, asked.as_slice())?;
+    match first {
+        None => Ok(Narrowing::Fits(t)),
+        Some(found) => {
+            let u = replace_first(order, alloc, settings, sort, t, found)?;
+            Ok(Narrowing::Replaced(u))
+        }
+    }
+}
+
+/// Narrows a type in which no variable is set to a sort; none exactly where no instance of it is of the sort.
+pub fn narrow(
+    order: &Order,
+    alloc: Global,
+    settings: &mut Settings,
+    sort: &Sort,
+    t: Typ,
+) -> Result<Option<Typ>, AllocError>
+    requires old { IsOld settings.old.index settings.old.next t }
+    requires free { IsFreeOf settings.old.sets t }
+    ensures { IfOk result (λ o. MatchOption o (HasNoInstance order.now t sort.now) (λ u. IsNarrowed order.now sort.now settings.old settings.new t u)) }
+{
+    let mut narrowed = t;
+    for _ in 0..u64::MAX {
+        match narrow_once(order, alloc, settings, sort, narrowed)? {
+            Narrowing::Fits(u) => return Ok(Some(u)),
+            Narrowing::Never => return Ok(None),
+            Narrowing::Replaced(u) => narrowed = u,
+        }
+    }
+    Err(AllocError)
+}
