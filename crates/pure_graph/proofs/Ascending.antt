@@ -73,7 +73,7 @@ among-in t (x ∷ xs) (inr m) = rw (among-in t xs m) (or_true (same t x))
     or_true true = refl
     or_true false = refl
 
-in-among : (t : List ℕ) (xs : List (List ℕ)) → list_any (same t) xs ≡ true → IsIn t xs
+pub in-among : (t : List ℕ) (xs : List (List ℕ)) → list_any (same t) xs ≡ true → IsIn t xs
 in-among t [] h = absurd (cc)
 in-among t (x ∷ xs) h = by (same t x) refl (in-among t xs) h
   where

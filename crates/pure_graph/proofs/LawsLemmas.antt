@@ -132,7 +132,7 @@ judged_once_from all (f ∷ files) (j ∷ judged) (g ∷ others) a b =
     λ i. record { theory = name i; outcome = said i } ∷ behind i
 
 -- ---- the theories' names among the files
-read_theories : (place before : ℕ) (answers : List Answer) (files : List File) → AreReadFrom place before answers files → map (λ (f : File). f.theory) files ≡ map (λ (a : Answer). a.theory) answers
+pub read_theories : (place before : ℕ) (answers : List Answer) (files : List File) → AreReadFrom place before answers files → map (λ (f : File). f.theory) files ≡ map (λ (a : Answer). a.theory) answers
 read_theories place before [] [] a = refl
 read_theories place before [] (f ∷ files) a = absurd a
 read_theories place before (x ∷ answers) [] a = absurd a
@@ -141,26 +141,26 @@ read_theories place before (x ∷ answers) (f ∷ files) (own, tried, is, rest) 
     let behind = read_theories (place + 1) (before + command_count (counted before own)) answers files rest in
     λ i. first i ∷ behind i
 
-linked_theories : (listed : List (List ℕ)) (files : List File) → map (λ (f : File). f.theory) (map (linked listed) files) ≡ map (λ (f : File). f.theory) files
+pub linked_theories : (listed : List (List ℕ)) (files : List File) → map (λ (f : File). f.theory) (map (linked listed) files) ≡ map (λ (f : File). f.theory) files
 linked_theories listed [] = refl
 linked_theories listed (f ∷ files) = ap (λ ts. f.theory ∷ ts) (linked_theories listed files)
 
-judged_theories : (all files judged : List File) → EachTwo (IsFileJudged all) files judged → map (λ (f : File). f.theory) judged ≡ map (λ (f : File). f.theory) files
+pub judged_theories : (all files judged : List File) → EachTwo (IsFileJudged all) files judged → map (λ (f : File). f.theory) judged ≡ map (λ (f : File). f.theory) files
 judged_theories all [] [] a = refl
 judged_theories all [] (j ∷ judged) a = absurd a
 judged_theories all (f ∷ files) [] a = absurd a
 judged_theories all (f ∷ files) (j ∷ judged) a = let name : j.theory ≡ f.theory = a.0.0 in let behind = judged_theories all files judged a.1 in λ i. name i ∷ behind i
 
-not_below_itself : (t : List ℕ) → byte_order t t ≡ Less → ⊥
+pub not_below_itself : (t : List ℕ) → byte_order t t ≡ Less → ⊥
 not_below_itself t less = let turned : byte_order t t ≡ ordering_reverse Less = nat_list_cmp_total.antisymm t t ∙ ap ordering_reverse less in cc
 
-above-in : (t : List ℕ) (f : File) (files : List File) → AllByRecursion (λ u. byte_order t u ≡ Less) (map (λ (f : File). f.theory) files) → IsIn f files → byte_order t f.theory ≡ Less
+pub above-in : (t : List ℕ) (f : File) (files : List File) → AllByRecursion (λ u. byte_order t u ≡ Less) (map (λ (f : File). f.theory) files) → IsIn f files → byte_order t f.theory ≡ Less
 above-in t f [] below m = absurd m
 above-in t f (g ∷ files) below (inl e) = subst (λ (h : File). byte_order t h.theory ≡ Less) (sym e) below.0
 above-in t f (g ∷ files) below (inr m) = above-in t f files below.1 m
 
 -- of files whose names ascend, those of one name are one file
-file_once : (files : List File) (f g : File) → IsStrictlySortedBy byte_order (map (λ (f : File). f.theory) files) → IsIn f files → IsIn g files → f.theory ≡ g.theory → f ≡ g
+pub file_once : (files : List File) (f g : File) → IsStrictlySortedBy byte_order (map (λ (f : File). f.theory) files) → IsIn f files → IsIn g files → f.theory ≡ g.theory → f ≡ g
 file_once [] f g sorted a b e = absurd a
 file_once (h ∷ files) f g sorted (inl a) (inl b) e = a ∙ sym b
 file_once (h ∷ files) f g sorted (inl a) (inr b) e =
@@ -195,14 +195,14 @@ loaded_once files sorted taken (l ∷ ls) (m ∷ ms) a b =
 session_of_once : (answers : List Answer) → IsStrictlySortedBy byte_order (map (λ (a : Answer). a.theory) answers) → (s t : Session) → IsSessionOf answers s → IsSessionOf answers t → s ≡ t
 session_of_once answers sorted s t a b =
     let listed : List (List ℕ) = map (λ (a : Answer). a.theory) answers in
-    let all : List File = map (linked listed) b.read in
-    let read : a.read ≡ b.read = read_once 0 0 answers a.read b.read a.are_read b.are_read in
-    let judged : a.judged ≡ b.judged = judged_once_from all all a.judged b.judged (subst (λ r. AreJudged (map (linked listed) r) a.judged) read a.are_judged) b.are_judged in
-    let ascend : IsStrictlySortedBy byte_order (map (λ (f : File). f.theory) b.judged) =
-    subst (IsStrictlySortedBy byte_order) (sym (judged_theories all all b.judged b.are_judged ∙ linked_theories listed b.read ∙ read_theories 0 0 answers b.read b.are_read)) sorted in
-    let theories : s.theories ≡ t.theories = loaded_once b.judged ascend [] s.theories t.theories (subst (λ j. AreTakenBehind j [] s.theories) judged a.loaded) b.loaded in
-    let refused : s.refused ≡ t.refused = a.refused ∙ ap (filter_map refusal_of) judged ∙ sym b.refused in
-    let files : s.files ≡ t.files = a.files ∙ sym b.files in
+    let all : List File = map (linked listed) b.loading.read in
+    let read : a.loading.read ≡ b.loading.read = read_once 0 0 answers a.loading.read b.loading.read a.loading.are_read b.loading.are_read in
+    let judged : a.loading.judged ≡ b.loading.judged = judged_once_from all all a.loading.judged b.loading.judged (subst (λ r. AreJudged (map (linked listed) r) a.loading.judged) read a.loading.are_judged) b.loading.are_judged in
+    let ascend : IsStrictlySortedBy byte_order (map (λ (f : File). f.theory) b.loading.judged) =
+    subst (IsStrictlySortedBy byte_order) (sym (judged_theories all all b.loading.judged b.loading.are_judged ∙ linked_theories listed b.loading.read ∙ read_theories 0 0 answers b.loading.read b.loading.are_read)) sorted in
+    let theories : s.theories ≡ t.theories = loaded_once b.loading.judged ascend [] s.theories t.theories (subst (λ j. AreTakenBehind j [] s.theories) judged a.loading.loaded) b.loading.loaded in
+    let refused : s.refused ≡ t.refused = a.loading.refused_are ∙ ap (filter_map refusal_of) judged ∙ sym b.loading.refused_are in
+    let files : s.files ≡ t.files = a.loading.counted ∙ sym b.loading.counted in
     let named : AreNames t.theories s.names = subst (λ ls. AreNames ls s.names) theories a.named in
     let names : s.names ≡ t.names = ascending_same s.names t.names named.ascend b.named.ascend (λ x.
     (λ m. (b.named.given x).1 ((named.given x).0 m), λ m. (named.given x).1 ((b.named.given x).0 m))) in

@@ -1,5 +1,4 @@
 pub mod HeaderLemmas
-pub mod IdentifierLemmas
 pub mod ListingLemmas
 pub mod SourceLemmas
 pub mod FilesLemmas

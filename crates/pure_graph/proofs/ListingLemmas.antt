@@ -9,7 +9,8 @@ use Rattle.std.proofs.lemmas.List.{append_cancel_right, take_more, take_all}
 use Rattle.std.proofs.Math.Bool.{and-false, or-false, or-true}
 use Rattle.std.proofs.lemmas.List.Folds.{list_any-append}
 use Rattle.pure_grammar.specs.Theories.Lexeme.{same}
-use Rattle.pure_graph.specs.Listing.{AreTheories, file_name, is_identifier}
+use Rattle.pure_lex.specs.Identifier.{is_identifier}
+use Rattle.pure_graph.specs.Listing.{AreTheories, file_name}
 
 -- two texts that aren't equal differ
 differs : (a b : List ℕ) (x : Bool) → x ≡ same a b → (a ≡ b → ⊥) → x ≡ false

@@ -9,9 +9,12 @@ use Rattle.pure_graph.specs.Reading.{File}
 use Rattle.pure_graph.specs.declared.outcome.Reason.{Reason}
 use Rattle.pure_graph.specs.declared.outcome.Reason.TheVariants.{NoFile, CyclicImports, ParentRefused}
 
--- the imports of a theory other than Pure, which always means the built-in theory
+-- the imports other than Pure, which always means the built-in theory
+abbrev pub other_than_pure : List (List ℕ) → List (List ℕ)
+other_than_pure imports = filter (λ p. not (same p pure_theory)) imports
+
 abbrev pub named_imports : TheoryText → List (List ℕ)
-named_imports text = filter (λ p. not (same p pure_theory)) text.imports
+named_imports text = other_than_pure text.imports
 
 abbrev pub imports_of : Outcome → List (List ℕ)
 imports_of (Refused reason) = []

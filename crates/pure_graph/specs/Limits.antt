@@ -20,7 +20,3 @@ most_steps = 1000
 -- commands of all theories together
 abbrev pub most_session_commands : ℕ
 most_session_commands = 4096
-
--- bytes of an identifier
-abbrev pub most_identifier_bytes : ℕ
-most_identifier_bytes = 64

@@ -1,16 +1,11 @@
 -- Which listed names are files of theories.
-use Rattle.std.specs.Prelude.{◌≡◌, ℕ, Bool, not, ◌&&◌, List, ◌++◌, length, codes, nat_le}
+use Rattle.std.specs.Prelude.{◌≡◌, ℕ, ◌&&◌, List, ◌++◌, codes}
 use Rattle.std.specs.List.{list_any}
 use Rattle.std.specs.List.Sorted.{IsStrictlySortedBy}
 use Rattle.std.specs.Ordering.{nat_cmp}
 use Rattle.std.specs.Cmp.Lexicographic.{slice_cmp}
-use Rattle.pure_grammar.specs.Tokens.Token.{is_spelling, is_keyword}
 use Rattle.pure_grammar.specs.Theories.Lexeme.{same}
-use Rattle.pure_graph.specs.Limits.{most_identifier_bytes}
-
--- an identifier: a spelling of at most 64 bytes that is no keyword
-abbrev pub is_identifier : List ℕ → Bool
-is_identifier bs = is_spelling bs && (not (is_keyword bs) && nat_le (length bs) most_identifier_bytes)
+use Rattle.pure_lex.specs.Identifier.{is_identifier}
 
 -- the name of a theory's file
 abbrev pub file_name : List ℕ → List ℕ

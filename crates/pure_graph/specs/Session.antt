@@ -18,6 +18,11 @@ pub record Refusal : Type 0 where
   pub name : List ℕ
   pub reason : Reason
 
+-- a refused file with the text of its reason
+pub record Shown : Type 0 where
+  pub name : List ℕ
+  pub text : List ℕ
+
 pub record Session : Type 0 where
   pub names : List (List ℕ)
   pub theories : List Loaded
@@ -55,6 +60,9 @@ reason_text HeaderName = header_name_text
 reason_text CyclicImports = cyclic_imports_text
 reason_text (ParentRefused theory) = parent_refused_text ++ theory
 
+abbrev pub shown : Refusal → Shown
+shown refusal = record { name = refusal.name; text = reason_text refusal.reason }
+
 abbrev pub refusal_by : List ℕ → Outcome → Option Refusal
 refusal_by theory (Refused reason) = Some (record { name = theory; reason = reason })
 refusal_by theory (Stands source text) = None
@@ -63,16 +71,20 @@ refusal_by theory (Stands source text) = None
 abbrev pub refusal_of : File → Option Refusal
 refusal_of file = refusal_by file.theory file.outcome
 
--- The session of theories with these answers: each file goes through the tests in their order, those that are left are
--- taken in load order, and the others are refused, in byte order of their names.
-pub record IsSessionOf (answers : List Answer) (session : Session) : Type 0 where
+-- The theories and the refused files of theories with these answers: each file goes through the tests in their order,
+-- those that are left are taken in load order, and the others are refused, in byte order of their names.
+pub record IsLoadingOf (answers : List Answer) (theories : List Loaded) (refused : List Refusal) (files : ℕ) : Type 0 where
   pub read : List File
   pub judged : List File
   pub are_read : AreRead answers read
   pub are_judged : AreJudged (map (linked (map (λ (a : Answer). a.theory) answers)) read) judged
-  pub loaded : AreInLoadOrder judged session.theories
-  pub refused : session.refused ≡ filter_map refusal_of judged
-  pub files : session.files ≡ length answers
+  pub loaded : AreInLoadOrder judged theories
+  pub refused_are : refused ≡ filter_map refusal_of judged
+  pub counted : files ≡ length answers
+
+-- The session of theories with these answers.
+pub record IsSessionOf (answers : List Answer) (session : Session) : Type 0 where
+  pub loading : IsLoadingOf answers session.theories session.refused session.files
   pub named : AreNames session.theories session.names
 
 -- the answer of told files on a theory: the bytes of the first file of its name

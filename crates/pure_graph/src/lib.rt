@@ -4,7 +4,6 @@
 mod fault;
 mod files;
 mod header;
-mod identifier;
 pub mod laws;
 mod listing;
 mod outcome;

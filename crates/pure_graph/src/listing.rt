@@ -1,9 +1,10 @@
 //! Which listed names are files of theories.
 ghost use Rattle.std.specs.Prelude.{◌≡◌, ℕ, List, true, false, IfOk, MatchOption};
 ghost use Rattle.pure_grammar.specs.Theories.Lexeme.{same};
-ghost use Rattle.pure_graph.specs.Listing.{AreTheories, file_name, is_identifier as is_identifier_text};
+ghost use Rattle.pure_lex.specs.Identifier.{is_identifier as is_identifier_text};
+ghost use Rattle.pure_graph.specs.Listing.{AreTheories, file_name};
 
-use crate::identifier::is_identifier;
+use pure_lex::is_identifier;
 use pure_text::Text;
 use std::alloc::{AllocError, Global};
 use std::collections::BTreeSet;

@@ -1,0 +1,9 @@
+pub mod FoldLemmas
+pub mod PlaceLemmas
+pub mod PathLemmas
+pub mod TableLemmas
+pub mod ImportLemmas
+pub mod GraphLemmas
+pub mod JudgeLemmas
+pub mod OrderLemmas
+pub mod LoadLemmas

@@ -1,0 +1,12 @@
+use Rattle.std.proofs.Common.{refl, ap, map, ◌∙◌, sym}
+use Rattle.pure_graph.specs.Graph.{other_than_pure}
+use Rattle.pure_session.specs.Places.{place_in}
+use Rattle.pure_session.proofs.FoldLemmas.{rest_at, drop_past, fold-end}
+use Rattle.pure_session.proofs.order.places_of.Goals as goal
+
+pub loop-import-init : goal.loop-import-init
+loop-import-init c = rw c.new-places.ensures.items refl
+
+pub returns : goal.returns
+returns c =
+    fold-end c.loop-import.places.items _ _ (ap (λ ps. map (place_in c.args.names.now) (other_than_pure ps)) (drop_past c.args.imports.now c.loop-import.import-index c.loop-import-test.false)) c.loop-import.invariant

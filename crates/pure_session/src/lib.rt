@@ -1,0 +1,14 @@
+//! The theories of a session: what their imports say of them, and the order in which they are loaded.
+#![tactic(auto)]
+
+mod imports;
+mod judge;
+mod loading;
+mod order;
+mod place;
+mod reason;
+mod table;
+
+pub use loading::{Theories, load_theories};
+pub use order::Loaded;
+pub use reason::RefusedFile;
