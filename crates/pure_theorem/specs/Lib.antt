@@ -1,0 +1,9 @@
+pub mod Codes
+pub mod Sets
+pub mod First
+pub mod Within
+pub mod Facts
+pub mod Made
+pub mod Answer
+pub mod Shapes
+pub mod Built

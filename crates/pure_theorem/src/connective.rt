@@ -1,0 +1,212 @@
+//! The connectives of Pure in terms: taken apart, and made.
+ghost use Rattle.std.specs.Prelude.{◌≡◌, ◌↔◌, IsTrue, IfOk, MatchOption};
+ghost use Rattle.pure_definitions.specs.Types.Typ.{prop};
+ghost use Rattle.pure_definitions.specs.Terms.Term as tree;
+ghost use Rattle.pure_definitions.specs.Names.{imp_name, eq_name, all_name};
+ghost use Rattle.pure_logic.specs.Connectives.{imp_typ, eq_typ, all_typ, imp, eq, all_of};
+ghost use Rattle.pure_theorem.specs.Shapes.{IsNoApplication, IsNoConstTyped, IsNoEqTyp, IsNoAllTyp, IsNoImplication, IsNoEquation, IsNoQuantification};
+
+use crate::same::are_same_typs;
+use pure_term::{Name, Term, TermNode, Typ, TypNode};
+use std::alloc::{AllocError, Global};
+
+/// The type of propositions. It takes no memory.
+pub fn prop_typ(alloc: Global) -> Typ
+    ensures { result ≡ prop }
+{
+    let (name, args) = (Name::PROP, Vec::new(alloc));
+    Typ {
+        node: TypNode::Con { name, args },
+    }
+}
+
+/// Whether the type is that of propositions.
+pub fn is_prop(typ: &Typ) -> bool
+    ensures { IsTrue result ↔ (typ.now ≡ prop) }
+{
+    let TypNode::Con { name, args } = &typ.node else {
+        return false;
+    };
+    let args = args.as_slice();
+    if *name != Name::PROP {
+        return false;
+    }
+    if args.len() != 0 {
+        return false;
+    }
+    true
+}
+
+/// Whether the type is that of implication.
+fn is_imp_typ(typ: &Typ) -> bool
+    ensures { IsTrue result ↔ (typ.now ≡ imp_typ) }
+{
+    let Some((premise, rest)) = typ.as_arrow() else {
+        return false;
+    };
+    let Some((conclusion, range)) = rest.as_arrow() else {
+        return false;
+    };
+    is_prop(premise) && is_prop(conclusion) && is_prop(range)
+}
+
+/// The type of the two sides, where the type is that of equality.
+fn sides_typ(typ: &Typ) -> Option<&Typ>
+    ensures { MatchOption result (IsNoEqTyp typ.now) (λ T. typ.now ≡ eq_typ T.now) }
+{
+    let Some((left, rest)) = typ.as_arrow() else {
+        return None;
+    };
+    let Some((right, range)) = rest.as_arrow() else {
+        return None;
+    };
+    if !are_same_typs(left, right) {
+        return None;
+    }
+    if !is_prop(range) {
+        return None;
+    }
+    Some(left)
+}
+
+/// The type of the variable, where the type is that of quantification.
+fn variable_typ(typ: &Typ) -> Option<&Typ>
+    ensures { MatchOption result (IsNoAllTyp typ.now) (λ T. typ.now ≡ all_typ T.now) }
+{
+    let Some((function, range)) = typ.as_arrow() else {
+        return None;
+    };
+    let Some((domain, body)) = function.as_arrow() else {
+        return None;
+    };
+    if !is_prop(range) {
+        return None;
+    }
+    if !is_prop(body) {
+        return None;
+    }
+    Some(domain)
+}
+
+/// The type of a constant of this name.
+fn const_typ(t: &Term, name: Name) -> Option<&Typ>
+    ensures { MatchOption result (IsNoConstTyped name t.now) (λ T. t.now ≡ tree.Const name T.now) }
+{
+    match &t.node {
+        TermNode::Const { name: own, typ } => { if *own == name { Some(typ) } else { None } }
+        _ => None,
+    }
+}
+
+/// The function and the argument of an application.
+pub fn as_application(t: &Term) -> Option<(&Term, &Term)>
+    ensures { MatchOption result (IsNoApplication t.now) (λ parts. t.now ≡ tree.App parts.0.now parts.1.now) }
+{
+    match &t.node {
+        TermNode::App { fun, arg } => Some((&**fun, &**arg)),
+        _ => None,
+    }
+}
+
+/// The premise and the conclusion of an implication; none exactly where the term isn't one.
+pub fn as_implication(t: &Term) -> Option<(&Term, &Term)>
+    ensures { MatchOption result (IsNoImplication t.now) (λ parts. t.now ≡ imp parts.0.now parts.1.now) }
+{
+    let Some((function, conclusion)) = as_application(t) else {
+        return None;
+    };
+    let Some((connective, premise)) = as_application(function) else {
+        return None;
+    };
+    let Some(typ) = const_typ(connective, Name::IMP) else {
+        return None;
+    };
+    if !is_imp_typ(typ) {
+        return None;
+    }
+    Some((premise, conclusion))
+}
+
+/// The type and the two sides of an equation; none exactly where the term isn't one.
+pub fn as_equation(t: &Term) -> Option<(&Typ, &Term, &Term)>
+    ensures { MatchOption result (IsNoEquation t.now) (λ parts. t.now ≡ eq parts.0.now parts.1.now parts.2.now) }
+{
+    let Some((function, right)) = as_application(t) else {
+        return None;
+    };
+    let Some((connective, left)) = as_application(function) else {
+        return None;
+    };
+    let Some(typ) = const_typ(connective, Name::EQ) else {
+        return None;
+    };
+    let Some(sides) = sides_typ(typ) else {
+        return None;
+    };
+    Some((sides, left, right))
+}
+
+/// The type and the function of a quantification over any function; none exactly where the term isn't one.
+pub fn as_all(t: &Term) -> Option<(&Typ, &Term)>
+    ensures { MatchOption result (IsNoQuantification t.now) (λ parts. t.now ≡ all_of parts.0.now parts.1.now) }
+{
+    let Some((connective, function)) = as_application(t) else {
+        return None;
+    };
+    let Some(typ) = const_typ(connective, Name::ALL) else {
+        return None;
+    };
+    let Some(domain) = variable_typ(typ) else {
+        return None;
+    };
+    Some((domain, function))
+}
+
+/// The constant of this name and this type.
+fn constant(name: Name, typ: Typ) -> Term
+    ensures { result ≡ tree.Const name typ }
+{
+    Term {
+        node: TermNode::Const { name, typ },
+    }
+}
+
+/// The application of a function to an argument.
+pub fn application(alloc: Global, function: Term, argument: Term) -> Result<Term, AllocError>
+    ensures { IfOk result (λ t. t ≡ tree.App function argument) }
+{
+    let fun = Box::new(alloc, function)?;
+    let arg = Box::new(alloc, argument)?;
+    Ok(Term {
+        node: TermNode::App { fun, arg },
+    })
+}
+
+/// `A ==> B`
+pub fn implication(alloc: Global, premise: Term, conclusion: Term) -> Result<Term, AllocError>
+    ensures { IfOk result (λ t. t ≡ imp premise conclusion) }
+{
+    let range = Typ::arrow(alloc, prop_typ(alloc), prop_typ(alloc))?;
+    let typ = Typ::arrow(alloc, prop_typ(alloc), range)?;
+    let function = application(alloc, constant(Name::IMP, typ), premise)?;
+    application(alloc, function, conclusion)
+}
+
+/// `t == u`, at the type of both sides
+pub fn equation(alloc: Global, typ: &Typ, left: Term, right: Term) -> Result<Term, AllocError>
+    ensures { IfOk result (λ t. t ≡ eq typ.now left right) }
+{
+    let range = Typ::arrow(alloc, typ.copy(alloc)?, prop_typ(alloc))?;
+    let typ = Typ::arrow(alloc, typ.copy(alloc)?, range)?;
+    let function = application(alloc, constant(Name::EQ, typ), left)?;
+    application(alloc, function, right)
+}
+
+/// `!!x. f x`, for a function from the type to propositions
+pub fn all_of(alloc: Global, typ: &Typ, function: Term) -> Result<Term, AllocError>
+    ensures { IfOk result (λ t. t ≡ all_of typ.now function) }
+{
+    let domain = Typ::arrow(alloc, typ.copy(alloc)?, prop_typ(alloc))?;
+    let typ = Typ::arrow(alloc, domain, prop_typ(alloc))?;
+    application(alloc, constant(Name::ALL, typ), function)
+}
