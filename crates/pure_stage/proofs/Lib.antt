@@ -1,0 +1,10 @@
+pub mod MapLaws
+pub mod PlaceLaws
+pub mod TableLaws
+pub mod FactLaws
+pub mod LabelLaws
+pub mod IndexLaws
+pub mod OtherLaws
+pub mod AlgebraLaws
+pub mod SameLaws
+pub mod GetLaws

@@ -1,0 +1,9 @@
+pub mod Codes
+pub mod Facts
+pub mod Keys
+pub mod Kept
+pub mod View
+pub mod Tables
+pub mod Missing
+pub mod Named
+pub mod Same

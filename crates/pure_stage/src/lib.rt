@@ -1,0 +1,19 @@
+//! Declarations in tables that stages of a theory share.
+#![tactic(auto)]
+
+mod decl;
+mod declarations;
+mod entry;
+mod fact;
+mod growing;
+mod index;
+mod labels;
+mod members;
+mod pointers;
+mod shelves;
+
+pub use decl::Decl;
+pub use declarations::Declarations;
+pub use entry::Entry;
+pub use fact::Statement;
+pub use pointers::shared;
