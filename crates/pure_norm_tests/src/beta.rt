@@ -17,7 +17,7 @@ enum Wanted {
 }
 
 /// Steps, the leftmost-outermost first.
-static STEPS: [(&[u8], Wanted); 18] = [
+static STEPS: [(&[u8], Wanted); 22] = [
     (b"=a", Wanted::Term(b"=a")),
     (b"% _0", Wanted::Term(b"% _0")),
     (b"@ % _0 =a", Wanted::Term(b"=a")),
@@ -41,6 +41,16 @@ static STEPS: [(&[u8], Wanted); 18] = [
         Wanted::Term(b"@ @ =p @@ =p =a % @@ =p =a"),
     ),
     (b"@ % _0 =a", Wanted::Term(b"=a")),
+    (b"% @ % % _1 @ =f _0", Wanted::Term(b"% % @ =f _1")),
+    (b"% @ % % % _2 @ =f _0", Wanted::Term(b"% % % @ =f _2")),
+    (
+        b"% @ % % @ % % _1 _1 @ =f _0",
+        Wanted::Term(b"% % % @ =f _2"),
+    ),
+    (
+        b"% % @ % @ % % @ _1 _0 _0 @ _1 _0",
+        Wanted::Term(b"% % % @ @ _2 _1 _0"),
+    ),
     (b"@*3 % @@ =p _0 @ % _0 =a", Wanted::Term(b"@@*3 =p =a")),
 ];
 
@@ -60,7 +70,7 @@ static LIMIT_OF_STEPS: [(&[u8], Wanted); 2] = [
 
 /// Terms at the limits of size, and beyond them: at the first of the sequence, and after a step, also inside a term. One that is too
 /// large on the way decides.
-static LIMIT_OF_SIZE: [(&[u8], Wanted); 14] = [
+static LIMIT_OF_SIZE: [(&[u8], Wanted); 18] = [
     (b"=x: k//199998 i", Wanted::Term(b"=x: k//199998 i")),
     (b"=x: k//199999 i", Wanted::Big),
     (b"@ % =a =x: k//199993 i", Wanted::Term(b"=a")),
@@ -90,10 +100,20 @@ static LIMIT_OF_SIZE: [(&[u8], Wanted); 14] = [
         Wanted::Term(b"% =a"),
     ),
     (b"@ % @ @ % % _1 _0 _0 =x: k//99998 i", Wanted::Big),
+    (
+        b"@ % @ % @ _0 _0 _0 =x: k//99997 i",
+        Wanted::Term(b"@ =x: k//99997 i =x: k//99997 i"),
+    ),
+    (b"@ % @ % @ _0 _0 _0 =x: k//99998 i", Wanted::Big),
+    (
+        b"@ % @ % @ _0 _0 @ =f _0 =x: k//99992 i",
+        Wanted::Term(b"@ @ =f =x: k//99992 i @ =f =x: k//99992 i"),
+    ),
+    (b"@ % @ % @ _0 _0 @ =f _0 =x: k//99993 i", Wanted::Big),
 ];
 
 /// The same of depth.
-static LIMIT_OF_DEPTH: [(&[u8], Wanted); 12] = [
+static LIMIT_OF_DEPTH: [(&[u8], Wanted); 16] = [
     (b"@ % =a @*1996 =f =a", Wanted::Term(b"=a")),
     (b"@ % =a @*1997 =f =a", Wanted::Big),
     (
@@ -118,6 +138,16 @@ static LIMIT_OF_DEPTH: [(&[u8], Wanted); 12] = [
     (b"% @ % @*1000 =f _0 @*997 =f =a", Wanted::Big),
     (b"@ % @ % =a @*1000 =f _0 @*996 =f =a", Wanted::Term(b"=a")),
     (b"@ % @ % =a @*1000 =f _0 @*997 =f =a", Wanted::Big),
+    (
+        b"@ % @ % @*1000 =f _0 _0 @*997 =f =a",
+        Wanted::Term(b"@*1997 =f =a"),
+    ),
+    (b"@ % @ % @*1000 =f _0 _0 @*998 =f =a", Wanted::Big),
+    (
+        b"@ % @ % @*1000 =f _0 @ =f _0 @*996 =f =a",
+        Wanted::Term(b"@*1997 =f =a"),
+    ),
+    (b"@ % @ % @*1000 =f _0 @ =f _0 @*997 =f =a", Wanted::Big),
 ];
 
 /// The answer for a term, which has to be closed.
