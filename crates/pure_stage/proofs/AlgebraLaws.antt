@@ -1,6 +1,5 @@
 -- The algebra of a list of declarations, and of longer ones.
-use Rattle.std.proofs.Common.{◌≡◌, List, [], ◌∷◌, ◌++◌, refl, ap, sym, ◌∙◌, append-nil}
-use Rattle.pure_text.specs.Lists.{IsIn}
+use Rattle.std.proofs.Common.{◌≡◌, List, [], ◌∷◌, ◌++◌, refl, ap, ◌∙◌, append-nil}
 use Rattle.pure_definitions.specs.Types.Order.{Class, Arity, Algebra}
 use Rattle.pure_definitions.specs.Declarations.Decl.{Decl, ClassDecl, ConDecl, ArityDecl, ConstDecl, AxiomDecl, PromiseDecl, classes_of, arities_of, algebra_of}
 use Rattle.pure_term_laws.proofs.DeclLaws.{declared_classes, declared_arities}

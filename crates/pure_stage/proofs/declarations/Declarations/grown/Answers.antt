@@ -1,7 +1,3 @@
-use Rattle.std.proofs.Common.{◌≡◌, ℕ, List, [], ◌∷◌, ◌++◌, ◌∙◌, ap, sym}
-use Rattle.std.specs.Prelude.{None}
-use Rattle.std.specs.FinMap.{get, len, insert}
-use Rattle.pure_stage.specs.View.{decl_of, in_order}
 use Rattle.pure_stage.proofs.PlaceLaws.{nothing_behind, grown_tables, grown_list}
 use Rattle.pure_stage.proofs.declarations.Declarations.grown.Goals as goal
 

@@ -1,5 +1,4 @@
-use Rattle.std.proofs.Common.{take_all}
-use Rattle.pure_text.proofs.AnswerLaws.{yes_as, no_as, test_fails}
+use Rattle.pure_text.proofs.AnswerLaws.{yes_as, test_fails}
 use Rattle.pure_stage.proofs.GetLaws.{get_in, absent_turn}
 use Rattle.pure_stage.proofs.declarations.Declarations.is_listed.Goals as goal
 

@@ -1,4 +1,3 @@
-use Rattle.std.proofs.Common.{refl}
 use Rattle.pure_text.proofs.ListLaws.{in-append_right}
 use Rattle.pure_order_tables.proofs.OtherLaws.{others_none}
 use Rattle.pure_stage.specs.View.{decl_of}
