@@ -9,6 +9,7 @@ use Rattle.std.specs.Cmp.Lexicographic.{slice_cmp, nat_list_cmp_total}
 use Rattle.std.proofs.lemmas.Map.Keys.{sorted_head, sorted_tail}
 use Rattle.pure_text.specs.Lists.{IsIn, Each, EachTwo, AnyOf}
 use Rattle.pure_text.proofs.ListLaws.{each_at}
+use Rattle.pure_text.proofs.AscendingTexts.{byte_order, ascending_once}
 use Rattle.pure_grammar.specs.Tokens.Spelling.{Spells, HasFault}
 use Rattle.pure_grammar.specs.declared.token.Token.{Token}
 use Rattle.pure_grammar.specs.Theories.TheoryText.{TheoryText}
@@ -26,7 +27,7 @@ use Rattle.pure_graph.specs.Session.{Session, IsSessionOf, IsSession, refusal_of
 use Rattle.pure_graph.specs.SessionNames.{AreNames}
 use Rattle.pure_graph.specs.Laws.{OneSession}
 use Rattle.pure_graph.specs.declared.outcome.Reason.TheVariants.{ParentRefused}
-use Rattle.pure_graph.proofs.Ascending.{byte_order, ascending_once, ascending_same}
+use Rattle.pure_graph.proofs.Ascending.{ascending_same}
 
 -- ---- one file
 fault_place_once : (source : List ℕ) (a b : ℕ) → IsFaultPlace source a → IsFaultPlace source b → a ≡ b

@@ -8,14 +8,10 @@ use Rattle.std.specs.BTreeSet.{BTreeSet, contains, Updates}
 use Rattle.std.proofs.lemmas.List.{append_cancel_right, take_more, take_all}
 use Rattle.std.proofs.Math.Bool.{and-false, or-false, or-true}
 use Rattle.std.proofs.lemmas.List.Folds.{list_any-append}
+use Rattle.pure_text.proofs.TextSets.{differs, list_any-same}
 use Rattle.pure_grammar.specs.Theories.Lexeme.{same}
 use Rattle.pure_lex.specs.Identifier.{is_identifier}
 use Rattle.pure_graph.specs.Listing.{AreTheories, file_name}
-
--- two texts that aren't equal differ
-differs : (a b : List ℕ) (x : Bool) → x ≡ same a b → (a ≡ b → ⊥) → x ≡ false
-differs a b true h apart = absurd (apart (same_text a b h))
-differs a b false h apart = refl
 
 pub no_stem : (name : List ℕ) → ((front : List ℕ) → name ≡ file_name front → ⊥) → (t : List ℕ) → same (file_name t) name ≡ false
 no_stem name none t = differs (file_name t) name _ refl (λ e. none t (sym e))
@@ -67,10 +63,6 @@ HasTheories-more old new names name u key has is_one name_is key_is updates = re
       ∙ ap (λ n. is_identifier t && (list_any (same (file_name t)) names || same (file_name t) n)) (sym name_is)
       ∙ ap (λ b. is_identifier t && b) (sym (list_any-append (same (file_name t)) names (name ∷ []) ∙ ap (λ b. list_any (same (file_name t)) names || b) (or-false (same (file_name t) name))));
 }
-
-list_any-same : (p q : List ℕ → Bool) → ((x : List ℕ) → p x ≡ q x) → (xs : List (List ℕ)) → list_any p xs ≡ list_any q xs
-list_any-same p q h [] = refl
-list_any-same p q h (x ∷ xs) = rw (h x, list_any-same p q h xs) refl
 
 pub AreTheories-from_set : (found : BTreeSet (List ℕ)) (names theories : List (List ℕ)) → HasTheories found names → IsStrictlySortedBy (slice_cmp nat_cmp) found.keys → theories ≡ found.keys → AreTheories names theories
 AreTheories-from_set found names theories has sorted is = rw is (record {

@@ -1,26 +1,26 @@
 -- What a table of the imports says of the files.
-use Rattle.std.proofs.Common.{◌≡◌, ◌⊎◌, ◌↔◌, inl, inr, ℕ, zero, suc, ◌+◌, ◌<◌, ◌≤◌, Bool, true, false, cond, List, [], ◌∷◌, length, map, get_or, refl, sym, ◌∙◌, ap, subst, arith, MatchBool, Ordering}
+use Rattle.std.proofs.Common.{◌≡◌, ◌⊎◌, ◌↔◌, inl, inr, ℕ, zero, suc, ◌<◌, ◌≤◌, Bool, true, false, cond, List, [], ◌∷◌, length, map, get_or, refl, sym, ◌∙◌, ap, subst, arith, MatchBool, Ordering}
 use Rattle.std.specs.declared.cmp.Ordering.TheVariants.{Less, Equal, Greater}
 use Rattle.std.specs.Global.{Vec}
 use Rattle.std.specs.List.{AllByRecursion}
 use Rattle.std.specs.List.Sorted.{IsStrictlySortedBy}
 use Rattle.std.specs.Ordering.{is_eq}
-use Rattle.std.specs.Cmp.Lexicographic.{same_text, nat_list_cmp_total, nat_list_eq_equiv, texts_ties}
+use Rattle.std.specs.Cmp.Lexicographic.{nat_list_eq_equiv, texts_ties}
 use Rattle.std.proofs.lemmas.Map.Keys.{sorted_head, sorted_tail}
 use Rattle.std.proofs.lemmas.Bool.{false_from_ne_true}
 use Rattle.std.proofs.lemmas.List.{length-map}
 use Rattle.pure_text.specs.Lists.{IsIn, Each, EachTwo}
 use Rattle.pure_text.proofs.ListLaws.{in-map, each_at, two_long, any_of, any_some}
+use Rattle.pure_text.proofs.AscendingTexts.{byte_order}
 use Rattle.pure_grammar.specs.Theories.Lexeme.{same}
 use Rattle.pure_grammar.specs.Theories.TheoryText.{TheoryText}
 use Rattle.pure_graph.specs.Outcome.{Outcome, Refused, Stands}
 use Rattle.pure_graph.specs.Reading.{File}
 use Rattle.pure_graph.specs.Graph.{HasStood, Imports, Reaches, directly, through, IsCyclic, IsRefused, before, on_cycle, by_parent, imports_of, named_imports}
-use Rattle.pure_session.specs.ImportGraph.{stands, standing, theories, AreLinked, IsImportRow, LeadsToCycle, IsLost}
+use Rattle.pure_session.specs.ImportGraph.{stands, standing, theories, AreLinked, IsImportRow, IsLost}
 use Rattle.pure_session.specs.Places.{place_in, cells, is_marked, IsMarked, Path, direct, along}
 use Rattle.pure_session.specs.Judging.{IsGraphOf, marks, reach_of}
 use Rattle.pure_graph.specs.declared.outcome.Reason.{Reason}
-use Rattle.pure_graph.proofs.Ascending.{byte_order}
 use Rattle.pure_graph.proofs.LawsLemmas.{not_below_itself, above-in, file_once}
 use Rattle.pure_session.proofs.PlaceLemmas.{place-below, place-in, place-same, place-or_not, place-hit, place-head, place-tail}
 

@@ -1,13 +1,11 @@
 -- The imports of a file, one by one.
-use Rattle.std.proofs.Common.{◌≡◌, ◌⊎◌, ◌↔◌, ◌&&◌, inl, inr, ℕ, zero, suc, ◌+◌, ◌<◌, ◌≤◌, Bool, true, false, not, cond, List, [], ◌∷◌, ◌++◌, length, map, get_or, take, drop, refl, sym, ◌∙◌, ap, subst, arith, add-one, drop-cons, Option, Some, None, nat_lt}
+use Rattle.std.proofs.Common.{◌≡◌, ◌⊎◌, ◌↔◌, ◌&&◌, inl, inr, ℕ, ◌+◌, ◌<◌, ◌≤◌, Bool, true, false, not, cond, List, [], ◌∷◌, ◌++◌, length, map, get_or, take, drop, refl, sym, ◌∙◌, ap, subst, arith, Option, Some, None, nat_lt}
 use Rattle.std.specs.List.{find, filter, list_any}
-use Rattle.std.specs.List.Sorted.{IsStrictlySortedBy}
-use Rattle.std.proofs.lemmas.Bool.{cases_lt, lt-ltb, le-ltb, false_from_ne_true}
+use Rattle.std.proofs.lemmas.Bool.{lt-ltb, le-ltb, false_from_ne_true}
 use Rattle.pure_text.specs.Lists.{IsIn, Each, AnyOf}
 use Rattle.pure_text.proofs.LoopLaws.{longer_by}
 use Rattle.pure_grammar.specs.Theories.Lexeme.{same}
-use Rattle.pure_grammar.specs.Theories.TheoryText.{TheoryText}
-use Rattle.pure_graph.specs.Outcome.{Outcome, Refused, Stands, pure_theory}
+use Rattle.pure_graph.specs.Outcome.{Outcome, pure_theory}
 use Rattle.pure_graph.specs.Reading.{File}
 use Rattle.pure_graph.specs.Graph.{first_absent, other_than_pure, imports_of, without, linked}
 use Rattle.pure_session.specs.ImportGraph.{theories, AreLinked, MarksPlaces}
@@ -15,7 +13,7 @@ use Rattle.pure_session.specs.Places.{place_in, HasMark}
 use Rattle.pure_graph.proofs.LawsLemmas.{linked_theories}
 use Rattle.pure_graph.proofs.Ascending.{among-in, in-among}
 use Rattle.pure_session.proofs.FoldLemmas.{rest_at, drop_past}
-use Rattle.pure_session.proofs.PlaceLemmas.{place-below, place-in, place-or_not}
+use Rattle.pure_session.proofs.PlaceLemmas.{place-in, place-or_not}
 
 -- ---- a search from the front
 find-pass : {A : Type 0} (test : A → Bool) (x : A) (xs : List A) → test x ≡ false → find test (x ∷ xs) ≡ find test xs

@@ -1,10 +1,11 @@
 -- What the graph of the files says of each is what their imports say.
-use Rattle.std.proofs.Common.{◌≡◌, ◌⊎◌, ◌↔◌, ◌&&◌, ◌+◌, ◌<◌, ◌≤◌, inl, inr, ℕ, zero, suc, Bool, true, false, not, cond, List, [], ◌∷◌, ◌++◌, length, map, get_or, refl, sym, ◌∙◌, ap, subst, Option, Some, None, MatchBool, arith, length-append}
+use Rattle.std.proofs.Common.{◌≡◌, ◌⊎◌, ◌&&◌, ◌+◌, ◌<◌, ◌≤◌, inl, inr, ℕ, zero, suc, Bool, true, false, not, cond, List, [], ◌∷◌, ◌++◌, length, map, get_or, refl, sym, ◌∙◌, ap, subst, Option, Some, None, MatchBool, arith, length-append}
 use Rattle.std.specs.List.{find}
 use Rattle.std.specs.List.Sorted.{IsStrictlySortedBy}
 use Rattle.std.proofs.lemmas.Bool.{MatchBool-at_true, MatchBool-at_false, both_ways, false_from_ne_true, cases_lt}
 use Rattle.pure_text.specs.Lists.{IsIn, Each, EachTwo}
 use Rattle.pure_text.proofs.ListLaws.{each_at, each-left, each-right, in-append_right, in-map}
+use Rattle.pure_text.proofs.AscendingTexts.{byte_order}
 use Rattle.pure_grammar.specs.Theories.TheoryText.{TheoryText}
 use Rattle.pure_grammar.specs.Theories.Lexeme.{same}
 use Rattle.pure_graph.specs.Outcome.{Outcome, Refused, Stands, pure_theory}
@@ -15,7 +16,6 @@ use Rattle.pure_session.specs.Places.{place_in, is_marked}
 use Rattle.pure_session.specs.Judging.{IsGraphOf, reach_of, by_parent_if, verdict, unless, judged_outcome, judged_file}
 use Rattle.pure_graph.specs.declared.outcome.Reason.{Reason}
 use Rattle.pure_graph.specs.declared.outcome.Reason.TheVariants.{CyclicImports, ParentRefused}
-use Rattle.pure_graph.proofs.Ascending.{byte_order}
 use Rattle.pure_graph.proofs.LawsLemmas.{file_once}
 use Rattle.pure_session.proofs.GraphLemmas.{in_mapped, stood_or_refused, import-listed, good-stood}
 

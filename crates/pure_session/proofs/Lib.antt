@@ -7,3 +7,7 @@ pub mod GraphLemmas
 pub mod JudgeLemmas
 pub mod OrderLemmas
 pub mod LoadLemmas
+pub mod SetLemmas
+pub mod TokenLemmas
+pub mod PlainLemmas
+pub mod LoadedLemmas

@@ -1,9 +1,10 @@
 -- What was read of a library, and what its files make.
 use Rattle.std.proofs.Common.{◌≡◌, ◌<◌, ◌≤◌, ℕ, suc, List, [], ◌∷◌, length, map, cond, Bool, true, false, refl, sym, ◌∙◌, ap, subst, arith, Option, Some, None, IfSome}
-use Rattle.std.specs.List.{filter_map, filter}
+use Rattle.std.specs.List.{filter_map}
 use Rattle.std.specs.List.Sorted.{IsStrictlySortedBy}
 use Rattle.std.proofs.lemmas.List.{length-map}
 use Rattle.pure_text.proofs.ListLaws.{two_long}
+use Rattle.pure_text.proofs.AscendingTexts.{byte_order}
 use Rattle.pure_io.specs.declared.library.File as library
 use Rattle.pure_graph.specs.Reading.{Answer, File}
 use Rattle.pure_graph.specs.Graph.{linked, AreJudged, IsOutcomeJudged}
@@ -12,7 +13,6 @@ use Rattle.pure_graph.specs.declared.outcome.TheoryFile.{TheoryFile}
 use Rattle.pure_session.specs.ImportGraph.{theories, stands, standing, AreLinked}
 use Rattle.pure_session.specs.Loading.{AreLoadedFrom}
 use Rattle.pure_graph.specs.Order.{Loaded, AreInLoadOrder}
-use Rattle.pure_graph.specs.Outcome.{Outcome}
 use Rattle.pure_graph.specs.Listing.{AreTheories}
 use Rattle.pure_graph.specs.Session.{Shown, IsLoadingOf, refusal_of, shown}
 use Rattle.pure_graph.specs.SessionNames.{AreNames}
@@ -20,7 +20,6 @@ use Rattle.pure_graph.specs.Told.{AreFilesOf}
 use Rattle.pure_session.specs.ToldTheories.{AreTheoriesOf, IsShownSession}
 use Rattle.pure_session.specs.Waiting.{waiting_file, waiting_files}
 use Rattle.pure_session.specs.declared.order.Waiting.{Waiting}
-use Rattle.pure_graph.proofs.Ascending.{byte_order}
 use Rattle.pure_graph.proofs.LawsLemmas.{read_theories, linked_theories, judged_theories}
 use Rattle.pure_session.proofs.ImportLemmas.{files-linked}
 

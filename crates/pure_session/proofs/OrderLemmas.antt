@@ -1,28 +1,27 @@
 -- Theories taken one by one.
-use Rattle.std.proofs.Common.{◌≡◌, ◌⊎◌, ◌↔◌, ◌&&◌, inl, inr, ℕ, zero, suc, ◌+◌, ◌<◌, ◌≤◌, Bool, true, false, not, List, [], ◌∷◌, ◌++◌, length, map, get_or, set, take, drop, replicate, refl, sym, ◌∙◌, ap, subst, arith, append_assoc, add-one, get_or-set_same, get_or-set_other, nat_eq, Option, Some, None}
+use Rattle.std.proofs.Common.{◌≡◌, ◌⊎◌, inl, inr, ℕ, zero, suc, ◌+◌, ◌<◌, Bool, true, false, not, List, [], ◌∷◌, ◌++◌, length, map, get_or, set, take, drop, replicate, refl, sym, ◌∙◌, ap, subst, arith, append_assoc, add-one, get_or-set_same, get_or-set_other, nat_eq, Some}
 use Rattle.std.specs.declared.cmp.Ordering.TheVariants.{Less}
 use Rattle.std.specs.List.{AllByRecursion, list_all, remove}
 use Rattle.std.specs.List.Sorted.{IsStrictlySortedBy}
-use Rattle.std.specs.Ordering.{is_eq}
-use Rattle.std.specs.Cmp.Lexicographic.{same_text, nat_list_eq_equiv}
+use Rattle.std.specs.Cmp.Lexicographic.{nat_list_eq_equiv}
 use Rattle.std.proofs.lemmas.List.{map-append, length-map, append-nil}
 use Rattle.std.proofs.lemmas.Map.Keys.{sorted_head, sorted_tail}
-use Rattle.std.proofs.lemmas.Bool.{eqb-true, eq-eqb, ne_eqb, and_parts, and_cases, both_ways, not-true, not-false}
+use Rattle.std.proofs.lemmas.Bool.{eq-eqb, ne_eqb, and_parts, and_cases, both_ways}
 use Rattle.pure_text.specs.Lists.{IsIn, Each}
-use Rattle.pure_text.proofs.ListLaws.{in-map, in_split, in-append_left, in-append_right, each_at, each_of, each_imply, each-append, each-left, each-right, split_at, read_in}
+use Rattle.pure_text.proofs.ListLaws.{in-map, in_split, in-append_left, in-append_right, each_at, each-append, each-left, each-right, split_at}
+use Rattle.pure_text.proofs.AscendingTexts.{byte_order}
 use Rattle.pure_grammar.specs.Theories.Lexeme.{same}
 use Rattle.pure_grammar.specs.Theories.TheoryText.{TheoryText}
 use Rattle.pure_script.specs.Seen.{seen_theory}
-use Rattle.pure_graph.specs.Outcome.{Outcome, Stands}
+use Rattle.pure_graph.specs.Outcome.{Stands}
 use Rattle.pure_graph.specs.Reading.{File}
-use Rattle.pure_graph.specs.Graph.{HasStood, Imports, named_imports}
+use Rattle.pure_graph.specs.Graph.{Imports, named_imports}
 use Rattle.pure_graph.specs.Order.{Loaded, file_of, IsReady, IsLeastReady, index_among, AreTakenBehind, AreInLoadOrder}
 use Rattle.pure_session.specs.ImportGraph.{theories, standing, AreGrounded}
 use Rattle.pure_session.specs.Places.{place_in}
 use Rattle.pure_session.specs.Waiting.{waiting_file, waiting_files, HasPlaces, are_taken, IsFirstReady, seen_loaded, all_loaded}
 use Rattle.pure_session.specs.declared.order.Loaded as code
 use Rattle.pure_session.specs.declared.order.Waiting.{Waiting}
-use Rattle.pure_graph.proofs.Ascending.{byte_order}
 use Rattle.pure_graph.proofs.LawsLemmas.{not_below_itself}
 use Rattle.pure_session.proofs.PlaceLemmas.{same_or_apart, place-below, place-same}
 use Rattle.pure_session.proofs.GraphLemmas.{in_mapped, standing-in, in-standing}

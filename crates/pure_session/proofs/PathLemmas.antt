@@ -1,5 +1,5 @@
 -- Ways through places below a bound, as the bound rises.
-use Rattle.std.proofs.Common.{◌≡◌, ◌⊎◌, ◌↔◌, inl, inr, ℕ, zero, suc, ◌+◌, ◌<◌, ◌≤◌, Bool, true, false, refl, sym, ◌∙◌, ap, subst, arith}
+use Rattle.std.proofs.Common.{◌≡◌, ◌⊎◌, ◌↔◌, inl, inr, ℕ, zero, ◌+◌, ◌<◌, Bool, true, subst, arith}
 use Rattle.pure_session.specs.Places.{Path, direct, along}
 
 over : (marked : ℕ → ℕ → Bool) (n i k j : ℕ) → Path marked n i k → k < n → Path marked n k j → Path marked n i j

@@ -1,16 +1,16 @@
 -- The places of texts among others that ascend.
-use Rattle.std.proofs.Common.{◌≡◌, ◌⊎◌, ◌||◌, inl, inr, ℕ, zero, suc, ◌+◌, ◌<◌, ◌≤◌, Bool, true, false, List, [], ◌∷◌, length, get_or, refl, sym, ◌∙◌, ap, subst, arith, Ordering}
+use Rattle.std.proofs.Common.{◌≡◌, ◌⊎◌, inl, inr, ℕ, zero, suc, ◌<◌, ◌≤◌, Bool, true, false, List, [], ◌∷◌, length, get_or, refl, sym, ◌∙◌, ap, subst, arith, Ordering}
 use Rattle.std.specs.declared.cmp.Ordering.TheVariants.{Less, Equal, Greater}
-use Rattle.std.specs.List.{AllByRecursion, list_any}
+use Rattle.std.specs.List.{AllByRecursion}
 use Rattle.std.specs.List.Sorted.{IsStrictlySortedBy, IsNonDecreasingBy, IsPartitionPoint}
 use Rattle.std.specs.Ordering.{is_eq, ordering_index}
 use Rattle.std.specs.Cmp.Lexicographic.{same_text, nat_list_cmp_total, nat_list_eq_equiv, texts_ties}
 use Rattle.std.proofs.lemmas.Map.Keys.{sorted_head, sorted_tail}
 use Rattle.std.proofs.lemmas.Bool.{cases_lt}
 use Rattle.pure_text.specs.Lists.{IsIn}
+use Rattle.pure_text.proofs.AscendingTexts.{byte_order}
 use Rattle.pure_grammar.specs.Theories.Lexeme.{same}
 use Rattle.pure_session.specs.Places.{place_in}
-use Rattle.pure_graph.proofs.Ascending.{byte_order}
 
 -- ---- the place of a text
 pub place-head : (x : List ℕ) (xs : List (List ℕ)) (t : List ℕ) → same x t ≡ true → place_in (x ∷ xs) t ≡ zero

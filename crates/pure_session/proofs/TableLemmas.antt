@@ -1,7 +1,8 @@
 -- Rows of marks.
-use Rattle.std.proofs.Common.{◌≡◌, ◌⊎◌, ◌↔◌, inl, inr, ℕ, zero, suc, ◌+◌, ◌-◌, ◌<◌, ◌≤◌, Bool, true, false, List, [], ◌∷◌, ◌++◌, length, map, get_or, set, take, take_all, replicate, refl, sym, ◌∙◌, ap, subst, arith, add-one, length-take, get_or-set_same, get_or-set_other}
+use Rattle.std.proofs.Common.{◌≡◌, ◌⊎◌, ◌↔◌, inl, inr, ℕ, zero, suc, ◌+◌, ◌<◌, ◌≤◌, Bool, true, false, List, [], ◌∷◌, ◌++◌, length, get_or, set, take, take_all, replicate, refl, sym, ◌∙◌, ap, subst, arith, append_assoc, length-take, get_or-set_same, get_or-set_other}
 use Rattle.std.specs.Global.{Vec}
 use Rattle.std.proofs.lemmas.Bool.{cases_eq}
+use Rattle.std.proofs.lemmas.List.{append-nil}
 use Rattle.pure_text.specs.Lists.{EachTwo}
 use Rattle.pure_text.proofs.ListLaws.{two-append}
 use Rattle.pure_text.proofs.LoopLaws.{longer_by}
@@ -109,6 +110,23 @@ pub cells-past : (rows : List (Vec Bool)) (k : ℕ) → length rows ≤ k → ge
 cells-past [] k past = refl
 cells-past (r ∷ rows) zero past = absurd (omega arith)
 cells-past (r ∷ rows) (suc k) past = cells-past rows k (omega arith)
+
+-- ---- a loop that takes the first of a list, again and again
+-- Whatever goes with what is left goes, behind what is done, with the whole.
+pub record GoesOn {A B : Type 0} (R : A → B → Type 0) (all left : List A) (done : List B) : Type 0 where
+  pub whole : (more : List B) → EachTwo R left more → EachTwo R all (done ++ more)
+
+pub goes-none : {A B : Type 0} (R : A → B → Type 0) (all left : List A) (done : List B) → done ≡ [] → left ≡ all → GoesOn R all left done
+goes-none R all left done empty same = record { whole = λ more each. subst (λ d. EachTwo R all (d ++ more)) (sym empty) (subst (λ xs. EachTwo R xs more) same each) }
+
+pub goes-turn : {A B : Type 0} (R : A → B → Type 0) (all left rest : List A) (x : A) (done longer : List B) (y : B) → left ≡ x ∷ rest → R x y → longer ≡ done ++ y ∷ [] → GoesOn R all left done → GoesOn R all rest longer
+goes-turn R all left rest x done longer y first one is on = record {
+  whole = λ more each. subst (λ d. EachTwo R all (d ++ more)) (sym is) (subst (EachTwo R all) (sym (append_assoc done (y ∷ []) more)) (on.whole (y ∷ more) (subst (λ xs. EachTwo R xs (y ∷ more)) (sym first) (one, each))));
+}
+
+pub goes-end : {A B : Type 0} (R : A → B → Type 0) (all left : List A) (done : List B) → length left ≡ 0 → GoesOn R all left done → EachTwo R all done
+goes-end R all [] done none_left on = subst (EachTwo R all) (append-nil done) (on.whole [] tt)
+goes-end R all (x ∷ left) done none_left on = absurd (omega arith)
 
 -- ---- the row of imports
 -- one row more is passed

@@ -1,10 +1,10 @@
 -- The files that stand as places of a graph.
-use Rattle.std.specs.Prelude.{◌≡◌, ◌⊎◌, ◌↔◌, ◌<◌, ◌≤◌, ℕ, Bool, true, false, List, [], ◌∷◌, map}
+use Rattle.std.specs.Prelude.{◌≡◌, ◌⊎◌, ◌↔◌, ◌<◌, ℕ, Bool, true, false, List, map}
 use Rattle.std.specs.List.{filter}
 use Rattle.pure_text.specs.Lists.{IsIn, Each, AnyOf}
 use Rattle.pure_graph.specs.Outcome.{Outcome, Refused, Stands}
 use Rattle.pure_graph.specs.Reading.{File}
-use Rattle.pure_graph.specs.Graph.{HasStood, Imports, IsCyclic, IsRefused, imports_of}
+use Rattle.pure_graph.specs.Graph.{HasStood, Imports, imports_of}
 use Rattle.pure_session.specs.Places.{place_in, HasMark}
 
 abbrev pub stands : Outcome → Bool

@@ -5,3 +5,5 @@ pub mod Waiting
 pub mod Refused
 pub mod Loading
 pub mod ToldTheories
+pub mod NameSets
+pub mod Plain

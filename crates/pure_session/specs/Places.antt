@@ -1,5 +1,5 @@
 -- Places of texts among others, and which places lead to which.
-use Rattle.std.specs.Prelude.{◌≡◌, ◌⊎◌, ◌↔◌, ◌<◌, ℕ, zero, suc, Bool, true, false, List, [], ◌∷◌, map, get_or, if◌then◌else◌}
+use Rattle.std.specs.Prelude.{◌≡◌, ◌⊎◌, ◌↔◌, ◌<◌, ℕ, suc, Bool, true, false, List, [], ◌∷◌, map, get_or, if◌then◌else◌}
 use Rattle.std.specs.Global.{Vec}
 use Rattle.pure_grammar.specs.Theories.Lexeme.{same}
 

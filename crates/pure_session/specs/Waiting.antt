@@ -1,10 +1,10 @@
 -- Theories that wait for their imports.
-use Rattle.std.specs.Prelude.{◌≡◌, ◌<◌, ℕ, Bool, true, false, not, List, [], ◌∷◌, length, map, take, get_or, nat_eq, Option, Some, None}
+use Rattle.std.specs.Prelude.{◌≡◌, ◌<◌, ℕ, Bool, true, false, not, List, length, map, take, get_or, nat_eq, Option, Some, None}
 use Rattle.std.specs.List.{list_all}
-use Rattle.pure_text.specs.Lists.{IsIn, Each}
+use Rattle.pure_text.specs.Lists.{Each}
 use Rattle.pure_script.specs.Seen.{seen_theory}
 use Rattle.pure_graph.specs.Reading.{File}
-use Rattle.pure_graph.specs.Graph.{HasStood, Imports, named_imports}
+use Rattle.pure_graph.specs.Graph.{named_imports}
 use Rattle.pure_graph.specs.Order as spec
 use Rattle.pure_session.specs.Places.{place_in}
 use Rattle.pure_session.specs.declared.order.Waiting.{Waiting}

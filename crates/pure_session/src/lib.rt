@@ -4,11 +4,15 @@
 mod imports;
 mod judge;
 mod loading;
+mod names;
 mod order;
 mod place;
 mod reason;
+mod session;
 mod table;
+mod texts;
 
 pub use loading::{Theories, load_theories};
 pub use order::Loaded;
 pub use reason::RefusedFile;
+pub use session::{Session, load};

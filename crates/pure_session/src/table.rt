@@ -70,16 +70,11 @@ fn mark_all(row: &mut Vec<bool>, other: &[bool]) -> Result<(), AllocError>
 }
 
 /// The row, and what the place that has the other row leads to, if the row leads to that place.
-fn joined(
-    alloc: Global,
-    row: &[bool],
-    through: usize,
-    other: &[bool],
-) -> Result<Vec<bool>, AllocError>
-    ensures { IfOk result (λ all. IsJoined through other.now row.now all.items) }
+fn joined(row: Vec<bool>, through: usize, other: &[bool]) -> Result<Vec<bool>, AllocError>
+    ensures { IfOk result (λ all. IsJoined through other.now row.items all.items) }
 {
-    let mut all = Vec::from_slice(alloc, row)?;
-    if !has(row, through) {
+    let mut all = row;
+    if !has(all.as_slice(), through) {
         return Ok(all);
     }
     mark_all(&mut all, other)?;
@@ -97,13 +92,13 @@ fn row_of(alloc: Global, rows: &[Vec<bool>], place: usize) -> Result<Vec<bool>, 
 }
 
 /// The table in which each place leads also to where the one place leads, if it leads to that.
-fn pass(alloc: Global, rows: &[Vec<bool>], through: usize) -> Result<Vec<Vec<bool>>, AllocError>
-    ensures { IfOk result (λ passed. (i j : ℕ) → IsMarked (cells passed.items) i j ↔ (IsMarked (cells rows.now) i j ⊎ (IsMarked (cells rows.now) i through × IsMarked (cells rows.now) through j))) }
+fn pass(alloc: Global, rows: Vec<Vec<bool>>, through: usize) -> Result<Vec<Vec<bool>>, AllocError>
+    ensures { IfOk result (λ passed. (i j : ℕ) → IsMarked (cells passed.items) i j ↔ (IsMarked (cells rows.items) i j ⊎ (IsMarked (cells rows.items) i through × IsMarked (cells rows.items) through j))) }
 {
-    let other = row_of(alloc, rows, through)?;
+    let other = row_of(alloc, rows.as_slice(), through)?;
     let mut passed = Vec::new(alloc);
     for row in rows {
-        let row = joined(alloc, row.as_slice(), through, other.as_slice())?;
+        let row = joined(row, through, other.as_slice())?;
         passed.push(row)?;
     }
     Ok(passed)
@@ -116,7 +111,7 @@ pub(crate) fn close(alloc: Global, rows: Vec<Vec<bool>>) -> Result<Vec<Vec<bool>
     let count = rows.len();
     let mut closed = rows;
     for through in 0..count {
-        let next = pass(alloc, closed.as_slice(), through)?;
+        let next = pass(alloc, closed, through)?;
         closed = next;
     }
     Ok(closed)

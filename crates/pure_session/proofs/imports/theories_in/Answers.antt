@@ -1,4 +1,4 @@
-use Rattle.std.proofs.Common.{refl, ap, ◌++◌, ◌∷◌, []}
+use Rattle.std.proofs.Common.{refl, ap}
 use Rattle.pure_graph.specs.Seen.{seen_files}
 use Rattle.pure_session.specs.ImportGraph.{theories}
 use Rattle.pure_session.proofs.FoldLemmas.{rest_at, drop_past, fold-step, fold-end}

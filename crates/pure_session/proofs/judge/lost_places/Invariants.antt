@@ -1,5 +1,3 @@
-use Rattle.std.proofs.Common.{◌≡◌, ◌<◌, ℕ, length, get_or, true, MatchBool}
-use Rattle.pure_session.specs.ImportGraph.{IsLost}
 use Rattle.pure_session.specs.Places.{cells, is_marked}
 use Rattle.pure_session.proofs.JudgeLemmas.{AreLostBelow}
 use Rattle.pure_session.proofs.judge.lost_places.Given as goal

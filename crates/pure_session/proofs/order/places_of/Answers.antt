@@ -1,7 +1,7 @@
-use Rattle.std.proofs.Common.{refl, ap, map, ◌∙◌, sym}
+use Rattle.std.proofs.Common.{refl, ap, map}
 use Rattle.pure_graph.specs.Graph.{other_than_pure}
 use Rattle.pure_session.specs.Places.{place_in}
-use Rattle.pure_session.proofs.FoldLemmas.{rest_at, drop_past, fold-end}
+use Rattle.pure_session.proofs.FoldLemmas.{drop_past, fold-end}
 use Rattle.pure_session.proofs.order.places_of.Goals as goal
 
 pub loop-import-init : goal.loop-import-init

@@ -7,5 +7,4 @@ loop-through-init c = IsClosedBelow-none (is_marked (cells c.args.rows.items))
 
 pub loop-through-preserved : goal.loop-through-preserved
 loop-through-preserved c =
-    IsClosedBelow-step (is_marked (cells c.args.rows.items)) (is_marked (cells c.loop-through.closed.items)) (is_marked (cells c.in_ok-next.next.items)) c.loop-through.through c.loop-through.invariant
-    (rw c.as_slice.ensures.value at c.in_ok-next.ensures)
+    IsClosedBelow-step (is_marked (cells c.args.rows.items)) (is_marked (cells c.loop-through.closed.items)) (is_marked (cells c.in_ok-next.next.items)) c.loop-through.through c.loop-through.invariant c.in_ok-next.ensures

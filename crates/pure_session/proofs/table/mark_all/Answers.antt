@@ -1,5 +1,4 @@
-use Rattle.std.proofs.Common.{take, sym}
-use Rattle.pure_session.proofs.TableLemmas.{HasMarksOf-none, HasMarksOf-turn, HasMarksOf-all}
+use Rattle.pure_session.proofs.TableLemmas.{HasMarksOf-turn}
 use Rattle.pure_session.proofs.table.mark_all.Goals as goal
 
 pub loop-place-preserved : goal.loop-place-preserved

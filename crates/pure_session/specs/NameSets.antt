@@ -1,0 +1,13 @@
+-- Sets of texts, and what goes into them.
+use Rattle.std.specs.Prelude.{◌⊎◌, ◌↔◌, ℕ, List, map, Vec}
+use Rattle.std.specs.BTreeSet.{BTreeSet}
+use Rattle.std.specs.declared.alloc.Global.{Global}
+use Rattle.pure_text.specs.Lists.{IsIn}
+
+-- the texts of the set, in its order
+abbrev pub texts_in : BTreeSet (Vec ℕ Global) → List (List ℕ)
+texts_in set = map (λ (key : Vec ℕ Global). key.items) set.keys
+
+-- The second set has what the first has, and the texts with the property.
+pub record Gains (old new : BTreeSet (Vec ℕ Global)) (P : List ℕ → Type 0) : Type 0 where
+  pub texts : (t : List ℕ) → IsIn t (texts_in new) ↔ (IsIn t (texts_in old) ⊎ P t)

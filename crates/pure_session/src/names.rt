@@ -1,0 +1,148 @@
+//! The names of a session.
+ghost use Rattle.std.specs.Prelude.{◌≡◌, ◌≢◌, ◌↔◌, ◌∷◌, ◌++◌, ℕ, List, [], codes, slice_get, IfOk, OnOk, Some};
+ghost use Rattle.std.specs.List.Sorted.{IsStrictlySortedBy};
+ghost use Rattle.std.specs.Ordering.{nat_cmp};
+ghost use Rattle.std.specs.Cmp.Lexicographic.{slice_cmp};
+ghost use Rattle.pure_text.specs.Lists.{IsIn, AnyOf};
+ghost use Rattle.pure_script.specs.Seen.{seen_command, seen_commands};
+ghost use Rattle.pure_typ.specs.NameTexts.{builtin_texts};
+ghost use Rattle.pure_graph.specs.SessionNames.{full_name, full_names, IsGiven, AreNames};
+ghost use Rattle.pure_session.specs.NameSets.{texts_in, Gains};
+ghost use Rattle.pure_session.specs.Plain.{ArePlain};
+ghost use Rattle.pure_session.specs.Waiting.{seen_loaded, all_loaded};
+
+use crate::order::Loaded;
+use crate::reason::joined;
+use crate::texts::{put, put_source};
+use pure_script::Command;
+use pure_text::Text;
+use pure_typ::Names;
+use std::alloc::{AllocError, Global};
+use std::collections::BTreeSet;
+
+/// Names are fewer than these.
+const MOST_TEXTS: usize = 2_147_483_648;
+
+/// Puts the full name of what a theory declares into the set.
+fn put_full(
+    alloc: Global,
+    texts: &mut BTreeSet<Vec<u8>>,
+    theory: &Text,
+    name: &[u8],
+) -> Result<(), AllocError>
+    ensures { OnOk result (Gains texts.old texts.new (λ t. IsIn t (full_name theory.now name.now ∷ []))) }
+{
+    let front = joined(alloc, theory.bytes(), b".")?;
+    let text = joined(alloc, front.bytes(), name)?;
+    put(alloc, texts, text.bytes())?;
+    Ok(())
+}
+
+/// Puts the full name of a definition and that of its fact into the set.
+fn put_definition(
+    alloc: Global,
+    texts: &mut BTreeSet<Vec<u8>>,
+    theory: &Text,
+    name: &Text,
+) -> Result<(), AllocError>
+    ensures { OnOk result (Gains texts.old texts.new (λ t. IsIn t (full_name theory.now name.now ∷ full_name theory.now (name.now ++ codes "_def") ∷ []))) }
+{
+    let fact = joined(alloc, name.bytes(), b"_def")?;
+    put_full(alloc, texts, theory, name.bytes())?;
+    put_full(alloc, texts, theory, fact.bytes())?;
+    Ok(())
+}
+
+/// Puts the full names that a command declares into the set.
+fn put_command(
+    alloc: Global,
+    texts: &mut BTreeSet<Vec<u8>>,
+    theory: &Text,
+    command: &Command,
+) -> Result<(), AllocError>
+    ensures { OnOk result (Gains texts.old texts.new (λ t. IsIn t (full_names theory.now (seen_command command.now)))) }
+{
+    match command {
+        Command::Class { name, .. } => put_full(alloc, texts, theory, name.bytes()),
+        Command::TypeDecl { name, .. } => put_full(alloc, texts, theory, name.bytes()),
+        Command::Arity { .. } => Ok(()),
+        Command::Const { name, .. } => put_full(alloc, texts, theory, name.bytes()),
+        Command::Axiom { name, .. } => put_full(alloc, texts, theory, name.bytes()),
+        Command::Definition { name, .. } => put_definition(alloc, texts, theory, name),
+        Command::Lemma { name, .. } => put_full(alloc, texts, theory, name.bytes()),
+    }
+}
+
+/// Puts the full names that some commands declare into the set.
+fn put_commands(
+    alloc: Global,
+    texts: &mut BTreeSet<Vec<u8>>,
+    theory: &Text,
+    commands: &[Command],
+) -> Result<(), AllocError>
+    ensures { OnOk result (Gains texts.old texts.new (λ t. AnyOf (λ command. IsIn t (full_names theory.now command)) (seen_commands commands.now))) }
+{
+    for command in commands {
+        put_command(alloc, texts, theory, command)?;
+    }
+    Ok(())
+}
+
+/// Puts the texts that a theory gives into the set.
+fn put_theory(
+    alloc: Global,
+    texts: &mut BTreeSet<Vec<u8>>,
+    loaded: &Loaded,
+) -> Result<(), AllocError>
+    ensures { OnOk result (Gains texts.old texts.new (IsGiven (seen_loaded loaded.now))) }
+{
+    put_source(alloc, texts, loaded.source.bytes())?;
+    put_commands(alloc, texts, &loaded.name, loaded.text.commands.as_slice())?;
+    Ok(())
+}
+
+/// The texts that the theories give.
+fn texts_of(alloc: Global, theories: &[Loaded]) -> Result<BTreeSet<Vec<u8>>, AllocError>
+    ensures { IfOk result (λ texts. (t : List ℕ) → IsIn t (texts_in texts) ↔ AnyOf (λ loaded. IsGiven loaded t) (all_loaded theories.now)) }
+{
+    let mut texts = BTreeSet::new(alloc);
+    for loaded in theories {
+        put_theory(alloc, &mut texts, loaded)?;
+    }
+    Ok(texts)
+}
+
+/// The texts of the set, in byte order.
+fn listed(alloc: Global, texts: &BTreeSet<Vec<u8>>) -> Result<Vec<Text>, AllocError>
+    ensures texts { IfOk result (λ list. list.items ≡ texts_in texts.now) }
+    ensures ascend { IfOk result (λ list. IsStrictlySortedBy (slice_cmp nat_cmp) list.items) }
+{
+    let mut list = Vec::new(alloc);
+    for text in texts.iter() {
+        list.push(Text::make(alloc, text.as_slice())?)?;
+    }
+    Ok(list)
+}
+
+/// The names with these texts, if they aren't too many; else memory fails.
+fn named(alloc: Global, texts: &BTreeSet<Vec<u8>>) -> Result<Names, AllocError>
+    requires { (m n : ℕ) (text : List ℕ) → slice_get builtin_texts m ≡ Some text → slice_get (texts_in texts.now) n ≢ Some text }
+    ensures same { IfOk result (λ names. names ≡ texts_in texts.now) }
+    ensures ascend { IfOk result (λ names. IsStrictlySortedBy (slice_cmp nat_cmp) names) }
+{
+    let list = listed(alloc, texts)?;
+    if list.len() >= MOST_TEXTS {
+        return Err(AllocError);
+    }
+    Ok(Names::make(list))
+}
+
+/// The names of the session of these theories.
+pub(crate) fn names_of(alloc: Global, theories: &[Loaded]) -> Result<Names, AllocError>
+    requires { ArePlain (all_loaded theories.now) }
+    ensures { IfOk result (λ names. AreNames (all_loaded theories.now) names) }
+{
+    let texts = texts_of(alloc, theories)?;
+    let names = named(alloc, &texts)?;
+    Ok(names)
+}
