@@ -6,7 +6,7 @@ use Rattle.pure_text.proofs.ListLaws.{each_of, each_at, each-append, each-left, 
 use Rattle.pure_text.proofs.LoopLaws.{longer_by, two_turn}
 use Rattle.pure_typ.specs.SortUnion.{IsSortUnion}
 use Rattle.pure_definitions.specs.Types.Typ.{Typ, TFree, TVar, Con, Typs, typs_of}
-use Rattle.pure_definitions.specs.Types.Order.{Algebra, HasClassBelow, IsSortBelow, IsOfClass, IsOfSort, AreOfSorts}
+use Rattle.pure_definitions.specs.Types.Order.{Algebra, IsSortBelow, IsOfClass, IsOfSort, AreOfSorts}
 use Rattle.pure_definitions.specs.Terms.Subst.{typ_instance}
 use Rattle.pure_definitions.proofs.InstanceLemmas.{typs_instance-of}
 use Rattle.pure_order.proofs.DomainLaws.{are_of_sorts}
@@ -14,7 +14,7 @@ use Rattle.pure_order.proofs.WalkLaws.{sort_turn}
 use Rattle.pure_tunify.specs.declared.asks.Asked.{Asked}
 use Rattle.pure_tunify.specs.Occurrences.{schematics, schematics_of}
 use Rattle.pure_tunify.specs.Asking.{asked_variable}
-use Rattle.pure_tunify.specs.Asks.{AreUnions, AreAskedOfArguments, HasNoSuchArguments, IsMet, AreAsked, HasNoInstance, AskMore, AreOfEach, AllAskMore, HaveNoInstances, IsMeet}
+use Rattle.pure_tunify.specs.Asks.{AreUnions, AreAskedOfArguments, HasNoSuchArguments, IsMet, AreAsked, HasNoInstance, AskMore, AreOfEach, AllAskMore, HaveNoInstances}
 
 -- A type is of a union exactly where it is of both sorts.
 pub of_union : (A : Algebra) (t : Typ) (s r u : List ℕ) → IsSortUnion s r u → IsOfSort A t u ↔ (IsOfSort A t s × IsOfSort A t r)
@@ -22,14 +22,6 @@ of_union A t s r u is = (
   λ h. (each_of (IsOfClass A t) s (λ c m. each_at (IsOfClass A t) u h c ((is.members c).1 (inl m))), each_of (IsOfClass A t) r (λ c m. each_at (IsOfClass A t) u h c ((is.members c).1 (inr m)))),
   λ w. each_of (IsOfClass A t) u (λ c m. elim ((is.members c).0 m) [ inl n ↦ each_at (IsOfClass A t) s w.0 c n | inr n ↦ each_at (IsOfClass A t) r w.1 c n ]),
 )
-
--- A sort with the same types as a union is the greatest below both sorts.
-pub meet_of_union : (A : Algebra) (s r u reduced : List ℕ) → IsSortUnion s r u → IsSortBelow A reduced u → IsSortBelow A u reduced → ((t : Typ) (p q : List ℕ) → IsOfSort A t p → IsSortBelow A p q → IsOfSort A t q) → IsMeet A s r reduced
-meet_of_union A s r u reduced is below above up = record {
-  left_above = each_of (HasClassBelow A reduced) s (λ c m. each_at (HasClassBelow A reduced) u below c ((is.members c).1 (inl m)));
-  right_above = each_of (HasClassBelow A reduced) r (λ c m. each_at (HasClassBelow A reduced) u below c ((is.members c).1 (inr m)));
-  greatest = λ t h k. up t u reduced ((of_union A t s r u is).1 (h, k)) above;
-}
 
 unions-snoc : (ss rs us : List (List ℕ)) (s r u : List ℕ) → AreUnions ss rs us → IsSortUnion s r u → AreUnions (ss ++ s ∷ []) (rs ++ r ∷ []) (us ++ u ∷ [])
 unions-snoc [] [] [] s r u h is = (is, tt)

@@ -1,5 +1,5 @@
 -- All that is asked of one variable, and the first variable of which more is asked than its own sort.
-use Rattle.std.proofs.Common.{◌≡◌, ℕ, ◌+◌, ◌<◌, ◌≤◌, List, [], length, get_or, take, take_all, drop, inl, inr, ◌⊎◌, ◌↔◌, refl, sym, subst, ◌∙◌, Bool, true, false, IsTrue}
+use Rattle.std.proofs.Common.{◌≡◌, ℕ, ◌+◌, ◌<◌, ◌≤◌, List, length, get_or, take, take_all, drop, inl, inr, ◌⊎◌, ◌↔◌, sym, subst, ◌∙◌, Bool, true, false, IsTrue}
 use Rattle.pure_text.specs.Lists.{IsIn, Each}
 use Rattle.pure_text.proofs.ListLaws.{each_of, each_at, any_of, any_some, split_at}
 use Rattle.pure_text.proofs.LoopLaws.{any_turn}

@@ -1,10 +1,10 @@
 -- The index above those of types is that of no variable of them.
-use Rattle.std.proofs.Common.{◌≡◌, ℕ, ◌+◌, ◌<◌, ◌≤◌, List, [], ◌∷◌, length, get_or, take, zero, suc, max, inl, inr, refl, sym, subst, ◌∙◌, arith}
+use Rattle.std.proofs.Common.{◌≡◌, ℕ, ◌+◌, ◌<◌, ◌≤◌, List, [], ◌∷◌, length, get_or, take, zero, suc, max, inl, inr, arith}
 use Rattle.pure_text.specs.Lists.{Each}
 use Rattle.pure_definitions.specs.Types.Typ.{Typ, TFree, TVar, Con, Typs, none, also, typs_of}
 use Rattle.pure_definitions.specs.Types.Occurs.{OccursInTyp, OccursInTyps}
 use Rattle.pure_tunify.specs.declared.pair.TypPair.{TypPair}
-use Rattle.pure_tunify.specs.Unifiers.{IsFresh, IsOld, IsOldPair}
+use Rattle.pure_tunify.specs.Unifiers.{IsOld, IsOldPair}
 use Rattle.pure_tunify.specs.Answers.{index_above, index_above_all, index_above_pairs}
 
 variable_fixed : (x i y : ℕ) (s r : List ℕ) → TVar x i s ≡ TFree y r → ⊥
@@ -28,17 +28,17 @@ mutual
   below_index_all x i s (also t ts) (inl o) = let here = below_index x i s t o in omega arith
   below_index_all x i s (also t ts) (inr o) = let there = below_index_all x i s ts o in omega arith
 
-old_above : (index : ℕ) (t : Typ) → index_above t ≤ index → IsOld index 0 t
-old_above index t le (TVar x i s) o f = let below = below_index x i s t o in let same = f.0 in absurd (omega arith)
-old_above index t le (TFree x s) o f = f
-old_above index t le (Con k ts) o f = f
+old_above : (index from : ℕ) (t : Typ) → index_above t ≤ index → IsOld index from t
+old_above index from t le (TVar x i s) o f = let below = below_index x i s t o in let same = f.0 in absurd (omega arith)
+old_above index from t le (TFree x s) o f = f
+old_above index from t le (Con k ts) o f = f
 
-old_pairs_above : (index : ℕ) (ps : List TypPair) → index_above_pairs ps ≤ index → Each (IsOldPair index 0) ps
-old_pairs_above index [] le = tt
-old_pairs_above index (p ∷ ps) le = ((old_above index p.left (omega arith), old_above index p.right (omega arith)), old_pairs_above index ps (omega arith))
+old_pairs_above : (index from : ℕ) (ps : List TypPair) → index_above_pairs ps ≤ index → Each (IsOldPair index from) ps
+old_pairs_above index from [] le = tt
+old_pairs_above index from (p ∷ ps) le = ((old_above index from p.left (omega arith), old_above index from p.right (omega arith)), old_pairs_above index from ps (omega arith))
 
-pub above_pairs_old : (index : ℕ) (ps : List TypPair) → index ≡ index_above_pairs ps → Each (IsOldPair index 0) ps
-above_pairs_old index ps e = old_pairs_above index ps (omega arith)
+pub above_pairs_old : (index from : ℕ) (ps : List TypPair) → index ≡ index_above_pairs ps → Each (IsOldPair index from) ps
+above_pairs_old index from ps e = old_pairs_above index from ps (omega arith)
 
 -- One type more of a list.
 pub index_above-take : (ts : List Typ) (i : ℕ) (t : Typ) → i < length ts → t ≡ get_or ts i t → index_above_all (typs_of (take (i + 1) ts)) ≡ max (index_above_all (typs_of (take i ts))) (index_above t)

@@ -16,3 +16,9 @@ pub mod TreatLaws
 pub mod WorkLaws
 pub mod MeetingLaws
 pub mod OneAnswerLaws
+pub mod DecidedLaws
+pub mod ReducedLaws
+pub mod AskedLaws
+pub mod NarrowableLaws
+pub mod OutcomeLaws
+pub mod WritingLaws

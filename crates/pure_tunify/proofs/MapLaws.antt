@@ -10,19 +10,10 @@ use Rattle.pure_definitions.proofs.OrderLaws.{sort_below-itself, of_sort-instanc
 use Rattle.pure_definitions.proofs.EntryLemmas.{chosen}
 use Rattle.pure_term_laws.specs.LawsOccurs.{IsTypVariable}
 use Rattle.pure_term_laws.proofs.OccursLaws.{typ_instances-agree, typ_variable_of_typ_instance}
+use Rattle.pure_term_laws.proofs.MapLaws.{typ_instance-again}
 use Rattle.pure_tunify.specs.declared.pair.TypPair.{TypPair}
 use Rattle.pure_tunify.specs.Unifiers.{IsSubstitution, Equates, IsFresh, IsOld, IsOldPair, AreTogether}
 use Rattle.pure_tunify.specs.Steps.{setting, instance_pair}
-
-mutual
-  pub typ_instance-after : (first second : Typ → Typ) (t : Typ) → typ_instance second (typ_instance first t) ≡ typ_instance (λ v. typ_instance second (first v)) t
-  typ_instance-after first second (TFree x s) = refl
-  typ_instance-after first second (TVar x i s) = refl
-  typ_instance-after first second (Con k ts) = ap (Con k) (typs_instance-after first second ts)
-
-  typs_instance-after : (first second : Typ → Typ) (ts : Typs) → typs_instance second (typs_instance first ts) ≡ typs_instance (λ v. typ_instance second (first v)) ts
-  typs_instance-after first second none = refl
-  typs_instance-after first second (also t ts) = λ l. also (typ_instance-after first second t l) (typs_instance-after first second ts l)
 
 mutual
   pub typ_instance-nothing_first : (second : Typ → Typ) (t : Typ) → typ_instance (λ v. typ_instance second v) t ≡ typ_instance second t
@@ -132,7 +123,7 @@ together-at A index n first second both f g b h (Con k ts) is new = absurd is
 pub together : (A : Algebra) (index n : ℕ) (first second both : Typ → Typ) → IsSubstitution A first → IsSubstitution A second → IsSubstitution A both → AreTogether index n first second both
     → (t : Typ) → IsOld index n t → typ_instance second (typ_instance first t) ≡ typ_instance both t
 together A index n first second both f g b h t old =
-    typ_instance-after first second t
+    typ_instance-again first second t
     ∙ typ_instances-agree (λ v. typ_instance second (first v)) both t (λ v is o. together-at A index n first second both f g b h v is (old v o))
 
 pub equates-forth : (A : Algebra) (index n : ℕ) (first second both : Typ → Typ) → IsSubstitution A first → IsSubstitution A second → IsSubstitution A both → AreTogether index n first second both
@@ -145,7 +136,7 @@ equates-forth A index n first second both f g b h (p ∷ ps) old e = (
 
 pub equates-back : (first second : Typ → Typ) (ps : List TypPair) → Each (Equates second) (map (instance_pair first) ps) → Each (Equates (λ v. typ_instance second (first v))) ps
 equates-back first second [] e = tt
-equates-back first second (p ∷ ps) e = (sym (typ_instance-after first second p.left) ∙ (e.0 ∙ typ_instance-after first second p.right), equates-back first second ps e.1)
+equates-back first second (p ∷ ps) e = (sym (typ_instance-again first second p.left) ∙ (e.0 ∙ typ_instance-again first second p.right), equates-back first second ps e.1)
 
 pub equates-nothing_first : (second : Typ → Typ) (ps : List TypPair) → Each (Equates second) ps → Each (Equates (λ v. typ_instance second v)) ps
 equates-nothing_first second [] e = tt

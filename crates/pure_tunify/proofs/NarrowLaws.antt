@@ -1,29 +1,27 @@
 -- Narrowing: the first variable of which more is asked, and a type in which it is replaced by a fresh one.
-use Rattle.std.proofs.Common.{◌≡◌, ℕ, ◌+◌, ◌≤◌, List, [], ◌∷◌, ◌++◌, map, inl, inr, ◌⊎◌, ◌↔◌, refl, ap, sym, subst, ◌∙◌, arith, Bool, true, false, cond, append_assoc}
+use Rattle.std.proofs.Common.{◌≡◌, ℕ, ◌+◌, List, [], ◌∷◌, ◌++◌, map, inl, inr, ◌⊎◌, refl, ap, sym, subst, ◌∙◌, arith, Bool, true, false, cond, append_assoc}
 use Rattle.std.proofs.lemmas.List.{append-nil}
-use Rattle.pure_text.specs.Lists.{IsIn, Each, AnyOf}
-use Rattle.pure_text.proofs.ListLaws.{each_of, each_at, each_imply, each-append, any_of, any_some, any_imply, in_split, in-append_left, in-append_right}
+use Rattle.pure_text.specs.Lists.{IsIn, Each}
+use Rattle.pure_text.proofs.ListLaws.{each_of, each_at, each_imply, each-append, any_of, any_some, any_imply, in_split, in-append_right}
 use Rattle.pure_definitions.specs.Types.Typ.{Typ, TFree, TVar, Con, Typs, none, also, typ_eq}
 use Rattle.pure_definitions.specs.Types.Occurs.{OccursInTyp, OccursInTyps}
 use Rattle.pure_definitions.specs.Types.Order.{Algebra, IsClassBelow, itself, HasClassBelow, IsSortBelow, IsOfClass, IsOfSort}
-use Rattle.pure_definitions.specs.Terms.Subst.{TypBind, typ_variable, typ_image, typ_instance}
+use Rattle.pure_definitions.specs.Terms.Subst.{TypBind, typ_variable, typ_instance}
 use Rattle.pure_definitions.specs.Models.Equality.{typ_eq-same}
 use Rattle.pure_definitions.proofs.OrderLaws.{below-trans, of_class_up}
-use Rattle.pure_definitions.proofs.TypsLemmas.{occurs-itself}
-use Rattle.pure_term_laws.specs.LawsOccurs.{IsTypVariable}
 use Rattle.pure_tunify.specs.declared.asks.Asked.{Asked}
 use Rattle.pure_tunify.specs.Unifiers.{IsSubstitution, IsFresh, IsOld, AreTogether}
 use Rattle.pure_tunify.specs.Occurrences.{schematics, schematics_of}
 use Rattle.pure_tunify.specs.Asks.{AreAsked, HasNoInstance}
 use Rattle.pure_tunify.specs.Steps.{setting}
-use Rattle.pure_tunify.specs.Settings.{composed, bind, IsOldBind, Progress, IsTidy}
+use Rattle.pure_tunify.specs.Settings.{bind, IsOldBind, Progress, IsTidy}
 use Rattle.pure_tunify.specs.Procedure.{IsNeeded, NeedsNoMore, IsNeededSort, IsFirstToNarrow, Narrows, fits, replace}
 use Rattle.pure_tunify.specs.Asking.{asked_variable, IsAskedClass, IsOwnOrAsked, AsksNoMore, IsUnionAsked, IsFirstAsking}
-use Rattle.pure_tunify.specs.Working.{IsFreeOf, IsFurther, IsNarrowing, IsNarrowed}
+use Rattle.pure_tunify.specs.Working.{IsFreeOf, IsNarrowing, IsNarrowed}
 use Rattle.pure_tunify.specs.NarrowingStep.{IsToNarrow}
 use Rattle.pure_tunify.proofs.MapLaws.{setting-cases, setting_is_substitution, changed, changed-cases, changed-itself, changed_is_substitution, fresh-later, variable_is_old, old-instance, together}
 use Rattle.pure_tunify.proofs.MeetLaws.{each_is_asked, nothing_to_narrow, asked_classes, meeting, meeting_is_substitution, meeting_meets}
-use Rattle.pure_tunify.proofs.SettingLaws.{variable_occurs, setting-new, setting-away, tidy-snoc}
+use Rattle.pure_tunify.proofs.SettingLaws.{setting-new, setting-away, tidy-snoc}
 
 -- A class among those that are asked of a variable is asked of it somewhere.
 asked_somewhere : (v : Typ) (asked : List Asked) (c : ℕ) → IsIn c (asked_classes v asked) → IsAskedClass v asked c
@@ -103,7 +101,7 @@ module _ (A : Algebra) (t : Typ) (s : List ℕ) (asked : List Asked) (are : AreA
 
 -- A schematic variable of a type occurs in it.
 mutual
-  schematics_occur : (v t : Typ) → IsIn v (schematics t) → OccursInTyp v t
+  pub schematics_occur : (v t : Typ) → IsIn v (schematics t) → OccursInTyp v t
   schematics_occur v (TFree x s) m = absurd m
   schematics_occur v (TVar x i s) (inl e) = e
   schematics_occur v (TVar x i s) (inr m) = absurd m
@@ -183,11 +181,21 @@ module _ (A : Algebra) (p : Progress) (t : Typ) (s : List ℕ) (y j : ℕ) (q r 
       (λ e. changed-itself fresh (typs (TVar y j q)) typs ∙ ap typs e)
       (changed-cases (λ T. T ≡ typs (TVar z k o)) fresh (typs (TVar y j q)) typs (TVar z k o) (λ e. absurd (h (is_fresh_of p.index p.next (TVar z k o) r e))) refl)
 
+  -- Of a variable that isn't fresh no more is needed than before, and of the fresh one what was needed of the one that it replaces.
+  of_sort_later : (typs : Typ → Typ) → (v : IsSubstitution A typs) → (of : IsOfSort A (typ_instance typs t) s) → IsOfSort A (typ_instance (changed (TVar p.next p.index r) (typs (TVar y j q)) typs) replaced) s
+  of_sort_later typs v of = subst (λ (T : Typ). IsOfSort A T s) (sym (together A p.index p.next (setting y j q fresh) (changed (TVar p.next p.index r) (typs (TVar y j q)) typs) typs sub (further_substitution typs v of) v (same typs) t old)) of
+
+  pub needed_later : (v : Typ) (c : ℕ) → ¬ IsFresh p.index p.next v → IsNeeded A replaced s v c → IsNeeded A t s v c
+  needed_later v c new k typs sub_of of = subst (λ (T : Typ). IsOfClass A T c)
+      (changed-cases (λ T. T ≡ typs v) fresh (typs (TVar y j q)) typs v (λ e. absurd (new (is_fresh_of p.index p.next v r e))) refl)
+      (k (changed (TVar p.next p.index r) (typs (TVar y j q)) typs) (further_substitution typs sub_of of) (of_sort_later typs sub_of of))
+
+  pub needed_of_fresh : (c : ℕ) → IsNeeded A replaced s fresh c → IsNeeded A t s (TVar y j q) c
+  needed_of_fresh c k typs sub_of of = subst (λ (T : Typ). IsOfClass A T c) (changed-itself fresh (typs (TVar y j q)) typs)
+      (k (changed (TVar p.next p.index r) (typs (TVar y j q)) typs) (further_substitution typs sub_of of) (of_sort_later typs sub_of of))
+
   none_before : HasNoInstance A replaced s → HasNoInstance A t s
-  none_before never typs v of =
-      let next = further_substitution typs v of in
-      never (changed (TVar p.next p.index r) (typs (TVar y j q)) typs) next
-      (subst (λ (T : Typ). IsOfSort A T s) (sym (together A p.index p.next (setting y j q fresh) (changed (TVar p.next p.index r) (typs (TVar y j q)) typs) typs sub next v (same typs) t old)) of)
+  none_before never typs v of = never (changed (TVar p.next p.index r) (typs (TVar y j q)) typs) (further_substitution typs v of) (of_sort_later typs v of)
 
   pub replaced_narrowing : IsNarrowing A s p after t replaced
   replaced_narrowing = record {

@@ -1,5 +1,5 @@
 -- The procedure comes to one outcome at most.
-use Rattle.std.proofs.Common.{◌≡◌, ℕ, ◌+◌, ◌<◌, List, [], ◌∷◌, ◌++◌, length, suc, zero, Some, None, inl, inr, refl, sym, subst, ◌∙◌, arith}
+use Rattle.std.proofs.Common.{◌≡◌, ℕ, ◌+◌, ◌<◌, List, [], ◌∷◌, ◌++◌, suc, Some, None, inl, inr, refl, sym, subst, ◌∙◌, arith}
 use Rattle.std.specs.List.Sorted.{IsStrictlyIncreasing}
 use Rattle.pure_text.specs.Lists.{IsIn, Each}
 use Rattle.pure_text.proofs.ListLaws.{each_of, each_at, any_of, any_some}
@@ -10,13 +10,14 @@ use Rattle.pure_definitions.specs.Terms.Subst.{TypBind, typ_instance}
 use Rattle.pure_definitions.proofs.OrderLaws.{below-trans}
 use Rattle.pure_order_tables.specs.Classes.{IsAntisymmetric}
 use Rattle.pure_term_laws.proofs.SubstLaws.{typ_instance-identity}
+use Rattle.pure_term_laws.proofs.MapLaws.{typ_instance-again}
 use Rattle.pure_tunify.specs.declared.pair.TypPair.{TypPair}
 use Rattle.pure_tunify.specs.Unifiers.{IsSubstitution}
 use Rattle.pure_tunify.specs.Asks.{HasNoInstance}
-use Rattle.pure_tunify.specs.Steps.{pair, setting, instance_pair}
+use Rattle.pure_tunify.specs.Steps.{setting, instance_pair}
 use Rattle.pure_tunify.specs.Settings.{composed, bind, AreWithinLimits}
-use Rattle.pure_tunify.specs.Procedure.{place_of, IsSchematic, Shows, left_side, right_side, IsNeeded, NeedsNoMore, IsNeededSort, IsFirstToNarrow, Narrows, fits, replace, IsTreated, IsBlocked, rigid, occurring, sortless, Equalises, equal, treat, Blocks, blocked, later, Outcome, Unified, NotTyped, TooBig, Unifies, over, no_typing, big, next}
-use Rattle.pure_tunify.proofs.MapLaws.{typ_instance-after, identity_is_substitution, after_is_substitution, setting_is_substitution}
+use Rattle.pure_tunify.specs.Procedure.{place_of, IsSchematic, Shows, left_side, right_side, NeedsNoMore, IsNeededSort, IsFirstToNarrow, Narrows, fits, replace, IsTreated, IsBlocked, rigid, occurring, sortless, Equalises, equal, treat, Blocks, blocked, later, Outcome, Unifies, over, no_typing, big, next}
+use Rattle.pure_tunify.proofs.MapLaws.{identity_is_substitution, after_is_substitution, setting_is_substitution}
 
 rises_behind : (x : ℕ) (xs : List ℕ) → IsStrictlyIncreasing (x ∷ xs) → IsStrictlyIncreasing xs
 rises_behind x xs rises k within = let later : suc k + 1 ≡ suc (k + 1) = omega arith in rw later at (rises (suc k) (omega arith))
@@ -101,7 +102,7 @@ module _ (A : Algebra) (anti : IsAntisymmetric A) (index : ℕ) where
   narrows_instance : (s : List ℕ) {n m : ℕ} {t u : Typ} {xs : List TypBind} → Narrows A index s n t xs m u → ¬ HasNoInstance A t s
   narrows_instance s (fits {t = t} of) never = never (λ v. v) (identity_is_substitution A) (subst (λ (T : Typ). IsOfSort A T s) (sym (typ_instance-identity t)) of)
   narrows_instance s (replace {n = n} {t = t} y j q r first need rest) never = narrows_instance s rest (λ typs sub of.
-      never (λ v. typ_instance typs (setting y j q (TVar n index r) v)) (after_is_substitution A (setting y j q (TVar n index r)) typs set sub) (subst (λ (T : Typ). IsOfSort A T s) (typ_instance-after (setting y j q (TVar n index r)) typs t) of))
+      never (λ v. typ_instance typs (setting y j q (TVar n index r) v)) (after_is_substitution A (setting y j q (TVar n index r)) typs set sub) (subst (λ (T : Typ). IsOfSort A T s) (typ_instance-again (setting y j q (TVar n index r)) typs t) of))
     where
       set : IsSubstitution A (setting y j q (TVar n index r))
       set = setting_is_substitution A y j q (TVar n index r) (each_of (HasClassBelow A r) q (λ c m. (need.needed c).1 (λ typs v of. each_at (IsOfClass A (typs (TVar y j q))) q (v.respects.schematic y j q) c m)))

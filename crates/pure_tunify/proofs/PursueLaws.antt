@@ -1,5 +1,5 @@
 -- What is left of a pair that is being made equal.
-use Rattle.std.proofs.Common.{◌≡◌, ◌≢◌, ℕ, ◌+◌, ◌≤◌, List, [], ◌∷◌, ◌++◌, map, length, Option, Some, None, inl, inr, ◌⊎◌, refl, ap, sym, subst, ◌∙◌, arith, Bool, true, false, append_assoc}
+use Rattle.std.proofs.Common.{◌≡◌, ◌≢◌, ℕ, List, [], ◌∷◌, ◌++◌, map, length, Option, Some, None, inl, inr, ◌⊎◌, refl, ap, sym, subst, ◌∙◌, arith, Bool, true, false, append_assoc}
 use Rattle.std.specs.Prelude.{MatchBool}
 use Rattle.std.proofs.lemmas.List.{append-nil}
 use Rattle.pure_text.specs.Lists.{IsIn, Each}
@@ -7,19 +7,18 @@ use Rattle.pure_text.proofs.ListLaws.{each_imply, each-append}
 use Rattle.pure_definitions.specs.Types.Typ.{Typ, TFree, TVar, Con, Typs, typs_of, typs_count}
 use Rattle.pure_definitions.specs.Types.Occurs.{OccursInTyp, OccursInTyps}
 use Rattle.pure_definitions.specs.Types.Order.{Algebra}
-use Rattle.pure_definitions.specs.Terms.Subst.{TypBind, typ_variable, typ_instance, typs_instance, KeepsFixedTyps}
+use Rattle.pure_definitions.specs.Terms.Subst.{TypBind, typ_variable, typ_instance, typs_instance}
 use Rattle.pure_term_laws.specs.LawsOccurs.{IsTypVariable}
 use Rattle.pure_term_laws.proofs.SubstLaws.{typ_instance-identity}
+use Rattle.pure_term_laws.proofs.MapLaws.{typ_instance-again, typs_count-instance}
 use Rattle.pure_tunify.specs.declared.pair.TypPair.{TypPair}
 use Rattle.pure_tunify.specs.Unifiers.{IsFresh, IsOld, IsOldPair}
 use Rattle.pure_tunify.specs.Asks.{HasNoInstance}
 use Rattle.pure_tunify.specs.Steps.{pair, instance_pair}
 use Rattle.pure_tunify.specs.Settings.{composed, bind, Progress}
-use Rattle.pure_tunify.specs.Procedure.{sooner, difference, differences, place_of, IsSchematic, Shows, left_side, right_side, IsTreated, IsBlocked, rigid, occurring, sortless, Equalises, equal, treat, Blocks, blocked, later}
-use Rattle.pure_tunify.specs.Working.{IsFurther, IsSet, IsSetTo, CannotBeSetTo, place_among, pairs_along, IsLeftOf, Pursues}
+use Rattle.pure_tunify.specs.Procedure.{sooner, difference, differences, place_of, IsSchematic, left_side, right_side, IsTreated, IsBlocked, rigid, occurring, sortless, Equalises, equal, treat, Blocks, blocked, later}
+use Rattle.pure_tunify.specs.Working.{IsFurther, IsSetTo, CannotBeSetTo, place_among, pairs_along, IsLeftOf, Pursues}
 use Rattle.pure_tunify.specs.Meeting.{HaveArguments, HaveNoArguments, AreApart, GoesOn, Stops, IsTurn}
-use Rattle.pure_tunify.proofs.MapLaws.{typ_instance-after}
-use Rattle.pure_tunify.proofs.StepLaws.{typs_count-instance}
 use Rattle.pure_tunify.proofs.PlaceLaws.{difference-itself, difference-arguments, difference-constructors, difference-left_variable, difference-left_fixed}
 use Rattle.pure_tunify.proofs.SettingLaws.{instance-append, instance_pair-append, instance_pairs-identity, composed-fixed, composed-absent, old_pair-later}
 
@@ -49,7 +48,7 @@ count-instance f (t ∷ ts) (u ∷ us) same = let rest = count-instance f ts us 
 
 pub pairs_after : (f g : Typ → Typ) (ps : List TypPair) → map (instance_pair g) (map (instance_pair f) ps) ≡ map (instance_pair (λ v. typ_instance g (f v))) ps
 pairs_after f g [] = refl
-pairs_after f g (p ∷ ps) = λ l. pair (typ_instance-after f g p.left l) (typ_instance-after f g p.right l) ∷ pairs_after f g ps l
+pairs_after f g (p ∷ ps) = λ l. pair (typ_instance-again f g p.left l) (typ_instance-again f g p.right l) ∷ pairs_after f g ps l
 
 map-append_pairs : (f : TypPair → TypPair) (ps qs : List TypPair) → map f (ps ++ qs) ≡ map f ps ++ map f qs
 map-append_pairs f [] qs = refl
@@ -80,7 +79,7 @@ left_arguments sets p k ts us work many h typs =
     both v = typ_instance typs (composed sets v)
 
     together : (t : Typ) → typ_instance typs (typ_instance (composed sets) t) ≡ typ_instance (λ v. typ_instance typs (composed sets v)) t
-    together t = typ_instance-after (composed sets) typs t
+    together t = typ_instance-again (composed sets) typs t
 
     first : difference (typ_instance typs (typ_instance (composed sets) (Con k (typs_of ts)))) (typ_instance typs (typ_instance (composed sets) (Con k (typs_of us)))) ≡ place_among (map (instance_pair typs) (map (instance_pair (composed sets)) (pairs_along ts us)))
     first =
@@ -98,7 +97,7 @@ place_now sets p work h =
 
 -- Further settings behind the ones now.
 behind : (sets more : List TypBind) (typs : Typ → Typ) (t : Typ) → typ_instance (λ v. typ_instance typs (composed more v)) (typ_instance (composed sets) t) ≡ typ_instance typs (typ_instance (composed (sets ++ more)) t)
-behind sets more typs t = sym (typ_instance-after (composed more) typs (typ_instance (composed sets) t)) ∙ ap (typ_instance typs) (sym (instance-append sets more t))
+behind sets more typs t = sym (typ_instance-again (composed more) typs (typ_instance (composed sets) t)) ∙ ap (typ_instance typs) (sym (instance-append sets more t))
 
 pairs_behind : (sets more : List TypBind) (typs : Typ → Typ) (ps : List TypPair) → map (instance_pair (λ v. typ_instance typs (composed more v))) (map (instance_pair (composed sets)) ps) ≡ map (instance_pair typs) (map (instance_pair (composed (sets ++ more))) ps)
 pairs_behind sets more typs [] = refl
@@ -114,7 +113,7 @@ left_set sets more p q work same h typs =
     ∙ ap place_among (pairs_behind sets more typs work)))
   where
     sides : typ_instance (λ v. typ_instance typs (composed more v)) (typ_instance (composed sets) q.left) ≡ typ_instance (λ v. typ_instance typs (composed more v)) (typ_instance (composed sets) q.right)
-    sides = sym (typ_instance-after (composed more) typs (typ_instance (composed sets) q.left)) ∙ (ap (typ_instance typs) same ∙ typ_instance-after (composed more) typs (typ_instance (composed sets) q.right))
+    sides = sym (typ_instance-again (composed more) typs (typ_instance (composed sets) q.left)) ∙ (ap (typ_instance typs) same ∙ typ_instance-again (composed more) typs (typ_instance (composed sets) q.right))
 
     none : place_of (instance_pair (λ v. typ_instance typs (composed more v)) (instance_pair (composed sets) q)) ≡ None
     none = ap (difference (typ_instance (λ v. typ_instance typs (composed more v)) (typ_instance (composed sets) q.left))) (sym sides) ∙ difference-itself (typ_instance (λ v. typ_instance typs (composed more v)) (typ_instance (composed sets) q.left))

@@ -1,5 +1,5 @@
 -- What the procedure comes to is most general, and what it refuses has no unifier.
-use Rattle.std.proofs.Common.{◌≡◌, ◌≢◌, ℕ, ◌+◌, ◌≤◌, List, [], ◌∷◌, ◌++◌, map, length, take, Some, None, inl, inr, ◌⊎◌, refl, ap, sym, subst, ◌∙◌, arith, append_assoc}
+use Rattle.std.proofs.Common.{◌≡◌, ◌≢◌, ℕ, ◌+◌, List, [], ◌∷◌, ◌++◌, map, length, take, Some, inl, inr, refl, ap, sym, subst, ◌∙◌, arith, append_assoc}
 use Rattle.std.proofs.lemmas.List.{append-nil, length-append}
 use Rattle.std.proofs.Math.Seq.{take-append_seam}
 use Rattle.pure_text.specs.Lists.{Each}
@@ -12,15 +12,16 @@ use Rattle.pure_definitions.proofs.OrderLaws.{sort_below-itself}
 use Rattle.pure_term_laws.specs.LawsOccurs.{IsTypVariable}
 use Rattle.pure_term_laws.proofs.OccursLaws.{typ_instances-agree}
 use Rattle.pure_term_laws.proofs.SubstLaws.{typ_instance-identity}
+use Rattle.pure_term_laws.proofs.MapLaws.{typ_instance-again, typs_count-instance}
 use Rattle.pure_tunify.specs.declared.pair.TypPair.{TypPair}
-use Rattle.pure_tunify.specs.Unifiers.{IsSubstitution, Equates, IsUnifier, IsFresh, IsOld, IsOldPair, IsMostGeneral}
-use Rattle.pure_tunify.specs.Asks.{HasNoInstance, IsMeet}
-use Rattle.pure_tunify.specs.Steps.{pair, setting, instance_pair, Asks, narrow, eliminate, occurs, occurs_left, sort, sort_left, IsReduction}
-use Rattle.pure_tunify.specs.Settings.{composed, bind, AreWithinLimits}
-use Rattle.pure_tunify.specs.Procedure.{place_of, IsSchematic, Shows, left_side, right_side, IsNeededSort, Narrows, fits, replace, IsTreated, IsBlocked, rigid, occurring, sortless, Equalises, equal, treat, Blocks, blocked, later, Outcome, Unified, NotTyped, TooBig, Unifies, over, no_typing, big, next}
+use Rattle.pure_tunify.specs.Unifiers.{IsSubstitution, Equates, IsUnifier, IsOld, IsOldPair, IsMostGeneral}
+use Rattle.pure_tunify.specs.Asks.{IsMeet}
+use Rattle.pure_tunify.specs.Steps.{pair, setting, instance_pair, Asks, narrow, eliminate, occurs, sort, sort_left, IsReduction}
+use Rattle.pure_tunify.specs.Settings.{composed, bind}
+use Rattle.pure_tunify.specs.Procedure.{place_of, IsSchematic, Shows, left_side, right_side, IsNeededSort, Narrows, fits, replace, IsTreated, IsBlocked, rigid, occurring, sortless, Equalises, equal, treat, Blocks, blocked, later, Outcome, Unifies, over, no_typing, big, next}
 use Rattle.pure_tunify.specs.ProcedureLaws.{IsMeant}
-use Rattle.pure_tunify.proofs.MapLaws.{typ_instance-after, identity_is_substitution, after_is_substitution, setting-other, old-instance, together}
-use Rattle.pure_tunify.proofs.StepLaws.{nothing_set, step_is_reduction, failed_has_no_unifier, typs_count-instance}
+use Rattle.pure_tunify.proofs.MapLaws.{identity_is_substitution, after_is_substitution, setting-other, old-instance, together}
+use Rattle.pure_tunify.proofs.StepLaws.{nothing_set, step_is_reduction, failed_has_no_unifier}
 use Rattle.pure_tunify.proofs.PlaceLaws.{DifferAtRoot, IsPlaceOf, difference_is_place, no_difference}
 use Rattle.pure_tunify.proofs.SettingLaws.{instance-append, instance_pairs-append, instance_pairs-identity, as_variable, setting-new}
 use Rattle.pure_tunify.proofs.NarrowLaws.{first_occurs, is_fresh_of}
@@ -53,7 +54,7 @@ reduction_along A index n k m ps qs rs f g h same r q = record {
   left_old = q.left_old;
   images_old = λ x i s new. subst (IsOld index m) (sym (same (TVar x i s) tt)) (old-instance index k m g q.substitution.keeps q.images_old (f (TVar x i s)) (r.images_old x i s new));
   back = λ second u. agree_unifier A (λ v. typ_instance (λ w. typ_instance second (g w)) (f v)) (λ v. typ_instance second (h v))
-      (λ v is. ap (typ_instance second) (same v is) ∙ typ_instance-after g second (f v)) ps (r.back (λ w. typ_instance second (g w)) (q.back second u));
+      (λ v is. ap (typ_instance second) (same v is) ∙ typ_instance-again g second (f v)) ps (r.back (λ w. typ_instance second (g w)) (q.back second u));
   forth = λ typs u. (
       let one = r.forth typs u in
       let two = q.forth one.0 one.1 in (
@@ -128,11 +129,11 @@ module _ (A : Algebra) (index n m : ℕ) (p : TypPair) (ps : List TypPair) (old 
       (λ typs v. sym (is.equated typs v.equates.0))
       (narrowed A index x i s narrows (p ∷ ps) free ((λ v o. old.0.1 v (is.right_inside v o), λ v o. old.0.0 v (is.left_inside v o)), old))
 
-  treated : (d : TypPair) (more : List TypBind) → place_of p ≡ Some d → IsTreated A index n d more m → IsReduction A index n (p ∷ ps) (composed more) m (map (instance_pair (composed more)) (p ∷ ps))
+  pub treated : (d : TypPair) (more : List TypBind) → place_of p ≡ Some d → IsTreated A index n d more m → IsReduction A index n (p ∷ ps) (composed more) m (map (instance_pair (composed more)) (p ∷ ps))
   treated d more place h = subst (λ (xs : List TypBind). IsReduction A index n (p ∷ ps) (composed xs) m (map (instance_pair (composed xs)) (p ∷ ps))) (sym h.are)
       (shown d h.name h.number h.sort h.other h.image h.narrowed h.shown (difference_is_place p.left p.right d place) h.free h.narrows)
 
-composed-append : (xs ys : List TypBind) (v : Typ) → IsTypVariable v → composed (xs ++ ys) v ≡ typ_instance (composed ys) (composed xs v)
+pub composed-append : (xs ys : List TypBind) (v : Typ) → IsTypVariable v → composed (xs ++ ys) v ≡ typ_instance (composed ys) (composed xs v)
 composed-append xs ys v is = sym (as_variable (composed (xs ++ ys)) v is) ∙ (instance-append xs ys v ∙ ap (typ_instance (composed ys)) (as_variable (composed xs) v is))
 
 -- Making a pair equal takes it away.

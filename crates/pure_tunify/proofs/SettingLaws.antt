@@ -11,18 +11,19 @@ use Rattle.pure_definitions.proofs.TypsLemmas.{occurs-itself}
 use Rattle.pure_term_laws.specs.LawsOccurs.{IsTypVariable}
 use Rattle.pure_term_laws.proofs.OccursLaws.{typ_instances-agree, typ_variable_of_typ_instance}
 use Rattle.pure_term_laws.proofs.SubstLaws.{typ_instance-identity}
+use Rattle.pure_term_laws.proofs.MapLaws.{typ_instance-again}
 use Rattle.pure_tunify.specs.declared.pair.TypPair.{TypPair}
 use Rattle.pure_tunify.specs.Unifiers.{IsFresh, IsOld, IsOldPair}
 use Rattle.pure_tunify.specs.Steps.{pair, instance_pair}
 use Rattle.pure_tunify.specs.Settings.{composed, AreTriangular, IsOldBind, Progress, IsTidy}
-use Rattle.pure_tunify.proofs.MapLaws.{typ_instance-after, setting-cases, fresh-later, variable_is_old, old-instance}
+use Rattle.pure_tunify.proofs.MapLaws.{setting-cases, fresh-later, variable_is_old, old-instance}
 
 -- Settings and then further ones.
 pub instance-append : (xs ys : List TypBind) (t : Typ) → typ_instance (composed (xs ++ ys)) t ≡ typ_instance (composed ys) (typ_instance (composed xs) t)
 instance-append [] ys t = ap (typ_instance (composed ys)) (sym (typ_instance-identity t))
 instance-append (b ∷ bs) ys t =
-    sym (typ_instance-after (typ_image (b ∷ [])) (composed (bs ++ ys)) t)
-    ∙ (instance-append bs ys (typ_instance (typ_image (b ∷ [])) t) ∙ ap (typ_instance (composed ys)) (typ_instance-after (typ_image (b ∷ [])) (composed bs) t))
+    sym (typ_instance-again (typ_image (b ∷ [])) (composed (bs ++ ys)) t)
+    ∙ (instance-append bs ys (typ_instance (typ_image (b ∷ [])) t) ∙ ap (typ_instance (composed ys)) (typ_instance-again (typ_image (b ∷ [])) (composed bs) t))
 
 pub instance_pair-append : (xs ys : List TypBind) (p : TypPair) → instance_pair (composed ys) (instance_pair (composed xs) p) ≡ instance_pair (composed (xs ++ ys)) p
 instance_pair-append xs ys p = λ l. pair (sym (instance-append xs ys p.left) l) (sym (instance-append xs ys p.right) l)
@@ -118,14 +119,14 @@ setting-away b t image m =
 pub instance-new : (w : Typ) → IsTypVariable w → (sets : List TypBind) (t : Typ) → Each (λ c. ¬ OccursInTyp w c.image) sets → (¬ OccursInTyp w t) → ¬ OccursInTyp w (typ_instance (composed sets) t)
 instance-new w is [] t each free o = free (subst (OccursInTyp w) (typ_instance-identity t) o)
 instance-new w is (b ∷ bs) t each free o =
-    instance-new w is bs (typ_instance (typ_image (b ∷ [])) t) each.1 (setting-new w is b t each.0 free) (subst (OccursInTyp w) (sym (typ_instance-after (typ_image (b ∷ [])) (composed bs) t)) o)
+    instance-new w is bs (typ_instance (typ_image (b ∷ [])) t) each.1 (setting-new w is b t each.0 free) (subst (OccursInTyp w) (sym (typ_instance-again (typ_image (b ∷ [])) (composed bs) t)) o)
 
 -- No set variable occurs in an instance.
 pub instance-free : (sets : List TypBind) → AreTriangular sets → (t : Typ) → Each (λ b. ¬ OccursInTyp (typ_variable b) (typ_instance (composed sets) t)) sets
 instance-free [] tri t = tt
 instance-free (b ∷ bs) tri t = (
-  λ o. instance-new (typ_variable b) tt bs (typ_instance (typ_image (b ∷ [])) t) tri.1 (setting-away b t tri.0) (subst (OccursInTyp (typ_variable b)) (sym (typ_instance-after (typ_image (b ∷ [])) (composed bs) t)) o),
-  subst (λ (T : Typ). Each (λ c. ¬ OccursInTyp (typ_variable c) T) bs) (typ_instance-after (typ_image (b ∷ [])) (composed bs) t) (instance-free bs tri.2 (typ_instance (typ_image (b ∷ [])) t)),
+  λ o. instance-new (typ_variable b) tt bs (typ_instance (typ_image (b ∷ [])) t) tri.1 (setting-away b t tri.0) (subst (OccursInTyp (typ_variable b)) (sym (typ_instance-again (typ_image (b ∷ [])) (composed bs) t)) o),
+  subst (λ (T : Typ). Each (λ c. ¬ OccursInTyp (typ_variable c) T) bs) (typ_instance-again (typ_image (b ∷ [])) (composed bs) t) (instance-free bs tri.2 (typ_instance (typ_image (b ∷ [])) t)),
 )
 
 -- One setting more.

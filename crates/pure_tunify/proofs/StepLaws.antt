@@ -8,6 +8,7 @@ use Rattle.pure_definitions.specs.Types.Order.{Algebra, IsOfSort}
 use Rattle.pure_definitions.specs.Terms.Subst.{typ_instance, typs_instance}
 use Rattle.pure_term_laws.specs.LawsOccurs.{IsTypVariable}
 use Rattle.pure_term_laws.proofs.OccursLaws.{typ_instances-agree}
+use Rattle.pure_term_laws.proofs.MapLaws.{typs_count-instance}
 use Rattle.pure_tunify.specs.declared.pair.TypPair.{TypPair}
 use Rattle.pure_tunify.specs.Unifiers.{IsSubstitution, Equates, IsUnifier, IsFresh, IsOld, IsOldPair, AreTogether, IsMostGeneral}
 use Rattle.pure_tunify.specs.Asks.{IsMeet}
@@ -171,10 +172,6 @@ solved_is_most_general A index n ps typs old solved = record {
 solved_is_most_general A index n ps typs old (step {m = m} {qs = qs} {first = first} {second = second} one rest) =
     let r = step_is_reduction A index n m ps qs first old one in
     most_general_along A index n m ps qs first second r (solved_is_most_general A index m qs second r.left_old rest)
-
-pub typs_count-instance : (typs : Typ → Typ) (ts : Typs) → typs_count (typs_instance typs ts) ≡ typs_count ts
-typs_count-instance typs none = refl
-typs_count-instance typs (also t ts) = let rest = typs_count-instance typs ts in omega arith
 
 mutual
   occurrence_in : (typs : Typ → Typ) (x i : ℕ) (s : List ℕ) (t : Typ) → OccursInTyp (TVar x i s) t → typ_size (typs (TVar x i s)) ≤ typ_size (typ_instance typs t)

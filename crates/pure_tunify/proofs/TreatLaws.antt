@@ -1,17 +1,18 @@
 -- A variable is set to a type that has been narrowed to its sort.
 use Rattle.std.proofs.Common.{◌≡◌, ℕ, List, [], ◌∷◌, ◌++◌, map, inl, inr, ◌⊎◌, refl, ap, sym, subst, ◌∙◌, arith, append_assoc, ◌↔◌, Bool, true, false, IsTrue}
-use Rattle.pure_text.specs.Lists.{IsIn, Each}
+use Rattle.pure_text.specs.Lists.{IsIn}
 use Rattle.pure_definitions.specs.Types.Typ.{Typ, TVar}
 use Rattle.pure_definitions.specs.Types.Occurs.{OccursInTyp}
 use Rattle.pure_definitions.specs.Types.Order.{Algebra}
-use Rattle.pure_definitions.specs.Terms.Subst.{TypBind, typ_variable, typ_image, typ_instance}
+use Rattle.pure_definitions.specs.Terms.Subst.{TypBind, typ_variable, typ_instance}
 use Rattle.pure_term_laws.proofs.SubstLaws.{typ_instance-identity}
+use Rattle.pure_term_laws.proofs.MapLaws.{typ_instance-again}
 use Rattle.pure_tunify.specs.Unifiers.{IsFresh, IsOld, IsOldPair}
 use Rattle.pure_tunify.specs.Steps.{pair, setting}
 use Rattle.pure_tunify.specs.Settings.{composed, bind, Progress, IsTidy}
 use Rattle.pure_tunify.specs.Procedure.{Narrows, fits, replace}
 use Rattle.pure_tunify.specs.Working.{IsFreeOf, IsNarrowed, IsSet, IsSetTo}
-use Rattle.pure_tunify.proofs.MapLaws.{typ_instance-after, setting-itself, fresh-later}
+use Rattle.pure_tunify.proofs.MapLaws.{setting-itself, fresh-later}
 use Rattle.pure_tunify.proofs.SettingLaws.{instance-append, composed-absent, instance-untouched, instance-free, instance-old, tidy-snoc}
 
 -- In a type with all set variables replaced there are neither fresh nor set ones.
@@ -22,9 +23,9 @@ pub resolved_free : (p : Progress) (t : Typ) → IsTidy p → IsFreeOf p.sets (t
 resolved_free p t tidy = instance-free p.sets tidy.triangular t
 
 -- What a type has been narrowed to is its instance by the settings.
-narrows_image : (A : Algebra) (index : ℕ) (s : List ℕ) {n m : ℕ} {t u : Typ} {more : List TypBind} → Narrows A index s n t more m u → typ_instance (composed more) t ≡ u
+pub narrows_image : (A : Algebra) (index : ℕ) (s : List ℕ) {n m : ℕ} {t u : Typ} {more : List TypBind} → Narrows A index s n t more m u → typ_instance (composed more) t ≡ u
 narrows_image A index s (fits {t = t} of) = typ_instance-identity t
-narrows_image A index s (replace {n = n} {t = t} {more = more} y j q r first need rest) = sym (typ_instance-after (setting y j q (TVar n index r)) (composed more) t) ∙ narrows_image A index s rest
+narrows_image A index s (replace {n = n} {t = t} {more = more} y j q r first need rest) = sym (typ_instance-again (setting y j q (TVar n index r)) (composed more) t) ∙ narrows_image A index s rest
 
 in_map_split : (xs ys : List TypBind) (v : Typ) → IsIn v (map typ_variable (xs ++ ys)) → IsIn v (map typ_variable xs) ⊎ IsIn v (map typ_variable ys)
 in_map_split [] ys v m = inr m

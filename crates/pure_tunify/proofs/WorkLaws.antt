@@ -1,5 +1,5 @@
 -- The list of pairs that are left, whose last is the first to be looked at.
-use Rattle.std.proofs.Common.{◌≡◌, ℕ, ◌+◌, ◌<◌, ◌-◌, List, [], ◌∷◌, ◌++◌, length, take, refl, ap, sym, subst, ◌∙◌, arith, Bool, true, false, append_assoc}
+use Rattle.std.proofs.Common.{◌≡◌, ℕ, ◌+◌, ◌-◌, List, [], ◌∷◌, ◌++◌, length, take, refl, ap, sym, subst, ◌∙◌, arith, Bool, true, false, append_assoc}
 use Rattle.std.specs.Prelude.{reverse, MatchBool}
 use Rattle.std.proofs.lemmas.List.{append-nil, length-append, reverse-append}
 use Rattle.pure_text.specs.Lists.{Each}
@@ -11,7 +11,7 @@ use Rattle.pure_tunify.specs.Steps.{pair, instance_pair}
 use Rattle.pure_tunify.specs.Settings.{composed, Progress}
 use Rattle.pure_tunify.specs.Procedure.{Blocks}
 use Rattle.pure_tunify.specs.Working.{pairs_along, Pursues}
-use Rattle.pure_tunify.specs.Meeting.{GoesOn, Stops, IsTurn}
+use Rattle.pure_tunify.specs.Meeting.{GoesOn, Stops}
 use Rattle.pure_tunify.specs.Answers.{IsEqualised}
 use Rattle.pure_tunify.proofs.PursueLaws.{pursuit_starts}
 use Rattle.pure_tunify.proofs.UnifyLaws.{equalised_at_end}

@@ -1,15 +1,19 @@
 -- Types with all set variables replaced, and the settings written out as one map.
-use Rattle.std.proofs.Common.{◌≡◌, ℕ, ◌+◌, ◌-◌, ◌<◌, ◌≤◌, List, [], ◌∷◌, ◌++◌, map, length, get_or, take, take_all, drop, Some, None, inl, inr, ◌⊎◌, refl, ap, sym, subst, ◌∙◌, arith, Bool, true, false, cond}
-use Rattle.pure_text.specs.Lists.{IsIn, Each}
-use Rattle.pure_text.proofs.ListLaws.{each_at, split_at}
+use Rattle.std.proofs.Common.{◌≡◌, ℕ, ◌-◌, ◌<◌, ◌≤◌, List, [], ◌∷◌, ◌++◌, map, length, take, take_all, Some, None, inl, inr, ◌⊎◌, refl, ap, sym, subst, ◌∙◌, arith, Bool, true, false, cond}
+use Rattle.std.proofs.lemmas.List.{append_assoc}
+use Rattle.pure_text.specs.Lists.{IsIn, Each, AnyOf}
+use Rattle.pure_text.proofs.ListLaws.{each_at, any_decided, any_some, in_split, in-append_right}
 use Rattle.pure_definitions.specs.Types.Typ.{Typ, TFree, TVar, Con, typ_eq, typ_size, typ_depth}
+use Rattle.pure_definitions.specs.Types.Occurs.{OccursInTyp}
 use Rattle.pure_definitions.specs.Terms.Subst.{TypBind, IsTypMap, typ_variable, typ_image, typ_instance}
 use Rattle.pure_definitions.specs.Terms.Limits.{Leaves, IsWithinTyp}
 use Rattle.pure_definitions.proofs.EntryLemmas.{typ_image-entry}
+use Rattle.pure_definitions.proofs.TypsLemmas.{occurs-itself}
 use Rattle.pure_term_laws.specs.LawsOccurs.{IsTypVariable}
 use Rattle.pure_tunify.specs.Unifiers.{IsOld}
-use Rattle.pure_tunify.specs.Settings.{composed, Progress, IsTidy}
-use Rattle.pure_tunify.specs.Working.{HasImagesWithin, IsWritten}
+use Rattle.pure_tunify.specs.Settings.{composed, AreTriangular, Progress, IsTidy}
+use Rattle.pure_tunify.specs.Working.{HasImagesWithin, IsSmall}
+use Rattle.pure_tunify.proofs.DecidedLaws.{same_or_not}
 use Rattle.pure_tunify.proofs.SettingLaws.{other_variable, as_variable, composed-image, composed-absent, image-old}
 
 -- No fixed variable is set.
@@ -62,15 +66,6 @@ written_image sets (b ∷ bs) v = by (typ_eq (typ_variable b) v) refl (written_i
     by false e (inr absent) = inr (λ m. elim m [ inl same ↦ other_variable b v e (sym same) | inr n ↦ absent.0 n ], absent.1)
 
 module _ (p : Progress) (tidy : IsTidy p) where
-  -- The entries written out are the settings one after the other.
-  pub entries_written : IsWritten p.sets (map (written_entry p.sets) p.sets)
-  entries_written x i s = by (written_image p.sets p.sets (TVar x i s))
-    where
-      by : ((b : TypBind) × IsIn b p.sets × (typ_image p.sets (TVar x i s) ≡ b.image) × (typ_image (map (written_entry p.sets) p.sets) (TVar x i s) ≡ typ_instance (composed p.sets) b.image))
-          ⊎ ((¬ IsIn (TVar x i s) (map typ_variable p.sets)) × (typ_image (map (written_entry p.sets) p.sets) (TVar x i s) ≡ TVar x i s)) → typ_image (map (written_entry p.sets) p.sets) (TVar x i s) ≡ composed p.sets (TVar x i s)
-      by (inl found) = found.3 ∙ (ap (typ_instance (composed p.sets)) (sym found.2) ∙ sym (composed-image p.sets (TVar x i s) tidy.triangular tt))
-      by (inr absent) = absent.1 ∙ sym (composed-absent p.sets (TVar x i s) tt absent.0)
-
   pub images_within : Each (λ b. IsWithinTyp (typ_instance (composed p.sets) b.image)) p.sets → HasImagesWithin p.sets
   images_within each x i s = by (written_image p.sets p.sets (TVar x i s))
     where
@@ -84,24 +79,6 @@ module _ (p : Progress) (tidy : IsTidy p) where
   image_beyond distinct b m beyond within =
       beyond (subst IsWithinTyp (composed-image p.sets (typ_variable b) tidy.triangular tt ∙ ap (typ_instance (composed p.sets)) (typ_image-entry p.sets b distinct m)) (within b.name b.index b.sort))
 
--- One entry more is written out.
-pub variables_written : (sets bs : List TypBind) → map typ_variable (map (written_entry sets) bs) ≡ map typ_variable bs
-variables_written sets [] = refl
-variables_written sets (b ∷ bs) = ap (λ vs. typ_variable b ∷ vs) (variables_written sets bs)
-
-in_middle : (xs ys : List TypBind) (b : TypBind) → IsIn (typ_variable b) (map typ_variable (xs ++ b ∷ ys))
-in_middle [] ys b = inl refl
-in_middle (x ∷ xs) ys b = inr (in_middle xs ys b)
-
--- The variable of an entry isn't one of those before it.
-pub not_before : (sets : List TypBind) (i : ℕ) (b : TypBind) → IsTypMap sets → i < length sets → b ≡ get_or sets i b → ¬ IsIn (typ_variable b) (map typ_variable (take i sets))
-not_before sets i b distinct within read = front (take i sets) (subst (λ (xs : List TypBind). IsTypMap xs) (split_at sets i b within read) distinct)
-  where
-    front : (xs : List TypBind) → IsTypMap (xs ++ b ∷ drop (i + 1) sets) → ¬ IsIn (typ_variable b) (map typ_variable xs)
-    front [] d m = m
-    front (x ∷ xs) d (inl e) = d.0 (subst (λ (v : Typ). IsIn v (map typ_variable (xs ++ b ∷ drop (i + 1) sets))) e (in_middle xs (drop (i + 1) sets) b))
-    front (x ∷ xs) d (inr m) = front xs d.1 m
-
 -- A type that fits into the room of the limits is within them, and one that doesn't isn't.
 pub fits_within : (t : Typ) (rest : ℕ) → Leaves 200000 2000 (typ_size t) (typ_depth t) (Some rest) → IsWithinTyp t
 fits_within t rest h = record { size = (let size = h.0 in omega arith); depth = h.1 }
@@ -109,23 +86,60 @@ fits_within t rest h = record { size = (let size = h.0 in omega arith); depth = 
 pub fits_not : (t : Typ) → Leaves 200000 2000 (typ_size t) (typ_depth t) None → ¬ IsWithinTyp t
 fits_not t h w = let deep : 2000 < typ_depth t = h w.size in let shallow = w.depth in absurd (omega arith)
 
+-- A variable is within the limits.
+leaf_within : (v : Typ) → IsTypVariable v → IsWithinTyp v
+leaf_within (TFree x s) is = record { size = omega arith; depth = omega arith }
+leaf_within (TVar x i s) is = record { size = omega arith; depth = omega arith }
+leaf_within (Con k ts) is = absurd is
+
+pub has_entry : (sets : List TypBind) (v : Typ) → IsIn v (map typ_variable sets) → AnyOf (λ b. typ_variable b ≡ v) sets
+has_entry [] v m = m
+has_entry (b ∷ bs) v (inl e) = inl (sym e)
+has_entry (b ∷ bs) v (inr m) = inr (has_entry bs v m)
+
+-- No variable that was set before occurs in an image.
+set_before : (xs : List TypBind) (b : TypBind) (ys : List TypBind) (c : TypBind) → AreTriangular (xs ++ b ∷ ys) → IsIn c xs → ¬ OccursInTyp (typ_variable c) b.image
+set_before [] b ys c tri m = absurd m
+set_before (x ∷ xs) b ys c tri (inl e) = subst (λ (d : TypBind). ¬ OccursInTyp (typ_variable d) b.image) (sym e) (each_at (λ d. ¬ OccursInTyp (typ_variable x) d.image) (xs ++ b ∷ ys) tri.1 b (in-append_right b xs (b ∷ ys) (inl refl)))
+set_before (x ∷ xs) b ys c tri (inr m) = set_before xs b ys c tri.2 m
+
+module _ (p : Progress) (tidy : IsTidy p) (distinct : IsTypMap p.sets) where
+  -- An image that is a variable is a later entry's, or stays.
+  variable_within : (front : List TypBind) (b : TypBind) (later : List TypBind) → p.sets ≡ front ++ b ∷ later → Each (λ c. IsWithinTyp (typ_instance (composed p.sets) c.image)) later → IsTypVariable b.image → IsWithinTyp (typ_instance (composed p.sets) b.image)
+  variable_within front b later whole rest is = by (any_decided (λ c. typ_variable c ≡ b.image) (λ c. same_or_not (typ_variable c) b.image) p.sets)
+    where
+      triangular : AreTriangular (front ++ b ∷ later)
+      triangular = subst AreTriangular whole tidy.triangular
+
+      entry : (c : TypBind) → IsIn c p.sets → typ_variable c ≡ b.image → typ_instance (composed p.sets) c.image ≡ typ_instance (composed p.sets) b.image
+      entry c m e =
+          ap (typ_instance (composed p.sets)) (sym (typ_image-entry p.sets c distinct m))
+          ∙ (sym (composed-image p.sets (typ_variable c) tidy.triangular tt) ∙ ap (typ_instance (composed p.sets)) e)
+
+      behind_front : (c : TypBind) → IsIn c p.sets → typ_variable c ≡ b.image → IsIn c front ⊎ IsIn c (b ∷ later) → IsWithinTyp (typ_instance (composed p.sets) b.image)
+      behind_front c m e (inl before) = absurd (set_before front b later c triangular before (occurs-itself (typ_variable c) b.image e))
+      behind_front c m e (inr (inl same)) = absurd (own front triangular (occurs-itself (typ_variable b) b.image (subst (λ (d : TypBind). typ_variable d ≡ b.image) same e)))
+        where
+          own : (xs : List TypBind) → AreTriangular (xs ++ b ∷ later) → ¬ OccursInTyp (typ_variable b) b.image
+          own [] tri = tri.0
+          own (x ∷ xs) tri = own xs tri.2
+      behind_front c m e (inr (inr after)) = subst IsWithinTyp (entry c m e) (each_at (λ c. IsWithinTyp (typ_instance (composed p.sets) c.image)) later rest c after)
+
+      by : AnyOf (λ c. typ_variable c ≡ b.image) p.sets ⊎ ¬ AnyOf (λ c. typ_variable c ≡ b.image) p.sets → IsWithinTyp (typ_instance (composed p.sets) b.image)
+      by (inl found) =
+          let c = any_some (λ c. typ_variable c ≡ b.image) p.sets found in
+          behind_front c.0 c.1 c.2 (in_split c.0 front (b ∷ later) (subst (IsIn c.0) whole c.1))
+      by (inr none) = subst IsWithinTyp (sym (leaf_same p.sets b.image is (λ m. none (has_entry p.sets b.image m)))) (leaf_within b.image is)
+
+  all_within : (front later : List TypBind) → p.sets ≡ front ++ later → Each (λ b. IsSmall p.sets b.image) later → Each (λ b. IsWithinTyp (typ_instance (composed p.sets) b.image)) later
+  all_within front [] whole each = tt
+  all_within front (b ∷ later) whole each =
+      let rest = all_within (front ++ b ∷ []) later (whole ∙ sym (append_assoc front (b ∷ []) later)) each.1 in
+      (elim each.0 [ inl is ↦ variable_within front b later whole rest is | inr within ↦ within ], rest)
+
 -- All images are within the limits.
-pub images_all : (p : Progress) (items : List TypBind) (i : ℕ) → IsTidy p → items ≡ p.sets → length items ≤ i → Each (λ b. IsWithinTyp (typ_instance (composed p.sets) b.image)) (take i items) → HasImagesWithin p.sets
-images_all p items i tidy same full each = images_within p tidy (subst (Each (λ b. IsWithinTyp (typ_instance (composed p.sets) b.image))) (take_all i items full ∙ same) each)
-
--- All entries are written out.
-pub written_all : (p : Progress) (items out : List TypBind) (i : ℕ) → IsTidy p → items ≡ p.sets → length items ≤ i → out ≡ map (written_entry p.sets) (take i items) → Each (λ b. IsWithinTyp (typ_instance (composed p.sets) b.image)) (take i items)
-    → HasImagesWithin p.sets × IsWritten p.sets out
-written_all p items out i tidy same full entries each =
-    let all = take_all i items full ∙ same in
-    (images_all p items i tidy same full each, subst (IsWritten p.sets) (sym (entries ∙ ap (map (written_entry p.sets)) all)) (entries_written p tidy))
-
--- An entry that is written out is for no variable that another one is for.
-pub entry_new : (sets items out : List TypBind) (i : ℕ) (b entry : TypBind) → items ≡ sets → IsTypMap sets → i < length items → b ≡ get_or items i b → out ≡ map (written_entry sets) (take i items) → entry ≡ written_entry sets b
-    → ¬ IsIn (typ_variable entry) (map typ_variable out)
-entry_new sets items out i b entry same distinct within read entries is m =
-    let among = subst (λ (vs : List Typ). IsIn (typ_variable entry) vs) (ap (map typ_variable) entries ∙ variables_written sets (take i items)) m in
-    not_before items i b (subst IsTypMap (sym same) distinct) within read (subst (λ (e : TypBind). IsIn (typ_variable e) (map typ_variable (take i items))) is among)
+pub images_all : (p : Progress) (items : List TypBind) (i : ℕ) → IsTidy p → IsTypMap p.sets → items ≡ p.sets → length items ≤ i → Each (λ b. IsSmall p.sets b.image) (take i items) → HasImagesWithin p.sets
+images_all p items i tidy distinct same full each = images_within p tidy (all_within p tidy distinct [] p.sets refl (subst (Each (λ b. IsSmall p.sets b.image)) (take_all i items full ∙ same) each))
 
 pub leaf_left : (sets : List TypBind) (t top : Typ) (left room : ℕ) → typ_instance (composed sets) top ≡ typ_instance (composed sets) t → IsTypVariable top → (¬ IsIn top (map typ_variable sets)) → (left ≡ 0 → ⊥) → (room ≡ 0 → ⊥)
     → Leaves left room (typ_size (typ_instance (composed sets) t)) (typ_depth (typ_instance (composed sets) t)) (Some (left - 1))

@@ -1,6 +1,5 @@
 -- What calls that unify answer.
-use Rattle.std.specs.Prelude.{◌≡◌, ℕ, ◌+◌, ◌≤◌, ◌^◌, max, List, [], ◌∷◌, ◌++◌}
-use Rattle.pure_text.specs.Lists.{Each}
+use Rattle.std.specs.Prelude.{◌≡◌, ℕ, ◌+◌, max, List, [], ◌∷◌}
 use Rattle.pure_definitions.specs.Types.Typ.{Typ, TFree, TVar, Con, Typs, none, also}
 use Rattle.pure_definitions.specs.Types.Order.{Algebra}
 use Rattle.pure_definitions.specs.Terms.Subst.{TypBind, typ_image, typ_instance}
@@ -9,7 +8,7 @@ use Rattle.pure_tunify.specs.declared.fault.TypFault.{TypFault}
 use Rattle.pure_tunify.specs.declared.fault.TypFault.TheVariants.{NoTyping, Big, Memory}
 use Rattle.pure_tunify.specs.Steps.{instance_pair}
 use Rattle.pure_tunify.specs.Settings.{composed, Progress}
-use Rattle.pure_tunify.specs.Procedure.{Equalises, Blocks, Unifies, Unified, NotTyped, TooBig}
+use Rattle.pure_tunify.specs.Procedure.{Equalises, Unifies, Unified, NotTyped, TooBig}
 use Rattle.pure_tunify.specs.Working.{IsFurther, IsWritten}
 use Rattle.pure_tunify.specs.ProcedureLaws.{IsFirstWithout, IsBeyond}
 

@@ -11,5 +11,6 @@ pub mod NarrowingStep
 pub mod Meeting
 pub mod ProcedureLaws
 pub mod Answers
+pub mod Passes
 pub mod Laws
 pub mod Examples

@@ -2,7 +2,7 @@
 use Rattle.std.specs.Prelude.{◌≡◌, ℕ, ◌+◌, List, [], ◌∷◌, ◌++◌, Option, Some, None, ◌&&◌, nat_eq, if◌then◌else◌, ◌↔◌}
 use Rattle.std.specs.List.Sorted.{IsStrictlyIncreasing}
 use Rattle.pure_text.specs.Lists.{IsIn, Each}
-use Rattle.pure_definitions.specs.Types.Typ.{Typ, TFree, TVar, Con, Typs, none, also, typs_count, typ_eq}
+use Rattle.pure_definitions.specs.Types.Typ.{Typ, TVar, Con, Typs, also, typs_count, typ_eq}
 use Rattle.pure_definitions.specs.Types.Occurs.{OccursInTyp}
 use Rattle.pure_definitions.specs.Types.Order.{Algebra, IsClassBelow, HasClassBelow, IsOfClass, IsOfSort}
 use Rattle.pure_definitions.specs.Terms.Subst.{TypBind, typ_instance}

@@ -2,7 +2,7 @@
 use Rattle.std.specs.Prelude.{◌≡◌, ℕ, ◌+◌, List, [], take}
 use Rattle.pure_text.specs.Lists.{Each}
 use Rattle.pure_definitions.specs.Types.Typ.{Typ}
-use Rattle.pure_definitions.specs.Types.Order.{Algebra}
+use Rattle.pure_definitions.specs.Types.Order.{Algebra, IsCoregular}
 use Rattle.pure_definitions.specs.Terms.Subst.{TypBind}
 use Rattle.pure_order_tables.specs.Classes.{IsAntisymmetric}
 use Rattle.pure_tunify.specs.declared.pair.TypPair.{TypPair}
@@ -35,3 +35,7 @@ ProcedureIsMeant = (A : Algebra) (index from : ℕ) (pairs : List TypPair) (outc
 -- Over an order in which no two classes are below each other, the procedure comes to one outcome at most.
 abbrev pub ProcedureHasOneOutcome : Type 0
 ProcedureHasOneOutcome = (A : Algebra) → IsAntisymmetric A → (index from : ℕ) (pairs : List TypPair) (first second : Outcome) → Unifies A index 0 from [] pairs first → Unifies A index 0 from [] pairs second → first ≡ second
+
+-- Over a coregular algebra the procedure comes to an outcome, from pairs without fresh variables.
+abbrev pub ProcedureHasAnOutcome : Type 0
+ProcedureHasAnOutcome = (A : Algebra) → IsCoregular A → (index from : ℕ) (pairs : List TypPair) → Each (IsOldPair index from) pairs → (outcome : Outcome) × Unifies A index 0 from [] pairs outcome

@@ -1,5 +1,5 @@
 -- Variables that are set one after the other, as unification sets them.
-use Rattle.std.specs.Prelude.{◌≡◌, ℕ, ◌≤◌, ◌^◌, List, [], ◌∷◌}
+use Rattle.std.specs.Prelude.{ℕ, ◌≤◌, ◌^◌, List, [], ◌∷◌}
 use Rattle.pure_text.specs.Lists.{Each}
 use Rattle.pure_definitions.specs.Types.Typ.{Typ, TVar}
 use Rattle.pure_definitions.specs.Types.Occurs.{OccursInTyp}

@@ -24,6 +24,10 @@ IsResolved sets t left room (Some r) = (r.typ ≡ typ_instance (composed sets) t
 abbrev pub HasImagesWithin : List TypBind → Type 0
 HasImagesWithin sets = (x i : ℕ) (s : List ℕ) → IsWithinTyp (composed sets (TVar x i s))
 
+-- The type is a variable, or within the limits with all set variables replaced.
+abbrev pub IsSmall : List TypBind → Typ → Type 0
+IsSmall sets t = IsTypVariable t ⊎ IsWithinTyp (typ_instance (composed sets) t)
+
 -- The finite map is the settings one after the other, at each schematic variable.
 abbrev pub IsWritten : List TypBind → List TypBind → Type 0
 IsWritten sets map = (x i : ℕ) (s : List ℕ) → typ_image map (TVar x i s) ≡ composed sets (TVar x i s)

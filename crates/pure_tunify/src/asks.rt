@@ -4,7 +4,7 @@ ghost use Rattle.pure_text.specs.Lists.{Each};
 ghost use Rattle.pure_definitions.specs.Types.Typ.{typs_of};
 ghost use Rattle.pure_tunify.specs.Occurrences.{schematics, schematics_of};
 ghost use Rattle.pure_tunify.specs.Asking.{asked_variable};
-ghost use Rattle.pure_tunify.specs.Asks.{AreUnions, AreAskedOfArguments, HasNoSuchArguments, AreAsked, HasNoInstance, AskMore, AllAskMore, HaveNoInstances, IsMeet};
+ghost use Rattle.pure_tunify.specs.Asks.{AreUnions, AreAskedOfArguments, HasNoSuchArguments, AreAsked, HasNoInstance, AskMore, AllAskMore, HaveNoInstances};
 
 use pure_order::Order;
 use pure_typ::{Name, Sort, Typ, TypNode};
@@ -17,15 +17,6 @@ pub struct Asked {
     pub index: u32,
     pub sort: Sort,
     pub asked: Sort,
-}
-
-/// The reduced greatest sort that is below both.
-pub fn meet(order: &Order, alloc: Global, left: &Sort, right: &Sort) -> Result<Sort, AllocError>
-    ensures { IfOk result (IsMeet order.now left.now right.now) }
-{
-    let union = left.union(alloc, right)?;
-    let reduced = order.reduce(alloc, &union)?;
-    Ok(reduced)
 }
 
 /// The unions of the sorts at each place of two lists.

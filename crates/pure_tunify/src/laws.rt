@@ -1,6 +1,6 @@
 //! Laws of unification: each is the contract of a function that does nothing.
 ghost use Rattle.pure_tunify.specs.Laws.{StepIsReduction, MostGeneralAlongReduction, SolvedIsMostGeneral, FailedHasNoUnifier, RefutedHasNoUnifier, EachIsAsked, NothingToNarrow, OnlyThere, AskedHasInstance};
-ghost use Rattle.pure_tunify.specs.ProcedureLaws.{ProcedureIsMeant, ProcedureHasOneOutcome};
+ghost use Rattle.pure_tunify.specs.ProcedureLaws.{ProcedureIsMeant, ProcedureHasOneOutcome, ProcedureHasAnOutcome};
 ghost use Rattle.pure_tunify.specs.Examples.{NarrowedExample, OccursExample};
 
 /// A step takes unifiers there and back.
@@ -36,6 +36,11 @@ pub fn procedure_is_meant()
 /// The procedure comes to one outcome at most.
 pub fn procedure_has_one_outcome()
     ensures { ProcedureHasOneOutcome }
+{}
+
+/// Over a coregular algebra, as each order is, the procedure comes to one outcome at least.
+pub fn procedure_has_an_outcome()
+    ensures { ProcedureHasAnOutcome }
 {}
 
 /// What stands in the list of what is asked is asked, as the step that narrows a variable wants it.

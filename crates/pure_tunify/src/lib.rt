@@ -14,7 +14,7 @@ mod solve;
 mod turn;
 mod unifier;
 
-pub use asks::{Asked, asked_of, asked_of_arguments, meet};
+pub use asks::{Asked, asked_of, asked_of_arguments};
 pub use fault::TypFault;
 pub use index::index_above_each as index_above;
 pub use pair::TypPair;

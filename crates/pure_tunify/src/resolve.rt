@@ -4,7 +4,7 @@ ghost use Rattle.pure_definitions.specs.Terms.Subst.{typ_instance};
 ghost use Rattle.pure_definitions.specs.Types.Typ.{typ_size, typ_depth};
 ghost use Rattle.pure_definitions.specs.Terms.Limits.{Leaves, IsWithinTyp};
 ghost use Rattle.pure_tunify.specs.Settings.{composed};
-ghost use Rattle.pure_tunify.specs.Working.{IsResolved, HasImagesWithin, IsWritten};
+ghost use Rattle.pure_tunify.specs.Working.{IsResolved, HasImagesWithin, IsSmall, IsWritten};
 
 use crate::settings::Settings;
 use pure_typ::{MAX_DEPTH, MAX_SIZE, Typ, TypBind, TypMap, TypNode};
@@ -106,15 +106,31 @@ fn resolved_leaves(
     }
 }
 
-/// Whether the images are within the limits. They are measured and not made.
+/// Whether the image is a variable, or within the limits. It is measured and not made.
+fn is_small(settings: &Settings, image: &Typ) -> Result<bool, AllocError>
+    ensures { IfOk result (λ small. MatchBool small (IsSmall settings.now.sets image.now) (¬ IsWithinTyp (typ_instance (composed settings.now.sets) image.now))) }
+{
+    match &image.node {
+        TypNode::TFree { .. } => Ok(true),
+        TypNode::TVar { .. } => Ok(true),
+        TypNode::Con { .. } => {
+            let found = resolved_leaves(settings, image, MAX_SIZE, MAX_DEPTH)?;
+            match found {
+                None => Ok(false),
+                Some(_) => Ok(true),
+            }
+        }
+    }
+}
+
+/// Whether the images are within the limits. One that is a variable has no entry to be measured, or another's.
 pub fn are_images_within(settings: &Settings) -> Result<bool, AllocError>
     ensures { IfOk result (λ within. MatchBool within (HasImagesWithin settings.now.sets) (¬ HasImagesWithin settings.now.sets)) }
 {
     for bind in settings.binds() {
-        let found = resolved_leaves(settings, &bind.image, MAX_SIZE, MAX_DEPTH)?;
-        match found {
-            None => return Ok(false),
-            Some(_) => {}
+        let small = is_small(settings, &bind.image)?;
+        if !small {
+            return Ok(false);
         }
     }
     Ok(true)
@@ -145,17 +161,24 @@ fn written_bind(
     }
 }
 
-/// The map that the settings are, each image written out; none exactly where an image isn't within the limits.
+/// The map that the settings are, each image written out; none exactly where an image isn't within the limits. The last
+/// setting is written out first, so that what an image has of set variables is written out before it.
 pub fn written(settings: &Settings, alloc: Global) -> Result<Option<TypMap>, AllocError>
     ensures { IfOk result (λ o. MatchOption o (¬ HasImagesWithin settings.now.sets) (λ map. HasImagesWithin settings.now.sets × IsWritten settings.now.sets map)) }
 {
-    let mut map = TypMap::empty(alloc);
-    for bind in settings.binds() {
-        let found = written_bind(settings, alloc, bind)?;
+    let binds = settings.binds();
+    let mut done = Settings::start(alloc, settings.index(), settings.next(), MAX_SIZE);
+    let mut left = binds.len();
+    while left > 0 {
+        left -= 1;
+        let found = written_bind(&done, alloc, &binds[left])?;
         match found {
             None => return Ok(None),
-            Some(entry) => map.push(entry)?,
+            Some(entry) => {
+                let next = done.next();
+                done.put(entry, next)?;
+            }
         }
     }
-    Ok(Some(map))
+    Ok(Some(done.into_map()))
 }

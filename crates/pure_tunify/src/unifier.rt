@@ -1,5 +1,5 @@
 //! Unification of pairs of types.
-ghost use Rattle.std.specs.Prelude.{◌≡◌, ◌<◌, ◌^◌, ℕ, [], IfOk, IfErr, IfSome, OnOk, MatchBool};
+ghost use Rattle.std.specs.Prelude.{◌≡◌, ◌<◌, ◌≤◌, ◌^◌, ℕ, [], length, IfOk, IfErr, IfSome, OnOk, MatchBool};
 ghost use Rattle.std.specs.Bool.{OnTrue};
 ghost use Rattle.pure_text.specs.Lists.{Each};
 ghost use Rattle.pure_definitions.specs.Terms.Subst.{typ_image};
@@ -8,6 +8,7 @@ ghost use Rattle.pure_tunify.specs.Settings.{AreTriangular, AreWithinLimits};
 ghost use Rattle.pure_tunify.specs.Procedure.{Unifies, Unified};
 ghost use Rattle.pure_tunify.specs.Working.{IsWritten};
 ghost use Rattle.pure_tunify.specs.Answers.{AreUnified, IsIdempotent, IsDecided, IsReason, index_above_pairs};
+ghost use Rattle.pure_tunify.specs.Passes.{HasCome, IsPass, IsJudged, IfFound};
 
 use crate::fault::TypFault;
 use crate::index::index_above_each;
@@ -37,54 +38,150 @@ fn is_within(settings: &Settings) -> Result<bool, AllocError>
     Ok(within)
 }
 
-/// Makes the pairs equal, one after the other.
-fn solve_each(
-    order: &Order,
-    alloc: Global,
-    settings: &mut Settings,
-    pairs: &[TypPair],
-) -> Result<(), TypFault>
+/// Where a pass over the pairs ends that looks at no limits.
+#[derive(Clone, Copy)]
+enum Pass {
+    /// All are made equal.
+    Whole,
+    /// This one isn't: it has no unifier, or its types grew too large.
+    Stopped(u32),
+}
+
+/// Makes the pairs equal, one after the other, without a look at the limits.
+fn solve_all(order: &Order, alloc: Global, settings: &mut Settings, pairs: &[TypPair]) -> Pass
     requires start { settings.old.sets ≡ [] }
     requires old { Each (IsOldPair settings.old.index settings.old.next) pairs.now }
-    ensures ok { OnOk result (Unifies order.now settings.old.index 0 settings.old.next [] pairs.now (Unified settings.new.sets settings.new.next)) }
-    ensures fault { IfErr result (IsDecided order.now settings.old.index settings.old.next pairs.now) }
+    ensures { IsPass order.now settings.old settings.new pairs.now result }
 {
     let mut index: u32 = 0;
     for pair in pairs {
-        let done = solve(order, alloc, settings, pair)?;
-        if !done {
-            return Err(TypFault::NoTyping { index });
+        match solve(order, alloc, settings, pair) {
+            Ok(true) => {}
+            _ => return Pass::Stopped(index),
         }
-        let within = is_within(settings)?;
-        if !within {
-            return Err(TypFault::Big { index });
-        }
-        let Some(next) = index.checked_add(1) else {
-            return Err(TypFault::Memory);
-        };
-        index = next;
+        index = index.saturating_add(1);
     }
-    Ok(())
+    Pass::Whole
 }
 
-/// Makes the pairs equal, one after the other, without a look at the limits; false where one has no unifier.
-fn solve_all(
+/// Makes so many of the pairs equal, without a look at the limits; false where one has no unifier.
+fn solve_front(
     order: &Order,
     alloc: Global,
     settings: &mut Settings,
     pairs: &[TypPair],
+    count: usize,
 ) -> Result<bool, AllocError>
     requires start { settings.old.sets ≡ [] }
     requires old { Each (IsOldPair settings.old.index settings.old.next) pairs.now }
-    ensures { IfOk result (λ done. OnTrue done (AreWithinLimits settings.new.sets settings.new.next → Unifies order.now settings.old.index 0 settings.old.next [] pairs.now (Unified settings.new.sets settings.new.next))) }
+    requires many { count ≤ length pairs.now }
+    ensures { IfOk result (λ done. OnTrue done (HasCome order.now settings.old.index settings.old.next pairs.now count settings.new)) }
 {
-    for pair in pairs {
-        let done = solve(order, alloc, settings, pair)?;
+    for i in 0..count {
+        let done = solve(order, alloc, settings, &pairs[i])?;
         if !done {
             return Ok(false);
         }
     }
     Ok(true)
+}
+
+/// A pair is judged behind those before it, where their images are within the limits.
+fn judge(
+    order: &Order,
+    alloc: Global,
+    settings: &mut Settings,
+    pair: &TypPair,
+    at: u32,
+) -> Result<(), TypFault>
+    requires { IsOldPair settings.old.index settings.old.next pair.now }
+    ensures { IfErr result (IsJudged order.now settings.old pair.now at) }
+{
+    let within = is_within(settings)?;
+    if !within {
+        return Ok(());
+    }
+    let done = solve(order, alloc, settings, pair)?;
+    if !done {
+        return Err(TypFault::NoTyping { index: at });
+    }
+    let fits = is_within(settings)?;
+    if !fits {
+        return Err(TypFault::Big { index: at });
+    }
+    Ok(())
+}
+
+/// Why this pair decides, where it does.
+fn decide_at(
+    alloc: Global,
+    order: &Order,
+    pairs: &[TypPair],
+    index: u32,
+    from: u32,
+    at: u32,
+) -> Result<(), TypFault>
+    requires { Each (IsOldPair index from) pairs.now }
+    ensures { IfErr result (IsDecided order.now index from pairs.now) }
+{
+    let place = at as usize;
+    if pairs.len() <= place {
+        return Ok(());
+    }
+    let mut settings = Settings::start(alloc, index, from, MOST_NODES);
+    let done = solve_front(order, alloc, &mut settings, pairs, place)?;
+    if !done {
+        return Ok(());
+    }
+    judge(order, alloc, &mut settings, &pairs[place], at)
+}
+
+/// Whether the pairs up to this one are made equal by settings within the limits.
+fn fits(
+    alloc: Global,
+    order: &Order,
+    pairs: &[TypPair],
+    index: u32,
+    from: u32,
+    last: u32,
+) -> Result<bool, AllocError>
+    requires { Each (IsOldPair index from) pairs.now }
+{
+    let count = last as usize + 1;
+    if pairs.len() < count {
+        return Ok(false);
+    }
+    let mut settings = Settings::start(alloc, index, from, MOST_NODES);
+    let done = solve_front(order, alloc, &mut settings, pairs, count)?;
+    if !done {
+        return Ok(false);
+    }
+    is_within(&settings)
+}
+
+/// The first pair of so many that makes an image beyond the limits: by halves, since images only grow.
+fn first_beyond(
+    alloc: Global,
+    order: &Order,
+    pairs: &[TypPair],
+    index: u32,
+    from: u32,
+    count: u32,
+) -> Result<u32, AllocError>
+    requires { Each (IsOldPair index from) pairs.now }
+{
+    let mut low: u32 = 0;
+    let mut high = count;
+    while low < high {
+        let middle = low + (high - low) / 2;
+        let within = fits(alloc, order, pairs, index, from, middle)?;
+        if within {
+            low = middle + 1;
+        } else {
+            high = middle;
+        }
+    }
+    Ok(low)
 }
 
 /// The settings written out, and the first name that isn't used.
@@ -103,47 +200,86 @@ fn answer(settings: &Settings, alloc: Global) -> Result<Option<(TypMap, u32)>, A
     }
 }
 
-/// The same with a look at the limits behind each pair: which is wanted only where they are passed, or a pair fails.
-fn unify_with_care(
-    alloc: Global,
-    order: &Order,
-    pairs: &[TypPair],
-    index: u32,
-    from: u32,
-) -> Result<(TypMap, u32), TypFault>
-    requires { Each (IsOldPair index from) pairs.now }
-    ensures ok { IfOk result (λ found. AreUnified order.now index from pairs.now found.0 found.1) }
-    ensures idempotent { IfOk result (λ found. IsIdempotent found.0) }
-    ensures fault { IfErr result (IsDecided order.now index from pairs.now) }
-{
-    let mut settings = Settings::start(alloc, index, from, MOST_NODES);
-    solve_each(order, alloc, &mut settings, pairs)?;
-    let found = answer(&settings, alloc)?;
-    match found {
-        Some(found) => Ok(found),
-        None => Err(TypFault::Memory),
+/// How many pairs there are, or the greatest number that an index can be.
+fn count_of(pairs: &[TypPair]) -> u32 {
+    match u32::try_from(pairs.len()) {
+        Ok(count) => count,
+        Err(_) => u32::MAX,
     }
 }
 
-/// The same without a look at the limits before the end; none where they are passed, or a pair fails.
+/// What a pass without a look at the limits before the end comes to.
+#[derive(Drop)]
+enum Attempt {
+    /// The map, and the first name that isn't used.
+    Found((TypMap, u32)),
+    /// This pair isn't made equal, or the limits are passed behind the last one.
+    Stopped(u32),
+}
+
+/// The most general unifier, without a look at the limits before the end.
 fn unify_at_once(
     alloc: Global,
     order: &Order,
     pairs: &[TypPair],
     index: u32,
     from: u32,
-) -> Result<Option<(TypMap, u32)>, AllocError>
+) -> Result<Attempt, AllocError>
     requires { Each (IsOldPair index from) pairs.now }
-    ensures ok { IfOk result (λ o. IfSome o (λ found. AreUnified order.now index from pairs.now found.0 found.1)) }
-    ensures idempotent { IfOk result (λ o. IfSome o (λ found. IsIdempotent found.0)) }
+    ensures ok { IfOk result (IfFound (λ found. AreUnified order.now index from pairs.now found.0 found.1)) }
+    ensures idempotent { IfOk result (IfFound (λ found. IsIdempotent found.0)) }
 {
     let mut settings = Settings::start(alloc, index, from, MAX_SIZE);
-    let done = solve_all(order, alloc, &mut settings, pairs)?;
-    if !done {
-        return Ok(None);
+    match solve_all(order, alloc, &mut settings, pairs) {
+        Pass::Stopped(at) => Ok(Attempt::Stopped(at)),
+        Pass::Whole => {
+            let found = answer(&settings, alloc)?;
+            match found {
+                Some(found) => Ok(Attempt::Found(found)),
+                None => Ok(Attempt::Stopped(count_of(pairs))),
+            }
+        }
     }
-    let found = answer(&settings, alloc)?;
-    Ok(found)
+}
+
+/// Why the first of so many pairs whose images are beyond the limits decides.
+fn reason_before(
+    alloc: Global,
+    order: &Order,
+    pairs: &[TypPair],
+    index: u32,
+    from: u32,
+    count: u32,
+) -> TypFault
+    requires { Each (IsOldPair index from) pairs.now }
+    ensures { IsDecided order.now index from pairs.now result }
+{
+    match first_beyond(alloc, order, pairs, index, from, count) {
+        Ok(first) => match decide_at(alloc, order, pairs, index, from, first) {
+            Ok(()) => TypFault::Memory,
+            Err(fault) => fault,
+        },
+        Err(_) => TypFault::Memory,
+    }
+}
+
+/// Why the pairs aren't unified, where a pass stopped at this one or behind the last: most often it decides itself, and else
+/// an earlier one does.
+fn reason(
+    alloc: Global,
+    order: &Order,
+    pairs: &[TypPair],
+    index: u32,
+    from: u32,
+    at: u32,
+) -> TypFault
+    requires { Each (IsOldPair index from) pairs.now }
+    ensures { IsDecided order.now index from pairs.now result }
+{
+    match decide_at(alloc, order, pairs, index, from, at) {
+        Ok(()) => reason_before(alloc, order, pairs, index, from, at),
+        Err(fault) => fault,
+    }
 }
 
 /// The most general unifier of the pairs, with fresh variables of the given index whose names are counted from the given
@@ -162,10 +298,9 @@ pub fn unify_from(
     ensures fault { IfErr result (IsDecided order.now index from pairs.now) }
     ensures reason { IfErr result (IsReason order.now index from pairs.now) }
 {
-    match unify_at_once(alloc, order, pairs, index, from) {
-        Ok(Some(found)) => Ok(found),
-        Ok(None) => unify_with_care(alloc, order, pairs, index, from),
-        Err(_) => unify_with_care(alloc, order, pairs, index, from),
+    match unify_at_once(alloc, order, pairs, index, from)? {
+        Attempt::Found(found) => Ok(found),
+        Attempt::Stopped(at) => Err(reason(alloc, order, pairs, index, from, at)),
     }
 }
 

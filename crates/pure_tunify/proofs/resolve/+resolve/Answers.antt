@@ -1,7 +1,6 @@
-use Rattle.std.proofs.Common.{◌≡◌, ◌-◌, ap, sym, ◌∙◌, arith, take_all, subst, None, Some}
-use Rattle.pure_definitions.specs.Types.Typ.{Typ, Con, typ_size, typ_depth}
+use Rattle.std.proofs.Common.{◌-◌, ap, sym, arith, take_all, None, Some}
+use Rattle.pure_definitions.specs.Types.Typ.{Con}
 use Rattle.pure_definitions.specs.Terms.Subst.{typ_instance}
-use Rattle.pure_definitions.specs.Terms.Limits.{Leaves}
 use Rattle.pure_definitions.proofs.TypsLemmas.{typ_size-some, typ_depth-some}
 use Rattle.pure_definitions.proofs.InstanceLemmas.{typs_instance-of, instance-stops, instance-goes_on, instance-all, images-more}
 use Rattle.pure_term_laws.specs.LawsOccurs.{IsTypVariable}

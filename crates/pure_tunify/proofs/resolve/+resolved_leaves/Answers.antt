@@ -1,5 +1,5 @@
-use Rattle.std.proofs.Common.{◌≡◌, ◌-◌, arith, subst, None, Some}
-use Rattle.pure_definitions.specs.Types.Typ.{Typ, typ_size, typ_depth}
+use Rattle.std.proofs.Common.{◌-◌, arith, None, Some}
+use Rattle.pure_definitions.specs.Types.Typ.{typ_size, typ_depth}
 use Rattle.pure_definitions.specs.Terms.Subst.{typ_instance}
 use Rattle.pure_definitions.specs.Terms.Limits.{Leaves}
 use Rattle.pure_definitions.proofs.TypsLemmas.{typ_size-some, typ_depth-some}

@@ -1,13 +1,12 @@
-use Rattle.std.proofs.Common.{◌≡◌, map, take}
-use Rattle.pure_text.specs.Lists.{Each}
-use Rattle.pure_definitions.specs.Terms.Subst.{typ_instance}
-use Rattle.pure_definitions.specs.Terms.Limits.{IsWithinTyp}
-use Rattle.pure_tunify.specs.Settings.{composed}
-use Rattle.pure_tunify.proofs.WrittenLaws.{written_entry}
+use Rattle.std.proofs.Common.{drop, length, ◌≤◌}
+use Rattle.pure_tunify.proofs.WritingLaws.{AreWrittenOut}
 use Rattle.pure_tunify.proofs.resolve.written.Given as goal
 
-abbrev pub invariant-loop-bind : goal.invariant-loop-bind
-invariant-loop-bind l = record {
-  entries : l.map ≡ map (written_entry l.settings.sets) (take l.bind-index l.bind-items);
-  within : Each (λ b. IsWithinTyp (typ_instance (composed l.settings.sets) b.image)) (take l.bind-index l.bind-items);
+abbrev pub invariant-loop-left : goal.invariant-loop-left
+invariant-loop-left l = record {
+  out : AreWrittenOut l.settings (drop l.left l.settings.sets) l.done;
+  short : l.left ≤ length l.settings.sets;
 }
+
+abbrev pub decreases-loop-left : goal.decreases-loop-left
+decreases-loop-left l = l.left

@@ -1,5 +1,5 @@
 use Rattle.std.specs.Prelude.{reverse}
-use Rattle.pure_tunify.proofs.WorkLaws.{first_pursued, first_old, turn_goes, turn_keeps, turn_first_old, turn_stops, turns_end, nothing_popped, when_true}
+use Rattle.pure_tunify.proofs.WorkLaws.{first_pursued, first_old, turn_goes, turn_keeps, turns_end, nothing_popped, when_true}
 use Rattle.pure_tunify.proofs.solve.solve.Goals as goal
 
 pub loop-init : goal.loop-init

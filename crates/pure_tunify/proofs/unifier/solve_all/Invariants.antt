@@ -1,4 +1,4 @@
-use Rattle.pure_tunify.proofs.UnifyLaws.{HasCome}
+use Rattle.pure_tunify.specs.Passes.{HasCome}
 use Rattle.pure_tunify.proofs.unifier.solve_all.Given as goal
 
 abbrev pub invariant-loop-pair : goal.invariant-loop-pair

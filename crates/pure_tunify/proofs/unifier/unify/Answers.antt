@@ -3,4 +3,4 @@ use Rattle.pure_tunify.proofs.IndexLaws.{above_pairs_old}
 use Rattle.pure_tunify.proofs.unifier.unify.Goals as goal
 
 pub unify_from-requires : goal.unify_from-requires
-unify_from-requires c = above_pairs_old c.index_above_each-index.result c.args.pairs.now (omega arith)
+unify_from-requires c = above_pairs_old c.index_above_each-index.result 0 c.args.pairs.now (omega arith)

@@ -1,0 +1,27 @@
+//! Calls whose conditions are tested first.
+use pure_order::Order;
+use pure_tunify::{TypFault, TypPair, index_above, unify, unify_from};
+use pure_typ::TypMap;
+use std::alloc::Global;
+
+/// The unifier of the pairs.
+pub(crate) fn unifier(alloc: Global, order: &Order, pairs: &[TypPair]) -> Result<TypMap, TypFault> {
+    if index_above(pairs) == u32::MAX {
+        return Err(TypFault::Memory);
+    }
+    unify(alloc, order, pairs)
+}
+
+/// The unifier of the pairs, with fresh variables whose names are counted from the given one.
+pub(crate) fn unifier_from(
+    alloc: Global,
+    order: &Order,
+    pairs: &[TypPair],
+    from: u32,
+) -> Result<(TypMap, u32), TypFault> {
+    let index = index_above(pairs);
+    if index == u32::MAX {
+        return Err(TypFault::Memory);
+    }
+    unify_from(alloc, order, pairs, index, from)
+}
