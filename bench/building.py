@@ -1,5 +1,6 @@
-"""Builds a bench's small program over copies of the crates that it stands on."""
+"""Builds a bench's small program over copies of the crates that it stands on, and runs it."""
 import os
+import resource
 import shutil
 import subprocess
 
@@ -44,3 +45,14 @@ def build(folder, name, crates, files, words):
     if not os.path.exists(program):
         raise SystemExit(done.stdout.decode()[-4000:])
     return program
+
+
+def measured(words, timeout=None):
+    """The words that a program writes, and the seconds of processor time that it takes, which say more than its own clock on a busy machine; nothing where it runs for longer than `timeout` seconds."""
+    before = resource.getrusage(resource.RUSAGE_CHILDREN)
+    try:
+        done = subprocess.run(words, stdout=subprocess.PIPE, timeout=timeout)
+    except subprocess.TimeoutExpired:
+        return None
+    after = resource.getrusage(resource.RUSAGE_CHILDREN)
+    return done.stdout.split(), after.ru_utime + after.ru_stime - before.ru_utime - before.ru_stime

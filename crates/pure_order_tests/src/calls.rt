@@ -14,7 +14,7 @@ use std::test::Fail;
 // it, and `#Kc` those of K's arity for c itself; `KI:cd` whether a type is of a sort.
 
 /// What is refused, and what isn't.
-static REFUSALS: [(&[u8], &[u8], &[u8]); 18] = [
+static REFUSALS: [(&[u8], &[u8], &[u8]); 23] = [
     (b"", b"c<", b""),
     (b"", b"c<d", b"?d"),
     (b"c<", b"d<c", b""),
@@ -35,6 +35,12 @@ static REFUSALS: [(&[u8], &[u8], &[u8]); 18] = [
     (b"c< I:=c", b"I:=c", b"twice"),
     (b"c< d<c I:=c", b"I:c/=d", b"!Idc"),
     (b"c< d<c e< K:e/=d", b"K:c/=c", b"!Kcd"),
+    // An arity that comes to be the greatest, from below, and one that doesn't at each class.
+    (b"c< d<c e<d K:e/=e K:d/=d", b"K:c/=c", b""),
+    (b"c< d<c e<d K:e/=e K:c/=c", b"K:d/=d", b""),
+    (b"c< d<c e<d K:d/=e K:c/=c", b"K:e/=d", b"!Kde"),
+    (b"c< d<c e<d K:e/=e K:c/=c", b"K:c/=d", b""),
+    (b"c< d< e<cd g<cd K:e/=e", b"K:g/=g", b"!Kge"),
 ];
 
 /// Classes and sorts.
@@ -116,7 +122,7 @@ static TYPES: [(&[u8], &[u8], &[u8]); 34] = [
 
 /// Merges: the declarations of both orders, what is asked of their union, and its answer, or the merge's refusal;
 /// `apart` where they don't agree on a class.
-static MERGES: [(&[u8], &[u8], &[u8], &[u8]); 12] = [
+static MERGES: [(&[u8], &[u8], &[u8], &[u8]); 20] = [
     (b"", b"", b"@c", b"no"),
     (b"c<", b"d<", b"c<d", b"no"),
     (b"c< d<c", b"c< e<c", b"+e", b"ce"),
@@ -136,6 +142,48 @@ static MERGES: [(&[u8], &[u8], &[u8], &[u8]); 12] = [
     // The least constructor of those in conflict.
     (b"c< d< L:c/=c K:c/=c", b"c< d< L:d/=c K:d/=c", b"", b"!Kcc"),
     (b"c< d<c I:=c", b"c< d<c I:=d", b"I:d", b"yes"),
+    // The classes in another order, or not all in both.
+    (b"e< d<e c<e K:c/=c", b"e< c<e d<e K:d/=d", b"", b"!Kcd"),
+    (b"e< c<e K:c/=c", b"e< d<e K:d/=d", b"", b"!Kcd"),
+    // One class is below the other, and the domains don't fall.
+    (b"c< d<c K:c/=d", b"c< d<c K:d/=c", b"", b"!Kcd"),
+    (b"c< d<c K:d/=c", b"c< d<c K:c/=d", b"", b"!Kcd"),
+    // The least two classes of those in conflict.
+    (
+        b"h< i< c<h d<h e<i g<i K:e/=e K:c/=c",
+        b"h< i< c<h d<h e<i g<i K:g/=g K:d/=d",
+        b"",
+        b"!Kcd",
+    ),
+    (
+        b"h< i< c<h d<h e<i g<i K:e/=e K:d/=d",
+        b"h< i< c<h d<h e<i g<i K:g/=g K:c/=c",
+        b"",
+        b"!Kcd",
+    ),
+    // Some arities are in both; and one of the second has a join only with a later one.
+    (
+        b"e< c<e d<e K:c/=c K:e/=e",
+        b"e< c<e d<e K:c/=c K:e/=e K:d/=d",
+        b".Kd",
+        b"d/",
+    ),
+    (
+        b"e< c<e d<e K:c/=c",
+        b"e< c<e d<e K:d/=d K:e/=e",
+        b".Ke",
+        b"e/",
+    ),
+];
+
+/// Copies: the declarations of an order, one more of its copy, what is asked of both, and the answers of the order and
+/// of the copy.
+static COPIES: [(&[u8], &[u8], &[u8], &[u8], &[u8]); 5] = [
+    (b"c< d<c K:d/=d", b"", b".Kc", b"d/", b"d/"),
+    (b"c< d<c K:d/=d", b"e<d", b"+e", b"none", b"cde"),
+    (b"c< d<c K:d/=d", b"K:c/=c", b".Kc", b"d/", b"c/"),
+    (b"c< d<c K:d/=d", b"I:=d", b"I:c", b"no", b"yes"),
+    (b"", b"c<", b"@c", b"no", b"yes"),
 ];
 
 fn yes_or_no(alloc: Global, answer: bool) -> Result<Vec<u8>, AllocError> {
@@ -265,10 +313,20 @@ fn answer(alloc: Global, order: &Order, asked: &[u8]) -> Result<Vec<u8>, AllocEr
     }
 }
 
+/// Whether the order gives this answer.
+pub(crate) fn is_answered(
+    alloc: Global,
+    order: &Order,
+    asked: &[u8],
+    wanted: &[u8],
+) -> Result<bool, AllocError> {
+    let found = answer(alloc, order, asked)?;
+    Ok(found.as_slice() == wanted)
+}
+
 fn is_answer(alloc: Global, text: &[u8], asked: &[u8], wanted: &[u8]) -> Result<bool, Fail> {
     let order = declared(alloc, text)?;
-    let found = answer(alloc, &order, asked)?;
-    Ok(found.as_slice() == wanted)
+    Ok(is_answered(alloc, &order, asked, wanted)?)
 }
 
 fn is_refusal(alloc: Global, text: &[u8], asked: &[u8], wanted: &[u8]) -> Result<bool, Fail> {
@@ -308,6 +366,38 @@ fn is_merge(
     Ok(found.as_slice() == wanted)
 }
 
+/// A copy with one declaration more.
+fn grown(alloc: Global, order: &Order, more: &[u8]) -> Result<Order, OrderFault> {
+    let mut copy = order.copy(alloc)?;
+    declare(alloc, &mut copy, more)?;
+    Ok(copy)
+}
+
+fn is_grown(
+    alloc: Global,
+    order: &Order,
+    more: &[u8],
+    asked: &[u8],
+    wanted: &[u8],
+) -> Result<bool, Fail> {
+    let copy = grown(alloc, order, more)?;
+    Ok(is_answered(alloc, &copy, asked, wanted)?)
+}
+
+fn are_apart(
+    alloc: Global,
+    text: &[u8],
+    more: &[u8],
+    asked: &[u8],
+    wanted: &[u8],
+    later: &[u8],
+) -> Result<bool, Fail> {
+    let order = declared(alloc, text)?;
+    let copied = is_grown(alloc, &order, more, asked, later)?;
+    let kept = is_answered(alloc, &order, asked, wanted)?;
+    Ok(copied && kept)
+}
+
 fn check_rows<R: Abort + AllocGlobal>(rt: &R, rows: &[(&[u8], &[u8], &[u8])]) -> Result<(), Fail> {
     for (row, (text, asked, wanted)) in rows.iter().enumerate() {
         assert!(rt; is_answer(rt.alloc(), text, asked, wanted)?, "row {row}");
@@ -338,6 +428,17 @@ fn merges(rt: HostRuntime) -> Result<(), Fail> {
     for (row, (first, second, asked, wanted)) in MERGES.iter().enumerate() {
         assert!(rt;
             is_merge(rt.alloc(), first, second, asked, wanted)?,
+            "row {row}"
+        );
+    }
+    Ok(())
+}
+
+#[test]
+fn copies(rt: HostRuntime) -> Result<(), Fail> {
+    for (row, (text, more, asked, wanted, later)) in COPIES.iter().enumerate() {
+        assert!(rt;
+            are_apart(rt.alloc(), text, more, asked, wanted, later)?,
             "row {row}"
         );
     }
