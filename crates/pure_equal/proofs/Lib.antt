@@ -1,0 +1,3 @@
+pub mod DerivedLaws
+pub mod ReductionLaws
+pub mod ClosedLaws

@@ -1,0 +1,4 @@
+pub mod Equivalence
+pub mod Congruence
+pub mod Propositions
+pub mod Reduction
