@@ -1,0 +1,5 @@
+pub mod Named
+pub mod Renaming
+pub mod Image
+pub mod Instance
+pub mod Schematic
