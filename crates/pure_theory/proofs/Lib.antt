@@ -1,0 +1,12 @@
+pub mod NamesakeLaws
+pub mod StageLaws
+pub mod GrowthLaws
+pub mod RefusalLaws
+pub mod PureLaws
+pub mod SchematicLaws
+pub mod DefinitionLaws
+pub mod LookupLaws
+pub mod OnceLaws
+pub mod MergeLaws
+pub mod FactLookupLaws
+pub mod CertifiedLaws

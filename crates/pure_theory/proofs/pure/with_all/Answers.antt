@@ -1,0 +1,8 @@
+use Rattle.pure_theory.proofs.PureLaws.{all_fresh, all_made}
+use Rattle.pure_theory.proofs.pure.with_all.Goals as goal
+
+pub add_const-requires : goal.add_const-requires
+add_const-requires c = rw c.in_ok-before.ensures all_fresh
+
+pub returns : goal.returns
+returns c = rw (c.in_ok-more.ensures, c.in_ok-before.ensures, c.in_ok-typ.ensures) all_made

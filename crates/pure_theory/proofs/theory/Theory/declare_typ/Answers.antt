@@ -1,0 +1,16 @@
+use Rattle.std.proofs.Common.{refl}
+use Rattle.pure_theory.proofs.GrowthLaws.{typ_stage}
+use Rattle.pure_theory.proofs.NamesakeLaws.{new_typ, old_typ}
+use Rattle.pure_theory.proofs.theory.Theory.declare_typ.Goals as goal
+
+pub with-requires : goal.with-requires
+with-requires c = rw (← c.self.view_is, c.in_ok-declared.ensures, c.in_ok-order.ensures) (typ_stage _ _ c.self.invariant c.args.name c.args.params c.in_default.ensures)
+
+pub returns-clause-ok : goal.returns-clause-ok
+returns-clause-ok c = rw (c.in_ok-more.ensures, c.in_ok-declared.ensures, ← c.self.view_is) refl
+
+pub returns-clause-new : goal.returns-clause-new
+returns-clause-new c = rw (← c.self.view_is) (new_typ c.self.inside.declared c.args.name c.args.params c.in_default.ensures)
+
+pub returns-in-Some-clause-fault : goal.returns-in-Some-clause-fault
+returns-in-Some-clause-fault c = rw (← c.self.view_is) (old_typ c.self.inside.declared c.args.name c.args.params c.in-Some._old ((c.in-Some.ensures c.in-Some._old).1 refl))

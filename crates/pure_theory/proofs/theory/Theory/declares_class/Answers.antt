@@ -1,0 +1,5 @@
+use Rattle.pure_theory.proofs.LookupLaws.{class_declared}
+use Rattle.pure_theory.proofs.theory.Theory.declares_class.Goals as goal
+
+pub returns : goal.returns
+returns c = class_declared c.args.self.now.declarations c.order-order.result.now c.args.name c.is_declared.result c.order-order.ensures c.is_declared.ensures

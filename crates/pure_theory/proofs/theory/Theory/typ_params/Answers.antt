@@ -1,0 +1,4 @@
+use Rattle.pure_theory.proofs.theory.Theory.typ_params.Goals as goal
+
+pub returns : goal.returns
+returns c = rw (← c.self.view_is) c.typ_params.ensures

@@ -1,0 +1,40 @@
+-- When a theory can't begin.
+use Rattle.std.specs.Prelude.{◌≡◌, List, ◌∷◌, ◌++◌, map, ℕ}
+use Rattle.std.specs.declared.alloc.Global.{Global}
+use Rattle.std.specs.declared.sync.Arc.{Arc}
+use Rattle.pure_definitions.specs.Types.Order.{Algebra}
+use Rattle.pure_definitions.specs.Declarations.Decl.{Decl, algebra_of}
+use Rattle.pure_order_tables.specs.Arities.{IsUnion}
+use Rattle.pure_order_tables.specs.Checks.{IsLeastConflict}
+use Rattle.pure_logic.specs.Content.{Content}
+use Rattle.pure_logic.specs.Beginning.{IsMerge}
+use Rattle.pure_theory.specs.declared.fault.DeclFault.{DeclFault}
+use Rattle.pure_theory.specs.declared.fault.DeclFault.TheVariants.{NotCoregular, Memory}
+
+-- the contents behind pointers
+abbrev pub contents : List (Arc Content Global) → List Content
+contents = map (λ p. p.value)
+
+-- Of the merge of two lists: together they aren't coregular, by the least constructor, the least first class and the least second class in conflict.
+abbrev pub IsMergeRefusal : List Decl → List Decl → DeclFault → Type 0
+IsMergeRefusal ds es (NotCoregular k c d) = (U : Algebra) × IsUnion (algebra_of ds) (algebra_of es) U × IsLeastConflict U k c d
+IsMergeRefusal ds es Memory = Unit {0}
+IsMergeRefusal ds es _ = ⊥
+
+-- One of the parents can't be merged with those before it: together they aren't coregular, by these least of all in conflict.
+pub record IsFirstConflict (parents : List Content) (con c1 c2 : ℕ) : Type 0 where
+  pub front : List Content
+  pub parent : Content
+  pub rest : List Content
+  pub are : parents ≡ front ++ parent ∷ rest
+  pub merged : List Decl
+  pub merge : IsMerge front merged
+  pub union : Algebra
+  pub is_union : IsUnion (algebra_of merged) (algebra_of parent.declarations) union
+  pub least : IsLeastConflict union con c1 c2
+
+-- Of a theory that begins: the first merge that isn't coregular.
+abbrev pub IsBeginRefusal : List Content → DeclFault → Type 0
+IsBeginRefusal parents (NotCoregular k c d) = IsFirstConflict parents k c d
+IsBeginRefusal parents Memory = Unit {0}
+IsBeginRefusal parents _ = ⊥

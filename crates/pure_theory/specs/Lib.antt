@@ -1,0 +1,10 @@
+pub mod Codes
+pub mod Stage
+pub mod PureParts
+pub mod Refusals
+pub mod Definitions
+pub mod Spaces
+pub mod Begin
+pub mod Once
+pub mod FactView
+pub mod Certified

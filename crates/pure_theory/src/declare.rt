@@ -1,0 +1,91 @@
+//! Declarations: each makes a theory with just one declaration more.
+ghost use Rattle.std.specs.Prelude.{◌≡◌, IfOk, IfErr, OnOk};
+ghost use Rattle.pure_definitions.specs.Declarations.Decl.{ConDecl, ConstDecl, AxiomDecl, PromiseDecl};
+ghost use Rattle.pure_definitions.specs.Declarations.Certified.{IsCertifiedTyp};
+ghost use Rattle.pure_logic.specs.Content.{IsSchematicTyp, IsStatement};
+ghost use Rattle.pure_theory.specs.Stage.{with_decl};
+ghost use Rattle.pure_theory.specs.Refusals.{HasNamesake, IsNameRefusal, IsLabelAbove};
+
+use crate::fault::DeclFault;
+use crate::theory::Theory;
+use pure_stage::shared;
+use pure_term::{Label, Name, Term, Typ};
+use std::sync::Arc;
+
+impl Theory {
+    /// Declares a type constructor, with the count of its arguments.
+    pub fn declare_typ(&self, name: Name, params: u32) -> Result<Theory, DeclFault>
+        ensures ok { IfOk result (λ more. more ≡ with_decl self.now (ConDecl name params)) }
+        ensures new { OnOk result (¬ HasNamesake self.now.declarations (ConDecl name params)) }
+        ensures fault { IfErr result (IsNameRefusal self.now.declarations (ConDecl name params)) }
+    {
+        if let Some(_old) = self.declared.typ_params(name) {
+            return Err(DeclFault::Duplicate);
+        }
+        let declared = self.declared.with_typ(name, params)?;
+        let order = Arc::try_clone(&self.order)?;
+        let more = self.with(declared, order)?;
+        Ok(more)
+    }
+
+    /// Declares a constant, with its type.
+    pub fn declare_const(&self, name: Name, typ: &Typ) -> Result<Theory, DeclFault>
+        requires certified { IsCertifiedTyp self.now.declarations typ.now }
+        requires schematic { IsSchematicTyp typ.now }
+        ensures ok { IfOk result (λ more. more ≡ with_decl self.now (ConstDecl name typ.now)) }
+        ensures new { OnOk result (¬ HasNamesake self.now.declarations (ConstDecl name typ.now)) }
+        ensures fault { IfErr result (IsNameRefusal self.now.declarations (ConstDecl name typ.now)) }
+    {
+        if let Some(_old) = self.declared.const_typ(name) {
+            return Err(DeclFault::Duplicate);
+        }
+        let copy = typ.copy(self.alloc)?;
+        let typ = shared(self.alloc, copy)?;
+        let declared = self.declared.with_const(name, typ)?;
+        let order = Arc::try_clone(&self.order)?;
+        let more = self.with(declared, order)?;
+        Ok(more)
+    }
+
+    /// Declares an axiom.
+    pub fn declare_axiom(&self, name: Name, prop: &Term) -> Result<Theory, DeclFault>
+        requires { IsStatement self.now prop.now }
+        ensures ok { IfOk result (λ more. more ≡ with_decl self.now (AxiomDecl name prop.now)) }
+        ensures new { OnOk result (¬ HasNamesake self.now.declarations (AxiomDecl name prop.now)) }
+        ensures fault { IfErr result (IsNameRefusal self.now.declarations (AxiomDecl name prop.now)) }
+    {
+        if let Some(_old) = self.declared.fact(name) {
+            return Err(DeclFault::Duplicate);
+        }
+        let copy = prop.copy(self.alloc)?;
+        let prop = shared(self.alloc, copy)?;
+        let declared = self.declared.with_axiom(name, prop)?;
+        let order = Arc::try_clone(&self.order)?;
+        let more = self.with(declared, order)?;
+        Ok(more)
+    }
+
+    /// Declares a promise, whose label comes after those of all others.
+    pub fn declare_promise(
+        &self,
+        name: Name,
+        label: Label,
+        prop: &Term,
+    ) -> Result<Theory, DeclFault>
+        requires statement { IsStatement self.now prop.now }
+        requires label { IsLabelAbove self.now.declarations label }
+        ensures ok { IfOk result (λ more. more ≡ with_decl self.now (PromiseDecl name label prop.now)) }
+        ensures new { OnOk result (¬ HasNamesake self.now.declarations (PromiseDecl name label prop.now)) }
+        ensures fault { IfErr result (IsNameRefusal self.now.declarations (PromiseDecl name label prop.now)) }
+    {
+        if let Some(_old) = self.declared.fact(name) {
+            return Err(DeclFault::Duplicate);
+        }
+        let copy = prop.copy(self.alloc)?;
+        let prop = shared(self.alloc, copy)?;
+        let declared = self.declared.with_promise(name, label, prop)?;
+        let order = Arc::try_clone(&self.order)?;
+        let more = self.with(declared, order)?;
+        Ok(more)
+    }
+}

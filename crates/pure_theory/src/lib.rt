@@ -1,0 +1,26 @@
+//! Theories: what is declared, in stages that grow from one another.
+#![tactic(auto)]
+
+mod begin;
+mod classes;
+mod cthm;
+mod declare;
+mod definition;
+mod facts;
+mod fault;
+mod lookup;
+mod pure;
+mod relation;
+mod schematic;
+mod tables;
+mod theory;
+mod theory_id;
+
+pub use cthm::{Cthm, TransferFault};
+pub use facts::Fact;
+pub use fault::DeclFault;
+pub use pure_certify::CertFault;
+pub use pure_shelf::Shelf;
+pub use pure_stage::{Decl, Statement};
+pub use pure_theorem::{Built, Pair, RuleFault, Thm};
+pub use theory::{Stage, Theory};

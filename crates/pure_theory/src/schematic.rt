@@ -1,0 +1,118 @@
+//! Fixed type variables made schematic, and what a definition's body may not have.
+ghost use Rattle.std.specs.Prelude.{◌≡◌, ◌↔◌, IfOk, IsTrue};
+ghost use Rattle.pure_definitions.specs.Terms.Subst.{typ_instance, inst_typ};
+ghost use Rattle.pure_logic.specs.Content.{schematic_typ_variable};
+ghost use Rattle.pure_theory.specs.Definitions.{HasVariable, HasExtra, HasExtraTyp};
+
+use pure_term::{Term, TermNode, Typ, TypNode};
+use pure_typ::occurs_in_typ;
+use std::alloc::{AllocError, Global};
+
+/// Whether the term has a fixed or a schematic variable.
+pub(crate) fn has_variable(t: &Term) -> bool
+    ensures { IsTrue result ↔ HasVariable t.now }
+{
+    match &t.node {
+        TermNode::Const { .. } => false,
+        TermNode::Free { .. } => true,
+        TermNode::Var { .. } => true,
+        TermNode::Bound { .. } => false,
+        TermNode::Abs { body, .. } => has_variable(body),
+        TermNode::App { fun, arg } => has_variable(fun) || has_variable(arg),
+    }
+}
+
+/// Whether the second type has a type variable that the first lacks.
+fn has_extra(typ: &Typ, t: &Typ) -> bool
+    ensures { IsTrue result ↔ HasExtra typ.now t.now }
+{
+    match &t.node {
+        TypNode::TFree { .. } => !occurs_in_typ(t, typ),
+        TypNode::TVar { .. } => !occurs_in_typ(t, typ),
+        TypNode::Con { args, .. } => {
+            for arg in args {
+                if has_extra(typ, arg) {
+                    return true;
+                }
+            }
+            false
+        }
+    }
+}
+
+/// Whether a type in the term has a type variable that the type lacks.
+pub(crate) fn has_extra_typ(typ: &Typ, t: &Term) -> bool
+    ensures { IsTrue result ↔ HasExtraTyp typ.now t.now }
+{
+    match &t.node {
+        TermNode::Const { typ: own, .. } => has_extra(typ, own),
+        TermNode::Free { typ: own, .. } => has_extra(typ, own),
+        TermNode::Var { typ: own, .. } => has_extra(typ, own),
+        TermNode::Bound { .. } => false,
+        TermNode::Abs { typ: own, body } => has_extra(typ, own) || has_extra_typ(typ, body),
+        TermNode::App { fun, arg } => has_extra_typ(typ, fun) || has_extra_typ(typ, arg),
+    }
+}
+
+/// The type with its fixed type variables made schematic.
+pub(crate) fn schematic_typ(alloc: Global, t: &Typ) -> Result<Typ, AllocError>
+    ensures { IfOk result (λ u. u ≡ typ_instance schematic_typ_variable t.now) }
+{
+    match &t.node {
+        TypNode::TFree { name, sort } => {
+            let sort = sort.copy(alloc)?;
+            Ok(Typ {
+                node: TypNode::TVar {
+                    name: *name,
+                    index: 0,
+                    sort,
+                },
+            })
+        }
+        TypNode::TVar { .. } => t.copy(alloc),
+        TypNode::Con { name, args } => {
+            let mut images = Vec::with_capacity(alloc, args.len())?;
+            for arg in args {
+                images.push(schematic_typ(alloc, arg)?)?;
+            }
+            Ok(Typ {
+                node: TypNode::Con {
+                    name: *name,
+                    args: images,
+                },
+            })
+        }
+    }
+}
+
+/// The term with its fixed type variables made schematic, in a block of its own.
+pub(crate) fn schematic_term(alloc: Global, t: &Term) -> Result<Box<Term>, AllocError>
+    ensures { IfOk result (λ u. u.value ≡ inst_typ schematic_typ_variable t.now) }
+{
+    let node = match &t.node {
+        TermNode::Const { name, typ } => TermNode::Const {
+            name: *name,
+            typ: schematic_typ(alloc, typ)?,
+        },
+        TermNode::Free { name, typ } => TermNode::Free {
+            name: *name,
+            typ: schematic_typ(alloc, typ)?,
+        },
+        TermNode::Var { name, index, typ } => TermNode::Var {
+            name: *name,
+            index: *index,
+            typ: schematic_typ(alloc, typ)?,
+        },
+        TermNode::Bound { place } => TermNode::Bound { place: *place },
+        TermNode::Abs { typ, body } => TermNode::Abs {
+            typ: schematic_typ(alloc, typ)?,
+            body: schematic_term(alloc, body)?,
+        },
+        TermNode::App { fun, arg } => TermNode::App {
+            fun: schematic_term(alloc, fun)?,
+            arg: schematic_term(alloc, arg)?,
+        },
+    };
+    let term = Box::new(alloc, Term { node })?;
+    Ok(term)
+}

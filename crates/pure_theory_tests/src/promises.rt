@@ -1,0 +1,87 @@
+//! A promise, a theorem that rests on it, and theories to which that is handed on.
+use crate::notation::{declare, name, variable};
+use pure_rules::promise;
+use pure_term::{Label, Name};
+use pure_theory::{Cthm, Decl, DeclFault, Stage, Theory, TransferFault};
+use std::alloc::{AllocError, Global};
+use std::process::Abort;
+use std::sync::Arc;
+use std::test::Fail;
+
+/// The label of the promise.
+const LABEL: Label = Label {
+    theory: 1,
+    command: 2,
+    part: 0,
+};
+
+/// Pure with a promise that states `?A`.
+fn promised(alloc: Global) -> Result<Theory, DeclFault> {
+    let pure = Theory::pure(alloc)?;
+    pure.content_is_sound();
+    pure.declare_promise(name(b'p'), LABEL, &variable(alloc))
+}
+
+/// The theorem of the promise.
+fn resting(alloc: Global, stage: &Stage) -> Result<Option<Cthm>, AllocError> {
+    let theory = &**stage;
+    match promise(alloc, theory, LABEL) {
+        Ok(thm) => Ok(Some(Cthm::make(Arc::try_clone(stage)?, thm))),
+        Err(_) => Ok(None),
+    }
+}
+
+/// Whether the theorem is handed on to the theory, and rests on the promise there.
+fn is_handed_on(theorem: &Cthm, to: &Stage) -> bool {
+    match theorem.transfer(to) {
+        Ok(more) => more.thm().rests.as_slice() == [LABEL].as_slice(),
+        Err(_) => false,
+    }
+}
+
+/// Why the theorem isn't handed on to the theory.
+fn fault_of(theorem: &Cthm, to: &Stage) -> Option<TransferFault> {
+    theorem.transfer(to).err()
+}
+
+/// Whether the promise is found by its label, and its name is taken for facts.
+fn is_taken(alloc: Global, theory: &Theory) -> bool {
+    let other = Label { part: 1, ..LABEL };
+    let taken = declare(alloc, theory, b"p!").err() == Some(DeclFault::Duplicate);
+    taken && theory.promise_prop(LABEL).is_some() && theory.promise_prop(other).is_none()
+}
+
+/// The theory behind a pointer.
+fn shared(alloc: Global, theory: Theory) -> Result<Stage, DeclFault> {
+    Ok(pure_stage::shared(alloc, theory)?)
+}
+
+/// Whether a theorem of the promise is handed on to the theory of the promise and to one that has more, and not to Pure, which lacks the promise.
+fn is_transferred(alloc: Global) -> Result<bool, DeclFault> {
+    let pure = shared(alloc, Theory::pure(alloc)?)?;
+    let first = promised(alloc)?;
+    let more = shared(alloc, declare(alloc, &first, b"f.")?)?;
+    let taken = is_taken(alloc, &first);
+    let stage = shared(alloc, first)?;
+    let Some(theorem) = resting(alloc, &stage)? else {
+        return Ok(false);
+    };
+    let missing = TransferFault::Missing {
+        declaration: Decl::Promise {
+            name: name(b'p'),
+            label: LABEL,
+        },
+    };
+    Ok(
+        taken
+            && is_handed_on(&theorem, &stage)
+            && is_handed_on(&theorem, &more)
+            && fault_of(&theorem, &pure) == Some(missing),
+    )
+}
+
+#[test]
+fn promises(rt: HostRuntime) -> Result<(), Fail> {
+    assert!(rt; is_transferred(rt.alloc()) == Ok(true));
+    Ok(())
+}
