@@ -1,0 +1,7 @@
+pub mod LabelSets
+pub mod FateLaws
+pub mod ProvedLaws
+pub mod PlaceLaws
+pub mod ReachLaws
+pub mod HeldLaws
+pub mod CodeLaws

@@ -1,0 +1,4 @@
+pub mod Entries
+pub mod Reach
+pub mod Seen
+pub mod Laws

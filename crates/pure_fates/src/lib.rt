@@ -1,0 +1,12 @@
+//! Fates: what a lemma reaches through the promises of proofs, and what its row says.
+#![tactic(auto)]
+
+mod entry;
+mod fate;
+pub mod laws;
+mod reach;
+mod rows;
+
+pub use entry::Reported;
+pub use fate::{Fate, fate_of, is_proved};
+pub use reach::{Reach, reaches};
