@@ -1,0 +1,195 @@
+-- What the calls answer, from what their parts answer.
+use Rattle.std.proofs.Common.{◌≡◌, ℕ, zero, suc, List, [], ◌∷◌, map, Some, None, Result, Ok, Err, IfOk, IfErr, slice_get, inl, inr, refl, ap, sym, subst, ◌∙◌}
+use Rattle.pure_text.specs.Lists.{Each}
+use Rattle.pure_definitions.specs.Types.Typ.{Typ, TFree, TVar, Con, prop}
+use Rattle.pure_definitions.specs.Types.Order.{Algebra}
+use Rattle.pure_definitions.specs.Terms.Term.{Term, Const, Free, Var, Bound, Abs, App, IsWithin}
+use Rattle.pure_definitions.specs.Terms.Subst.{TypBind, typ_image, inst_typ}
+use Rattle.pure_term_laws.specs.LawsOccurs.{IsTypVariable}
+use Rattle.pure_term_laws.proofs.SubstLaws.{entries-keep_fixed_typs}
+use Rattle.pure_term_laws.proofs.OccursLaws.{typ_instances-agree}
+use Rattle.pure_tunify.specs.declared.pair.TypPair.{TypPair}
+use Rattle.pure_tunify.specs.declared.fault.TypFault.{TypFault}
+use Rattle.pure_tunify.specs.declared.fault.TypFault.TheVariants as typing
+use Rattle.pure_tunify.specs.Settings.{composed}
+use Rattle.pure_tunify.specs.Procedure.{Outcome, Unified, NotTyped, TooBig, Unifies}
+use Rattle.pure_tunify.specs.Working.{IsWritten}
+use Rattle.pure_tunify.specs.Answers.{AreUnified, IsDecided}
+use Rattle.pure_tunify.specs.Unifiers.{IsOldPair}
+use Rattle.pure_grammar.specs.Terms.RawTree.{RawTree, RawTypTree}
+use Rattle.pure_elab.specs.declared.classes.WrittenClass.{WrittenClass}
+use Rattle.pure_elab.specs.declared.draft.Constraints.{Constraints}
+use Rattle.pure_elab.specs.declared.fault.NameFault.{NameFault}
+use Rattle.pure_elab.specs.declared.fault.NameFault.TheVariants as named
+use Rattle.pure_elab.specs.declared.fault.FaultAt.{FaultAt}
+use Rattle.pure_elab.specs.declared.fault.ElabFault.{ElabFault}
+use Rattle.pure_elab.specs.declared.fault.ElabFault.TheVariants.{UnknownName, UnknownSort, WrongCount, Schematic, IllTyped, Big, Memory}
+use Rattle.pure_elab.specs.Vocabulary.{Vocabulary}
+use Rattle.pure_elab.specs.Faults.{IsEarliest, earliest, term_faults, typ_faults}
+use Rattle.pure_elab.specs.Written.{AreSorts, term_classes}
+use Rattle.pure_elab.specs.Numbered.{with_fixed}
+use Rattle.pure_elab.specs.Drafts.{Constraint, Draft, whole_draft, pair_of}
+use Rattle.pure_elab.specs.Drafted.{constraint_place}
+use Rattle.pure_elab.specs.Finished.{IsFinished, IsNameRefusal, IsFaultFrom, HasConstraintsOf}
+use Rattle.pure_elab.specs.Answers.{IsFixedTyp, fault_of, IsTyped, IsTypingFault, IsDraftOf, IsElaborated, IsElabFault, IsElabTypFault}
+use Rattle.pure_elab.specs.Laws.{IsMostGeneralTerm}
+use Rattle.pure_elab.proofs.EarliestLaws.{earliest_decides, none_found}
+use Rattle.pure_elab.proofs.OldLaws.{whole_is_old}
+use Rattle.pure_elab.proofs.GeneralLaws.{answer_is_most_general}
+
+pub prop_is_fixed : IsFixedTyp prop
+prop_is_fixed x i s (inl e) = absurd (cc)
+prop_is_fixed x i s (inr o) = absurd o
+
+-- Sorts of the same classes over the same order.
+pub sorts_at : (A B : Algebra) (ws us : List WrittenClass) (sorts : ℕ → List ℕ) → A ≡ B → ws ≡ us → AreSorts A ws sorts → AreSorts B us sorts
+sorts_at A B ws us sorts e f h = subst (λ (C : Algebra). AreSorts C us sorts) e (subst (λ (l : List WrittenClass). AreSorts A l sorts) f h)
+
+fault_refuses : (faults : List FaultAt) (at : ℕ) (k : NameFault) → IsEarliest faults (record { at = at; fault = k }) → IsNameRefusal faults (fault_of (record { at = at; fault = k }))
+fault_refuses faults at named.UnknownName h = record { found = record { at = at; fault = named.UnknownName }; earliest = h; is = refl }
+fault_refuses faults at named.UnknownSort h = record { found = record { at = at; fault = named.UnknownSort }; earliest = h; is = refl }
+fault_refuses faults at named.WrongCount h = record { found = record { at = at; fault = named.WrongCount }; earliest = h; is = refl }
+fault_refuses faults at named.Schematic h = record { found = record { at = at; fault = named.Schematic }; earliest = h; is = refl }
+
+-- What a walk finds decides, and it is a refusal of names.
+pub found_refuses : (faults : List FaultAt) (f : FaultAt) (fault : ElabFault) → Some f ≡ earliest None faults → fault ≡ fault_of f → IsNameRefusal faults fault
+found_refuses faults f fault e same = subst (λ (x : ElabFault). IsNameRefusal faults x) (sym same) (fault_refuses faults f.at f.fault (earliest_decides faults f (sym e)))
+
+pub nothing_found : (faults : List FaultAt) → None ≡ earliest None faults → faults ≡ []
+nothing_found faults e = none_found faults (sym e)
+
+-- A refusal of names is a fault of the text.
+pub refused_term : (V : Vocabulary) (t : RawTree) (T : Typ) (fault : ElabFault) → IsNameRefusal (term_faults V [] t) fault → IsElabFault V t T fault
+refused_term V t T (UnknownName at) h = h
+refused_term V t T (UnknownSort at) h = h
+refused_term V t T (WrongCount at) h = h
+refused_term V t T (Schematic at) h = h
+refused_term V t T (IllTyped at) h = absurd h
+refused_term V t T Big h = absurd h
+refused_term V t T Memory h = h
+
+pub refused_typ : (V : Vocabulary) (t : RawTypTree) (fault : ElabFault) → IsNameRefusal (typ_faults V t) fault → IsElabTypFault V t fault
+refused_typ V t (UnknownName at) h = h
+refused_typ V t (UnknownSort at) h = h
+refused_typ V t (WrongCount at) h = h
+refused_typ V t (Schematic at) h = h
+refused_typ V t (IllTyped at) h = absurd h
+refused_typ V t Big h = absurd h
+refused_typ V t Memory h = h
+
+composed_keeps : (sets : List TypBind) (x : ℕ) (s : List ℕ) → composed sets (TFree x s) ≡ TFree x s
+composed_keeps [] x s = refl
+composed_keeps (b ∷ bs) x s = composed_keeps bs x s
+
+agree_written : (sets written : List TypBind) → IsWritten sets written → (v : Typ) → IsTypVariable v → typ_image written v ≡ composed sets v
+agree_written sets written h (TFree x s) is = entries-keep_fixed_typs written x s ∙ sym (composed_keeps sets x s)
+agree_written sets written h (TVar x i s) is = h x i s
+agree_written sets written h (Con k ts) is = absurd is
+
+inst_same : (f g : Typ → Typ) → ((v : Typ) → IsTypVariable v → f v ≡ g v) → (t : Term) → inst_typ f t ≡ inst_typ g t
+inst_same f g h (Const c T) = ap (Const c) (typ_instances-agree f g T (λ v is o. h v is))
+inst_same f g h (Free x T) = ap (Free x) (typ_instances-agree f g T (λ v is o. h v is))
+inst_same f g h (Var x i T) = ap (Var x i) (typ_instances-agree f g T (λ v is o. h v is))
+inst_same f g h (Bound n) = refl
+inst_same f g h (Abs T b) = λ l. Abs (typ_instances-agree f g T (λ v is o. h v is) l) (inst_same f g h b l)
+inst_same f g h (App a b) = λ l. App (inst_same f g h a l) (inst_same f g h b l)
+
+module _ (V : Vocabulary) (A : Algebra) (order : A ≡ V.algebra) (d : Draft) (t : Term) (all : Constraints) (has : HasConstraintsOf d t all) where
+  under_same : (sets written : List TypBind) → IsWritten sets written → inst_typ (typ_image written) t ≡ inst_typ (composed sets) d.term
+  under_same sets written h = inst_same (typ_image written) (composed sets) (agree_written sets written h) t ∙ ap (inst_typ (composed sets)) has.term
+
+  comes : (o : Outcome) → Unifies A 2 0 0 [] all.pairs.items o → Unifies V.algebra 2 0 0 [] (map pair_of d.constraints) o
+  comes o u = subst (λ (B : Algebra). Unifies B 2 0 0 [] (map pair_of d.constraints) o) order (subst (λ (ps : List TypPair). Unifies A 2 0 0 [] ps o) has.pairs u)
+
+  pub typed_ok : (written : List TypBind) (next : ℕ) (u : Term) → AreUnified A 2 0 all.pairs.items written next → IsFinished V (inst_typ (typ_image written) t) (Ok u) → IsTyped V d u
+  typed_ok written next u unified finished =
+      let same = under_same unified.sets written unified.written in
+      record {
+        sets = unified.sets;
+        next = next;
+        unifies = comes (Unified unified.sets next) unified.unifies;
+        within = subst IsWithin same finished.0;
+        is = finished.1 ∙ ap (with_fixed V.fresh) same;
+      }
+
+  pub typed_large : (written : List TypBind) (next : ℕ) (fault : ElabFault) → AreUnified A 2 0 all.pairs.items written next → IsFinished V (inst_typ (typ_image written) t) (Err fault) → IsTypingFault V d fault
+  typed_large written next Big unified beyond =
+      let same = under_same unified.sets written unified.written in
+      inl (record { sets = unified.sets; next = next; unifies = comes (Unified unified.sets next) unified.unifies; beyond = subst (λ (w : Term). ¬ IsWithin w) same beyond })
+  typed_large written next Memory unified h = h
+  typed_large written next (UnknownName at) unified h = absurd h
+  typed_large written next (UnknownSort at) unified h = absurd h
+  typed_large written next (WrongCount at) unified h = absurd h
+  typed_large written next (Schematic at) unified h = absurd h
+  typed_large written next (IllTyped at) unified h = absurd h
+
+  place_found : (cs : List Constraint) (k at : ℕ) → slice_get (map constraint_place cs) k ≡ Some at → (c : Constraint) × (slice_get cs k ≡ Some c) × (at ≡ c.at)
+  place_found [] k at e = absurd (cc)
+  place_found (c ∷ cs) zero at e = let same : c.at ≡ at = cc in (c, refl, sym same)
+  place_found (c ∷ cs) (suc k) at e = place_found cs k at e
+
+  memory_fault : (fault : ElabFault) → fault ≡ Memory → IsTypingFault V d fault
+  memory_fault fault e = subst (λ (f : ElabFault). IsTypingFault V d f) (sym e) tt
+
+  no_typing_fault : (k : ℕ) (fault : ElabFault) → Unifies A 2 0 0 [] all.pairs.items (NotTyped k) → IsFaultFrom all.places.items (typing.NoTyping k) fault → IsTypingFault V d fault
+  no_typing_fault k (IllTyped at) u h =
+      let found = place_found d.constraints k at (subst (λ (l : List ℕ). slice_get l k ≡ Some at) has.places h) in
+      record { number = k; constraint = found.0; unifies = comes (NotTyped k) u; stands = found.1; place = found.2 }
+  no_typing_fault k (UnknownName at) u h = memory_fault (UnknownName at) h
+  no_typing_fault k (UnknownSort at) u h = memory_fault (UnknownSort at) h
+  no_typing_fault k (WrongCount at) u h = memory_fault (WrongCount at) h
+  no_typing_fault k (Schematic at) u h = memory_fault (Schematic at) h
+  no_typing_fault k Big u h = memory_fault Big h
+  no_typing_fault k Memory u h = tt
+
+  pub typing_refused : (reason : TypFault) (fault : ElabFault) → IsDecided A 2 0 all.pairs.items reason → IsFaultFrom all.places.items reason fault → IsTypingFault V d fault
+  typing_refused (typing.NoTyping k) fault u h = no_typing_fault k fault u h
+  typing_refused (typing.Big k) fault u h = subst (λ (f : ElabFault). IsTypingFault V d f) (sym h) (inr (k, comes (TooBig k) u))
+  typing_refused typing.Memory fault u h = memory_fault fault h
+
+-- A typing fault is one of the text.
+pub not_typed : (V : Vocabulary) (t : RawTree) (T : Typ) (d : Draft) (fault : ElabFault) → IsDraftOf V t T d → IsTypingFault V d fault → IsElabFault V t T fault
+not_typed V t T d (IllTyped at) of h = record { draft = d; of_text = of; reason = h }
+not_typed V t T d Big of h = record { draft = d; of_text = of; reason = h }
+not_typed V t T d Memory of h = tt
+not_typed V t T d (UnknownName at) of h = absurd h
+not_typed V t T d (UnknownSort at) of h = absurd h
+not_typed V t T d (WrongCount at) of h = absurd h
+not_typed V t T d (Schematic at) of h = absurd h
+
+-- The draft of a text without faults of names.
+pub draft_of : (V : Vocabulary) (t : RawTree) (T : Typ) (sorts : ℕ → List ℕ) → term_faults V [] t ≡ [] → AreSorts V.algebra (term_classes V t) sorts → IsDraftOf V t T (whole_draft V sorts t T)
+draft_of V t T sorts sound are = record { sound = sound; sorts = sorts; are_sorts = are; is = refl }
+
+-- The pairs of a whole draft have no fresh variables.
+pub pairs_are_old : (V : Vocabulary) (sorts : ℕ → List ℕ) (t : RawTree) (T : Typ) (u : Term) (all : Constraints) → IsFixedTyp T → HasConstraintsOf (whole_draft V sorts t T) u all → Each (IsOldPair 2 0) all.pairs.items
+pairs_are_old V sorts t T u all fixed has = subst (λ (ps : List TypPair). Each (IsOldPair 2 0) ps) (sym has.pairs) (whole_is_old V sorts t T fixed)
+
+pub all_general : (V : Vocabulary) (t : RawTree) (T : Typ) (r : Result Term ElabFault) → IsFixedTyp T → IfOk r (IsElaborated V t T) → IfOk r (IsMostGeneralTerm V t T)
+all_general V t T (Ok u) fixed h = answer_is_most_general V t T u fixed h
+all_general V t T (Err f) fixed h = tt
+
+pub general_at : (V : Vocabulary) (t : RawTree) (T W : Typ) (r : Result Term ElabFault) → T ≡ W → IsFixedTyp W → IfOk r (IsElaborated V t T) → IfOk r (IsMostGeneralTerm V t W)
+general_at V t T W r same fixed h = all_general V t W r fixed (subst (λ (U : Typ). IfOk r (IsElaborated V t U)) same h)
+
+-- What is finished, of each draft with these constraints.
+pub all_typed : (V : Vocabulary) (A : Algebra) → A ≡ V.algebra → (t : Term) (all : Constraints) (written : List TypBind) (next : ℕ) (r : Result Term ElabFault) → AreUnified A 2 0 all.pairs.items written next
+    → IsFinished V (inst_typ (typ_image written) t) r → IfOk r (λ u. (d : Draft) → HasConstraintsOf d t all → IsTyped V d u)
+all_typed V A order t all written next (Ok u) unified finished = λ d has. typed_ok V A order d t all has written next u unified finished
+all_typed V A order t all written next (Err f) unified finished = tt
+
+pub all_large : (V : Vocabulary) (A : Algebra) → A ≡ V.algebra → (t : Term) (all : Constraints) (written : List TypBind) (next : ℕ) (r : Result Term ElabFault) → AreUnified A 2 0 all.pairs.items written next
+    → IsFinished V (inst_typ (typ_image written) t) r → IfErr r (λ f. (d : Draft) → HasConstraintsOf d t all → IsTypingFault V d f)
+all_large V A order t all written next (Ok u) unified finished = tt
+all_large V A order t all written next (Err f) unified finished = λ d has. typed_large V A order d t all has written next f unified finished
+
+-- What the draft of a text comes to is what the text says.
+pub elaborated_ok : (V : Vocabulary) (t : RawTree) (T : Typ) (sorts : ℕ → List ℕ) (u : Term) (all : Constraints) (r : Result Term ElabFault) → term_faults V [] t ≡ [] → AreSorts V.algebra (term_classes V t) sorts
+    → HasConstraintsOf (whole_draft V sorts t T) u all → IfOk r (λ w. (d : Draft) → HasConstraintsOf d u all → IsTyped V d w) → IfOk r (IsElaborated V t T)
+elaborated_ok V t T sorts u all (Ok w) sound are has h = record { draft = whole_draft V sorts t T; of_text = draft_of V t T sorts sound are; typed = h (whole_draft V sorts t T) has }
+elaborated_ok V t T sorts u all (Err f) sound are has h = tt
+
+pub elaborated_err : (V : Vocabulary) (t : RawTree) (T : Typ) (sorts : ℕ → List ℕ) (u : Term) (all : Constraints) (r : Result Term ElabFault) → term_faults V [] t ≡ [] → AreSorts V.algebra (term_classes V t) sorts
+    → HasConstraintsOf (whole_draft V sorts t T) u all → IfErr r (λ f. (d : Draft) → HasConstraintsOf d u all → IsTypingFault V d f) → IfErr r (IsElabFault V t T)
+elaborated_err V t T sorts u all (Ok w) sound are has h = tt
+elaborated_err V t T sorts u all (Err f) sound are has h = not_typed V t T (whole_draft V sorts t T) f (draft_of V t T sorts sound are) (h (whole_draft V sorts t T) has)

@@ -1,0 +1,17 @@
+pub mod Lists
+pub mod DraftLaws
+pub mod NumberedLaws
+pub mod OldLaws
+pub mod EarliestLaws
+pub mod WalkLaws
+pub mod SortLaws
+pub mod DraftedLaws
+pub mod AnswerLaws
+pub mod GeneralLaws
+pub mod DeclaredLaws
+pub mod CertifiedLaws
+pub mod CallLaws
+pub mod SoundLaws
+pub mod CertifiedAnswerLaws
+pub mod VocabularyLaws
+pub mod FoundLaws

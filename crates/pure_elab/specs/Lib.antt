@@ -1,0 +1,16 @@
+pub mod Vocabulary
+pub mod Meant
+pub mod Faults
+pub mod Written
+pub mod Numbered
+pub mod Drafts
+pub mod Typings
+pub mod Answers
+pub mod Sound
+pub mod Found
+pub mod Laws
+pub mod Scope
+pub mod Table
+pub mod Numbering
+pub mod Drafted
+pub mod Finished

@@ -1,0 +1,227 @@
+//! The calls that elaborate.
+ghost use Rattle.std.specs.Prelude.{◌≡◌, [], IfOk, IfErr, OnOk};
+ghost use Rattle.pure_text.specs.Lists.{Each};
+ghost use Rattle.pure_definitions.specs.Types.Typ as tree;
+ghost use Rattle.pure_definitions.specs.Terms.Subst.{typ_image, inst_typ};
+ghost use Rattle.pure_definitions.specs.Declarations.Certified.{IsCertifiedTyp};
+ghost use Rattle.pure_logic.specs.Content.{Content, IsCertifiedOf, IsProposition};
+ghost use Rattle.pure_tunify.specs.Unifiers.{IsOldPair};
+ghost use Rattle.pure_elab.specs.Sound.{IsSoundVocabulary};
+ghost use Rattle.pure_elab.specs.Faults.{term_faults};
+ghost use Rattle.pure_elab.specs.Numbered.{with_fixed};
+ghost use Rattle.pure_elab.specs.Drafts as drafts;
+ghost use Rattle.pure_elab.specs.Table.{sort_among};
+ghost use Rattle.pure_elab.specs.Typings.{fresh_index};
+ghost use Rattle.pure_elab.specs.Answers as answers;
+ghost use Rattle.pure_elab.specs.Answers.{IsFixedTyp, IsTyped, IsTypingFault, IsElaborated, IsElabFault, IsElaboratedTyp, IsElabTypFault};
+ghost use Rattle.pure_elab.specs.Laws.{IsMostGeneralTerm};
+ghost use Rattle.pure_elab.specs.Finished.{IsFinished, IsNameRefusal, IsFaultFrom, HasConstraintsOf};
+
+use crate::draft::{Constraints, constrain_to, draft, raw_place};
+use crate::fault::{ElabFault, FaultAt, NameFault};
+use crate::faults::{with_term, with_typ};
+use crate::language::Language;
+use crate::numbered::{Numbering, number_term};
+use crate::scope::Scope;
+use crate::sorts::{VariableSort, sorts_of_term, sorts_of_typ};
+use crate::written::written_typ;
+use pure_read::{Raw, RawTyp};
+use pure_term::{Grow, Term, inst_typ};
+use pure_tunify::{TypFault, unify_from};
+use pure_typ::{Name, Typ, TypMap, TypNode};
+use std::alloc::{AllocError, Global};
+
+/// The index of the fresh variables of unification.
+const FRESH_INDEX: u32 = 2;
+
+/// The type of propositions. It takes no memory.
+fn prop(alloc: Global) -> Typ
+    ensures { result ≡ tree.prop }
+{
+    Typ {
+        node: TypNode::Con {
+            name: Name::PROP,
+            args: Vec::new(alloc),
+        },
+    }
+}
+
+/// The fault of a name, as one of elaboration.
+fn fault_of(found: FaultAt) -> ElabFault
+    ensures { result ≡ answers.fault_of found }
+{
+    let at = found.at;
+    match found.fault {
+        NameFault::UnknownName => ElabFault::UnknownName { at },
+        NameFault::UnknownSort => ElabFault::UnknownSort { at },
+        NameFault::WrongCount => ElabFault::WrongCount { at },
+        NameFault::Schematic => ElabFault::Schematic { at },
+    }
+}
+
+/// Refuses a term with a fault of names.
+fn check_names<L: Language>(alloc: Global, language: &L, raw: &Raw) -> Result<(), ElabFault>
+    ensures ok { OnOk result (term_faults (L.vocabulary language.now) [] raw.now ≡ []) }
+    ensures fault { IfErr result (λ f. IsNameRefusal (term_faults (L.vocabulary language.now) [] raw.now) f) }
+{
+    let typ = prop(alloc);
+    let scope = Scope::Empty;
+    let found = with_term(language, &typ, &scope, raw, None)?;
+    match found {
+        None => Ok(()),
+        Some(found) => Err(fault_of(found)),
+    }
+}
+
+/// Makes the term's schematic type variables fixed.
+fn fixed<L: Language>(alloc: Global, language: &L, term: Term) -> Result<Term, AllocError>
+    ensures { IfOk result (λ t. t ≡ with_fixed (L.vocabulary language.now).fresh term) }
+{
+    let mut binds = TypMap::empty(alloc);
+    let first = language.first_fresh();
+    number_term(alloc, Numbering::Fixed, first, &mut binds, &term)?;
+    match inst_typ(alloc, &term, &binds) {
+        Ok(term) => Ok(term),
+        Err(_) => Err(AllocError),
+    }
+}
+
+/// The draft's term under the map, with the unknowns that are left made fixed.
+fn finished<L: Language>(
+    alloc: Global,
+    language: &L,
+    term: &Term,
+    map: &TypMap,
+) -> Result<Term, ElabFault>
+    ensures { IsFinished (L.vocabulary language.now) (inst_typ (typ_image map.now) term.now) result }
+{
+    match inst_typ(alloc, term, map) {
+        Err(Grow::Big) => Err(ElabFault::Big),
+        Err(Grow::Memory) => Err(ElabFault::Memory),
+        Ok(term) => {
+            let term = fixed(alloc, language, term)?;
+            Ok(term)
+        }
+    }
+}
+
+/// Why the constraints have no typing.
+fn typing_fault(places: &[u32], fault: TypFault) -> ElabFault
+    ensures { IsFaultFrom places.now fault result }
+{
+    match fault {
+        TypFault::NoTyping { index } => match places.get(index as usize) {
+            Some(at) => ElabFault::IllTyped { at: *at },
+            None => ElabFault::Memory,
+        },
+        TypFault::Big { .. } => ElabFault::Big,
+        TypFault::Memory => ElabFault::Memory,
+    }
+}
+
+/// The term under the unifier of the constraints.
+fn typed<L: Language>(
+    alloc: Global,
+    language: &L,
+    term: &Term,
+    constraints: &Constraints,
+) -> Result<Term, ElabFault>
+    requires { Each (IsOldPair fresh_index 0) constraints.now.pairs.items }
+    ensures ok { IfOk result (λ t. (d : drafts.Draft) → HasConstraintsOf d term.now constraints.now → IsTyped (L.vocabulary language.now) d t) }
+    ensures fault { IfErr result (λ f. (d : drafts.Draft) → HasConstraintsOf d term.now constraints.now → IsTypingFault (L.vocabulary language.now) d f) }
+{
+    let pairs = constraints.pairs.as_slice();
+    match unify_from(alloc, language.order(), pairs, FRESH_INDEX, 0) {
+        Err(fault) => Err(typing_fault(constraints.places.as_slice(), fault)),
+        Ok((map, _)) => finished(alloc, language, term, &map),
+    }
+}
+
+/// The draft of a whole term that has to have this type.
+fn whole_draft<L: Language>(
+    alloc: Global,
+    language: &L,
+    sorts: &[VariableSort],
+    raw: &Raw,
+    typ: Typ,
+) -> Result<(Box<Term>, Constraints), AllocError>
+    ensures { IfOk result (λ found. HasConstraintsOf (drafts.whole_draft (L.vocabulary language.now) (sort_among sorts.now) raw.now typ) found.0.value found.1) }
+{
+    let mut constraints = Constraints {
+        next: 0,
+        pairs: Vec::new(alloc),
+        places: Vec::new(alloc),
+    };
+    let scope = Scope::Empty;
+    let drafted = draft(alloc, language, sorts, &mut constraints, &scope, raw)?;
+    let place = raw_place(raw);
+    constrain_to(alloc, &mut constraints, place, &drafted.typ, typ)?;
+    Ok((drafted.term, constraints))
+}
+
+/// The term that the text says at this type.
+fn elaborate_to<L: Language>(
+    alloc: Global,
+    language: &L,
+    raw: &Raw,
+    typ: Typ,
+) -> Result<Term, ElabFault>
+    requires { IsFixedTyp typ }
+    ensures ok { IfOk result (IsElaborated (L.vocabulary language.now) raw.now typ) }
+    ensures fault { IfErr result (IsElabFault (L.vocabulary language.now) raw.now typ) }
+{
+    check_names(alloc, language, raw)?;
+    let sorts = sorts_of_term(alloc, language, raw)?;
+    let (term, constraints) = whole_draft(alloc, language, sorts.as_slice(), raw, typ)?;
+    typed(alloc, language, &term, &constraints)
+}
+
+/// The proposition that the text says, under a most general typing; or the first fault of its names, before all typing, or
+/// the first constraint without a common solution with those before it (Isabelle/Isar Implementation manual, section 2.2, on
+/// type reconstruction).
+pub fn elaborate<L: Language>(alloc: Global, language: &L, raw: &Raw) -> Result<Term, ElabFault>
+    ensures ok { IfOk result (IsElaborated (L.vocabulary language.now) raw.now tree.prop) }
+    ensures fault { IfErr result (IsElabFault (L.vocabulary language.now) raw.now tree.prop) }
+    ensures general { IfOk result (IsMostGeneralTerm (L.vocabulary language.now) raw.now tree.prop) }
+    ensures certified { IfOk result (λ t. (Q : Content) → IsSoundVocabulary Q.declarations (L.vocabulary language.now) → IsProposition Q t) }
+{
+    let typ = prop(alloc);
+    elaborate_to(alloc, language, raw, typ)
+}
+
+/// The term that the text says at this type, under a most general typing; or its fault.
+pub fn elaborate_at<L: Language>(
+    alloc: Global,
+    language: &L,
+    raw: &Raw,
+    typ: &Typ,
+) -> Result<Term, ElabFault>
+    requires { IsFixedTyp typ.now }
+    ensures ok { IfOk result (IsElaborated (L.vocabulary language.now) raw.now typ.now) }
+    ensures fault { IfErr result (IsElabFault (L.vocabulary language.now) raw.now typ.now) }
+    ensures general { IfOk result (IsMostGeneralTerm (L.vocabulary language.now) raw.now typ.now) }
+    ensures certified { IfOk result (λ t. (Q : Content) → IsSoundVocabulary Q.declarations (L.vocabulary language.now) → IsCertifiedTyp Q.declarations typ.now → IsCertifiedOf Q t typ.now) }
+{
+    let copy = typ.copy(alloc)?;
+    elaborate_to(alloc, language, raw, copy)
+}
+
+/// The type that the text says; or the first fault of its names.
+pub fn elaborate_typ<L: Language>(
+    alloc: Global,
+    language: &L,
+    raw: &RawTyp,
+) -> Result<Typ, ElabFault>
+    ensures ok { IfOk result (IsElaboratedTyp (L.vocabulary language.now) raw.now) }
+    ensures fault { IfErr result (IsElabTypFault (L.vocabulary language.now) raw.now) }
+    ensures certified { IfOk result (λ t. (Q : Content) → IsSoundVocabulary Q.declarations (L.vocabulary language.now) → IsCertifiedTyp Q.declarations t) }
+{
+    match with_typ(language, raw, None) {
+        Some(found) => Err(fault_of(found)),
+        None => {
+            let sorts = sorts_of_typ(alloc, language, raw)?;
+            let typ = written_typ(alloc, language, sorts.as_slice(), raw)?;
+            Ok(typ)
+        }
+    }
+}

@@ -1,0 +1,2 @@
+mod FixedLemmas
+mod TableLemmas
