@@ -1,0 +1,4 @@
+pub mod ModuloLaws
+pub mod EquatedModulo
+pub mod ScopeLaws
+pub mod TrivialLaws

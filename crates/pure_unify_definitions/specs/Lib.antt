@@ -1,0 +1,9 @@
+pub mod Fronts
+pub mod Firm
+pub mod Node
+pub mod LongSides
+pub mod Treatment
+pub mod Retyping
+pub mod Simplification
+pub mod Children
+pub mod Search

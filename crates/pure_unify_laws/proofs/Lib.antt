@@ -1,0 +1,11 @@
+pub mod OneTreatment
+pub mod OneSides
+pub mod OneStep
+pub mod OneSearch
+pub mod SettingLaws
+pub mod SplitLaws
+pub mod ReachedLaws
+pub mod HeadLaws
+pub mod ImageLaws
+pub mod SolvedLaws
+pub mod SortLaws

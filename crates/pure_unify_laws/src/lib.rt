@@ -1,0 +1,4 @@
+//! What the definitions of the unifier mean: laws.
+#![tactic(auto)]
+
+pub mod laws;
