@@ -5,6 +5,7 @@ ghost use Rattle.pure_certify.specs.Answer.{IsCertAnswer};
 
 use crate::theory::Theory;
 use pure_certify::{CertFault, Tables, certify};
+use pure_inst::Ordered;
 use pure_order::Order;
 use pure_term::{Label, Name, Term, Typ};
 use pure_theorem::Base;
@@ -40,6 +41,12 @@ impl Base for Theory {
             None => None,
             Some(prop) => Some(prop),
         }
+    }
+}
+
+impl Ordered for Theory {
+    fn order(&self) -> &Order {
+        &*self.order
     }
 }
 
