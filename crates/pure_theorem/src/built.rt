@@ -106,17 +106,38 @@ fn reflexivity(alloc: Global) -> Result<Term, AllocError>
     equation(alloc, &typ, left, right)
 }
 
-/// `?x == ?y ==> ?P ?x ==> ?P ?y`
-fn substitutivity(alloc: Global) -> Result<Term, AllocError>
-    ensures { IfOk result (λ t. t ≡ substitutivity) }
+/// The schematic predicate of the variable of this name.
+fn predicate_of(alloc: Global, name: u32, argument: u32) -> Result<Term, AllocError>
+    ensures { IfOk result (λ t. t ≡ tree.App (tree.Var name 0 (arrow any_typ prop)) (tree.Var argument 0 any_typ)) }
+{
+    predicate(alloc, name, variable(argument, typ_variable(alloc, 0)))
+}
+
+/// `?P ?x ==> ?P ?y`
+fn substituted(alloc: Global) -> Result<Term, AllocError>
+    ensures { IfOk result (λ t. t ≡ imp (tree.App (tree.Var 2 0 (arrow any_typ prop)) (tree.Var 0 0 any_typ)) (tree.App (tree.Var 2 0 (arrow any_typ prop)) (tree.Var 1 0 any_typ))) }
+{
+    let premise = predicate_of(alloc, 2, 0)?;
+    let conclusion = predicate_of(alloc, 2, 1)?;
+    implication(alloc, premise, conclusion)
+}
+
+/// `?x == ?y`
+fn equal_variables(alloc: Global) -> Result<Term, AllocError>
+    ensures { IfOk result (λ t. t ≡ eq any_typ (tree.Var 0 0 any_typ) (tree.Var 1 0 any_typ)) }
 {
     let typ = typ_variable(alloc, 0);
     let left = variable(0, typ_variable(alloc, 0));
     let right = variable(1, typ_variable(alloc, 0));
-    let sides = equation(alloc, &typ, left, right)?;
-    let premise = predicate(alloc, 2, variable(0, typ_variable(alloc, 0)))?;
-    let conclusion = predicate(alloc, 2, variable(1, typ_variable(alloc, 0)))?;
-    let rest = implication(alloc, premise, conclusion)?;
+    equation(alloc, &typ, left, right)
+}
+
+/// `?x == ?y ==> ?P ?x ==> ?P ?y`
+fn substitutivity(alloc: Global) -> Result<Term, AllocError>
+    ensures { IfOk result (λ t. t ≡ substitutivity) }
+{
+    let sides = equal_variables(alloc)?;
+    let rest = substituted(alloc)?;
     implication(alloc, sides, rest)
 }
 
@@ -131,15 +152,22 @@ fn equal_at_bound(alloc: Global) -> Result<Term, AllocError>
     equation(alloc, &typ_variable(alloc, 1), left, right)
 }
 
+/// `?f == ?g`, for functions
+fn equal_functions(alloc: Global) -> Result<Term, AllocError>
+    ensures { IfOk result (λ t. t ≡ eq (arrow any_typ other_typ) (tree.Var 0 0 (arrow any_typ other_typ)) (tree.Var 1 0 (arrow any_typ other_typ))) }
+{
+    let typ = Typ::arrow(alloc, typ_variable(alloc, 0), typ_variable(alloc, 1))?;
+    let left = function(alloc, 0, typ_variable(alloc, 1))?;
+    let right = function(alloc, 1, typ_variable(alloc, 1))?;
+    equation(alloc, &typ, left, right)
+}
+
 /// `(!!x. ?f x == ?g x) ==> ?f == ?g`
 fn function_extensionality(alloc: Global) -> Result<Term, AllocError>
     ensures { IfOk result (λ t. t ≡ function_extensionality) }
 {
     let premise = for_all(alloc, equal_at_bound(alloc)?)?;
-    let typ = Typ::arrow(alloc, typ_variable(alloc, 0), typ_variable(alloc, 1))?;
-    let left = function(alloc, 0, typ_variable(alloc, 1))?;
-    let right = function(alloc, 1, typ_variable(alloc, 1))?;
-    let conclusion = equation(alloc, &typ, left, right)?;
+    let conclusion = equal_functions(alloc)?;
     implication(alloc, premise, conclusion)
 }
 
@@ -154,15 +182,29 @@ fn implied(alloc: Global, premise: u32, conclusion: u32) -> Result<Term, AllocEr
     )
 }
 
+/// `?A == ?B`
+fn equal_propositions(alloc: Global) -> Result<Term, AllocError>
+    ensures { IfOk result (λ t. t ≡ eq prop (tree.Var 0 0 prop) (tree.Var 1 0 prop)) }
+{
+    let (left, right) = (proposition(alloc, 0), proposition(alloc, 1));
+    equation(alloc, &prop_typ(alloc), left, right)
+}
+
+/// `(?B ==> ?A) ==> ?A == ?B`
+fn equal_where_implied(alloc: Global) -> Result<Term, AllocError>
+    ensures { IfOk result (λ t. t ≡ imp (imp (tree.Var 1 0 prop) (tree.Var 0 0 prop)) (eq prop (tree.Var 0 0 prop) (tree.Var 1 0 prop))) }
+{
+    let back = implied(alloc, 1, 0)?;
+    let sides = equal_propositions(alloc)?;
+    implication(alloc, back, sides)
+}
+
 /// `(?A ==> ?B) ==> (?B ==> ?A) ==> ?A == ?B`
 fn propositional_extensionality(alloc: Global) -> Result<Term, AllocError>
     ensures { IfOk result (λ t. t ≡ propositional_extensionality) }
 {
     let forth = implied(alloc, 0, 1)?;
-    let back = implied(alloc, 1, 0)?;
-    let (left, right) = (proposition(alloc, 0), proposition(alloc, 1));
-    let sides = equation(alloc, &prop_typ(alloc), left, right)?;
-    let rest = implication(alloc, back, sides)?;
+    let rest = equal_where_implied(alloc)?;
     implication(alloc, forth, rest)
 }
 
@@ -180,7 +222,7 @@ fn specialisation(alloc: Global) -> Result<Term, AllocError>
     ensures { IfOk result (λ t. t ≡ specialisation) }
 {
     let premise = for_all(alloc, predicate(alloc, 0, bound())?)?;
-    let conclusion = predicate(alloc, 0, variable(1, typ_variable(alloc, 0)))?;
+    let conclusion = predicate_of(alloc, 0, 1)?;
     implication(alloc, premise, conclusion)
 }
 

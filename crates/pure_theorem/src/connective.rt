@@ -182,31 +182,55 @@ pub fn application(alloc: Global, function: Term, argument: Term) -> Result<Term
     })
 }
 
+/// The constant of implication.
+fn imp_constant(alloc: Global) -> Result<Term, AllocError>
+    ensures { IfOk result (λ t. t ≡ tree.Const imp_name imp_typ) }
+{
+    let range = Typ::arrow(alloc, prop_typ(alloc), prop_typ(alloc))?;
+    let typ = Typ::arrow(alloc, prop_typ(alloc), range)?;
+    Ok(constant(Name::IMP, typ))
+}
+
 /// `A ==> B`
 pub fn implication(alloc: Global, premise: Term, conclusion: Term) -> Result<Term, AllocError>
     ensures { IfOk result (λ t. t ≡ imp premise conclusion) }
 {
-    let range = Typ::arrow(alloc, prop_typ(alloc), prop_typ(alloc))?;
-    let typ = Typ::arrow(alloc, prop_typ(alloc), range)?;
-    let function = application(alloc, constant(Name::IMP, typ), premise)?;
+    let connective = imp_constant(alloc)?;
+    let function = application(alloc, connective, premise)?;
     application(alloc, function, conclusion)
+}
+
+/// The constant of equality, at the type of both sides.
+fn eq_constant(alloc: Global, typ: &Typ) -> Result<Term, AllocError>
+    ensures { IfOk result (λ t. t ≡ tree.Const eq_name (eq_typ typ.now)) }
+{
+    let range = Typ::arrow(alloc, typ.copy(alloc)?, prop_typ(alloc))?;
+    let typ = Typ::arrow(alloc, typ.copy(alloc)?, range)?;
+    Ok(constant(Name::EQ, typ))
 }
 
 /// `t == u`, at the type of both sides
 pub fn equation(alloc: Global, typ: &Typ, left: Term, right: Term) -> Result<Term, AllocError>
     ensures { IfOk result (λ t. t ≡ eq typ.now left right) }
 {
-    let range = Typ::arrow(alloc, typ.copy(alloc)?, prop_typ(alloc))?;
-    let typ = Typ::arrow(alloc, typ.copy(alloc)?, range)?;
-    let function = application(alloc, constant(Name::EQ, typ), left)?;
+    let connective = eq_constant(alloc, typ)?;
+    let function = application(alloc, connective, left)?;
     application(alloc, function, right)
+}
+
+/// The constant of quantification over variables of the type.
+fn all_constant(alloc: Global, typ: &Typ) -> Result<Term, AllocError>
+    ensures { IfOk result (λ t. t ≡ tree.Const all_name (all_typ typ.now)) }
+{
+    let domain = Typ::arrow(alloc, typ.copy(alloc)?, prop_typ(alloc))?;
+    let typ = Typ::arrow(alloc, domain, prop_typ(alloc))?;
+    Ok(constant(Name::ALL, typ))
 }
 
 /// `!!x. f x`, for a function from the type to propositions
 pub fn all_of(alloc: Global, typ: &Typ, function: Term) -> Result<Term, AllocError>
     ensures { IfOk result (λ t. t ≡ all_of typ.now function) }
 {
-    let domain = Typ::arrow(alloc, typ.copy(alloc)?, prop_typ(alloc))?;
-    let typ = Typ::arrow(alloc, domain, prop_typ(alloc))?;
-    application(alloc, constant(Name::ALL, typ), function)
+    let connective = all_constant(alloc, typ)?;
+    application(alloc, connective, function)
 }
