@@ -71,10 +71,10 @@ still_undeclared cs k c other none m = elim (any_split (λ l. l.name ≡ c) cs (
 
 -- names by numbers
 
-name_kept : (cs ks : List Class) (n : ℕ) → n < length cs → name_at (cs ++ ks) n ≡ name_at cs n
+pub name_kept : (cs ks : List Class) (n : ℕ) → n < length cs → name_at (cs ++ ks) n ≡ name_at cs n
 name_kept cs ks n within = ap (λ (k : Class). k.name) (get_or-append cs ks no_class n within)
 
-name_new : (cs : List Class) (k : Class) (n : ℕ) → n ≡ length cs → name_at (cs ++ k ∷ []) n ≡ k.name
+pub name_new : (cs : List Class) (k : Class) (n : ℕ) → n ≡ length cs → name_at (cs ++ k ∷ []) n ≡ k.name
 name_new cs k n e = rw e (ap (λ (k : Class). k.name) (get_or-append_seam cs k [] no_class))
 
 pub declared_at_number : (cs : List Class) (n : ℕ) → n < length cs → IsDeclared cs (name_at cs n)
@@ -95,7 +95,7 @@ number_of (k ∷ ks) c m = elim m [
 pub last_or_before : (m n : ℕ) → m < n + 1 → (m < n) ⊎ (m ≡ n)
 last_or_before m n h = grind arith
 
-inside : (cs : List Class) (k : Class) (n : ℕ) → n < length (cs ++ k ∷ []) → (n < length cs) ⊎ (n ≡ length cs)
+pub inside : (cs : List Class) (k : Class) (n : ℕ) → n < length (cs ++ k ∷ []) → (n < length cs) ⊎ (n ≡ length cs)
 inside cs k n h = last_or_before n (length cs) (omega (arith, length-append cs (k ∷ [])))
 
 -- the row of an old class

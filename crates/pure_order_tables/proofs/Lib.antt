@@ -12,6 +12,7 @@ pub mod UnionLaws
 pub mod SideLaws
 pub mod UncoveredLaws
 pub mod SortLaws
+pub mod KeptLaws
 pub mod ConflictLaws
 pub mod JudgeLaws
 pub mod AgreeLaws

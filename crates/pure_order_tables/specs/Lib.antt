@@ -8,6 +8,7 @@ pub mod Arities
 pub mod ArityView
 pub mod ArityTable
 pub mod Checks
+pub mod Kept
 pub mod Unknown
 pub mod Sorts
 pub mod Uncovered
