@@ -4,6 +4,7 @@ pub mod OtherLaws
 pub mod MapLaws
 pub mod BelowLaws
 pub mod ClassTableLaws
+pub mod HeldLaws
 pub mod ArityLaws
 pub mod ArityTableLaws
 pub mod CoregularLaws
