@@ -86,8 +86,8 @@ pub held_all : (m : BTreeMap ℕ ℕ) (words names : List ℕ) (i : ℕ) → IsO
 held_all m words names i ordered end so x = (
   λ k. (let w = so.only x k in (w.1, btree_map_get_place nat_cmp_total m w.0 x w.1 ordered w.3, w.4)),
   λ w. (let p = place_from_lookup (is_at (nat_cmp x)) m.entries w.0 w.1 in
-    let same : p.1 ≡ x = at_key p.1 p.3 in
-    so.all p.0 x w.0 (rw end (place_within m.entries p.0 (p.1, w.0) p.2)) (rw same at p.2) w.2),
+      let same : p.1 ≡ x = at_key p.1 p.3 in
+      so.all p.0 x w.0 (rw end (place_within m.entries p.0 (p.1, w.0) p.2)) (rw same at p.2) w.2),
 )
   where
     at_key : (k : ℕ) → is_at (nat_cmp x) k ≡ true → k ≡ x

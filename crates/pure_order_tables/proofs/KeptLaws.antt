@@ -26,16 +26,20 @@ pub record HasRow (A : Algebra) (s words : List ℕ) : Type 0 where
   pub held : (n : ℕ) → n < length A.classes → Holds words n ↔ HasClassBelow A s (name_at A.classes n)
 
 pub from_row : (A : Algebra) (s words : List ℕ) → IsSortRow A.classes s words → HasRow A s words
-from_row A s words w = record { held = λ n within. (
-  λ h. any_imply (λ b. IsClassBelow (of_classes A.classes) b (name_at A.classes n)) (λ b. IsClassBelow A b (name_at A.classes n)) s (λ b k. (below-classes A b (name_at A.classes n)).0 k) ((w.held n).0 h).1,
-  λ some. (w.held n).1 (within, any_imply (λ b. IsClassBelow A b (name_at A.classes n)) (λ b. IsClassBelow (of_classes A.classes) b (name_at A.classes n)) s (λ b k. (below-classes A b (name_at A.classes n)).1 k) some),
-) }
+from_row A s words w = record {
+  held = λ n within. (
+    λ h. any_imply (λ b. IsClassBelow (of_classes A.classes) b (name_at A.classes n)) (λ b. IsClassBelow A b (name_at A.classes n)) s (λ b k. (below-classes A b (name_at A.classes n)).0 k) ((w.held n).0 h).1,
+    λ some. (w.held n).1 (within, any_imply (λ b. IsClassBelow A b (name_at A.classes n)) (λ b. IsClassBelow (of_classes A.classes) b (name_at A.classes n)) s (λ b k. (below-classes A b (name_at A.classes n)).1 k) some),
+  );
+}
 
 pub from_words : (A : Algebra) (s words : List ℕ) → length A.classes ≤ 4096 → AreUpWords A s words → HasRow A s words
-from_words A s words most up = record { held = λ n within. (
-  λ h. any_imply (λ b. IsDeclared A.classes b × IsClassBelow A b (name_at A.classes n)) (λ b. IsClassBelow A b (name_at A.classes n)) s (λ b w. w.1) ((up n (omega arith)).0 h).1,
-  λ some. (up n (omega arith)).1 (within, any_imply (λ b. IsClassBelow A b (name_at A.classes n)) (λ b. IsDeclared A.classes b × IsClassBelow A b (name_at A.classes n)) s (λ b k. (known n within b k, k)) some),
-) }
+from_words A s words most up = record {
+  held = λ n within. (
+    λ h. any_imply (λ b. IsDeclared A.classes b × IsClassBelow A b (name_at A.classes n)) (λ b. IsClassBelow A b (name_at A.classes n)) s (λ b w. w.1) ((up n (omega arith)).0 h).1,
+    λ some. (up n (omega arith)).1 (within, any_imply (λ b. IsClassBelow A b (name_at A.classes n)) (λ b. IsDeclared A.classes b × IsClassBelow A b (name_at A.classes n)) s (λ b k. (known n within b k, k)) some),
+  );
+}
   where
     known : (n : ℕ) → n < length A.classes → (b : ℕ) → IsClassBelow A b (name_at A.classes n) → IsDeclared A.classes b
     known n within b k = elim (lower_declared A b (name_at A.classes n) k) [ inl e ↦ rw e (declared_at_number A.classes n within) | inr m ↦ m ]
@@ -140,7 +144,7 @@ row_more cs k f fresh s words row = record {
         let w = (row.held n).0 h in (
           omega (arith, length-append cs (k ∷ []), w.0),
           rw (name_kept cs (k ∷ []) n w.0) (any_imply (λ b. IsClassBelow (of_classes cs) b (name_at cs n)) (λ b. IsClassBelow (of_classes (cs ++ k ∷ [])) b (name_at cs n)) s
-            (λ b m. below-more (of_classes cs) (of_classes (cs ++ k ∷ [])) (λ l i. in-append_left l cs (k ∷ []) i) m) w.1),
+              (λ b m. below-more (of_classes cs) (of_classes (cs ++ k ∷ [])) (λ l i. in-append_left l cs (k ∷ []) i) m) w.1),
         )
 
     back : (n : ℕ) → (n < length (cs ++ k ∷ [])) × HasClassBelow (of_classes (cs ++ k ∷ [])) s (name_at (cs ++ k ∷ []) n) → Holds words n
@@ -160,12 +164,16 @@ kept_more cs k f fresh es kept = each_imply (IsKeptEntry cs) (IsKeptEntry (cs ++
 -- copies of arities
 
 pub kept_copy : (cs : List Class) (e g : ArityEntry) → arity_of g ≡ arity_of e → ((i : ℕ) → words_in g.rows i ≡ words_in e.rows i) → IsKeptEntry cs e → IsKeptEntry cs g
-kept_copy cs e g same rows h = record { at = λ i. let P : List (List ℕ) → Type 0 = λ ss. IsKeptRow cs (get_or ss i []) (words_in g.rows i) in
-    subst P (ap (λ a. a.domains) (sym same)) (rw (rows i) (h.at i)) }
+kept_copy cs e g same rows h = record {
+  at = λ i. let P : List (List ℕ) → Type 0 = λ ss. IsKeptRow cs (get_or ss i []) (words_in g.rows i) in
+      subst P (ap (λ a. a.domains) (sym same)) (rw (rows i) (h.at i));
+}
 
 pub kept_entry : (cs : List Class) (e g : ArityEntry) (ss : List (List ℕ)) (rows : Option (Arc (Vec (Vec ℕ)) Global)) → arity_of g ≡ arity_of e → g.rows ≡ rows → ss ≡ (arity_of e).domains → AreKeptRows cs ss rows → IsKeptEntry cs g
-kept_entry cs e g ss rows same are read kept = record { at = λ i. let P : List (List ℕ) → Type 0 = λ xs. IsKeptRow cs (get_or xs i []) (words_in g.rows i) in
-    subst P (read ∙ ap (λ a. a.domains) (sym same)) (rw are (kept.at i)) }
+kept_entry cs e g ss rows same are read kept = record {
+  at = λ i. let P : List (List ℕ) → Type 0 = λ xs. IsKeptRow cs (get_or xs i []) (words_in g.rows i) in
+      subst P (read ∙ ap (λ a. a.domains) (sym same)) (rw are (kept.at i));
+}
 
 pub kept_turn_copy : (cs : List Class) (xs ys ys' : List ArityEntry) (i : ℕ) (e g : ArityEntry) → i < length xs → e ≡ get_or xs i e → ys' ≡ ys ++ g ∷ [] → arity_of g ≡ arity_of e → ((i : ℕ) → words_in g.rows i ≡ words_in e.rows i) → (Each (IsKeptEntry cs) (take i xs) → Each (IsKeptEntry cs) ys)
     → Each (IsKeptEntry cs) (take (i + 1) xs) → Each (IsKeptEntry cs) ys'

@@ -119,8 +119,7 @@ impl Tables {
     {
         self.falls(first, second)
             && self.falls(second, first)
-            && (!self.is_below_row(second.class, uncovered)
-                || self.arity_below(second, first))
+            && (!self.is_below_row(second.class, uncovered) || self.arity_below(second, first))
     }
 
     /// Whether the second arity is of the first one's constructor and isn't clear of it.

@@ -44,9 +44,7 @@ pub struct Tables {
 }
 
 /// Rows that are the same.
-fn shared_rows(
-    rows: &Option<Arc<Vec<Vec<u64>>>>,
-) -> Result<Option<Arc<Vec<Vec<u64>>>>, AllocError>
+fn shared_rows(rows: &Option<Arc<Vec<Vec<u64>>>>) -> Result<Option<Arc<Vec<Vec<u64>>>>, AllocError>
     ensures { IfOk result (λ copy. (i : ℕ) → words_in copy i ≡ words_in rows.now i) }
 {
     match rows {

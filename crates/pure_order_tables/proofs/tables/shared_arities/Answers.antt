@@ -10,7 +10,7 @@ loop-arity-init c = rw c.in_ok-copies.ensures.items (record { same = refl; kept 
 pub loop-arity-preserved : goal.loop-arity-preserved
 loop-arity-preserved c = record {
   same = more_shared (take c.loop-arity.arity-index c.args.arities.now) _ c.loop-arity.copies.items c.push.new.self.items c.arity-item.result c.in_ok-share.field-0 c.in_ok-push.ensures.items c.in_ok-share.ensures.same
-    (one_more_arity c.args.arities.now c.loop-arity.arity-index c.arity-item.result c.loop-arity-test.true c.arity-item.is) c.loop-arity.invariant.same;
+      (one_more_arity c.args.arities.now c.loop-arity.arity-index c.arity-item.result c.loop-arity-test.true c.arity-item.is) c.loop-arity.invariant.same;
   kept = λ cs. kept_turn_copy cs c.args.arities.now c.loop-arity.copies.items c.push.new.self.items c.loop-arity.arity-index c.arity-item.result c.in_ok-share.field-0 c.loop-arity-test.true c.arity-item.is c.in_ok-push.ensures.items c.in_ok-share.ensures.same c.in_ok-share.ensures.rows (c.loop-arity.invariant.kept cs);
 }
 

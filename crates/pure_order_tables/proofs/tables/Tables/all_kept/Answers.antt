@@ -11,7 +11,7 @@ loop-arity-init c = rw c.in_ok-all.ensures.items (record { same = refl; kept = t
 pub loop-arity-preserved : goal.loop-arity-preserved
 loop-arity-preserved c = record {
   same = more_shared (take c.loop-arity.arity-index c.arities-arities.result.now) _ c.loop-arity.all.items c.push.new.self.items c.arity-item.result c.in_ok-kept.field-0 c.in_ok-push.ensures.items c.in_ok-kept.ensures.same
-    (one_more_arity c.arities-arities.result.now c.loop-arity.arity-index c.arity-item.result c.loop-arity-test.true c.arity-item.is) c.loop-arity.invariant.same;
+      (one_more_arity c.arities-arities.result.now c.loop-arity.arity-index c.arity-item.result c.loop-arity-test.true c.arity-item.is) c.loop-arity.invariant.same;
   kept = rw c.in_ok-push.ensures.items (each-append (IsKeptEntry c.args.self.now.classes) c.loop-arity.all.items (c.in_ok-kept.field-0 ∷ []) c.loop-arity.invariant.kept (c.in_ok-kept.ensures.kept, tt));
 }
 

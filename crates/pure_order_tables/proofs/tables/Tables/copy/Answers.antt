@@ -9,6 +9,6 @@ returns c = algebra_copied c.self.inside.classes c.in_ok-classes.classes c.self.
 pub invariant_of-result : goal.invariant_of-result
 invariant_of-result c = record {
   arities = table_copied (algebra_of c.self.inside.classes c.self.inside.arities.items) (algebra_of c.in_ok-classes.classes c.in_ok-arities.arities.items) c.self.inside.slots c.in_ok-slots.slots
-    (algebra_copied c.self.inside.classes c.in_ok-classes.classes c.self.inside.arities.items c.in_ok-arities.arities.items c.in_ok-classes.ensures (rw c.as_slice.ensures.value at c.in_ok-arities.ensures.same)) c.in_ok-slots.ensures c.self.invariant.arities;
+      (algebra_copied c.self.inside.classes c.in_ok-classes.classes c.self.inside.arities.items c.in_ok-arities.arities.items c.in_ok-classes.ensures (rw c.as_slice.ensures.value at c.in_ok-arities.ensures.same)) c.in_ok-slots.ensures c.self.invariant.arities;
   kept = c.in_ok-arities.ensures.kept c.in_ok-classes.classes (rw (c.as_slice.ensures.value, c.in_ok-classes.ensures) c.self.invariant.kept);
 }
