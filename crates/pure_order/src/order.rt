@@ -226,13 +226,10 @@ impl Order {
             return Err(OrderFault::Duplicate);
         }
         let domains = share(alloc, domains)?;
-        let arity = ArityEntry {
-            con,
-            class,
-            domains,
-        };
-        match self.tables.judge(alloc, &arity)? {
-            Ok(greater) => self.tables.push_arity(alloc, arity, greater.as_slice())?,
+        let arity = ArityEntry::new(con, class, domains);
+        let declared = self.tables.declare(alloc, &arity)?;
+        match declared {
+            Ok(_) => {}
             Err(c2) => return Err(OrderFault::NotCoregular { con, c1: class, c2 }),
         }
         Ok(())

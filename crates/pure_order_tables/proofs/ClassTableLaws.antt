@@ -71,10 +71,10 @@ still_undeclared cs k c other none m = elim (any_split (λ l. l.name ≡ c) cs (
 
 -- names by numbers
 
-name_kept : (cs ks : List Class) (n : ℕ) → n < length cs → name_at (cs ++ ks) n ≡ name_at cs n
+pub name_kept : (cs ks : List Class) (n : ℕ) → n < length cs → name_at (cs ++ ks) n ≡ name_at cs n
 name_kept cs ks n within = ap (λ (k : Class). k.name) (get_or-append cs ks no_class n within)
 
-name_new : (cs : List Class) (k : Class) (n : ℕ) → n ≡ length cs → name_at (cs ++ k ∷ []) n ≡ k.name
+pub name_new : (cs : List Class) (k : Class) (n : ℕ) → n ≡ length cs → name_at (cs ++ k ∷ []) n ≡ k.name
 name_new cs k n e = rw e (ap (λ (k : Class). k.name) (get_or-append_seam cs k [] no_class))
 
 pub declared_at_number : (cs : List Class) (n : ℕ) → n < length cs → IsDeclared cs (name_at cs n)
@@ -95,7 +95,7 @@ number_of (k ∷ ks) c m = elim m [
 pub last_or_before : (m n : ℕ) → m < n + 1 → (m < n) ⊎ (m ≡ n)
 last_or_before m n h = grind arith
 
-inside : (cs : List Class) (k : Class) (n : ℕ) → n < length (cs ++ k ∷ []) → (n < length cs) ⊎ (n ≡ length cs)
+pub inside : (cs : List Class) (k : Class) (n : ℕ) → n < length (cs ++ k ∷ []) → (n < length cs) ⊎ (n ≡ length cs)
 inside cs k n h = last_or_before n (length cs) (omega (arith, length-append cs (k ∷ [])))
 
 -- the row of an old class
@@ -322,40 +322,6 @@ so_far_all cs above numbers row i has end s n = (
         let m = each_at (λ c. (m : ℕ) × IsNumber cs c m × Holds numbers m) above has.each b.0 b.1 in
         s.closed m.0 n (s.seen m.0 m.2 (omega arith)) m.1.within b.2.0 (rw m.1.named b.2.1))
   ],
-)
-
--- one turn of the gathering of names
-pub named_put : (cs : List Class) (words names names' : List ℕ) (class n r : ℕ) → Holds words n → name_at cs n ≡ r → ((x : ℕ) → IsIn x names' ↔ ((x ≡ r) ⊎ IsIn x names)) → ((x : ℕ) → IsIn x names ↔ ((x ≡ class) ⊎ NamedBefore cs words x n)) → (x : ℕ) → IsIn x names' ↔ ((x ≡ class) ⊎ NamedBefore cs words x (n + 1))
-named_put cs words names names' class n r held named put before x = (
-  λ m. elim ((put x).0 m) [
-    | inl e ↦ inr (n, omega arith, held, named ∙ sym e)
-    | inr o ↦ elim ((before x).0 o) [ inl e ↦ inl e | inr w ↦ inr (w.0, (let b = w.1 in omega arith), w.2, w.3) ]
-  ],
-  λ w. elim w [
-    | inl e ↦ (put x).1 (inr ((before x).1 (inl e)))
-    | inr v ↦ elim (last_or_before v.0 n v.1) [
-      | inl early ↦ (put x).1 (inr ((before x).1 (inr (v.0, early, v.2, v.3))))
-      | inr here ↦ (put x).1 (inl (sym v.3 ∙ (rw here named)))
-    ]
-  ],
-)
-
-pub named_kept : (cs : List Class) (words names : List ℕ) (class n : ℕ) → ¬ Holds words n → ((x : ℕ) → IsIn x names ↔ ((x ≡ class) ⊎ NamedBefore cs words x n)) → (x : ℕ) → IsIn x names ↔ ((x ≡ class) ⊎ NamedBefore cs words x (n + 1))
-named_kept cs words names class n not before x = (
-  λ m. elim ((before x).0 m) [ inl e ↦ inl e | inr w ↦ inr (w.0, (let b = w.1 in omega arith), w.2, w.3) ],
-  λ w. elim w [
-    | inl e ↦ (before x).1 (inl e)
-    | inr v ↦ elim (last_or_before v.0 n v.1) [
-      | inl early ↦ (before x).1 (inr (v.0, early, v.2, v.3))
-      | inr here ↦ absurd (not (rw here at v.2))
-    ]
-  ],
-)
-
-pub named_start : (cs : List Class) (words names empty : List ℕ) (class : ℕ) → empty ≡ [] → ((x : ℕ) → IsIn x names ↔ ((x ≡ class) ⊎ IsIn x empty)) → (x : ℕ) → IsIn x names ↔ ((x ≡ class) ⊎ NamedBefore cs words x 0)
-named_start cs words names empty class none put x = (
-  λ m. elim ((put x).0 m) [ inl e ↦ inl e | inr o ↦ absurd (rw none at o) ],
-  λ w. elim w [ inl e ↦ (put x).1 (inl e) | inr v ↦ absurd (let b = v.1 in omega arith) ],
 )
 
 pub within_shared : (ps : List (Arc ClassEntry Global)) (value : List Class) (n : ℕ) → shared_classes ps ≡ value → n < length value → n < length ps

@@ -4,6 +4,7 @@ pub mod OtherLaws
 pub mod MapLaws
 pub mod BelowLaws
 pub mod ClassTableLaws
+pub mod HeldLaws
 pub mod ArityLaws
 pub mod ArityTableLaws
 pub mod CoregularLaws
@@ -12,6 +13,7 @@ pub mod UnionLaws
 pub mod SideLaws
 pub mod UncoveredLaws
 pub mod SortLaws
+pub mod KeptLaws
 pub mod ConflictLaws
 pub mod JudgeLaws
 pub mod AgreeLaws

@@ -7,7 +7,7 @@ use Rattle.std.specs.declared.cmp.Ordering.TheVariants.{Less, Equal, Greater}
 use Rattle.std.proofs.lemmas.Cmp.{ranked}
 use Rattle.std.proofs.lemmas.Bool.Decides.{eqb_tells}
 
-not_equal : (k q : ℕ) → ¬ (q ≡ k) → (r : Ordering) → MatchOrdering r (k < q) (k ≡ q) (q < k) → is_eq r ≡ false
+pub not_equal : (k q : ℕ) → ¬ (q ≡ k) → (r : Ordering) → MatchOrdering r (k < q) (k ≡ q) (q < k) → is_eq r ≡ false
 not_equal k q apart Less h = refl
 not_equal k q apart Equal h = absurd (apart (sym h))
 not_equal k q apart Greater h = refl

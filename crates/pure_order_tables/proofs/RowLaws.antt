@@ -2,7 +2,7 @@
 use Rattle.std.proofs.Common.{◌≡◌, ℕ, ◌+◌, ◌*◌, ◌<◌, ◌≤◌, ◌/◌, ◌%◌, ◌^◌, ◌⊎◌, ◌↔◌, inl, inr, List, [], ◌∷◌, length, get_or, set, zero, suc, refl, sym, ap, ◌∙◌, arith, bit_and, bit_or, w64, max, min}
 use Rattle.std.proofs.Math.ListN.{replicate}
 use Rattle.std.specs.Int.{bit_at}
-use Rattle.std.proofs.lemmas.Nat.Bits.{bit_at-zero, bit_at-lt, bit_at_and, bit_at_or, bit_at_lowest, bit_at-suc, bit_at_above, bit_at_set_same, bit_at_set_other}
+use Rattle.std.proofs.lemmas.Nat.Bits.{bit_at-zero, bit_at-lt, bit_at_and, bit_at_or, bit_at_lowest, bit_at-suc, bit_at_above, bit_at_set_same, bit_at_set_other, same_from_bits}
 use Rattle.std.proofs.lemmas.List.{get_or-set_other, length-set}
 use Rattle.std.proofs.lemmas.Grind.{get_or-set_at}
 use Rattle.std.proofs.lemmas.Bool.{cases_lt}
@@ -150,3 +150,40 @@ apart_turn first second i none before place within h k = elim (here_or_there (pl
   where
     here_or_there : (m n : ℕ) → m < n + 1 → (m < n) ⊎ (m ≡ n)
     here_or_there m n h = grind arith
+
+-- one row in another
+
+-- What a word of a row has, the other row's word has.
+pub word_within : (first second : List ℕ) (i : ℕ) → get_or first i 0 < 18446744073709551616 → ((place : ℕ) → Holds first place → Holds second place) → bit_and (get_or first i 0) (get_or second i 0) ≡ get_or first i 0
+word_within first second i fits all = same_from_bits (bit_and (get_or first i 0) (get_or second i 0)) (get_or first i 0) (λ j. elim (cases_lt j 64) [
+  | inl few ↦
+      let word : (i * 64 + j) / 64 ≡ i = omega (arith, few) in
+      let bit : (i * 64 + j) % 64 ≡ j = omega (arith, few) in
+      let forth : bit_at (get_or first i 0) j ≡ 1 → bit_at (get_or second i 0) j ≡ 1 = λ h. rw (word, bit) at ((all (i * 64 + j) (record { bit = rw (word, bit) h })).bit) in
+      bits (bit_at (get_or first i 0) j) (bit_at (get_or second i 0) j) (bit_at (bit_and (get_or first i 0) (get_or second i 0)) j) (bit_at-lt (get_or first i 0) j) (bit_at_and (get_or first i 0) (get_or second i 0) j) forth
+  | inr past ↦
+      let none = bit_at_above (get_or first i 0) 64 j fits past in
+      omega (arith, bit_at_and (get_or first i 0) (get_or second i 0) j, none)
+])
+  where
+    bits : (x y z : ℕ) → x < 2 → z ≡ min x y → (x ≡ 1 → y ≡ 1) → z ≡ x
+    bits zero y z p e forth = omega (arith, e)
+    bits (suc x) y z p e forth = let one : suc x ≡ 1 = omega (arith, p) in let other = forth one in omega (arith, e, one, other)
+
+pub within_turn : (first second : List ℕ) (i : ℕ) → bit_and (get_or first i 0) (get_or second i 0) ≡ get_or first i 0 → ((place : ℕ) → place / 64 < i → Holds first place → Holds second place) → (place : ℕ) → place / 64 < i + 1 → Holds first place → Holds second place
+within_turn first second i same before place inside h = elim (here_or_there (place / 64) i inside) [
+  | inl early ↦ before place early h
+  | inr here ↦ record { bit = rw here (both (place % 64) (rw here at h.bit)) }
+]
+  where
+    here_or_there : (m n : ℕ) → m < n + 1 → (m < n) ⊎ (m ≡ n)
+    here_or_there m n h = grind arith
+
+    both : (j : ℕ) → bit_at (get_or first i 0) j ≡ 1 → bit_at (get_or second i 0) j ≡ 1
+    both j one =
+        let m : bit_at (bit_and (get_or first i 0) (get_or second i 0)) j ≡ min (bit_at (get_or first i 0) j) (bit_at (get_or second i 0) j) = bit_at_and (get_or first i 0) (get_or second i 0) j in
+        let k : bit_at (bit_and (get_or first i 0) (get_or second i 0)) j ≡ bit_at (get_or first i 0) j = ap (λ w. bit_at w j) same in
+        omega (arith, m, k, one, bit_at-lt (get_or second i 0) j)
+
+pub within_all : (first second : List ℕ) (i : ℕ) → length first ≤ i → ((place : ℕ) → place / 64 < i → Holds first place → Holds second place) → (place : ℕ) → Holds first place → Holds second place
+within_all first second i end before place h = before place (let w = held_within first place h in omega (arith, w, end)) h

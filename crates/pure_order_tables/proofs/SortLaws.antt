@@ -42,7 +42,7 @@ words_kept A s words i c within read not before n few = (
     turn n = any_turn (λ b. IsDeclared A.classes b × IsClassBelow A b (name_at A.classes n)) s i c within read
 
 -- A class of the sort that is below another class is declared, or is that class.
-lower_declared : (A : Algebra) (b d : ℕ) → IsClassBelow A b d → (b ≡ d) ⊎ IsDeclared A.classes b
+pub lower_declared : (A : Algebra) (b d : ℕ) → IsClassBelow A b d → (b ≡ d) ⊎ IsDeclared A.classes b
 lower_declared A b d itself = inl refl
 lower_declared A b d (along i h) = inr (declared A.classes i.0 b i.1 i.2)
 

@@ -1,13 +1,16 @@
 -- What a table of arities keeps.
-use Rattle.std.specs.Prelude.{ℕ, ◌<◌, length, get_or, Option, Some, None, MatchOption}
+use Rattle.std.specs.Prelude.{ℕ, ◌<◌, List, length, get_or, Option, Some, None, MatchOption}
 use Rattle.std.specs.BTreeMap.{BTreeMap, get}
 use Rattle.std.specs.declared.alloc.Global.{Global}
 use Rattle.std.specs.declared.sync.Arc.{Arc}
 use Rattle.std.specs.Arc.{arc_value}
 use Rattle.std.specs.Ordering.{nat_cmp}
 use Rattle.pure_text.specs.Lists.{Each}
-use Rattle.pure_definitions.specs.Types.Order.{Arity, Algebra}
+use Rattle.pure_definitions.specs.Types.Order.{Arity, Algebra, Class}
+use Rattle.pure_order_tables.specs.declared.tables.ArityEntry.{ArityEntry}
 use Rattle.pure_order_tables.specs.Arities.{IsArityBelow, IsGreatestIfAny, IsKnown}
+use Rattle.pure_order_tables.specs.ArityView.{algebra_of}
+use Rattle.pure_order_tables.specs.Kept.{IsKeptEntry}
 
 -- The place is that of an arity of k for a class below d that is a greatest one, if there is a greatest one.
 pub record IsPlace (A : Algebra) (k d : ℕ) (i : ℕ) : Type 0 where
@@ -27,3 +30,8 @@ places_in (Some m) d = get nat_cmp (arc_value m) d
 pub record IsArityTable (A : Algebra) (slots : BTreeMap ℕ (Arc (BTreeMap ℕ ℕ) Global)) : Type 0 where
   pub known : Each (IsKnown A.classes) A.arities
   pub places : (k : ℕ) → ArePlaces A k (places_in (get nat_cmp slots k))
+
+-- The table of arities is right, and so are the rows beside their domains.
+pub record IsTable (cs : List Class) (es : List ArityEntry) (slots : BTreeMap ℕ (Arc (BTreeMap ℕ ℕ) Global)) : Type 0 where
+  pub arities : IsArityTable (algebra_of cs es) slots
+  pub kept : Each (IsKeptEntry cs) es

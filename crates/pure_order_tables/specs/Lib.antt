@@ -1,5 +1,6 @@
 pub mod Shares
 pub mod Rows
+pub mod Held
 pub mod Others
 pub mod Classes
 pub mod ClassView
@@ -8,6 +9,7 @@ pub mod Arities
 pub mod ArityView
 pub mod ArityTable
 pub mod Checks
+pub mod Kept
 pub mod Unknown
 pub mod Sorts
 pub mod Uncovered

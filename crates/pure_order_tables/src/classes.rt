@@ -1,5 +1,5 @@
 //! The declared classes, and for each those above it.
-ghost use Rattle.std.specs.Prelude.{◌≡◌, ◌↔◌, ◌⊎◌, ◌<◌, ℕ, [], ◌∷◌, ◌++◌, IsTrue, OnOk, OnErr, IfOk, MatchOption, length};
+ghost use Rattle.std.specs.Prelude.{◌≡◌, ◌↔◌, ◌⊎◌, ◌<◌, ℕ, List, [], ◌∷◌, ◌++◌, IsTrue, OnOk, OnErr, IfOk, MatchOption, length};
 ghost use Rattle.std.specs.List.Sorted.{IsStrictlyIncreasing};
 ghost use Rattle.pure_text.specs.Lists.{IsIn, Each, AnyOf};
 ghost use Rattle.pure_definitions.specs.Types.Order.{Class, IsClassBelow};
@@ -8,7 +8,7 @@ ghost use Rattle.pure_order_tables.specs.Checks.{IsDecided};
 ghost use Rattle.pure_order_tables.specs.ClassTable.{AreAllAbove, HasNumbers, IsEntry, IsNewRow, IsNumber, IsRow, NamedBefore, name_at};
 ghost use Rattle.pure_order_tables.specs.ClassView.{class_of, classes_of, shared_classes};
 
-use crate::maps::copied;
+use crate::maps::{copied, names_held};
 use crate::names::put;
 use crate::room::push_in_room;
 use crate::rows::{empty_row, holds, holds_only, put_place, put_row};
@@ -214,18 +214,13 @@ impl ClassTable {
         Ok(row)
     }
 
-    /// The class, and the classes whose numbers the row holds, ascending.
+    /// The class, and the classes whose numbers the row of a new class holds, ascending.
     fn names_of(&self, alloc: Global, class: Name, row: &[u64]) -> Result<Vec<Name>, AllocError>
         ensures ascend { IfOk result (λ names. IsStrictlyIncreasing names.items) }
-        ensures has { IfOk result (λ names. (x : ℕ) → IsIn x names.items ↔ ((x ≡ class) ⊎ NamedBefore self.now row.now x (length self.now))) }
+        ensures has { IfOk result (λ names. (above : List ℕ) → IsNewRow self.now above row.now → (x : ℕ) → IsIn x names.items ↔ ((x ≡ class) ⊎ NamedBefore self.now row.now x (length self.now))) }
     {
-        let mut names = Vec::new(alloc);
+        let mut names = names_held(alloc, &self.numbers, row)?;
         put(&mut names, class)?;
-        for number in 0..self.count() {
-            if holds(row, number) {
-                put(&mut names, self.numbered(number).name)?;
-            }
-        }
         Ok(names)
     }
 

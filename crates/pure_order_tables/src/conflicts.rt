@@ -2,7 +2,9 @@
 ghost use Rattle.std.specs.Prelude.{◌≡◌, ◌↔◌, IsTrue, IfOk};
 ghost use Rattle.pure_text.specs.Lists.{Each};
 ghost use Rattle.pure_order_tables.specs.Arities.{IsKnown};
-ghost use Rattle.pure_order_tables.specs.ArityView.{arity_of};
+ghost use Rattle.pure_order_tables.specs.ArityView.{arities_of, arity_of};
+ghost use Rattle.pure_order_tables.specs.Kept.{AreKeptEntries, IsKeptEntry};
+ghost use Rattle.pure_definitions.specs.Types.Order.{Algebra};
 ghost use Rattle.pure_order_tables.specs.Classes.{IsDeclared};
 ghost use Rattle.pure_order_tables.specs.Uncovered.{Extends};
 ghost use Rattle.pure_order_tables.specs.Exposed.{AreExposed, AreIn, AreSides, Clash, FindsClash, FindsConflict, IsExposed, names_in};
@@ -62,14 +64,17 @@ impl Tables {
         &self,
         alloc: Global,
         arity: &ArityEntry,
+        entries: &[ArityEntry],
         other: &Tables,
     ) -> Result<Exposed, AllocError>
         requires extends { Extends self.now other.now }
+        requires kept { IsKeptEntry self.now.classes arity.now }
+        requires entries { AreKeptEntries self.now.classes other.now entries.now }
         requires declared { IsDeclared self.now.classes arity.now.class }
         ensures { IfOk result (IsExposed self.now other.now (arity_of arity.now)) }
     {
         let number = self.number_of(arity.class);
-        let row = self.uncovered(alloc, arity, other)?;
+        let row = self.uncovered(alloc, arity, entries, other)?;
         Ok(Exposed {
             con: arity.con,
             class: arity.class,
@@ -78,38 +83,45 @@ impl Tables {
         })
     }
 
-    /// The same of each of some tables' arities that the others lack.
+    /// The same of each of some arities that the others, which are those of other tables, lack.
     fn exposed(
         &self,
         alloc: Global,
-        own: &Tables,
+        arities: &[ArityEntry],
+        entries: &[ArityEntry],
         other: &Tables,
     ) -> Result<Vec<Exposed>, AllocError>
         requires extends { Extends self.now other.now }
-        requires known { Each (IsKnown self.now.classes) own.now.arities }
-        ensures { IfOk result (λ exposed. AreExposed self.now own.now other.now exposed.items) }
+        requires known { Each (IsKnown self.now.classes) (arities_of arities.now) }
+        requires kept { Each (IsKeptEntry self.now.classes) arities.now }
+        requires entries { AreKeptEntries self.now.classes other.now entries.now }
+        ensures { IfOk result (λ exposed. (A : Algebra) → A.arities ≡ arities_of arities.now → AreExposed self.now A other.now exposed.items) }
     {
         let mut exposed = Vec::new(alloc);
-        for arity in own.arities() {
+        for arity in arities {
             if !other.has_same(arity) {
-                exposed.push(self.expose(alloc, arity, other)?)?;
+                exposed.push(self.expose(alloc, arity, entries, other)?)?;
             }
         }
         Ok(exposed)
     }
 
-    /// The least constructor and the least two classes of arities in conflict, once the arities of both tables stand with these classes.
+    /// The least constructor and the least two classes of arities in conflict, once the arities of both tables stand with these classes. These tables have the arities of the first; those of the second are given.
     pub(crate) fn least_conflict(
         &self,
         alloc: Global,
         first: &Tables,
         second: &Tables,
+        theirs: &[ArityEntry],
     ) -> Result<Option<(Name, Name, Name)>, AllocError>
-        requires { AreSides self.now first.now second.now }
+        requires sides { AreSides self.now first.now second.now }
+        requires same { self.now.arities ≡ first.now.arities }
+        requires theirs { AreKeptEntries self.now.classes second.now theirs.now }
         ensures { IfOk result (FindsConflict self.now first.now second.now) }
     {
-        let firsts = self.exposed(alloc, first, second)?;
-        let seconds = self.exposed(alloc, second, first)?;
+        let own = self.arities();
+        let firsts = self.exposed(alloc, own, theirs, second)?;
+        let seconds = self.exposed(alloc, theirs, own, first)?;
         Ok(least_clash(firsts.as_slice(), seconds.as_slice()))
     }
 }

@@ -1,8 +1,9 @@
 //! The judgement of a new arity: where it would be the greatest, or the least class that it is in conflict with.
-ghost use Rattle.std.specs.Prelude.{◌≡◌, ◌↔◌, ℕ, IsTrue, IfOk, IfSome, MatchBool, MatchOption, MatchResult};
+ghost use Rattle.std.specs.Prelude.{◌≡◌, ◌↔◌, ℕ, IsTrue, IfOk, IfErr, OnOk, OnErr, IfSome, MatchBool, MatchOption, MatchResult};
 ghost use Rattle.std.specs.Bool.{OnTrue};
 ghost use Rattle.pure_definitions.specs.Types.Order.{AreDomainsBelow, IsClassBelow, IsCoregular};
-ghost use Rattle.pure_order_tables.specs.Arities.{with_arity};
+ghost use Rattle.pure_order_tables.specs.Arities.{IsKnown, with_arity};
+ghost use Rattle.pure_order_tables.specs.Kept.{IsKeptEntry};
 ghost use Rattle.pure_order_tables.specs.Classes.{IsDeclared};
 ghost use Rattle.pure_order_tables.specs.ArityView.{arity_of};
 ghost use Rattle.pure_order_tables.specs.Checks.{AreGreater, FailsAt, FindsAt, IsLeastInConflict, PassesAt};
@@ -23,6 +24,7 @@ impl Tables {
         uncovered: &[u64],
     ) -> Result<Vec<Name>, AllocError>
         requires declared { IsDeclared self.now.classes arity.now.class }
+        requires kept { IsKeptEntry self.now.classes arity.now }
         requires uncovered { IsUncovered self.now self.now (arity_of arity.now) uncovered.now }
         ensures { IfOk result (λ greater. AreGreater self.now (arity_of arity.now) greater.items) }
     {
@@ -65,6 +67,7 @@ impl Tables {
     ) -> Result<Option<Vec<Name>>, AllocError>
         requires coregular { IsCoregular self.now }
         requires declared { IsDeclared self.now.classes arity.now.class }
+        requires kept { IsKeptEntry self.now.classes arity.now }
         requires uncovered { IsUncovered self.now self.now (arity_of arity.now) uncovered.now }
         ensures { IfOk result (λ found. IfSome found (λ greater. AreGreater self.now (arity_of arity.now) greater.items × IsCoregular (with_arity self.now (arity_of arity.now)))) }
     {
@@ -100,25 +103,30 @@ impl Tables {
 
     /// Whether the first part holds of two arities, one way.
     fn falls(&self, first: &ArityEntry, second: &ArityEntry) -> bool
+        requires first { IsKeptEntry self.now.classes first.now }
+        requires second { IsKeptEntry self.now.classes second.now }
         ensures { MatchBool result (IsClassBelow self.now first.now.class second.now.class → AreDomainsBelow self.now (arity_of first.now) (arity_of second.now)) (¬ (IsClassBelow self.now first.now.class second.now.class → AreDomainsBelow self.now (arity_of first.now) (arity_of second.now))) }
     {
-        !self.below(first.class, second.class) || self.domains_below(first.sorts(), second.sorts())
+        !self.below(first.class, second.class) || self.arity_below(first, second)
     }
 
     /// Whether a declared arity of the constructor is clear of the new one, which isn't covered at the classes in the row.
     fn clears(&self, first: &ArityEntry, second: &ArityEntry, uncovered: &[u64]) -> bool
-        requires { IsDeclared self.now.classes second.now.class }
+        requires declared { IsDeclared self.now.classes second.now.class }
+        requires first { IsKeptEntry self.now.classes first.now }
+        requires second { IsKeptEntry self.now.classes second.now }
         ensures { MatchBool result (Clears self.now (arity_of first.now) uncovered.now (arity_of second.now)) (¬ Clears self.now (arity_of first.now) uncovered.now (arity_of second.now)) }
     {
         self.falls(first, second)
             && self.falls(second, first)
-            && (!self.is_below_row(second.class, uncovered)
-                || self.domains_below(second.sorts(), first.sorts()))
+            && (!self.is_below_row(second.class, uncovered) || self.arity_below(second, first))
     }
 
     /// Whether the second arity is of the first one's constructor and isn't clear of it.
     fn collides(&self, first: &ArityEntry, second: &ArityEntry, uncovered: &[u64]) -> bool
-        requires { IsDeclared self.now.classes second.now.class }
+        requires declared { IsDeclared self.now.classes second.now.class }
+        requires first { IsKeptEntry self.now.classes first.now }
+        requires second { IsKeptEntry self.now.classes second.now }
         ensures { MatchBool result (FailsAt (Clears self.now (arity_of first.now) uncovered.now) first.now.con (arity_of second.now)) (PassesAt (Clears self.now (arity_of first.now) uncovered.now) first.now.con (arity_of second.now)) }
     {
         second.con == first.con && !self.clears(first, second, uncovered)
@@ -126,6 +134,7 @@ impl Tables {
 
     /// The least class of a declared arity that isn't clear of the new one.
     fn least_colliding(&self, arity: &ArityEntry, uncovered: &[u64]) -> Option<Name>
+        requires { IsKeptEntry self.now.classes arity.now }
         ensures { FindsAt (Clears self.now (arity_of arity.now) uncovered.now) arity.now.con self.now.arities result }
     {
         let mut least = None;
@@ -138,18 +147,19 @@ impl Tables {
     }
 
     /// The classes at which a new arity would be the greatest; or else the least class of a declared arity in conflict with it.
-    pub fn judge(
+    fn judge(
         &self,
         alloc: Global,
         arity: &ArityEntry,
     ) -> Result<Result<Vec<Name>, Name>, AllocError>
         requires coregular { IsCoregular self.now }
         requires declared { IsDeclared self.now.classes arity.now.class }
+        requires kept { IsKeptEntry self.now.classes arity.now }
         ensures { IfOk result (λ judged. MatchResult judged (λ greater. AreGreater self.now (arity_of arity.now) greater.items × IsCoregular (with_arity self.now (arity_of arity.now))) (IsLeastInConflict (with_arity self.now (arity_of arity.now)) (arity_of arity.now))) }
     {
         self.are_in_order();
         self.order_is_decided();
-        let uncovered = self.uncovered(alloc, arity, self)?;
+        let uncovered = self.uncovered(alloc, arity, self.arities(), self)?;
         if let Some(greater) = self.fits(alloc, arity, uncovered.as_slice())? {
             return Ok(Ok(greater));
         }
@@ -157,5 +167,27 @@ impl Tables {
             Some(class) => Ok(Err(class)),
             None => Ok(Ok(self.greater(alloc, arity, uncovered.as_slice())?)),
         }
+    }
+
+    /// Declares an arity, or answers the least class of a declared arity in conflict with it.
+    pub fn declare(
+        &mut self,
+        alloc: Global,
+        arity: &ArityEntry,
+    ) -> Result<Result<(), Name>, AllocError>
+        requires coregular { IsCoregular self.old }
+        requires known { IsKnown self.old.classes (arity_of arity.now) }
+        ensures declared { IfOk result (λ declared. OnOk declared (self.new ≡ with_arity self.old (arity_of arity.now))) }
+        ensures coregular { IfOk result (λ declared. OnOk declared (IsCoregular (with_arity self.old (arity_of arity.now)))) }
+        ensures conflict { IfOk result (λ declared. IfErr declared (IsLeastInConflict (with_arity self.old (arity_of arity.now)) (arity_of arity.now))) }
+        ensures refused { IfOk result (λ declared. OnErr declared (self.new ≡ self.old)) }
+        ensures err { OnErr result (self.new ≡ self.old) }
+    {
+        let kept = self.kept(alloc, arity)?;
+        match self.judge(alloc, &kept)? {
+            Ok(greater) => self.push_arity(alloc, kept, greater.as_slice())?,
+            Err(class) => return Ok(Err(class)),
+        }
+        Ok(Ok(()))
     }
 }

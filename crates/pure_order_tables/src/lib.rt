@@ -4,6 +4,7 @@
 mod classes;
 mod conflicts;
 mod judge;
+mod kept;
 mod maps;
 mod names;
 mod room;

@@ -1,5 +1,5 @@
 //! Rows of bits: sets of numbers, in words of 64 bits.
-ghost use Rattle.std.specs.Prelude.{◌≡◌, ◌↔◌, ◌⊎◌, ◌<◌, ◌/◌, ℕ, IsTrue, MatchBool, IfOk, length};
+ghost use Rattle.std.specs.Prelude.{◌≡◌, ◌↔◌, ◌⊎◌, ◌<◌, ◌/◌, ℕ, IsTrue, MatchBool, IfOk, length, slice_index};
 ghost use Rattle.pure_order_tables.specs.Rows.{Holds};
 
 use std::alloc::{AllocError, Global};
@@ -66,4 +66,24 @@ pub(crate) fn meet(first: &[u64], second: &[u64]) -> bool
         }
     }
     false
+}
+
+/// The word at the place; 0 where the row has none.
+fn word_at(row: &[u64], place: usize) -> u64
+    ensures { result ≡ slice_index row.now place }
+{
+    if place < row.len() { row[place] } else { 0 }
+}
+
+/// Whether the first row holds numbers alone that the second holds.
+pub(crate) fn within(first: &[u64], second: &[u64]) -> bool
+    ensures { IsTrue result ↔ ((place : ℕ) → Holds first.now place → Holds second.now place) }
+{
+    for i in 0..first.len() {
+        let word = first[i];
+        if word & word_at(second, i) != word {
+            return false;
+        }
+    }
+    true
 }

@@ -9,22 +9,27 @@ use crate::rows::{holds, put_words};
 use crate::tables::Tables;
 use pure_typ::{Name, Sort};
 
-/// With more classes than this a sort is worth a row.
-const FEW: usize = 8;
+/// With more classes than this a sort is worth a row that is kept.
+pub(crate) const FEW: usize = 8;
+
+/// With more classes than this a sort is worth a row in a frame.
+const SINGLE: usize = 1;
 
 /// As many classes have a place in a row that stands in a frame.
-const MOST: usize = 4096;
+pub(crate) const MOST: usize = 4096;
 
 impl Tables {
-    /// Whether both sorts have many classes, and the words of a frame have room for the numbers of all classes.
+    /// Whether both sorts have some classes, and the words of a frame have room for the numbers of all classes.
     fn is_wide(&self, first: &Sort, second: &Sort) -> bool
         ensures { OnTrue result (length self.now.classes ≤ 4096) }
     {
-        self.class_count() <= MOST && first.classes().len() > FEW && second.classes().len() > FEW
+        self.class_count() <= MOST
+            && first.classes().len() > SINGLE
+            && second.classes().len() > SINGLE
     }
 
     /// The numbers of the classes above a declared one of these.
-    fn up_words(&self, classes: &[Name]) -> [u64; 64]
+    pub(crate) fn up_words(&self, classes: &[Name]) -> [u64; 64]
         ensures { AreUpWords self.now classes.now result }
     {
         let mut words = [0; 64];

@@ -1,10 +1,11 @@
 //! The declared classes and arities, and the place of the greatest arity of each constructor for each class.
-ghost use Rattle.std.specs.Prelude.{◌≡◌, ◌↔◌, ◌⊎◌, ◌<◌, ℕ, [], IsTrue, OnOk, OnErr, IfOk, IfSome, MatchBool, MatchOption, length};
+ghost use Rattle.std.specs.Prelude.{◌≡◌, ◌↔◌, ◌⊎◌, ◌<◌, ℕ, List, [], IsTrue, OnOk, OnErr, IfOk, IfSome, MatchBool, MatchOption, length};
+ghost use Rattle.std.specs.Arc.{arc_value};
 ghost use Rattle.std.specs.BTreeMap.{get};
 ghost use Rattle.std.specs.Ordering.{nat_cmp};
 ghost use Rattle.std.specs.List.Sorted.{IsStrictlyIncreasing};
-ghost use Rattle.pure_text.specs.Lists.{IsIn, Each, EachTwo};
-ghost use Rattle.pure_definitions.specs.Types.Order.{Arity, IsClassBelow, HasClassBelow, IsSortBelow, IsCoregular};
+ghost use Rattle.pure_text.specs.Lists.{IsIn, Each};
+ghost use Rattle.pure_definitions.specs.Types.Order.{Arity, Class, IsClassBelow, HasClassBelow, IsCoregular};
 ghost use Rattle.pure_order_tables.specs.Classes.{Agree, Follows, IsAntisymmetric, IsDeclared};
 ghost use Rattle.pure_order_tables.specs.ClassView.{shared_classes};
 ghost use Rattle.pure_order_tables.specs.ClassTable.{IsNumber, name_at};
@@ -13,6 +14,7 @@ ghost use Rattle.pure_order_tables.specs.Arities.{IsArityBelow, IsGreatestIfAny,
 ghost use Rattle.pure_order_tables.specs.Checks.{AreGreater, IsDecided};
 ghost use Rattle.pure_order_tables.specs.ArityView.{arity_of, arities_of};
 ghost use Rattle.pure_order_tables.specs.ArityTable.{IsPlace, ArePlaces, places_in};
+ghost use Rattle.pure_order_tables.specs.Kept.{IsKeptEntry, words_in};
 
 use crate::classes::{ClassEntry, ClassTable};
 use crate::maps::copied;
@@ -23,12 +25,14 @@ use std::collections::BTreeMap;
 use std::marker::Model;
 use std::sync::Arc;
 
-/// A declared arity: applied to types of the domains, the constructor makes a type of the class. The domains stand behind a pointer that other tables share.
+/// A declared arity: applied to types of the domains, the constructor makes a type of the class. The domains stand behind a pointer that other tables share;
+/// so do rows of the numbers of the classes above those of a domain, for domains of many classes.
 #[derive(Drop)]
 pub struct ArityEntry {
     pub con: Name,
     pub class: Name,
     pub domains: Arc<Vec<Sort>>,
+    pub(crate) rows: Option<Arc<Vec<Vec<u64>>>>,
 }
 
 /// Declared classes and arities. For each constructor and class the slots have the place of the arity with the greatest domains; a constructor's places stand behind a pointer that other tables share.
@@ -39,7 +43,33 @@ pub struct Tables {
     slots: BTreeMap<u32, Arc<BTreeMap<u32, usize>>>,
 }
 
+/// Rows that are the same.
+fn shared_rows(rows: &Option<Arc<Vec<Vec<u64>>>>) -> Result<Option<Arc<Vec<Vec<u64>>>>, AllocError>
+    ensures { IfOk result (λ copy. (i : ℕ) → words_in copy i ≡ words_in rows.now i) }
+{
+    match rows {
+        None => Ok(None),
+        Some(rows) => {
+            let copy = rows.clone()?;
+            Ok(Some(copy))
+        }
+    }
+}
+
 impl ArityEntry {
+    /// An arity, which no tables have yet.
+    pub fn new(con: Name, class: Name, domains: Arc<Vec<Sort>>) -> ArityEntry
+        ensures { arity_of result ≡ record { con = con; domains = (arc_value domains).items; class = class } }
+    {
+        let rows = None;
+        ArityEntry {
+            con,
+            class,
+            domains,
+            rows,
+        }
+    }
+
     /// The sorts of the domains.
     pub fn sorts(&self) -> &[Sort]
         ensures { result.now ≡ (arity_of self.now).domains }
@@ -49,14 +79,47 @@ impl ArityEntry {
 
     /// The same arity, which shares the domains.
     pub(crate) fn share(&self) -> Result<ArityEntry, AllocError>
-        ensures { IfOk result (λ copy. arity_of copy ≡ arity_of self.now) }
+        ensures same { IfOk result (λ copy. arity_of copy ≡ arity_of self.now) }
+        ensures rows { IfOk result (λ copy. (i : ℕ) → words_in copy.rows i ≡ words_in self.now.rows i) }
+    {
+        let domains = self.domains.clone()?;
+        let rows = shared_rows(&self.rows)?;
+        Ok(ArityEntry {
+            con: self.con,
+            class: self.class,
+            domains,
+            rows,
+        })
+    }
+
+    /// The same arity with these rows.
+    pub(crate) fn with_rows(
+        &self,
+        rows: Option<Arc<Vec<Vec<u64>>>>,
+    ) -> Result<ArityEntry, AllocError>
+        ensures same { IfOk result (λ copy. arity_of copy ≡ arity_of self.now) }
+        ensures rows { IfOk result (λ copy. copy.rows ≡ rows) }
     {
         let domains = self.domains.clone()?;
         Ok(ArityEntry {
             con: self.con,
             class: self.class,
             domains,
+            rows,
         })
+    }
+
+    /// The row beside the domain at the place; an empty one where none is kept.
+    pub(crate) fn row(&self, place: usize) -> &[u64]
+        ensures { result.now ≡ words_in self.now.rows place }
+    {
+        match &self.rows {
+            None => &[],
+            Some(rows) => match rows.get(place) {
+                None => &[],
+                Some(row) => row.as_slice(),
+            },
+        }
     }
 }
 
@@ -66,11 +129,11 @@ impl Model for Tables {
     ghost Value = { Algebra };
 
     ghost use Rattle.pure_order_tables.specs.ArityView.{algebra_of};
-    ghost use Rattle.pure_order_tables.specs.ArityTable.{IsArityTable};
+    ghost use Rattle.pure_order_tables.specs.ArityTable.{IsTable};
 
     ghost view = { λ t. algebra_of t.classes t.arities.items };
 
-    ghost invariant = { λ t. IsArityTable (algebra_of t.classes t.arities.items) t.slots };
+    ghost invariant = { λ t. IsTable t.classes t.arities.items t.slots };
 }
 
 impl Tables {
@@ -188,23 +251,6 @@ impl Tables {
         false
     }
 
-    /// Whether the first sorts are as many as the second, and each is below its own.
-    pub fn domains_below(&self, first: &[Sort], second: &[Sort]) -> bool
-        ensures { IsTrue result ↔ EachTwo (IsSortBelow self.now) first.now second.now }
-    {
-        if first.len() != second.len() {
-            return false;
-        }
-        for i in 0..first.len() {
-            let lower = &first[i];
-            let upper = &second[i];
-            if !self.sort_below(lower, upper) {
-                return false;
-            }
-        }
-        true
-    }
-
     /// The order is decided.
     pub fn order_is_decided(&self)
         ensures { IsDecided self.now }
@@ -310,13 +356,14 @@ impl Tables {
         Ok(())
     }
 
-    /// Declares an arity, which is the greatest at these classes.
-    pub fn push_arity(
+    /// Puts in an arity, which is the greatest at these classes.
+    pub(crate) fn push_arity(
         &mut self,
         alloc: Global,
         arity: ArityEntry,
         greater: &[Name],
     ) -> Result<(), AllocError>
+        requires kept { IsKeptEntry self.old.classes arity }
         requires known { IsKnown self.old.classes (arity_of arity) }
         requires greater { AreGreater self.old (arity_of arity) greater.now }
         ensures ok { OnOk result (self.new ≡ with_arity self.old (arity_of arity)) }
@@ -335,6 +382,7 @@ impl Tables {
     pub fn arities(&self) -> &[ArityEntry]
         ensures are { arities_of result.now ≡ self.now.arities }
         ensures known { Each (IsKnown self.now.classes) self.now.arities }
+        ensures kept { Each (IsKeptEntry self.now.classes) result.now }
     {
         self.arities.as_slice()
     }
@@ -350,7 +398,8 @@ impl Tables {
 
 /// Arities that share their domains with these.
 fn shared_arities(alloc: Global, arities: &[ArityEntry]) -> Result<Vec<ArityEntry>, AllocError>
-    ensures { IfOk result (λ copies. arities_of copies.items ≡ arities_of arities.now) }
+    ensures same { IfOk result (λ copies. arities_of copies.items ≡ arities_of arities.now) }
+    ensures kept { IfOk result (λ copies. (cs : List Class) → Each (IsKeptEntry cs) arities.now → Each (IsKeptEntry cs) copies.items) }
 {
     let mut copies = Vec::with_capacity(alloc, arities.len())?;
     for arity in arities {

@@ -8,6 +8,7 @@ ghost use Rattle.pure_order_tables.specs.ClassView.{shared_classes};
 ghost use Rattle.pure_order_tables.specs.Classes.{Agree, Follows};
 ghost use Rattle.pure_order_tables.specs.Arities.{IsKnown, IsUnion, IsUnionInOrder};
 ghost use Rattle.pure_order_tables.specs.Others.{AreWithOthers};
+ghost use Rattle.pure_order_tables.specs.Kept.{IsKeptEntry};
 
 use crate::classes::ClassEntry;
 use crate::tables::{ArityEntry, Tables};
@@ -68,13 +69,14 @@ impl Tables {
         arities: &[ArityEntry],
     ) -> Result<(), AllocError>
         requires known { Each (IsKnown self.old.classes) (arities_of arities.now) }
+        requires kept { Each (IsKeptEntry self.old.classes) arities.now }
         requires same { self.old.arities ≡ first.now.arities }
         ensures classes { OnOk result (self.new.classes ≡ self.old.classes) }
         ensures arities { OnOk result (AreWithOthers first.now.arities (arities_of arities.now) self.new.arities) }
     {
         for arity in arities {
             if !first.has_same(arity) {
-                let uncovered = self.uncovered(alloc, arity, self)?;
+                let uncovered = self.uncovered(alloc, arity, self.arities(), self)?;
                 let greater = self.greater(alloc, arity, uncovered.as_slice())?;
                 self.push_arity(alloc, arity.share()?, greater.as_slice())?;
             }
@@ -101,10 +103,11 @@ impl Tables {
         let mut tables = self.copy(alloc)?;
         tables.push_classes(alloc, other.class_entries())?;
         tables.are_in_order();
-        if let Some(found) = tables.least_conflict(alloc, self, other)? {
+        let theirs = tables.all_kept(alloc, other)?;
+        if let Some(found) = tables.least_conflict(alloc, self, other, theirs.as_slice())? {
             return Ok(Err(found));
         }
-        tables.push_arities(alloc, self, other.arities())?;
+        tables.push_arities(alloc, self, theirs.as_slice())?;
         Ok(Ok(tables))
     }
 }

@@ -14,7 +14,7 @@ use std::test::Fail;
 // it, and `#Kc` those of K's arity for c itself; `KI:cd` whether a type is of a sort.
 
 /// What is refused, and what isn't.
-static REFUSALS: [(&[u8], &[u8], &[u8]); 23] = [
+static REFUSALS: [(&[u8], &[u8], &[u8]); 29] = [
     (b"", b"c<", b""),
     (b"", b"c<d", b"?d"),
     (b"c<", b"d<c", b""),
@@ -41,6 +41,37 @@ static REFUSALS: [(&[u8], &[u8], &[u8]); 23] = [
     (b"c< d<c e<d K:d/=e K:c/=c", b"K:e/=d", b"!Kde"),
     (b"c< d<c e<d K:e/=e K:c/=c", b"K:c/=d", b""),
     (b"c< d< e<cd g<cd K:e/=e", b"K:g/=g", b"!Kge"),
+    // Domains of many classes above and below others of many and of few.
+    (
+        b"a< b< c< d< e< f< g< h< i< j< s< t<s K:abcdefghi/=s",
+        b"K:abcdefghij/=t",
+        b"",
+    ),
+    (
+        b"a< b< c< d< e< f< g< h< i< j< s< t<s K:abcdefghij/=s",
+        b"K:abcdefghi/=t",
+        b"!Kts",
+    ),
+    (
+        b"a< b< c< d< e< f< g< h< i< j< k<abcdefghi s< t<s K:abcdefghi/=s",
+        b"K:k/=t",
+        b"",
+    ),
+    (
+        b"a< b< c< d< e< f< g< h< i< j< k<abcdefgh s< t<s K:abcdefghi/=s",
+        b"K:k/=t",
+        b"!Kts",
+    ),
+    (
+        b"a< b< c< d< e< f< g< h< i< j<a s< t<s K:ab/=s",
+        b"K:bcdefghij/=t",
+        b"",
+    ),
+    (
+        b"a< b< c< d< e< f< g< h< i< j< s< t<s K:aj/=s",
+        b"K:abcdefghi/=t",
+        b"!Kts",
+    ),
 ];
 
 /// Classes and sorts.
@@ -122,7 +153,7 @@ static TYPES: [(&[u8], &[u8], &[u8]); 34] = [
 
 /// Merges: the declarations of both orders, what is asked of their union, and its answer, or the merge's refusal;
 /// `apart` where they don't agree on a class.
-static MERGES: [(&[u8], &[u8], &[u8], &[u8]); 20] = [
+static MERGES: [(&[u8], &[u8], &[u8], &[u8]); 22] = [
     (b"", b"", b"@c", b"no"),
     (b"c<", b"d<", b"c<d", b"no"),
     (b"c< d<c", b"c< e<c", b"+e", b"ce"),
@@ -173,6 +204,19 @@ static MERGES: [(&[u8], &[u8], &[u8], &[u8]); 20] = [
         b"e< c<e d<e K:d/=d K:e/=e",
         b".Ke",
         b"e/",
+    ),
+    // Domains of many classes, which were declared in another order.
+    (
+        b"a< b< c< d< e< f< g< h< i< s< t<s K:abcdefghi/=s",
+        b"s< t<s j< i< h< g< f< e< d< c< b< a< K:abcdefghij/=t",
+        b".Kt",
+        b"abcdefghij/",
+    ),
+    (
+        b"a< b< c< d< e< f< g< h< i< j< s< t<s K:abcdefghij/=s",
+        b"s< t<s i< h< g< f< e< d< c< b< a< K:abcdefghi/=t",
+        b"",
+        b"!Kst",
     ),
 ];
 

@@ -15,7 +15,7 @@ returns-in-Err-clause-fault c = rw (← c.self.view_is) (
   test_fails _ c.has_arity.result c.has_arity.ensures c.if-has_arity.false,
   refl,
   refl,
-  rw (c.in-Err.is, c.in_ok-domains.ensures) at c.in_ok-greater.ensures,
+  rw (c.in-Err.is, c.new-arity.ensures, c.in_ok-domains.ensures) at c.in_ok-declared.ensures.conflict,
 )
 
 pub returns-clause-new : goal.returns-clause-new

@@ -7,6 +7,6 @@ use Rattle.pure_order_tables.proofs.tables.Tables.exposed.Given as goal
 
 abbrev pub invariant-loop-arity : goal.invariant-loop-arity
 invariant-loop-arity l = record {
-  from : Each (λ e. (a : Arity) × IsIn a l.own.arities × IsExposed l.self l.other a e) l.exposed.items;
-  all : Each (λ a. IsIn a l.other.arities ⊎ AnyOf (IsExposed l.self l.other a) l.exposed.items) (arities_of (take l.arity-index l.arity-items));
+  from : Each (λ e. (a : Arity) × IsIn a (arities_of l.arities) × IsExposed l.self l.other a e) l.exposed.items;
+  all : Each (λ a. IsIn a l.other.arities ⊎ AnyOf (IsExposed l.self l.other a) l.exposed.items) (arities_of (take l.arity-index l.arities));
 }

@@ -6,8 +6,8 @@ use Rattle.pure_order_tables.proofs.UncoveredLaws.{above_greatest, within_place}
 use Rattle.pure_order_tables.proofs.tables.Tables.fits.Goals as goal
 use Rattle.pure_order_tables.proofs.tables.Tables.fits.Goals.{then-holds+else-not-is_above_new+in_ok-push, else-holds}
 
-pub is_above_at-requires : goal.is_above_at-requires
-is_above_at-requires c = within_place c.args.self.now c.args.arity.now.con c.args.arity.now.class c.place-top.result c.place-top.ensures
+pub is_above_at-requires-clause-within : goal.is_above_at-requires-clause-within
+is_above_at-requires-clause-within c = within_place c.args.self.now c.args.arity.now.con c.args.arity.now.class c.place-top.result c.place-top.ensures
 
 pub is_above_new-requires-clause-within : goal.is_above_new-requires-clause-within
 is_above_new-requires-clause-within c = within_place c.args.self.now c.args.arity.now.con c.class_name-class.result c.place-place.result c.place-place.ensures

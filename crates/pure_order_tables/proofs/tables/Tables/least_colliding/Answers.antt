@@ -1,12 +1,17 @@
 use Rattle.pure_order_tables.specs.ArityView.{arity_of, arities_of}
 use Rattle.std.proofs.Common.{take}
+use Rattle.pure_text.proofs.ListLaws.{each_read}
+use Rattle.pure_order_tables.specs.Kept.{IsKeptEntry}
 use Rattle.pure_order_tables.specs.Uncovered.{Clears}
 use Rattle.pure_order_tables.proofs.CoregularLaws.{declared_read, found_pass, found_fail, one_more_arity}
 use Rattle.pure_order_tables.proofs.tables.Tables.least_colliding.Goals as goal
 use Rattle.pure_order_tables.proofs.tables.Tables.least_colliding.Goals.{then-collides, else-collides}
 
-pub collides-requires : goal.collides-requires
-collides-requires c = declared_read c.args.self.now.classes c.arities-other-items.result.now c.args.self.now.arities c.loop-other.other-index c.other-item.result c.loop-other-test.true c.other-item.is c.arities-other-items.ensures.are c.arities-other-items.ensures.known
+pub collides-requires-clause-second : goal.collides-requires-clause-second
+collides-requires-clause-second c = each_read (IsKeptEntry c.args.self.now.classes) c.arities-other-items.result.now c.loop-other.other-index c.other-item.result c.loop-other-test.true c.other-item.is c.arities-other-items.ensures.kept
+
+pub collides-requires-clause-declared : goal.collides-requires-clause-declared
+collides-requires-clause-declared c = declared_read c.args.self.now.classes c.arities-other-items.result.now c.args.self.now.arities c.loop-other.other-index c.other-item.result c.loop-other-test.true c.other-item.is c.arities-other-items.ensures.are c.arities-other-items.ensures.known
 
 pub loop-other-preserved : goal.loop-other-preserved
 loop-other-preserved c =

@@ -1,7 +1,9 @@
 use Rattle.std.proofs.Common.{◌∷◌, [], ◌++◌, ◌∙◌, ap, refl, take, take_all}
 use Rattle.pure_definitions.specs.Types.Order.{Algebra}
 use Rattle.pure_text.proofs.AnswerLaws.{test_fails}
-use Rattle.pure_text.proofs.ListLaws.{in-map, each_at, read_in}
+use Rattle.pure_text.proofs.ListLaws.{in-map, each_at, each_read, read_in}
+use Rattle.pure_order_tables.specs.Kept.{IsKeptEntry}
+use Rattle.pure_order_tables.proofs.KeptLaws.{kept_copy}
 use Rattle.pure_order_tables.specs.Arities.{IsKnown}
 use Rattle.pure_order_tables.specs.ArityView.{arity_of, arities_of}
 use Rattle.pure_order_tables.proofs.CoregularLaws.{one_more_arity}
@@ -13,6 +15,18 @@ use Rattle.pure_order_tables.proofs.tables.Tables.push_arities.Goals.{then-not-h
 pub uncovered-requires-clause-extends : goal.uncovered-requires-clause-extends
 uncovered-requires-clause-extends c = extends_itself c.loop-arity.self
 
+pub uncovered-requires-clause-kept : goal.uncovered-requires-clause-kept
+uncovered-requires-clause-kept c = rw c.loop-arity.invariant.classes (each_read (IsKeptEntry c.args.self.now.classes) c.args.arities.now c.loop-arity.arity-index c.arity-item.result c.loop-arity-test.true c.arity-item.is c.requires.kept)
+
+pub uncovered-requires-clause-entries : goal.uncovered-requires-clause-entries
+uncovered-requires-clause-entries c = record { are = c.arities.ensures.are; kept = c.arities.ensures.kept }
+
+pub greater-requires-clause-kept : goal.greater-requires-clause-kept
+greater-requires-clause-kept c = rw c.loop-arity.invariant.classes (each_read (IsKeptEntry c.args.self.now.classes) c.args.arities.now c.loop-arity.arity-index c.arity-item.result c.loop-arity-test.true c.arity-item.is c.requires.kept)
+
+pub push_arity-requires-clause-kept : goal.push_arity-requires-clause-kept
+push_arity-requires-clause-kept c = rw c.loop-arity.invariant.classes (kept_copy c.args.self.now.classes c.arity-item.result c.in_ok-share.field-0 c.in_ok-share.ensures.same c.in_ok-share.ensures.rows (each_read (IsKeptEntry c.args.self.now.classes) c.args.arities.now c.loop-arity.arity-index c.arity-item.result c.loop-arity-test.true c.arity-item.is c.requires.kept))
+
 pub uncovered-requires-clause-declared : goal.uncovered-requires-clause-declared
 uncovered-requires-clause-declared c = rw c.loop-arity.invariant.classes (each_at (IsKnown c.args.self.now.classes) (arities_of c.args.arities.now) c.requires.known (arity_of c.arity-item.result) (in-map arity_of c.arity-item.result c.args.arities.now (read_in c.args.arities.now c.loop-arity.arity-index c.arity-item.result c.loop-arity-test.true c.arity-item.is))).class
 
@@ -23,10 +37,10 @@ pub greater-requires-clause-uncovered : goal.greater-requires-clause-uncovered
 greater-requires-clause-uncovered c = rw c.as_slice.ensures.value c.in_ok-uncovered.ensures
 
 pub push_arity-requires-clause-known : goal.push_arity-requires-clause-known
-push_arity-requires-clause-known c = rw (c.in_ok-share.ensures, c.loop-arity.invariant.classes) (each_at (IsKnown c.args.self.now.classes) (arities_of c.args.arities.now) c.requires.known (arity_of c.arity-item.result) (in-map arity_of c.arity-item.result c.args.arities.now (read_in c.args.arities.now c.loop-arity.arity-index c.arity-item.result c.loop-arity-test.true c.arity-item.is)))
+push_arity-requires-clause-known c = rw (c.in_ok-share.ensures.same, c.loop-arity.invariant.classes) (each_at (IsKnown c.args.self.now.classes) (arities_of c.args.arities.now) c.requires.known (arity_of c.arity-item.result) (in-map arity_of c.arity-item.result c.args.arities.now (read_in c.args.arities.now c.loop-arity.arity-index c.arity-item.result c.loop-arity-test.true c.arity-item.is)))
 
 pub push_arity-requires-clause-greater : goal.push_arity-requires-clause-greater
-push_arity-requires-clause-greater c = rw (c.in_ok-share.ensures, c.as_slice-then-not-has_same.ensures.value) c.in_ok-greater.ensures
+push_arity-requires-clause-greater c = rw (c.in_ok-share.ensures.same, c.as_slice-then-not-has_same.ensures.value) c.in_ok-greater.ensures
 
 pub loop-arity-init : goal.loop-arity-init
 loop-arity-init c = record { classes = refl; arities = rw c.requires.same (others_none c.args.first.now.arities) }
@@ -38,7 +52,7 @@ loop-arity-preserved c =
       | then-not-has_same+in_ok-uncovered+in_ok-greater+in_ok-share+in_ok-push_arity w ↦ record {
         classes = rw w.self-is (ap (λ (A : Algebra). A.classes) w.in_ok-push_arity.ensures.ok ∙ c.loop-arity.invariant.classes);
         arities = rw w.self-is (others_put c.args.first.now.arities (arities_of (take c.loop-arity.arity-index c.args.arities.now)) _ c.loop-arity.self.arities w.push_arity.new.self.arities (arity_of c.arity-item.result) read
-            (ap (λ (A : Algebra). A.arities) w.in_ok-push_arity.ensures.ok ∙ ap (λ a. c.loop-arity.self.arities ++ a ∷ []) w.in_ok-share.ensures) (test_fails _ c.has_same.result c.has_same.ensures w.if-not-has_same.true) c.loop-arity.invariant.arities);
+            (ap (λ (A : Algebra). A.arities) w.in_ok-push_arity.ensures.ok ∙ ap (λ a. c.loop-arity.self.arities ++ a ∷ []) w.in_ok-share.ensures.same) (test_fails _ c.has_same.result c.has_same.ensures w.if-not-has_same.true) c.loop-arity.invariant.arities);
       }
       | else-not-has_same w ↦ record {
         classes = rw w.self-is c.loop-arity.invariant.classes;
