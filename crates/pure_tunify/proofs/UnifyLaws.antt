@@ -18,7 +18,7 @@ use Rattle.pure_tunify.specs.declared.pair.TypPair.{TypPair}
 use Rattle.pure_tunify.specs.Unifiers.{IsOldPair, IsMostGeneral}
 use Rattle.pure_tunify.specs.Settings.{composed, AreTriangular, AreWithinLimits, Progress}
 use Rattle.pure_tunify.specs.Procedure.{Outcome, Unified, NotTyped, TooBig, Unifies, over, no_typing, big, next}
-use Rattle.pure_tunify.specs.Working.{IsWritten, Pursues}
+use Rattle.pure_tunify.specs.Working.{IsWritten, IsWrittenInOrder, Pursues}
 use Rattle.pure_tunify.specs.declared.fault.TypFault.{TypFault}
 use Rattle.pure_tunify.specs.declared.fault.TypFault.TheVariants.{NoTyping, Big, Memory}
 use Rattle.pure_tunify.specs.Passes.{HasCome, IsJudged}
@@ -126,13 +126,14 @@ at_start index from = record { sets = []; index = index; next = from }
 
 module _ (A : Algebra) (index from : ℕ) (pairs : List TypPair) (first now : Progress) (start : first ≡ at_start index from) where
   -- What is written out of the settings, where all pairs have come to them.
-  pub come_unified : (found : List TypBind × ℕ) → HasCome A first.index first.next pairs (length pairs) now → AreWithinLimits now.sets now.next × IsWritten now.sets found.0 × (found.1 ≡ now.next) × AreTriangular now.sets → AreUnified A index from pairs found.0 found.1
+  pub come_unified : (found : List TypBind × ℕ) → HasCome A first.index first.next pairs (length pairs) now → AreWithinLimits now.sets now.next × IsWrittenInOrder now.sets found.0 × (found.1 ≡ now.next) × AreTriangular now.sets → AreUnified A index from pairs found.0 found.1
   come_unified found h w =
       let come = subst (λ (q : Progress). HasCome A q.index q.next pairs (length pairs) now) start h in
       record {
         sets = now.sets;
         unifies = subst (λ (n : ℕ). Unifies A index 0 from [] pairs (Unified now.sets n)) (sym w.2) (come_end A index from pairs (length pairs) now come (omega arith) w.0);
-        written = w.1;
+        written = w.1.0;
+        ordered = w.1.1;
       }
 
   -- What is judged of a pair decides.

@@ -1,8 +1,8 @@
 -- What calls that unify answer.
-use Rattle.std.specs.Prelude.{◌≡◌, ℕ, ◌+◌, max, List, [], ◌∷◌}
+use Rattle.std.specs.Prelude.{◌≡◌, ℕ, ◌+◌, max, List, [], ◌∷◌, map}
 use Rattle.pure_definitions.specs.Types.Typ.{Typ, TFree, TVar, Con, Typs, none, also}
 use Rattle.pure_definitions.specs.Types.Order.{Algebra}
-use Rattle.pure_definitions.specs.Terms.Subst.{TypBind, typ_image, typ_instance}
+use Rattle.pure_definitions.specs.Terms.Subst.{TypBind, typ_variable, typ_image, typ_instance}
 use Rattle.pure_tunify.specs.declared.pair.TypPair.{TypPair}
 use Rattle.pure_tunify.specs.declared.fault.TypFault.{TypFault}
 use Rattle.pure_tunify.specs.declared.fault.TypFault.TheVariants.{NoTyping, Big, Memory}
@@ -18,11 +18,12 @@ pub record IsEqualised (A : Algebra) (old new : Progress) (p : TypPair) : Type 0
   pub further : IsFurther old new more
   pub equalises : Equalises A old.index old.next (instance_pair (composed old.sets) p) more new.next
 
--- The pairs come to this map, written out, and this first name that isn't used.
-pub record AreUnified (A : Algebra) (index from : ℕ) (pairs : List TypPair) (map : List TypBind) (next : ℕ) : Type 0 where
+-- The pairs come to this map and this first name that isn't used: its entries are the procedure's settings, in the order in which the variables were set, each image written out under all later settings.
+pub record AreUnified (A : Algebra) (index from : ℕ) (pairs : List TypPair) (binds : List TypBind) (next : ℕ) : Type 0 where
   pub sets : List TypBind
   pub unifies : Unifies A index 0 from [] pairs (Unified sets next)
-  pub written : IsWritten sets map
+  pub written : IsWritten sets binds
+  pub ordered : map typ_variable binds ≡ map typ_variable sets
 
 -- The pair of this number decides, for this reason.
 abbrev pub IsDecided : Algebra → (index from : ℕ) → List TypPair → TypFault → Type 0
@@ -32,7 +33,7 @@ IsDecided A index from pairs Memory = Unit {0}
 
 -- The map applied again changes nothing.
 abbrev pub IsIdempotent : List TypBind → Type 0
-IsIdempotent map = (x i : ℕ) (s : List ℕ) → typ_instance (typ_image map) (typ_image map (TVar x i s)) ≡ typ_image map (TVar x i s)
+IsIdempotent binds = (x i : ℕ) (s : List ℕ) → typ_instance (typ_image binds) (typ_image binds (TVar x i s)) ≡ typ_image binds (TVar x i s)
 
 -- The pair of this number is the first such that it and those before have no unifier, or their most general unifier is beyond the limits.
 abbrev pub IsReason : Algebra → (index from : ℕ) → List TypPair → TypFault → Type 0

@@ -6,7 +6,7 @@ ghost use Rattle.pure_definitions.specs.Terms.Subst.{typ_image};
 ghost use Rattle.pure_tunify.specs.Unifiers.{IsOldPair, IsMostGeneral};
 ghost use Rattle.pure_tunify.specs.Settings.{AreTriangular, AreWithinLimits};
 ghost use Rattle.pure_tunify.specs.Procedure.{Unifies, Unified};
-ghost use Rattle.pure_tunify.specs.Working.{IsWritten};
+ghost use Rattle.pure_tunify.specs.Working.{IsWrittenInOrder};
 ghost use Rattle.pure_tunify.specs.Answers.{AreUnified, IsIdempotent, IsDecided, IsReason, index_above_pairs};
 ghost use Rattle.pure_tunify.specs.Passes.{HasCome, IsPass, IsJudged, IfFound};
 
@@ -186,7 +186,7 @@ fn first_beyond(
 
 /// The settings written out, and the first name that isn't used.
 fn answer(settings: &Settings, alloc: Global) -> Result<Option<(TypMap, u32)>, AllocError>
-    ensures { IfOk result (λ o. IfSome o (λ found. AreWithinLimits settings.now.sets settings.now.next × IsWritten settings.now.sets found.0 × (found.1 ≡ settings.now.next) × AreTriangular settings.now.sets)) }
+    ensures { IfOk result (λ o. IfSome o (λ found. AreWithinLimits settings.now.sets settings.now.next × IsWrittenInOrder settings.now.sets found.0 × (found.1 ≡ settings.now.next) × AreTriangular settings.now.sets)) }
 {
     let next = settings.next();
     let _ = settings.binds();
