@@ -17,7 +17,7 @@ use Rattle.pure_tunify.specs.declared.pair.TypPair.{TypPair}
 use Rattle.pure_tunify.specs.Procedure.{Outcome, Unified, NotTyped}
 use Rattle.pure_tunify.specs.ProcedureLaws.{IsFirstWithout, IsMeant}
 use Rattle.pure_tunify.specs.Unifiers.{IsUnifier, Equates, IsOldPair}
-use Rattle.pure_tunify.proofs.ReductionLaws.{procedure_is_meant}
+use Rattle.pure_tunify.proofs.MeantLaws.{procedure_is_meant}
 use Rattle.pure_grammar.specs.Terms.RawTree.{RawTree}
 use Rattle.pure_elab.specs.Vocabulary.{Vocabulary}
 use Rattle.pure_elab.specs.Numbered.{fixings}
@@ -84,7 +84,7 @@ pub answer_is_most_general : AnswerIsMostGeneral
 answer_is_most_general V t T u fixed h =
     let d = h.draft in
     let typing = composed h.typed.sets in
-    let general = outcome_is_meant V t T fixed d h.of_text (Unified h.typed.sets h.typed.next) h.typed.unifies in
+    let general = (outcome_is_meant V t T fixed d h.of_text (Unified h.typed.sets h.typed.next) h.typed.unifies).general in
     let under = inst_typ typing d.term in
     let typed = typed_after V t T fixed d h.of_text typing (typ_image (fixings V.fresh under)) general.unifier (entries-keep_fixed_typs (fixings V.fresh under)) in
     record {
@@ -101,7 +101,7 @@ ill_typed_at_first_failure V t T at fixed h =
     let d = h.draft in
     let r = h.reason in
     let first : IsFirstWithout V.algebra 2 0 (map pair_of d.constraints) r.number = outcome_is_meant V t T fixed d h.of_text (NotTyped r.number) r.unifies in
-    let before = subst (λ (ps : List TypPair). IsUnifier V.algebra ps (composed first.sets)) (take-map pair_of r.number d.constraints) first.before.unifier in
+    let before = subst (λ (ps : List TypPair). IsUnifier V.algebra ps (composed first.before.sets)) (take-map pair_of r.number d.constraints) first.before.reached.general.unifier in
     record {
       draft = d;
       of_text = h.of_text;
@@ -110,7 +110,7 @@ ill_typed_at_first_failure V t T at fixed h =
         front = take r.number d.constraints;
         rest = drop (suc r.number) d.constraints;
         stands = cut_at d.constraints r.number r.constraint r.stands;
-        typing = composed first.sets;
+        typing = composed first.before.sets;
         before = before;
         none = λ typs u. first.none typs (longer typs u);
       };

@@ -9,6 +9,8 @@ pub mod AskingLaws
 pub mod NarrowLaws
 pub mod PursueLaws
 pub mod ReductionLaws
+pub mod NameLaws
+pub mod MeantLaws
 pub mod WrittenLaws
 pub mod UnifyLaws
 pub mod IndexLaws

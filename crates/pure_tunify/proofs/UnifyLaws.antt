@@ -25,7 +25,8 @@ use Rattle.pure_tunify.specs.Passes.{HasCome, IsJudged}
 use Rattle.pure_tunify.specs.Answers.{IsEqualised, AreUnified, IsDecided, IsReason}
 use Rattle.pure_tunify.proofs.SettingLaws.{instance-append, instance-free, composed-absent, composed-fixed}
 use Rattle.pure_tunify.proofs.PursueLaws.{pursuit_ends}
-use Rattle.pure_tunify.proofs.ReductionLaws.{agree_unifier, procedure_is_meant}
+use Rattle.pure_tunify.proofs.ReductionLaws.{agree_unifier}
+use Rattle.pure_tunify.proofs.MeantLaws.{procedure_is_meant}
 
 -- Where nothing is left of a pair, it has been made equal.
 pub equalised_at_end : (A : Algebra) (p : TypPair) (first now : Progress) → Pursues A p first now [] → IsEqualised A first now p
@@ -42,7 +43,7 @@ written_agrees sets written h (Con k ts) is = absurd is
 
 pub written_general : (A : Algebra) (index from : ℕ) (pairs : List TypPair) (written : List TypBind) (m : ℕ) → Each (IsOldPair index from) pairs → AreUnified A index from pairs written m → IsMostGeneral A index from pairs (typ_image written)
 written_general A index from pairs written m old h =
-    let g = procedure_is_meant A index from pairs (Unified h.sets m) old h.unifies in
+    let g = (procedure_is_meant A index from pairs (Unified h.sets m) old h.unifies).general in
     let same = written_agrees h.sets written h.written in
     record {
       unifier = agree_unifier A (composed h.sets) (typ_image written) same pairs g.unifier;

@@ -73,14 +73,11 @@ variables-reverse (b ∷ bs) v m = elim (variables-snoc (reverse bs) b v (subst 
 
 image-reverse : (sets : List TypBind) (v : Typ) → IsTypMap sets → typ_image (reverse sets) v ≡ typ_image sets v
 image-reverse [] v distinct = refl
-image-reverse (b ∷ bs) v distinct = ap (λ xs. typ_image xs v) (reverse-cons b bs) ∙ by (typ_eq (typ_variable b) v) refl
+image-reverse (b ∷ bs) v distinct = ap (λ xs. typ_image xs v) (reverse-cons b bs) ∙ by (typ_eq (typ_variable b) v) refl (image-reverse bs v distinct.1)
   where
-    rest : typ_image (reverse bs) v ≡ typ_image bs v
-    rest = image-reverse bs v distinct.1
-
-    by : (c : Bool) → typ_eq (typ_variable b) v ≡ c → typ_image (reverse bs ++ b ∷ []) v ≡ cond c b.image (typ_image bs v)
-    by true t = image-last (reverse bs) b v t (λ m. distinct.0 (variables-reverse bs (typ_variable b) (subst (λ (w : Typ). IsIn w (map typ_variable (reverse bs))) (sym (typ_eq-same (typ_variable b) v t)) m)))
-    by false t = image-other (reverse bs) b v t ∙ rest
+    by : (c : Bool) → typ_eq (typ_variable b) v ≡ c → typ_image (reverse bs) v ≡ typ_image bs v → typ_image (reverse bs ++ b ∷ []) v ≡ cond c b.image (typ_image bs v)
+    by true t rest = image-last (reverse bs) b v t (λ m. distinct.0 (variables-reverse bs (typ_variable b) (subst (λ (w : Typ). IsIn w (map typ_variable (reverse bs))) (sym (typ_eq-same (typ_variable b) v t)) m)))
+    by false t rest = image-other (reverse bs) b v t ∙ rest
 
 -- One turn of putting entries into a map the other way round.
 pub reversed_next : (items out new : List TypBind) (left : ℕ) (b e : TypBind) → 0 < left → left ≤ length items → b ≡ get_or items (left - 1) b → e ≡ b → out ≡ reverse (drop left items) → new ≡ out ++ e ∷ [] → new ≡ reverse (drop (left - 1) items)
@@ -248,13 +245,15 @@ module _ (p d : Progress) (items : List TypBind) (left : ℕ) (b : TypBind) (tid
 pub writing_starts : (p d : Progress) (items : List TypBind) → items ≡ p.sets → IsTidy d → d.sets ≡ [] → d.index ≡ p.index → d.next ≡ p.next → AreWrittenOut p (drop (length items) p.sets) d
 writing_starts p d items are tidy none index next = subst (λ (xs : List TypBind). AreWrittenOut p xs d) (sym (drop_all (length items) p.sets (let same = ap length are in omega arith))) (none_written p d tidy none index next)
 
-pub writing_ends : (p d : Progress) (left : ℕ) (items out : List TypBind) → (0 < left → ⊥) → AreWrittenOut p (drop left p.sets) d → items ≡ d.sets → IsTypMap d.sets → out ≡ reverse items → HasImagesWithin p.sets × IsWrittenInOrder p.sets out
+pub writing_ends : (p d : Progress) (left : ℕ) (items out : List TypBind) → left ≤ 0 → AreWrittenOut p (drop left p.sets) d → items ≡ d.sets → IsTypMap d.sets → out ≡ reverse items → HasImagesWithin p.sets × IsWrittenInOrder p.sets out
 writing_ends p d zero items out none h are distinct is = (
   h.within,
-  λ x i s. ap (λ xs. typ_image xs (TVar x i s)) whole ∙ (image-reverse d.sets (TVar x i s) distinct ∙ h.written x i s),
-  ap (map typ_variable) whole ∙ (map-reverse d.sets ∙ (ap reverse h.order ∙ reverse-reverse (map typ_variable p.sets))),
+  (
+    λ x i s. ap (λ xs. typ_image xs (TVar x i s)) whole ∙ (image-reverse d.sets (TVar x i s) distinct ∙ h.written x i s),
+    ap (map typ_variable) whole ∙ (map-reverse d.sets ∙ (ap reverse h.order ∙ reverse-reverse (map typ_variable p.sets))),
+  ),
 )
   where
     whole : out ≡ reverse d.sets
     whole = is ∙ ap reverse are
-writing_ends p d (suc left) items out none h are distinct is = absurd (none (omega arith))
+writing_ends p d (suc left) items out none h are distinct is = absurd (omega arith)

@@ -35,7 +35,7 @@ IsDecided A index from pairs Memory = Unit {0}
 abbrev pub IsIdempotent : List TypBind → Type 0
 IsIdempotent binds = (x i : ℕ) (s : List ℕ) → typ_instance (typ_image binds) (typ_image binds (TVar x i s)) ≡ typ_image binds (TVar x i s)
 
--- The pair of this number is the first such that it and those before have no unifier, or their most general unifier is beyond the limits.
+-- The pair of this number is the first such that it and those before have no unifier, or have a most general one that is beyond the limits; those before have one within them.
 abbrev pub IsReason : Algebra → (index from : ℕ) → List TypPair → TypFault → Type 0
 IsReason A index from pairs (NoTyping k) = IsFirstWithout A index from pairs k
 IsReason A index from pairs (Big k) = IsBeyond A index from pairs k
