@@ -23,4 +23,5 @@ pub mod ReducedLaws
 pub mod AskedLaws
 pub mod NarrowableLaws
 pub mod OutcomeLaws
+pub mod LargeLaws
 pub mod WritingLaws

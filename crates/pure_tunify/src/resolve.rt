@@ -74,7 +74,7 @@ pub fn resolve(
 }
 
 /// What is left of a room for so many nodes, on paths of so many, when the type with all set variables replaced is put in.
-fn resolved_leaves(
+pub fn resolved_leaves(
     settings: &Settings,
     t: &Typ,
     left: u32,
