@@ -21,9 +21,11 @@ use Rattle.pure_tunify.specs.Steps.{pair, setting, instance_pair}
 use Rattle.pure_tunify.specs.Settings.{composed, bind, AreWithinLimits, Progress, IsTidy}
 use Rattle.pure_tunify.specs.Procedure.{sooner, difference, place_of, IsSchematic, Equalises, Blocks}
 use Rattle.pure_tunify.specs.Working.{IsFurther, place_among, IsLeftOf, Pursues}
-use Rattle.pure_tunify.specs.Meeting.{GoesOn, IsLargeAt, HasLargeHead}
-use Rattle.pure_tunify.specs.LargeTypes.{HasNoClasses, Covers, IsReachedBy, IsSettled}
-use Rattle.pure_tunify.specs.Answers.{IsPassed, IsSolvable}
+use Rattle.pure_tunify.specs.Meeting.{GoesOn, Stops, IsLargeAt, HasLargeHead}
+use Rattle.pure_tunify.specs.declared.meeting.Turned.{Turned}
+use Rattle.pure_tunify.specs.declared.meeting.Turned.TheVariants.{Further, Never, Large}
+use Rattle.pure_tunify.specs.LargeTypes.{HasNoClasses, Covers, IsReachedBy, IsSettled, IsSettling}
+use Rattle.pure_tunify.specs.Answers.{IsPassed, IsSolvable, IsSolvability}
 use Rattle.pure_tunify.proofs.MapLaws.{identity_is_substitution, after_is_substitution, setting_is_substitution, setting-itself, setting-other}
 use Rattle.pure_tunify.proofs.PlaceLaws.{IsPlaceOf, difference_is_place, no_difference, difference-itself}
 use Rattle.pure_tunify.proofs.SettingLaws.{instance-append, instance_pair-append, instance_pairs-identity, as_variable, composed-absent, instance-untouched, instance-old, old_pair-later, setting-new}
@@ -213,23 +215,35 @@ module _ (A : Algebra) (old new : Progress) (work : List TypPair) (v t : Typ) (t
     unifier = record { substitution = both_substitution; equates = (on_type ∙ (sym on_variable ∙ sym (ap (typ_instance both) variable_stays)), rest_both (map (instance_pair (composed old.sets)) work) rest_equal) };
   }
 
-on_true : (P Q : Type 0) (b : Bool) → (P → Q) → OnTrue b P → OnTrue b Q
-on_true P Q true f h = f h
-on_true P Q false f h = tt
+-- Pairs that stop have no unifier.
+module _ (A : Algebra) (old : Progress) (rest : List TypPair) (tidy : IsTidy old) (olds : Each (IsOldPair old.index old.next) rest) (stops : Stops A old rest) where
+  abbrev rest_pair : TypPair
+  rest_pair = instance_pair (composed old.sets) (as_pair rest)
+
+  stops_none : (typs : Typ → Typ) → ¬ IsUnifier A (map (instance_pair (composed old.sets)) rest) typs
+  stops_none typs u = blocks_unifiers A old.index (stops (as_pair rest) old (pursued_as_pair A old rest)) (pair_old old (as_pair rest) tidy (as_pair_old old.index old.next rest olds), tt) typs
+      (record { substitution = u.substitution; equates = (no_difference (typ_instance typs rest_pair.left) (typ_instance typs rest_pair.right) (left_as_pair old.sets rest typs ∙ nowhere typs (map (instance_pair (composed old.sets)) rest) u.equates), tt) })
 
 -- Behind the first pair.
 module _ (A : Algebra) (old new : Progress) (work rest : List TypPair) (q : TypPair) (e : work ≡ rest ++ q ∷ []) (tidy : IsTidy old) (olds : Each (IsOldPair old.index old.next) (reverse work)) where
   olds_rest : Each (IsOldPair old.index old.next) (reverse rest)
   olds_rest = let both = subst (Each (IsOldPair old.index old.next)) (last_first work rest q e) olds in both.1
 
-  pub solvable_left : (done : Bool) → OnTrue done (IsSettled A old new (reverse rest) q.left q.right) → OnTrue done (IsSolvable A old new (reverse work))
-  solvable_left done h = on_true (IsSettled A old new (reverse rest) q.left q.right) (IsSolvable A old new (reverse work)) done (λ s. subst (IsSolvable A old new) (sym (last_first work rest q e)) (settled_left A old new (reverse rest) q.left q.right tidy olds_rest s)) h
+  none_all : Stops A old (reverse rest) → (typs : Typ → Typ) → ¬ IsUnifier A (map (instance_pair (composed old.sets)) (q ∷ reverse rest)) typs
+  none_all stops typs u = stops_none A old (reverse rest) tidy olds_rest stops typs (record { substitution = u.substitution; equates = u.equates.1 })
 
-  pub solvable_right : (done : Bool) → OnTrue done (IsSettled A old new (reverse rest) q.right q.left) → OnTrue done (IsSolvable A old new (reverse work))
-  solvable_right done h = on_true (IsSettled A old new (reverse rest) q.right q.left) (IsSolvable A old new (reverse work)) done (λ s. subst (IsSolvable A old new) (sym (last_first work rest q e)) (settled_right A old new (reverse rest) q.right q.left tidy olds_rest s)) h
+  pub solvable_left : (turned : Turned) → IsSettling A old new (reverse rest) q.left q.right turned → IsSolvability A old new (reverse work) turned
+  solvable_left Further s = subst (IsSolvable A old new) (sym (last_first work rest q e)) (settled_left A old new (reverse rest) q.left q.right tidy olds_rest s)
+  solvable_left Never s = subst (λ (xs : List TypPair). (typs : Typ → Typ) → ¬ IsUnifier A (map (instance_pair (composed old.sets)) xs) typs) (sym (last_first work rest q e)) (none_all s)
+  solvable_left Large s = tt
+
+  pub solvable_right : (turned : Turned) → IsSettling A old new (reverse rest) q.right q.left turned → IsSolvability A old new (reverse work) turned
+  solvable_right Further s = subst (IsSolvable A old new) (sym (last_first work rest q e)) (settled_right A old new (reverse rest) q.right q.left tidy olds_rest s)
+  solvable_right Never s = subst (λ (xs : List TypPair). (typs : Typ → Typ) → ¬ IsUnifier A (map (instance_pair (composed old.sets)) xs) typs) (sym (last_first work rest q e)) (none_all s)
+  solvable_right Large s = tt
 
 -- The pair at a type that is too large passes the limits.
-module _ (A : Algebra) (coregular : IsCoregular A) (p : TypPair) (first mid new : Progress) (after : List TypPair) (old : IsOldPair first.index first.next p) (tidy : IsTidy mid) (goes : GoesOn A first mid (p ∷ []) after) (s : IsSolvable A mid new after) where
+module _ (A : Algebra) (coregular : IsCoregular A) (p : TypPair) (first mid new : Progress) (after : List TypPair) (old : IsOldPair first.index first.next p) (tidy : IsTidy mid) (goes : GoesOn A first mid (p ∷ []) after) where
   so_far : Pursues A p first mid after
   so_far = goes.pursued p first (pursuit_starts A p first)
 
@@ -242,11 +256,11 @@ module _ (A : Algebra) (coregular : IsCoregular A) (p : TypPair) (first mid new 
   old_now : IsOldPair first.index mid.next now_pair
   old_now = subst (λ (i : ℕ). IsOldPair i mid.next now_pair) so_far.further.index (pair_old mid p tidy old_mid)
 
-  unified : typ_instance s.typs now_pair.left ≡ typ_instance s.typs now_pair.right
-  unified = no_difference (typ_instance s.typs now_pair.left) (typ_instance s.typs now_pair.right) (so_far.left s.typs ∙ nowhere s.typs (map (instance_pair (composed mid.sets)) after) s.unifier.equates)
-
-  not_blocked : Blocks A first.index mid.next now_pair → ⊥
-  not_blocked b = blocks_unifiers A first.index b (old_now, tt) s.typs (record { substitution = s.unifier.substitution; equates = (unified, tt) })
+  not_blocked : (s : IsSolvable A mid new after) → Blocks A first.index mid.next now_pair → ⊥
+  not_blocked s b = blocks_unifiers A first.index b (old_now, tt) s.typs (record { substitution = s.unifier.substitution; equates = (unified, tt) })
+    where
+      unified : typ_instance s.typs now_pair.left ≡ typ_instance s.typs now_pair.right
+      unified = no_difference (typ_instance s.typs now_pair.left) (typ_instance s.typs now_pair.right) (so_far.left s.typs ∙ nowhere s.typs (map (instance_pair (composed mid.sets)) after) s.unifier.equates)
 
   module _ (more : List TypBind) (m : ℕ) (e : Equalises A first.index mid.next now_pair more m) where
     equal_now : typ_instance (composed more) now_pair.left ≡ typ_instance (composed more) now_pair.right
@@ -286,8 +300,19 @@ module _ (A : Algebra) (coregular : IsCoregular A) (p : TypPair) (first mid new 
     beyond_head (q ∷ rest) place (inl l) = large_at q.left q.right l (head_left q.left q.right rest place l)
     beyond_head (q ∷ rest) place (inr l) = large_at q.right q.left l.1 (head_right q.right q.left rest l.0 place l.1)
 
-  pub passed : HasLargeHead mid after → IsPassed A first new p
-  passed head = elim (equalisable_or_blocked A coregular first.index mid.next now_pair old_now) [
+  -- What makes the pair equal unifies what is left of it.
+  all_unified : (more : List TypBind) (m : ℕ) → Equalises A first.index mid.next now_pair more m → IsUnifier A (map (instance_pair (composed mid.sets)) after) (composed more)
+  all_unified more m e = record {
+    substitution = (equalised_unifier A first.index mid.next m now_pair more e old_now).substitution;
+    equates = everywhere (composed more) (map (instance_pair (composed mid.sets)) after)
+        (sym (so_far.left (composed more)) ∙ (ap (difference (typ_instance (composed more) now_pair.left)) (sym (equal_now more m e)) ∙ difference-itself (typ_instance (composed more) now_pair.left)));
+  }
+
+  pub refused : ((typs : Typ → Typ) → ¬ IsUnifier A (map (instance_pair (composed mid.sets)) after) typs) → Blocks A first.index first.next (instance_pair (composed first.sets) p)
+  refused none = elim (equalisable_or_blocked A coregular first.index mid.next now_pair old_now) [ inl e ↦ absurd (none (composed e.more) (all_unified e.more e.reached e.equalises)) | inr b ↦ so_far.none b ]
+
+  pub passed : (s : IsSolvable A mid new after) → HasLargeHead mid after → IsPassed A first new p
+  passed s head = elim (equalisable_or_blocked A coregular first.index mid.next now_pair old_now) [
     | inl e ↦ record {
       found = so_far.more ++ s.found;
       further = record {
@@ -300,10 +325,15 @@ module _ (A : Algebra) (coregular : IsCoregular A) (p : TypPair) (first mid new 
       equalises = so_far.onward e.reached e.more e.equalises;
       beyond = beyond_head e.more e.reached e.equalises after (place_now mid.sets p after so_far.left) head;
     }
-    | inr b ↦ absurd (not_blocked b)
+    | inr b ↦ absurd (not_blocked s b)
   ]
 
-pub one_passed : (A : Algebra) → IsCoregular A → (p : TypPair) (first mid new : Progress) (work after : List TypPair) → work ≡ p ∷ [] → IsOldPair first.index first.next p → IsTidy mid → GoesOn A first mid (reverse work) after × HasLargeHead mid after
-    → (solvable : Bool) → OnTrue solvable (IsSolvable A mid new after) → solvable ≡ true → IsPassed A first new p
-one_passed A coregular p first mid new work after e old tidy goes solvable h is =
-    passed A coregular p first mid new after old tidy (subst (λ (xs : List TypPair). GoesOn A first mid (reverse xs) after) e goes.0) (subst (λ (b : Bool). OnTrue b (IsSolvable A mid new after)) is h) goes.1
+module _ (A : Algebra) (coregular : IsCoregular A) (p : TypPair) (first mid new : Progress) (work after : List TypPair) (e : work ≡ p ∷ []) (old : IsOldPair first.index first.next p) (tidy : IsTidy mid) (goes : GoesOn A first mid (reverse work) after × HasLargeHead mid after) where
+  goes_one : GoesOn A first mid (p ∷ []) after
+  goes_one = subst (λ (xs : List TypPair). GoesOn A first mid (reverse xs) after) e goes.0
+
+  pub one_passed : IsSolvable A mid new after → IsPassed A first new p
+  one_passed s = passed A coregular p first mid new after old tidy goes_one s goes.1
+
+  pub one_refused : ((typs : Typ → Typ) → ¬ IsUnifier A (map (instance_pair (composed mid.sets)) after) typs) → Blocks A first.index first.next (instance_pair (composed first.sets) p)
+  one_refused none = refused A coregular p first mid new after old tidy goes_one none

@@ -43,6 +43,12 @@ pub record IsSolvable (A : Algebra) (old new : Progress) (pairs : List TypPair) 
   pub typs : Typ → Typ
   pub unifier : IsUnifier A (map (instance_pair (composed old.sets)) pairs) typs
 
+-- Pairs have a unifier, or none; or nothing is known.
+abbrev pub IsSolvability : Algebra → (old new : Progress) → List TypPair → Turned → Type 0
+IsSolvability A old new pairs Further = IsSolvable A old new pairs
+IsSolvability A old new pairs Never = (typs : Typ → Typ) → ¬ IsUnifier A (map (instance_pair (composed old.sets)) pairs) typs
+IsSolvability A old new pairs Large = Unit {0}
+
 -- The pairs come to this map and this first name that isn't used: its entries are the procedure's settings, in the order in which the variables were set, each image written out under all later settings.
 pub record AreUnified (A : Algebra) (index from : ℕ) (pairs : List TypPair) (binds : List TypBind) (next : ℕ) : Type 0 where
   pub sets : List TypBind

@@ -6,9 +6,8 @@ ghost use Rattle.pure_definitions.specs.Types.Occurs.{OccursInTyp};
 ghost use Rattle.pure_definitions.specs.Terms.Subst.{typ_variable, typ_instance};
 ghost use Rattle.pure_tunify.specs.Unifiers.{IsOldPair};
 ghost use Rattle.pure_tunify.specs.Settings.{composed};
-ghost use Rattle.pure_tunify.specs.Meeting.{HasLargeHead};
-ghost use Rattle.pure_tunify.specs.Answers.{IsSolvable};
-ghost use Rattle.pure_tunify.specs.LargeTypes.{HasNoClasses, Covers, IsReachedBy, IsSettled};
+ghost use Rattle.pure_tunify.specs.Answers.{IsSolvability};
+ghost use Rattle.pure_tunify.specs.LargeTypes.{HasNoClasses, Covers, IsReachedBy, IsSettling};
 
 use crate::meeting::{Turned, is_schematic};
 use crate::pair::TypPair;
@@ -103,7 +102,7 @@ fn stays_free(
     }
 }
 
-/// Whether the pairs are made equal, and the variable can be set to the type then; false where that isn't found out.
+/// Whether the pairs are made equal, and the variable can be set to the type then; too large where that isn't found out.
 fn settles(
     order: &Order,
     alloc: Global,
@@ -111,43 +110,46 @@ fn settles(
     work: &mut Vec<TypPair>,
     variable: &Typ,
     t: &Typ,
-) -> Result<bool, AllocError>
+) -> Result<Turned, AllocError>
     requires { Each (IsOldPair settings.old.index settings.old.next) (reverse work.old.items) }
-    ensures { IfOk result (λ done. OnTrue done (IsSettled order.now settings.old settings.new (reverse work.old.items) variable.now t.now)) }
+    ensures { IfOk result (IsSettling order.now settings.old settings.new (reverse work.old.items) variable.now t.now) }
 {
-    if !has_no_classes(variable) {
-        return Ok(false);
-    }
     let turned = pursue(order, alloc, settings, work)?;
     match turned {
+        Turned::Never => Ok(Turned::Never),
+        Turned::Large => Ok(Turned::Large),
         Turned::Further => {
+            if !has_no_classes(variable) {
+                return Ok(Turned::Large);
+            }
             let free = stays_free(settings, alloc, variable, t)?;
-            Ok(free)
+            if !free {
+                return Ok(Turned::Large);
+            }
+            Ok(Turned::Further)
         }
-        Turned::Never => Ok(false),
-        Turned::Large => Ok(false),
     }
 }
 
-/// Whether the pairs that are left have a unifier, of which the first has a type that is too large to be written out; false
-/// where that isn't found out.
-pub fn is_solvable(
+/// Whether the pairs that are left have a unifier, or never, of which the first has a type that is too large to be written
+/// out; too large where that isn't found out.
+pub fn solvability(
     order: &Order,
     alloc: Global,
     settings: &mut Settings,
     work: &mut Vec<TypPair>,
-) -> Result<bool, AllocError>
+) -> Result<Turned, AllocError>
     requires old { Each (IsOldPair settings.old.index settings.old.next) (reverse work.old.items) }
-    ensures { IfOk result (λ done. OnTrue done (IsSolvable order.now settings.old settings.new (reverse work.old.items))) }
+    ensures { IfOk result (IsSolvability order.now settings.old settings.new (reverse work.old.items)) }
 {
     let _ = settings.next();
     let Some(first) = work.pop() else {
-        return Ok(false);
+        return Ok(Turned::Large);
     };
     if is_schematic(&first.left) {
-        let done = settles(order, alloc, settings, work, &first.left, &first.right)?;
-        return Ok(done);
+        let turned = settles(order, alloc, settings, work, &first.left, &first.right)?;
+        return Ok(turned);
     }
-    let done = settles(order, alloc, settings, work, &first.right, &first.left)?;
-    Ok(done)
+    let turned = settles(order, alloc, settings, work, &first.right, &first.left)?;
+    Ok(turned)
 }

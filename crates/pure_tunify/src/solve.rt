@@ -3,7 +3,7 @@ ghost use Rattle.std.specs.Prelude.{◌≡◌, ◌∷◌, [], IfOk};
 ghost use Rattle.pure_tunify.specs.Unifiers.{IsOldPair};
 ghost use Rattle.pure_tunify.specs.Answers.{IsSolved};
 
-use crate::large::is_solvable;
+use crate::large::solvability;
 use crate::meeting::Turned;
 use crate::pair::TypPair;
 use crate::pursue::pursue;
@@ -43,11 +43,12 @@ pub fn solve(
         Turned::Large => {
             let _ = order.domains(Name::FUN, Name::FUN);
             let _ = settings.next();
-            let solvable = is_solvable(order, alloc, settings, &mut work)?;
-            if !solvable {
-                return Err(AllocError);
+            let known = solvability(order, alloc, settings, &mut work)?;
+            match known {
+                Turned::Further => Ok(Turned::Large),
+                Turned::Never => Ok(Turned::Never),
+                Turned::Large => Err(AllocError),
             }
-            Ok(Turned::Large)
         }
     }
 }
