@@ -1,5 +1,5 @@
 -- The answer is the text under a most general typing, and typing fails at the first constraint without a solution.
-use Rattle.std.proofs.Common.{◌≡◌, ℕ, suc, ◌+◌, List, [], ◌∷◌, ◌++◌, map, take, drop, refl, ap, sym, subst, ◌∙◌, arith}
+use Rattle.std.proofs.Common.{◌≡◌, ℕ, suc, ◌+◌, List, [], ◌∷◌, ◌++◌, map, take, drop, inl, inr, refl, ap, sym, subst, ◌∙◌, arith}
 use Rattle.std.specs.List.{take-map}
 use Rattle.pure_text.specs.Lists.{Each}
 use Rattle.pure_text.proofs.ListLaws.{each-left, each-right, each_imply}
@@ -14,17 +14,17 @@ use Rattle.pure_term_laws.proofs.OccursLaws.{typ_instances-agree}
 use Rattle.pure_term_laws.proofs.MapLaws.{typ_instance-again}
 use Rattle.pure_tunify.specs.Settings.{composed}
 use Rattle.pure_tunify.specs.declared.pair.TypPair.{TypPair}
-use Rattle.pure_tunify.specs.Procedure.{Outcome, Unified, NotTyped}
+use Rattle.pure_tunify.specs.Procedure.{Outcome, Unified, NotTyped, TooBig}
 use Rattle.pure_tunify.specs.ProcedureLaws.{IsFirstWithout, IsMeant}
 use Rattle.pure_tunify.specs.Unifiers.{IsUnifier, Equates, IsOldPair}
-use Rattle.pure_tunify.proofs.ReductionLaws.{procedure_is_meant}
+use Rattle.pure_tunify.proofs.MeantLaws.{procedure_is_meant}
 use Rattle.pure_grammar.specs.Terms.RawTree.{RawTree}
 use Rattle.pure_elab.specs.Vocabulary.{Vocabulary}
 use Rattle.pure_elab.specs.Numbered.{fixings}
 use Rattle.pure_elab.specs.Drafts.{Constraint, Draft, draft, whole_draft, raw_place, pair_of}
 use Rattle.pure_elab.specs.Typings.{IsTyping}
 use Rattle.pure_elab.specs.Answers.{IsFixedTyp, IsDraftOf, Comes}
-use Rattle.pure_elab.specs.Laws.{AnswerIsMostGeneral, IllTypedAtFirstFailure}
+use Rattle.pure_elab.specs.Laws.{AnswerIsMostGeneral, IllTypedAtFirstFailure, BigIsBeyondLimits}
 use Rattle.pure_elab.proofs.Lists.{each_from_map, cut_at, take_further}
 use Rattle.pure_elab.proofs.DraftLaws.{Solves, draft_is_typed}
 use Rattle.pure_elab.proofs.OldLaws.{whole_is_old}
@@ -84,7 +84,7 @@ pub answer_is_most_general : AnswerIsMostGeneral
 answer_is_most_general V t T u fixed h =
     let d = h.draft in
     let typing = composed h.typed.sets in
-    let general = outcome_is_meant V t T fixed d h.of_text (Unified h.typed.sets h.typed.next) h.typed.unifies in
+    let general = (outcome_is_meant V t T fixed d h.of_text (Unified h.typed.sets h.typed.next) h.typed.unifies).general in
     let under = inst_typ typing d.term in
     let typed = typed_after V t T fixed d h.of_text typing (typ_image (fixings V.fresh under)) general.unifier (entries-keep_fixed_typs (fixings V.fresh under)) in
     record {
@@ -101,7 +101,7 @@ ill_typed_at_first_failure V t T at fixed h =
     let d = h.draft in
     let r = h.reason in
     let first : IsFirstWithout V.algebra 2 0 (map pair_of d.constraints) r.number = outcome_is_meant V t T fixed d h.of_text (NotTyped r.number) r.unifies in
-    let before = subst (λ (ps : List TypPair). IsUnifier V.algebra ps (composed first.sets)) (take-map pair_of r.number d.constraints) first.before.unifier in
+    let before = subst (λ (ps : List TypPair). IsUnifier V.algebra ps (composed first.before.sets)) (take-map pair_of r.number d.constraints) first.before.reached.general.unifier in
     record {
       draft = d;
       of_text = h.of_text;
@@ -110,7 +110,7 @@ ill_typed_at_first_failure V t T at fixed h =
         front = take r.number d.constraints;
         rest = drop (suc r.number) d.constraints;
         stands = cut_at d.constraints r.number r.constraint r.stands;
-        typing = composed first.sets;
+        typing = composed first.before.sets;
         before = before;
         none = λ typs u. first.none typs (longer typs u);
       };
@@ -125,3 +125,19 @@ ill_typed_at_first_failure V t T at fixed h =
         let same = take_further d.constraints number h.reason.constraint h.reason.stands in
         let mapped = take-map pair_of (suc number) d.constraints ∙ ap (map pair_of) same in
         subst (λ (ps : List TypPair). IsUnifier V.algebra ps typs) (sym (ap (λ n. take n (map pair_of d.constraints)) next ∙ mapped)) u
+
+pub big_is_beyond_limits : BigIsBeyondLimits
+big_is_beyond_limits V t T fixed h =
+    let d = h.draft in
+    record {
+      draft = d;
+      of_text = h.of_text;
+      reason = elim h.reason [
+        | inl large ↦ inl (record {
+          typing = composed large.sets;
+          general = (outcome_is_meant V t T fixed d h.of_text (Unified large.sets large.next) large.unifies).general;
+          beyond = large.beyond;
+        })
+        | inr typing ↦ inr (typing.0, outcome_is_meant V t T fixed d h.of_text (TooBig typing.0) typing.1)
+      ];
+    }

@@ -1,16 +1,17 @@
 -- Laws of elaboration: one answer, and what the answers mean apart from the procedure.
-use Rattle.std.specs.Prelude.{◌≡◌, ◌≢◌, ℕ, List, [], map, Result, Ok, Err}
+use Rattle.std.specs.Prelude.{◌≡◌, ◌≢◌, ◌⊎◌, ℕ, List, [], map, Result, Ok, Err}
 use Rattle.pure_text.specs.Lists.{Each}
 use Rattle.pure_definitions.specs.Types.Typ.{Typ}
-use Rattle.pure_definitions.specs.Terms.Term.{Term}
+use Rattle.pure_definitions.specs.Terms.Term.{Term, IsWithin}
 use Rattle.pure_definitions.specs.Terms.Typing.{HasType}
 use Rattle.pure_definitions.specs.Terms.Subst.{inst_typ, typ_instance}
 use Rattle.pure_order_tables.specs.Classes.{IsAntisymmetric}
 use Rattle.pure_tunify.specs.Unifiers.{Equates}
+use Rattle.pure_tunify.specs.ProcedureLaws.{IsBeyond}
 use Rattle.pure_grammar.specs.Terms.RawTree.{RawTypTree, RawTree}
 use Rattle.pure_elab.specs.declared.fault.FaultAt.{FaultAt}
 use Rattle.pure_elab.specs.declared.fault.ElabFault.{ElabFault}
-use Rattle.pure_elab.specs.declared.fault.ElabFault.TheVariants.{IllTyped, Memory}
+use Rattle.pure_elab.specs.declared.fault.ElabFault.TheVariants.{IllTyped, Big, Memory}
 use Rattle.pure_definitions.specs.Declarations.Certified.{IsCertifiedTyp}
 use Rattle.pure_logic.specs.Content.{Content, IsContent, IsBelow, IsCertifiedOf}
 use Rattle.pure_logic.specs.PureContent.{pure_content}
@@ -21,7 +22,7 @@ use Rattle.pure_elab.specs.Vocabulary.{Vocabulary, IsVocabulary}
 use Rattle.pure_elab.specs.Faults.{IsEarliest}
 use Rattle.pure_elab.specs.Numbered.{with_fixed}
 use Rattle.pure_elab.specs.Drafts.{Binder, Draft, Constraint, draft, pair_of}
-use Rattle.pure_elab.specs.Typings.{IsMostGeneralTyping, IsFirstFailure}
+use Rattle.pure_elab.specs.Typings.{fresh_index, IsMostGeneralTyping, IsFirstFailure}
 use Rattle.pure_elab.specs.Answers.{IsFixedTyp, IsDraftOf, IsElaborated, IsElabFault, IsElaboratedTyp, IsElabTypFault}
 
 -- the answer to a text at a type
@@ -73,6 +74,21 @@ pub record HasFirstFailureAt (V : Vocabulary) (raw : RawTree) (T : Typ) (at : �
 
 abbrev pub IllTypedAtFirstFailure : Type 0
 IllTypedAtFirstFailure = (V : Vocabulary) (raw : RawTree) (T : Typ) (at : ℕ) → IsFixedTyp T → IsElabFault V raw T (IllTyped at) → HasFirstFailureAt V raw T at
+
+-- The most general typing of all constraints makes a term that isn't within the limits.
+pub record IsTermBeyond (V : Vocabulary) (d : Draft) : Type 0 where
+  pub typing : Typ → Typ
+  pub general : IsMostGeneralTyping V.algebra d.constraints typing
+  pub beyond : ¬ IsWithin (inst_typ typing d.term)
+
+-- The text is too large: the term under a most general typing is, or at some constraint the most general typing of it and those before passes the limits of type unification, where those before have one within them.
+pub record IsBeyondLimits (V : Vocabulary) (raw : RawTree) (T : Typ) : Type 0 where
+  pub draft : Draft
+  pub of_text : IsDraftOf V raw T draft
+  pub reason : IsTermBeyond V draft ⊎ ((k : ℕ) × IsBeyond V.algebra fresh_index 0 (map pair_of draft.constraints) k)
+
+abbrev pub BigIsBeyondLimits : Type 0
+BigIsBeyondLimits = (V : Vocabulary) (raw : RawTree) (T : Typ) → IsFixedTyp T → IsElabFault V raw T Big → IsBeyondLimits V raw T
 
 -- Over a sound vocabulary the answer is certified, of the type that it has to have.
 abbrev pub AnswerIsCertified : Type 0

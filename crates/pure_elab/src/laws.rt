@@ -1,5 +1,5 @@
 //! What the definitions mean: laws, each carried by the contract of a function that does nothing.
-ghost use Rattle.pure_elab.specs.Laws.{OneNameFault, OneElabAnswer, OneElabTypAnswer, DraftIsTyped, AnswerIsMostGeneral, AnswerIsCertified, VocabularyIsSound, ContentHasVocabulary, IllTypedAtFirstFailure};
+ghost use Rattle.pure_elab.specs.Laws.{OneNameFault, OneElabAnswer, OneElabTypAnswer, DraftIsTyped, AnswerIsMostGeneral, AnswerIsCertified, VocabularyIsSound, ContentHasVocabulary, IllTypedAtFirstFailure, BigIsBeyondLimits};
 
 /// One fault of names decides at most.
 pub fn one_name_fault()
@@ -25,6 +25,11 @@ pub fn answer_is_most_general()
 /// Typing fails at the first constraint such that it and those before have no common solution.
 pub fn ill_typed_at_first_failure()
     ensures { IllTypedAtFirstFailure }
+{}
+
+/// A text that is too large has a typing or a term beyond the limits, before any constraint without a solution.
+pub fn big_is_beyond_limits()
+    ensures { BigIsBeyondLimits }
 {}
 
 /// Over a sound vocabulary the answer is certified.

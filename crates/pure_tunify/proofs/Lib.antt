@@ -9,6 +9,8 @@ pub mod AskingLaws
 pub mod NarrowLaws
 pub mod PursueLaws
 pub mod ReductionLaws
+pub mod NameLaws
+pub mod MeantLaws
 pub mod WrittenLaws
 pub mod UnifyLaws
 pub mod IndexLaws
@@ -21,4 +23,5 @@ pub mod ReducedLaws
 pub mod AskedLaws
 pub mod NarrowableLaws
 pub mod OutcomeLaws
+pub mod LargeLaws
 pub mod WritingLaws

@@ -159,10 +159,10 @@ module _ (A : Algebra) (index n m : ℕ) (x i : ℕ) (s : List ℕ) (t u : Typ) 
 
 module _ (A : Algebra) (coregular : IsCoregular A) (index : ℕ) where
   -- A pair is made equal, by some settings.
-  record IsEqualisable (n : ℕ) (p : TypPair) : Type 0 where
-    more : List TypBind
-    reached : ℕ
-    equalises : Equalises A index n p more reached
+  pub record IsEqualisable (n : ℕ) (p : TypPair) : Type 0 where
+    pub more : List TypBind
+    pub reached : ℕ
+    pub equalises : Equalises A index n p more reached
 
   -- A place is treated, and leaves a variable less.
   record IsTreatable (n : ℕ) (p d : TypPair) (fuel : ℕ) : Type 0 where
@@ -243,7 +243,7 @@ module _ (A : Algebra) (coregular : IsCoregular A) (index : ℕ) where
       below_none a h = absurd (omega arith)
   settles (suc fuel) n p vs few among old = placed_then fuel n p vs few among old (settles fuel) (place_of p) refl
 
-  equalisable_or_blocked : (n : ℕ) (p : TypPair) → IsOldPair index n p → IsEqualisable n p ⊎ Blocks A index n p
+  pub equalisable_or_blocked : (n : ℕ) (p : TypPair) → IsOldPair index n p → IsEqualisable n p ⊎ Blocks A index n p
   equalisable_or_blocked n p old = settles (suc (length (schematics p.left ++ schematics p.right))) n p (schematics p.left ++ schematics p.right) (below_next (length (schematics p.left ++ schematics p.right)))
       (λ w is o. elim o [
         | inl a ↦ in-append_left w (schematics p.left) (schematics p.right) (occurs_schematics w p.left is a)

@@ -1,6 +1,6 @@
 -- What is left of a pair that is being made equal.
 use Rattle.std.proofs.Common.{◌≡◌, ◌≢◌, ℕ, List, [], ◌∷◌, ◌++◌, map, length, Option, Some, None, inl, inr, ◌⊎◌, refl, ap, sym, subst, ◌∙◌, arith, Bool, true, false, append_assoc}
-use Rattle.std.specs.Prelude.{MatchBool}
+use Rattle.std.specs.Prelude.{MatchBool, reverse}
 use Rattle.std.proofs.lemmas.List.{append-nil}
 use Rattle.pure_text.specs.Lists.{IsIn, Each}
 use Rattle.pure_text.proofs.ListLaws.{each_imply, each-append}
@@ -18,7 +18,9 @@ use Rattle.pure_tunify.specs.Steps.{pair, instance_pair}
 use Rattle.pure_tunify.specs.Settings.{composed, bind, Progress}
 use Rattle.pure_tunify.specs.Procedure.{sooner, difference, differences, place_of, IsSchematic, left_side, right_side, IsTreated, IsBlocked, rigid, occurring, sortless, Equalises, equal, treat, Blocks, blocked, later}
 use Rattle.pure_tunify.specs.Working.{IsFurther, IsSetTo, CannotBeSetTo, place_among, pairs_along, IsLeftOf, Pursues}
-use Rattle.pure_tunify.specs.Meeting.{HaveArguments, HaveNoArguments, AreApart, GoesOn, Stops, IsTurn}
+use Rattle.pure_tunify.specs.Meeting.{HaveArguments, HaveNoArguments, AreApart, GoesOn, Stops, IsTurn, HasLargeHead, IsTurned, IsTreating, IsPutBack}
+use Rattle.pure_tunify.specs.declared.meeting.Turned.{Turned}
+use Rattle.pure_tunify.specs.declared.meeting.Turned.TheVariants.{Further, Never, Large}
 use Rattle.pure_tunify.proofs.PlaceLaws.{difference-itself, difference-arguments, difference-constructors, difference-left_variable, difference-left_fixed}
 use Rattle.pure_tunify.proofs.SettingLaws.{instance-append, instance_pair-append, instance_pairs-identity, composed-fixed, composed-absent, old_pair-later}
 
@@ -179,7 +181,7 @@ variable_of_fixed : (x i y : ℕ) (s r : List ℕ) → TVar x i s ≡ TFree y r 
 variable_of_fixed x i y s r e = cc
 
 -- A variable that isn't another type isn't its instance, where no set variable is that type.
-other_instance : (sets : List TypBind) (x i : ℕ) (s : List ℕ) (t : Typ) → (TVar x i s ≢ t) → (IsTypVariable t → ¬ IsIn t (map typ_variable sets)) → TVar x i s ≢ typ_instance (composed sets) t
+pub other_instance : (sets : List TypBind) (x i : ℕ) (s : List ℕ) (t : Typ) → (TVar x i s ≢ t) → (IsTypVariable t → ¬ IsIn t (map typ_variable sets)) → TVar x i s ≢ typ_instance (composed sets) t
 other_instance sets x i s (TFree y r) other free e = variable_of_fixed x i y s r (e ∙ composed-fixed sets y r)
 other_instance sets x i s (TVar y j r) other free e = other (e ∙ composed-absent sets (TVar y j r) tt (free tt))
 other_instance sets x i s (Con k ts) other free e = variable_of_constructor x i k s (typs_instance (composed sets) ts) e
@@ -193,12 +195,12 @@ kept_later : (now new : Progress) (more : List TypBind) (work : List TypPair) �
 kept_later now new more work further each = each_imply (IsOldPair now.index now.next) (IsOldPair new.index new.next) work
     (λ p old. subst (λ (i : ℕ). IsOldPair i new.next p) (sym further.index) (old_pair-later now.index now.next new.next p further.later old)) each
 
-left_place : (now : Progress) (x i : ℕ) (s : List ℕ) (right : Typ) → (¬ IsIn (TVar x i s) (map typ_variable now.sets)) → (TVar x i s ≢ typ_instance (composed now.sets) right)
+pub left_place : (now : Progress) (x i : ℕ) (s : List ℕ) (right : Typ) → (¬ IsIn (TVar x i s) (map typ_variable now.sets)) → (TVar x i s ≢ typ_instance (composed now.sets) right)
     → place_of (instance_pair (composed now.sets) (pair (TVar x i s) right)) ≡ Some (pair (TVar x i s) (typ_instance (composed now.sets) right))
 left_place now x i s right free other =
     ap (λ t. difference t (typ_instance (composed now.sets) right)) (composed-absent now.sets (TVar x i s) tt free) ∙ difference-left_variable x i s (typ_instance (composed now.sets) right) other
 
-right_place : (now : Progress) (x i : ℕ) (s : List ℕ) (left : Typ) → ¬ IsSchematic left → (¬ IsIn (TVar x i s) (map typ_variable now.sets))
+pub right_place : (now : Progress) (x i : ℕ) (s : List ℕ) (left : Typ) → ¬ IsSchematic left → (¬ IsIn (TVar x i s) (map typ_variable now.sets))
     → place_of (instance_pair (composed now.sets) (pair left (TVar x i s))) ≡ Some (pair (typ_instance (composed now.sets) left) (TVar x i s))
 right_place now x i s left nope free =
     ap (difference (typ_instance (composed now.sets) left)) (composed-absent now.sets (TVar x i s) tt free) ∙ difference-right_variable (typ_instance (composed now.sets) left) x i s (not_schematic-instance now.sets left nope)
@@ -285,6 +287,67 @@ turn_opened A now new work after left right heads others done same_left same_rig
       kept = λ each. g.kept ((old_left each.0.0, old_right each.0.1), each.1);
     }
     by false g = λ p first h. g p first (pursue_on A p first now (pair left right ∷ work) (pair heads others ∷ work) (exchanged p) h)
+
+-- What is left may go on one after the other.
+pub goes_same : (A : Algebra) (now : Progress) (work : List TypPair) → GoesOn A now now work work
+goes_same A now work = record { pursued = λ p first h. h; kept = λ each. each }
+
+pub goes_then : (A : Algebra) (a b c : Progress) (xs ys zs : List TypPair) → GoesOn A a b xs ys → GoesOn A b c ys zs → GoesOn A a c xs zs
+goes_then A a b c xs ys zs g h = record { pursued = λ p first w. h.pursued p first (g.pursued p first w); kept = λ each. h.kept (g.kept each) }
+
+pub goes_stops : (A : Algebra) (a b : Progress) (xs ys : List TypPair) → GoesOn A a b xs ys → Stops A b ys → Stops A a xs
+goes_stops A a b xs ys g h = λ p first w. h p first (g.pursued p first w)
+
+schematic_is_variable : (v : Typ) → IsSchematic v → IsTypVariable v
+schematic_is_variable (TVar x i s) is = tt
+schematic_is_variable (TFree x s) is = absurd is
+schematic_is_variable (Con k ts) is = absurd is
+
+module _ (A : Algebra) (now new : Progress) (before after : List TypPair) (left right : Typ) where
+  put_large : (new ≡ now) → reverse after ≡ pair left right ∷ reverse before → HasLargeHead now (pair left right ∷ reverse before) → GoesOn A now new (pair left right ∷ reverse before) (reverse after) × HasLargeHead new (reverse after)
+  put_large same put head = (
+    subst (λ (q : Progress). GoesOn A now q (pair left right ∷ reverse before) (reverse after)) (sym same) (subst (GoesOn A now now (pair left right ∷ reverse before)) (sym put) (goes_same A now (pair left right ∷ reverse before))),
+    subst (λ (q : Progress). HasLargeHead q (reverse after)) (sym same) (subst (HasLargeHead now) (sym put) head),
+  )
+
+  pub met_left : (turned : Turned) → IsSchematic left × (left ≢ right) → (IsTypVariable left → ¬ IsIn left (map typ_variable now.sets)) → (IsTypVariable right → ¬ IsIn right (map typ_variable now.sets))
+      → IsTreating A now new left (typ_instance (composed now.sets) right) turned → IsPutBack (pair left right) before after turned → IsTurned A now new (pair left right ∷ reverse before) (reverse after) turned
+  met_left Further is free free_right h put = subst (λ (xs : List TypPair). GoesOn A now new (pair left right ∷ reverse before) (reverse xs)) (sym put) (meet_left A now new (reverse before) left right true is free free_right h)
+  met_left Never is free free_right h put = meet_left A now new (reverse before) left right false is free free_right h
+  met_left Large is free free_right h put = put_large h.0 put (inl (record { schematic = is.0; free = free (schematic_is_variable left is.0); beyond = h.1 }))
+
+  pub met_right : (turned : Turned) → (¬ IsSchematic left) × IsSchematic right → (IsTypVariable right → ¬ IsIn right (map typ_variable now.sets))
+      → IsTreating A now new right (typ_instance (composed now.sets) left) turned → IsPutBack (pair left right) before after turned → IsTurned A now new (pair left right ∷ reverse before) (reverse after) turned
+  met_right Further is free h put = subst (λ (xs : List TypPair). GoesOn A now new (pair left right ∷ reverse before) (reverse xs)) (sym put) (meet_right A now new (reverse before) left right true is free h)
+  met_right Never is free h put = meet_right A now new (reverse before) left right false is free h
+  met_right Large is free h put = put_large h.0 put (inr (is.0, record { schematic = is.1; free = free (schematic_is_variable right is.1); beyond = h.1 }))
+
+pub turned_opened : (A : Algebra) (now new : Progress) (work after : List TypPair) (left right heads others : Typ) (turned : Turned) → typ_instance (composed now.sets) heads ≡ typ_instance (composed now.sets) left
+    → typ_instance (composed now.sets) others ≡ typ_instance (composed now.sets) right → (IsOld now.index now.next left → IsOld now.index now.next heads) → (IsOld now.index now.next right → IsOld now.index now.next others)
+    → IsTurned A now new (pair heads others ∷ work) after turned → IsTurned A now new (pair left right ∷ work) after turned
+turned_opened A now new work after left right heads others Further a b c d g = turn_opened A now new work after left right heads others true a b c d g
+turned_opened A now new work after left right heads others Never a b c d g = turn_opened A now new work after left right heads others false a b c d g
+turned_opened A now new work after left right heads others Large a b c d g = (turn_opened A now new work after left right heads others true a b c d g.0, g.1)
+
+-- The pairs as one, of a constructor with their sides as its arguments.
+abbrev pub as_pair : List TypPair → TypPair
+as_pair work = pair (Con 0 (typs_of (map (λ q. q.left) work))) (Con 0 (typs_of (map (λ q. q.right) work)))
+
+pub pairs_again : (work : List TypPair) → pairs_along (map (λ q. q.left) work) (map (λ q. q.right) work) ≡ work
+pairs_again [] = refl
+pairs_again (q ∷ work) = ap (λ ps. q ∷ ps) (pairs_again work)
+
+sides_many : (work : List TypPair) → length (map (λ (q : TypPair). q.left) work) ≡ length (map (λ (q : TypPair). q.right) work)
+sides_many [] = refl
+sides_many (q ∷ work) = let rest = sides_many work in omega arith
+
+pub left_as_pair : (sets : List TypBind) (work : List TypPair) → IsLeftOf sets (as_pair work) work
+left_as_pair sets work = subst (IsLeftOf sets (as_pair work)) (append-nil (pairs_along (map (λ q. q.left) work) (map (λ q. q.right) work)) ∙ pairs_again work)
+    (left_arguments sets (as_pair work) 0 (map (λ q. q.left) work) (map (λ q. q.right) work) [] (sides_many work) (left_at_first sets (as_pair work)))
+
+-- They are pursued as one.
+pub pursued_as_pair : (A : Algebra) (now : Progress) (work : List TypPair) → Pursues A (as_pair work) now now work
+pursued_as_pair A now work = pursue_on A (as_pair work) now now (as_pair work ∷ []) work (λ l. left_as_pair now.sets work) (pursuit_starts A (as_pair work) now)
 
 fixed_of_constructor : (x k : ℕ) (s : List ℕ) (ts : Typs) → TFree x s ≡ Con k ts → ⊥
 fixed_of_constructor x k s ts e = cc

@@ -48,7 +48,7 @@ pub agree_unifier : (A : Algebra) (f g : Typ → Typ) → ((v : Typ) → IsTypVa
 agree_unifier A f g same ps u = record { substitution = agree_substitution A f g same u.substitution; equates = agree_equates f g same ps u.equates }
 
 -- One reduction and then another.
-reduction_along : (A : Algebra) (index n k m : ℕ) (ps qs rs : List TypPair) (f g h : Typ → Typ) → ((v : Typ) → IsTypVariable v → h v ≡ typ_instance g (f v)) → IsReduction A index n ps f k qs → IsReduction A index k qs g m rs → IsReduction A index n ps h m rs
+pub reduction_along : (A : Algebra) (index n k m : ℕ) (ps qs rs : List TypPair) (f g h : Typ → Typ) → ((v : Typ) → IsTypVariable v → h v ≡ typ_instance g (f v)) → IsReduction A index n ps f k qs → IsReduction A index k qs g m rs → IsReduction A index n ps h m rs
 reduction_along A index n k m ps qs rs f g h same r q = record {
   substitution = agree_substitution A (λ v. typ_instance g (f v)) h same (after_is_substitution A f g r.substitution q.substitution);
   left_old = q.left_old;
@@ -66,7 +66,7 @@ reduction_along A index n k m ps qs rs f g h same r q = record {
 }
 
 -- Nothing is set, and the pairs stay.
-stays : (A : Algebra) (index n : ℕ) (ps : List TypPair) → Each (IsOldPair index n) ps → IsReduction A index n ps (λ v. v) n ps
+pub stays : (A : Algebra) (index n : ℕ) (ps : List TypPair) → Each (IsOldPair index n) ps → IsReduction A index n ps (λ v. v) n ps
 stays A index n ps old = nothing_set A index n ps ps old (λ typs e. e) (λ typs e. e)
 
 -- A pair that the others imply is left out.
@@ -212,77 +212,3 @@ blocks_unifiers A index (later {n = n} {k = k} {p = p} {first = first} d place h
     let one = treated A index n k p [] old d first place here in
     let next_unifier = one.forth typs u in
     blocks_unifiers A index rest one.left_old next_unifier.0 next_unifier.1
-
--- The settings so far, of the pairs in front, lead from the pairs to those that are left under them.
-abbrev Leads : (A : Algebra) (index from : ℕ) → (front : List TypPair) → List TypBind → (n : ℕ) → Type 0
-Leads A index from front sets n = (ext : List TypPair) → Each (IsOldPair index from) (front ++ ext) → IsReduction A index from (front ++ ext) (composed sets) n (map (instance_pair (composed sets)) ext)
-
-module _ (A : Algebra) (index from : ℕ) where
-  leads_start : Leads A index from [] [] from
-  leads_start ext old = subst (λ (qs : List TypPair). IsReduction A index from ext (λ v. v) from qs) (sym (instance_pairs-identity ext)) (stays A index from ext old)
-
-  behind_front : (front : List TypPair) (p : TypPair) (ext : List TypPair) → (front ++ p ∷ []) ++ ext ≡ front ++ p ∷ ext
-  behind_front front p ext = append_assoc front (p ∷ []) ext
-
-  leads_next : (front : List TypPair) (p : TypPair) (sets more : List TypBind) (n m : ℕ) → Leads A index from front sets n → Equalises A index n (instance_pair (composed sets) p) more m → Leads A index from (front ++ p ∷ []) (sets ++ more) m
-  leads_next front p sets more n m leads e ext old =
-      let one = leads (p ∷ ext) (subst (Each (IsOldPair index from)) (behind_front front p ext) old) in
-      let two = equalised A index e (map (instance_pair (composed sets)) ext) one.left_old in
-      let both = reduction_along A index from n m (front ++ p ∷ ext) (map (instance_pair (composed sets)) (p ∷ ext)) (map (instance_pair (composed more)) (map (instance_pair (composed sets)) ext)) (composed sets) (composed more) (composed (sets ++ more))
-      (composed-append sets more) one two in
-      subst (λ (ps : List TypPair). IsReduction A index from ps (composed (sets ++ more)) m (map (instance_pair (composed (sets ++ more))) ext)) (sym (behind_front front p ext))
-      (subst (λ (qs : List TypPair). IsReduction A index from (front ++ p ∷ ext) (composed (sets ++ more)) m qs) (instance_pairs-append sets more ext) both)
-
-  -- The settings so far are a most general unifier of the pairs in front.
-  leads_general : (front : List TypPair) (sets : List TypBind) (n : ℕ) → Leads A index from front sets n → Each (IsOldPair index from) front → IsMostGeneral A index from front (composed sets)
-  leads_general front sets n leads old =
-      let r = subst (λ (ps : List TypPair). IsReduction A index from ps (composed sets) n []) (append-nil front) (leads [] (subst (Each (IsOldPair index from)) (sym (append-nil front)) old)) in
-      record {
-        unifier = agree_unifier A (λ v. typ_instance (λ w. w) (composed sets v)) (composed sets) (λ v is. sym (typ_instance-identity (composed sets v))) front (r.back (λ w. w) (record { substitution = identity_is_substitution A; equates = tt }));
-        general = λ other u. (let w = r.forth other u in (w.0, w.1.substitution, w.2));
-      }
-
-  leads_refuse : (front : List TypPair) (p : TypPair) (sets : List TypBind) (n : ℕ) → Leads A index from front sets n → Each (IsOldPair index from) (front ++ p ∷ []) → Blocks A index n (instance_pair (composed sets) p) → (typs : Typ → Typ) → ¬ IsUnifier A (front ++ p ∷ []) typs
-  leads_refuse front p sets n leads old h typs u =
-      let r = leads (p ∷ []) old in
-      let next_unifier = r.forth typs u in
-      blocks_unifiers A index h r.left_old next_unifier.0 next_unifier.1
-
-  take_front : (front ps : List TypPair) → take (length front) (front ++ ps) ≡ front
-  take_front front ps = take-append_seam front ps
-
-  old_front : (front ps : List TypPair) → Each (IsOldPair index from) (front ++ ps) → Each (IsOldPair index from) front
-  old_front front ps old = each-left (IsOldPair index from) front ps old
-
-  longer : (front : List TypPair) (p : TypPair) (at : ℕ) → length front ≡ at → length (front ++ p ∷ []) ≡ at + 1
-  longer front p at long = omega (arith, length-append front (p ∷ []))
-
-  take_one_more : (front : List TypPair) (p : TypPair) (ps : List TypPair) (at : ℕ) → length front ≡ at → take (at + 1) (front ++ p ∷ ps) ≡ front ++ p ∷ []
-  take_one_more front p ps at long =
-      let count : length (front ++ p ∷ []) ≡ at + 1 = longer front p at long in
-      subst (λ (qs : List TypPair). take (at + 1) qs ≡ front ++ p ∷ []) (behind_front front p ps) (subst (λ (k : ℕ). take k ((front ++ p ∷ []) ++ ps) ≡ front ++ p ∷ []) count (take_front (front ++ p ∷ []) ps))
-
-  meant : {at n : ℕ} {sets : List TypBind} {ps : List TypPair} {outcome : Outcome} → Unifies A index at n sets ps outcome → (front : List TypPair) → length front ≡ at → Leads A index from front sets n
-      → Each (IsOldPair index from) (front ++ ps) → IsMeant A index from (front ++ ps) outcome
-  meant (over {n = n} {sets = sets}) front long leads old =
-      subst (λ (qs : List TypPair). IsMostGeneral A index from qs (composed sets)) (sym (append-nil front)) (leads_general front sets n leads (old_front front [] old))
-  meant (no_typing {at = at} {n = n} {sets = sets} {p = p} {ps = ps} h) front long leads old = record {
-    none = subst (λ (qs : List TypPair). (typs : Typ → Typ) → ¬ IsUnifier A qs typs) (sym (take_one_more front p ps at long))
-        (leads_refuse front p sets n leads (old_front (front ++ p ∷ []) ps (subst (Each (IsOldPair index from)) (sym (behind_front front p ps)) old)) h);
-    sets = sets;
-    before = subst (λ (qs : List TypPair). IsMostGeneral A index from qs (composed sets)) (sym (subst (λ (k : ℕ). take k (front ++ p ∷ ps) ≡ front) long (take_front front (p ∷ ps)))) (leads_general front sets n leads (old_front front (p ∷ ps) old));
-  }
-  meant (big {at = at} {n = n} {m = m} {sets = sets} {more = more} {p = p} {ps = ps} e beyond) front long leads old = record {
-    sets = sets ++ more;
-    next = m;
-    unifier = subst (λ (qs : List TypPair). IsMostGeneral A index from qs (composed (sets ++ more))) (sym (take_one_more front p ps at long))
-        (leads_general (front ++ p ∷ []) (sets ++ more) m (leads_next front p sets more n m leads e) (old_front (front ++ p ∷ []) ps (subst (Each (IsOldPair index from)) (sym (behind_front front p ps)) old)));
-    beyond = beyond;
-  }
-  meant (next {at = at} {n = n} {m = m} {sets = sets} {more = more} {p = p} {ps = ps} {outcome = outcome} e within rest) front long leads old =
-      subst (λ (qs : List TypPair). IsMeant A index from qs outcome) (behind_front front p ps)
-      (meant rest (front ++ p ∷ []) (longer front p at long) (leads_next front p sets more n m leads e) (subst (Each (IsOldPair index from)) (sym (behind_front front p ps)) old))
-
-  -- What the procedure comes to means what it says.
-  pub procedure_is_meant : (ps : List TypPair) (outcome : Outcome) → Each (IsOldPair index from) ps → Unifies A index 0 from [] ps outcome → IsMeant A index from ps outcome
-  procedure_is_meant ps outcome old h = meant h [] refl leads_start old

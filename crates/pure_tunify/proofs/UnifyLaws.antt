@@ -18,14 +18,15 @@ use Rattle.pure_tunify.specs.declared.pair.TypPair.{TypPair}
 use Rattle.pure_tunify.specs.Unifiers.{IsOldPair, IsMostGeneral}
 use Rattle.pure_tunify.specs.Settings.{composed, AreTriangular, AreWithinLimits, Progress}
 use Rattle.pure_tunify.specs.Procedure.{Outcome, Unified, NotTyped, TooBig, Unifies, over, no_typing, big, next}
-use Rattle.pure_tunify.specs.Working.{IsWritten, Pursues}
+use Rattle.pure_tunify.specs.Working.{IsWritten, IsWrittenInOrder, Pursues}
 use Rattle.pure_tunify.specs.declared.fault.TypFault.{TypFault}
 use Rattle.pure_tunify.specs.declared.fault.TypFault.TheVariants.{NoTyping, Big, Memory}
 use Rattle.pure_tunify.specs.Passes.{HasCome, IsJudged}
-use Rattle.pure_tunify.specs.Answers.{IsEqualised, AreUnified, IsDecided, IsReason}
+use Rattle.pure_tunify.specs.Answers.{IsEqualised, IsPassed, AreUnified, IsDecided, IsReason}
 use Rattle.pure_tunify.proofs.SettingLaws.{instance-append, instance-free, composed-absent, composed-fixed}
 use Rattle.pure_tunify.proofs.PursueLaws.{pursuit_ends}
-use Rattle.pure_tunify.proofs.ReductionLaws.{agree_unifier, procedure_is_meant}
+use Rattle.pure_tunify.proofs.ReductionLaws.{agree_unifier}
+use Rattle.pure_tunify.proofs.MeantLaws.{procedure_is_meant}
 
 -- Where nothing is left of a pair, it has been made equal.
 pub equalised_at_end : (A : Algebra) (p : TypPair) (first now : Progress) → Pursues A p first now [] → IsEqualised A first now p
@@ -42,7 +43,7 @@ written_agrees sets written h (Con k ts) is = absurd is
 
 pub written_general : (A : Algebra) (index from : ℕ) (pairs : List TypPair) (written : List TypBind) (m : ℕ) → Each (IsOldPair index from) pairs → AreUnified A index from pairs written m → IsMostGeneral A index from pairs (typ_image written)
 written_general A index from pairs written m old h =
-    let g = procedure_is_meant A index from pairs (Unified h.sets m) old h.unifies in
+    let g = (procedure_is_meant A index from pairs (Unified h.sets m) old h.unifies).general in
     let same = written_agrees h.sets written h.written in
     record {
       unifier = agree_unifier A (composed h.sets) (typ_image written) same pairs g.unifier;
@@ -65,7 +66,7 @@ written_idempotent sets written tri h x i s =
 
 -- Types only grow under maps.
 mutual
-  size-grows : (f : Typ → Typ) (t : Typ) → typ_size t ≤ typ_size (typ_instance f t)
+  pub size-grows : (f : Typ → Typ) (t : Typ) → typ_size t ≤ typ_size (typ_instance f t)
   size-grows f (TFree x s) = let some = typ_size-some (f (TFree x s)) in omega arith
   size-grows f (TVar x i s) = let some = typ_size-some (f (TVar x i s)) in omega arith
   size-grows f (Con k ts) = let inside = sizes-grow f ts in omega arith
@@ -75,7 +76,7 @@ mutual
   sizes-grow f (also t ts) = let here = size-grows f t in let there = sizes-grow f ts in omega arith
 
 mutual
-  depth-grows : (f : Typ → Typ) (t : Typ) → typ_depth t ≤ typ_depth (typ_instance f t)
+  pub depth-grows : (f : Typ → Typ) (t : Typ) → typ_depth t ≤ typ_depth (typ_instance f t)
   depth-grows f (TFree x s) = let some = typ_depth-some (f (TFree x s)) in omega arith
   depth-grows f (TVar x i s) = let some = typ_depth-some (f (TVar x i s)) in omega arith
   depth-grows f (Con k ts) = let inside = depths-grow f ts in omega arith
@@ -114,8 +115,15 @@ module _ (A : Algebra) (index from : ℕ) (pairs : List TypPair) (i : ℕ) (now 
   pub come_judged : (at : ℕ) → at ≡ i → (fault : TypFault) → IsJudged A now p at fault → IsDecided A index from pairs fault
   come_judged at is (NoTyping k) w = subst (λ (n : ℕ). Unifies A index 0 from [] pairs (NotTyped n)) (sym (w.0 ∙ is)) (onward_from_come w.1 (NotTyped i) (no_typing w.2))
   come_judged at is (Big k) w = subst (λ (n : ℕ). Unifies A index 0 from [] pairs (TooBig n)) (sym (w.0 ∙ is))
-      (onward_from_come w.1 (TooBig i) (big w.2.1.equalises (subst (λ (sets : List TypBind). ¬ AreWithinLimits sets w.2.0.next) w.2.1.further.sets w.2.2)))
+      (onward_from_come w.1 (TooBig i) (big w.2.2 w.2.3))
   come_judged at is Memory w = tt
+
+  -- A pair that passes the limits decides, if the settings then are within them.
+  pub come_passed : (new : Progress) → IsPassed A now new p → AreWithinLimits new.sets new.next → Unifies A index 0 from [] pairs (TooBig i)
+  come_passed new w limits = onward_from_come (within_before now.sets w.found now.next new.next w.further.later (subst (λ (sets : List TypBind). AreWithinLimits sets new.next) w.further.sets limits)) (TooBig i) (big w.equalises w.beyond)
+
+  pub come_passed_at : (new : Progress) (at : ℕ) → at ≡ i → IsPassed A now new p → AreWithinLimits new.sets new.next → Unifies A index 0 from [] pairs (TooBig at)
+  come_passed_at new at is w limits = subst (λ (k : ℕ). Unifies A index 0 from [] pairs (TooBig k)) (sym is) (come_passed new w limits)
 
 pub come_end : (A : Algebra) (index from : ℕ) (pairs : List TypPair) (i : ℕ) (now : Progress) → HasCome A index from pairs i now → length pairs ≤ i → AreWithinLimits now.sets now.next → Unifies A index 0 from [] pairs (Unified now.sets now.next)
 come_end A index from pairs i now h full limits = h.onward i refl limits (Unified now.sets now.next) (subst (λ (ps : List TypPair). Unifies A index i now.next now.sets ps (Unified now.sets now.next)) (sym (drop_all i pairs full)) over)
@@ -126,13 +134,14 @@ at_start index from = record { sets = []; index = index; next = from }
 
 module _ (A : Algebra) (index from : ℕ) (pairs : List TypPair) (first now : Progress) (start : first ≡ at_start index from) where
   -- What is written out of the settings, where all pairs have come to them.
-  pub come_unified : (found : List TypBind × ℕ) → HasCome A first.index first.next pairs (length pairs) now → AreWithinLimits now.sets now.next × IsWritten now.sets found.0 × (found.1 ≡ now.next) × AreTriangular now.sets → AreUnified A index from pairs found.0 found.1
+  pub come_unified : (found : List TypBind × ℕ) → HasCome A first.index first.next pairs (length pairs) now → AreWithinLimits now.sets now.next × IsWrittenInOrder now.sets found.0 × (found.1 ≡ now.next) × AreTriangular now.sets → AreUnified A index from pairs found.0 found.1
   come_unified found h w =
       let come = subst (λ (q : Progress). HasCome A q.index q.next pairs (length pairs) now) start h in
       record {
         sets = now.sets;
         unifies = subst (λ (n : ℕ). Unifies A index 0 from [] pairs (Unified now.sets n)) (sym w.2) (come_end A index from pairs (length pairs) now come (omega arith) w.0);
-        written = w.1;
+        written = w.1.0;
+        ordered = w.1.1;
       }
 
   -- What is judged of a pair decides.

@@ -13,7 +13,7 @@ use Rattle.pure_tunify.specs.Procedure.{Blocks}
 use Rattle.pure_tunify.specs.Working.{pairs_along, Pursues}
 use Rattle.pure_tunify.specs.Meeting.{GoesOn, Stops}
 use Rattle.pure_tunify.specs.Answers.{IsEqualised}
-use Rattle.pure_tunify.proofs.PursueLaws.{pursuit_starts}
+use Rattle.pure_tunify.proofs.PursueLaws.{pursuit_starts, goes_then, goes_stops}
 use Rattle.pure_tunify.proofs.UnifyLaws.{equalised_at_end}
 
 pub last_first : (old new : List TypPair) (p : TypPair) → old ≡ new ++ p ∷ [] → reverse old ≡ p ∷ reverse new
@@ -50,28 +50,33 @@ none_left ts us us' ts' t e f same =
     let b : length us ≡ 0 = ap length f in
     absurd (omega arith)
 
--- What is left of a pair, turn by turn.
-module _ (A : Algebra) (p : TypPair) (first : Progress) where
-  pub first_pursued : (work : List TypPair) → work ≡ p ∷ [] → Pursues A p first first (reverse work)
-  first_pursued work e = subst (λ (xs : List TypPair). Pursues A p first first (reverse xs)) (sym e) (pursuit_starts A p first)
+-- What is left, turn by turn.
+module _ (A : Algebra) (first : Progress) (before : List TypPair) where
+  here_goes : (now : Progress) (work rest : List TypPair) (q : TypPair) → work ≡ rest ++ q ∷ [] → GoesOn A first now before (reverse work) → GoesOn A first now before (q ∷ reverse rest)
+  here_goes now work rest q e goes = subst (GoesOn A first now before) (last_first work rest q e) goes
 
-  pub first_old : (work : List TypPair) → work ≡ p ∷ [] → IsOldPair first.index first.next p → Each (IsOldPair first.index first.next) (reverse work)
-  first_old work e old = subst (λ (xs : List TypPair). Each (IsOldPair first.index first.next) (reverse xs)) (sym e) (old, tt)
+  pub turn_old : (now : Progress) (work rest : List TypPair) (q : TypPair) → work ≡ rest ++ q ∷ [] → GoesOn A first now before (reverse work) → Each (IsOldPair first.index first.next) before → IsOldPair now.index now.next q
+  turn_old now work rest q e goes old = let both = (here_goes now work rest q e goes).kept old in both.0
 
-  pub turn_goes : (now new : Progress) (work rest after : List TypPair) (q : TypPair) → work ≡ rest ++ q ∷ [] → GoesOn A now new (q ∷ reverse rest) after → Pursues A p first now (reverse work) → Pursues A p first new after
-  turn_goes now new work rest after q e goes h = goes.pursued p first (subst (Pursues A p first now) (last_first work rest q e) h)
+  pub goes_further : (now new : Progress) (work rest after : List TypPair) (q : TypPair) → work ≡ rest ++ q ∷ [] → GoesOn A first now before (reverse work) → GoesOn A now new (q ∷ reverse rest) after → GoesOn A first new before after
+  goes_further now new work rest after q e goes h = goes_then A first now new before (q ∷ reverse rest) after (here_goes now work rest q e goes) h
 
-  pub turn_keeps : (now new : Progress) (work rest after : List TypPair) (q : TypPair) → work ≡ rest ++ q ∷ [] → GoesOn A now new (q ∷ reverse rest) after → Each (IsOldPair now.index now.next) (reverse work) → Each (IsOldPair new.index new.next) after
-  turn_keeps now new work rest after q e goes h = goes.kept (subst (Each (IsOldPair now.index now.next)) (last_first work rest q e) h)
+  pub goes_never : (now : Progress) (work rest : List TypPair) (q : TypPair) → work ≡ rest ++ q ∷ [] → GoesOn A first now before (reverse work) → Stops A now (q ∷ reverse rest) → Stops A first before
+  goes_never now work rest q e goes h = goes_stops A first now before (q ∷ reverse rest) (here_goes now work rest q e goes) h
 
-  pub turn_first_old : (now : Progress) (work rest : List TypPair) (q : TypPair) → work ≡ rest ++ q ∷ [] → Each (IsOldPair now.index now.next) (reverse work) → IsOldPair now.index now.next q
-  turn_first_old now work rest q e h = let both = subst (Each (IsOldPair now.index now.next)) (last_first work rest q e) h in both.0
+  pub goes_end : (now : Progress) (work : List TypPair) → work ≡ [] → GoesOn A first now before (reverse work) → GoesOn A first now before []
+  goes_end now work e goes = subst (λ (xs : List TypPair). GoesOn A first now before (reverse xs)) e goes
 
-  pub turn_stops : (now : Progress) (work rest : List TypPair) (q : TypPair) → work ≡ rest ++ q ∷ [] → Stops A now (q ∷ reverse rest) → Pursues A p first now (reverse work) → Blocks A first.index first.next (instance_pair (composed first.sets) p)
-  turn_stops now work rest q e stops h = stops p first (subst (Pursues A p first now) (last_first work rest q e) h)
+-- One pair alone.
+module _ (A : Algebra) (p : TypPair) (first new : Progress) where
+  pub one_equalised : (work : List TypPair) → work ≡ p ∷ [] → GoesOn A first new (reverse work) [] → IsEqualised A first new p
+  one_equalised work e goes = equalised_at_end A p first new (goes.pursued p first (subst (λ (xs : List TypPair). Pursues A p first first (reverse xs)) (sym e) (pursuit_starts A p first)))
 
-  pub turns_end : (now : Progress) (work : List TypPair) → work ≡ [] → Pursues A p first now (reverse work) → IsEqualised A first now p
-  turns_end now work e h = equalised_at_end A p first now (subst (λ (xs : List TypPair). Pursues A p first now (reverse xs)) e h)
+  pub one_blocked : (work : List TypPair) → work ≡ p ∷ [] → Stops A first (reverse work) → Blocks A first.index first.next (instance_pair (composed first.sets) p)
+  one_blocked work e stops = stops p first (subst (λ (xs : List TypPair). Pursues A p first first (reverse xs)) (sym e) (pursuit_starts A p first))
+
+  pub one_old : (work : List TypPair) → work ≡ p ∷ [] → IsOldPair first.index first.next p → Each (IsOldPair first.index first.next) (reverse work)
+  one_old work e old = subst (λ (xs : List TypPair). Each (IsOldPair first.index first.next) (reverse xs)) (sym e) (old, tt)
 
 -- The clause of a Boolean that is true, or false.
 pub when_true : (P Q : Type 0) (b : Bool) → MatchBool b P Q → b ≡ true → P

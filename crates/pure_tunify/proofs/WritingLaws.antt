@@ -1,6 +1,8 @@
 -- The settings are written out from the last one on: an image has only variables that are set later, and those are written out already.
 use Rattle.std.proofs.Common.{◌≡◌, ℕ, ◌+◌, ◌-◌, ◌<◌, ◌≤◌, List, [], ◌∷◌, ◌++◌, map, length, get_or, take, drop, drop-cons, suc, zero, inl, inr, ◌⊎◌, refl, ap, sym, subst, ◌∙◌, arith, Bool, true, false, cond}
-use Rattle.std.proofs.lemmas.List.{drop_all}
+use Rattle.std.specs.Prelude.{reverse}
+use Rattle.std.proofs.lemmas.List.{drop_all, reverse-reverse}
+use Rattle.std.proofs.lemmas.Grind.{reverse_onto}
 use Rattle.pure_text.specs.Lists.{IsIn, Each}
 use Rattle.pure_text.proofs.ListLaws.{each_of, each-right, in-map, split_at}
 use Rattle.pure_definitions.specs.Types.Typ.{Typ, TFree, TVar, Con, typ_eq}
@@ -13,7 +15,7 @@ use Rattle.pure_term_laws.proofs.OccursLaws.{typ_instances-agree}
 use Rattle.pure_term_laws.proofs.SubstLaws.{typ_instance-identity}
 use Rattle.pure_tunify.specs.Unifiers.{IsFresh, IsOld}
 use Rattle.pure_tunify.specs.Settings.{composed, AreTriangular, IsOldBind, Progress, IsTidy}
-use Rattle.pure_tunify.specs.Working.{HasImagesWithin, IsWritten}
+use Rattle.pure_tunify.specs.Working.{HasImagesWithin, IsWritten, IsWrittenInOrder}
 use Rattle.pure_tunify.proofs.SettingLaws.{composed-fixed, composed-absent, composed-image, instance-append, instance-free, instance-new, instance-old, tidy-snoc}
 
 -- What is in front may be left out.
@@ -53,10 +55,54 @@ variables-snoc [] e v (inr m) = absurd m
 variables-snoc (b ∷ bs) e v (inl same) = inl (inl same)
 variables-snoc (b ∷ bs) e v (inr m) = elim (variables-snoc bs e v m) [ inl n ↦ inl (inr n) | inr same ↦ inr same ]
 
+map-snoc : (sets : List TypBind) (e : TypBind) → map typ_variable (sets ++ e ∷ []) ≡ map typ_variable sets ++ typ_variable e ∷ []
+map-snoc [] e = refl
+map-snoc (b ∷ bs) e = ap (λ vs. typ_variable b ∷ vs) (map-snoc bs e)
+
+-- A list the other way round.
+reverse-cons : {X : Type 0} (x : X) (xs : List X) → reverse (x ∷ xs) ≡ reverse xs ++ x ∷ []
+reverse-cons x xs = reverse_onto xs x []
+
+map-reverse : (sets : List TypBind) → map typ_variable (reverse sets) ≡ reverse (map typ_variable sets)
+map-reverse [] = refl
+map-reverse (b ∷ bs) = ap (map typ_variable) (reverse-cons b bs) ∙ (map-snoc (reverse bs) b ∙ (ap (λ vs. vs ++ typ_variable b ∷ []) (map-reverse bs) ∙ sym (reverse-cons (typ_variable b) (map typ_variable bs))))
+
+variables-reverse : (sets : List TypBind) (v : Typ) → IsIn v (map typ_variable (reverse sets)) → IsIn v (map typ_variable sets)
+variables-reverse [] v m = m
+variables-reverse (b ∷ bs) v m = elim (variables-snoc (reverse bs) b v (subst (λ (xs : List TypBind). IsIn v (map typ_variable xs)) (reverse-cons b bs) m)) [ inl n ↦ inr (variables-reverse bs v n) | inr same ↦ inl same ]
+
+image-reverse : (sets : List TypBind) (v : Typ) → IsTypMap sets → typ_image (reverse sets) v ≡ typ_image sets v
+image-reverse [] v distinct = refl
+image-reverse (b ∷ bs) v distinct = ap (λ xs. typ_image xs v) (reverse-cons b bs) ∙ by (typ_eq (typ_variable b) v) refl (image-reverse bs v distinct.1)
+  where
+    by : (c : Bool) → typ_eq (typ_variable b) v ≡ c → typ_image (reverse bs) v ≡ typ_image bs v → typ_image (reverse bs ++ b ∷ []) v ≡ cond c b.image (typ_image bs v)
+    by true t rest = image-last (reverse bs) b v t (λ m. distinct.0 (variables-reverse bs (typ_variable b) (subst (λ (w : Typ). IsIn w (map typ_variable (reverse bs))) (sym (typ_eq-same (typ_variable b) v t)) m)))
+    by false t rest = image-other (reverse bs) b v t ∙ rest
+
+-- One turn of putting entries into a map the other way round.
+pub reversed_next : (items out new : List TypBind) (left : ℕ) (b e : TypBind) → 0 < left → left ≤ length items → b ≡ get_or items (left - 1) b → e ≡ b → out ≡ reverse (drop left items) → new ≡ out ++ e ∷ [] → new ≡ reverse (drop (left - 1) items)
+reversed_next items out new left b e some short read copy so_far is =
+    is ∙ (ap (λ x. out ++ x ∷ []) copy ∙ (ap (λ xs. xs ++ b ∷ []) so_far ∙ (sym (reverse-cons b (drop left items)) ∙ ap reverse (sym (rest_here items left b some short read)))))
+  where
+    rest_here : (items : List TypBind) (left : ℕ) (b : TypBind) → 0 < left → left ≤ length items → b ≡ get_or items (left - 1) b → drop (left - 1) items ≡ b ∷ drop left items
+    rest_here items left b some short read = drop-cons items (left - 1) b (omega arith) ∙ (let next_left : suc (left - 1) ≡ left = omega arith in rw (← read, next_left) refl)
+
+pub reversed_absent : (items out : List TypBind) (left : ℕ) (b e : TypBind) → 0 < left → left ≤ length items → b ≡ get_or items (left - 1) b → e ≡ b → out ≡ reverse (drop left items) → IsTypMap items → ¬ IsIn (typ_variable e) (map typ_variable out)
+reversed_absent items out left b e some short read copy so_far distinct m =
+    distinct-behind (take (left - 1) items) b (drop left items) (subst IsTypMap whole distinct)
+    (variables-reverse (drop left items) (typ_variable b) (subst (λ (xs : List TypBind). IsIn (typ_variable b) (map typ_variable xs)) so_far (subst (λ (x : TypBind). IsIn (typ_variable x) (map typ_variable out)) copy m)))
+  where
+    back : left - 1 + 1 ≡ left
+    back = omega arith
+
+    whole : items ≡ take (left - 1) items ++ b ∷ drop left items
+    whole = split_at items (left - 1) b (omega arith) read ∙ ap (λ k. take (left - 1) items ++ b ∷ drop k items) back
+
 -- The settings from a place on are written out.
 pub record AreWrittenOut (p : Progress) (later : List TypBind) (d : Progress) : Type 0 where
   pub written : IsWritten later d.sets
   pub variables : (v : Typ) → IsIn v (map typ_variable d.sets) → IsIn v (map typ_variable later)
+  pub order : map typ_variable d.sets ≡ reverse (map typ_variable later)
   pub within : HasImagesWithin later
   pub tidy : IsTidy d
   pub index : d.index ≡ p.index
@@ -142,6 +188,7 @@ module _ (p d : Progress) (front later : List TypBind) (b : TypBind) (tidy : IsT
     pub entry_written : (new : Progress) (next : ℕ) → next ≡ d.next → new ≡ record { sets = d.sets ++ e ∷ []; index = d.index; next = next } → AreWrittenOut p (b ∷ later) new
     entry_written new next same are = subst (AreWrittenOut p (b ∷ later)) (sym are) (record {
       written = by_entry (λ t u. t ≡ u) entry_image h.written;
+      order = map-snoc d.sets e ∙ (ap (λ vs. vs ++ typ_variable e ∷ []) h.order ∙ (ap (λ v. reverse (map typ_variable later) ++ v ∷ []) variable_same ∙ sym (reverse-cons (typ_variable b) (map typ_variable later))));
       variables = λ v m. elim (variables-snoc d.sets e v m) [ inl n ↦ inr (h.variables v n) | inr f ↦ inl (f ∙ variable_same) ];
       within = by_entry (λ t u. IsWithinTyp u) (subst IsWithinTyp image_same fits) h.within;
       tidy = entry_tidy next same;
@@ -154,6 +201,7 @@ pub none_written : (p d : Progress) → IsTidy d → d.sets ≡ [] → d.index �
 none_written p d tidy none index next = record {
   written = λ x i s. ap (λ sets. typ_image sets (TVar x i s)) none;
   variables = λ v m. subst (λ (sets : List TypBind). IsIn v (map typ_variable sets)) none m;
+  order = ap (map typ_variable) none;
   within = λ x i s. record { size = omega arith; depth = omega arith };
   tidy = tidy;
   index = index;
@@ -197,6 +245,15 @@ module _ (p d : Progress) (items : List TypBind) (left : ℕ) (b : TypBind) (tid
 pub writing_starts : (p d : Progress) (items : List TypBind) → items ≡ p.sets → IsTidy d → d.sets ≡ [] → d.index ≡ p.index → d.next ≡ p.next → AreWrittenOut p (drop (length items) p.sets) d
 writing_starts p d items are tidy none index next = subst (λ (xs : List TypBind). AreWrittenOut p xs d) (sym (drop_all (length items) p.sets (let same = ap length are in omega arith))) (none_written p d tidy none index next)
 
-pub writing_ends : (p d : Progress) (left : ℕ) → (0 < left → ⊥) → AreWrittenOut p (drop left p.sets) d → HasImagesWithin p.sets × IsWritten p.sets d.sets
-writing_ends p d zero none h = (h.within, h.written)
-writing_ends p d (suc left) none h = absurd (none (omega arith))
+pub writing_ends : (p d : Progress) (left : ℕ) (items out : List TypBind) → left ≤ 0 → AreWrittenOut p (drop left p.sets) d → items ≡ d.sets → IsTypMap d.sets → out ≡ reverse items → HasImagesWithin p.sets × IsWrittenInOrder p.sets out
+writing_ends p d zero items out none h are distinct is = (
+  h.within,
+  (
+    λ x i s. ap (λ xs. typ_image xs (TVar x i s)) whole ∙ (image-reverse d.sets (TVar x i s) distinct ∙ h.written x i s),
+    ap (map typ_variable) whole ∙ (map-reverse d.sets ∙ (ap reverse h.order ∙ reverse-reverse (map typ_variable p.sets))),
+  ),
+)
+  where
+    whole : out ≡ reverse d.sets
+    whole = is ∙ ap reverse are
+writing_ends p d (suc left) items out none h are distinct is = absurd (omega arith)

@@ -1,14 +1,17 @@
 -- What calls that unify answer.
-use Rattle.std.specs.Prelude.{◌≡◌, ℕ, ◌+◌, max, List, [], ◌∷◌}
+use Rattle.std.specs.Prelude.{◌≡◌, ℕ, ◌+◌, max, List, [], ◌∷◌, ◌++◌, map}
 use Rattle.pure_definitions.specs.Types.Typ.{Typ, TFree, TVar, Con, Typs, none, also}
 use Rattle.pure_definitions.specs.Types.Order.{Algebra}
-use Rattle.pure_definitions.specs.Terms.Subst.{TypBind, typ_image, typ_instance}
+use Rattle.pure_definitions.specs.Terms.Subst.{TypBind, typ_variable, typ_image, typ_instance}
 use Rattle.pure_tunify.specs.declared.pair.TypPair.{TypPair}
 use Rattle.pure_tunify.specs.declared.fault.TypFault.{TypFault}
+use Rattle.pure_tunify.specs.declared.meeting.Turned.{Turned}
+use Rattle.pure_tunify.specs.declared.meeting.Turned.TheVariants.{Further, Never, Large}
+use Rattle.pure_tunify.specs.Unifiers.{IsUnifier}
 use Rattle.pure_tunify.specs.declared.fault.TypFault.TheVariants.{NoTyping, Big, Memory}
 use Rattle.pure_tunify.specs.Steps.{instance_pair}
-use Rattle.pure_tunify.specs.Settings.{composed, Progress}
-use Rattle.pure_tunify.specs.Procedure.{Equalises, Unifies, Unified, NotTyped, TooBig}
+use Rattle.pure_tunify.specs.Settings.{composed, AreWithinLimits, Progress}
+use Rattle.pure_tunify.specs.Procedure.{Equalises, Blocks, Unifies, Unified, NotTyped, TooBig}
 use Rattle.pure_tunify.specs.Working.{IsFurther, IsWritten}
 use Rattle.pure_tunify.specs.ProcedureLaws.{IsFirstWithout, IsBeyond}
 
@@ -18,11 +21,40 @@ pub record IsEqualised (A : Algebra) (old new : Progress) (p : TypPair) : Type 0
   pub further : IsFurther old new more
   pub equalises : Equalises A old.index old.next (instance_pair (composed old.sets) p) more new.next
 
--- The pairs come to this map, written out, and this first name that isn't used.
-pub record AreUnified (A : Algebra) (index from : ℕ) (pairs : List TypPair) (map : List TypBind) (next : ℕ) : Type 0 where
+-- A pair is made equal by settings that pass the limits, which weren't found; others were.
+pub record IsPassed (A : Algebra) (old new : Progress) (p : TypPair) : Type 0 where
+  pub found : List TypBind
+  pub further : IsFurther old new found
+  pub more : List TypBind
+  pub next : ℕ
+  pub equalises : Equalises A old.index old.next (instance_pair (composed old.sets) p) more next
+  pub beyond : ¬ AreWithinLimits (old.sets ++ more) next
+
+-- What comes of one pair.
+abbrev pub IsSolved : Algebra → (old new : Progress) → TypPair → Turned → Type 0
+IsSolved A old new p Further = IsEqualised A old new p
+IsSolved A old new p Never = Blocks A old.index old.next (instance_pair (composed old.sets) p)
+IsSolved A old new p Large = IsPassed A old new p
+
+-- Pairs have a unifier, under settings so far, and further settings were found.
+pub record IsSolvable (A : Algebra) (old new : Progress) (pairs : List TypPair) : Type 0 where
+  pub found : List TypBind
+  pub further : IsFurther old new found
+  pub typs : Typ → Typ
+  pub unifier : IsUnifier A (map (instance_pair (composed old.sets)) pairs) typs
+
+-- Pairs have a unifier, or none; or nothing is known.
+abbrev pub IsSolvability : Algebra → (old new : Progress) → List TypPair → Turned → Type 0
+IsSolvability A old new pairs Further = IsSolvable A old new pairs
+IsSolvability A old new pairs Never = (typs : Typ → Typ) → ¬ IsUnifier A (map (instance_pair (composed old.sets)) pairs) typs
+IsSolvability A old new pairs Large = Unit {0}
+
+-- The pairs come to this map and this first name that isn't used: its entries are the procedure's settings, in the order in which the variables were set, each image written out under all later settings.
+pub record AreUnified (A : Algebra) (index from : ℕ) (pairs : List TypPair) (binds : List TypBind) (next : ℕ) : Type 0 where
   pub sets : List TypBind
   pub unifies : Unifies A index 0 from [] pairs (Unified sets next)
-  pub written : IsWritten sets map
+  pub written : IsWritten sets binds
+  pub ordered : map typ_variable binds ≡ map typ_variable sets
 
 -- The pair of this number decides, for this reason.
 abbrev pub IsDecided : Algebra → (index from : ℕ) → List TypPair → TypFault → Type 0
@@ -32,9 +64,9 @@ IsDecided A index from pairs Memory = Unit {0}
 
 -- The map applied again changes nothing.
 abbrev pub IsIdempotent : List TypBind → Type 0
-IsIdempotent map = (x i : ℕ) (s : List ℕ) → typ_instance (typ_image map) (typ_image map (TVar x i s)) ≡ typ_image map (TVar x i s)
+IsIdempotent binds = (x i : ℕ) (s : List ℕ) → typ_instance (typ_image binds) (typ_image binds (TVar x i s)) ≡ typ_image binds (TVar x i s)
 
--- The pair of this number is the first such that it and those before have no unifier, or their most general unifier is beyond the limits.
+-- The pair of this number is the first such that it and those before have no unifier, or have a most general one that is beyond the limits; those before have one within them.
 abbrev pub IsReason : Algebra → (index from : ℕ) → List TypPair → TypFault → Type 0
 IsReason A index from pairs (NoTyping k) = IsFirstWithout A index from pairs k
 IsReason A index from pairs (Big k) = IsBeyond A index from pairs k

@@ -9,6 +9,7 @@ pub mod Asking
 pub mod Working
 pub mod NarrowingStep
 pub mod Meeting
+pub mod LargeTypes
 pub mod ProcedureLaws
 pub mod Answers
 pub mod Passes

@@ -1,30 +1,54 @@
 -- What the outcomes of unification mean.
-use Rattle.std.specs.Prelude.{◌≡◌, ℕ, ◌+◌, List, [], take}
-use Rattle.pure_text.specs.Lists.{Each}
-use Rattle.pure_definitions.specs.Types.Typ.{Typ}
+use Rattle.std.specs.Prelude.{◌≡◌, ◌⊎◌, ◌↔◌, ℕ, ◌+◌, ◌<◌, ◌≤◌, ◌^◌, List, [], take, length}
+use Rattle.pure_text.specs.Lists.{Each, AnyOf}
+use Rattle.pure_definitions.specs.Types.Typ.{Typ, TVar}
 use Rattle.pure_definitions.specs.Types.Order.{Algebra, IsCoregular}
 use Rattle.pure_definitions.specs.Terms.Subst.{TypBind}
 use Rattle.pure_order_tables.specs.Classes.{IsAntisymmetric}
 use Rattle.pure_tunify.specs.declared.pair.TypPair.{TypPair}
 use Rattle.pure_tunify.specs.Unifiers.{IsOldPair, IsUnifier, IsMostGeneral}
 use Rattle.pure_tunify.specs.Settings.{composed, AreWithinLimits}
+use Rattle.pure_tunify.specs.Working.{HasImagesWithin}
 use Rattle.pure_tunify.specs.Procedure.{Outcome, Unified, NotTyped, TooBig, Unifies}
 
--- The pair of this number is the first such that it and those before have no unifier.
-pub record IsFirstWithout (A : Algebra) (index from : ℕ) (pairs : List TypPair) (at : ℕ) : Type 0 where
-  pub none : (typs : Typ → Typ) → ¬ IsUnifier A (take (at + 1) pairs) typs
-  pub sets : List TypBind
-  pub before : IsMostGeneral A index from (take at pairs) (composed sets)
+-- A fresh variable of this name is the image of one of the settings: the name is used.
+abbrev pub IsNameUsed : (index : ℕ) → List TypBind → (name : ℕ) → Type 0
+IsNameUsed index sets k = AnyOf (λ b. (s : List ℕ) × (b.image ≡ TVar k index s)) sets
 
--- The most general unifier of the pairs up to this number is beyond the limits.
-pub record IsBeyond (A : Algebra) (index from : ℕ) (pairs : List TypPair) (at : ℕ) : Type 0 where
+-- Of the names from the first on, the settings use those below the next.
+pub record AreNamesUsed (index from next : ℕ) (sets : List TypBind) : Type 0 where
+  pub later : from ≤ next
+  pub used : (k : ℕ) → from ≤ k → k < next ↔ IsNameUsed index sets k
+
+-- These settings, with the names below the next, are a most general unifier of the pairs.
+pub record IsReached (A : Algebra) (index from : ℕ) (pairs : List TypPair) (sets : List TypBind) (next : ℕ) : Type 0 where
+  pub general : IsMostGeneral A index from pairs (composed sets)
+  pub names : AreNamesUsed index from next sets
+
+-- The pairs before this number, if there are any, have a most general unifier within the limits.
+pub record IsWithinBefore (A : Algebra) (index from : ℕ) (pairs : List TypPair) (at : ℕ) : Type 0 where
   pub sets : List TypBind
   pub next : ℕ
-  pub unifier : IsMostGeneral A index from (take (at + 1) pairs) (composed sets)
-  pub beyond : ¬ AreWithinLimits sets next
+  pub reached : IsReached A index from (take at pairs) sets next
+  pub within : (at ≡ 0) ⊎ AreWithinLimits sets next
+
+-- The pair of this number is the first such that it and those before have no unifier; those before have one within the limits.
+pub record IsFirstWithout (A : Algebra) (index from : ℕ) (pairs : List TypPair) (at : ℕ) : Type 0 where
+  pub inside : at < length pairs
+  pub before : IsWithinBefore A index from pairs at
+  pub none : (typs : Typ → Typ) → ¬ IsUnifier A (take (at + 1) pairs) typs
+
+-- The pair of this number is the first such that the most general unifier of it and those before is beyond the limits: an image of a variable is, or the names that are used.
+pub record IsBeyond (A : Algebra) (index from : ℕ) (pairs : List TypPair) (at : ℕ) : Type 0 where
+  pub inside : at < length pairs
+  pub before : IsWithinBefore A index from pairs at
+  pub sets : List TypBind
+  pub next : ℕ
+  pub reached : IsReached A index from (take (at + 1) pairs) sets next
+  pub beyond : (¬ HasImagesWithin sets) ⊎ (2 ^ 31 < next)
 
 abbrev pub IsMeant : Algebra → (index from : ℕ) → List TypPair → Outcome → Type 0
-IsMeant A index from pairs (Unified sets m) = IsMostGeneral A index from pairs (composed sets)
+IsMeant A index from pairs (Unified sets m) = IsReached A index from pairs sets m
 IsMeant A index from pairs (NotTyped k) = IsFirstWithout A index from pairs k
 IsMeant A index from pairs (TooBig k) = IsBeyond A index from pairs k
 

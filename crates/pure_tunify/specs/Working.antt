@@ -30,7 +30,11 @@ IsSmall sets t = IsTypVariable t ⊎ IsWithinTyp (typ_instance (composed sets) t
 
 -- The finite map is the settings one after the other, at each schematic variable.
 abbrev pub IsWritten : List TypBind → List TypBind → Type 0
-IsWritten sets map = (x i : ℕ) (s : List ℕ) → typ_image map (TVar x i s) ≡ composed sets (TVar x i s)
+IsWritten sets binds = (x i : ℕ) (s : List ℕ) → typ_image binds (TVar x i s) ≡ composed sets (TVar x i s)
+
+-- The same, and its entries stand in the order of the settings.
+abbrev pub IsWrittenInOrder : List TypBind → List TypBind → Type 0
+IsWrittenInOrder sets binds = IsWritten sets binds × (map typ_variable binds ≡ map typ_variable sets)
 
 -- No set variable occurs in the type.
 abbrev pub IsFreeOf : List TypBind → Typ → Type 0

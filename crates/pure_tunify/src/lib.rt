@@ -4,10 +4,12 @@
 mod asks;
 mod fault;
 mod index;
+mod large;
 pub mod laws;
 mod meeting;
 mod narrow;
 mod pair;
+mod pursue;
 mod resolve;
 mod settings;
 mod solve;

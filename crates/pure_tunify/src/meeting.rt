@@ -4,7 +4,8 @@ ghost use Rattle.pure_definitions.specs.Types.Typ as tree;
 ghost use Rattle.pure_definitions.specs.Types.Typ.{typs_of};
 ghost use Rattle.pure_tunify.specs.Procedure.{IsSchematic};
 ghost use Rattle.pure_tunify.specs.Working.{pairs_along};
-ghost use Rattle.pure_tunify.specs.Meeting.{HasArguments, HasOtherNode, HaveArguments, HaveNoArguments, IsMeeting};
+ghost use Rattle.pure_tunify.specs.Meeting.{HasArguments, HasOtherNode, HaveArguments, HaveNoArguments, IsMeeting, IsPutBack};
+ghost use Rattle.pure_tunify.specs.Steps.{pair};
 
 use crate::pair::TypPair;
 use pure_typ::{Name, Typ, TypNode};
@@ -25,8 +26,19 @@ pub enum Meeting {
     Apart,
 }
 
+/// What comes of pairs that are being made equal.
+#[derive(Clone, Copy)]
+pub enum Turned {
+    /// They go on, or are equal.
+    Further,
+    /// They have no unifier.
+    Never,
+    /// A variable meets a type that is too large to be written out.
+    Large,
+}
+
 /// Whether the type is a schematic variable.
-fn is_schematic(t: &Typ) -> bool
+pub fn is_schematic(t: &Typ) -> bool
     ensures { IsTrue result ↔ IsSchematic t.now }
 {
     match &t.node {
@@ -102,6 +114,25 @@ pub fn arguments(alloc: Global, t: Typ) -> Vec<Typ>
         TypNode::Con { args, .. } => args,
         TypNode::TFree { .. } => Vec::new(alloc),
         TypNode::TVar { .. } => Vec::new(alloc),
+    }
+}
+
+/// Puts a pair with a type that is too large back on top of the pairs that are left.
+pub fn put_back(
+    work: &mut Vec<TypPair>,
+    left: Typ,
+    right: Typ,
+    turned: Turned,
+) -> Result<(), AllocError>
+    ensures { OnOk result (IsPutBack (pair left right) work.old.items work.new.items turned) }
+{
+    match turned {
+        Turned::Further => Ok(()),
+        Turned::Never => Ok(()),
+        Turned::Large => {
+            work.push(TypPair { left, right })?;
+            Ok(())
+        }
     }
 }
 

@@ -1,10 +1,10 @@
 //! Types in which all set variables are replaced.
-ghost use Rattle.std.specs.Prelude.{◌≡◌, IfOk, MatchBool, MatchOption};
-ghost use Rattle.pure_definitions.specs.Terms.Subst.{typ_instance};
+ghost use Rattle.std.specs.Prelude.{◌≡◌, reverse, IfOk, MatchBool, MatchOption};
+ghost use Rattle.pure_definitions.specs.Terms.Subst.{IsTypMap, typ_instance};
 ghost use Rattle.pure_definitions.specs.Types.Typ.{typ_size, typ_depth};
 ghost use Rattle.pure_definitions.specs.Terms.Limits.{Leaves, IsWithinTyp};
 ghost use Rattle.pure_tunify.specs.Settings.{composed};
-ghost use Rattle.pure_tunify.specs.Working.{IsResolved, HasImagesWithin, IsSmall, IsWritten};
+ghost use Rattle.pure_tunify.specs.Working.{IsResolved, HasImagesWithin, IsSmall, IsWrittenInOrder};
 
 use crate::settings::Settings;
 use pure_typ::{MAX_DEPTH, MAX_SIZE, Typ, TypBind, TypMap, TypNode};
@@ -74,7 +74,7 @@ pub fn resolve(
 }
 
 /// What is left of a room for so many nodes, on paths of so many, when the type with all set variables replaced is put in.
-fn resolved_leaves(
+pub fn resolved_leaves(
     settings: &Settings,
     t: &Typ,
     left: u32,
@@ -161,10 +161,39 @@ fn written_bind(
     }
 }
 
+/// A copy of the entry.
+fn copied(bind: &TypBind, alloc: Global) -> Result<TypBind, AllocError>
+    ensures { IfOk result (λ b. b ≡ bind.now) }
+{
+    let sort = bind.sort.copy(alloc)?;
+    let image = bind.image.copy(alloc)?;
+    Ok(TypBind {
+        name: bind.name,
+        index: bind.index,
+        sort,
+        image,
+    })
+}
+
+/// The map of the entries, the last one first.
+fn reversed(binds: &[TypBind], alloc: Global) -> Result<TypMap, AllocError>
+    requires { IsTypMap binds.now }
+    ensures { IfOk result (λ map. map ≡ reverse binds.now) }
+{
+    let mut map = TypMap::empty(alloc);
+    let mut left = binds.len();
+    while left > 0 {
+        left -= 1;
+        let entry = copied(&binds[left], alloc)?;
+        map.push(entry)?;
+    }
+    Ok(map)
+}
+
 /// The map that the settings are, each image written out; none exactly where an image isn't within the limits. The last
 /// setting is written out first, so that what an image has of set variables is written out before it.
 pub fn written(settings: &Settings, alloc: Global) -> Result<Option<TypMap>, AllocError>
-    ensures { IfOk result (λ o. MatchOption o (¬ HasImagesWithin settings.now.sets) (λ map. HasImagesWithin settings.now.sets × IsWritten settings.now.sets map)) }
+    ensures { IfOk result (λ o. MatchOption o (¬ HasImagesWithin settings.now.sets) (λ map. HasImagesWithin settings.now.sets × IsWrittenInOrder settings.now.sets map)) }
 {
     let binds = settings.binds();
     let mut done = Settings::start(alloc, settings.index(), settings.next(), MAX_SIZE);
@@ -180,5 +209,6 @@ pub fn written(settings: &Settings, alloc: Global) -> Result<Option<TypMap>, All
             }
         }
     }
-    Ok(Some(done.into_map()))
+    let map = reversed(done.binds(), alloc)?;
+    Ok(Some(map))
 }

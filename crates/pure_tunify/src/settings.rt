@@ -109,13 +109,6 @@ impl Settings {
         Err(AllocError)
     }
 
-    /// The settings as a map.
-    pub fn into_map(self) -> TypMap
-        ensures { result ≡ self.sets }
-    {
-        self.map
-    }
-
     /// Sets one more variable.
     pub fn put(&mut self, bind: TypBind, next: u32) -> Result<(), AllocError>
         requires absent { ¬ IsIn (typ_variable bind) (map typ_variable self.old.sets) }

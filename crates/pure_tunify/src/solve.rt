@@ -1,15 +1,15 @@
 //! One pair is made equal.
-ghost use Rattle.std.specs.Prelude.{◌≡◌, ◌∷◌, [], IfOk, MatchBool};
+ghost use Rattle.std.specs.Prelude.{◌≡◌, ◌∷◌, [], IfOk};
 ghost use Rattle.pure_tunify.specs.Unifiers.{IsOldPair};
-ghost use Rattle.pure_tunify.specs.Steps.{instance_pair};
-ghost use Rattle.pure_tunify.specs.Settings.{composed};
-ghost use Rattle.pure_tunify.specs.Procedure.{Blocks};
-ghost use Rattle.pure_tunify.specs.Answers.{IsEqualised};
+ghost use Rattle.pure_tunify.specs.Answers.{IsSolved};
 
+use crate::large::solvability;
+use crate::meeting::Turned;
 use crate::pair::TypPair;
+use crate::pursue::pursue;
 use crate::settings::Settings;
-use crate::turn::turn;
 use pure_order::Order;
+use pure_typ::Name;
 use std::alloc::{AllocError, Global};
 
 /// A list with a copy of the pair.
@@ -23,25 +23,32 @@ fn at_first(alloc: Global, pair: &TypPair) -> Result<Vec<TypPair>, AllocError>
     Ok(work)
 }
 
-/// Makes a pair equal by further settings; false exactly where it comes to a place without a unifier.
+/// Makes a pair equal by further settings; never where it comes to a place without a unifier. Where an image would be too
+/// large to be written out, the pair passes the limits, if what is left of it has a unifier; memory is wanted where that
+/// isn't found out.
 pub fn solve(
     order: &Order,
     alloc: Global,
     settings: &mut Settings,
     pair: &TypPair,
-) -> Result<bool, AllocError>
+) -> Result<Turned, AllocError>
     requires { IsOldPair settings.old.index settings.old.next pair.now }
-    ensures { IfOk result (λ done. MatchBool done (IsEqualised order.now settings.old settings.new pair.now) (Blocks order.now settings.old.index settings.old.next (instance_pair (composed settings.old.sets) pair.now))) }
+    ensures { IfOk result (IsSolved order.now settings.old settings.new pair.now) }
 {
     let mut work = at_first(alloc, pair)?;
-    for _ in 0..u64::MAX {
-        let Some(first) = work.pop() else {
-            return Ok(true);
-        };
-        let goes = turn(order, alloc, settings, &mut work, first)?;
-        if !goes {
-            return Ok(false);
+    let turned = pursue(order, alloc, settings, &mut work)?;
+    match turned {
+        Turned::Further => Ok(Turned::Further),
+        Turned::Never => Ok(Turned::Never),
+        Turned::Large => {
+            let _ = order.domains(Name::FUN, Name::FUN);
+            let _ = settings.next();
+            let known = solvability(order, alloc, settings, &mut work)?;
+            match known {
+                Turned::Further => Ok(Turned::Large),
+                Turned::Never => Ok(Turned::Never),
+                Turned::Large => Err(AllocError),
+            }
         }
     }
-    Err(AllocError)
 }

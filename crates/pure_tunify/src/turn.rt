@@ -1,58 +1,69 @@
 //! One turn of making a pair equal: a variable is set, or arguments are looked at.
-ghost use Rattle.std.specs.Prelude.{◌≡◌, ◌∷◌, map, reverse, IfOk, MatchBool};
+ghost use Rattle.std.specs.Prelude.{◌≡◌, ◌∷◌, map, reverse, IfOk};
 ghost use Rattle.pure_text.specs.Lists.{IsIn, Each};
 ghost use Rattle.pure_definitions.specs.Terms.Subst.{typ_variable, typ_instance};
+ghost use Rattle.pure_definitions.specs.Terms.Limits.{IsWithinTyp};
 ghost use Rattle.pure_term_laws.specs.LawsOccurs.{IsTypVariable};
 ghost use Rattle.pure_tunify.specs.Unifiers.{IsFresh, IsOld, IsOldPair};
 ghost use Rattle.pure_tunify.specs.Steps.{pair};
 ghost use Rattle.pure_tunify.specs.Settings.{composed, IsTidy};
 ghost use Rattle.pure_tunify.specs.Procedure.{IsSchematic};
-ghost use Rattle.pure_tunify.specs.Working.{IsSetTo, CannotBeSetTo};
-ghost use Rattle.pure_tunify.specs.Meeting.{IsTurn};
+ghost use Rattle.pure_tunify.specs.Meeting.{IsTreating, IsTurned};
+ghost use Rattle.pure_tunify.specs.declared.meeting.Turned.TheVariants.{Large};
 
-use crate::meeting::{Meeting, arguments, meeting_of, push_arguments};
+use crate::meeting::{Meeting, Turned, arguments, meeting_of, push_arguments, put_back};
 use crate::narrow::narrow;
 use crate::pair::TypPair;
-use crate::resolve::{Resolved, resolve};
+use crate::resolve::{Resolved, resolve, resolved_leaves};
 use crate::settings::Settings;
 use pure_order::Order;
-use pure_typ::{Typ, TypBind, TypNode, occurs_in_typ};
+use pure_typ::{MAX_DEPTH, MAX_SIZE, Typ, TypBind, TypNode, occurs_in_typ};
 use std::alloc::{AllocError, Global};
 
-/// The greatest depth of a type that is looked at with all set variables replaced; beyond it memory is wanted.
+/// The greatest depth of a type that is written out with all set variables replaced; a deeper one is too large.
 const MOST_DEPTH: u32 = 6000;
 
-/// Sets a schematic variable to another type, with all set variables replaced and narrowed to the variable's sort; false
-/// exactly where the variable occurs in it, or no instance of it is of the sort.
+/// The type is beyond the limits with all set variables replaced, or memory is wanted.
+fn too_large(settings: &Settings, t: &Typ) -> Result<Turned, AllocError>
+    ensures { IfOk result (λ turned. (turned ≡ Large) × ¬ IsWithinTyp (typ_instance (composed settings.now.sets) t.now)) }
+{
+    let found = resolved_leaves(settings, t, MAX_SIZE, MAX_DEPTH)?;
+    match found {
+        None => Ok(Turned::Large),
+        Some(_) => Err(AllocError),
+    }
+}
+
+/// Sets a schematic variable to another type, with all set variables replaced and narrowed to the variable's sort; never
+/// where the variable occurs in it, or no instance of it is of the sort. A type that is too large is left as it is.
 fn treat(
     order: &Order,
     alloc: Global,
     settings: &mut Settings,
     variable: &Typ,
     other: &Typ,
-) -> Result<bool, AllocError>
+) -> Result<Turned, AllocError>
     requires schematic { IsSchematic variable.now }
     requires absent { ¬ IsIn variable.now (map typ_variable settings.old.sets) }
     requires old { IsOldPair settings.old.index settings.old.next (pair variable.now other.now) }
-    ensures { IfOk result (λ done. MatchBool done
-        (IsSetTo order.now settings.old settings.new variable.now (typ_instance (composed settings.old.sets) other.now))
-        (CannotBeSetTo order.now variable.now (typ_instance (composed settings.old.sets) other.now))) }
+    ensures { IfOk result (IsTreating order.now settings.old settings.new variable.now (typ_instance (composed settings.old.sets) other.now)) }
 {
     let TypNode::TVar { name, index, sort } = &variable.node else {
         return Err(AllocError);
     };
     let found = resolve(settings, alloc, other, settings.most(), MOST_DEPTH)?;
     let Some(resolved) = found else {
-        return Err(AllocError);
+        let turned = too_large(settings, other)?;
+        return Ok(turned);
     };
     let Resolved { typ: t, .. } = resolved;
     if occurs_in_typ(variable, &t) {
-        return Ok(false);
+        return Ok(Turned::Never);
     }
     let own = sort.copy(alloc)?;
     let narrowed = narrow(order, alloc, settings, sort, t)?;
     let Some(image) = narrowed else {
-        return Ok(false);
+        return Ok(Turned::Never);
     };
     let next = settings.next();
     let bind = TypBind {
@@ -62,7 +73,7 @@ fn treat(
         image,
     };
     settings.put(bind, next)?;
-    Ok(true)
+    Ok(Turned::Further)
 }
 
 /// The type itself, or a copy of what stands for it where it is a variable that is set: no variable that is set.
@@ -81,7 +92,7 @@ fn opened(settings: &Settings, alloc: Global, t: Typ) -> Result<Typ, AllocError>
     }
 }
 
-/// One turn at a pair of types that aren't set variables: false where it has no unifier.
+/// One turn at a pair of types that aren't set variables.
 fn meet(
     order: &Order,
     alloc: Global,
@@ -89,45 +100,47 @@ fn meet(
     work: &mut Vec<TypPair>,
     left: Typ,
     right: Typ,
-) -> Result<bool, AllocError>
+) -> Result<Turned, AllocError>
     requires old { IsOldPair settings.old.index settings.old.next (pair left right) }
     requires left_free { IsTypVariable left → ¬ IsIn left (map typ_variable settings.old.sets) }
     requires right_free { IsTypVariable right → ¬ IsIn right (map typ_variable settings.old.sets) }
-    ensures { IfOk result (IsTurn order.now settings.old settings.new (pair left right ∷ reverse work.old.items) (reverse work.new.items)) }
+    ensures { IfOk result (IsTurned order.now settings.old settings.new (pair left right ∷ reverse work.old.items) (reverse work.new.items)) }
 {
     match meeting_of(&left, &right) {
-        Meeting::Same => Ok(true),
-        Meeting::Apart => Ok(false),
+        Meeting::Same => Ok(Turned::Further),
+        Meeting::Apart => Ok(Turned::Never),
         Meeting::Left => {
-            let done = treat(order, alloc, settings, &left, &right)?;
-            Ok(done)
+            let turned = treat(order, alloc, settings, &left, &right)?;
+            put_back(work, left, right, turned)?;
+            Ok(turned)
         }
         Meeting::Right => {
-            let done = treat(order, alloc, settings, &right, &left)?;
-            Ok(done)
+            let turned = treat(order, alloc, settings, &right, &left)?;
+            put_back(work, left, right, turned)?;
+            Ok(turned)
         }
         Meeting::Arguments => {
             let (lefts, rights) = (arguments(alloc, left), arguments(alloc, right));
             push_arguments(work, lefts, rights)?;
-            Ok(true)
+            Ok(Turned::Further)
         }
     }
 }
 
-/// One turn at the first of the pairs that are left: false where it has no unifier.
+/// One turn at the first of the pairs that are left.
 pub fn turn(
     order: &Order,
     alloc: Global,
     settings: &mut Settings,
     work: &mut Vec<TypPair>,
     first: TypPair,
-) -> Result<bool, AllocError>
+) -> Result<Turned, AllocError>
     requires { IsOldPair settings.old.index settings.old.next first }
-    ensures { IfOk result (IsTurn order.now settings.old settings.new (first ∷ reverse work.old.items) (reverse work.new.items)) }
+    ensures { IfOk result (IsTurned order.now settings.old settings.new (first ∷ reverse work.old.items) (reverse work.new.items)) }
 {
     let TypPair { left, right } = first;
     let left = opened(settings, alloc, left)?;
     let right = opened(settings, alloc, right)?;
-    let goes = meet(order, alloc, settings, work, left, right)?;
-    Ok(goes)
+    let turned = meet(order, alloc, settings, work, left, right)?;
+    Ok(turned)
 }

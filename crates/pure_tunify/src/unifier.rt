@@ -5,13 +5,14 @@ ghost use Rattle.pure_text.specs.Lists.{Each};
 ghost use Rattle.pure_definitions.specs.Terms.Subst.{typ_image};
 ghost use Rattle.pure_tunify.specs.Unifiers.{IsOldPair, IsMostGeneral};
 ghost use Rattle.pure_tunify.specs.Settings.{AreTriangular, AreWithinLimits};
-ghost use Rattle.pure_tunify.specs.Procedure.{Unifies, Unified};
-ghost use Rattle.pure_tunify.specs.Working.{IsWritten};
+ghost use Rattle.pure_tunify.specs.Procedure.{Unifies, TooBig};
+ghost use Rattle.pure_tunify.specs.Working.{IsWrittenInOrder};
 ghost use Rattle.pure_tunify.specs.Answers.{AreUnified, IsIdempotent, IsDecided, IsReason, index_above_pairs};
-ghost use Rattle.pure_tunify.specs.Passes.{HasCome, IsPass, IsJudged, IfFound};
+ghost use Rattle.pure_tunify.specs.Passes.{HasCome, IsPass, IsJudged, IfFound, IfBeyond};
 
 use crate::fault::TypFault;
 use crate::index::index_above_each;
+use crate::meeting::Turned;
 use crate::pair::TypPair;
 use crate::resolve::{are_images_within, written};
 use crate::settings::Settings;
@@ -23,8 +24,8 @@ use std::alloc::{AllocError, Global};
 /// The greatest first name that isn't used.
 const MOST_NAMES: u32 = 0x8000_0000;
 
-/// The most nodes of a type that is looked at with all set variables replaced: a small multiple of the limit on images.
-/// Beyond it memory is wanted.
+/// The most nodes of a type that is written out where a pair is judged by itself: a small multiple of the limit on images.
+/// Beyond it a type isn't written out, and memory is wanted where the pair can't be judged without.
 const MOST_NODES: u32 = 1_000_000;
 
 /// Whether the images and the names are within the limits.
@@ -43,7 +44,9 @@ fn is_within(settings: &Settings) -> Result<bool, AllocError>
 enum Pass {
     /// All are made equal.
     Whole,
-    /// This one isn't: it has no unifier, or its types grew too large.
+    /// This one passes the limits.
+    Beyond(u32),
+    /// This one isn't made equal: it has no unifier, or memory is wanted.
     Stopped(u32),
 }
 
@@ -56,10 +59,15 @@ fn solve_all(order: &Order, alloc: Global, settings: &mut Settings, pairs: &[Typ
     let mut index: u32 = 0;
     for pair in pairs {
         match solve(order, alloc, settings, pair) {
-            Ok(true) => {}
-            _ => return Pass::Stopped(index),
+            Ok(Turned::Further) => {}
+            Ok(Turned::Large) => return Pass::Beyond(index),
+            Ok(Turned::Never) => return Pass::Stopped(index),
+            Err(_) => return Pass::Stopped(index),
         }
-        index = index.saturating_add(1);
+        let Some(next) = index.checked_add(1) else {
+            return Pass::Stopped(index);
+        };
+        index = next;
     }
     Pass::Whole
 }
@@ -78,9 +86,11 @@ fn solve_front(
     ensures { IfOk result (λ done. OnTrue done (HasCome order.now settings.old.index settings.old.next pairs.now count settings.new)) }
 {
     for i in 0..count {
-        let done = solve(order, alloc, settings, &pairs[i])?;
-        if !done {
-            return Ok(false);
+        let turned = solve(order, alloc, settings, &pairs[i])?;
+        match turned {
+            Turned::Further => {}
+            Turned::Never => return Ok(false),
+            Turned::Large => return Ok(false),
         }
     }
     Ok(true)
@@ -101,15 +111,18 @@ fn judge(
     if !within {
         return Ok(());
     }
-    let done = solve(order, alloc, settings, pair)?;
-    if !done {
-        return Err(TypFault::NoTyping { index: at });
+    let turned = solve(order, alloc, settings, pair)?;
+    match turned {
+        Turned::Never => Err(TypFault::NoTyping { index: at }),
+        Turned::Large => Err(TypFault::Big { index: at }),
+        Turned::Further => {
+            let fits = is_within(settings)?;
+            if !fits {
+                return Err(TypFault::Big { index: at });
+            }
+            Ok(())
+        }
     }
-    let fits = is_within(settings)?;
-    if !fits {
-        return Err(TypFault::Big { index: at });
-    }
-    Ok(())
 }
 
 /// Why this pair decides, where it does.
@@ -186,7 +199,7 @@ fn first_beyond(
 
 /// The settings written out, and the first name that isn't used.
 fn answer(settings: &Settings, alloc: Global) -> Result<Option<(TypMap, u32)>, AllocError>
-    ensures { IfOk result (λ o. IfSome o (λ found. AreWithinLimits settings.now.sets settings.now.next × IsWritten settings.now.sets found.0 × (found.1 ≡ settings.now.next) × AreTriangular settings.now.sets)) }
+    ensures { IfOk result (λ o. IfSome o (λ found. AreWithinLimits settings.now.sets settings.now.next × IsWrittenInOrder settings.now.sets found.0 × (found.1 ≡ settings.now.next) × AreTriangular settings.now.sets)) }
 {
     let next = settings.next();
     let _ = settings.binds();
@@ -213,6 +226,8 @@ fn count_of(pairs: &[TypPair]) -> u32 {
 enum Attempt {
     /// The map, and the first name that isn't used.
     Found((TypMap, u32)),
+    /// This pair passes the limits.
+    Beyond(u32),
     /// This pair isn't made equal, or the limits are passed behind the last one.
     Stopped(u32),
 }
@@ -228,10 +243,18 @@ fn unify_at_once(
     requires { Each (IsOldPair index from) pairs.now }
     ensures ok { IfOk result (IfFound (λ found. AreUnified order.now index from pairs.now found.0 found.1)) }
     ensures idempotent { IfOk result (IfFound (λ found. IsIdempotent found.0)) }
+    ensures beyond { IfOk result (IfBeyond (λ at. Unifies order.now index 0 from [] pairs.now (TooBig at))) }
 {
     let mut settings = Settings::start(alloc, index, from, MAX_SIZE);
     match solve_all(order, alloc, &mut settings, pairs) {
         Pass::Stopped(at) => Ok(Attempt::Stopped(at)),
+        Pass::Beyond(at) => {
+            let within = is_within(&settings)?;
+            if !within {
+                return Ok(Attempt::Stopped(at));
+            }
+            Ok(Attempt::Beyond(at))
+        }
         Pass::Whole => {
             let found = answer(&settings, alloc)?;
             match found {
@@ -300,6 +323,7 @@ pub fn unify_from(
 {
     match unify_at_once(alloc, order, pairs, index, from)? {
         Attempt::Found(found) => Ok(found),
+        Attempt::Beyond(at) => Err(TypFault::Big { index: at }),
         Attempt::Stopped(at) => Err(reason(alloc, order, pairs, index, from, at)),
     }
 }

@@ -95,7 +95,7 @@ static SORTED: [(&[u8], Wanted); 15] = [
 ];
 
 /// Images at the limits, and beyond them; also one that grows by a later pair, and a pair that fails behind a large one.
-static LIMITS: [(&[u8], Wanted); 11] = [
+static LIMITS: [(&[u8], Wanted); 15] = [
     (b"?'a, k//199999 i", Wanted::Unifier(b"?'a, k//199999 i")),
     (b"?'a, k//200000 i", Wanted::Big(0)),
     (b"?'a, k*1999 i", Wanted::Unifier(b"?'a, k*1999 i")),
@@ -113,6 +113,18 @@ static LIMITS: [(&[u8], Wanted); 11] = [
     (b"k/2 ?'a i, k/2 k//200000 i j", Wanted::NoTyping(0)),
     (b"?'a, k//200000 i, i, j", Wanted::Big(0)),
     (b"i, j, ?'a, k//200000 i", Wanted::NoTyping(0)),
+    // Types that are never written out, of more than a million nodes: alone, before what is left of the pair, on the right,
+    // and behind a variable that occurs in another image.
+    (b"?'a, k//99999 i, ?'b, k//20 ?'a", Wanted::Big(1)),
+    (
+        b"?'a, k//99999 i, k/2 ?'b ?'c, k/2 k//20 ?'a ?'b",
+        Wanted::Big(1),
+    ),
+    (b"?'a, k//99999 i, k//20 ?'a, ?'b, i, j", Wanted::Big(1)),
+    (
+        b"?'a, k//99999 i, ?'c, > ?'b i, ?'b, k//20 ?'a",
+        Wanted::Big(2),
+    ),
 ];
 
 /// The types of the text, two and two.

@@ -2,7 +2,7 @@ use Rattle.std.proofs.Common.{◌≡◌, arith}
 use Rattle.pure_definitions.specs.Terms.Subst.{typ_instance}
 use Rattle.pure_definitions.specs.Terms.Limits.{IsWithinTyp}
 use Rattle.pure_tunify.specs.Settings.{composed}
-use Rattle.pure_tunify.proofs.WritingLaws.{turn_beyond, turn_absent, turn_tidy, turn_written}
+use Rattle.pure_tunify.proofs.WritingLaws.{turn_beyond, turn_absent, turn_tidy, turn_written, writing_ends}
 use Rattle.pure_tunify.proofs.resolve.written.Goals as goal
 
 pub returns-in-None : goal.returns-in-None
@@ -34,3 +34,6 @@ loop-left-preserved c =
           c.loop-left.invariant.short c.index-binds-left.is c.loop-left.invariant.out c.in-Some.entry found c.put.new.self c.next-next.result c.next-next.ensures.value c.in_ok-put-in-Some.ensures;
       short = (let short = c.loop-left.invariant.short in omega arith);
     }
+
+pub returns : goal.returns
+returns c = writing_ends c.args.settings.now c.loop-left.done c.loop-left.left c.binds.result.now c.in_ok-map.map c.loop-left-test.false c.loop-left.invariant.out c.binds.ensures.are c.binds.ensures.distinct c.in_ok-map.ensures

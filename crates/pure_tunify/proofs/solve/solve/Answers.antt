@@ -1,20 +1,18 @@
 use Rattle.std.specs.Prelude.{reverse}
-use Rattle.pure_tunify.proofs.WorkLaws.{first_pursued, first_old, turn_goes, turn_keeps, turns_end, nothing_popped, when_true}
+use Rattle.pure_tunify.proofs.WorkLaws.{one_equalised, one_blocked}
+use Rattle.pure_tunify.proofs.LargeLaws.{one_passed, one_refused}
 use Rattle.pure_tunify.proofs.solve.solve.Goals as goal
 
-pub loop-init : goal.loop-init
-loop-init c = record {
-  pursued = first_pursued c.args.order.now c.args.pair.now c.args.settings.now c.in_ok-work.work.items c.in_ok-work.ensures;
-  old = first_old c.args.order.now c.args.pair.now c.args.settings.now c.in_ok-work.work.items c.in_ok-work.ensures c.requires;
-}
+pub returns-in-Further : goal.returns-in-Further
+returns-in-Further c = one_equalised c.args.order.now c.args.pair.now c.args.settings.now c.pursue.new.settings c.in_ok-work.work.items c.in_ok-work.ensures (rw c.in-Further.is at c.in_ok-turned.ensures)
 
-pub loop-preserved : goal.loop-preserved
-loop-preserved c =
-    let goes = when_true _ _ c.in_ok-goes.goes c.in_ok-goes.ensures c.if-not-goes.false in
-    record {
-      pursued = turn_goes c.args.order.now c.args.pair.now c.args.settings.now c.loop.settings c.turn.new.settings c.loop.work.items c.pop.new.self.items (reverse c.turn.new.work.items) c.in-Some.first c.in-Some.ensures.items goes c.loop.invariant.pursued;
-      old = turn_keeps c.args.order.now c.args.pair.now c.args.settings.now c.loop.settings c.turn.new.settings c.loop.work.items c.pop.new.self.items (reverse c.turn.new.work.items) c.in-Some.first c.in-Some.ensures.items goes c.loop.invariant.old;
-    }
+pub returns-in-Never : goal.returns-in-Never
+returns-in-Never c = one_blocked c.args.order.now c.args.pair.now c.args.settings.now c.pursue.new.settings c.in_ok-work.work.items c.in_ok-work.ensures (rw c.in-Never.is at c.in_ok-turned.ensures)
 
-pub returns-in_default : goal.returns-in_default
-returns-in_default c = turns_end c.args.order.now c.args.pair.now c.args.settings.now c.loop.settings c.loop.work.items (nothing_popped c.loop.work.items c.pop.new.self.items _ c.in_default.ensures.cases.0 c.in_default.ensures.rest c.in_default.ensures.items) c.loop.invariant.pursued
+pub returns-in-Further-known : goal.returns-in-Further-known
+returns-in-Further-known c = one_passed c.args.order.now c.domains.ensures.coregular c.args.pair.now c.args.settings.now c.pursue.new.settings c.solvability.new.settings c.in_ok-work.work.items (reverse c.pursue.new.work.items) c.in_ok-work.ensures c.requires c.next.ensures.tidy
+    (rw c.in-Large.is at c.in_ok-turned.ensures) (rw c.in-Further-known.is at c.in_ok-known-in-Large.ensures)
+
+pub returns-in-Never-known : goal.returns-in-Never-known
+returns-in-Never-known c = one_refused c.args.order.now c.domains.ensures.coregular c.args.pair.now c.args.settings.now c.pursue.new.settings c.solvability.new.settings c.in_ok-work.work.items (reverse c.pursue.new.work.items) c.in_ok-work.ensures c.requires c.next.ensures.tidy
+    (rw c.in-Large.is at c.in_ok-turned.ensures) (rw c.in-Never-known.is at c.in_ok-known-in-Large.ensures)

@@ -1,7 +1,7 @@
 use Rattle.std.proofs.Common.{◌++◌, ◌∙◌}
 use Rattle.std.specs.Prelude.{reverse}
 use Rattle.pure_tunify.specs.Working.{pairs_along}
-use Rattle.pure_tunify.proofs.PursueLaws.{meet_left, meet_right, meet_same, meet_apart, meet_arguments}
+use Rattle.pure_tunify.proofs.PursueLaws.{met_left, met_right, meet_same, meet_apart, meet_arguments}
 use Rattle.pure_tunify.proofs.turn.meet.Goals as goal
 
 pub returns-in-Same : goal.returns-in-Same
@@ -10,11 +10,11 @@ returns-in-Same c = meet_same c.args.order.now c.args.settings.now (reverse c.ar
 pub returns-in-Apart : goal.returns-in-Apart
 returns-in-Apart c = meet_apart c.args.order.now c.args.settings.now (reverse c.args.work.now.items) c.args.left c.args.right c.in-Apart.ensures
 
-pub returns-in_ok-done-in-Left : goal.returns-in_ok-done-in-Left
-returns-in_ok-done-in-Left c = meet_left c.args.order.now c.args.settings.now c.treat.new.settings (reverse c.args.work.now.items) c.args.left c.args.right c.in_ok-done-in-Left.done c.in-Left.ensures c.requires.left_free c.requires.right_free c.in_ok-done-in-Left.ensures
+pub returns-in_ok-put_back-in-Left : goal.returns-in_ok-put_back-in-Left
+returns-in_ok-put_back-in-Left c = met_left c.args.order.now c.args.settings.now c.treat.new.settings c.args.work.now.items c.put_back.new.work.items c.args.left c.args.right c.in_ok-turned-in-Left.turned c.in-Left.ensures c.requires.left_free c.requires.right_free c.in_ok-turned-in-Left.ensures c.in_ok-put_back-in-Left.ensures
 
-pub returns-in_ok-done-in-Right : goal.returns-in_ok-done-in-Right
-returns-in_ok-done-in-Right c = meet_right c.args.order.now c.args.settings.now c.treat-in-Right.new.settings (reverse c.args.work.now.items) c.args.left c.args.right c.in_ok-done-in-Right.done c.in-Right.ensures c.requires.right_free c.in_ok-done-in-Right.ensures
+pub returns-in_ok-put_back-in-Right : goal.returns-in_ok-put_back-in-Right
+returns-in_ok-put_back-in-Right c = met_right c.args.order.now c.args.settings.now c.treat-in-Right.new.settings c.args.work.now.items c.put_back-in-Right.new.work.items c.args.left c.args.right c.in_ok-turned-in-Right.turned c.in-Right.ensures c.requires.right_free c.in_ok-turned-in-Right.ensures c.in_ok-put_back-in-Right.ensures
 
 pub returns-in_ok-push_arguments-in-Arguments : goal.returns-in_ok-push_arguments-in-Arguments
 returns-in_ok-push_arguments-in-Arguments c =

@@ -1,0 +1,139 @@
+-- What the outcomes of the procedure mean.
+use Rattle.std.proofs.Common.{◌≡◌, ◌≢◌, ℕ, ◌+◌, List, [], ◌∷◌, ◌++◌, map, length, take, Some, inl, inr, ◌⊎◌, ◌<◌, ◌≤◌, ◌^◌, refl, ap, sym, subst, ◌∙◌, arith, append_assoc}
+use Rattle.std.proofs.lemmas.List.{append-nil, length-append}
+use Rattle.std.proofs.Math.Seq.{take-append_seam}
+use Rattle.pure_text.specs.Lists.{Each}
+use Rattle.pure_text.proofs.ListLaws.{each_of, each_at, any_of, each-left}
+use Rattle.pure_definitions.specs.Types.Typ.{Typ, TFree, TVar, Con, Typs, typs_count}
+use Rattle.pure_definitions.specs.Types.Occurs.{OccursInTyp}
+use Rattle.pure_definitions.specs.Types.Order.{Algebra, IsClassBelow, itself, HasClassBelow, IsOfClass, IsOfSort}
+use Rattle.pure_definitions.specs.Terms.Subst.{TypBind, typ_instance, typs_instance, KeepsFixedTyps}
+use Rattle.pure_definitions.proofs.OrderLaws.{sort_below-itself}
+use Rattle.pure_term_laws.specs.LawsOccurs.{IsTypVariable}
+use Rattle.pure_term_laws.proofs.OccursLaws.{typ_instances-agree}
+use Rattle.pure_term_laws.proofs.SubstLaws.{typ_instance-identity}
+use Rattle.pure_term_laws.proofs.MapLaws.{typ_instance-again, typs_count-instance}
+use Rattle.pure_tunify.specs.declared.pair.TypPair.{TypPair}
+use Rattle.pure_tunify.specs.Unifiers.{IsSubstitution, Equates, IsUnifier, IsOld, IsOldPair, IsMostGeneral}
+use Rattle.pure_tunify.specs.Asks.{IsMeet}
+use Rattle.pure_tunify.specs.Steps.{pair, setting, instance_pair, Asks, narrow, eliminate, occurs, sort, sort_left, IsReduction}
+use Rattle.pure_tunify.specs.Settings.{composed, bind, AreWithinLimits}
+use Rattle.pure_tunify.specs.Procedure.{place_of, IsSchematic, Shows, left_side, right_side, IsNeededSort, Narrows, fits, replace, IsTreated, IsBlocked, rigid, occurring, sortless, Equalises, equal, treat, Blocks, blocked, later, Outcome, Unifies, over, no_typing, big, next}
+use Rattle.pure_tunify.specs.ProcedureLaws.{AreNamesUsed, IsReached, IsWithinBefore, IsMeant}
+use Rattle.pure_tunify.specs.Working.{HasImagesWithin}
+use Rattle.pure_tunify.proofs.ReductionLaws.{agree_unifier, reduction_along, stays, composed-append, equalised, blocks_unifiers}
+use Rattle.pure_tunify.proofs.NameLaws.{names_next, no_names}
+use Rattle.pure_tunify.proofs.MapLaws.{identity_is_substitution, after_is_substitution, setting-other, old-instance, together}
+use Rattle.pure_tunify.proofs.StepLaws.{nothing_set, step_is_reduction, failed_has_no_unifier}
+use Rattle.pure_tunify.proofs.PlaceLaws.{DifferAtRoot, IsPlaceOf, difference_is_place, no_difference}
+use Rattle.pure_tunify.proofs.SettingLaws.{instance-append, instance_pairs-append, instance_pairs-identity, as_variable, setting-new}
+use Rattle.pure_tunify.proofs.NarrowLaws.{first_occurs, is_fresh_of}
+use Rattle.pure_tunify.proofs.PursueLaws.{pairs_after}
+
+-- The settings so far, of the pairs in front, lead from the pairs to those that are left under them.
+abbrev Leads : (A : Algebra) (index from : ℕ) → (front : List TypPair) → List TypBind → (n : ℕ) → Type 0
+Leads A index from front sets n = (ext : List TypPair) → Each (IsOldPair index from) (front ++ ext) → IsReduction A index from (front ++ ext) (composed sets) n (map (instance_pair (composed sets)) ext)
+
+module _ (A : Algebra) (index from : ℕ) where
+  leads_start : Leads A index from [] [] from
+  leads_start ext old = subst (λ (qs : List TypPair). IsReduction A index from ext (λ v. v) from qs) (sym (instance_pairs-identity ext)) (stays A index from ext old)
+
+  behind_front : (front : List TypPair) (p : TypPair) (ext : List TypPair) → (front ++ p ∷ []) ++ ext ≡ front ++ p ∷ ext
+  behind_front front p ext = append_assoc front (p ∷ []) ext
+
+  leads_next : (front : List TypPair) (p : TypPair) (sets more : List TypBind) (n m : ℕ) → Leads A index from front sets n → Equalises A index n (instance_pair (composed sets) p) more m → Leads A index from (front ++ p ∷ []) (sets ++ more) m
+  leads_next front p sets more n m leads e ext old =
+      let one = leads (p ∷ ext) (subst (Each (IsOldPair index from)) (behind_front front p ext) old) in
+      let two = equalised A index e (map (instance_pair (composed sets)) ext) one.left_old in
+      let both = reduction_along A index from n m (front ++ p ∷ ext) (map (instance_pair (composed sets)) (p ∷ ext)) (map (instance_pair (composed more)) (map (instance_pair (composed sets)) ext)) (composed sets) (composed more) (composed (sets ++ more))
+      (composed-append sets more) one two in
+      subst (λ (ps : List TypPair). IsReduction A index from ps (composed (sets ++ more)) m (map (instance_pair (composed (sets ++ more))) ext)) (sym (behind_front front p ext))
+      (subst (λ (qs : List TypPair). IsReduction A index from (front ++ p ∷ ext) (composed (sets ++ more)) m qs) (instance_pairs-append sets more ext) both)
+
+  -- The settings so far are a most general unifier of the pairs in front.
+  leads_general : (front : List TypPair) (sets : List TypBind) (n : ℕ) → Leads A index from front sets n → Each (IsOldPair index from) front → IsMostGeneral A index from front (composed sets)
+  leads_general front sets n leads old =
+      let r = subst (λ (ps : List TypPair). IsReduction A index from ps (composed sets) n []) (append-nil front) (leads [] (subst (Each (IsOldPair index from)) (sym (append-nil front)) old)) in
+      record {
+        unifier = agree_unifier A (λ v. typ_instance (λ w. w) (composed sets v)) (composed sets) (λ v is. sym (typ_instance-identity (composed sets v))) front (r.back (λ w. w) (record { substitution = identity_is_substitution A; equates = tt }));
+        general = λ other u. (let w = r.forth other u in (w.0, w.1.substitution, w.2));
+      }
+
+  leads_refuse : (front : List TypPair) (p : TypPair) (sets : List TypBind) (n : ℕ) → Leads A index from front sets n → Each (IsOldPair index from) (front ++ p ∷ []) → Blocks A index n (instance_pair (composed sets) p) → (typs : Typ → Typ) → ¬ IsUnifier A (front ++ p ∷ []) typs
+  leads_refuse front p sets n leads old h typs u =
+      let r = leads (p ∷ []) old in
+      let next_unifier = r.forth typs u in
+      blocks_unifiers A index h r.left_old next_unifier.0 next_unifier.1
+
+  take_front : (front ps : List TypPair) → take (length front) (front ++ ps) ≡ front
+  take_front front ps = take-append_seam front ps
+
+  old_front : (front ps : List TypPair) → Each (IsOldPair index from) (front ++ ps) → Each (IsOldPair index from) front
+  old_front front ps old = each-left (IsOldPair index from) front ps old
+
+  longer : (front : List TypPair) (p : TypPair) (at : ℕ) → length front ≡ at → length (front ++ p ∷ []) ≡ at + 1
+  longer front p at long = omega (arith, length-append front (p ∷ []))
+
+  take_one_more : (front : List TypPair) (p : TypPair) (ps : List TypPair) (at : ℕ) → length front ≡ at → take (at + 1) (front ++ p ∷ ps) ≡ front ++ p ∷ []
+  take_one_more front p ps at long =
+      let count : length (front ++ p ∷ []) ≡ at + 1 = longer front p at long in
+      subst (λ (qs : List TypPair). take (at + 1) qs ≡ front ++ p ∷ []) (behind_front front p ps) (subst (λ (k : ℕ). take k ((front ++ p ∷ []) ++ ps) ≡ front ++ p ∷ []) count (take_front (front ++ p ∷ []) ps))
+
+  inside_all : (front : List TypPair) (p : TypPair) (ps : List TypPair) (at : ℕ) → length front ≡ at → at < length (front ++ p ∷ ps)
+  inside_all front p ps at long = omega (arith, length-append front (p ∷ ps))
+
+  -- What the pairs in front have come to.
+  within_before : (front : List TypPair) (p : TypPair) (ps : List TypPair) (sets : List TypBind) (at n : ℕ) → length front ≡ at → Leads A index from front sets n → AreNamesUsed index from n sets → (at ≡ 0) ⊎ AreWithinLimits sets n
+      → Each (IsOldPair index from) (front ++ p ∷ ps) → IsWithinBefore A index from (front ++ p ∷ ps) at
+  within_before front p ps sets at n long leads names within old = record {
+    sets = sets;
+    next = n;
+    reached = record {
+      general = subst (λ (qs : List TypPair). IsMostGeneral A index from qs (composed sets)) (sym (subst (λ (k : ℕ). take k (front ++ p ∷ ps) ≡ front) long (take_front front (p ∷ ps)))) (leads_general front sets n leads (old_front front (p ∷ ps) old));
+      names = names;
+    };
+    within = within;
+  }
+
+  -- The pair is old under the settings.
+  old_here : (front : List TypPair) (p : TypPair) (ps : List TypPair) (sets : List TypBind) (n : ℕ) → Leads A index from front sets n → Each (IsOldPair index from) (front ++ p ∷ ps) → IsOldPair index n (instance_pair (composed sets) p)
+  old_here front p ps sets n leads old = (leads (p ∷ ps) old).left_old.0
+
+  beyond_by : (sets : List TypBind) (m : ℕ) → ¬ AreWithinLimits sets m → (¬ HasImagesWithin sets) ⊎ (2 ^ 31 < m)
+  beyond_by sets m beyond = elim (at_most_or_above m (2 ^ 31)) [ inl few ↦ inl (λ images. beyond (record { images = images; names = few })) | inr many ↦ inr many ]
+    where
+      at_most_or_above : (a b : ℕ) → (a ≤ b) ⊎ (b < a)
+      at_most_or_above a b = grind arith
+
+  meant : {at n : ℕ} {sets : List TypBind} {ps : List TypPair} {outcome : Outcome} → Unifies A index at n sets ps outcome → (front : List TypPair) → length front ≡ at → Leads A index from front sets n → AreNamesUsed index from n sets
+      → (at ≡ 0) ⊎ AreWithinLimits sets n → Each (IsOldPair index from) (front ++ ps) → IsMeant A index from (front ++ ps) outcome
+  meant (over {n = n} {sets = sets}) front long leads names within old = record {
+    general = subst (λ (qs : List TypPair). IsMostGeneral A index from qs (composed sets)) (sym (append-nil front)) (leads_general front sets n leads (old_front front [] old));
+    names = names;
+  }
+  meant (no_typing {at = at} {n = n} {sets = sets} {p = p} {ps = ps} h) front long leads names within old = record {
+    inside = inside_all front p ps at long;
+    before = within_before front p ps sets at n long leads names within old;
+    none = subst (λ (qs : List TypPair). (typs : Typ → Typ) → ¬ IsUnifier A qs typs) (sym (take_one_more front p ps at long))
+        (leads_refuse front p sets n leads (old_front (front ++ p ∷ []) ps (subst (Each (IsOldPair index from)) (sym (behind_front front p ps)) old)) h);
+  }
+  meant (big {at = at} {n = n} {m = m} {sets = sets} {more = more} {p = p} {ps = ps} e beyond) front long leads names within old = record {
+    inside = inside_all front p ps at long;
+    before = within_before front p ps sets at n long leads names within old;
+    sets = sets ++ more;
+    next = m;
+    reached = record {
+      general = subst (λ (qs : List TypPair). IsMostGeneral A index from qs (composed (sets ++ more))) (sym (take_one_more front p ps at long))
+          (leads_general (front ++ p ∷ []) (sets ++ more) m (leads_next front p sets more n m leads e) (old_front (front ++ p ∷ []) ps (subst (Each (IsOldPair index from)) (sym (behind_front front p ps)) old)));
+      names = names_next A index from n m sets more (instance_pair (composed sets) p) e (old_here front p ps sets n leads old) names;
+    };
+    beyond = beyond_by (sets ++ more) m beyond;
+  }
+  meant (next {at = at} {n = n} {m = m} {sets = sets} {more = more} {p = p} {ps = ps} {outcome = outcome} e limits rest) front long leads names within old =
+      subst (λ (qs : List TypPair). IsMeant A index from qs outcome) (behind_front front p ps)
+      (meant rest (front ++ p ∷ []) (longer front p at long) (leads_next front p sets more n m leads e)
+      (names_next A index from n m sets more (instance_pair (composed sets) p) e (old_here front p ps sets n leads old) names) (inr limits) (subst (Each (IsOldPair index from)) (sym (behind_front front p ps)) old))
+
+  -- What the procedure comes to means what it says.
+  pub procedure_is_meant : (ps : List TypPair) (outcome : Outcome) → Each (IsOldPair index from) ps → Unifies A index 0 from [] ps outcome → IsMeant A index from ps outcome
+  procedure_is_meant ps outcome old h = meant h [] refl leads_start (no_names index from) (inl refl) old
