@@ -1,0 +1,2 @@
+//! What the search for a unifier answers: laws.
+#![tactic(auto)]
