@@ -5,10 +5,13 @@ use Rattle.pure_definitions.specs.Types.Typ.{Typ, TVar}
 use Rattle.pure_definitions.specs.Terms.Term.{Term, Var}
 use Rattle.pure_definitions.specs.Terms.Bounds.{Occurs}
 use Rattle.pure_term_laws.specs.LawsOccurs.{TypOccurs}
+use Rattle.pure_definitions.specs.Declarations.Decl.{algebra_of}
+use Rattle.pure_equated.specs.Equated.{IsPairEquated}
+use Rattle.pure_unify_definitions.specs.Node.{Node}
 use Rattle.pure_logic.specs.Content.{Content, IsContent, IsBelow}
 use Rattle.pure_logic.specs.PureContent.{pure_content}
 use Rattle.pure_logic.specs.Derivable.{Pair}
-use Rattle.pure_unify_laws.specs.Reached.{AreSidesCertified}
+use Rattle.pure_unify_laws.specs.Reached.{IsReached, IsRespecting, AreSidesCertified, pair_after}
 use Rattle.pure_unify_laws.specs.Closed.{AreClassesDeclared}
 
 -- The indexes of the schematic type variables and of the schematic variables in the term are at most this number.
@@ -30,3 +33,11 @@ pub record IsUnifyContent (Q : Content) : Type 0 where
 pub record AreUnifiable (Q : Content) (maxidx : ℕ) (ps : List Pair) : Type 0 where
   pub certified : Each (AreSidesCertified Q.declarations) ps
   pub indexes : Each (AreIndexesUpTo maxidx) ps
+
+-- Over such a content all settings on the path to a success respect the content; and after them the sides of each given pair are equated modulo the flex-flex pairs.
+abbrev pub AllSettingsRespect : Type 0
+AllSettingsRespect = (Q : Content) → IsUnifyContent Q → (maxidx : ℕ) (ps : List Pair) → Each (AreSidesCertified Q.declarations) ps → (m : Node) → IsReached (algebra_of Q.declarations) maxidx ps m → Each (IsRespecting Q) m.path.settings
+
+abbrev pub AllSettingsEquate : Type 0
+AllSettingsEquate = (Q : Content) → IsUnifyContent Q → (maxidx : ℕ) (ps : List Pair) → Each (AreSidesCertified Q.declarations) ps → (m : Node) → IsReached (algebra_of Q.declarations) maxidx ps m
+    → Each (λ p. IsPairEquated Q.declarations m.pairs (pair_after m.path.settings p)) ps
