@@ -237,7 +237,7 @@ module _ (Q : Content) (u : IsUnifyContent Q) (maxidx : ℕ) where
         by (on_right a b e g) = (subst (HasParts P V) (sym e) (head-parts P V c.pair.right own.1), subst (HasParts P V) (sym g) (head-parts P V c.pair.left own.0))
 
     children_old : (f h : Term) → HasParts P V f → HasParts P V h → (c : Node) → IsIn c (children maxidx m f h) → AreOldSides c.path.fresh c.pairs × (c.path.choices ≡ m.path.choices + 1)
-    children_old (Var x i T) h a b c i_n = child_old c x i T (images (maxidx + (m.path.choices + 1)) T h) (images-parts P V (old_of_parts (maxidx + 65) m.path.fresh) (λ v. tt) (maxidx + (m.path.choices + 1)) T h a.0 b) i_n
+    children_old (Var x i T) h a b c i_n = child_old c x i T (images (maxidx + (m.path.choices + 1)) T h) (images-parts P V (old_of_parts (maxidx + 65) m.path.fresh) (maxidx + (m.path.choices + 1)) (λ name U. tt) T h a.0 b) i_n
     children_old (Const d U) h a b c i_n = absurd i_n
     children_old (Free x U) h a b c i_n = absurd i_n
     children_old (Bound p) h a b c i_n = absurd i_n

@@ -170,7 +170,7 @@ weakened vs more h = record { left = h.left; few = at_most (length h.left) (leng
     at_most : (a b : ℕ) → a < b → a ≤ b
     at_most a b h = omega arith
 
-shown_inside : {d : TypPair} {x i : ℕ} {s : List ℕ} {t : Typ} (l r : Typ) → Shows d x i s t → IsPlaceOf l r d → (v : Typ) → OccursInTyp v t ⊎ (v ≡ TVar x i s) → OccursInTyp v l ⊎ OccursInTyp v r
+pub shown_inside : {d : TypPair} {x i : ℕ} {s : List ℕ} {t : Typ} (l r : Typ) → Shows d x i s t → IsPlaceOf l r d → (v : Typ) → OccursInTyp v t ⊎ (v ≡ TVar x i s) → OccursInTyp v l ⊎ OccursInTyp v r
 shown_inside l r (left_side x i s t) is v (inl a) = inr (is.right_inside v a)
 shown_inside l r (left_side x i s t) is v (inr e) = inl (is.left_inside v e)
 shown_inside l r (right_side x i s t other) is v (inl a) = inl (is.left_inside v a)

@@ -5,3 +5,7 @@ pub mod SpineLaws
 pub mod FitLaws
 pub mod ApplyLaws
 pub mod AnswerLaws
+pub mod OnceLaws
+pub mod PathLaws
+pub mod SolveLaws
+pub mod TidyLaws

@@ -143,8 +143,8 @@ module _ (P : Typ → Type 0) (V : Term → Type 0) where
       pairs-parts (abstractions l) (abstractions r) (arguments (term_body l)) (arguments (term_body r)) (abstractions-parts l h) (abstractions-parts r k)
       (arguments-parts (term_body l) (body-parts l h)) (arguments-parts (term_body r) (body-parts r k))
 
-  -- images, in which any variable may stand
-  module _ (parts : IsOfParts P) (any : (v : Term) → V v) where
+  -- images, in which new variables of an index stand
+  module _ (parts : IsOfParts P) (index : ℕ) (any : (name : ℕ) (U : Typ) → V (Var name index U)) where
     domains-parts : (T : Typ) → P T → Each P (domains T)
     domains-parts (Con zero (also A (also B none))) h = (parts.domain A B h, domains-parts B (parts.range A B h))
     domains-parts T h = tt
@@ -161,35 +161,35 @@ module _ (P : Typ → Type 0) (V : Term → Type 0) where
     bounds-parts zero = tt
     bounds-parts (suc n) = (tt, bounds-parts n)
 
-    new-parts : (index : ℕ) (Ts : List Typ) (name : ℕ) (Us : List Typ) → Each P Ts → Each P Us → Each (HasParts P V) (new_arguments index Ts name Us)
-    new-parts index Ts name [] c d = tt
-    new-parts index Ts name (U ∷ Us) c d = (
-      applied-parts (Var name index (function_typ Ts U)) (bounds (length Ts)) (function-parts Ts U c d.0, any (Var name index (function_typ Ts U))) (bounds-parts (length Ts)),
-      new-parts index Ts (name + 1) Us c d.1,
+    new-parts : (Ts : List Typ) (name : ℕ) (Us : List Typ) → Each P Ts → Each P Us → Each (HasParts P V) (new_arguments index Ts name Us)
+    new-parts Ts name [] c d = tt
+    new-parts Ts name (U ∷ Us) c d = (
+      applied-parts (Var name index (function_typ Ts U)) (bounds (length Ts)) (function-parts Ts U c d.0, any name (function_typ Ts U)) (bounds-parts (length Ts)),
+      new-parts Ts (name + 1) Us c d.1,
     )
 
-    image-parts : (index : ℕ) (Ts : List Typ) (h : Term) (Us : List Typ) → Each P Ts → Each P Us → HasParts P V h → HasParts P V (image_of index Ts h Us)
-    image-parts index Ts h Us c d k = below-parts Ts (applied h (new_arguments index Ts 0 Us)) c (applied-parts h (new_arguments index Ts 0 Us) k (new-parts index Ts 0 Us c d))
+    image-parts : (Ts : List Typ) (h : Term) (Us : List Typ) → Each P Ts → Each P Us → HasParts P V h → HasParts P V (image_of index Ts h Us)
+    image-parts Ts h Us c d k = below-parts Ts (applied h (new_arguments index Ts 0 Us)) c (applied-parts h (new_arguments index Ts 0 Us) k (new-parts Ts 0 Us c d))
 
-    imitation-parts : (index : ℕ) (Ts : List Typ) (h : Term) → Each P Ts → HasParts P V h → Each (HasParts P V) (imitations index Ts h)
-    imitation-parts index Ts (Const c U) d h = (image-parts index Ts (Const c U) (domains U) d (domains-parts U h) h, tt)
-    imitation-parts index Ts (Free x U) d h = (image-parts index Ts (Free x U) (domains U) d (domains-parts U h) h, tt)
-    imitation-parts index Ts (Var x i U) d h = tt
-    imitation-parts index Ts (Bound n) d h = tt
-    imitation-parts index Ts (Abs U b) d h = tt
-    imitation-parts index Ts (App f a) d h = tt
+    imitation-parts : (Ts : List Typ) (h : Term) → Each P Ts → HasParts P (λ v. Unit {0}) h → Each (HasParts P V) (imitations index Ts h)
+    imitation-parts Ts (Const c U) d h = (image-parts Ts (Const c U) (domains U) d (domains-parts U h) h, tt)
+    imitation-parts Ts (Free x U) d h = (image-parts Ts (Free x U) (domains U) d (domains-parts U h) h, tt)
+    imitation-parts Ts (Var x i U) d h = tt
+    imitation-parts Ts (Bound n) d h = tt
+    imitation-parts Ts (Abs U b) d h = tt
+    imitation-parts Ts (App f a) d h = tt
 
     chosen-parts : (b : Bool) (u : Term) (us : List Term) → HasParts P V u → Each (HasParts P V) us → Each (HasParts P V) (if b then (u ∷ us) else us)
     chosen-parts true u us h k = (h, k)
     chosen-parts false u us h k = k
 
-    projection-parts : (index : ℕ) (Ts : List Typ) (R : Typ) (from : ℕ) (Us : List Typ) → Each P Ts → Each P Us → Each (HasParts P V) (projections index Ts R from Us)
-    projection-parts index Ts R from [] c d = tt
-    projection-parts index Ts R from (U ∷ Us) c d =
+    projection-parts : (Ts : List Typ) (R : Typ) (from : ℕ) (Us : List Typ) → Each P Ts → Each P Us → Each (HasParts P V) (projections index Ts R from Us)
+    projection-parts Ts R from [] c d = tt
+    projection-parts Ts R from (U ∷ Us) c d =
         chosen-parts (typ_eq (range U) R) (image_of index Ts (Bound (length Ts - (from + 1))) (domains U)) (projections index Ts R (from + 1) Us)
-        (image-parts index Ts (Bound (length Ts - (from + 1))) (domains U) c (domains-parts U d.0) tt) (projection-parts index Ts R (from + 1) Us c d.1)
+        (image-parts Ts (Bound (length Ts - (from + 1))) (domains U) c (domains-parts U d.0) tt) (projection-parts Ts R (from + 1) Us c d.1)
 
-    pub images-parts : (index : ℕ) (T : Typ) (h : Term) → P T → HasParts P V h → Each (HasParts P V) (images index T h)
-    images-parts index T h c k =
+    pub images-parts : (T : Typ) (h : Term) → P T → HasParts P (λ v. Unit {0}) h → Each (HasParts P V) (images index T h)
+    images-parts T h c k =
         each-append (HasParts P V) (imitations index (domains T) h) (projections index (domains T) (range T) 0 (domains T))
-        (imitation-parts index (domains T) h (domains-parts T c) k) (projection-parts index (domains T) (range T) 0 (domains T) (domains-parts T c) (domains-parts T c))
+        (imitation-parts (domains T) h (domains-parts T c) k) (projection-parts (domains T) (range T) 0 (domains T) (domains-parts T c) (domains-parts T c))
