@@ -9,3 +9,4 @@ pub mod OnceLaws
 pub mod PathLaws
 pub mod SolveLaws
 pub mod TidyLaws
+pub mod PureLaws

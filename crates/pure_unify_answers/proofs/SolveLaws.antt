@@ -1,6 +1,6 @@
 -- A unifier solves the given pairs: each setting on its path is absorbed by it.
 use Rattle.std.proofs.Common.{◌≡◌, ◌⊎◌, ℕ, ◌+◌, ◌≤◌, List, [], ◌∷◌, ◌++◌, map, Bool, true, false, cond, inl, inr, ⊎_elim, refl, ap, sym, subst, ◌∙◌, arith}
-use Rattle.pure_text.specs.Lists.{IsIn, Each}
+use Rattle.pure_text.specs.Lists.{IsIn, Each, AreDistinct}
 use Rattle.pure_text.proofs.ListLaws.{each-left, each-right, each_of, each_at}
 use Rattle.pure_definitions.specs.Types.Typ.{Typ, TFree, TVar, Con, typ_eq}
 use Rattle.pure_definitions.specs.Types.Order.{Algebra, IsOfSort}
@@ -9,7 +9,7 @@ use Rattle.pure_definitions.specs.Terms.Term.{Term, Const, Free, Var, Bound, Abs
 use Rattle.pure_definitions.specs.Terms.Bounds.{Occurs}
 use Rattle.pure_definitions.specs.Terms.Conditions.{IsVariable}
 use Rattle.pure_definitions.specs.Terms.Typing.{HasType}
-use Rattle.pure_definitions.specs.Terms.Subst.{TypBind, TermBind, typ_variable, term_variable, typ_image, term_image, typ_instance, retyped_variable, term_instance, IsSortRespecting}
+use Rattle.pure_definitions.specs.Terms.Subst.{TypBind, TermBind, typ_variable, term_variable, typ_image, term_image, typ_instance, retyped_variable, term_instance, IsSortRespecting, IsTypMap}
 use Rattle.pure_definitions.specs.Reduction.Eta.{EtaReduces, IsLongForm}
 use Rattle.pure_definitions.specs.Declarations.Decl.{algebra_of, IsDeclaredClass}
 use Rattle.pure_definitions.specs.Declarations.Certified.{IsCertifiedTyp, HasCertifiedParts}
@@ -19,7 +19,7 @@ use Rattle.pure_definitions.proofs.InstanceLemmas.{term_image-fixed}
 use Rattle.pure_term_laws.specs.LawsOccurs.{IsTypVariable, TypOccurs}
 use Rattle.pure_term_laws.proofs.MapLaws.{instance-instance}
 use Rattle.pure_term_laws.proofs.OccursLaws.{typ_instances-agree, agreeing_instance}
-use Rattle.pure_term_laws.proofs.SubstLaws.{typ_instance-identity, entries-respect_types}
+use Rattle.pure_term_laws.proofs.SubstLaws.{typ_instance-identity, entries-respect_types, entries-respect_sorts_exactly}
 use Rattle.pure_term_laws.proofs.TypingLaws.{typed-once}
 use Rattle.pure_logic.specs.Content.{Content, IsCertifiedOf}
 use Rattle.pure_logic.specs.Concludes.{AreRespecting}
@@ -50,12 +50,12 @@ use Rattle.pure_unify_laws.proofs.SplitLaws.{IsLongIn, AreSidesLong}
 use Rattle.pure_unify_laws.proofs.SolvedLaws.{visit-solves}
 use Rattle.pure_unify_laws.proofs.ReachedLaws.{unifier_is_reached}
 use Rattle.pure_unify_laws.proofs.RespectLaws.{closed, leads-kept, all_settings_equate}
-use Rattle.pure_unify_answers.specs.Maps.{unifier_typs, unifier_terms, IsLeftPair, Solves}
-use Rattle.pure_unify_answers.specs.Laws.{UnifierSolves}
+use Rattle.pure_unify_answers.specs.Maps.{unifier_typs, unifier_terms, IsLeftPair, Solves, IsFiniteUnifier}
+use Rattle.pure_unify_answers.specs.Laws.{UnifierSolves, UnifierIsFinite}
 use Rattle.pure_unify_answers.proofs.PartLaws.{HasParts}
 use Rattle.pure_unify_answers.proofs.SpineLaws.{HavePartsIn}
 use Rattle.pure_unify_answers.proofs.TreatmentLaws.{terms_same_or_not}
-use Rattle.pure_unify_answers.proofs.OnceLaws.{AreSetOnce, free_stays, absorbed}
+use Rattle.pure_unify_answers.proofs.OnceLaws.{IsAbsent, AreSetOnce, free_stays, absorbed}
 use Rattle.pure_unify_answers.proofs.PathLaws.{keys}
 use Rattle.pure_unify_answers.proofs.TidyLaws.{IsPlain, IsUnset, IsTidyEntry, IsTidy, IsTidyNode, leads-tidy}
 
@@ -67,6 +67,23 @@ written_is (b ∷ bs) v is = by (typ_eq (typ_variable b) v) (written_is bs v is)
     by : (c : Bool) → typ_image (written_typs bs) v ≡ composed bs v → cond c (typ_instance (composed bs) b.image) (typ_image (written_typs bs) v) ≡ typ_instance (composed bs) (cond c b.image v)
     by true rest = refl
     by false rest = rest ∙ sym (as_variable (composed bs) v is)
+
+-- No type variable is set twice.
+written_keys : (sets : List TypBind) → map typ_variable (written_typs sets) ≡ map typ_variable sets
+written_keys [] = refl
+written_keys (b ∷ bs) = ap (λ vs. typ_variable b ∷ vs) (written_keys bs)
+
+not_later : (w : Typ) (sets : List TypBind) → IsAbsent w sets → ¬ IsIn w (map typ_variable sets)
+not_later w [] h m = m
+not_later w (b ∷ bs) h (inl e) = h.0.0 e
+not_later w (b ∷ bs) h (inr m) = not_later w bs h.1 m
+
+once_distinct : (sets : List TypBind) → AreSetOnce sets → AreDistinct (map typ_variable sets)
+once_distinct [] h = tt
+once_distinct (b ∷ bs) h = (not_later (typ_variable b) bs h.1, once_distinct bs h.2)
+
+written_once : (sets : List TypBind) → AreSetOnce sets → IsTypMap (written_typs sets)
+written_once sets h = subst (λ (vs : List Typ). AreDistinct vs) (sym (written_keys sets)) (once_distinct sets h)
 
 -- Maps that are equal at variables respect the content alike.
 same_respecting : (Q : Content) (typs others : Typ → Typ) (terms more : Term → Term) → ((v : Typ) → IsTypVariable v → others v ≡ typs v) → ((v : Term) → IsVariable v → more v ≡ terms v) → AreRespecting Q typs terms → AreRespecting Q others more
@@ -354,7 +371,53 @@ module _ (Q : Content) (u : IsUnifyContent Q) (maxidx : ℕ) where
       equated = all_solved ps (all_settings_equate Q u maxidx ps h.certified m reached);
     }
 
+    -- Applied again the maps change nothing.
+    all_again : (t : Term) → all (all t) ≡ all t
+    all_again t =
+        instance-instance (composed S) (composed S) on_term on_term t
+        ∙ agreeing_instance (λ v. typ_instance (composed S) (composed S v)) (composed S) (λ v. all (on_term v)) on_term t (record { on_typs = λ v is o. at_typ v is; on_terms = λ v is o. at_term v is })
+      where
+        in_own : Each (λ b. IsIn b S) S
+        in_own = in_itself S S (λ b i. i)
+
+        at_typ : (v : Typ) → IsTypVariable v → typ_instance (composed S) (composed S v) ≡ composed S v
+        at_typ v is = ap (typ_instance (composed S)) (sym (as_variable (composed S) v is)) ∙ (absorbed S tidy.once S in_own v ∙ as_variable (composed S) v is)
+
+        -- what an entry gives is plain, and else the variable stays
+        given : (w : Term) → all w ≡ term_image E w → (es : List TermBind) → Each (IsTidyEntry Q u maxidx S m.path.fresh (keys E) (maxidx + m.path.choices)) es → term_image es w ≡ term_image E w → all (term_image es w) ≡ term_image es w
+        given w stays [] k same = stays ∙ sym same
+        given w stays (e ∷ es) k same = by (term_eq (term_variable e) w) (given w stays es k.1) same
+          where
+            by : (b : Bool) → (term_image es w ≡ term_image E w → all (term_image es w) ≡ term_image es w) → cond b e.image (term_image es w) ≡ term_image E w → all (cond b e.image (term_image es w)) ≡ cond b e.image (term_image es w)
+            by true rest same = plain_stays e.image k.0.image
+            by false rest same = rest same
+
+        at_term : (v : Term) → IsVariable v → all (on_term v) ≡ on_term v
+        at_term (Free x T) is = given (Free x (typ_instance (composed S) T)) (ap (λ X. term_image E (Free x X)) (absorbed S tidy.once S in_own T)) E tidy.entries refl
+        at_term (Var x i T) is = given (Var x i (typ_instance (composed S) T)) (ap (λ X. term_image E (Var x i X)) (absorbed S tidy.once S in_own T)) E tidy.entries refl
+        at_term (Const c T) is = absurd is
+        at_term (Bound n) is = absurd is
+        at_term (Abs T b) is = absurd is
+        at_term (App f a) is = absurd is
+
+    success_is_finite : IsFiniteUnifier Q (unifier_of m)
+    success_is_finite = record {
+      typs = once;
+      terms = tidy.distinct;
+      sorts = (entries-respect_sorts_exactly A (written_typs S) once).1 (success_solves.respecting.sorts);
+      types = entries_typed E tidy.entries;
+      again = λ t. unifier_instance (term_instance (unifier_typs (unifier_of m)) (unifier_terms (unifier_of m)) t) ∙ (ap (term_instance (composed S) on_term) (unifier_instance t) ∙ (all_again t ∙ sym (unifier_instance t)));
+    }
+      where
+        once : IsTypMap (written_typs (typ_settings m.path.settings))
+        once = written_once (typ_settings m.path.settings) tidy.once
+
 pub unifier_solves : UnifierSolves
 unifier_solves Q u maxidx ps h v answer =
     let found = unifier_is_reached (algebra_of Q.declarations) maxidx ps v answer in
     subst (Solves Q ps) (sym found.2) (success_solves Q u maxidx ps h found.0 found.1)
+
+pub unifier_is_finite : UnifierIsFinite
+unifier_is_finite Q u maxidx ps h v answer =
+    let found = unifier_is_reached (algebra_of Q.declarations) maxidx ps v answer in
+    subst (IsFiniteUnifier Q) (sym found.2) (success_is_finite Q u maxidx ps h found.0 found.1)

@@ -3,8 +3,9 @@ use Rattle.std.specs.Prelude.{◌≡◌, ℕ, List, map}
 use Rattle.pure_text.specs.Lists.{Each}
 use Rattle.pure_definitions.specs.Types.Typ.{Typ}
 use Rattle.pure_definitions.specs.Terms.Term.{Term}
-use Rattle.pure_definitions.specs.Terms.Subst.{typ_image, term_image, retyped_variable}
+use Rattle.pure_definitions.specs.Terms.Subst.{typ_image, term_image, retyped_variable, term_instance, IsTypMap, IsTermMap, AreSortRespecting, AreTypeRespecting}
 use Rattle.pure_definitions.specs.Reduction.Eta.{IsLongForm}
+use Rattle.pure_definitions.specs.Declarations.Decl.{algebra_of}
 use Rattle.pure_logic.specs.Content.{Content, IsCertifiedOf}
 use Rattle.pure_logic.specs.Concludes.{AreRespecting}
 use Rattle.pure_logic.specs.Derivable.{Pair}
@@ -33,3 +34,11 @@ pub record Solves (Q : Content) (ps : List Pair) (u : Unifier) : Type 0 where
   pub respecting : AreRespecting Q (unifier_typs u) (unifier_terms u)
   pub flexflex : Each (IsLeftPair Q) u.flexflex
   pub equated : Each (IsPairEquated Q.declarations u.flexflex) (map (pair_instance (unifier_typs u) (unifier_terms u)) ps)
+
+-- The unifier is two finite maps: no variable has two entries, each image of a type variable is of its sort, each image of a variable has its type, and the maps applied again change nothing.
+pub record IsFiniteUnifier (Q : Content) (u : Unifier) : Type 0 where
+  pub typs : IsTypMap u.typs
+  pub terms : IsTermMap u.terms
+  pub sorts : AreSortRespecting (algebra_of Q.declarations) u.typs
+  pub types : AreTypeRespecting u.terms
+  pub again : (t : Term) → term_instance (unifier_typs u) (unifier_terms u) (term_instance (unifier_typs u) (unifier_terms u) t) ≡ term_instance (unifier_typs u) (unifier_terms u) t

@@ -1,5 +1,5 @@
 //! Laws of the answers of the search for a unifier: each is the contract of a function that does nothing.
-ghost use Rattle.pure_unify_answers.specs.Laws.{SearchHasAnAnswer, UnifierSolves};
+ghost use Rattle.pure_unify_answers.specs.Laws.{SearchHasAnAnswer, UnifierSolves, UnifierIsFinite, PureIsUnifyContent};
 
 /// The search has an answer for all pairs within its condition.
 pub fn search_has_an_answer()
@@ -10,4 +10,14 @@ pub fn search_has_an_answer()
 /// modulo the flex-flex pairs, which are certified, of one type, in long form and flexible.
 pub fn unifier_solves()
     ensures { UnifierSolves }
+{}
+
+/// It is two finite maps, which respect sorts and types and change nothing when they are applied again.
+pub fn unifier_is_finite()
+    ensures { UnifierIsFinite }
+{}
+
+/// Pure's own content is one over which terms are unified.
+pub fn pure_is_unify_content()
+    ensures { PureIsUnifyContent }
 {}

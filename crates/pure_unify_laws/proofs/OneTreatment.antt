@@ -1,6 +1,6 @@
 -- A pair has one treatment at most.
-use Rattle.std.proofs.Common.{◌≡◌, ◌≢◌, ◌⊎◌, ℕ, ◌+◌, [], Bool, true, false, ◌&&◌, ◌||◌, inl, inr, refl, ap, sym, subst, ◌∙◌}
-use Rattle.std.specs.Cmp.{first_so, second_so}
+use Rattle.std.proofs.Common.{◌≡◌, ◌≢◌, ◌⊎◌, ℕ, ◌+◌, [], Bool, true, false, ◌&&◌, ◌||◌, inl, inr, refl, sym, subst, ◌∙◌}
+use Rattle.std.specs.Cmp.{second_so}
 use Rattle.pure_definitions.specs.Types.Typ.{Typ}
 use Rattle.pure_definitions.specs.Terms.Term.{Term, Const, Free, Var, Bound, Abs, App, term_eq}
 use Rattle.pure_definitions.specs.Terms.Bounds.{Occurs}
@@ -12,7 +12,7 @@ use Rattle.pure_term_laws.proofs.EtaNormalLaws.{one_eta_normal_form}
 use Rattle.pure_unify_definitions.specs.Fronts.{front, head, is_flexible}
 use Rattle.pure_unify_definitions.specs.Firm.{is_firm_head, stands_in, stands_in_arguments, occurs_firmly}
 use Rattle.pure_unify_definitions.specs.Node.{bind}
-use Rattle.pure_unify_definitions.specs.Treatment.{Treatment, Drop, Differ, Fail, Put, Split, Unify, Leave, IsBare, IsBareSide, left_bare, right_bare, AreOfOneTyp, ArePastVariables, AreRigid, AreApart, IsTreatment, equal, differ, firm, absent, same_heads, constants, clash, left}
+use Rattle.pure_unify_definitions.specs.Treatment.{Treatment, Drop, Differ, Fail, Put, Split, Unify, Leave, IsBareSide, left_bare, right_bare, AreOfOneTyp, AreApart, IsTreatment, equal, differ, firm, absent, same_heads, constants, clash, left}
 
 pub either : (a b : Bool) → (a || b) ≡ true → (a ≡ true) ⊎ (b ≡ true)
 either true b e = inl refl

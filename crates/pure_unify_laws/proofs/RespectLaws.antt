@@ -1,30 +1,26 @@
 -- Over a content of declared classes alone, all settings on a path respect the content: those of type variables too.
-use Rattle.std.proofs.Common.{◌≡◌, ◌⊎◌, ℕ, ◌+◌, Bool, true, false, List, [], ◌∷◌, ◌++◌, nat_eq, inl, inr, ⊎_elim, refl, ap, sym, subst, ◌∙◌, eqb-true, eq-eqb}
+use Rattle.std.proofs.Common.{◌≡◌, ◌⊎◌, ℕ, ◌+◌, Bool, true, false, List, [], ◌∷◌, ◌++◌, nat_eq, inl, inr, ⊎_elim, refl, sym, subst, eqb-true, eq-eqb}
 use Rattle.pure_text.specs.Lists.{IsIn, Each}
 use Rattle.pure_text.proofs.ListLaws.{each-append, each-right, each_imply, each_at}
-use Rattle.pure_definitions.specs.Types.Typ.{Typ, TFree, TVar, Con}
+use Rattle.pure_definitions.specs.Types.Typ.{Typ}
 use Rattle.pure_definitions.specs.Types.Order.{Class, Algebra}
-use Rattle.pure_definitions.specs.Terms.Term.{Term, Const, Free, Var, Bound, Abs, App}
-use Rattle.pure_definitions.specs.Terms.Typing.{HasType}
-use Rattle.pure_definitions.specs.Terms.Subst.{TypBind, TermBind, typ_instance, retyped_variable}
+use Rattle.pure_definitions.specs.Terms.Term.{Term, Const}
+use Rattle.pure_definitions.specs.Terms.Subst.{TypBind}
 use Rattle.pure_definitions.specs.Declarations.Decl.{Decl, ClassDecl, ConDecl, ArityDecl, ConstDecl, AxiomDecl, PromiseDecl, algebra_of, IsDeclaredClass}
 use Rattle.pure_definitions.specs.Declarations.Certified.{IsCertifiedTyp, HasCertifiedParts}
 use Rattle.pure_term_laws.proofs.DeclLaws.{declared_classes, declared_arities}
-use Rattle.pure_logic.specs.Content.{Content, IsContent, IsBelow}
+use Rattle.pure_logic.specs.Content.{Content, IsBelow}
 use Rattle.pure_logic.specs.PureContent.{pure_content}
-use Rattle.pure_logic.specs.Concludes.{AreRespecting}
 use Rattle.pure_logic.specs.Derivable.{Pair}
 use Rattle.pure_logic.proofs.PartsLaws.{typ-certified}
 use Rattle.pure_equated.specs.Equated.{IsTypedUnder, IsPairEquated}
-use Rattle.pure_tunify.specs.Steps as typs
-use Rattle.pure_tunify.specs.Unifiers.{IsSubstitution}
 use Rattle.pure_tunify.specs.Settings.{composed}
 use Rattle.pure_tunify.specs.Procedure.{Unified}
 use Rattle.pure_unify_definitions.specs.Fronts.{head}
-use Rattle.pure_unify_definitions.specs.Node.{Setting, Typs, Single, Node, root}
-use Rattle.pure_unify_definitions.specs.Treatment.{Treatment, Differ, Put, Unify, IsTreatment, differ, constants}
-use Rattle.pure_unify_definitions.specs.Retyping.{Next, Goes, Unifying, IsRetyped, all_long}
-use Rattle.pure_unify_definitions.specs.Simplification.{IsLeft, IsFirst, with_pairs, Applies, drops, retypes, puts, splits, unifies, Visit, Simple, Simplifies, simple, step, Visits, visited}
+use Rattle.pure_unify_definitions.specs.Node.{Setting, Typs, Single, Node}
+use Rattle.pure_unify_definitions.specs.Treatment.{Differ, Unify, IsTreatment, differ, constants}
+use Rattle.pure_unify_definitions.specs.Retyping.{Goes, Unifying, IsRetyped, all_long}
+use Rattle.pure_unify_definitions.specs.Simplification.{IsLeft, Applies, drops, retypes, puts, splits, unifies, Simple, Simplifies, simple, step, Visits, visited}
 use Rattle.pure_unify_definitions.specs.Children.{IsChoice, children}
 use Rattle.pure_unify_laws.specs.Reached.{IsRespecting, IsTypRespecting, AreSidesCertified, pair_after, Leads, at_once, by_child, IsReached}
 use Rattle.pure_unify_laws.specs.Closed.{AreClosed, AreClassesDeclared}
@@ -33,8 +29,8 @@ use Rattle.pure_unify_laws.proofs.CertifiedLaws.{IsCertifiedBind, HasCertifiedIm
 use Rattle.pure_unify_laws.proofs.SortLaws.{unified_substitution}
 use Rattle.pure_unify_laws.proofs.SettingLaws.{settings-typed}
 use Rattle.pure_unify_laws.proofs.ImageLaws.{single-respects, head-typed}
-use Rattle.pure_unify_laws.proofs.SplitLaws.{IsLongIn, AreSidesLong}
-use Rattle.pure_unify_laws.proofs.SolvedLaws.{LeadsOn, IsChildOf, step-solves, at-pair, at-typ, put-typed, sides-are-long, long-typed, child-is, visit-solves, settings_equate}
+use Rattle.pure_unify_laws.proofs.SplitLaws.{AreSidesLong}
+use Rattle.pure_unify_laws.proofs.SolvedLaws.{LeadsOn, IsChildOf, step-solves, at-pair, put-typed, sides-are-long, long-typed, child-is, visit-solves, settings_equate}
 
 later_class : (d : Decl) (ds : List Decl) (c : ℕ) → IsDeclaredClass ds c → IsDeclaredClass (d ∷ ds) c
 later_class d ds c h = (h.0, inr h.1, h.2)

@@ -1,5 +1,5 @@
 -- After the settings on the path to a success the sides of the given pairs are equated modulo its pairs.
-use Rattle.std.proofs.Common.{◌≡◌, ◌⊎◌, ℕ, ◌+◌, List, [], ◌∷◌, ◌++◌, map, length, inl, inr, refl, ap, sym, subst, ◌∙◌, append_assoc, arith}
+use Rattle.std.proofs.Common.{◌≡◌, ℕ, ◌+◌, List, [], ◌∷◌, ◌++◌, map, length, inl, inr, refl, ap, sym, subst, ◌∙◌, append_assoc, arith}
 use Rattle.std.proofs.lemmas.List.{append-nil}
 use Rattle.pure_text.specs.Lists.{IsIn, Each}
 use Rattle.pure_text.proofs.ListLaws.{each-append, each-left, each-right, each_of, each_at}
@@ -7,13 +7,12 @@ use Rattle.pure_definitions.specs.Types.Typ.{Typ}
 use Rattle.pure_definitions.specs.Types.Order.{Algebra}
 use Rattle.pure_definitions.specs.Terms.Term.{Term, Const, Free, Var, Bound, Abs, App}
 use Rattle.pure_definitions.specs.Terms.Bounds.{Occurs}
-use Rattle.pure_definitions.specs.Terms.Conditions.{IsVariable}
 use Rattle.pure_definitions.specs.Terms.Typing.{HasType}
-use Rattle.pure_definitions.specs.Terms.Subst.{TypBind, TermBind, term_variable, term_image, typ_instance, term_instance, inst_term}
+use Rattle.pure_definitions.specs.Terms.Subst.{TypBind, TermBind, term_image, typ_instance}
 use Rattle.pure_definitions.specs.Reduction.Eta.{IsEtaNormalForm}
 use Rattle.pure_definitions.specs.Models.Equality.{term_eq-itself}
 use Rattle.pure_definitions.proofs.BindLemmas.{term_eq-other}
-use Rattle.pure_definitions.specs.Declarations.Decl.{Decl, algebra_of}
+use Rattle.pure_definitions.specs.Declarations.Decl.{algebra_of}
 use Rattle.pure_term_laws.proofs.TypingLaws.{typed-once}
 use Rattle.pure_term_laws.proofs.SubstLaws.{inst_term-alone, term_instance-identity}
 use Rattle.pure_term_laws.proofs.OccursLaws.{agreeing_instance}
@@ -27,13 +26,13 @@ use Rattle.pure_tunify.specs.Settings.{composed}
 use Rattle.pure_equated.proofs.ReductionLaws.{eta_normal_form_is_equated}
 use Rattle.pure_unify_definitions.specs.Fronts.{head, range, pair, argument_pairs}
 use Rattle.pure_unify_definitions.specs.Node.{Setting, Typs, Single, Node, root, bind, with_setting, with_setting_put, term_after}
-use Rattle.pure_unify_definitions.specs.LongSides.{Long, ComesTo, is_long, Sides, AllLong, AreLong, no_more, both_long}
-use Rattle.pure_unify_definitions.specs.Treatment.{Drop, Differ, Put, Split, Unify, Leave, IsBare, IsBareSide, left_bare, right_bare, AreOfOneTyp, IsTreatment, equal, absent, same_heads, constants, left}
-use Rattle.pure_unify_definitions.specs.Retyping.{Next, Goes, IsRetyped, all_long}
-use Rattle.pure_unify_definitions.specs.Simplification.{IsLeft, IsFirst, with_pairs, with_bind, IsSplitAt, Applies, drops, retypes, puts, splits, unifies, Visit, Simple, Simplifies, simple, step, Visits, visited}
+use Rattle.pure_unify_definitions.specs.LongSides.{Long, ComesTo, is_long, AllLong, AreLong, no_more, both_long}
+use Rattle.pure_unify_definitions.specs.Treatment.{Drop, Put, Split, Unify, IsBareSide, left_bare, right_bare, IsTreatment, equal, absent, same_heads, constants, left}
+use Rattle.pure_unify_definitions.specs.Retyping.{Goes, IsRetyped, all_long}
+use Rattle.pure_unify_definitions.specs.Simplification.{IsLeft, IsFirst, with_pairs, with_bind, IsSplitAt, Applies, drops, retypes, puts, splits, unifies, Simple, Simplifies, simple, step, Visits, visited}
 use Rattle.pure_unify_definitions.specs.Children.{HasFlexible, on_left, on_right, IsChoice, children, child, images}
 use Rattle.pure_unify_laws.specs.Reached.{setting_typs, setting_terms, IsRespecting, IsTypRespecting, AreSidesCertified, pair_after, Leads, at_once, by_child, IsReached}
-use Rattle.pure_unify_laws.proofs.SettingLaws.{setting-instance, after-more, pairs-more, join, turned, modulo, after-equated, after-reduced, setting-typed, settings-typed, comes-equated}
+use Rattle.pure_unify_laws.proofs.SettingLaws.{after-more, join, turned, after-equated, after-reduced, settings-typed, comes-equated}
 use Rattle.pure_unify_laws.proofs.HeadLaws.{head-long, unified-equal}
 use Rattle.pure_unify_laws.proofs.ImageLaws.{single-respects, head-typed, images-typed}
 use Rattle.pure_unify_laws.proofs.SplitLaws.{IsLongIn, AreSidesLong, long-is, argument_pairs-long, split-equated}
