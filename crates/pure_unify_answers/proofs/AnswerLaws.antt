@@ -1,8 +1,8 @@
 -- Simplification ends, each node is visited, and so the search has an answer.
-use Rattle.std.proofs.Common.{◌≡◌, ◌⊎◌, ℕ, zero, suc, ◌+◌, ◌<◌, ◌≤◌, List, [], ◌∷◌, ◌++◌, map, length, Bool, true, false, ◌||◌, inl, inr, ⊎_elim, refl, ap, sym, subst, ◌∙◌, arith}
+use Rattle.std.proofs.Common.{◌≡◌, ◌⊎◌, ℕ, zero, suc, ◌+◌, ◌<◌, ◌≤◌, List, [], ◌∷◌, ◌++◌, map, length, Bool, true, false, ◌||◌, inl, inr, refl, ap, sym, subst, ◌∙◌, arith}
 use Rattle.std.proofs.lemmas.Bool.{cases_lt}
 use Rattle.pure_text.specs.Lists.{IsIn, Each}
-use Rattle.pure_text.proofs.ListLaws.{each-append, each-right, each_of, each_at, each_decided}
+use Rattle.pure_text.proofs.ListLaws.{each-append, each-right, each_of, each_decided}
 use Rattle.pure_definitions.specs.Types.Typ.{Typ, TFree, TVar, Con, typ_size, typ_depth}
 use Rattle.pure_definitions.specs.Types.Occurs.{OccursInTyp}
 use Rattle.pure_definitions.specs.Types.Order.{Algebra}
@@ -15,10 +15,10 @@ use Rattle.pure_logic.specs.Content.{Content}
 use Rattle.pure_logic.specs.Derivable.{Pair}
 use Rattle.pure_tunify.specs.Unifiers.{IsFresh, IsOld}
 use Rattle.pure_unify_definitions.specs.Fronts.{head, is_flexible, pair_variables}
-use Rattle.pure_unify_definitions.specs.Node.{Setting, Single, Node, root, bind, with_setting_put}
+use Rattle.pure_unify_definitions.specs.Node.{Single, Node, root, bind}
 use Rattle.pure_unify_definitions.specs.LongSides.{Stop, Big, Sides, AllLong, Stopped, AreLong}
-use Rattle.pure_unify_definitions.specs.Treatment.{Leave, IsTreatment, left}
-use Rattle.pure_unify_definitions.specs.Simplification.{IsLeft, with_pairs, Visit, Simple, Failed, Halted, Simplifies, simple, step, failed, halted, Visits, visited, visit_stops}
+use Rattle.pure_unify_definitions.specs.Treatment.{left}
+use Rattle.pure_unify_definitions.specs.Simplification.{IsLeft, with_pairs, Simple, Failed, Halted, Simplifies, simple, step, failed, halted, Visits, visited, visit_stops}
 use Rattle.pure_unify_definitions.specs.Children.{IsFlexFlex, HasFlexible, on_left, on_right, IsChoice, images, child, children}
 use Rattle.pure_unify_definitions.specs.Search.{max_choices, max_nodes, Unifier, unifier_of, AreImagesWithin, Answer, Unified, NoUnifier, SearchBound, Stopped as AnswerStopped, Searches, over, over_cut, bound, node_fails, node_stops, success, too_large, node_is_cut, inner, IsUnifyAnswer}
 use Rattle.pure_unify_laws.specs.Reached.{IsRespecting, AreSidesCertified}

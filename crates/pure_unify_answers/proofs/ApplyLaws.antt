@@ -1,11 +1,11 @@
 -- To each node with long sides a step applies, or no rule does; and each step leaves fewer type variables, fewer variables or fewer leaves.
-use Rattle.std.proofs.Common.{◌≡◌, ◌≢◌, ◌⊎◌, ℕ, suc, ◌+◌, ◌<◌, ◌≤◌, List, [], ◌∷◌, ◌++◌, map, length, inl, inr, ⊎_elim, refl, ap, sym, subst, ◌∙◌, arith}
+use Rattle.std.proofs.Common.{◌≡◌, ◌≢◌, ◌⊎◌, ℕ, suc, ◌+◌, ◌<◌, ◌≤◌, List, [], ◌∷◌, ◌++◌, length, inl, inr, refl, ap, sym, subst, ◌∙◌, arith}
 use Rattle.std.proofs.lemmas.List.{length-append}
 use Rattle.pure_text.specs.Lists.{IsIn, Each, AnyOf}
-use Rattle.pure_text.proofs.ListLaws.{each-append, each-left, each-right, each_of, each_at, any_decided, any_some, any_of, moved}
+use Rattle.pure_text.proofs.ListLaws.{each-append, each-left, each-right, any_decided, any_some, any_of, moved}
 use Rattle.pure_definitions.specs.Types.Typ.{Typ}
 use Rattle.pure_definitions.specs.Types.Order.{Algebra}
-use Rattle.pure_definitions.specs.Terms.Term.{Term, Const, Var}
+use Rattle.pure_definitions.specs.Terms.Term.{Term, Var}
 use Rattle.pure_definitions.specs.Terms.Bounds.{Occurs}
 use Rattle.pure_definitions.specs.Terms.Subst.{TypBind, TermBind, typ_instance, retyped_variable}
 use Rattle.pure_definitions.specs.Reduction.Eta.{IsEtaNormalForm}
@@ -14,18 +14,17 @@ use Rattle.pure_definitions.specs.Declarations.Certified.{IsCertifiedTyp}
 use Rattle.pure_term_laws.proofs.SubstLaws.{typ_instance-identity}
 use Rattle.pure_logic.specs.Content.{Content}
 use Rattle.pure_logic.specs.Derivable.{Pair}
-use Rattle.pure_tunify.specs.declared.pair.TypPair.{TypPair}
-use Rattle.pure_tunify.specs.Unifiers.{IsOld, IsOldPair}
+use Rattle.pure_tunify.specs.Unifiers.{IsOld}
 use Rattle.pure_tunify.specs.Steps as typs
 use Rattle.pure_tunify.specs.Settings.{composed}
 use Rattle.pure_tunify.specs.Procedure.{Outcome, Unified, NotTyped, TooBig}
 use Rattle.pure_tunify.proofs.OutcomeLaws.{unifies_some}
-use Rattle.pure_unify_definitions.specs.Fronts.{head, pair, argument_pairs, pair_variables}
-use Rattle.pure_unify_definitions.specs.Node.{Setting, Typs, Single, Node, bind, with_setting, with_setting_put, node_variables}
-use Rattle.pure_unify_definitions.specs.LongSides.{Stop, Big, Long, ComesTo, Sides, AllLong, Stopped, AreLong, no_more, both_long}
+use Rattle.pure_unify_definitions.specs.Fronts.{pair, argument_pairs, pair_variables}
+use Rattle.pure_unify_definitions.specs.Node.{Setting, Typs, Single, Node, bind, with_setting_put, node_variables}
+use Rattle.pure_unify_definitions.specs.LongSides.{Stop, Big, Sides, AllLong, Stopped, AreLong, both_long}
 use Rattle.pure_unify_definitions.specs.Treatment.{Treatment, Drop, Differ, Fail, Put, Split, Unify, Leave, IsBareSide, left_bare, right_bare, IsTreatment, differ, absent, constants}
-use Rattle.pure_unify_definitions.specs.Retyping.{Next, Goes, Fails, Stops, Unifying, MakesTwoSame, retyped, IsRetyped, no_typing, beyond, two_same, side_stops, all_long}
-use Rattle.pure_unify_definitions.specs.Simplification.{IsLeft, IsFirst, with_pairs, with_bind, IsSplitAt, Applies, drops, retypes, fails, puts, put_stops, splits, unifies, unify_fails, unify_stops}
+use Rattle.pure_unify_definitions.specs.Retyping.{Goes, Fails, Stops, Unifying, MakesTwoSame, retyped, IsRetyped, no_typing, beyond, two_same, side_stops, all_long}
+use Rattle.pure_unify_definitions.specs.Simplification.{IsLeft, IsFirst, with_pairs, with_bind, Applies, drops, retypes, fails, puts, put_stops, splits, unifies, unify_fails, unify_stops}
 use Rattle.pure_unify_laws.specs.Reached.{IsRespecting, AreSidesCertified}
 use Rattle.pure_unify_laws.specs.Condition.{IsUnifyContent}
 use Rattle.pure_unify_laws.proofs.ImageLaws.{single-respects}
@@ -35,9 +34,9 @@ use Rattle.pure_unify_laws.proofs.SolvedLaws.{at-pair, put-typed, long-typed}
 use Rattle.pure_unify_laws.proofs.RespectLaws.{typs-respect, differing, of_constants, step-kept}
 use Rattle.pure_unify_answers.proofs.PartLaws.{IsOfParts, HasParts, eta-parts, typ-part}
 use Rattle.pure_unify_answers.proofs.TreatmentLaws.{terms_same_or_not, some_treatment, some_sides}
-use Rattle.pure_unify_answers.proofs.FewerLaws.{IsAmong, IsFewer, unified-fewer, unified-old, IsOldAmong, among_of_parts}
+use Rattle.pure_unify_answers.proofs.FewerLaws.{IsFewer, unified-fewer, unified-old, IsOldAmong, among_of_parts}
 use Rattle.pure_unify_answers.proofs.SpineLaws.{pair_leaves, fewer-dropped, fewer-split, HavePartsIn, head-parts, split-parts}
-use Rattle.pure_unify_answers.proofs.FitLaws.{sides-parts, put-each, retyped-parts, set-parts, image-parts, variables-collected, implied-pairs}
+use Rattle.pure_unify_answers.proofs.FitLaws.{sides-parts, put-each, retyped-parts, set-parts, image-parts, variables-collected}
 
 -- Whether a type map makes two variables the same can be decided.
 abbrev IsSecond : (typs : Typ → Typ) → Term → Term → Type 0

@@ -1,21 +1,21 @@
 -- A unification of two different types leaves fewer type variables, in all types.
-use Rattle.std.proofs.Common.{◌≡◌, ℕ, ◌+◌, ◌<◌, ◌≤◌, List, [], ◌∷◌, ◌++◌, map, length, suc, zero, Option, Some, None, inl, inr, ◌⊎◌, refl, ap, sym, subst, ◌∙◌, arith}
+use Rattle.std.proofs.Common.{◌≡◌, ℕ, ◌+◌, ◌<◌, ◌≤◌, List, [], ◌∷◌, ◌++◌, map, length, inl, inr, ◌⊎◌, refl, ap, sym, subst, ◌∙◌, arith}
 use Rattle.std.proofs.lemmas.List.{length-append, length-map}
-use Rattle.pure_text.specs.Lists.{IsIn, Each}
+use Rattle.pure_text.specs.Lists.{IsIn}
 use Rattle.pure_text.proofs.ListLaws.{in-map, in-append_left, in-append_right, moved}
 use Rattle.pure_definitions.specs.Types.Typ.{Typ, TFree, TVar, Con, Typs, none, also, arrow}
 use Rattle.pure_definitions.specs.Types.Occurs.{OccursInTyp, OccursInTyps}
 use Rattle.pure_definitions.specs.Types.Order.{Algebra}
-use Rattle.pure_definitions.specs.Terms.Subst.{TypBind, typ_variable, typ_instance}
+use Rattle.pure_definitions.specs.Terms.Subst.{TypBind, typ_instance}
 use Rattle.pure_term_laws.specs.LawsOccurs.{IsTypVariable}
 use Rattle.pure_term_laws.proofs.OccursLaws.{typ_variable_of_typ_instance}
 use Rattle.pure_term_laws.proofs.SubstLaws.{typ_instance-identity}
 use Rattle.pure_tunify.specs.declared.pair.TypPair.{TypPair}
 use Rattle.pure_tunify.specs.Unifiers.{IsFresh, IsOld, IsOldPair}
-use Rattle.pure_tunify.specs.Steps.{pair, setting, instance_pair}
+use Rattle.pure_tunify.specs.Steps.{pair, setting}
 use Rattle.pure_tunify.specs.Occurrences.{schematics, schematics_of}
 use Rattle.pure_tunify.specs.Settings.{composed, bind}
-use Rattle.pure_tunify.specs.Procedure.{place_of, IsSchematic, Shows, left_side, right_side, Narrows, fits, replace, IsTreated, Equalises, equal, treat, Outcome, Unified, Unifies, over, next}
+use Rattle.pure_tunify.specs.Procedure.{IsSchematic, Shows, left_side, right_side, Narrows, fits, replace, IsTreated, Equalises, equal, treat, Unified, Unifies, over, next}
 use Rattle.pure_tunify.proofs.MapLaws.{setting-itself, setting-other, setting-cases, old-instance}
 use Rattle.pure_tunify.proofs.PlaceLaws.{IsPlaceOf, difference_is_place, no_difference}
 use Rattle.pure_tunify.proofs.SettingLaws.{instance-append, composed-fixed, setting-new}

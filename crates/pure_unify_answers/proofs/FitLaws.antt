@@ -1,5 +1,5 @@
 -- What settings and long forms make of the types and variables in sides, and in which lists they stand.
-use Rattle.std.proofs.Common.{◌≡◌, ◌⊎◌, ℕ, ◌+◌, List, [], ◌∷◌, ◌++◌, Bool, true, false, inl, inr, ⊎_elim, refl, ap, sym, subst, ◌∙◌}
+use Rattle.std.proofs.Common.{◌≡◌, ℕ, List, [], ◌∷◌, ◌++◌, Bool, true, false, inl, inr, refl, sym, subst, ◌∙◌}
 use Rattle.std.specs.Prelude.{if◌then◌else◌}
 use Rattle.pure_text.specs.Lists.{IsIn, Each}
 use Rattle.pure_text.proofs.ListLaws.{in-append_left, in-append_right}
@@ -16,7 +16,6 @@ use Rattle.pure_tunify.specs.Settings.{composed}
 use Rattle.pure_unify_definitions.specs.Fronts.{variables, pair_variables}
 use Rattle.pure_unify_definitions.specs.Node.{Setting, Typs, Single, bind, with_setting, with_setting_put}
 use Rattle.pure_unify_definitions.specs.LongSides.{Long, ComesTo, is_long, AllLong, AreLong, no_more, both_long}
-use Rattle.pure_unify_laws.proofs.OneTreatment.{occurs-itself}
 use Rattle.pure_unify_answers.proofs.PartLaws.{IsOfParts, HasParts, normal-parts, eta-parts, long-parts, replaced-parts, implied-parts}
 use Rattle.pure_unify_answers.proofs.FewerLaws.{IsAmong, IsOldAmong, occurs_schematics}
 use Rattle.pure_unify_answers.proofs.SpineLaws.{HavePartsIn}

@@ -1,5 +1,5 @@
 -- A unification of types sets each variable once: it doesn't stand in its own image, nor in later entries; and what is set is no fresh variable.
-use Rattle.std.proofs.Common.{◌≡◌, ℕ, ◌+◌, ◌<◌, ◌≤◌, List, [], ◌∷◌, ◌++◌, map, inl, inr, ◌⊎◌, refl, ap, sym, subst, ◌∙◌, arith}
+use Rattle.std.proofs.Common.{◌≡◌, ℕ, ◌+◌, ◌≤◌, List, [], ◌∷◌, ◌++◌, inl, inr, ◌⊎◌, refl, ap, sym, subst, ◌∙◌, arith}
 use Rattle.pure_text.specs.Lists.{IsIn, Each}
 use Rattle.pure_text.proofs.ListLaws.{each-append, each_of, each_at, each_imply}
 use Rattle.pure_definitions.specs.Types.Typ.{Typ, TFree, TVar, Con}
@@ -12,9 +12,9 @@ use Rattle.pure_term_laws.proofs.OccursLaws.{typ_instances-agree}
 use Rattle.pure_term_laws.proofs.SubstLaws.{typ_instance-identity}
 use Rattle.pure_tunify.specs.declared.pair.TypPair.{TypPair}
 use Rattle.pure_tunify.specs.Unifiers.{IsFresh, IsOld, IsOldPair}
-use Rattle.pure_tunify.specs.Steps.{pair, setting, instance_pair}
+use Rattle.pure_tunify.specs.Steps.{pair, setting}
 use Rattle.pure_tunify.specs.Settings.{composed, bind, AreTriangular}
-use Rattle.pure_tunify.specs.Procedure.{place_of, Narrows, fits, replace, IsTreated, Equalises, equal, treat, Unified, Unifies, over, next}
+use Rattle.pure_tunify.specs.Procedure.{Narrows, fits, replace, IsTreated, Equalises, equal, treat, Unified, Unifies, over, next}
 use Rattle.pure_tunify.proofs.MapLaws.{setting-cases, fresh-later, variable_is_old, old-instance}
 use Rattle.pure_tunify.proofs.PlaceLaws.{IsPlaceOf, difference_is_place}
 use Rattle.pure_tunify.proofs.SettingLaws.{instance-untouched, instance-new, instance-free, setting-new, setting-away}

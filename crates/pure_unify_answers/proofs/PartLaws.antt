@@ -1,5 +1,5 @@
 -- What holds of each type in a term and of each of its schematic variables is kept by reduction, by long forms and by maps.
-use Rattle.std.proofs.Common.{◌≡◌, ◌⊎◌, ℕ, zero, suc, ◌+◌, List, [], ◌∷◌, ◌++◌, Bool, true, false, inl, inr, ⊎_elim, refl, sym, subst}
+use Rattle.std.proofs.Common.{◌≡◌, ℕ, zero, suc, ◌+◌, List, [], ◌∷◌, Bool, true, false, ⊎_elim, sym, subst}
 use Rattle.std.specs.Prelude.{◌-◌, nat_eq, nat_lt, if◌then◌else◌, Option, Some, None, slice_get}
 use Rattle.pure_text.specs.Lists.{Each}
 use Rattle.pure_definitions.specs.Types.Typ.{Typ, Con, none, also, arrow}
@@ -9,7 +9,6 @@ use Rattle.pure_definitions.specs.Terms.Typing.{HasType}
 use Rattle.pure_definitions.specs.Terms.Subst.{replacement}
 use Rattle.pure_definitions.specs.Reduction.Beta.{beta_step, IsBetaSequence, IsBetaAnswer, NormalForm}
 use Rattle.pure_definitions.specs.Reduction.Eta.{EtaStep, EtaReduces, IsLongForm}
-use Rattle.pure_definitions.proofs.LiftLaws.{lift_term-bound}
 use Rattle.pure_term_laws.proofs.BetaLaws.{app_step-some, map-some}
 use Rattle.pure_term_laws.proofs.EtaLaws.{one_long_form}
 use Rattle.pure_eta.specs.LongTerm.{range_typ, front_typ, expanded, expanded_at, long_term}

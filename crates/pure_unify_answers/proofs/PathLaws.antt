@@ -1,13 +1,13 @@
 -- What one setting more makes of the substitution of a path.
-use Rattle.std.proofs.Common.{◌≡◌, ℕ, ◌+◌, List, [], ◌∷◌, ◌++◌, map, refl, ap, sym, subst, ◌∙◌, append_assoc}
+use Rattle.std.proofs.Common.{◌≡◌, List, [], ◌∷◌, ◌++◌, map, refl, ap, sym, ◌∙◌, append_assoc}
 use Rattle.std.proofs.lemmas.List.{append-nil}
 use Rattle.pure_definitions.specs.Types.Typ.{Typ}
 use Rattle.pure_definitions.specs.Terms.Term.{Term}
-use Rattle.pure_definitions.specs.Terms.Subst.{TypBind, TermBind, term_variable, typ_instance, retyped_variable}
+use Rattle.pure_definitions.specs.Terms.Subst.{TypBind, TermBind, term_variable, typ_instance}
 use Rattle.pure_term_laws.proofs.SubstLaws.{typ_instance-identity}
 use Rattle.pure_tunify.specs.Settings.{composed}
 use Rattle.pure_tunify.proofs.SettingLaws.{instance-append}
-use Rattle.pure_unify_definitions.specs.Node.{Setting, Typs, Single, bind, with_setting, typ_settings, typ_after, term_after, resolved}
+use Rattle.pure_unify_definitions.specs.Node.{Setting, Typs, Single, bind, with_setting, typ_settings, typ_after, resolved}
 use Rattle.pure_unify_laws.proofs.SettingLaws.{after-more}
 
 -- an entry with a setting put in

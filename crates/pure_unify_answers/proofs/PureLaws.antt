@@ -1,9 +1,9 @@
 -- Pure's own content is one over which terms are unified: it declares no class and no arity.
-use Rattle.std.proofs.Common.{◌≡◌, inl, inr}
+use Rattle.std.proofs.Common.{inl, inr}
 use Rattle.pure_text.specs.Lists.{IsIn}
 use Rattle.pure_definitions.specs.Types.Order.{Class, Arity}
-use Rattle.pure_definitions.specs.Declarations.Decl.{Decl, ClassDecl, ArityDecl}
-use Rattle.pure_logic.specs.PureContent.{pure_declarations, pure_content}
+use Rattle.pure_definitions.specs.Declarations.Decl.{ClassDecl, ArityDecl}
+use Rattle.pure_logic.specs.PureContent.{pure_declarations}
 use Rattle.pure_logic.proofs.ContentLaws.{pure_is_content}
 use Rattle.pure_logic.proofs.ConnectiveLaws.{pure-below_itself}
 use Rattle.pure_unify_answers.specs.Laws.{PureIsUnifyContent}

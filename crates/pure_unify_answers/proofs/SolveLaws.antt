@@ -1,5 +1,5 @@
 -- A unifier solves the given pairs: each setting on its path is absorbed by it.
-use Rattle.std.proofs.Common.{◌≡◌, ◌⊎◌, ℕ, ◌+◌, ◌≤◌, List, [], ◌∷◌, ◌++◌, map, Bool, true, false, cond, inl, inr, ⊎_elim, refl, ap, sym, subst, ◌∙◌, arith}
+use Rattle.std.proofs.Common.{◌≡◌, ℕ, ◌+◌, ◌≤◌, List, [], ◌∷◌, ◌++◌, map, Bool, true, false, cond, inl, inr, refl, ap, sym, subst, ◌∙◌, arith}
 use Rattle.pure_text.specs.Lists.{IsIn, Each, AreDistinct}
 use Rattle.pure_text.proofs.ListLaws.{each-left, each-right, each_of, each_at}
 use Rattle.pure_definitions.specs.Types.Typ.{Typ, TFree, TVar, Con, typ_eq}
@@ -9,7 +9,7 @@ use Rattle.pure_definitions.specs.Terms.Term.{Term, Const, Free, Var, Bound, Abs
 use Rattle.pure_definitions.specs.Terms.Bounds.{Occurs}
 use Rattle.pure_definitions.specs.Terms.Conditions.{IsVariable}
 use Rattle.pure_definitions.specs.Terms.Typing.{HasType}
-use Rattle.pure_definitions.specs.Terms.Subst.{TypBind, TermBind, typ_variable, term_variable, typ_image, term_image, typ_instance, retyped_variable, term_instance, IsSortRespecting, IsTypMap}
+use Rattle.pure_definitions.specs.Terms.Subst.{TypBind, TermBind, typ_variable, term_variable, typ_image, term_image, typ_instance, retyped_variable, term_instance, IsTypMap}
 use Rattle.pure_definitions.specs.Reduction.Eta.{EtaReduces, IsLongForm}
 use Rattle.pure_definitions.specs.Declarations.Decl.{algebra_of, IsDeclaredClass}
 use Rattle.pure_definitions.specs.Declarations.Certified.{IsCertifiedTyp, HasCertifiedParts}
@@ -20,28 +20,25 @@ use Rattle.pure_term_laws.specs.LawsOccurs.{IsTypVariable, TypOccurs}
 use Rattle.pure_term_laws.proofs.MapLaws.{instance-instance}
 use Rattle.pure_term_laws.proofs.OccursLaws.{typ_instances-agree, agreeing_instance}
 use Rattle.pure_term_laws.proofs.SubstLaws.{typ_instance-identity, entries-respect_types, entries-respect_sorts_exactly}
-use Rattle.pure_term_laws.proofs.TypingLaws.{typed-once}
-use Rattle.pure_logic.specs.Content.{Content, IsCertifiedOf}
+use Rattle.pure_logic.specs.Content.{Content}
 use Rattle.pure_logic.specs.Concludes.{AreRespecting}
 use Rattle.pure_logic.specs.Derivable.{Pair}
 use Rattle.pure_logic.specs.Laws.Substitution.{pair_instance}
 use Rattle.pure_logic.proofs.ConnectiveLaws.{certified_of}
-use Rattle.pure_equated.specs.Equated.{IsTypedUnder, AreEquated, IsPairEquated}
-use Rattle.pure_equated.specs.Laws.Proved.{IsCertifiedPair}
+use Rattle.pure_equated.specs.Equated.{AreEquated, IsPairEquated}
 use Rattle.pure_equated.proofs.KeptLaws.{equated_of_instance}
-use Rattle.pure_tunify.specs.Unifiers.{IsOld, IsFresh, IsSubstitution}
+use Rattle.pure_tunify.specs.Unifiers.{IsFresh, IsSubstitution}
 use Rattle.pure_tunify.specs.Settings.{composed}
 use Rattle.pure_tunify.proofs.MapLaws.{identity_is_substitution, after_is_substitution}
 use Rattle.pure_tunify.proofs.ReductionLaws.{composed-append}
 use Rattle.pure_tunify.proofs.SettingLaws.{composed-fixed, as_variable}
-use Rattle.pure_tunify.proofs.DecidedLaws.{same_or_not}
 use Rattle.pure_unify_definitions.specs.Fronts.{pair}
-use Rattle.pure_unify_definitions.specs.Node.{Setting, Typs, Single, Node, root, bind, with_setting, typ_settings, typ_after, term_after, written_typs, resolved}
+use Rattle.pure_unify_definitions.specs.Node.{Setting, Typs, Single, Node, bind, with_setting, typ_settings, typ_after, term_after, written_typs, resolved}
 use Rattle.pure_unify_definitions.specs.Treatment.{left}
 use Rattle.pure_unify_definitions.specs.Simplification.{IsLeft}
 use Rattle.pure_unify_definitions.specs.Children.{IsFlexFlex}
-use Rattle.pure_unify_definitions.specs.Search.{Unifier, unifier_of, Unified, IsUnifyAnswer}
-use Rattle.pure_unify_laws.specs.Reached.{IsRespecting, AreSidesCertified, pair_after, Leads, at_once, by_child, IsReached}
+use Rattle.pure_unify_definitions.specs.Search.{unifier_of}
+use Rattle.pure_unify_laws.specs.Reached.{IsRespecting, pair_after, Leads, at_once, by_child, IsReached}
 use Rattle.pure_unify_laws.specs.Closed.{AreClosed}
 use Rattle.pure_unify_laws.specs.Condition.{HasIndexesUpTo, AreIndexesUpTo, IsUnifyContent, AreUnifiable}
 use Rattle.pure_unify_laws.proofs.CertifiedLaws.{HasCertifiedImages, instance_certified}
@@ -57,7 +54,7 @@ use Rattle.pure_unify_answers.proofs.SpineLaws.{HavePartsIn}
 use Rattle.pure_unify_answers.proofs.TreatmentLaws.{terms_same_or_not}
 use Rattle.pure_unify_answers.proofs.OnceLaws.{IsAbsent, AreSetOnce, free_stays, absorbed}
 use Rattle.pure_unify_answers.proofs.PathLaws.{keys}
-use Rattle.pure_unify_answers.proofs.TidyLaws.{IsPlain, IsUnset, IsTidyEntry, IsTidy, IsTidyNode, leads-tidy}
+use Rattle.pure_unify_answers.proofs.TidyLaws.{IsPlain, IsUnset, IsTidyEntry, IsTidyNode, leads-tidy}
 
 -- The written type map is the settings, one after the other, at each variable.
 written_is : (sets : List TypBind) (v : Typ) → IsTypVariable v → typ_image (written_typs sets) v ≡ composed sets v
@@ -355,9 +352,9 @@ module _ (Q : Content) (u : IsUnifyContent Q) (maxidx : ℕ) where
         let moved = equated_of_instance Q u.content (composed S) on_term maps_respect m.pairs [] T (term_after m.path.settings p.left) (term_after m.path.settings p.right) e in
         let X = typ_instance (composed S) T in
         let here : AreEquated Q.declarations m.pairs [] X (all (term_after m.path.settings p.left)) (all (term_after m.path.settings p.right)) =
-            subst (λ (qs : List Pair). AreEquated Q.declarations qs [] X (all (term_after m.path.settings p.left)) (all (term_after m.path.settings p.right))) (pairs_stay m.pairs tidy.pairs) moved in
+        subst (λ (qs : List Pair). AreEquated Q.declarations qs [] X (all (term_after m.path.settings p.left)) (all (term_after m.path.settings p.right))) (pairs_stay m.pairs tidy.pairs) moved in
         let lefts : AreEquated Q.declarations m.pairs [] X (term_instance (unifier_typs (unifier_of m)) (unifier_terms (unifier_of m)) p.left) (all (term_after m.path.settings p.right)) =
-            subst (λ (t : Term). AreEquated Q.declarations m.pairs [] X t (all (term_after m.path.settings p.right))) (path_absorbed p.left ∙ sym (unifier_instance p.left)) here in
+        subst (λ (t : Term). AreEquated Q.declarations m.pairs [] X t (all (term_after m.path.settings p.right))) (path_absorbed p.left ∙ sym (unifier_instance p.left)) here in
         (X, subst (λ (t : Term). AreEquated Q.declarations m.pairs [] X (term_instance (unifier_typs (unifier_of m)) (unifier_terms (unifier_of m)) p.left) t) (path_absorbed p.right ∙ sym (unifier_instance p.right)) lefts)
 
     all_solved : (qs : List Pair) → Each (λ p. IsPairEquated Q.declarations m.pairs (pair_after m.path.settings p)) qs → Each (IsPairEquated Q.declarations m.pairs) (map (pair_instance (unifier_typs (unifier_of m)) (unifier_terms (unifier_of m))) qs)

@@ -1,12 +1,12 @@
 -- What holds of the types and variables in sides holds of those in the pairs of their arguments and in the images of children; and how many leaves there are.
-use Rattle.std.proofs.Common.{◌≡◌, ◌⊎◌, ℕ, zero, suc, ◌+◌, ◌<◌, ◌≤◌, List, [], ◌∷◌, ◌++◌, length, Bool, true, false, inl, inr, ⊎_elim, refl, ap, sym, subst, ◌∙◌, arith}
+use Rattle.std.proofs.Common.{◌≡◌, ℕ, zero, suc, ◌+◌, ◌<◌, ◌≤◌, List, [], ◌∷◌, ◌++◌, length, Bool, true, false, refl, ap, ◌∙◌, arith}
 use Rattle.std.specs.Prelude.{if◌then◌else◌, ◌-◌}
-use Rattle.pure_text.specs.Lists.{IsIn, Each}
-use Rattle.pure_text.proofs.ListLaws.{each-append, in-append_left, in-append_right}
-use Rattle.pure_definitions.specs.Types.Typ.{Typ, Con, none, also, arrow, typ_eq}
+use Rattle.pure_text.specs.Lists.{Each}
+use Rattle.pure_text.proofs.ListLaws.{each-append}
+use Rattle.pure_definitions.specs.Types.Typ.{Typ, Con, none, also, typ_eq}
 use Rattle.pure_definitions.specs.Terms.Term.{Term, Const, Free, Var, Bound, Abs, App}
 use Rattle.pure_logic.specs.Derivable.{Pair}
-use Rattle.pure_unify_definitions.specs.Fronts.{abstractions, term_body, front, arguments, head, below, domains, range, function_typ, applied, bounds, pair, pairs_below, argument_pairs}
+use Rattle.pure_unify_definitions.specs.Fronts.{abstractions, term_body, front, arguments, head, below, domains, range, function_typ, applied, bounds, pairs_below, argument_pairs}
 use Rattle.pure_unify_definitions.specs.Children.{new_arguments, image_of, imitations, projections, images}
 use Rattle.pure_unify_answers.proofs.PartLaws.{IsOfParts, HasParts}
 
@@ -85,7 +85,7 @@ pub fewer-split : (ps front : List Pair) (p : Pair) (rest : List Pair) → ps �
 fewer-split ps front p rest e =
     let whole : pair_leaves ps ≡ pair_leaves front + pair_leaves (p ∷ rest) = ap pair_leaves e ∙ pair_leaves-append front (p ∷ rest) in
     let less : pair_leaves (front ++ (argument_pairs p.left p.right ++ rest)) ≡ pair_leaves front + (pair_leaves (argument_pairs p.left p.right) + pair_leaves rest) =
-        pair_leaves-append front (argument_pairs p.left p.right ++ rest) ∙ ap (λ n. pair_leaves front + n) (pair_leaves-append (argument_pairs p.left p.right) rest) in
+    pair_leaves-append front (argument_pairs p.left p.right ++ rest) ∙ ap (λ n. pair_leaves front + n) (pair_leaves-append (argument_pairs p.left p.right) rest) in
     let own = leaves-split p.left p.right in
     omega arith
 

@@ -1,8 +1,8 @@
 -- Along a path each type variable and each variable is set once: what is set stands in no later pair, and in no image of the substitution.
-use Rattle.std.proofs.Common.{◌≡◌, ◌≢◌, ◌⊎◌, ℕ, ◌+◌, ◌<◌, ◌≤◌, List, [], ◌∷◌, ◌++◌, map, inl, inr, ⊎_elim, refl, ap, sym, subst, ◌∙◌, arith}
+use Rattle.std.proofs.Common.{◌≡◌, ℕ, ◌+◌, ◌≤◌, List, [], ◌∷◌, ◌++◌, map, inl, inr, refl, sym, subst, arith}
 use Rattle.pure_text.specs.Lists.{IsIn, Each, AreDistinct}
 use Rattle.pure_text.proofs.ListLaws.{each-append, each-left, each-right, each_of, each_at, each_imply, in_split, in-append_left, in-append_right, distinct-snoc}
-use Rattle.pure_definitions.specs.Types.Typ.{Typ, TVar, arrow}
+use Rattle.pure_definitions.specs.Types.Typ.{Typ, arrow}
 use Rattle.pure_definitions.specs.Types.Occurs.{OccursInTyp}
 use Rattle.pure_definitions.specs.Types.Order.{Algebra}
 use Rattle.pure_definitions.specs.Terms.Term.{Term, Const, Free, Var, Bound, Abs, App}
@@ -20,15 +20,15 @@ use Rattle.pure_tunify.specs.Settings.{composed}
 use Rattle.pure_tunify.specs.Procedure.{Unified}
 use Rattle.pure_tunify.proofs.MapLaws.{fresh-later}
 use Rattle.pure_tunify.proofs.SettingLaws.{instance-free, instance-new}
-use Rattle.pure_unify_definitions.specs.Fronts.{head, variables, pair_variables, argument_pairs}
-use Rattle.pure_unify_definitions.specs.Node.{Setting, Typs, Single, Node, root, bind, with_setting, with_setting_put, typ_settings, resolved, entry_variables, node_variables}
+use Rattle.pure_unify_definitions.specs.Fronts.{variables, pair_variables, argument_pairs}
+use Rattle.pure_unify_definitions.specs.Node.{Setting, Typs, Single, Node, bind, with_setting, with_setting_put, typ_settings, resolved, entry_variables, node_variables}
 use Rattle.pure_unify_definitions.specs.LongSides.{AllLong, AreLong}
-use Rattle.pure_unify_definitions.specs.Treatment.{Drop, Differ, Put, Split, Unify, IsBareSide, left_bare, right_bare, IsTreatment, differ, absent, constants}
-use Rattle.pure_unify_definitions.specs.Retyping.{Next, Goes, Unifying, MakesTwoSame, retyped, IsRetyped, all_long}
-use Rattle.pure_unify_definitions.specs.Simplification.{IsLeft, IsFirst, with_pairs, with_bind, IsSplitAt, Applies, drops, retypes, puts, splits, unifies, Visit, Simple, Simplifies, simple, step, Visits, visited}
+use Rattle.pure_unify_definitions.specs.Treatment.{Differ, Put, Unify, IsBareSide, left_bare, right_bare, IsTreatment, differ, absent, constants}
+use Rattle.pure_unify_definitions.specs.Retyping.{Goes, Unifying, MakesTwoSame, retyped, IsRetyped, all_long}
+use Rattle.pure_unify_definitions.specs.Simplification.{IsLeft, with_pairs, with_bind, IsSplitAt, Applies, drops, retypes, puts, splits, unifies, Simple, Simplifies, simple, step, Visits, visited}
 use Rattle.pure_unify_definitions.specs.Children.{HasFlexible, on_left, on_right, IsChoice, images, child, children}
 use Rattle.pure_unify_laws.specs.Reached.{setting_typs, setting_terms, IsRespecting, AreSidesCertified, Leads, at_once, by_child}
-use Rattle.pure_unify_laws.specs.Condition.{AreIndexesUpTo, IsUnifyContent}
+use Rattle.pure_unify_laws.specs.Condition.{IsUnifyContent}
 use Rattle.pure_unify_laws.proofs.ImageLaws.{single-respects}
 use Rattle.pure_unify_laws.proofs.SettingLaws.{setting-instance}
 use Rattle.pure_unify_laws.proofs.SplitLaws.{AreSidesLong}
@@ -37,7 +37,7 @@ use Rattle.pure_unify_laws.proofs.RespectLaws.{typs-respect, differing, of_const
 use Rattle.pure_unify_answers.proofs.PartLaws.{IsOfParts, HasParts, eta-parts, typ-part, replaced-parts, implied-parts}
 use Rattle.pure_unify_answers.proofs.FewerLaws.{old_of_parts, unified-old}
 use Rattle.pure_unify_answers.proofs.SpineLaws.{HavePartsIn, head-parts, split-parts, images-parts}
-use Rattle.pure_unify_answers.proofs.FitLaws.{sides-parts, put-each, set-parts, image-parts, implied-pairs}
+use Rattle.pure_unify_answers.proofs.FitLaws.{sides-parts, put-each, set-parts, image-parts}
 use Rattle.pure_unify_answers.proofs.OnceLaws.{IsAbsent, AreSetOnce, AreKnown, IsFree, images_free, triangular, set_once-append, IsOnce, unified-once, unified-avoids}
 use Rattle.pure_unify_answers.proofs.PathLaws.{pushed, typ_settings-typs, typ_settings-single, resolved-typs, resolved-single, keys, keys-single}
 
@@ -394,10 +394,13 @@ module _ (Q : Content) (u : IsUnifyContent Q) (maxidx : ℕ) where
     key_below (e ∷ es) bound each w (inr m) = key_below es bound each.1 w m
 
     new_variable : (x i : ℕ) (T : Typ) → i ≤ maxidx + k.path.choices → (name : ℕ) (U : Typ) → WK x i T (Var name (maxidx + (k.path.choices + 1)) U)
-    new_variable x i T low name U = ((λ m. elim (in_split (Var name (maxidx + (k.path.choices + 1)) U) (keys (resolved k.path.settings)) (Var x i T ∷ []) m) [
-      | inl a ↦ above maxidx k.path.choices (key_below (resolved k.path.settings) 0 h.entries (Var name (maxidx + (k.path.choices + 1)) U) a)
-      | inr b ↦ elim b [ inl e ↦ above maxidx k.path.choices (subst (λ (v : Term). index_of v ≤ maxidx + k.path.choices) (sym e) low) | inr none ↦ none ]
-    ]), itself (maxidx + (k.path.choices + 1)))
+    new_variable x i T low name U = (
+      (λ m. elim (in_split (Var name (maxidx + (k.path.choices + 1)) U) (keys (resolved k.path.settings)) (Var x i T ∷ []) m) [
+        | inl a ↦ above maxidx k.path.choices (key_below (resolved k.path.settings) 0 h.entries (Var name (maxidx + (k.path.choices + 1)) U) a)
+        | inr b ↦ elim b [ inl e ↦ above maxidx k.path.choices (subst (λ (v : Term). index_of v ≤ maxidx + k.path.choices) (sym e) low) | inr none ↦ none ]
+      ]),
+      itself (maxidx + (k.path.choices + 1)),
+    )
       where
         itself : (a : ℕ) → a ≤ a
         itself a = omega arith

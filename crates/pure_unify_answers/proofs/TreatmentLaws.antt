@@ -1,13 +1,13 @@
 -- Each pair of typed terms has a treatment, and each typed side comes to its long form or to a stop.
-use Rattle.std.proofs.Common.{◌≡◌, ◌≢◌, ◌⊎◌, ℕ, ◌+◌, ◌≤◌, ◌<◌, List, [], ◌∷◌, Bool, true, false, ◌||◌, nat_eq, inl, inr, ⊎_elim, refl, ap, sym, subst, ◌∙◌, arith, eqb-true}
+use Rattle.std.proofs.Common.{◌≡◌, ◌⊎◌, ℕ, List, [], ◌∷◌, Bool, true, false, ◌||◌, nat_eq, inl, inr, refl, ap, sym, subst, ◌∙◌, arith, eqb-true}
 use Rattle.std.proofs.lemmas.Bool.{cases_lt}
 use Rattle.pure_text.specs.Lists.{Each}
-use Rattle.pure_definitions.specs.Types.Typ.{Typ, typ_eq}
+use Rattle.pure_definitions.specs.Types.Typ.{Typ}
 use Rattle.pure_definitions.specs.Terms.Term.{Term, Const, Free, Var, Bound, Abs, App, term_eq, term_size, term_depth, max_size, max_depth, IsWithin}
 use Rattle.pure_definitions.specs.Terms.Bounds.{Occurs}
 use Rattle.pure_definitions.specs.Terms.Typing.{HasType}
 use Rattle.pure_definitions.specs.Reduction.Beta.{IsBetaNormal, BetaAnswer, IsBetaAnswer, TooLarge, NormalForm, TooManySteps}
-use Rattle.pure_definitions.specs.Reduction.Eta.{IsEtaNormalForm, IsLongForm}
+use Rattle.pure_definitions.specs.Reduction.Eta.{IsLongForm}
 use Rattle.pure_definitions.specs.Models.Equality.{term_eq-same, term_eq-itself}
 use Rattle.pure_definitions.specs.Declarations.Decl.{Decl}
 use Rattle.pure_term_laws.proofs.BetaLaws.{some_beta_answer}

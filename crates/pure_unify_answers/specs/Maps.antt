@@ -1,12 +1,12 @@
 -- A unifier as maps, and what it is for given pairs.
-use Rattle.std.specs.Prelude.{◌≡◌, ℕ, List, map}
+use Rattle.std.specs.Prelude.{◌≡◌, List, map}
 use Rattle.pure_text.specs.Lists.{Each}
 use Rattle.pure_definitions.specs.Types.Typ.{Typ}
 use Rattle.pure_definitions.specs.Terms.Term.{Term}
 use Rattle.pure_definitions.specs.Terms.Subst.{typ_image, term_image, retyped_variable, term_instance, IsTypMap, IsTermMap, AreSortRespecting, AreTypeRespecting}
 use Rattle.pure_definitions.specs.Reduction.Eta.{IsLongForm}
 use Rattle.pure_definitions.specs.Declarations.Decl.{algebra_of}
-use Rattle.pure_logic.specs.Content.{Content, IsCertifiedOf}
+use Rattle.pure_logic.specs.Content.{Content}
 use Rattle.pure_logic.specs.Concludes.{AreRespecting}
 use Rattle.pure_logic.specs.Derivable.{Pair}
 use Rattle.pure_logic.specs.Laws.Substitution.{pair_instance}
