@@ -220,11 +220,11 @@ module _ (Q : Content) (u : IsUnifyContent Q) (maxidx : ℕ) where
     V v = Unit {0}
 
     child_old : (c : Node) (x i : ℕ) (T : Typ) (us : List Term) → Each (HasParts P V) us → IsIn c (map (child m x i T) us) → AreOldSides c.path.fresh c.pairs × (c.path.choices ≡ m.path.choices + 1)
-    child_old c x i T [] h i_n = absurd i_n
+    child_old c x i T [] h there = absurd there
     child_old c x i T (t ∷ us) h (inl e) =
         subst (λ (o : Node). AreOldSides o.path.fresh o.pairs × (o.path.choices ≡ m.path.choices + 1)) (sym e)
         (put-each P P V V (Single (bind x i T t)) (set-parts P V V x i T t h.0 (λ w v n. tt)) m.pairs k.old, refl)
-    child_old c x i T (t ∷ us) h (inr i_n) = child_old c x i T us h.1 i_n
+    child_old c x i T (t ∷ us) h (inr there) = child_old c x i T us h.1 there
 
     choice-parts : (f h : Term) → IsChoice m.pairs f h → HasParts P V f × HasParts P V h
     choice-parts f h c = by c.heads
@@ -237,24 +237,24 @@ module _ (Q : Content) (u : IsUnifyContent Q) (maxidx : ℕ) where
         by (on_right a b e g) = (subst (HasParts P V) (sym e) (head-parts P V c.pair.right own.1), subst (HasParts P V) (sym g) (head-parts P V c.pair.left own.0))
 
     children_old : (f h : Term) → HasParts P V f → HasParts P V h → (c : Node) → IsIn c (children maxidx m f h) → AreOldSides c.path.fresh c.pairs × (c.path.choices ≡ m.path.choices + 1)
-    children_old (Var x i T) h a b c i_n = child_old c x i T (images (maxidx + (m.path.choices + 1)) T h) (images-parts P V (old_of_parts (maxidx + 65) m.path.fresh) (maxidx + (m.path.choices + 1)) (λ name U. tt) T h a.0 b) i_n
-    children_old (Const d U) h a b c i_n = absurd i_n
-    children_old (Free x U) h a b c i_n = absurd i_n
-    children_old (Bound p) h a b c i_n = absurd i_n
-    children_old (Abs U t) h a b c i_n = absurd i_n
-    children_old (App g t) h a b c i_n = absurd i_n
+    children_old (Var x i T) h a b c there = child_old c x i T (images (maxidx + (m.path.choices + 1)) T h) (images-parts P V (old_of_parts (maxidx + 65) m.path.fresh) (maxidx + (m.path.choices + 1)) (λ name U. tt) T h a.0 b) there
+    children_old (Const d U) h a b c there = absurd there
+    children_old (Free x U) h a b c there = absurd there
+    children_old (Bound p) h a b c there = absurd there
+    children_old (Abs U t) h a b c there = absurd there
+    children_old (App g t) h a b c there = absurd there
 
     children_sound : (f h : Term) → IsChoice m.pairs f h → m.path.choices < max_choices → Each IsSound (children maxidx m f h)
-    children_sound f h choice more = each_of IsSound (children maxidx m f h) (λ c i_n. one c i_n)
+    children_sound f h choice more = each_of IsSound (children maxidx m f h) (λ c there. one c there)
       where
         room : (a b c : ℕ) → a < b → c ≡ a + 1 → c ≤ b
         room a b c h e = omega arith
 
         one : (c : Node) → IsIn c (children maxidx m f h) → IsSound c
-        one c i_n =
-            let kept = child-kept Q u maxidx m c f h choice i_n k.respects k.long k.lefts in
+        one c there =
+            let kept = child-kept Q u maxidx m c f h choice there k.respects k.long k.lefts in
             let parts = choice-parts f h choice in
-            let old = children_old f h parts.0 parts.1 c i_n in
+            let old = children_old f h parts.0 parts.1 c there in
             record { respects = kept.0; certified = kept.1; old = old.0; few = room m.path.choices max_choices c.path.choices more old.1 }
 
   abbrev HasAnswer : (count : ℕ) (cut : Bool) → List Node → Type 0

@@ -179,9 +179,6 @@ shown_inside l r (right_side x i s t other) is v (inr e) = inr (is.right_inside 
 module _ (A : Algebra) (index : ℕ) where
   -- a place that is treated
   module _ (n k : ℕ) (p d : TypPair) (first : List TypBind) (vs : List Typ) (old : IsOldPair index n p) (lefts : IsAmong vs p.left) (rights : IsAmong vs p.right) (place : IsPlaceOf p.left p.right d) (h : IsTreated A index n d first k) where
-    variable : Typ
-    variable = TVar h.name h.number h.sort
-
     inside : (v : Typ) → OccursInTyp v h.other ⊎ (v ≡ TVar h.name h.number h.sort) → OccursInTyp v p.left ⊎ OccursInTyp v p.right
     inside v o = shown_inside p.left p.right h.shown place v o
 

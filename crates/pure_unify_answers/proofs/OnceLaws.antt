@@ -155,9 +155,6 @@ module _ (A : Algebra) (index : ℕ) where
     own_away : IsAbsent (TVar h.name h.number h.sort) h.narrowed × (¬ OccursInTyp (TVar h.name h.number h.sort) h.image)
     own_away = narrowed-avoids h.sort h.narrows (TVar h.name h.number h.sort) tt own_new h.free
 
-    last : List TypBind
-    last = bind h.name h.number h.sort h.image ∷ []
-
     treated-once : IsOnce index n k first
     treated-once = subst (IsOnce index n k) (sym h.are) (record {
       once = set_once-append h.narrowed (bind h.name h.number h.sort h.image ∷ []) narrowed.sets.once (own_away.1, tt, tt)
@@ -201,9 +198,9 @@ module _ (A : Algebra) (index : ℕ) where
       let there = equalised-once rest olds.0 in
       let tri = triangular first here.once in
       record {
-        once = set_once-append first more here.once there.once (each_of (λ b. IsAbsent (typ_variable b) more) first (λ b i_n. equalised-avoids rest olds.0 (typ_variable b) tt (each_at (λ c. ¬ IsFresh index k (typ_variable c)) first here.known b i_n)
-            (each_at (λ c. ¬ OccursInTyp (typ_variable c) (typ_instance (composed first) p.left)) first (instance-free first tri p.left) b i_n)
-            (each_at (λ c. ¬ OccursInTyp (typ_variable c) (typ_instance (composed first) p.right)) first (instance-free first tri p.right) b i_n)));
+        once = set_once-append first more here.once there.once (each_of (λ b. IsAbsent (typ_variable b) more) first (λ b there. equalised-avoids rest olds.0 (typ_variable b) tt (each_at (λ c. ¬ IsFresh index k (typ_variable c)) first here.known b there)
+            (each_at (λ c. ¬ OccursInTyp (typ_variable c) (typ_instance (composed first) p.left)) first (instance-free first tri p.left) b there)
+            (each_at (λ c. ¬ OccursInTyp (typ_variable c) (typ_instance (composed first) p.right)) first (instance-free first tri p.right) b there)));
         known = each-append (λ b. ¬ IsFresh index m (typ_variable b)) first more (each_imply (λ b. ¬ IsFresh index k (typ_variable b)) (λ b. ¬ IsFresh index m (typ_variable b)) first (λ b new. fresh-later index k m (typ_variable b) there.later new) here.known) there.known;
         later = up n k m here.later there.later;
       }

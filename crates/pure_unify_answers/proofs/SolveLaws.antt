@@ -184,9 +184,6 @@ module _ (Q : Content) (u : IsUnifyContent Q) (maxidx : ℕ) where
   }
 
   module _ (ps : List Pair) (h : AreUnifiable Q maxidx ps) (m : Node) (reached : IsReached A maxidx ps m) where
-    abbrev ss : List Setting
-    ss = m.path.settings
-
     abbrev S : List TypBind
     S = typ_settings m.path.settings
 
@@ -206,9 +203,6 @@ module _ (Q : Content) (u : IsUnifyContent Q) (maxidx : ℕ) where
     tidy = leads-tidy Q u maxidx reached.leads tt h.certified (record { once = tt; known = tt; distinct = tt; pairs = sides_plain maxidx ps h.indexes; entries = tt })
 
     -- the maps, all at once
-    abbrev on_typ : Typ → Typ
-    on_typ = composed S
-
     abbrev on_term : Term → Term
     on_term v = term_image E (retyped_variable (composed S) v)
 
@@ -234,16 +228,16 @@ module _ (Q : Content) (u : IsUnifyContent Q) (maxidx : ℕ) where
 
     -- a setting of type variables
     typs_absorbed : (bs : List TypBind) → Each (λ b. IsIn b S) bs → (t : Term) → all (with_setting (Typs bs) t) ≡ all t
-    typs_absorbed bs i_n t =
+    typs_absorbed bs members t =
         instance-instance (composed bs) (composed S) (retyped_variable (composed bs)) on_term t
         ∙ agreeing_instance (λ v. typ_instance (composed S) (composed bs v)) (composed S) (λ v. all (retyped_variable (composed bs) v)) on_term t (record { on_typs = λ v is o. at_typ v is; on_terms = λ v is o. at_term v is })
       where
         at_typ : (v : Typ) → IsTypVariable v → typ_instance (composed S) (composed bs v) ≡ composed S v
-        at_typ v is = ap (typ_instance (composed S)) (sym (as_variable (composed bs) v is)) ∙ (absorbed S tidy.once bs i_n v ∙ as_variable (composed S) v is)
+        at_typ v is = ap (typ_instance (composed S)) (sym (as_variable (composed bs) v is)) ∙ (absorbed S tidy.once bs members v ∙ as_variable (composed S) v is)
 
         at_term : (v : Term) → IsVariable v → all (retyped_variable (composed bs) v) ≡ on_term v
-        at_term (Free x T) is = ap (λ X. term_image E (Free x X)) (absorbed S tidy.once bs i_n T)
-        at_term (Var x i T) is = ap (λ X. term_image E (Var x i X)) (absorbed S tidy.once bs i_n T)
+        at_term (Free x T) is = ap (λ X. term_image E (Free x X)) (absorbed S tidy.once bs members T)
+        at_term (Var x i T) is = ap (λ X. term_image E (Var x i X)) (absorbed S tidy.once bs members T)
         at_term (Const c T) is = absurd is
         at_term (Bound n) is = absurd is
         at_term (Abs T b) is = absurd is
@@ -274,9 +268,6 @@ module _ (Q : Content) (u : IsUnifyContent Q) (maxidx : ℕ) where
         let rest = settings_absorbed rs (λ e i. in_e e (inr i)) in_s in
         rest (with_setting (Single b) t) ∙ single_absorbed b (same (rest b.image)) t
       where
-        entry : TermBind
-        entry = bind b.name b.index (typ_after rs b.typ) (term_after rs b.image)
-
         there : IsIn (bind b.name b.index (typ_after rs b.typ) (term_after rs b.image)) E
         there = in_e (bind b.name b.index (typ_after rs b.typ) (term_after rs b.image)) (inl refl)
 

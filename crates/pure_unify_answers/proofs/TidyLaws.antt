@@ -112,9 +112,9 @@ module _ (sets : List TypBind) (ws : List Term) (apart : ¬ MakesTwoSame (compos
   AreKeysIn es = Each (λ e. IsIn (term_variable e) ws) es
 
   not_key : (w : Term) → IsIn w ws → (es : List TermBind) → AreKeysIn es → ¬ IsIn w (keys es) → ¬ IsIn (retyped_variable (composed sets) w) (keys (map (pushed (Typs sets)) es))
-  not_key w m [] k n i_n = i_n
+  not_key w m [] k n there = there
   not_key w m (e ∷ es) k n (inl same) = apart (record { first = w; second = term_variable e; first_in = m; second_in = k.0; differ = λ d. n (inl d); same = same })
-  not_key w m (e ∷ es) k n (inr i_n) = not_key w m es k.1 (λ j. n (inr j)) i_n
+  not_key w m (e ∷ es) k n (inr there) = not_key w m es k.1 (λ j. n (inr j)) there
 
   still_distinct : (es : List TermBind) → AreKeysIn es → AreDistinct (keys es) → AreDistinct (keys (map (pushed (Typs sets)) es))
   still_distinct [] k h = tt
@@ -123,9 +123,6 @@ module _ (sets : List TypBind) (ws : List Term) (apart : ¬ MakesTwoSame (compos
 module _ (Q : Content) (u : IsUnifyContent Q) (maxidx : ℕ) where
   abbrev A : Algebra
   A = algebra_of Q.declarations
-
-  abbrev index : ℕ
-  index = maxidx + 65
 
   -- What is known of an entry of the substitution, where these are the settings of types, the first name that isn't used, the variables that are set and the bound of indexes.
   pub record IsTidyEntry (S : List TypBind) (from : ℕ) (ks : List Term) (bound : ℕ) (e : TermBind) : Type 0 where
@@ -145,7 +142,7 @@ module _ (Q : Content) (u : IsUnifyContent Q) (maxidx : ℕ) where
   other_pairs S from es bound ps qs h k = record { once = h.once; known = h.known; distinct = h.distinct; pairs = k; entries = h.entries }
 
   -- Long forms of tidy sides are tidy.
-  long_pairs : (S : List TypBind) (from : ℕ) (es : List TermBind) (bound : ℕ) (ps qs : List Pair) → AreLong ps (AllLong qs) → IsTidy S from es bound ps → IsTidy S from es bound qs
+  pub long_pairs : (S : List TypBind) (from : ℕ) (es : List TermBind) (bound : ℕ) (ps qs : List Pair) → AreLong ps (AllLong qs) → IsTidy S from es bound ps → IsTidy S from es bound qs
   long_pairs S from es bound ps qs l h = other_pairs S from es bound ps qs h (sides-parts (IsPlain (maxidx + 65) from S) (IsUnset (keys es) bound) (plain_of_parts (maxidx + 65) from S) l h.pairs)
 
   -- A variable is set.
@@ -238,11 +235,11 @@ module _ (Q : Content) (u : IsUnifyContent Q) (maxidx : ℕ) where
     new_entries (e ∷ xs) m k = (
       record {
         typ = plain_after e.typ k.0.typ;
-        image = retyped-side e.image (member-parts (IsPlain (maxidx + 65) from S) (IsUnset (keys es) bound) (pair_variables ps ++ entry_variables es) e.image (λ y i_n. m y (inr (in-append_left y (variables e.image) (entry_variables xs) i_n))) k.0.image);
+        image = retyped-side e.image (member-parts (IsPlain (maxidx + 65) from S) (IsUnset (keys es) bound) (pair_variables ps ++ entry_variables es) e.image (λ y there. m y (inr (in-append_left y (variables e.image) (entry_variables xs) there))) k.0.image);
         few = k.0.few;
         typed = typed-instance Q u.content (setting_typs (Typs sets)) (setting_terms (Typs sets)) respects [] [] e.image e.typ k.0.typed;
       },
-      new_entries xs (λ y i_n. m y (inr (in-append_right y (variables e.image) (entry_variables xs) i_n))) k.1,
+      new_entries xs (λ y there. m y (inr (in-append_right y (variables e.image) (entry_variables xs) there))) k.1,
     )
 
     pub retyped-tidy : IsTidy (S ++ sets) next (map (pushed (Typs sets)) es) bound (with_setting_put (Typs sets) ps)
@@ -348,7 +345,7 @@ module _ (Q : Content) (u : IsUnifyContent Q) (maxidx : ℕ) where
               retyped-node n T U sets next qs h first second found apart l (typs-respect Q u maxidx n T U sets next certified.0 certified.1 found)
 
   -- A tidy node whose pair at a place is split is tidy.
-  split-node : (front : List Pair) (m split : Node) → IsTidyNode m → IsSplitAt front m split → IsTidyNode split
+  pub split-node : (front : List Pair) (m split : Node) → IsTidyNode m → IsSplitAt front m split → IsTidyNode split
   split-node front m split h a = subst IsTidyNode (sym a.are) (other_pairs (typ_settings m.path.settings) m.path.fresh (resolved m.path.settings) (maxidx + m.path.choices) m.pairs (a.before ++ (argument_pairs a.at.left a.at.right ++ a.behind)) h
       (each-append H a.before (argument_pairs a.at.left a.at.right ++ a.behind) (each-left H a.before (a.at ∷ a.behind) whole_pairs)
       (each-append H (argument_pairs a.at.left a.at.right) a.behind (split-parts (IsPlain (maxidx + 65) m.path.fresh (typ_settings m.path.settings)) (IsUnset (keys (resolved m.path.settings)) (maxidx + m.path.choices)) a.at.left a.at.right behind.0.0 behind.0.1) behind.1)))
@@ -362,18 +359,18 @@ module _ (Q : Content) (u : IsUnifyContent Q) (maxidx : ℕ) where
       behind : Each (HavePartsIn (IsPlain (maxidx + 65) m.path.fresh (typ_settings m.path.settings)) (IsUnset (keys (resolved m.path.settings)) (maxidx + m.path.choices))) (a.at ∷ a.behind)
       behind = each-right (HavePartsIn (IsPlain (maxidx + 65) m.path.fresh (typ_settings m.path.settings)) (IsUnset (keys (resolved m.path.settings)) (maxidx + m.path.choices))) a.before (a.at ∷ a.behind) whole_pairs
 
-  step-tidy : (n m : Node) → Applies A maxidx n (Goes m) → AreLongPairs n.pairs → IsTidyNode n → IsTidyNode m
+  pub step-tidy : (n m : Node) → Applies A maxidx n (Goes m) → AreLongPairs n.pairs → IsTidyNode n → IsTidyNode m
   step-tidy n m (drops {front = front} {rest = rest} {p = p} f) long h = dropped-tidy n long h front p rest f.stands
   step-tidy n m (splits {front = front} {rest = rest} {p = p} f) long h = split-tidy n long h front p rest f.stands
   step-tidy n m (puts {front = front} {rest = rest} {qs = qs} {p = p} {b = b} f l) long h = put-tidy n long h front p rest f.stands b qs f.treated l
   step-tidy n m (retypes {front = front} {rest = rest} {p = p} {T = T} {U = U} f t) long h = retype-tidy n long h front p rest f.stands T U m f.treated t
   step-tidy n m (unifies {front = front} {rest = rest} {p = p} {T = T} {U = U} {m = k} f t a) long h = split-node front k m (unify-tidy n long h front p rest f.stands T U k f.treated t) a
 
-  simplified-tidy : {n m : Node} → Simplifies A maxidx n (Simple m) → Each (IsRespecting Q) n.path.settings → AreLongPairs n.pairs → IsTidyNode n → IsTidyNode m
+  pub simplified-tidy : {n m : Node} → Simplifies A maxidx n (Simple m) → Each (IsRespecting Q) n.path.settings → AreLongPairs n.pairs → IsTidyNode n → IsTidyNode m
   simplified-tidy (simple each) r long h = h
   simplified-tidy {n = n} (step {m = k} f s) r long h = let next = step-kept Q u maxidx n k f r long in simplified-tidy s next.0 next.1 (step-tidy n k f long h)
 
-  visit-tidy : (n m : Node) → Visits A maxidx n (Simple m) → Each (IsRespecting Q) n.path.settings → Each (AreSidesCertified Q.declarations) n.pairs → IsTidyNode n → IsTidyNode m
+  pub visit-tidy : (n m : Node) → Visits A maxidx n (Simple m) → Each (IsRespecting Q) n.path.settings → Each (AreSidesCertified Q.declarations) n.pairs → IsTidyNode n → IsTidyNode m
   visit-tidy n m (visited {qs = qs} l s) r typed h =
       simplified-tidy s r (sides-are-long Q u.content u.above A maxidx l typed) (long_pairs (typ_settings n.path.settings) n.path.fresh (resolved n.path.settings) (maxidx + n.path.choices) n.pairs qs l h)
 
@@ -422,7 +419,7 @@ module _ (Q : Content) (u : IsUnifyContent Q) (maxidx : ℕ) where
         low c a b h = omega arith
     among_children c x i T plain unset (t ∷ us) typed inside (inr m) = among_children c x i T plain unset us typed.1 inside.1 m
 
-    choice-inside : (f g : Term) → IsChoice k.pairs f g → HasParts PK VK f × HasParts PK VK g
+    pub choice-inside : (f g : Term) → IsChoice k.pairs f g → HasParts PK VK f × HasParts PK VK g
     choice-inside f g c = by c.heads
       where
         own_parts : HavePartsIn PK VK c.pair
@@ -432,7 +429,7 @@ module _ (Q : Content) (u : IsUnifyContent Q) (maxidx : ℕ) where
         by (on_left a b e d) = (subst (HasParts PK VK) (sym e) (head-parts PK VK c.pair.left own_parts.0), subst (HasParts PK VK) (sym d) (head-parts PK VK c.pair.right own_parts.1))
         by (on_right a b e d) = (subst (HasParts PK VK) (sym e) (head-parts PK VK c.pair.right own_parts.1), subst (HasParts PK VK) (sym d) (head-parts PK VK c.pair.left own_parts.0))
 
-    child-tidy : (c : Node) (f g : Term) → IsChoice k.pairs f g → IsIn c (children maxidx k f g) → HasParts PK VK f × HasParts PK VK g → IsTidyNode c
+    pub child-tidy : (c : Node) (f g : Term) → IsChoice k.pairs f g → IsIn c (children maxidx k f g) → HasParts PK VK f × HasParts PK VK g → IsTidyNode c
     child-tidy c (Var x i T) g choice m inside =
         among_children c x i T inside.0.0 inside.0.1 (images (maxidx + (k.path.choices + 1)) T g) (choice-typed Q u.content u.above A maxidx k.pairs x i T g (maxidx + (k.path.choices + 1)) choice long lefts)
         (images-parts PK (WK x i T) (plain_of_parts (maxidx + 65) k.path.fresh (typ_settings k.path.settings)) (maxidx + (k.path.choices + 1)) (new_variable x i T inside.0.1.1) T g inside.0.0 (implied-parts PK PK VK (λ v. Unit {0}) (λ X p. p) (λ y j X v. tt) g inside.1)) m
