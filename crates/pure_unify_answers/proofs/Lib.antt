@@ -10,3 +10,4 @@ pub mod PathLaws
 pub mod SolveLaws
 pub mod TidyLaws
 pub mod PureLaws
+pub mod ExampleLaws

@@ -1,5 +1,6 @@
 //! Laws of the answers of the search for a unifier: each is the contract of a function that does nothing.
 ghost use Rattle.pure_unify_answers.specs.Laws.{SearchHasAnAnswer, UnifierSolves, UnifierIsFinite, PureIsUnifyContent};
+ghost use Rattle.pure_unify_answers.specs.Examples.{SetExample, SolvesExample, ClashExample};
 
 /// The search has an answer for all pairs within its condition.
 pub fn search_has_an_answer()
@@ -20,4 +21,11 @@ pub fn unifier_is_finite()
 /// Pure's own content is one over which terms are unified.
 pub fn pure_is_unify_content()
     ensures { PureIsUnifyContent }
+{}
+
+/// A variable is set to a fixed one, which solves the pair; two fixed ones have no unifier.
+pub fn answer_examples()
+    ensures set { SetExample }
+    ensures solves { SolvesExample }
+    ensures clash { ClashExample }
 {}
