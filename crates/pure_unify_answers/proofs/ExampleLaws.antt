@@ -1,13 +1,12 @@
 -- Answers of the search, step by step.
-use Rattle.std.proofs.Common.{◌≡◌, ℕ, ◌+◌, ◌<◌, ◌≤◌, List, [], ◌∷◌, true, false, inl, inr, refl, sym, subst, arith}
+use Rattle.std.proofs.Common.{◌≡◌, ℕ, ◌<◌, ◌≤◌, List, [], ◌∷◌, true, false, inl, inr, refl, sym, subst, arith}
 use Rattle.pure_definitions.specs.Types.Typ.{Typ, TVar, Con, Typs, none, prop}
 use Rattle.pure_definitions.specs.Types.Occurs.{OccursInTyp}
 use Rattle.pure_definitions.specs.Declarations.Certified.{IsCertifiedTyp}
 use Rattle.pure_logic.specs.PureContent.{pure_content}
 use Rattle.pure_logic.proofs.ConnectiveLaws.{pure-below_itself, prop-certified}
-use Rattle.pure_definitions.specs.Terms.Term.{Term, Const, Free, Var, IsWithin}
-use Rattle.pure_definitions.specs.Reduction.Beta.{IsBetaAnswer, NormalForm}
-use Rattle.pure_definitions.specs.Reduction.Eta.{EtaReduces, IsLongForm}
+use Rattle.pure_definitions.specs.Terms.Term.{Term, Const, Free, Var}
+use Rattle.pure_definitions.specs.Reduction.Eta.{EtaReduces}
 use Rattle.pure_term_laws.proofs.EtaNormalLaws.{one_eta_normal_form}
 use Rattle.pure_unify_definitions.specs.Fronts.{is_schematic, pair}
 use Rattle.pure_unify_definitions.specs.Node.{bind}
@@ -15,11 +14,11 @@ use Rattle.pure_unify_laws.specs.Condition.{AreUnifiable}
 use Rattle.pure_unify_answers.proofs.SolveLaws.{unifier_solves}
 use Rattle.pure_unify_answers.proofs.PureLaws.{pure_is_unify_content}
 use Rattle.pure_eta.proofs.EtaFormLaws.{eta_form-is}
-use Rattle.pure_unify_definitions.specs.LongSides.{Long, ComesTo, is_long, AreLong, no_more, both_long}
-use Rattle.pure_unify_definitions.specs.Treatment.{IsBare, left_bare, right_bare, IsBareSide, AreOfOneTyp, ArePastVariables, AreRigid, AreApart, IsTreatment, absent, clash}
-use Rattle.pure_unify_definitions.specs.Simplification.{IsFirst, puts, fails, Simplifies, simple, step, failed, Visits, visited}
-use Rattle.pure_unify_definitions.specs.Search.{Searches, over, node_fails, success}
-use Rattle.pure_unify_answers.specs.Examples.{any_proposition, fixed_proposition, other_proposition, SetExample, SolvesExample, ClashExample}
+use Rattle.pure_unify_definitions.specs.LongSides.{Long, ComesTo, is_long, no_more, both_long}
+use Rattle.pure_unify_definitions.specs.Treatment.{IsBare, left_bare, right_bare, IsBareSide, absent, clash}
+use Rattle.pure_unify_definitions.specs.Simplification.{puts, fails, simple, step, failed, visited}
+use Rattle.pure_unify_definitions.specs.Search.{over, node_fails, success}
+use Rattle.pure_unify_answers.specs.Examples.{any_proposition, fixed_proposition, SetExample, SolvesExample, ClashExample}
 
 -- A variable of type prop is its own long form.
 any_long : ComesTo any_proposition (Long any_proposition)
@@ -40,8 +39,12 @@ variable_fixed x y i T U e = cc
 pub set_example : SetExample
 set_example = success (omega arith)
     (visited (both_long any_long (fixed_long 0) no_more)
-    (step (puts {front = []} {rest = []} (record { stands = refl; before = tt; treated = absent {x = 0} {i = 0} {T = prop} {other = fixed_proposition} {u = fixed_proposition} (record { differ = variable_fixed 0 0 0 prop prop; typ = prop; left = refl; right = refl })
-        (left_bare (record { variable = refl; form = eta_form-is any_proposition }) refl) (variable_fixed 0 0 0 prop prop) (eta_form-is fixed_proposition) }) no_more) (simple tt)))
+    (step (puts {front = []} {rest = []} (record {
+      stands = refl;
+      before = tt;
+      treated = absent {x = 0} {i = 0} {T = prop} {other = fixed_proposition} {u = fixed_proposition} (record { differ = variable_fixed 0 0 0 prop prop; typ = prop; left = refl; right = refl })
+          (left_bare (record { variable = refl; form = eta_form-is any_proposition }) refl) (variable_fixed 0 0 0 prop prop) (eta_form-is fixed_proposition);
+    }) no_more) (simple tt)))
     tt (record { typs = tt; terms = (record { size = omega arith; depth = omega arith }, tt) })
 
 variable_constructor : (x i k : ℕ) (s : List ℕ) (ts : Typs) → TVar x i s ≡ Con k ts → ⊥
@@ -98,7 +101,11 @@ no_side v other (right_bare n b e) = not_bare 1 v b
 pub clash_example : ClashExample
 clash_example = node_fails (omega arith)
     (visited (both_long (fixed_long 0) (fixed_long 1) no_more)
-    (failed (fails {front = []} {rest = []} (record { stands = refl; before = tt; treated = clash
-        (record { past = record { typed = record { differ = fixed_apart; typ = prop; left = refl; right = refl }; occurring = λ v other s. absurd (no_side v other s) }; neither = refl })
-        (record { differ = fixed_apart; no_constants = λ c T U e f. fixed_constant 0 c prop T e }) }))))
+    (failed (fails {front = []} {rest = []} (record {
+      stands = refl;
+      before = tt;
+      treated = clash
+          (record { past = record { typed = record { differ = fixed_apart; typ = prop; left = refl; right = refl }; occurring = λ v other s. absurd (no_side v other s) }; neither = refl })
+          (record { differ = fixed_apart; no_constants = λ c T U e f. fixed_constant 0 c prop T e });
+    }))))
     over
