@@ -11,3 +11,4 @@ pub mod SolveLaws
 pub mod TidyLaws
 pub mod PureLaws
 pub mod ExampleLaws
+pub mod MapLaws

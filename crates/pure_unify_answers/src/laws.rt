@@ -1,5 +1,5 @@
 //! Laws of the answers of the search for a unifier: each is the contract of a function that does nothing.
-ghost use Rattle.pure_unify_answers.specs.Laws.{SearchHasAnAnswer, UnifierSolves, UnifierIsFinite, PureIsUnifyContent};
+ghost use Rattle.pure_unify_answers.specs.Laws.{SearchHasAnAnswer, UnifierSolves, UnifierIsFinite, PureIsUnifyContent, MapsOneAfterTheOther};
 ghost use Rattle.pure_unify_answers.specs.Examples.{SetExample, SolvesExample, ClashExample};
 
 /// The search has an answer for all pairs within its condition.
@@ -16,6 +16,11 @@ pub fn unifier_solves()
 /// It is two finite maps, which respect sorts and types and change nothing when they are applied again.
 pub fn unifier_is_finite()
     ensures { UnifierIsFinite }
+{}
+
+/// Its maps are the type map, and then the term map.
+pub fn maps_one_after_the_other()
+    ensures { MapsOneAfterTheOther }
 {}
 
 /// Pure's own content is one over which terms are unified.
