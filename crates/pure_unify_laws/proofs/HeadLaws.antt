@@ -1,12 +1,12 @@
 -- Heads that are constants stay under type maps and in long forms; and what a unifier of two types equates.
-use Rattle.std.proofs.Common.{◌≡◌, ℕ, ◌+◌, List, [], ◌∷◌, ◌++◌, inl, inr, refl, ap, sym, subst, ◌∙◌}
+use Rattle.std.proofs.Common.{◌≡◌, ℕ, List, [], ◌∷◌, refl, ap, sym, subst, ◌∙◌}
 use Rattle.pure_definitions.specs.Types.Typ.{Typ}
 use Rattle.pure_definitions.specs.Types.Order.{Algebra}
 use Rattle.pure_definitions.specs.Terms.Term.{Term, Const, Free, Var, Bound, Abs, App}
 use Rattle.pure_definitions.specs.Terms.Bounds.{lift_term}
 use Rattle.pure_definitions.specs.Terms.Subst.{TypBind, typ_instance, inst_typ}
 use Rattle.pure_definitions.specs.Reduction.Beta.{IsAbs, IsBetaNormal, IsBetaAnswer, NormalForm}
-use Rattle.pure_definitions.specs.Reduction.Eta.{EtaStep, contract, body, function, argument, EtaReduces, done, next, IsLongForm}
+use Rattle.pure_definitions.specs.Reduction.Eta.{EtaStep, contract, body, function, argument, EtaReduces, done, next}
 use Rattle.pure_term_laws.proofs.BetaLaws.{one_beta_sequence_to_normal}
 use Rattle.pure_term_laws.proofs.SubstLaws.{typ_instance-identity}
 use Rattle.pure_tunify.specs.declared.pair.TypPair.{TypPair}

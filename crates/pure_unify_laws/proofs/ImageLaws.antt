@@ -1,23 +1,23 @@
 -- The images of the children of a node have their variable's type, and certified parts.
-use Rattle.std.proofs.Common.{◌≡◌, ℕ, zero, suc, ◌+◌, ◌-◌, List, [], ◌∷◌, ◌++◌, length, Bool, true, false, refl, ap, sym, subst, ◌∙◌, arith, slice_get, Some, None, append_assoc}
+use Rattle.std.proofs.Common.{◌≡◌, ℕ, zero, suc, ◌+◌, ◌-◌, List, [], ◌∷◌, ◌++◌, length, Bool, true, false, refl, ap, sym, subst, ◌∙◌, arith, slice_get, Some, append_assoc}
 use Rattle.std.specs.Prelude.{if◌then◌else◌}
 use Rattle.std.proofs.lemmas.List.{length-append}
-use Rattle.pure_text.specs.Lists.{IsIn, Each, EachTwo}
+use Rattle.pure_text.specs.Lists.{Each, EachTwo}
 use Rattle.pure_text.proofs.ListLaws.{each-append}
-use Rattle.pure_definitions.specs.Types.Typ.{Typ, TFree, TVar, Con, Typs, none, also, arrow, typ_eq}
+use Rattle.pure_definitions.specs.Types.Typ.{Typ, Con, none, also, arrow, typ_eq}
 use Rattle.pure_definitions.specs.Terms.Term.{Term, Const, Free, Var, Bound, Abs, App, term_eq}
-use Rattle.pure_definitions.specs.Terms.Subst.{TermBind, term_variable, term_image}
+use Rattle.pure_definitions.specs.Terms.Subst.{TermBind, term_variable}
 use Rattle.pure_definitions.specs.Models.Equality.{typ_eq-same}
 use Rattle.pure_definitions.specs.Declarations.Decl.{algebra_of}
 use Rattle.pure_definitions.specs.Declarations.Certified.{IsCertifiedTyp, HasCertifiedParts}
 use Rattle.pure_term_laws.proofs.SubstLaws.{identity-respects_sorts, entries-respect_types}
-use Rattle.pure_logic.specs.Content.{Content, IsContent, IsBelow}
+use Rattle.pure_logic.specs.Content.{Content, IsBelow}
 use Rattle.pure_logic.specs.PureContent.{pure_content}
 use Rattle.pure_logic.proofs.ConnectiveLaws.{arrow-certified}
 use Rattle.pure_equated.specs.Equated.{IsTypedUnder}
 use Rattle.pure_equated.proofs.SidesLaws.{typed-abstraction, typed-application, typed-function, typed-body}
-use Rattle.pure_unify_definitions.specs.Fronts.{term_body, front, head, below, domains, range, function_typ, applied, bounds}
-use Rattle.pure_unify_definitions.specs.Node.{Setting, Single, bind}
+use Rattle.pure_unify_definitions.specs.Fronts.{front, head, below, domains, range, function_typ, applied, bounds}
+use Rattle.pure_unify_definitions.specs.Node.{Single}
 use Rattle.pure_unify_definitions.specs.Children.{new_arguments, image_of, imitations, projections, images}
 use Rattle.pure_unify_laws.specs.Reached.{IsRespecting}
 use Rattle.pure_unify_laws.proofs.SplitLaws.{under}

@@ -1,17 +1,17 @@
 -- The search has one answer at most.
-use Rattle.std.proofs.Common.{◌≡◌, ◌≢◌, ◌⊎◌, ℕ, ◌+◌, ◌<◌, ◌≤◌, List, [], ◌∷◌, ◌++◌, Bool, true, false, inl, inr, refl, ap, sym, subst, ◌∙◌, arith}
+use Rattle.std.proofs.Common.{◌≡◌, ◌⊎◌, ℕ, ◌+◌, ◌<◌, List, ◌∷◌, ◌++◌, Bool, true, false, inl, inr, refl, sym, subst, ◌∙◌, arith}
 use Rattle.pure_text.specs.Lists.{Each}
 use Rattle.pure_text.proofs.ListLaws.{each-right}
 use Rattle.pure_definitions.specs.Types.Order.{Algebra}
 use Rattle.pure_definitions.specs.Terms.Term.{Term}
 use Rattle.pure_logic.specs.Derivable.{Pair}
 use Rattle.pure_order_tables.specs.Classes.{IsAntisymmetric}
-use Rattle.pure_unify_definitions.specs.Fronts.{head, is_flexible}
-use Rattle.pure_unify_definitions.specs.Node.{Node, root}
-use Rattle.pure_unify_definitions.specs.LongSides.{Stop, Big}
+use Rattle.pure_unify_definitions.specs.Fronts.{is_flexible}
+use Rattle.pure_unify_definitions.specs.Node.{Node}
+use Rattle.pure_unify_definitions.specs.LongSides.{Big}
 use Rattle.pure_unify_definitions.specs.Simplification.{Visit, Simple, Failed, Halted, Visits}
 use Rattle.pure_unify_definitions.specs.Children.{children, IsFlexFlex, HasFlexible, on_left, on_right, IsChoice}
-use Rattle.pure_unify_definitions.specs.Search.{max_choices, max_nodes, AreImagesWithin, unifier_of, Answer, Unified, NoUnifier, SearchBound, Stopped, Searches, over, over_cut, bound, node_fails, node_stops, success, too_large, node_is_cut, inner, IsUnifyAnswer}
+use Rattle.pure_unify_definitions.specs.Search.{max_choices, max_nodes, AreImagesWithin, unifier_of, Answer, Unified, SearchBound, Stopped, Searches, over, over_cut, bound, node_fails, node_stops, success, too_large, node_is_cut, inner, IsUnifyAnswer}
 use Rattle.pure_unify_laws.proofs.OneStep.{first-once, visits-once}
 
 true-or-false : (b : Bool) → b ≡ true → b ≡ false → ⊥

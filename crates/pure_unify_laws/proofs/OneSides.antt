@@ -1,13 +1,13 @@
 -- Sides come to one long form or stop at most.
-use Rattle.std.proofs.Common.{◌≡◌, List, [], ◌∷◌, refl, ap, sym, subst, ◌∙◌}
+use Rattle.std.proofs.Common.{◌≡◌, List, [], ◌∷◌, refl, ap, sym, subst}
 use Rattle.pure_definitions.specs.Terms.Term.{Term, IsWithin}
-use Rattle.pure_definitions.specs.Reduction.Beta.{BetaAnswer, IsBetaAnswer, TooLarge, NormalForm, TooManySteps}
+use Rattle.pure_definitions.specs.Reduction.Beta.{IsBetaAnswer, TooLarge, NormalForm, TooManySteps}
 use Rattle.pure_definitions.specs.Reduction.Eta.{IsLongForm}
 use Rattle.pure_term_laws.proofs.BetaLaws.{one_beta_answer}
 use Rattle.pure_term_laws.proofs.EtaLaws.{one_long_form}
 use Rattle.pure_logic.specs.Derivable.{Pair}
 use Rattle.pure_unify_definitions.specs.Fronts.{pair}
-use Rattle.pure_unify_definitions.specs.LongSides.{Stop, Steps, Big, Side, Long, Ends, ComesTo, is_long, has_steps, is_large, is_wide, Sides, AllLong, Stopped, AreLong, no_more, left_stops, right_stops, later_stops, both_long}
+use Rattle.pure_unify_definitions.specs.LongSides.{Stop, Side, Long, Ends, ComesTo, is_long, has_steps, is_large, is_wide, Sides, AllLong, Stopped, AreLong, no_more, left_stops, right_stops, later_stops, both_long}
 
 -- two normal forms, and their long forms
 normal-once : (t n m : Term) → IsBetaAnswer t (NormalForm n) → IsBetaAnswer t (NormalForm m) → n ≡ m

@@ -12,7 +12,7 @@ use Rattle.pure_tunify.specs.Procedure.{Outcome, Unified, NotTyped, TooBig}
 use Rattle.pure_tunify.proofs.OneAnswerLaws.{unifies_one}
 use Rattle.pure_unify_definitions.specs.Fronts.{argument_pairs}
 use Rattle.pure_unify_definitions.specs.Node.{Node, Typs, Single, with_setting_put, node_variables}
-use Rattle.pure_unify_definitions.specs.LongSides.{Stop, Big, Sides, AllLong, Stopped, AreLong}
+use Rattle.pure_unify_definitions.specs.LongSides.{Big, Sides, AllLong, Stopped, AreLong}
 use Rattle.pure_unify_definitions.specs.Treatment.{Treatment, Drop, Differ, Fail, Put, Split, Unify, Leave, IsTreatment}
 use Rattle.pure_unify_definitions.specs.Retyping.{Next, Goes, Fails, Stops, Unifying, MakesTwoSame, retyped, IsRetyped, no_typing, beyond, two_same, side_stops, all_long}
 use Rattle.pure_unify_definitions.specs.Simplification.{IsLeft, IsFirst, with_pairs, with_bind, IsSplitAt, Applies, drops, retypes, fails, puts, put_stops, splits, unifies, unify_fails, unify_stops, Visit, Simple, Failed, Halted, Simplifies, simple, step, failed, halted, Visits, visited, visit_stops}

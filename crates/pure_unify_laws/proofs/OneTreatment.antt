@@ -1,6 +1,6 @@
 -- A pair has one treatment at most.
-use Rattle.std.proofs.Common.{◌≡◌, ◌≢◌, ◌⊎◌, ℕ, ◌+◌, [], Bool, true, false, ◌&&◌, ◌||◌, inl, inr, refl, ap, sym, subst, ◌∙◌}
-use Rattle.std.specs.Cmp.{first_so, second_so}
+use Rattle.std.proofs.Common.{◌≡◌, ◌≢◌, ◌⊎◌, ℕ, ◌+◌, [], Bool, true, false, ◌&&◌, ◌||◌, inl, inr, refl, sym, subst, ◌∙◌}
+use Rattle.std.specs.Cmp.{second_so}
 use Rattle.pure_definitions.specs.Types.Typ.{Typ}
 use Rattle.pure_definitions.specs.Terms.Term.{Term, Const, Free, Var, Bound, Abs, App, term_eq}
 use Rattle.pure_definitions.specs.Terms.Bounds.{Occurs}
@@ -12,14 +12,14 @@ use Rattle.pure_term_laws.proofs.EtaNormalLaws.{one_eta_normal_form}
 use Rattle.pure_unify_definitions.specs.Fronts.{front, head, is_flexible}
 use Rattle.pure_unify_definitions.specs.Firm.{is_firm_head, stands_in, stands_in_arguments, occurs_firmly}
 use Rattle.pure_unify_definitions.specs.Node.{bind}
-use Rattle.pure_unify_definitions.specs.Treatment.{Treatment, Drop, Differ, Fail, Put, Split, Unify, Leave, IsBare, IsBareSide, left_bare, right_bare, AreOfOneTyp, ArePastVariables, AreRigid, AreApart, IsTreatment, equal, differ, firm, absent, same_heads, constants, clash, left}
+use Rattle.pure_unify_definitions.specs.Treatment.{Treatment, Drop, Differ, Fail, Put, Split, Unify, Leave, IsBareSide, left_bare, right_bare, AreOfOneTyp, AreApart, IsTreatment, equal, differ, firm, absent, same_heads, constants, clash, left}
 
 pub either : (a b : Bool) → (a || b) ≡ true → (a ≡ true) ⊎ (b ≡ true)
 either true b e = inl refl
 either false b e = inr e
 
 -- A variable that stands on a firm path occurs.
-occurs-itself : (t : Term) → Occurs t t
+pub occurs-itself : (t : Term) → Occurs t t
 occurs-itself (Const c T) = refl
 occurs-itself (Free x T) = refl
 occurs-itself (Var x i T) = refl
@@ -78,7 +78,7 @@ firm-occurs v (Bound p) e = arguments-occur v 0 (Bound p) (second_so (is_firm_he
 firm-occurs v (App f a) e = arguments-occur v 0 (App f a) (second_so (is_firm_head 0 (front (App f a))) (stands_in_arguments v 0 (App f a)) e)
 
 -- The side that is looked at is one.
-bare-once : (l r v w o p : Term) → IsBareSide l r v o → IsBareSide l r w p → (v ≡ w) × (o ≡ p)
+pub bare-once : (l r v w o p : Term) → IsBareSide l r v o → IsBareSide l r w p → (v ≡ w) × (o ≡ p)
 bare-once l r v w o p (left_bare b e) (left_bare c f) = (one_eta_normal_form l v w b.form c.form, e ∙ sym f)
 bare-once l r v w o p (left_bare b e) (right_bare n c f) = absurd (n v b)
 bare-once l r v w o p (right_bare n b e) (left_bare c f) = absurd (n w c)

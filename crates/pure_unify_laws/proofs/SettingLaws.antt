@@ -1,32 +1,24 @@
 -- Settings, put in one after the other, keep terms equated.
-use Rattle.std.proofs.Common.{◌≡◌, ℕ, ◌+◌, List, [], ◌∷◌, ◌++◌, map, inl, inr, refl, ap, sym, subst, ◌∙◌}
-use Rattle.pure_text.specs.Lists.{IsIn, Each}
+use Rattle.std.proofs.Common.{◌≡◌, List, [], ◌∷◌, ◌++◌, map, refl, ap, sym, subst, ◌∙◌}
+use Rattle.pure_text.specs.Lists.{Each}
 use Rattle.pure_definitions.specs.Types.Typ.{Typ}
-use Rattle.pure_definitions.specs.Terms.Term.{Term, Var, Abs, App, IsWithin}
-use Rattle.pure_definitions.specs.Terms.Bounds.{Occurs}
-use Rattle.pure_definitions.specs.Terms.Conditions.{IsVariable}
-use Rattle.pure_definitions.specs.Terms.Subst.{TermBind, term_variable, term_image, typ_instance, term_instance, inst_term}
-use Rattle.pure_definitions.specs.Terms.Typing.{HasType}
-use Rattle.pure_definitions.specs.Reduction.Beta.{IsBetaAnswer, NormalForm}
-use Rattle.pure_definitions.specs.Reduction.Eta.{abstraction_count, arrow_count, HasSaturatedParts, IsLongForm}
-use Rattle.pure_definitions.specs.Models.Equality.{term_eq-itself}
-use Rattle.pure_definitions.proofs.BindLemmas.{term_eq-other}
+use Rattle.pure_definitions.specs.Terms.Term.{Term, Abs, App}
+use Rattle.pure_definitions.specs.Terms.Subst.{term_image, typ_instance, term_instance}
 use Rattle.pure_term_laws.proofs.TypingLaws.{typed-once}
-use Rattle.pure_term_laws.proofs.SubstLaws.{inst_term-alone, term_instance-identity}
-use Rattle.pure_term_laws.proofs.OccursLaws.{agreeing_instance}
+use Rattle.pure_term_laws.proofs.SubstLaws.{inst_term-alone}
 use Rattle.pure_definitions.specs.Declarations.Decl.{Decl}
 use Rattle.pure_logic.specs.Content.{Content, IsContent, IsBelow}
 use Rattle.pure_logic.specs.PureContent.{pure_content}
 use Rattle.pure_logic.specs.Derivable.{Pair}
 use Rattle.pure_logic.specs.Laws.Substitution.{pair_instance}
 use Rattle.pure_tunify.specs.Settings.{composed}
-use Rattle.pure_equated.specs.Equated.{IsTypedUnder, AreEquated, IsPairEquated}
+use Rattle.pure_equated.specs.Equated.{IsTypedUnder, AreEquated}
 use Rattle.pure_equated.proofs.SidesLaws.{equated_are_typed}
 use Rattle.pure_equated.proofs.KeptLaws.{equated_of_instance, equated_modulo_others}
 use Rattle.pure_equated.proofs.ReductionLaws.{beta_normal_form_is_equated, long_form_is_equated}
 use Rattle.pure_unify_definitions.specs.Fronts.{pair}
 use Rattle.pure_unify_definitions.specs.Node.{Setting, Typs, Single, with_setting, with_setting_put, term_after}
-use Rattle.pure_unify_definitions.specs.LongSides.{Long, ComesTo, is_long, Sides, AllLong, AreLong, no_more, both_long}
+use Rattle.pure_unify_definitions.specs.LongSides.{Long, ComesTo, is_long}
 use Rattle.pure_unify_laws.specs.Reached.{setting_typs, setting_terms, IsRespecting, AreSidesCertified, pair_after}
 
 -- A setting put into a term is an instance of it.

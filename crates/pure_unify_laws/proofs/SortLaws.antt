@@ -1,10 +1,10 @@
 -- The settings of type variables on a path respect sorts.
-use Rattle.std.proofs.Common.{◌≡◌, ℕ, ◌+◌, List, [], ◌∷◌, ◌++◌, map, inl, inr, refl, ap, sym, subst, ◌∙◌, append_assoc}
+use Rattle.std.proofs.Common.{◌≡◌, ℕ, ◌+◌, List, [], ◌∷◌, map, inl, inr, refl, sym, subst}
 use Rattle.pure_text.specs.Lists.{IsIn, Each}
 use Rattle.pure_text.proofs.ListLaws.{each-append, each_of, each_at}
 use Rattle.pure_definitions.specs.Types.Typ.{Typ, TVar}
 use Rattle.pure_definitions.specs.Types.Order.{Algebra, IsOfClass, IsOfSort}
-use Rattle.pure_definitions.specs.Terms.Subst.{TypBind, typ_image, typ_instance}
+use Rattle.pure_definitions.specs.Terms.Subst.{TypBind, typ_image}
 use Rattle.pure_definitions.specs.Terms.Term.{Term, Const, Free, Var, Bound, Abs, App}
 use Rattle.pure_logic.specs.Derivable.{Pair}
 use Rattle.pure_tunify.specs.declared.pair.TypPair.{TypPair}
@@ -12,9 +12,9 @@ use Rattle.pure_tunify.specs.Unifiers.{IsSubstitution}
 use Rattle.pure_tunify.specs.Settings.{composed, bind}
 use Rattle.pure_tunify.specs.Procedure.{Narrows, IsNeededSort, IsTreated, Equalises, Unifies, Outcome, Unified}
 use Rattle.pure_tunify.proofs.MapLaws.{identity_is_substitution, after_is_substitution, setting_is_substitution}
-use Rattle.pure_unify_definitions.specs.Node.{Setting, Typs, Single, Node, root, bind as node_bind}
-use Rattle.pure_unify_definitions.specs.Retyping.{Next, Goes, IsRetyped, all_long}
-use Rattle.pure_unify_definitions.specs.Simplification.{with_pairs, Applies, drops, retypes, puts, splits, unifies, Visit, Simple, Simplifies, simple, step, Visits, visited}
+use Rattle.pure_unify_definitions.specs.Node.{Typs, Single, Node, bind as node_bind}
+use Rattle.pure_unify_definitions.specs.Retyping.{Goes, IsRetyped, all_long}
+use Rattle.pure_unify_definitions.specs.Simplification.{Applies, drops, retypes, puts, splits, unifies, Simple, Simplifies, simple, step, Visits, visited}
 use Rattle.pure_unify_definitions.specs.Children.{children, child, images}
 use Rattle.pure_unify_laws.specs.Reached.{Leads, at_once, by_child, IsReached, RespectsSorts}
 
@@ -55,6 +55,10 @@ module _ (A : Algebra) where
   unified-sorts (Unifies.big b l) h found m e = absurd (cc)
   unified-sorts (Unifies.next {sets = sets} {more = more} q l rest) h found m e =
       unified-sorts rest (each-append (λ b. IsOfSort A b.image b.sort) sets more h (equalised-sorts q)) found m e
+
+  -- What unifies two types is a substitution.
+  pub unified_substitution : {index at n : ℕ} {ps : List TypPair} (sets : List TypBind) (next : ℕ) → Unifies A index at n [] ps (Unified sets next) → IsSubstitution A (composed sets)
+  unified_substitution sets next u = composed-substitution sets (unified-sorts u tt sets next refl)
 
 module _ (A : Algebra) (maxidx : ℕ) where
   retyped-sorts : (n m : Node) (T U : Typ) → IsRetyped A maxidx n T U (Goes m) → Each (RespectsSorts A) n.path.settings → Each (RespectsSorts A) m.path.settings
