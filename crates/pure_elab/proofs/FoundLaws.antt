@@ -7,8 +7,9 @@ use Rattle.pure_definitions.specs.Names.{builtin_count, protect_name}
 use Rattle.pure_definitions.specs.Types.Typ.{Typ}
 use Rattle.pure_definitions.specs.Declarations.Decl.{Decl, ClassDecl, ConDecl, ArityDecl, ConstDecl, AxiomDecl, PromiseDecl}
 use Rattle.pure_typ.specs.NameTexts.{builtin_texts, name_texts, HasText, IsFound, NameHasBase}
-use Rattle.pure_typ.specs.NameBases.{names_with_base}
+use Rattle.pure_typ.specs.NameBases.{name_base, names_with_base}
 use Rattle.pure_typ.proofs.ByBaseLemmas.{with_base-exact}
+use Rattle.pure_typ.proofs.BaseLemmas.{name-is, name-has}
 use Rattle.pure_logic.specs.Content.{TheoryId, Content, IsContent}
 use Rattle.pure_logic.specs.Beginning.{theories_of}
 use Rattle.pure_lookup.specs.Meaning.{Space, classes, constructors, constants, facts, full_text, Meaning, Declared, Built, IsDeclaredIn, IsWritable, IsVisible, IsMeantInFull, IsMeant}
@@ -16,10 +17,10 @@ use Rattle.pure_lookup.specs.Places.{IsPlaceOf, IsTheoryIn, IsBest}
 use Rattle.pure_lookup.specs.LookUps.{IsFoundName}
 use Rattle.pure_lookup.specs.Laws.{IsInSession}
 use Rattle.pure_lookup.proofs.MeaningLaws.{visible-writable}
-use Rattle.pure_lookup.proofs.PlaceLemmas.{place-in_pure, place-untheoried, place-textless, place-unnamed, place-at_index, place-unindexed, full-found, full-invisible, best-kept, best-new, best-before, meant-full, meant-based}
+use Rattle.pure_lookup.proofs.PlaceLemmas.{place-in_pure, place-untheoried, place-textless, place-unnamed, place-at_index, place-unindexed, full-found, full-invisible, full-baseless, full-dotted, dotted, best-kept, best-new, best-before, meant-full, meant-based}
 use Rattle.pure_certify.specs.Tables.{IsParams, IsUnknownConst, IsConstOf}
 use Rattle.pure_elab.specs.Meant.{outward}
-use Rattle.pure_elab.specs.Found.{longer, front_of, number_among, index_among, declares, is_declared_in, place_by_number, place_by_front, place_by_text, place_at, Best, with_candidate, best_of, if_visible, found_in_full, found_by_front, found, params_among, typ_declared_among}
+use Rattle.pure_elab.specs.Found.{longer, front_of, number_among, index_among, declares, is_declared_in, place_by_number, place_by_front, place_by_text, place_at, Best, with_candidate, best_of, if_visible, if_clean, if_based, found_in_full, found_by_front, found, params_among, typ_declared_among}
 use Rattle.pure_elab.specs.Laws.{ContentHasVocabulary}
 
 -- What is said of a text's front.
@@ -204,17 +205,27 @@ module _ (texts : List (List ℕ)) (Q : Content) (s : IsInSession texts Q) (spac
       nothing (Built k) (inl m) = unbuilt m.1.place m.1.theory m.1.base k m.1.visible
       nothing (Built k) (inr m) = unbuilt m.1.place m.1.theory written k m.1.visible
 
-  visible_says : (written : List ℕ) (n : ℕ) → HasText texts n written → (o : Option ℕ) → IsPlaceOf texts Q space n o
+  visible_says : (written base : List ℕ) (n : ℕ) → HasText texts n written → NameHasBase texts base n → ¬ IsIn 46 base → (o : Option ℕ) → IsPlaceOf texts Q space n o
       → MatchOption (if_visible n o) ((k : ℕ) → ¬ IsMeantInFull texts Q space written (Declared k)) (λ k. IsMeantInFull texts Q space written (Declared k))
-  visible_says written n has None absent = full-invisible texts Q space s written n has absent
-  visible_says written n has (Some place) here = full-found texts Q space s written n place has here
+  visible_says written base n has based clean None absent = full-invisible texts Q space s written n has absent
+  visible_says written base n has based clean (Some place) here = full-found texts Q space s written base n place has based clean here
+
+  clean_says : (written base : List ℕ) (n : ℕ) → HasText texts n written → NameHasBase texts base n → (o : Option (List ℕ)) → FrontSays base o
+      → MatchOption (if_clean o (if_visible n (place_at texts Q space n))) ((k : ℕ) → ¬ IsMeantInFull texts Q space written (Declared k)) (λ k. IsMeantInFull texts Q space written (Declared k))
+  clean_says written base n has based None clean = visible_says written base n has based clean (place_at texts Q space n) (place_says n)
+  clean_says written base n has based (Some t) cut = full-dotted texts Q space s written base n has based (dotted base t cut)
+
+  based_says : (written : List ℕ) (n : ℕ) → HasText texts n written → (o : Option (List ℕ)) → name_base texts n ≡ o
+      → MatchOption (if_based o (if_visible n (place_at texts Q space n))) ((k : ℕ) → ¬ IsMeantInFull texts Q space written (Declared k)) (λ k. IsMeantInFull texts Q space written (Declared k))
+  based_says written n has None e = full-baseless texts Q space s written n has (λ base h. let is = name-is texts base n h in absurd (cc))
+  based_says written n has (Some base) e = clean_says written base n has (name-has texts base n e) (front_of base) (front_says base)
 
   full_says : (written : List ℕ) (o : Option ℕ) → IsFound (name_texts texts) written o → MatchOption (found_in_full texts Q space o) ((k : ℕ) → ¬ IsMeantInFull texts Q space written (Declared k)) (λ k. IsMeantInFull texts Q space written (Declared k))
   full_says written None absent = λ k m. absent k (full_text_of k m)
     where
       full_text_of : (k : ℕ) → IsMeantInFull texts Q space written (Declared k) → HasText texts k written
       full_text_of k m = text_of k m.place m.theory m.base m.visible ∙ ap Some (sym m.full)
-  full_says written (Some n) has = visible_says written n has (place_at texts Q space n) (place_says n)
+  full_says written (Some n) has = based_says written n has (name_base texts n) refl
 
   front_found : (written : List ℕ) (o : Option (List ℕ)) → FrontSays written o → IsFoundName texts Q space written (found_by_front texts Q space written o)
   front_found written (Some theory) cut =

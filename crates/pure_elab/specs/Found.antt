@@ -5,7 +5,7 @@ use Rattle.pure_definitions.specs.Names.{builtin_count, protect_name}
 use Rattle.pure_definitions.specs.Types.Typ.{Typ}
 use Rattle.pure_definitions.specs.Declarations.Decl.{Decl, ClassDecl, ConDecl, ConstDecl, AxiomDecl, PromiseDecl, algebra_of}
 use Rattle.pure_typ.specs.NameTexts.{name_texts}
-use Rattle.pure_typ.specs.NameBases.{names_with_base}
+use Rattle.pure_typ.specs.NameBases.{name_base, names_with_base}
 use Rattle.pure_logic.specs.Content.{TheoryId, Content}
 use Rattle.pure_logic.specs.Beginning.{theories_of}
 use Rattle.pure_lookup.specs.Meaning.{Space, classes, constructors, constants, facts}
@@ -83,9 +83,18 @@ abbrev pub if_visible : (name : ℕ) → Option ℕ → Option ℕ
 if_visible n None = None
 if_visible n (Some place) = Some n
 
+-- what is found, where the base has no dot (46)
+abbrev pub if_clean : (front : Option (List ℕ)) → Option ℕ → Option ℕ
+if_clean None o = o
+if_clean (Some t) o = None
+
+abbrev pub if_based : (base : Option (List ℕ)) → Option ℕ → Option ℕ
+if_based None o = None
+if_based (Some base) o = if_clean (front_of base) o
+
 abbrev pub found_in_full : (texts : List (List ℕ)) → Content → Space → Option ℕ → Option ℕ
 found_in_full texts Q space None = None
-found_in_full texts Q space (Some n) = if_visible n (place_at texts Q space n)
+found_in_full texts Q space (Some n) = if_based (name_base texts n) (if_visible n (place_at texts Q space n))
 
 abbrev pub found_by_front : (texts : List (List ℕ)) → Content → Space → (written : List ℕ) → Option (List ℕ) → Option ℕ
 found_by_front texts Q space written None = (best_of texts Q space (record { name = None; last = 0 }) (names_with_base texts written)).name

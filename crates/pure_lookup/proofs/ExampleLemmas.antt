@@ -57,7 +57,7 @@ last_example = (
 )
 
 pub full_example : FullExample
-full_example = inl (is_in-in 46 (codes "A.x") refl, record { place = 2; theory = codes "A"; base = codes "x"; full = refl; visible = x-of_A 1 2 })
+full_example = inl (is_in-in 46 (codes "A.x") refl, record { place = 2; theory = codes "A"; base = codes "x"; full = refl; clean = no_dot (codes "x") refl; visible = x-of_A 1 2 })
 
 pure-fun : slice_get builtin_texts 0 ≡ Some (full_text pure_text (codes "fun"))
 unfolding builtin_texts pure_text
@@ -96,7 +96,7 @@ pure_example = (
     },
   ),
   inr (no_dot (codes "refl") refl, record { place = 0; theory = pure_text; visible = inl (refl, refl, (refl, pure-refl)); last = in_pure facts (codes "refl") }),
-  inl (is_in-in 46 (codes "Pure.refl") refl, record { place = 0; theory = pure_text; base = codes "refl"; full = pure-refl_text; visible = inl (refl, refl, (refl, pure-refl)) }),
+  inl (is_in-in 46 (codes "Pure.refl") refl, record { place = 0; theory = pure_text; base = codes "refl"; full = pure-refl_text; clean = no_dot (codes "refl") refl; visible = inl (refl, refl, (refl, pure-refl)) }),
 )
 
 -- The only fact that Pure's content declares is the axiom of the mark.

@@ -174,7 +174,7 @@ module _ (texts : List (List ℕ)) (Q : Content) (d : Decl) (space : Space) wher
     old-by_base t n new text = (other n t written new text).1 refl
 
     meant-more : (m : Meaning) → IsMeant texts Q space written m → IsMeant texts (with_decl Q d) space written m
-    meant-more m (inl (dot, h)) = inl (dot, record { place = h.place; theory = h.theory; base = h.base; full = h.full; visible = visible-more h.place h.theory h.base m h.visible })
+    meant-more m (inl (dot, h)) = inl (dot, record { place = h.place; theory = h.theory; base = h.base; full = h.full; clean = h.clean; visible = visible-more h.place h.theory h.base m h.visible })
     meant-more m (inr (dot, h)) = inr (
       dot,
       record {
@@ -186,7 +186,7 @@ module _ (texts : List (List ℕ)) (Q : Content) (d : Decl) (space : Space) wher
     )
 
     meant-back : (m : Meaning) → IsMeant texts (with_decl Q d) space written m → IsMeant texts Q space written m
-    meant-back m (inl (dot, h)) = inl (dot, record { place = h.place; theory = h.theory; base = h.base; full = h.full; visible = visible-back h.place h.theory h.base m (old-in_full h.theory h.base h.full) h.visible })
+    meant-back m (inl (dot, h)) = inl (dot, record { place = h.place; theory = h.theory; base = h.base; full = h.full; clean = h.clean; visible = visible-back h.place h.theory h.base m (old-in_full h.theory h.base h.full) h.visible })
     meant-back m (inr (dot, h)) = inr (
       dot,
       record {
@@ -219,5 +219,5 @@ module _ (texts : List (List ℕ)) (Q : Content) (s : IsInSession texts Q) (t : 
     pub new_is_meant : (¬ IsIn 46 base) → IsMeant texts (with_decl Q d) space base (Declared n) × IsMeant texts (with_decl Q d) space (full_text theory base) (Declared n)
     new_is_meant clean = (
       inr (clean, record { place = 1 + t.index; theory = theory; visible = new-visible; last = place-last }),
-      inl (in-append_right 46 theory (46 ∷ base) (inl refl), record { place = 1 + t.index; theory = theory; base = base; full = refl; visible = new-visible }),
+      inl (in-append_right 46 theory (46 ∷ base) (inl refl), record { place = 1 + t.index; theory = theory; base = base; full = refl; clean = clean; visible = new-visible }),
     )

@@ -76,9 +76,6 @@ module _ (texts : List (List ℕ)) (Q : Content) (space : Space) where
         absent u.0 u.1 (one_name texts s.names theory u.0.name k u.2 named)
 
     -- Look-ups by full names.
-    pub full-found : (written : List ℕ) (n : ℕ) (place : ℕ) → HasText texts n written → IsPlaceOf texts Q space n (Some place) → IsMeantInFull texts Q space written (Declared n)
-    full-found written n place has (t, b, v) = record { place = place; theory = t; base = b; full = Some-inj (sym has ∙ visible-text place t b n v); visible = v }
-
     pub full-invisible : (written : List ℕ) (k : ℕ) → HasText texts k written → IsPlaceOf texts Q space k None → (n : ℕ) → ¬ IsMeantInFull texts Q space written (Declared n)
     full-invisible written k has absent n h =
         let text : HasText texts n written = visible-text h.place h.theory h.base n h.visible ∙ ap Some (sym h.full) in
@@ -94,6 +91,27 @@ module _ (texts : List (List ℕ)) (Q : Content) (space : Space) where
     -- The names with the base are all that are visible with it.
     visible-based : (base : List ℕ) (n p : ℕ) (t : List ℕ) → IsVisible texts Q space p t base (Declared n) → NameHasBase texts base n
     visible-based base n p t v = (full_text t base, visible-text p t base n v, (t, visible-clean p t base (Declared n) v, refl))
+
+    -- A name with a base, under its own text.
+    pub full-found : (written base : List ℕ) (n : ℕ) (place : ℕ) → HasText texts n written → NameHasBase texts base n → ¬ IsIn 46 base → IsPlaceOf texts Q space n (Some place) → IsMeantInFull texts Q space written (Declared n)
+    full-found written base n place has based clean (t, b, v) = record {
+      place = place;
+      theory = t;
+      base = b;
+      full = Some-inj (sym has ∙ visible-text place t b n v);
+      clean = rw (at-base base n place t b based v) clean;
+      visible = v;
+    }
+
+    -- Who has the text written is the name with it.
+    full-name : (written : List ℕ) (k : ℕ) → HasText texts k written → (n : ℕ) → IsMeantInFull texts Q space written (Declared n) → n ≡ k
+    full-name written k has n h = one_name texts s.names written n k (visible-text h.place h.theory h.base n h.visible ∙ ap Some (sym h.full)) has
+
+    pub full-baseless : (written : List ℕ) (k : ℕ) → HasText texts k written → ((base : List ℕ) → ¬ NameHasBase texts base k) → (n : ℕ) → ¬ IsMeantInFull texts Q space written (Declared n)
+    full-baseless written k has none n h = none h.base (rw (← full-name written k has n h) (visible-based h.base n h.place h.theory h.visible))
+
+    pub full-dotted : (written base : List ℕ) (k : ℕ) → HasText texts k written → NameHasBase texts base k → IsIn 46 base → (n : ℕ) → ¬ IsMeantInFull texts Q space written (Declared n)
+    full-dotted written base k has based dot n h = h.clean (rw (at-base base n h.place h.theory h.base (rw (full-name written k has n h) based) h.visible) dot)
 
     pub base-found : (written : List ℕ) (names : List ℕ) (n last : ℕ) → ((k : ℕ) → NameHasBase texts written k → IsIn k names) → IsBest texts Q space written names (Some n) last → IsMeantByBase texts Q space written (Declared n)
     base-found written names n last all ((t, v), after) = record { place = last; theory = t; visible = v; last = by }
@@ -174,6 +192,10 @@ module _ (texts : List (List ℕ)) (Q : Content) (space : Space) where
 -- What the tests of a name say.
 pub writable-of : (Q : Content) (space : Space) (n : ℕ) (b d : Bool) → b ≡ nat_eq n protect_name → b ≡ false → (IsTrue d ↔ IsDeclaredIn space Q.declarations n) → d ≡ true → IsWritable Q space n
 writable-of Q space n b d e f h t = record { declared = h.0 t; other = λ same. (let yes = eq-eqb n protect_name same in true≢false (sym yes ∙ (sym e ∙ f))) }
+
+-- A text with a theory in front has a dot.
+pub dotted : (text theory : List ℕ) → IsTheoryIn text theory → IsIn 46 text
+dotted text theory cut = rw cut.2 (in-append_right 46 theory (46 ∷ cut.0) (inl refl))
 
 -- The text is cut at a dot, and what is in front of it has none.
 pub dot-split : (text : List ℕ) (at : ℕ) → at < length text → get_or text at 0 ≡ 46 → text ≡ take at text ++ 46 ∷ drop (at + 1) text

@@ -60,12 +60,13 @@ abbrev pub IsVisible : (texts : List (List ℕ)) → Content → Space → (plac
 IsVisible texts Q space place theory base m = ((place ≡ 0) × (theory ≡ pure_text) × IsOfPure Q space (full_text theory base) m)
     ⊎ ((t : TheoryId) × IsIn t (theories_of Q) × (place ≡ 1 + t.index) × HasText texts t.name theory × IsOfTheory texts Q space (full_text theory base) m)
 
--- A written name with a dot means what is visible under just that full name.
+-- A written name with a dot means what is visible under just that full name; a base has no dot.
 pub record IsMeantInFull (texts : List (List ℕ)) (Q : Content) (space : Space) (written : List ℕ) (m : Meaning) : Type 0 where
   pub place : ℕ
   pub theory : List ℕ
   pub base : List ℕ
   pub full : written ≡ full_text theory base
+  pub clean : ¬ IsIn 46 base
   pub visible : IsVisible texts Q space place theory base m
 
 -- A written name without a dot means, of what is visible with that base, what has its theory last in load order.

@@ -69,6 +69,12 @@ fn find_in_full<S: Scope>(scope: &S, names: &Names, written: &[u8]) -> Option<Na
     let Some(name) = names.find(written) else {
         return None;
     };
+    let Some(base) = names.base(name) else {
+        return None;
+    };
+    if let Some(_) = theory_in(base) {
+        return None;
+    }
     match place_of(scope, names, name) {
         None => None,
         Some(_) => Some(name),

@@ -8,3 +8,4 @@ pub mod OtherLaws
 pub mod AlgebraLaws
 pub mod SameLaws
 pub mod GetLaws
+pub mod AgreementLaws

@@ -5,5 +5,6 @@ pub mod Kept
 pub mod View
 pub mod Tables
 pub mod Missing
+pub mod Agreement
 pub mod Named
 pub mod Same

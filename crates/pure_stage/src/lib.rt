@@ -1,6 +1,7 @@
 //! Declarations in tables that stages of a theory share.
 #![tactic(auto)]
 
+mod agreement;
 mod decl;
 mod declarations;
 mod entry;

@@ -57,7 +57,7 @@ fn is_same_entry(first: &Entry, second: &Entry) -> bool
 
 impl Declarations {
     /// Whether the entry at the place holds the same declaration.
-    fn is_at(&self, place: u32, entry: &Entry) -> bool
+    pub(crate) fn is_at(&self, place: u32, entry: &Entry) -> bool
         ensures { IsTrue result ↔ (slice_get self.now place ≡ Some (decl_of entry.now)) }
     {
         match self.entry_at(place) {

@@ -73,7 +73,7 @@ module _ (texts : List (List ℕ)) (Q : Content) (written : List ℕ) (none_decl
   full_meant k e =
       let is = built_base k written e in
       let dotted : IsIn 46 written = rw is.2 (in-append_right 46 pure_text (46 ∷ is.0) (inl refl)) in
-      inl (dotted, record { place = 0; theory = pure_text; base = is.0; full = is.2; visible = inl (refl, refl, (refl, (rw (← is.2) e))) })
+      inl (dotted, record { place = 0; theory = pure_text; base = is.0; full = is.2; clean = (base_built k is.0 is.1).1; visible = inl (refl, refl, (refl, (rw (← is.2) e))) })
 
   -- Where no axiom and no promise is meant, the built fact is found whose text is written.
   pub found_built : (k : ℕ) → IsBuiltText written k → IsFoundFact texts Q written (Some (BuiltFact k))

@@ -55,9 +55,9 @@ module _ (Q : Content) (A : Algebra) (h : IsStage Q A) where
 
 -- A class or an arity makes a stage with the order that has it too.
 module _ (Q : Content) (h : IsSound Q) (C B : Algebra) (same : C ≡ algebra_of Q.declarations) (coregular : IsCoregular B) where
-  pub class_stage : (k : Class) → ¬ IsDeclaredClass Q.declarations k.name → B ≡ with_class C k → IsStage (with_decl Q (ClassDecl k)) B
-  class_stage k undeclared is = record {
-    sound = sound_grown Q (ClassDecl k) h (λ m. fresh (ClassDecl k, m, refl)) fresh (λ e m r. absurd r) tt (subst IsCoregular more coregular) tt;
+  pub class_stage : (k : Class) → ¬ IsDeclaredClass Q.declarations k.name → Each (IsDeclared C.classes) k.above → B ≡ with_class C k → IsStage (with_decl Q (ClassDecl k)) B
+  class_stage k undeclared known is = record {
+    sound = sound_grown Q (ClassDecl k) h (λ m. fresh (ClassDecl k, m, refl)) fresh (λ e m r. absurd r) tt (subst IsCoregular more coregular) certified;
     order = more;
   }
     where
@@ -66,6 +66,12 @@ module _ (Q : Content) (h : IsSound Q) (C B : Algebra) (same : C ≡ algebra_of 
 
       fresh : ¬ HasNamesake Q.declarations (ClassDecl k)
       fresh = new_class Q.declarations k (λ d. undeclared (declared_class Q.declarations k.name d))
+
+      there : Each (IsDeclared (classes_of Q.declarations)) k.above
+      there = subst (λ (A : Algebra). Each (IsDeclared A.classes) k.above) same known
+
+      certified : Each (IsDeclaredClass Q.declarations) k.above
+      certified = each_imply (IsDeclared (classes_of Q.declarations)) (IsDeclaredClass Q.declarations) k.above (declared_class Q.declarations) there
 
   pub arity_stage : (a : Arity) → HasCon Q.declarations a → IsKnown C.classes a → ¬ HasArityFor C a.con a.class → Each IsStrictlyIncreasing a.domains → B ≡ with_arity C a → IsStage (with_decl Q (ArityDecl a)) B
   arity_stage a con known absent ascend is = record {

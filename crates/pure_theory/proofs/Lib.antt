@@ -10,3 +10,5 @@ pub mod OnceLaws
 pub mod MergeLaws
 pub mod FactLookupLaws
 pub mod CertifiedLaws
+pub mod AgreedLaws
+pub mod PlainLaws

@@ -60,13 +60,13 @@ merge_after-snoc before (P ∷ Ps) Q mid after h a c = (h.0, h.1, h.2, merge_aft
 pub merge_turn : (parents : List Content) (i : ℕ) (P : Content) (mid after : List Decl) → slice_get parents i ≡ Some P → IsMerge (take i parents) mid → IsAdded mid P.declarations after → IsCoregular (algebra_of after) → IsMerge (take (i + 1) parents) after
 merge_turn parents i P mid after held h a c = rw (add-one, take_next parents i P held) (merge_after-snoc [] (take i parents) P mid after h a c)
 
-any-take : (R : Content → Type 0) (parents : List Content) (i : ℕ) → AnyOf R (take i parents) → AnyOf R parents
+pub any-take : (R : Content → Type 0) (parents : List Content) (i : ℕ) → AnyOf R (take i parents) → AnyOf R parents
 any-take R [] zero m = absurd m
 any-take R [] (suc i) m = absurd m
 any-take R (P ∷ Ps) zero m = absurd m
 any-take R (P ∷ Ps) (suc i) m = elim m [ inl p ↦ inl p | inr n ↦ inr (any-take R Ps i n) ]
 
-get_any : (R : Content → Type 0) (parents : List Content) (i : ℕ) (P : Content) → slice_get parents i ≡ Some P → R P → AnyOf R parents
+pub get_any : (R : Content → Type 0) (parents : List Content) (i : ℕ) (P : Content) → slice_get parents i ≡ Some P → R P → AnyOf R parents
 get_any R parents i P held h = rw (split_get parents i P held) (any_of R P (take i parents ++ P ∷ drop (suc i) parents) (in-append_right P (take i parents) (P ∷ drop (suc i) parents) (inl refl)) h)
 
 -- Each of the declarations that are merged is one of a parent, so they agree with those of another parent.

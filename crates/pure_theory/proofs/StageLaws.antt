@@ -5,7 +5,7 @@ use Rattle.pure_text.proofs.ListLaws.{in_split, in-append_left, in-append_right,
 use Rattle.pure_definitions.specs.Types.Typ.{prop}
 use Rattle.pure_definitions.specs.Types.Order.{IsCoregular}
 use Rattle.pure_definitions.specs.Terms.Term.{Term}
-use Rattle.pure_definitions.specs.Declarations.Decl.{Decl, ClassDecl, ConDecl, ArityDecl, ConstDecl, AxiomDecl, PromiseDecl, algebra_of}
+use Rattle.pure_definitions.specs.Declarations.Decl.{Decl, ClassDecl, ConDecl, ArityDecl, ConstDecl, AxiomDecl, PromiseDecl, algebra_of, IsDeclaredClass}
 use Rattle.pure_definitions.specs.Declarations.Certified.{IsCertifiedSort}
 use Rattle.pure_logic.specs.Content.{Content, IsBelow, IsStatement, IsWellFormed, AreNamedAlike, AreLabelledAlike}
 use Rattle.pure_logic.proofs.AboveLaws.{sort-above, typ-above, certified_of-above}
@@ -33,7 +33,7 @@ certified-above ds es above (ArityDecl a) h = record {
   domains = each_imply (IsCertifiedSort ds) (IsCertifiedSort es) a.domains (sort-above ds es above) h.domains;
   class = (h.class.0, above (ClassDecl h.class.0) h.class.1, h.class.2);
 }
-certified-above ds es above (ClassDecl k) h = tt
+certified-above ds es above (ClassDecl k) h = each_imply (IsDeclaredClass ds) (IsDeclaredClass es) k.above (λ c d. (d.0, above (ClassDecl d.0) d.1, d.2)) h
 certified-above ds es above (ConDecl k n) h = tt
 certified-above ds es above (AxiomDecl x A) h = tt
 certified-above ds es above (PromiseDecl x l A) h = tt

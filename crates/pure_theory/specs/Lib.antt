@@ -4,6 +4,7 @@ pub mod PureParts
 pub mod Refusals
 pub mod Definitions
 pub mod Spaces
+pub mod Plain
 pub mod Begin
 pub mod Once
 pub mod FactView

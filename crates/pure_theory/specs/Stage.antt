@@ -2,7 +2,7 @@
 use Rattle.std.specs.Prelude.{◌≡◌, List, [], ◌∷◌, ◌++◌, length}
 use Rattle.pure_text.specs.Lists.{IsIn, Each, AreDistinct}
 use Rattle.pure_definitions.specs.Types.Order.{Arity, Algebra}
-use Rattle.pure_definitions.specs.Declarations.Decl.{Decl, ConDecl, ArityDecl, ConstDecl, algebra_of, IsDeclaredClass}
+use Rattle.pure_definitions.specs.Declarations.Decl.{Decl, ClassDecl, ConDecl, ArityDecl, ConstDecl, algebra_of, IsDeclaredClass}
 use Rattle.pure_definitions.specs.Declarations.Certified.{IsCertifiedSort, IsCertifiedTyp}
 use Rattle.pure_logic.specs.Content.{Content, IsContent, IsBelow}
 use Rattle.pure_logic.specs.PureContent.{pure_content}
@@ -14,8 +14,9 @@ pub record IsCertifiedArity (ds : List Decl) (a : Arity) : Type 0 where
   pub domains : Each (IsCertifiedSort ds) a.domains
   pub class : IsDeclaredClass ds a.class
 
--- What is declared is certified over the declarations: the type of a constant, and an arity.
+-- What is declared is certified over the declarations: the classes that a class is declared to be below are declared, an arity, and the type of a constant.
 abbrev pub IsCertifiedDecl : List Decl → Decl → Type 0
+IsCertifiedDecl ds (ClassDecl k) = Each (IsDeclaredClass ds) k.above
 IsCertifiedDecl ds (ArityDecl a) = IsCertifiedArity ds a
 IsCertifiedDecl ds (ConstDecl c T) = IsCertifiedTyp ds T
 IsCertifiedDecl ds _ = Unit {0}

@@ -3,12 +3,12 @@ ghost use Rattle.std.specs.Prelude.{◌≡◌, ◌<◌, ◌++◌, [], IfOk, IfEr
 ghost use Rattle.std.specs.List.{list_any};
 ghost use Rattle.pure_definitions.specs.Types.Order.{IsCoregular};
 ghost use Rattle.pure_definitions.specs.Declarations.Decl.{algebra_of};
-ghost use Rattle.pure_logic.specs.Beginning.{IsAdded, IsMerge, AreToldApart, IsNewOver, theory_eq, theories_of, ancestors_of, IsBeginning};
+ghost use Rattle.pure_logic.specs.Beginning.{IsAdded, IsMerge, theory_eq, theories_of, ancestors_of, IsBeginning};
 ghost use Rattle.pure_logic.specs.Laws.Contents.{AreAgreed};
 ghost use Rattle.pure_stage.specs.Named.{AreNamedOnce};
 ghost use Rattle.pure_text.specs.Lists.{Each};
 ghost use Rattle.pure_theory.specs.Stage.{IsSound};
-ghost use Rattle.pure_theory.specs.Begin.{contents, IsMergeRefusal, IsBeginRefusal};
+ghost use Rattle.pure_theory.specs.Begin.{contents, MayBegin, IsMergeRefusal, IsBeginRefusal};
 ghost use Rattle.pure_theory.specs.Once.{once_more, all_once_more};
 
 use crate::fault::DeclFault;
@@ -78,7 +78,7 @@ impl Merged {
 }
 
 /// The parent at the place, whose content is sound.
-fn parent_at(parents: &[Arc<Theory>], place: usize) -> &Theory
+pub(crate) fn parent_at(parents: &[Arc<Theory>], place: usize) -> &Theory
     requires { place < length parents.now }
     ensures held { slice_get (contents parents.now) place ≡ Some result.now }
     ensures sound { IsSound result.now }
@@ -106,7 +106,7 @@ fn merge_of(alloc: Global, parents: &[Arc<Theory>]) -> Result<Merged, DeclFault>
 }
 
 /// Whether the theories have one name and one index.
-fn is_same_theory(first: Known, second: Known) -> bool
+pub(crate) fn is_same_theory(first: Known, second: Known) -> bool
     ensures { result ≡ theory_eq first second }
 {
     first.name.0 == second.name.0 && first.index == second.index
@@ -156,7 +156,10 @@ fn put_theories(theories: &mut Vec<Known>, theory: &Theory) -> Result<(), AllocE
 }
 
 /// The ancestors of a theory with these parents.
-fn ancestors(alloc: Global, parents: &[Arc<Theory>]) -> Result<Arc<Vec<Known>>, AllocError>
+pub(crate) fn ancestors(
+    alloc: Global,
+    parents: &[Arc<Theory>],
+) -> Result<Arc<Vec<Known>>, AllocError>
     ensures { IfOk result (λ theories. theories.value.items ≡ ancestors_of (contents parents.now)) }
 {
     let mut theories = Vec::new(alloc);
@@ -169,17 +172,14 @@ fn ancestors(alloc: Global, parents: &[Arc<Theory>]) -> Result<Arc<Vec<Known>>, 
 }
 
 impl Theory {
-    /// A theory that begins with the merge of its parents, with its name and its index in load order.
+    /// A theory that begins with the merge of its parents, with its name and its index in load order, where `may_begin` says so.
     pub fn begin(
         alloc: Global,
         index: u32,
         name: Name,
         parents: &[Arc<Theory>],
     ) -> Result<Theory, DeclFault>
-        requires some { ¬ (contents parents.now ≡ []) }
-        requires agreed { AreAgreed (contents parents.now) }
-        requires apart { AreToldApart (ancestors_of (contents parents.now)) }
-        requires new { IsNewOver (record { name = name; index = index }) (ancestors_of (contents parents.now)) }
+        requires { MayBegin (record { name = name; index = index }) (contents parents.now) }
         ensures ok { IfOk result (IsBeginning (record { name = name; index = index }) (contents parents.now)) }
         ensures fault { IfErr result (IsBeginRefusal (contents parents.now)) }
     {

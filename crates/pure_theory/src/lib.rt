@@ -1,6 +1,7 @@
 //! Theories: what is declared, in stages that grow from one another.
 #![tactic(auto)]
 
+mod agreed;
 mod begin;
 mod classes;
 mod cthm;
@@ -9,6 +10,7 @@ mod definition;
 mod facts;
 mod fault;
 mod lookup;
+mod plain;
 mod pure;
 mod relation;
 mod schematic;

@@ -17,7 +17,7 @@ pub with-requires : goal.with-requires
 with-requires c =
     let none = test_fails _ c.declares_class.result c.declares_class.ensures c.if-declares_class.false in
     rw (← c.self.view_is, c.in_ok-declared.ensures, c.in_ok-names.ensures)
-    (class_stage _ c.self.invariant.sound c.order.result.now _ (rw (← c.self.view_is) at c.order.ensures) c.in_ok-order.ensures.coregular (record { name = c.args.name; above = c.args.above.now }) (rw (← c.self.view_is) at none) c.in_ok-order.ensures.ok)
+    (class_stage _ c.self.invariant.sound c.order.result.now _ (rw (← c.self.view_is) at c.order.ensures) c.in_ok-order.ensures.coregular (record { name = c.args.name; above = c.args.above.now }) (rw (← c.self.view_is) at none) c.in_ok-order.ensures.new.0 c.in_ok-order.ensures.ok)
 
 pub returns-clause-new : goal.returns-clause-new
 returns-clause-new c = new_class c.args.self.now.declarations (record { name = c.args.name; above = c.args.above.now }) (class_undeclared c.args.self.now.declarations c.args.name (test_fails _ c.declares_class.result c.declares_class.ensures c.if-declares_class.false))
