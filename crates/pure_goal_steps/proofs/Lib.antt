@@ -1,0 +1,4 @@
+pub mod ReadLaws
+pub mod FollowsLaws
+pub mod OneOutcomeLaws
+pub mod SoundLaws
