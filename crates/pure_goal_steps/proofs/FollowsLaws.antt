@@ -1,13 +1,12 @@
 -- One outcome at most follows from an attempt, and from attempts.
-use Rattle.std.proofs.Common.{◌≡◌, ◌≢◌, ◌⊎◌, ℕ, List, [], ◌∷◌, Result, Ok, Err, inl, inr, refl, ap, sym, subst, ◌∙◌}
-use Rattle.pure_definitions.specs.Types.Typ.{Typ}
+use Rattle.std.proofs.Common.{◌≡◌, ℕ, List, [], ◌∷◌, Ok, Err, refl, ap, sym, subst, ◌∙◌}
 use Rattle.pure_definitions.specs.Types.Order.{Algebra}
 use Rattle.pure_definitions.specs.Terms.Term.{Term, IsWithin}
 use Rattle.pure_term_laws.proofs.TypingLaws.{typed-once}
 use Rattle.pure_logic.specs.Connectives.{imp, eq}
 use Rattle.pure_logic.specs.Derivable.{Pair, IsUnderPairs}
 use Rattle.pure_order_tables.specs.Classes.{IsAntisymmetric}
-use Rattle.pure_unify_definitions.specs.LongSides.{Stop, Side, Long, Ends, ComesTo}
+use Rattle.pure_unify_definitions.specs.LongSides.{Stop, Long, Ends, ComesTo}
 use Rattle.pure_unify_definitions.specs.Search as search
 use Rattle.pure_unify_definitions.specs.Search.{Answer, Unified, Stopped, IsUnifyAnswer}
 use Rattle.pure_unify_laws.proofs.OneSides.{side-once}

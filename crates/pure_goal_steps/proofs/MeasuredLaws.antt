@@ -1,10 +1,8 @@
 -- A state whose subgoals are in long form, but for new ones at the front, is decided by the measure of its one proposition alone.
-use Rattle.std.proofs.Common.{◌≡◌, ◌⊎◌, ℕ, ◌+◌, ◌≤◌, ◌<◌, max, List, [], ◌∷◌, ◌++◌, length, Ok, Err, inl, inr, refl, ap, sym, subst, ◌∙◌, arith}
+use Rattle.std.proofs.Common.{◌≡◌, ◌⊎◌, ◌≤◌, List, [], ◌∷◌, ◌++◌, Ok, Err, inl, inr, refl, sym, subst, arith}
 use Rattle.std.proofs.lemmas.Bool.{cases_lt}
 use Rattle.pure_text.specs.Lists.{Each}
-use Rattle.pure_definitions.specs.Types.Typ.{Typ}
 use Rattle.pure_definitions.specs.Terms.Term.{Term, term_size, term_depth, max_size, max_depth, IsWithin}
-use Rattle.pure_definitions.specs.Reduction.Beta.{IsBetaAnswer, TooLarge, NormalForm}
 use Rattle.pure_definitions.specs.Reduction.Eta.{IsLongForm}
 use Rattle.pure_logic.specs.Connectives.{imp, eq, protect, chain}
 use Rattle.pure_logic.specs.Derivable.{Pair, IsUnderPairs}
@@ -22,19 +20,22 @@ long-large A w = is_large (record { before = []; last = A; sequence = refl; unde
 
 within-or-not : (t : Term) → IsWithin t ⊎ ¬ IsWithin t
 within-or-not t = elim (cases_lt max_size (term_size t)) [
-    inl wide ↦ inr (λ h. let size = h.size in omega arith)
+  | inl wide ↦ inr (λ h. let size = h.size in omega arith)
   | inr short ↦ elim (cases_lt max_depth (term_depth t)) [ inl deep ↦ inr (λ h. let depth = h.depth in omega arith) | inr flat ↦ inl (record { size = short; depth = flat }) ]
-  ]
+]
 
 imp-within : (A B : Term) → IsWithin (imp A B) → IsWithin A × IsWithin B
 imp-within A B w = (record { size = smaller w.size; depth = lower w.depth }, record { size = smaller_too w.size; depth = lower_too w.depth })
   where
     smaller : term_size (imp A B) ≤ max_size → term_size A ≤ max_size
     smaller h = omega arith
+
     smaller_too : term_size (imp A B) ≤ max_size → term_size B ≤ max_size
     smaller_too h = omega arith
+
     lower : term_depth (imp A B) ≤ max_depth → term_depth A ≤ max_depth
     lower h = omega arith
+
     lower_too : term_depth (imp A B) ≤ max_depth → term_depth B ≤ max_depth
     lower_too h = omega arith
 
@@ -94,13 +95,14 @@ pub decided_by_measure : (made : State) (front Fs others : List Term) → made.s
 decided_by_measure made front Fs others e f long q one =
     record {
       reached = λ w.
-        let parts = chain-within (Fs ++ others) (protect made.statement) (under-within made.pairs (chain (Fs ++ others) (protect made.statement)) q one w) in
-        small (put (AllLong (Fs ++ others)) (come-both front Fs others others f (come-all others long (each-behind IsWithin Fs others parts)))) (q, one, w);
+          let parts = chain-within (Fs ++ others) (protect made.statement) (under-within made.pairs (chain (Fs ++ others) (protect made.statement)) q one w) in
+          small (put (AllLong (Fs ++ others)) (come-both front Fs others others f (come-all others long (each-behind IsWithin Fs others parts)))) (q, one, w);
       too_large = λ w. by w (all-within-or-not others);
     }
   where
     put : (forms : Forms) → Come (front ++ others) forms → Come made.subgoals forms
     put forms c = subst (λ (As : List Term). Come As forms) (sym e) c
+
     by : (¬ IsWithin q) → Each IsWithin others ⊎ ¬ Each IsWithin others → Becomes made (Err fault.Big)
     by w (inl ws) = large (put (AllLong (Fs ++ others)) (come-both front Fs others others f (come-all others long ws))) (q, one, w)
     by w (inr ws) = halted (put (Halted Big) (come-behind front Fs others f (come-large others long ws)))

@@ -1,6 +1,6 @@
 -- Each step has one outcome at most.
-use Rattle.std.proofs.Common.{◌≡◌, ◌⊎◌, ℕ, ◌+◌, ◌<◌, List, [], ◌∷◌, ◌++◌, map, length, length-append, Result, Ok, Err, inl, inr, refl, ap, sym, subst, ◌∙◌, arith}
-use Rattle.pure_definitions.specs.Types.Typ.{Typ, prop}
+use Rattle.std.proofs.Common.{◌≡◌, ◌⊎◌, ℕ, ◌+◌, ◌<◌, List, [], ◌∷◌, ◌++◌, map, length, length-append, inl, inr, refl, ap, sym, subst, ◌∙◌, arith}
+use Rattle.pure_definitions.specs.Types.Typ.{prop}
 use Rattle.pure_definitions.specs.Types.Order.{Algebra}
 use Rattle.pure_definitions.specs.Terms.Term.{Term}
 use Rattle.pure_logic.specs.Connectives.{eq}
@@ -9,7 +9,7 @@ use Rattle.pure_order_tables.specs.Classes.{IsAntisymmetric}
 use Rattle.pure_unify_laws.proofs.OneStep.{placed-once}
 use Rattle.pure_goal_laws.specs.Prefix.{Item}
 use Rattle.pure_goal_steps.specs.State.{State, greatest_index}
-use Rattle.pure_goal_steps.specs.Reading.{Place, places, IsRead, IsRuleOf, rule_maxidx}
+use Rattle.pure_goal_steps.specs.Reading.{places, IsRead, rule_maxidx}
 use Rattle.pure_goal_steps.specs.Follows.{Outcome, Becomes, Attempt, FollowsBy, FollowsByFirst}
 use Rattle.pure_goal_steps.specs.Steps.{IsFirst, indexed, rule_attempt, elimination_attempt, destruction_attempt, assumption_attempt, RuleStep, EliminationStep, DestructionStep, AssumptionStep, PreferStep, DeferStep, ConversionStep}
 use Rattle.pure_goal_steps.proofs.ReadLaws.{read_once, one_rule}

@@ -1,7 +1,7 @@
 -- A subgoal is read in one way, and a fact is one rule on a goal.
-use Rattle.std.proofs.Common.{◌≡◌, ◌≢◌, ◌⊎◌, ℕ, ◌+◌, List, [], ◌∷◌, inl, inr, refl, ap, sym, subst, ◌∙◌}
+use Rattle.std.proofs.Common.{◌≡◌, ◌⊎◌, ℕ, ◌+◌, List, [], ◌∷◌, inl, inr, refl, sym, subst, ◌∙◌}
 use Rattle.pure_definitions.specs.Types.Typ.{Typ}
-use Rattle.pure_definitions.specs.Terms.Term.{Term, Var, Const, Abs, App}
+use Rattle.pure_definitions.specs.Terms.Term.{Term, Var}
 use Rattle.pure_definitions.specs.Terms.Bounds.{subst_bound}
 use Rattle.pure_definitions.specs.Terms.Subst.{term_instance}
 use Rattle.pure_term_laws.proofs.EtaLaws.{one_long_form}

@@ -1,13 +1,12 @@
 -- Steps without unification lead from derivable goals to derivable ones.
-use Rattle.std.proofs.Common.{◌≡◌, ℕ, List, [], ◌∷◌, ◌++◌, Ok, Err, inl, inr, refl, ap, sym, subst, ◌∙◌}
+use Rattle.std.proofs.Common.{◌≡◌, ℕ, List, [], ◌∷◌, ◌++◌, Ok, refl, ap, subst}
 use Rattle.pure_text.specs.Lists.{IsIn, Each}
-use Rattle.pure_text.proofs.ListLaws.{each-right, each-append}
 use Rattle.pure_definitions.specs.Names.{Label}
 use Rattle.pure_definitions.specs.Types.Typ.{Typ, prop}
 use Rattle.pure_definitions.specs.Terms.Term.{Term}
 use Rattle.pure_definitions.specs.Reduction.Eta.{IsLongForm, EtaReduces}
 use Rattle.pure_term_laws.proofs.TypingLaws.{typed-once}
-use Rattle.pure_logic.specs.Connectives.{imp, eq, protect, chain}
+use Rattle.pure_logic.specs.Connectives.{protect, chain}
 use Rattle.pure_logic.specs.Content.{Content, IsContent, IsBelow, IsProposition}
 use Rattle.pure_logic.specs.PureContent.{pure_content}
 use Rattle.pure_logic.specs.Derivable.{Pair, Theorem, IsDerivable}
@@ -19,11 +18,10 @@ use Rattle.pure_equated.proofs.KeptLaws.{equated_modulo_others}
 use Rattle.pure_equated.proofs.PairsLaws.{proposition_is_replaced}
 use Rattle.pure_unify_definitions.specs.LongSides.{Long, ComesTo, is_long}
 use Rattle.pure_unify_laws.proofs.SettingLaws.{comes-equated}
-use Rattle.pure_goal_laws.specs.GoalStep.{IsFactFor}
 use Rattle.pure_goal_laws.proofs.PrefixLaws.{premise_behind, conclusion_behind}
 use Rattle.pure_goal_laws.proofs.StateLaws.{start_is_derivable, preferred_is_derivable, deferred_is_derivable}
 use Rattle.pure_goal_laws.proofs.FactLaws.{conversion_step}
-use Rattle.pure_goal_steps.specs.State.{State, proposition, theorem_of, IsLeftPair, IsGoal}
+use Rattle.pure_goal_steps.specs.State.{State, proposition, theorem_of, IsLeftPair}
 use Rattle.pure_goal_steps.specs.Follows.{AllLong, Come, no_more, all_long, Becomes, small}
 use Rattle.pure_goal_steps.specs.Steps.{BeginsAs, PreferStep, DeferStep, ConversionStep}
 use Rattle.pure_goal_steps.specs.Derivability.{IsSound}
@@ -91,7 +89,7 @@ module _ (Q : Content) (q : IsContent Q) (above : IsBelow pure_content Q) where
       let put : proposition s ≡ chain (f.left ∷ f.others) (protect s.statement) = ap (λ (As : List Term). chain As (protect s.statement)) f.stand in
       let right = right-proposition (derivable_is_proposition Q q above equation d) in
       let made = conversion_step Q q above (theorem_of s rests) equation f.left f.right f.right f.others (protect s.statement) all refl put kept
-          (AreEquated.same (typed-of f.right right)) (record { no_hyps = no_hyps; no_pairs = no_pairs; rests = more }) f.equates h.derivable d in
+      (AreEquated.same (typed-of f.right right)) (record { no_hyps = no_hyps; no_pairs = no_pairs; rests = more }) f.equates h.derivable d in
       becomes_sound (record s { subgoals = f.right ∷ f.others }) new all h.goal.left_pairs made f.becomes
     where
       right-proposition : IsProposition Q equation.prop → IsProposition Q f.right

@@ -1,5 +1,5 @@
 -- Laws of steps: each has one outcome at most.
-use Rattle.std.specs.Prelude.{◌≡◌, ℕ, List, Result}
+use Rattle.std.specs.Prelude.{◌≡◌, ℕ, List}
 use Rattle.pure_definitions.specs.Types.Order.{Algebra}
 use Rattle.pure_definitions.specs.Terms.Term.{Term}
 use Rattle.pure_logic.specs.Derivable.{Theorem}
@@ -8,8 +8,7 @@ use Rattle.pure_goal_laws.specs.Prefix.{Item}
 use Rattle.pure_goal_steps.specs.State.{State}
 use Rattle.pure_goal_steps.specs.Reading.{IsRead, IsRuleOf}
 use Rattle.pure_goal_steps.specs.Follows.{Outcome}
-use Rattle.pure_goal_steps.specs.Steps.{BeginsAs, RuleStep, EliminationStep, DestructionStep, AssumptionStep, PreferStep, DeferStep, ConversionStep, EndsAs}
-use Rattle.pure_goal_steps.specs.declared.fault.StepFault.{StepFault}
+use Rattle.pure_goal_steps.specs.Steps.{BeginsAs, RuleStep, EliminationStep, DestructionStep, AssumptionStep, PreferStep, DeferStep, ConversionStep}
 
 -- A relation to outcomes has one at most.
 abbrev pub HasOne : (Outcome → Type 0) → Type 0

@@ -1,4 +1,3 @@
-use Rattle.pure_goal_steps.specs.Follows.{Outcome}
 use Rattle.pure_goal_steps.proofs.FollowsLaws.{becomes-once}
 use Rattle.pure_goal_steps.proofs.OneOutcomeLaws.{rule_once, elimination_once, destruction_once, assumption_once, prefer_once, defer_once, conversion_once}
 use Rattle.pure_goal_steps.proofs.laws.one_outcome.Goals as goal
