@@ -1,23 +1,27 @@
 -- How large indexes are in what a step hands to the unifier.
-use Rattle.std.proofs.Common.{◌≡◌, ◌⊎◌, ℕ, zero, suc, ◌+◌, ◌-◌, ◌≤◌, max, nat_lt, nat_eq, List, [], ◌∷◌, ◌++◌, map, length, Bool, true, false, if◌then◌else◌, cond, inl, inr, refl, ap, sym, subst, ◌∙◌, arith}
+use Rattle.std.proofs.Common.{◌≡◌, ℕ, zero, suc, ◌+◌, ◌-◌, ◌≤◌, nat_lt, nat_eq, List, [], ◌∷◌, ◌++◌, length, Bool, true, false, if◌then◌else◌, inl, inr, arith}
 use Rattle.std.specs.Prelude.{Option, Some, None, slice_get}
-use Rattle.pure_text.specs.Lists.{IsIn, Each}
-use Rattle.pure_definitions.specs.Types.Typ.{Typ, TFree, TVar, Con, Typs, none, also, arrow, prop}
+use Rattle.pure_text.specs.Lists.{Each}
+use Rattle.pure_definitions.specs.Types.Typ.{Typ, TFree, TVar, Con, Typs, none, also}
 use Rattle.pure_definitions.specs.Types.Occurs.{OccursInTyp, OccursInTyps}
 use Rattle.pure_definitions.specs.Terms.Term.{Term, Const, Free, Var, Bound, Abs, App}
-use Rattle.pure_definitions.specs.Terms.Bounds.{lift_term, place_at, subst_under, subst_bound, Occurs}
+use Rattle.pure_definitions.specs.Terms.Bounds.{lift_term, place_at, subst_under, Occurs}
 use Rattle.pure_definitions.specs.Terms.Subst.{typ_instance, typs_instance, term_instance}
 use Rattle.pure_definitions.specs.Reduction.Eta.{IsLongForm}
 use Rattle.pure_definitions.proofs.LiftLaws.{lift_term-bound}
 use Rattle.pure_term_laws.specs.LawsOccurs.{TypOccurs}
 use Rattle.pure_term_laws.proofs.EtaLaws.{one_long_form}
-use Rattle.pure_logic.specs.Connectives.{all, imp, chain, protect}
+use Rattle.pure_logic.specs.Connectives.{chain, protect}
 use Rattle.pure_logic.specs.Derivable.{Pair, Theorem}
 use Rattle.pure_logic.specs.Laws.Maps.{raised_typs, raised_terms}
 use Rattle.pure_goal_laws.specs.Prefix.{Item, Parameter, Hypothesis, behind, parameters, abstracted, below_parameters}
 use Rattle.pure_goal_laws.specs.Lifting.{function_typ, applied_to_bounds, lifted_under, lifted_behind}
-use Rattle.pure_pairs.specs.Smash.{typ_index_above, typs_index_above, term_index_above, pairs_index_above, theorem_index_above}
-use Rattle.pure_goal_steps.specs.Reading.{Strips, bare, quantified, supposed}
+use Rattle.pure_pairs.specs.Smash.{typ_index_above, typs_index_above, term_index_above, pairs_index_above}
+use Rattle.pure_eta.specs.LongTerm.{range_typ, front_typ, expanded, expanded_at, long_term}
+use Rattle.pure_eta.proofs.LongLaws.{long_form-is}
+use Rattle.pure_eta.proofs.KeptLaws.{steps_keep_beta_normal}
+use Rattle.pure_goal_steps.specs.State.{State, proposition, theorem_of, greatest_index}
+use Rattle.pure_goal_steps.specs.Reading.{Strips, bare, quantified, supposed, IsRuleOf, rule_maxidx}
 
 -- The indexes in the type are at most n.
 abbrev mutual
@@ -199,3 +203,79 @@ pub standing-up_to : (n : ℕ) (before : List Item) (H : Term) (after : List Ite
 standing-up_to n [] H after C h = up_to-lift n (length (parameters after)) 0 H h.0.1
 standing-up_to n (Parameter T ∷ before) H after C h = standing-up_to n before H after C h.1.1
 standing-up_to n (Hypothesis A ∷ before) H after C h = standing-up_to n before H after C h.1
+
+-- The parts of a chain.
+pub up_to-chain : (n : ℕ) (As : List Term) (G : Term) → IsUpTo n (chain As G) → Each (IsUpTo n) As
+up_to-chain n [] G h = tt
+up_to-chain n (A ∷ As) G h = (h.0.1, up_to-chain n As G h.1)
+
+-- The long form.
+abbrev IsOptionUpTo : ℕ → Option Typ → Type 0
+IsOptionUpTo n (Some T) = IsTypUpTo n T
+IsOptionUpTo n None = Unit {0}
+
+up_to-range : (n : ℕ) (o : Option Typ) → IsOptionUpTo n o → IsOptionUpTo n (range_typ o)
+up_to-range n (Some (Con zero (also A (also B none)))) h = h.1.0
+up_to-range n _ h = tt
+
+up_to-binder : (n : ℕ) (bs : List Typ) (p : ℕ) → Each (IsTypUpTo n) bs → IsOptionUpTo n (slice_get bs p)
+up_to-binder n [] p h = tt
+up_to-binder n (b ∷ bs) zero h = h.0
+up_to-binder n (b ∷ bs) (suc p) h = up_to-binder n bs p h.1
+
+up_to-front : (n : ℕ) (bs : List Typ) (t : Term) → Each (IsTypUpTo n) bs → IsUpTo n t → IsOptionUpTo n (front_typ bs t)
+up_to-front n bs (Const c T) b h = h
+up_to-front n bs (Free x T) b h = h
+up_to-front n bs (Var x i T) b h = h.1
+up_to-front n bs (Bound p) b h = up_to-binder n bs p b
+up_to-front n bs (Abs T u) b h = tt
+up_to-front n bs (App f a) b h = up_to-range n (front_typ bs f) (up_to-front n bs f b h.0)
+
+up_to-expanded : (n : ℕ) (T : Typ) (t : Term) → IsTypUpTo n T → IsUpTo n t → IsUpTo n (expanded T t)
+up_to-expanded n (Con zero (also A (also B none))) t c h =
+    (c.0, up_to-expanded n B (App (lift_term 1 0 t) (expanded A (Bound 0))) c.1.0 (up_to-lift n 1 0 t h, up_to-expanded n A (Bound 0) c.0 tt))
+up_to-expanded n T t c h = h
+
+up_to-at : (n : ℕ) (applied : Bool) (o : Option Typ) (t : Term) → IsOptionUpTo n o → IsUpTo n t → IsUpTo n (expanded_at applied o t)
+up_to-at n false (Some T) t c h = up_to-expanded n T t c h
+up_to-at n applied o t c h = h
+
+up_to-long_term : (n : ℕ) (applied : Bool) (bs : List Typ) (t : Term) → Each (IsTypUpTo n) bs → IsUpTo n t → IsUpTo n (long_term applied bs t)
+up_to-long_term n applied bs (Const c T) b h = up_to-at n applied (Some T) (Const c T) h h
+up_to-long_term n applied bs (Free x T) b h = up_to-at n applied (Some T) (Free x T) h h
+up_to-long_term n applied bs (Var x i T) b h = up_to-at n applied (Some T) (Var x i T) h.1 h
+up_to-long_term n applied bs (Bound p) b h = up_to-at n applied (slice_get bs p) (Bound p) (up_to-binder n bs p b) tt
+up_to-long_term n applied bs (Abs T u) b h = (h.0, up_to-long_term n false (T ∷ bs) u (h.0, b) h.1)
+up_to-long_term n applied bs (App f a) b h =
+    up_to-at n applied (front_typ bs (App f a)) (App (long_term true bs f) (long_term false bs a)) (up_to-front n bs (App f a) b h) (up_to-long_term n true bs f b h.0, up_to-long_term n false bs a b h.1)
+
+pub up_to-long_form : (n : ℕ) (t u : Term) → IsLongForm t u → IsUpTo n t → IsUpTo n u
+up_to-long_form n t u f h =
+    let normal = steps_keep_beta_normal u t f.reduces f.normal in
+    let same = one_long_form t u (long_term false [] t) f (long_form-is t f.typ f.typed normal) in
+    rw same (up_to-long_term n false [] t tt h)
+
+-- What stands in a goal, and in a fact.
+pub goal_up_to : (s : State) → Each (IsUpTo (greatest_index (theorem_of s []))) s.subgoals
+goal_up_to s =
+    let th : Theorem = theorem_of s [] in
+    let n : ℕ = greatest_index th in
+    up_to-chain n s.subgoals (protect s.statement) (term-above n (proposition s) (omega arith))
+
+pairs-above : (n : ℕ) (ps : List Pair) → pairs_index_above ps ≤ n + 1 → Each (λ p. IsUpTo n p.left × IsUpTo n p.right) ps
+pairs-above n [] h = tt
+pairs-above n (p ∷ ps) h = ((term-above n p.left (omega (arith, h)), term-above n p.right (omega (arith, h))), pairs-above n ps (omega (arith, h)))
+
+pub pairs_up_to : (s : State) → Each (λ p. IsUpTo (greatest_index (theorem_of s [])) p.left × IsUpTo (greatest_index (theorem_of s [])) p.right) s.pairs
+pairs_up_to s = pairs-above (greatest_index (theorem_of s [])) s.pairs (omega arith)
+
+pub fact_up_to : (fact : Theorem) → IsUpTo (greatest_index fact) fact.prop
+fact_up_to fact = term-above (greatest_index fact) fact.prop (omega arith)
+
+-- A rule's premises and conclusion.
+pub rule_up_to : (goal fact : Theorem) (As : List Term) (B : Term) → IsRuleOf goal fact As B → IsRuleUpTo (rule_maxidx goal fact) As B
+rule_up_to goal fact As B r =
+    let by : ℕ = greatest_index goal + 1 in
+    let long = up_to-long_form (greatest_index fact) fact.prop r.form r.long (fact_up_to fact) in
+    let raised = up_to-raised (greatest_index fact) by r.form long in
+    up_to-stripped (omega arith) (term-more (greatest_index fact + by) (rule_maxidx goal fact) (term_instance (raised_typs by) (raised_terms by) r.form) (omega arith) raised) r.strips
