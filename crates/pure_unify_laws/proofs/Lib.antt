@@ -9,3 +9,6 @@ pub mod HeadLaws
 pub mod ImageLaws
 pub mod SolvedLaws
 pub mod SortLaws
+pub mod DeclaredLaws
+pub mod CertifiedLaws
+pub mod RespectLaws

@@ -19,7 +19,7 @@ either true b e = inl refl
 either false b e = inr e
 
 -- A variable that stands on a firm path occurs.
-occurs-itself : (t : Term) → Occurs t t
+pub occurs-itself : (t : Term) → Occurs t t
 occurs-itself (Const c T) = refl
 occurs-itself (Free x T) = refl
 occurs-itself (Var x i T) = refl
@@ -78,7 +78,7 @@ firm-occurs v (Bound p) e = arguments-occur v 0 (Bound p) (second_so (is_firm_he
 firm-occurs v (App f a) e = arguments-occur v 0 (App f a) (second_so (is_firm_head 0 (front (App f a))) (stands_in_arguments v 0 (App f a)) e)
 
 -- The side that is looked at is one.
-bare-once : (l r v w o p : Term) → IsBareSide l r v o → IsBareSide l r w p → (v ≡ w) × (o ≡ p)
+pub bare-once : (l r v w o p : Term) → IsBareSide l r v o → IsBareSide l r w p → (v ≡ w) × (o ≡ p)
 bare-once l r v w o p (left_bare b e) (left_bare c f) = (one_eta_normal_form l v w b.form c.form, e ∙ sym f)
 bare-once l r v w o p (left_bare b e) (right_bare n c f) = absurd (n v b)
 bare-once l r v w o p (right_bare n b e) (left_bare c f) = absurd (n w c)

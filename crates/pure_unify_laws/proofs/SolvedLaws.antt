@@ -39,10 +39,10 @@ use Rattle.pure_unify_laws.proofs.ImageLaws.{single-respects, head-typed, images
 use Rattle.pure_unify_laws.proofs.SplitLaws.{IsLongIn, AreSidesLong, long-is, argument_pairs-long, split-equated}
 
 -- A setting of a variable, put in for it, and into a term in which it doesn't occur.
-own-image : (x i : ℕ) (T : Typ) (u : Term) → with_setting (Single (bind x i T u)) (Var x i T) ≡ u
+pub own-image : (x i : ℕ) (T : Typ) (u : Term) → with_setting (Single (bind x i T u)) (Var x i T) ≡ u
 own-image x i T u = rw (term_eq-itself (Var x i T)) refl
 
-other-image : (x i : ℕ) (T : Typ) (u t : Term) → ¬ Occurs (Var x i T) t → with_setting (Single (bind x i T u)) t ≡ t
+pub other-image : (x i : ℕ) (T : Typ) (u t : Term) → ¬ Occurs (Var x i T) t → with_setting (Single (bind x i T u)) t ≡ t
 other-image x i T u t free =
     inst_term-alone (term_image (bind x i T u ∷ [])) t
     ∙ (agreeing_instance (λ v. v) (λ v. v) (term_image (bind x i T u ∷ [])) (λ v. v) t (record { on_typs = λ v is o. refl; on_terms = λ w is o. kept w o })
@@ -53,16 +53,16 @@ other-image x i T u t free =
 
 module _ (Q : Content) (q : IsContent Q) (above : IsBelow pure_content Q) (A : Algebra) (maxidx : ℕ) where
   -- After settings the sides of each of the pairs are equated modulo others.
-  abbrev AreSolved : (ms : List Pair) → List Setting → List Pair → Type 0
+  abbrev pub AreSolved : (ms : List Pair) → List Setting → List Pair → Type 0
   AreSolved ms ss ps = Each (λ p. IsPairEquated Q.declarations ms (pair_after ss p)) ps
 
   -- What is solved with a setting put in is solved after the setting.
-  solved-put : (ms : List Pair) (s : Setting) (ss : List Setting) (ps : List Pair) → AreSolved ms ss (with_setting_put s ps) → AreSolved ms (s ∷ ss) ps
+  pub solved-put : (ms : List Pair) (s : Setting) (ss : List Setting) (ps : List Pair) → AreSolved ms ss (with_setting_put s ps) → AreSolved ms (s ∷ ss) ps
   solved-put ms s ss [] h = tt
   solved-put ms s ss (p ∷ ps) h = (h.0, solved-put ms s ss ps h.1)
 
   -- What is solved in long form is solved.
-  solved-long : (ms : List Pair) (ss : List Setting) → Each (IsRespecting Q) ss → {ps qs : List Pair} → AreLong ps (AllLong qs) → Each (AreSidesCertified Q.declarations) ps → AreSolved ms ss qs → AreSolved ms ss ps
+  pub solved-long : (ms : List Pair) (ss : List Setting) → Each (IsRespecting Q) ss → {ps qs : List Pair} → AreLong ps (AllLong qs) → Each (AreSidesCertified Q.declarations) ps → AreSolved ms ss qs → AreSolved ms ss ps
   solved-long ms ss r no_more typed h = tt
   solved-long ms ss r (both_long {p = p} {l = l} {r = k} f g rest) typed h =
       let one = after-reduced Q q above ss r ms p.left l (comes-equated Q q above p.left l typed.0.0 f) in
@@ -73,41 +73,41 @@ module _ (Q : Content) (q : IsContent Q) (above : IsBelow pure_content Q) (A : A
       )
 
   -- Long forms are long.
-  side-is-long : (t u : Term) → (T : Typ) × IsTypedUnder Q.declarations [] t T → ComesTo t (Long u) → IsLongIn Q.declarations [] u
+  pub side-is-long : (t u : Term) → (T : Typ) × IsTypedUnder Q.declarations [] t T → ComesTo t (Long u) → IsLongIn Q.declarations [] u
   side-is-long t u h (is_long {n = n} b l w) =
       let e = comes-equated Q q above t u h (is_long b l w) in
       long-is Q.declarations n u e.0 (equated_are_typed Q.declarations [] [] e.0 t u e.1).1 l
 
-  sides-are-long : {ps qs : List Pair} → AreLong ps (AllLong qs) → Each (AreSidesCertified Q.declarations) ps → Each (AreSidesLong Q.declarations) qs
+  pub sides-are-long : {ps qs : List Pair} → AreLong ps (AllLong qs) → Each (AreSidesCertified Q.declarations) ps → Each (AreSidesLong Q.declarations) qs
   sides-are-long no_more typed = tt
   sides-are-long (both_long {p = p} {l = l} {r = k} f g rest) typed = ((side-is-long p.left l typed.0.0 f, side-is-long p.right k typed.0.1 g), sides-are-long rest typed.1)
 
-  long-typed : (ps : List Pair) → Each (AreSidesLong Q.declarations) ps → Each (AreSidesCertified Q.declarations) ps
+  pub long-typed : (ps : List Pair) → Each (AreSidesLong Q.declarations) ps → Each (AreSidesCertified Q.declarations) ps
   long-typed [] h = tt
   long-typed (p ∷ ps) h = (((h.0.0.typ, h.0.0.typed), (h.0.1.typ, h.0.1.typed)), long-typed ps h.1)
 
   -- A typed term is typed after settings.
-  after-typed : (ss : List Setting) → Each (IsRespecting Q) ss → (t : Term) → IsLongIn Q.declarations [] t → (T : Typ) × IsTypedUnder Q.declarations [] (term_after ss t) T
+  pub after-typed : (ss : List Setting) → Each (IsRespecting Q) ss → (t : Term) → IsLongIn Q.declarations [] t → (T : Typ) × IsTypedUnder Q.declarations [] (term_after ss t) T
   after-typed ss r t h =
       let e = after-reduced Q q above ss r [] t t (h.typ, AreEquated.same h.typed) in
       (e.0, (equated_are_typed Q.declarations [] [] e.0 (term_after ss t) (term_after ss t) e.1).0)
 
   -- From a node to one that comes of it: further settings, under which long sides stay long, and behind which what solves the one solves the other.
-  record LeadsOn (n m : Node) : Type 0 where
-    more : List Setting
-    are : m.path.settings ≡ n.path.settings ++ more
-    long : Each (IsRespecting Q) more → Each (AreSidesLong Q.declarations) n.pairs → Each (AreSidesLong Q.declarations) m.pairs
-    respects : Each (IsTypRespecting Q) more → Each (AreSidesLong Q.declarations) n.pairs → Each (IsRespecting Q) more
-    solved : (ms : List Pair) (ss : List Setting) → Each (IsRespecting Q) (more ++ ss) → Each (AreSidesLong Q.declarations) n.pairs → AreSolved ms ss m.pairs → AreSolved ms (more ++ ss) n.pairs
+  pub record LeadsOn (n m : Node) : Type 0 where
+    pub more : List Setting
+    pub are : m.path.settings ≡ n.path.settings ++ more
+    pub long : Each (IsRespecting Q) more → Each (AreSidesLong Q.declarations) n.pairs → Each (AreSidesLong Q.declarations) m.pairs
+    pub respects : Each (IsTypRespecting Q) more → Each (AreSidesLong Q.declarations) n.pairs → Each (IsRespecting Q) more
+    pub solved : (ms : List Pair) (ss : List Setting) → Each (IsRespecting Q) (more ++ ss) → Each (AreSidesLong Q.declarations) n.pairs → AreSolved ms ss m.pairs → AreSolved ms (more ++ ss) n.pairs
 
   -- The first pair's sides are equated, and so are those of the others.
-  put_back : (ms : List Pair) (ss : List Setting) (ps front : List Pair) (p : Pair) (rest : List Pair) → ps ≡ front ++ p ∷ rest → IsPairEquated Q.declarations ms (pair_after ss p) → AreSolved ms ss (front ++ rest) → AreSolved ms ss ps
+  pub put_back : (ms : List Pair) (ss : List Setting) (ps front : List Pair) (p : Pair) (rest : List Pair) → ps ≡ front ++ p ∷ rest → IsPairEquated Q.declarations ms (pair_after ss p) → AreSolved ms ss (front ++ rest) → AreSolved ms ss ps
   put_back ms ss ps front p rest e here h =
       rw e (each-append (λ p. IsPairEquated Q.declarations ms (pair_after ss p)) front (p ∷ rest) (each-left (λ p. IsPairEquated Q.declarations ms (pair_after ss p)) front rest h)
       (here, each-right (λ p. IsPairEquated Q.declarations ms (pair_after ss p)) front rest h))
 
   -- the long sides of the first pair, and of the others
-  at-pair : (ps front : List Pair) (p : Pair) (rest : List Pair) → ps ≡ front ++ p ∷ rest → Each (AreSidesLong Q.declarations) ps → AreSidesLong Q.declarations p × Each (AreSidesLong Q.declarations) (front ++ rest)
+  pub at-pair : (ps front : List Pair) (p : Pair) (rest : List Pair) → ps ≡ front ++ p ∷ rest → Each (AreSidesLong Q.declarations) ps → AreSidesLong Q.declarations p × Each (AreSidesLong Q.declarations) (front ++ rest)
   at-pair ps front p rest e h =
       let whole = subst (λ (qs : List Pair). Each (AreSidesLong Q.declarations) qs) e h in
       let behind : Each (AreSidesLong Q.declarations) (p ∷ rest) = each-right (AreSidesLong Q.declarations) front (p ∷ rest) whole in
@@ -128,12 +128,12 @@ module _ (Q : Content) (q : IsContent Q) (above : IsBelow pure_content Q) (A : A
           (same.0, subst (λ (t : Term). AreEquated Q.declarations ms [] same.0 (term_after ss p.left) (term_after ss t)) e same.1)
 
   -- A setting is put into long sides, and these are brought to long form.
-  setting-solves : (s : Setting) (ps qs : List Pair) → AreLong (with_setting_put s ps) (AllLong qs) → (ms : List Pair) (ss : List Setting) → Each (IsRespecting Q) (s ∷ ss) → Each (AreSidesLong Q.declarations) ps
+  pub setting-solves : (s : Setting) (ps qs : List Pair) → AreLong (with_setting_put s ps) (AllLong qs) → (ms : List Pair) (ss : List Setting) → Each (IsRespecting Q) (s ∷ ss) → Each (AreSidesLong Q.declarations) ps
       → AreSolved ms ss qs → AreSolved ms (s ∷ ss) ps
   setting-solves s ps qs l ms ss r h solved =
       solved-put ms s ss ps (solved-long ms ss r.1 l (settings-typed Q q above s r.0 ps (long-typed ps h)) solved)
 
-  setting-long : (s : Setting) (ps qs : List Pair) → AreLong (with_setting_put s ps) (AllLong qs) → IsRespecting Q s → Each (AreSidesLong Q.declarations) ps → Each (AreSidesLong Q.declarations) qs
+  pub setting-long : (s : Setting) (ps qs : List Pair) → AreLong (with_setting_put s ps) (AllLong qs) → IsRespecting Q s → Each (AreSidesLong Q.declarations) ps → Each (AreSidesLong Q.declarations) qs
   setting-long s ps qs l r h = sides-are-long l (settings-typed Q q above s r ps (long-typed ps h))
 
   retype-solves : (n m : Node) (T U : Typ) → IsRetyped A maxidx n T U (Goes m) → LeadsOn n m
@@ -159,7 +159,7 @@ module _ (Q : Content) (q : IsContent Q) (above : IsBelow pure_content Q) (A : A
       (second.0, subst (λ (t : Term). AreEquated Q.declarations ms [] second.0 (term_after ss u) (term_after ss t)) (sym (other-image x i T u other free)) (AreEquated.back second.1)) in
       join Q.declarations ms [] (term_after (s ∷ ss) bare) (term_after ss u) (term_after (s ∷ ss) other) own kept
 
-  put-pair : (p : Pair) (x i : ℕ) (T : Typ) (u other : Term) → IsBareSide p.left p.right (Var x i T) other → ¬ Occurs (Var x i T) other → IsEtaNormalForm other u → AreSidesLong Q.declarations p
+  pub put-pair : (p : Pair) (x i : ℕ) (T : Typ) (u other : Term) → IsBareSide p.left p.right (Var x i T) other → ¬ Occurs (Var x i T) other → IsEtaNormalForm other u → AreSidesLong Q.declarations p
       → (ms : List Pair) (ss : List Setting) → Each (IsRespecting Q) (Single (bind x i T u) ∷ ss) → IsPairEquated Q.declarations ms (pair_after (Single (bind x i T u) ∷ ss) p)
   put-pair p x i T u other (left_bare b e) free g h ms ss r =
       side-solves x i T u p.left p.right b.form (subst (λ (t : Term). ¬ Occurs (Var x i T) t) e free) (subst (λ (t : Term). IsEtaNormalForm t u) e g) h.0 h.1 ms ss r
@@ -168,17 +168,17 @@ module _ (Q : Content) (q : IsContent Q) (above : IsBelow pure_content Q) (A : A
       (side-solves x i T u p.right p.left b.form (subst (λ (t : Term). ¬ Occurs (Var x i T) t) e free) (subst (λ (t : Term). IsEtaNormalForm t u) e g) h.1 h.0 ms ss r)
 
   -- a side in long form, at its type
-  at-typ : (t : Term) (X : Typ) → IsLongIn Q.declarations [] t → HasType [] t X → IsTypedUnder Q.declarations [] t X
+  pub at-typ : (t : Term) (X : Typ) → IsLongIn Q.declarations [] t → HasType [] t X → IsTypedUnder Q.declarations [] t X
   at-typ t X h k = let same : h.typ ≡ X = typed-once [] t h.typ X h.typed.typed k in subst (λ (V : Typ). IsTypedUnder Q.declarations [] t V) same h.typed
 
-  image-of-side : (x i : ℕ) (T X : Typ) (u bare other : Term) → IsTypedUnder Q.declarations [] bare X → IsTypedUnder Q.declarations [] other X → IsEtaNormalForm bare (Var x i T) → IsEtaNormalForm other u → IsTypedUnder Q.declarations [] u T
+  pub image-of-side : (x i : ℕ) (T X : Typ) (u bare other : Term) → IsTypedUnder Q.declarations [] bare X → IsTypedUnder Q.declarations [] other X → IsEtaNormalForm bare (Var x i T) → IsEtaNormalForm other u → IsTypedUnder Q.declarations [] u T
   image-of-side x i T X u bare other h k f g =
       let variable = (equated_are_typed Q.declarations [] [] X bare (Var x i T) (eta_normal_form_is_equated Q.declarations [] [] X bare (Var x i T) h f)).1 in
       let image = (equated_are_typed Q.declarations [] [] X other u (eta_normal_form_is_equated Q.declarations [] [] X other u k g)).1 in
       subst (λ (V : Typ). IsTypedUnder Q.declarations [] u V) (sym variable.typed) image
 
   -- The image of a bare variable is certified and has its type.
-  put-typed : (p : Pair) (b : TermBind) → IsTreatment p.left p.right (Put b) → AreSidesLong Q.declarations p → IsTypedUnder Q.declarations [] b.image b.typ
+  pub put-typed : (p : Pair) (b : TermBind) → IsTreatment p.left p.right (Put b) → AreSidesLong Q.declarations p → IsTypedUnder Q.declarations [] b.image b.typ
   put-typed p b (absent {x = x} {i = i} {T = T} {other = o} {u = u} t side free g) h = by side
     where
       by : IsBareSide p.left p.right (Var x i T) o → IsTypedUnder Q.declarations [] u T
@@ -200,7 +200,7 @@ module _ (Q : Content) (q : IsContent Q) (above : IsBelow pure_content Q) (A : A
       here b (absent {x = x} {i = i} {T = T} {other = o} {u = u} t side free g) ms ss r h = put-pair p x i T u o side free g h ms ss r
 
   -- A pair is split into those of the arguments, of the sides with one head and one type.
-  split-pair : (front : List Pair) (p : Pair) (rest : List Pair) (T : Typ) → HasType [] p.left T → HasType [] p.right T → head p.left ≡ head p.right → AreSidesLong Q.declarations p → (ms : List Pair) (ss : List Setting) → Each (IsRespecting Q) ss
+  pub split-pair : (front : List Pair) (p : Pair) (rest : List Pair) (T : Typ) → HasType [] p.left T → HasType [] p.right T → head p.left ≡ head p.right → AreSidesLong Q.declarations p → (ms : List Pair) (ss : List Setting) → Each (IsRespecting Q) ss
       → AreSolved ms ss (front ++ (argument_pairs p.left p.right ++ rest)) → AreSolved ms ss (front ++ p ∷ rest)
   split-pair front p rest T h k e long ms ss r s =
       let behind = each-right (λ p. IsPairEquated Q.declarations ms (pair_after ss p)) front (argument_pairs p.left p.right ++ rest) s in
@@ -210,13 +210,13 @@ module _ (Q : Content) (q : IsContent Q) (above : IsBelow pure_content Q) (A : A
       (each-left (λ p. IsPairEquated Q.declarations ms (pair_after ss p)) front (argument_pairs p.left p.right ++ rest) s)
       (here, each-right (λ p. IsPairEquated Q.declarations ms (pair_after ss p)) (argument_pairs p.left p.right) rest behind)
 
-  split-long : (front : List Pair) (p : Pair) (rest : List Pair) → AreSidesLong Q.declarations p → Each (AreSidesLong Q.declarations) (front ++ rest) → Each (AreSidesLong Q.declarations) (front ++ (argument_pairs p.left p.right ++ rest))
+  pub split-long : (front : List Pair) (p : Pair) (rest : List Pair) → AreSidesLong Q.declarations p → Each (AreSidesLong Q.declarations) (front ++ rest) → Each (AreSidesLong Q.declarations) (front ++ (argument_pairs p.left p.right ++ rest))
   split-long front p rest here h =
       each-append (AreSidesLong Q.declarations) front (argument_pairs p.left p.right ++ rest) (each-left (AreSidesLong Q.declarations) front rest h)
       (each-append (AreSidesLong Q.declarations) (argument_pairs p.left p.right) rest (argument_pairs-long Q.declarations p.left p.right here.0 here.1) (each-right (AreSidesLong Q.declarations) front rest h))
 
   -- Sides that were put in stand where they stood.
-  placed : (s : Setting) (front : List Pair) (p : Pair) (rest : List Pair) {qs : List Pair} → AreLong (with_setting_put s (front ++ p ∷ rest)) (AllLong qs) → (before : List Pair) (at : Pair) (behind : List Pair) → qs ≡ before ++ at ∷ behind → length before ≡ length front
+  pub placed : (s : Setting) (front : List Pair) (p : Pair) (rest : List Pair) {qs : List Pair} → AreLong (with_setting_put s (front ++ p ∷ rest)) (AllLong qs) → (before : List Pair) (at : Pair) (behind : List Pair) → qs ≡ before ++ at ∷ behind → length before ≡ length front
       → ComesTo (with_setting s p.left) (Long at.left) × ComesTo (with_setting s p.right) (Long at.right)
   placed s [] p rest (both_long {l = l} {r = k} f g more) [] at behind e n =
       let here : pair l k ≡ at = cc in
@@ -230,7 +230,7 @@ module _ (Q : Content) (q : IsContent Q) (above : IsBelow pure_content Q) (A : A
       placed s front p rest more before at behind later (omega arith)
 
   -- the type of a side that was retyped and brought to long form
-  retyped-side : (sets : List TypBind) → IsRespecting Q (Typs sets) → (t u : Term) (T : Typ) → IsLongIn Q.declarations [] t → HasType [] t T → ComesTo (with_setting (Typs sets) t) (Long u) → HasType [] u (typ_instance (composed sets) T)
+  pub retyped-side : (sets : List TypBind) → IsRespecting Q (Typs sets) → (t u : Term) (T : Typ) → IsLongIn Q.declarations [] t → HasType [] t T → ComesTo (with_setting (Typs sets) t) (Long u) → HasType [] u (typ_instance (composed sets) T)
   retyped-side sets r t u T h typed come =
       let own : h.typ ≡ T = typed-once [] t h.typ T h.typed.typed typed in
       let put : IsTypedUnder Q.declarations [] (with_setting (Typs sets) t) (typ_instance (composed sets) h.typ) = typed-instance Q q (setting_typs (Typs sets)) (setting_terms (Typs sets)) r [] [] t h.typ h.typed in
@@ -239,7 +239,7 @@ module _ (Q : Content) (q : IsContent Q) (above : IsBelow pure_content Q) (A : A
       let same : e.0 ≡ typ_instance (composed sets) h.typ = typed-once [] (with_setting (Typs sets) t) e.0 (typ_instance (composed sets) h.typ) sides.0.typed put.typed in
       subst (λ (V : Typ). HasType [] u V) (same ∙ ap (typ_instance (composed sets)) own) sides.1.typed
 
-  split-solves : (n : Node) (front : List Pair) (p : Pair) (rest : List Pair) → IsFirst n.pairs front p rest Split → LeadsOn n (with_pairs n (front ++ (argument_pairs p.left p.right ++ rest)))
+  pub split-solves : (n : Node) (front : List Pair) (p : Pair) (rest : List Pair) → IsFirst n.pairs front p rest Split → LeadsOn n (with_pairs n (front ++ (argument_pairs p.left p.right ++ rest)))
   split-solves n front p rest f = by f.treated
     where
       by : IsTreatment p.left p.right Split → LeadsOn n (with_pairs n (front ++ (argument_pairs p.left p.right ++ rest)))
@@ -282,7 +282,7 @@ module _ (Q : Content) (q : IsContent Q) (above : IsBelow pure_content Q) (A : A
             setting-solves (Typs sets) n.pairs qs l ms ss r h (rw a.stands joined);
       }
 
-  step-solves : (n m : Node) → Applies A maxidx n (Goes m) → LeadsOn n m
+  pub step-solves : (n m : Node) → Applies A maxidx n (Goes m) → LeadsOn n m
   step-solves n m (drops {front = front} {rest = rest} {p = p} f) = drop-solves n front p rest f
   step-solves n m (retypes {T = T} {U = U} f t) = retype-solves n m T U t
   step-solves n m (puts {front = front} {rest = rest} {qs = qs} {p = p} {b = b} f l) = put-solves n front p rest qs b f l
@@ -290,24 +290,24 @@ module _ (Q : Content) (q : IsContent Q) (above : IsBelow pure_content Q) (A : A
   step-solves n m (unifies {front = front} {rest = rest} {p = p} {T = T} {U = U} {m = k} f t a) = unify-solves n k m front p rest T U f t a
 
   -- From a node to the one that it is simplified to: what its pairs come to is equated modulo the pairs that are left.
-  record Comes (n m : Node) : Type 0 where
-    more : List Setting
-    are : m.path.settings ≡ n.path.settings ++ more
-    long : Each (IsRespecting Q) more → Each (AreSidesLong Q.declarations) n.pairs → Each (AreSidesLong Q.declarations) m.pairs
-    lefts : Each IsLeft m.pairs
-    respects : Each (IsTypRespecting Q) more → Each (AreSidesLong Q.declarations) n.pairs → Each (IsRespecting Q) more
-    solved : Each (IsRespecting Q) more → Each (AreSidesLong Q.declarations) n.pairs → AreSolved m.pairs more n.pairs
+  pub record Comes (n m : Node) : Type 0 where
+    pub more : List Setting
+    pub are : m.path.settings ≡ n.path.settings ++ more
+    pub long : Each (IsRespecting Q) more → Each (AreSidesLong Q.declarations) n.pairs → Each (AreSidesLong Q.declarations) m.pairs
+    pub lefts : Each IsLeft m.pairs
+    pub respects : Each (IsTypRespecting Q) more → Each (AreSidesLong Q.declarations) n.pairs → Each (IsRespecting Q) more
+    pub solved : Each (IsRespecting Q) more → Each (AreSidesLong Q.declarations) n.pairs → AreSolved m.pairs more n.pairs
 
-  left-pair : (ps : List Pair) (p : Pair) → IsIn p ps → IsLeft p → AreSidesLong Q.declarations p → IsPairEquated Q.declarations ps p
+  pub left-pair : (ps : List Pair) (p : Pair) → IsIn p ps → IsLeft p → AreSidesLong Q.declarations p → IsPairEquated Q.declarations ps p
   left-pair ps p m (left past flexible) h =
       let first : h.0.typ ≡ past.typed.typ = typed-once [] p.left h.0.typ past.typed.typ h.0.typed.typed past.typed.left in
       let second : h.1.typ ≡ past.typed.typ = typed-once [] p.right h.1.typ past.typed.typ h.1.typed.typed past.typed.right in
       (past.typed.typ, AreEquated.pair p m (rw first at h.0.typed) (rw second at h.1.typed))
 
-  left-solved : (ps : List Pair) → Each IsLeft ps → Each (AreSidesLong Q.declarations) ps → AreSolved ps [] ps
+  pub left-solved : (ps : List Pair) → Each IsLeft ps → Each (AreSidesLong Q.declarations) ps → AreSolved ps [] ps
   left-solved ps lefts h = each_of (λ p. IsPairEquated Q.declarations ps (pair_after [] p)) ps (λ p m. left-pair ps p m (each_at IsLeft ps lefts p m) (each_at (AreSidesLong Q.declarations) ps h p m))
 
-  simplified : {n m : Node} → Simplifies A maxidx n (Simple m) → Comes n m
+  pub simplified : {n m : Node} → Simplifies A maxidx n (Simple m) → Comes n m
   simplified {n = n} (simple each) = record { more = []; are = sym (append-nil n.path.settings); long = λ r h. h; lefts = each; respects = λ r h. tt; solved = λ r h. left-solved n.pairs each h }
   simplified {n = n} {m = m} (step {m = k} f s) = joined (step-solves n k f) (simplified s)
     where
@@ -324,15 +324,15 @@ module _ (Q : Content) (q : IsContent Q) (above : IsBelow pure_content Q) (A : A
       }
 
   -- The same from a node that is visited, whose sides are certified.
-  record Starts (n m : Node) : Type 0 where
-    more : List Setting
-    are : m.path.settings ≡ n.path.settings ++ more
-    long : Each (IsRespecting Q) more → Each (AreSidesCertified Q.declarations) n.pairs → Each (AreSidesLong Q.declarations) m.pairs
-    lefts : Each IsLeft m.pairs
-    respects : Each (IsTypRespecting Q) more → Each (AreSidesCertified Q.declarations) n.pairs → Each (IsRespecting Q) more
-    solved : Each (IsRespecting Q) more → Each (AreSidesCertified Q.declarations) n.pairs → AreSolved m.pairs more n.pairs
+  pub record Starts (n m : Node) : Type 0 where
+    pub more : List Setting
+    pub are : m.path.settings ≡ n.path.settings ++ more
+    pub long : Each (IsRespecting Q) more → Each (AreSidesCertified Q.declarations) n.pairs → Each (AreSidesLong Q.declarations) m.pairs
+    pub lefts : Each IsLeft m.pairs
+    pub respects : Each (IsTypRespecting Q) more → Each (AreSidesCertified Q.declarations) n.pairs → Each (IsRespecting Q) more
+    pub solved : Each (IsRespecting Q) more → Each (AreSidesCertified Q.declarations) n.pairs → AreSolved m.pairs more n.pairs
 
-  visit-solves : (n m : Node) → Visits A maxidx n (Simple m) → Starts n m
+  pub visit-solves : (n m : Node) → Visits A maxidx n (Simple m) → Starts n m
   visit-solves n m (visited {qs = qs} l s) = by (simplified s)
     where
       by : Comes (with_pairs n qs) m → Starts n m
@@ -346,7 +346,7 @@ module _ (Q : Content) (q : IsContent Q) (above : IsBelow pure_content Q) (A : A
       }
 
   -- The images of the children of a node have their variable's type.
-  choice-typed : (ps : List Pair) (x i : ℕ) (T : Typ) (h : Term) (index : ℕ) → IsChoice ps (Var x i T) h → Each (AreSidesLong Q.declarations) ps → Each IsLeft ps → Each (λ u. IsTypedUnder Q.declarations [] u T) (images index T h)
+  pub choice-typed : (ps : List Pair) (x i : ℕ) (T : Typ) (h : Term) (index : ℕ) → IsChoice ps (Var x i T) h → Each (AreSidesLong Q.declarations) ps → Each IsLeft ps → Each (λ u. IsTypedUnder Q.declarations [] u T) (images index T h)
   choice-typed ps x i T h index c long lefts = by c.heads (each-right IsLeft c.front (c.pair ∷ c.rest) (subst (λ (qs : List Pair). Each IsLeft qs) c.stands lefts)).0
     where
       sides : AreSidesLong Q.declarations c.pair
@@ -367,11 +367,11 @@ module _ (Q : Content) (q : IsContent Q) (above : IsBelow pure_content Q) (A : A
           from c.pair.right c.pair.left past.typed.typ (at-typ c.pair.right past.typed.typ sides.1 past.typed.right) (at-typ c.pair.left past.typed.typ sides.0 past.typed.left) e k
 
   -- A child sets a variable.
-  record IsChildOf (k c : Node) : Type 0 where
-    set : TermBind
-    pairs : c.pairs ≡ with_setting_put (Single set) k.pairs
-    settings : c.path.settings ≡ k.path.settings ++ Single set ∷ []
-    image : Each (AreSidesLong Q.declarations) k.pairs → Each IsLeft k.pairs → IsTypedUnder Q.declarations [] set.image set.typ
+  pub record IsChildOf (k c : Node) : Type 0 where
+    pub set : TermBind
+    pub pairs : c.pairs ≡ with_setting_put (Single set) k.pairs
+    pub settings : c.path.settings ≡ k.path.settings ++ Single set ∷ []
+    pub image : Each (AreSidesLong Q.declarations) k.pairs → Each IsLeft k.pairs → IsTypedUnder Q.declarations [] set.image set.typ
 
   among : (k c : Node) (x i : ℕ) (T : Typ) (us : List Term) → (Each (AreSidesLong Q.declarations) k.pairs → Each IsLeft k.pairs → Each (λ u. IsTypedUnder Q.declarations [] u T) us) → IsIn c (map (child k x i T) us) → IsChildOf k c
   among k c x i T [] typed m = absurd m
@@ -383,7 +383,7 @@ module _ (Q : Content) (q : IsContent Q) (above : IsBelow pure_content Q) (A : A
   }
   among k c x i T (u ∷ us) typed (inr m) = among k c x i T us (λ h lefts. (typed h lefts).1) m
 
-  child-is : (k c : Node) (f h : Term) → IsChoice k.pairs f h → IsIn c (children maxidx k f h) → IsChildOf k c
+  pub child-is : (k c : Node) (f h : Term) → IsChoice k.pairs f h → IsIn c (children maxidx k f h) → IsChildOf k c
   child-is k c (Var x i T) h choice m =
       let index = maxidx + (k.path.choices + 1) in
       among k c x i T (images index T h) (λ long lefts. choice-typed k.pairs x i T h index choice long lefts) m
@@ -394,7 +394,7 @@ module _ (Q : Content) (q : IsContent Q) (above : IsBelow pure_content Q) (A : A
   child-is k c (App g a) h choice m = absurd m
 
   -- What is equated modulo pairs that are solved is solved.
-  mapped : (ms : List Pair) (ss : List Setting) (ps : List Pair) → AreSolved ms ss ps → Each (IsPairEquated Q.declarations ms) (map (pair_after ss) ps)
+  pub mapped : (ms : List Pair) (ss : List Setting) (ps : List Pair) → AreSolved ms ss ps → Each (IsPairEquated Q.declarations ms) (map (pair_after ss) ps)
   mapped ms ss [] h = tt
   mapped ms ss (p ∷ ps) h = (h.0, mapped ms ss ps h.1)
 

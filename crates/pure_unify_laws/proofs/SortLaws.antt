@@ -56,6 +56,10 @@ module _ (A : Algebra) where
   unified-sorts (Unifies.next {sets = sets} {more = more} q l rest) h found m e =
       unified-sorts rest (each-append (λ b. IsOfSort A b.image b.sort) sets more h (equalised-sorts q)) found m e
 
+  -- What unifies two types is a substitution.
+  pub unified_substitution : {index at n : ℕ} {ps : List TypPair} (sets : List TypBind) (next : ℕ) → Unifies A index at n [] ps (Unified sets next) → IsSubstitution A (composed sets)
+  unified_substitution sets next u = composed-substitution sets (unified-sorts u tt sets next refl)
+
 module _ (A : Algebra) (maxidx : ℕ) where
   retyped-sorts : (n m : Node) (T U : Typ) → IsRetyped A maxidx n T U (Goes m) → Each (RespectsSorts A) n.path.settings → Each (RespectsSorts A) m.path.settings
   retyped-sorts n m T U (all_long {sets = sets} {next = next} u apart l) h =

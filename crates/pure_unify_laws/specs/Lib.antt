@@ -1,2 +1,4 @@
 pub mod Laws
 pub mod Reached
+pub mod Closed
+pub mod Condition

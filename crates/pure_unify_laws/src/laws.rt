@@ -1,4 +1,5 @@
 //! Laws of the search for a unifier: each is the contract of a function that does nothing.
+ghost use Rattle.pure_unify_laws.specs.Condition.{AllSettingsRespect, AllSettingsEquate};
 ghost use Rattle.pure_unify_laws.specs.Laws.{SearchHasOneAnswer};
 ghost use Rattle.pure_unify_laws.specs.Reached.{UnifierIsReached, SettingsRespectSorts, SettingsRespect, SettingsEquate};
 
@@ -18,4 +19,10 @@ pub fn settings_equate()
     ensures sorts { SettingsRespectSorts }
     ensures respect { SettingsRespect }
     ensures equate { SettingsEquate }
+{}
+
+/// Over a content of declared classes alone all settings respect the content, and equate the sides of the given pairs.
+pub fn all_settings_equate()
+    ensures respect { AllSettingsRespect }
+    ensures equate { AllSettingsEquate }
 {}

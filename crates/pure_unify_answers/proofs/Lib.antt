@@ -1,0 +1,11 @@
+pub mod PartLaws
+pub mod TreatmentLaws
+pub mod FewerLaws
+pub mod SpineLaws
+pub mod FitLaws
+pub mod ApplyLaws
+pub mod AnswerLaws
+pub mod OnceLaws
+pub mod PathLaws
+pub mod SolveLaws
+pub mod TidyLaws

@@ -1,0 +1,4 @@
+//! What the search for a unifier answers: laws.
+#![tactic(auto)]
+
+pub mod laws;
