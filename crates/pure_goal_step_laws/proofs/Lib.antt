@@ -1,0 +1,4 @@
+pub mod IndexLaws
+pub mod ClosedLaws
+pub mod AttemptLaws
+pub mod UnifiedLaws

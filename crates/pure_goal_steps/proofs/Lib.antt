@@ -1,0 +1,5 @@
+pub mod ReadLaws
+pub mod FollowsLaws
+pub mod OneOutcomeLaws
+pub mod SoundLaws
+pub mod MeasuredLaws

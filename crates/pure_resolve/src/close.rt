@@ -1,0 +1,63 @@
+//! A goal of subgoals and a marked statement, within the limits.
+ghost use Rattle.std.specs.Prelude.{◌≡◌, [], IfOk};
+ghost use Rattle.pure_text.specs.Lists.{Each};
+ghost use Rattle.pure_logic.specs.Connectives.{chain};
+ghost use Rattle.pure_theorem.specs.Sets.{IsLabelSet};
+ghost use Rattle.pure_resolve.specs.Goals.{IsLeftTyped, IsConcluded};
+
+use crate::limits::is_small;
+use crate::state::Goal;
+use pure_goal_steps::StepFault;
+use pure_term::{Label, Term};
+use pure_theorem::{Pair, Thm, implication};
+use std::alloc::{AllocError, Global};
+
+/// The premises, in order, before the conclusion.
+fn chained(alloc: Global, mut premises: Vec<Term>, mut conclusion: Term) -> Result<Term, AllocError>
+    ensures { IfOk result (λ t. t ≡ chain premises.items conclusion) }
+{
+    while let Some(premise) = premises.pop() {
+        conclusion = implication(alloc, premise, conclusion)?;
+    }
+    Ok(conclusion)
+}
+
+/// The theorem of a goal's parts.
+fn theorem(
+    alloc: Global,
+    subgoals: Vec<Term>,
+    marked: Term,
+    pairs: Vec<Pair>,
+    rests: Vec<Label>,
+) -> Result<Thm, AllocError>
+    requires { IsLabelSet rests.items }
+    ensures { IfOk result (λ th. th ≡ record { hyps = []; pairs = pairs.items; prop = chain subgoals.items marked; rests = rests.items }) }
+{
+    let prop = chained(alloc, subgoals, marked)?;
+    Ok(Thm {
+        hyps: Vec::new(alloc),
+        pairs,
+        prop,
+        rests,
+    })
+}
+
+/// The goal of these parts, where its pairs and its proposition are within the limits as one proposition.
+pub fn concluded(
+    alloc: Global,
+    subgoals: Vec<Term>,
+    marked: Term,
+    pairs: Vec<Pair>,
+    rests: Vec<Label>,
+) -> Result<Goal, StepFault>
+    requires typed { Each IsLeftTyped pairs.items }
+    requires set { IsLabelSet rests.items }
+    ensures { IsConcluded pairs.items (chain subgoals.items marked) rests.items result }
+{
+    let thm = theorem(alloc, subgoals, marked, pairs, rests)?;
+    if is_small(alloc, &thm)? {
+        Ok(Goal { thm })
+    } else {
+        Err(StepFault::Big)
+    }
+}

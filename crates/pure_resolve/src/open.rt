@@ -1,0 +1,35 @@
+//! A goal's proposition taken apart: its subgoals, and the marked statement.
+ghost use Rattle.std.specs.Prelude.{◌≡◌, ◌++◌, List, IfOk};
+ghost use Rattle.pure_definitions.specs.Terms.Term as tree;
+ghost use Rattle.pure_logic.specs.Connectives.{chain, protect};
+
+use pure_term::Term;
+use pure_theorem::as_implication;
+use std::alloc::{AllocError, Global};
+
+/// The subgoals of a goal, and its statement with the mark.
+#[derive(Drop)]
+pub struct Parts {
+    pub subgoals: Vec<Term>,
+    pub marked: Term,
+}
+
+/// Puts the premises before a mark behind those of the list, and gives what is marked, with the mark.
+fn put_premises(alloc: Global, t: &Term, premises: &mut Vec<Term>) -> Result<Term, AllocError>
+    ensures { (As : List tree.Term) → (C : tree.Term) → t.now ≡ chain As (protect C) → IfOk result (λ marked. (premises.new.items ≡ premises.old.items ++ As) × (marked ≡ protect C)) }
+{
+    let Some((premise, rest)) = as_implication(t) else {
+        return t.copy(alloc);
+    };
+    premises.push(premise.copy(alloc)?)?;
+    put_premises(alloc, rest, premises)
+}
+
+/// The subgoals and the marked statement of a goal's proposition.
+pub fn opened(alloc: Global, t: &Term) -> Result<Parts, AllocError>
+    ensures { (As : List tree.Term) → (C : tree.Term) → t.now ≡ chain As (protect C) → IfOk result (λ o. (o.subgoals.items ≡ As) × (o.marked ≡ protect C)) }
+{
+    let mut subgoals = Vec::new(alloc);
+    let marked = put_premises(alloc, t, &mut subgoals)?;
+    Ok(Parts { subgoals, marked })
+}

@@ -1,0 +1,35 @@
+//! Goals as values.
+ghost use Rattle.std.specs.Prelude.{◌≡◌, List, length};
+ghost use Rattle.pure_definitions.specs.Terms.Term as tree;
+ghost use Rattle.pure_definitions.specs.Terms.Limits.{cut_off};
+ghost use Rattle.pure_logic.specs.Connectives.{chain, protect};
+ghost use Rattle.pure_goal_steps.specs.State.{State, IsTheoremOf};
+
+use pure_term::Term;
+use pure_theorem::{Thm, as_implication};
+
+/// A goal: a theorem `A1 ==> .. ==> An ==> # C` without hypotheses, with the subgoals A1 to An in long form and the statement C
+/// as it was given (Isabelle/Isar Implementation manual, section 4.1).
+#[derive(Debug, Drop)]
+pub struct Goal {
+    pub thm: Thm,
+}
+
+/// The count of the premises before a mark.
+fn count_premises(t: &Term) -> u32
+    ensures { (As : List tree.Term) → (C : tree.Term) → t.now ≡ chain As (protect C) → result ≡ cut_off (length As) }
+{
+    match as_implication(t) {
+        None => 0,
+        Some((_, rest)) => count_premises(rest).saturating_add(1),
+    }
+}
+
+impl Goal {
+    /// The count of its subgoals. It takes no memory.
+    pub fn subgoals(&self) -> u32
+        ensures { (s : State) → IsTheoremOf s self.now.thm → result ≡ cut_off (length s.subgoals) }
+    {
+        count_premises(&self.thm.prop)
+    }
+}
