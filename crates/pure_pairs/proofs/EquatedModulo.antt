@@ -1,16 +1,16 @@
 -- Terms that are equal modulo pairs are equated modulo them.
-use Rattle.std.proofs.Common.{◌≡◌, ◌⊎◌, List, [], ◌∷◌, inl, inr, refl, sym, subst}
-use Rattle.pure_text.specs.Lists.{IsIn, Each, AnyOf}
+use Rattle.std.proofs.Common.{◌⊎◌, List, [], ◌∷◌, inl, inr, sym, subst}
+use Rattle.pure_text.specs.Lists.{IsIn, Each}
 use Rattle.pure_text.proofs.ListLaws.{any_some, each_at}
 use Rattle.pure_definitions.specs.Types.Typ.{Typ, arrow}
-use Rattle.pure_definitions.specs.Terms.Term.{Term, Abs, App}
+use Rattle.pure_definitions.specs.Terms.Term.{Term, Abs}
 use Rattle.pure_definitions.specs.Declarations.Decl.{Decl}
 use Rattle.pure_logic.specs.Derivable.{Pair}
 use Rattle.pure_equated.specs.Equated as equated
 use Rattle.pure_equated.specs.Equated.{IsTypedUnder, AreEquated, back, pair}
 use Rattle.pure_equated.proofs.SidesLaws.{equated_are_typed}
 use Rattle.pure_equated.proofs.NodesLaws.{equated_node_by_node, equated_bodies}
-use Rattle.pure_pairs.specs.Modulo.{closed_over, AreSides, AreListed, AreListedUnder, AreEqualModulo, equal, listed, bodies, applied}
+use Rattle.pure_pairs.specs.Modulo.{closed_over, AreSides, AreListedUnder, AreEqualModulo, equal, listed, bodies, applied}
 use Rattle.pure_pairs.specs.Laws.{AreSidesTyped}
 
 -- Where terms are equated below abstractions over binders, they are under these binders.

@@ -2,3 +2,5 @@ pub mod ModuloLaws
 pub mod EquatedModulo
 pub mod ScopeLaws
 pub mod TrivialLaws
+pub mod IndexLaws
+pub mod SmashLaws

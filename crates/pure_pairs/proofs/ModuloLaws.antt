@@ -3,17 +3,16 @@ use Rattle.std.proofs.Common.{◌≡◌, ◌≢◌, ◌⊎◌, ℕ, ◌+◌, ◌
 use Rattle.std.specs.Prelude.{if◌then◌else◌}
 use Rattle.std.specs.Cmp.{first_so, second_so}
 use Rattle.std.specs.Cmp.Derive.{both_true}
-use Rattle.pure_text.specs.Lists.{IsIn, Each, AnyOf}
+use Rattle.pure_text.specs.Lists.{IsIn, Each}
 use Rattle.pure_text.proofs.ListLaws.{read_in}
 use Rattle.pure_definitions.specs.Types.Typ.{Typ, typ_eq}
-use Rattle.pure_definitions.specs.Terms.Term.{Term, Const, Free, Var, Bound, Abs, App, term_eq}
+use Rattle.pure_definitions.specs.Terms.Term.{Term, Abs, App, term_eq}
 use Rattle.pure_definitions.specs.Terms.Typing.{node_count}
 use Rattle.pure_definitions.specs.Terms.Limits.{cut_off}
 use Rattle.pure_definitions.specs.Models.Equality.{typ_eq-same, typ_eq-itself, term_eq-same, term_eq-itself}
-use Rattle.pure_definitions.proofs.BindLemmas.{term_eq-other}
 use Rattle.pure_logic.specs.Derivable.{Pair}
 use Rattle.pure_pairs.specs.Modulo.{closed_over, AreSides, AreListed, AreListedUnder, AreEqualModulo, equal, listed, bodies, applied, AreAlike, DiffersAt, here, in_body, in_function, in_argument}
-use Rattle.pure_pairs.specs.Difference.{IsNotOver, is_either_way, is_listed, unless_listed, at_node, further, at_applications, difference}
+use Rattle.pure_pairs.specs.Difference.{is_either_way, is_listed, unless_listed, at_node, further, at_applications, difference}
 use Rattle.pure_pairs.specs.Answer.{DiffersFrom, IsDifference}
 
 either : (a b : Bool) → (a || b) ≡ true → (a ≡ true) ⊎ (b ≡ true)

@@ -1,5 +1,5 @@
 -- What stands below abstractions over a scope.
-use Rattle.std.proofs.Common.{◌≡◌, ◌≢◌, ℕ, Bool, true, false, List, [], ◌∷◌, Option, Some, None, MatchOption, refl, ap, sym, subst, ◌∙◌}
+use Rattle.std.proofs.Common.{◌≡◌, ◌≢◌, Bool, true, false, List, [], ◌∷◌, Option, Some, None, MatchOption, refl, ap, sym, subst, ◌∙◌}
 use Rattle.pure_definitions.specs.Types.Typ.{Typ, typ_eq}
 use Rattle.pure_definitions.specs.Terms.Term.{Term, Abs, term_eq}
 use Rattle.pure_definitions.specs.Models.Equality.{typ_eq-same, typ_eq-itself, term_eq-same, term_eq-itself}

@@ -1,8 +1,8 @@
 -- Pairs with equal sides, and theorems without them.
-use Rattle.std.proofs.Common.{◌≡◌, ◌⊎◌, ℕ, ◌+◌, ◌<◌, Bool, true, false, List, [], ◌∷◌, ◌++◌, length, get_or, take, inl, inr, refl, ap, sym, subst, ◌∙◌, append_assoc}
+use Rattle.std.proofs.Common.{◌≡◌, ◌⊎◌, ℕ, ◌+◌, ◌<◌, Bool, true, false, List, [], ◌∷◌, ◌++◌, length, get_or, take, inl, inr, refl, ap, sym, subst, ◌∙◌}
 use Rattle.std.specs.Prelude.{if◌then◌else◌, Result, Ok, Err, IfOk}
 use Rattle.std.proofs.lemmas.List.{append-nil}
-use Rattle.pure_text.specs.Lists.{IsIn, Each}
+use Rattle.pure_text.specs.Lists.{IsIn}
 use Rattle.pure_text.proofs.ListLaws.{each_of, each_at}
 use Rattle.pure_text.proofs.LoopLaws.{longer_by}
 use Rattle.pure_definitions.specs.Terms.Term.{Term, term_eq}
@@ -64,7 +64,7 @@ kept-or-equal [] q m = absurd m
 kept-or-equal (p ∷ ps) q (inl e) = here-if (term_eq p.left p.right) p q (without_trivial ps) e (λ f. term_eq-same p.left p.right f)
 kept-or-equal (p ∷ ps) q (inr m) = later-either (term_eq p.left p.right) p q (without_trivial ps) (kept-or-equal ps q m)
 
-equal-equated : (Q : Content) (others : List Pair) (p : Pair) → IsCertifiedPair Q p → p.left ≡ p.right → IsPairEquated Q.declarations others p
+pub equal-equated : (Q : Content) (others : List Pair) (p : Pair) → IsCertifiedPair Q p → p.left ≡ p.right → IsPairEquated Q.declarations others p
 equal-equated Q others p (T, l, r) e =
     let own : AreEquated Q.declarations others [] T p.left p.left = AreEquated.same (record { parts = l.certified.parts; typed = l.typed }) in
     (T, subst (λ (t : Term). AreEquated Q.declarations others [] T p.left t) e own)

@@ -1,5 +1,5 @@
 -- The first difference of two terms modulo pairs, as a function: places are cut off at the greatest number of a call.
-use Rattle.std.specs.Prelude.{◌≡◌, ◌≢◌, ℕ, ◌+◌, List, [], ◌∷◌, Bool, true, false, ◌&&◌, ◌||◌, if◌then◌else◌, Option, Some, None}
+use Rattle.std.specs.Prelude.{◌≢◌, ℕ, ◌+◌, List, [], ◌∷◌, Bool, false, ◌&&◌, ◌||◌, if◌then◌else◌, Option, Some, None}
 use Rattle.pure_definitions.specs.Types.Typ.{Typ, typ_eq}
 use Rattle.pure_definitions.specs.Terms.Term.{Term, Abs, App, term_eq}
 use Rattle.pure_definitions.specs.Terms.Typing.{node_count}

@@ -1,5 +1,5 @@
 -- Theorems whose pairs are smashed: the heads of the sides become constant functions (Isabelle/Isar Implementation manual, section 2.4).
-use Rattle.std.specs.Prelude.{◌≡◌, ◌≢◌, ℕ, ◌+◌, max, List, [], ◌∷◌, map, length, drop, Bool, true, false, if◌then◌else◌}
+use Rattle.std.specs.Prelude.{◌≡◌, ◌≢◌, ℕ, ◌+◌, max, List, [], ◌∷◌, map, length, drop, if◌then◌else◌}
 use Rattle.pure_definitions.specs.Types.Typ.{Typ, TFree, TVar, Con, Typs, none, also}
 use Rattle.pure_definitions.specs.Terms.Term.{Term, Const, Free, Var, Bound, Abs, App, term_eq}
 use Rattle.pure_definitions.specs.Terms.Conditions.{variable_typ}
@@ -51,14 +51,22 @@ with_constant v Ts c (App f a) = if term_eq v (front f) then below (drop (length
 abbrev pub with_constants : Pair → (variable : Term) → Term → Term
 with_constants p c t = let l = head p.left in let r = head p.right in with_constant r (domains (variable_typ r)) c (with_constant l (domains (variable_typ l)) c t)
 
--- the fresh variable of the sides' common result type: its name has the number 0, and its index is one above the greatest of the theorem
+-- the common result type of the sides: the type in which the type of the left side's head ends
+abbrev pub result_typ : Pair → Typ
+result_typ p = range (variable_typ (head p.left))
+
+-- the fresh variable of that type: its name has the number 0, and its index is one above the greatest of the theorem
 abbrev pub fresh_variable : Theorem → Pair → Term
-fresh_variable th p = Var 0 (theorem_index_above th) (range (variable_typ (head p.left)))
+fresh_variable th p = Var 0 (theorem_index_above th) (result_typ p)
+
+-- the other pair with the heads of a pair become constant functions
+abbrev pub pair_with : Pair → (variable : Term) → Pair → Pair
+pair_with p c q = pair (with_constants p c q.left) (with_constants p c q.right)
 
 -- The theorem with the heads of a pair become constant functions that give the variable; these are its pairs before that.
 pub record IsWithConstants (p : Pair) (c : Term) (pairs : List Pair) (th new : Theorem) : Type 0 where
   pub hyps : IsSetOf term_cmp (map (with_constants p c) th.hyps) new.hyps
-  pub are_pairs : new.pairs ≡ map (λ q. pair (with_constants p c q.left) (with_constants p c q.right)) pairs
+  pub are_pairs : new.pairs ≡ map (pair_with p c) pairs
   pub prop : new.prop ≡ with_constants p c th.prop
   pub rests : new.rests ≡ th.rests
 
@@ -67,3 +75,8 @@ pub data Smashes : Theorem → Theorem → Type 0 where
   no_pair : {th : Theorem} → th.pairs ≡ [] → Smashes th th
   trivial : {th smashed : Theorem} {p : Pair} {ps : List Pair} → th.pairs ≡ p ∷ ps → p.left ≡ p.right → Smashes (record th { pairs = ps }) smashed → Smashes th smashed
   constants : {th next smashed : Theorem} {p : Pair} {ps : List Pair} → th.pairs ≡ p ∷ ps → p.left ≢ p.right → IsWithConstants p (fresh_variable th p) ps th next → Smashes next smashed → Smashes th smashed
+
+-- What the second theorem is smashed to the first is too, and it has one pair fewer.
+pub record IsOneFewer (th next : Theorem) : Type 0 where
+  pub goes_on : (smashed : Theorem) → Smashes next smashed → Smashes th smashed
+  pub fewer : length next.pairs + 1 ≡ length th.pairs

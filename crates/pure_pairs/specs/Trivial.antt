@@ -1,5 +1,5 @@
 -- Theorems without the pairs whose sides are equal.
-use Rattle.std.specs.Prelude.{◌≡◌, List, [], ◌∷◌, if◌then◌else◌, Result, Ok, Err}
+use Rattle.std.specs.Prelude.{List, [], ◌∷◌, if◌then◌else◌, Result, Ok, Err}
 use Rattle.pure_definitions.specs.Terms.Term.{term_eq}
 use Rattle.pure_logic.specs.Derivable.{Pair, Theorem}
 use Rattle.pure_typ.specs.declared.grow.Grow.{Grow}

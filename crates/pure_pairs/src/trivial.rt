@@ -46,7 +46,7 @@ fn without_pairs(alloc: Global, th: &Thm) -> Result<Thm, AllocError>
 }
 
 /// The theorem itself, where it is within the limits.
-fn grown(th: Thm) -> Result<Thm, Grow>
+pub fn grown(th: Thm) -> Result<Thm, Grow>
     ensures { IsTheoremGrown (λ made. made ≡ th) result }
 {
     if th.is_within() {

@@ -1,0 +1,8 @@
+//! Conversions: theorems that say what a term equals.
+#![tactic(auto)]
+
+mod fault;
+mod simple;
+
+pub use fault::ConvFault;
+pub use simple::{abs_conv, all_conv, comb_conv, then_conv};
