@@ -1,0 +1,6 @@
+pub mod Notes
+pub mod Lookups
+pub mod Commands
+pub mod Fold
+pub mod Premises
+pub mod Seen

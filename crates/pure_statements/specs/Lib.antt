@@ -1,0 +1,5 @@
+pub mod Chain
+pub mod Quoted
+pub mod Body
+pub mod ReasonText
+pub mod Schematic
