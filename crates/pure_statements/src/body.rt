@@ -29,7 +29,8 @@ fn is_equality(raw: &Raw) -> bool
     ensures { result ≡ spec.is_equality raw.now }
 {
     match &raw.node {
-        RawNode::Leaf { kind, text, .. } => is_dotted(*kind) && text.bytes() == b"Pure.eq".as_slice(),
+        RawNode::Leaf { kind, text, .. } => is_dotted(*kind)
+            && text.bytes() == b"Pure.eq".as_slice(),
         RawNode::Abs { .. } => false,
         RawNode::App { .. } => false,
         RawNode::Typed { .. } => false,

@@ -55,12 +55,7 @@ fn push_number(alloc: Global, text: &mut Vec<u8>, number: u32) -> Result<(), All
     Ok(())
 }
 
-fn push_place(
-    alloc: Global,
-    text: &mut Vec<u8>,
-    source: &[u8],
-    at: u32,
-) -> Result<(), AllocError>
+fn push_place(alloc: Global, text: &mut Vec<u8>, source: &[u8], at: u32) -> Result<(), AllocError>
     requires { length source.now < 2 ^ 32 - 1 }
     ensures { OnOk result (text.new.items ≡ text.old.items ++ spec.place_text source.now at) }
 {
