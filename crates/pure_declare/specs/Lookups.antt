@@ -1,28 +1,42 @@
--- Written names looked up, one or several.
-use Rattle.std.specs.Prelude.{ℕ, List, [], ◌∷◌, Option, Some, None, nat_lt, nat_eq, option_map, if◌then◌else◌}
+-- Written names of classes looked up, one or several.
+use Rattle.std.specs.Prelude.{◌≡◌, ℕ, List, Option, Some, None, Result, Ok, Err}
+use Rattle.pure_text.specs.Lists.{EachTwo, AnyOf}
 use Rattle.pure_elab.specs.Vocabulary.{Vocabulary}
+use Rattle.pure_elab.specs.Table.{IsSortOf}
+use Rattle.pure_statements.specs.declared.reason.Reason.{Reason}
+use Rattle.pure_statements.specs.declared.reason.Reason.TheVariants.{UnknownClass}
 
--- the element in front of the list, where both were found
-abbrev pub found_first : {A : Type 0} → Option A → Option (List A) → Option (List A)
-found_first None rest = None
-found_first (Some a) None = None
-found_first (Some a) (Some rest) = Some (a ∷ rest)
+-- The names are those of these classes, in order.
+abbrev pub AreWritten : Vocabulary → (written : List (List ℕ)) → (classes : List ℕ) → Type 0
+AreWritten V written cs = EachTwo (λ w c. V.class_written w ≡ Some c) written cs
 
--- what the function finds for each element of the list, where it finds something for each
-abbrev pub found_each : {A B : Type 0} → (A → Option B) → List A → Option (List B)
-found_each find [] = Some []
-found_each find (a ∷ more) = found_first (find a) (found_each find more)
+-- One of the names means no class.
+abbrev pub HasUnknown : Vocabulary → (written : List (List ℕ)) → Type 0
+HasUnknown V written = AnyOf (λ w. V.class_written w ≡ None) written
 
--- the class in an ascending list of classes, once
-abbrev pub with_class : ℕ → List ℕ → List ℕ
-with_class c [] = c ∷ []
-with_class c (d ∷ ds) = if nat_lt c d then c ∷ d ∷ ds else (if nat_eq c d then d ∷ ds else d ∷ with_class c ds)
+-- the classes of these names, or that one of the names means none
+abbrev pub AreWrittenClasses : Vocabulary → (written : List (List ℕ)) → Result (List ℕ) Reason → Type 0
+AreWrittenClasses V written (Ok cs) = AreWritten V written cs
+AreWrittenClasses V written (Err reason) = HasUnknown V written × (reason ≡ UnknownClass)
 
--- these classes, ascending and each once
-abbrev pub ascending : List ℕ → List ℕ
-ascending [] = []
-ascending (c ∷ cs) = with_class c (ascending cs)
+-- The sort has just the classes of these names.
+abbrev pub IsWrittenSort : Vocabulary → (written : List (List ℕ)) → (sort : List ℕ) → Type 0
+IsWrittenSort V written sort = (cs : List ℕ) × AreWritten V written cs × IsSortOf cs sort
 
--- the sort that is written by these names of classes
-abbrev pub found_sort : Vocabulary → List (List ℕ) → Option (List ℕ)
-found_sort V written = option_map ascending (found_each V.class_written written)
+-- the sorts of domains, or that a name in one of them means no class
+abbrev pub AreWrittenSorts : Vocabulary → (domains : List (List (List ℕ))) → Result (List (List ℕ)) Reason → Type 0
+AreWrittenSorts V domains (Ok sorts) = EachTwo (IsWrittenSort V) domains sorts
+AreWrittenSorts V domains (Err reason) = AnyOf (HasUnknown V) domains × (reason ≡ UnknownClass)
+
+-- what was found of classes, of a sort, and of sorts; none where a name means no class
+abbrev pub AreClassesOrNone : Vocabulary → (written : List (List ℕ)) → Option (List ℕ) → Type 0
+AreClassesOrNone V written None = HasUnknown V written
+AreClassesOrNone V written (Some cs) = AreWritten V written cs
+
+abbrev pub IsSortOrNone : Vocabulary → (written : List (List ℕ)) → Option (List ℕ) → Type 0
+IsSortOrNone V written None = HasUnknown V written
+IsSortOrNone V written (Some sort) = IsWrittenSort V written sort
+
+abbrev pub AreSortsOrNone : Vocabulary → (domains : List (List (List ℕ))) → Option (List (List ℕ)) → Type 0
+AreSortsOrNone V domains None = AnyOf (HasUnknown V) domains
+AreSortsOrNone V domains (Some sorts) = EachTwo (IsWrittenSort V) domains sorts

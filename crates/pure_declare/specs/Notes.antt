@@ -24,3 +24,8 @@ pub data Note : Type 0 where
 pub record Outcome : Type 0 where
   pub note : Note
   pub next : Content
+
+-- what a command that declares does: what is said behind the head of its row, and the next content
+pub record Change : Type 0 where
+  pub tail : List ℕ
+  pub next : Content
