@@ -1,5 +1,5 @@
 -- A command keeps what the next one needs of a content.
-use Rattle.std.proofs.Common.{◌≡◌, ◌<◌, ◌⊎◌, ℕ, List, [], ◌∷◌, ◌++◌, Some, refl, sym, ap, ◌∙◌, subst, inl, inr, ⊎_elim, arith}
+use Rattle.std.proofs.Common.{◌≡◌, ◌⊎◌, ℕ, List, [], ◌∷◌, ◌++◌, refl, sym, ◌∙◌, subst, inl, inr, ⊎_elim, arith}
 use Rattle.std.specs.Prelude.{Result, Ok, Err}
 use Rattle.pure_text.specs.Lists.{IsIn, Each}
 use Rattle.pure_text.proofs.ListLaws.{in_split, in-append_left, each_imply}
@@ -15,7 +15,7 @@ use Rattle.pure_lookup.specs.Laws.{IsInSession}
 use Rattle.pure_theory.specs.Refusals.{IsBefore, IsLabelAbove}
 use Rattle.pure_theory.specs.Stage.{with_declarations}
 use Rattle.pure_statements.specs.declared.reason.Reason.{Reason}
-use Rattle.pure_statements.specs.Chain.{Then, refuses, goes_on, Unless, holds, passes}
+use Rattle.pure_statements.specs.Chain.{refuses, goes_on, holds, passes}
 use Rattle.pure_declare.specs.Notes.{Outcome, Change}
 use Rattle.pure_declare.specs.Commands.{Place, IsOutcome, IsSaid, IsNewClassChange, IsClassChange, IsTypeChange, IsFoundArityChange, IsClassArityChange, IsDomainsArityChange, IsArityChange, IsNewConstChange, IsConstChange, IsAxiomChange, IsBodyChange, IsTermChange, IsTypedChange, IsTreeChange, IsTextChange, IsNewDefinitionChange, IsDefinitionChange, IsLemmaOutcome, declaring, declaring_const, declaring_definition, declaring_axiom, forking}
 use Rattle.pure_declare.specs.Fold.{IsDeclaredAs, outcome_of}

@@ -5,7 +5,7 @@ use Rattle.pure_text.specs.Lists.{IsIn, Each, EachTwo}
 use Rattle.pure_text.proofs.ListLaws.{in-append_right, two-append, any_of}
 use Rattle.pure_text.proofs.LoopLaws.{longer_by}
 use Rattle.pure_definitions.specs.Types.Order.{Class}
-use Rattle.pure_definitions.specs.Declarations.Decl.{Decl, ClassDecl, classes_of, IsDeclaredClass}
+use Rattle.pure_definitions.specs.Declarations.Decl.{Decl, classes_of, IsDeclaredClass}
 use Rattle.pure_order_tables.specs.Classes.{IsDeclared}
 use Rattle.pure_order_tables.specs.Unknown.{IsFirstUnknown}
 use Rattle.pure_term_laws.proofs.DeclLaws.{declared_classes}

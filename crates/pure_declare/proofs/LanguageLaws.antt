@@ -1,9 +1,8 @@
 -- The look-ups of a theory are those of its vocabulary.
-use Rattle.std.proofs.Common.{◌≡◌, ℕ, List, Option, Some, None, MatchOption, refl, sym, subst}
+use Rattle.std.proofs.Common.{◌≡◌, ℕ, List, Option, Some, None, MatchOption, refl}
 use Rattle.std.specs.Prelude.{option_map}
-use Rattle.pure_text.specs.Lists.{IsIn}
 use Rattle.pure_definitions.specs.Types.Typ.{Typ}
-use Rattle.pure_definitions.specs.Declarations.Decl.{Decl, ConstDecl}
+use Rattle.pure_definitions.specs.Declarations.Decl.{Decl}
 use Rattle.pure_typ.specs.NameTexts.{name_texts, AreSessionTexts, IsFound}
 use Rattle.pure_logic.specs.Content.{Content, IsContent}
 use Rattle.pure_lookup.specs.Meaning.{classes, constructors, constants}
@@ -12,7 +11,7 @@ use Rattle.pure_lookup.specs.Laws.{IsInSession}
 use Rattle.pure_lookup.proofs.TextLemmas.{one_name}
 use Rattle.pure_lookup.proofs.MeaningLaws.{one_found}
 use Rattle.pure_certify.specs.Tables.{IsParams, IsUnknownConst, IsConstOf}
-use Rattle.pure_elab.specs.Vocabulary.{Vocabulary, IsVocabulary}
+use Rattle.pure_elab.specs.Vocabulary.{IsVocabulary}
 use Rattle.pure_elab.specs.Found.{vocabulary_of}
 use Rattle.pure_elab.proofs.FoundLaws.{content_has_vocabulary}
 

@@ -1,5 +1,5 @@
 -- What each command declares over a content, or why it is refused. Its tests are in the order in which they stand.
-use Rattle.std.specs.Prelude.{◌≡◌, ◌≢◌, ◌⊎◌, ℕ, List, [], ◌∷◌, ◌++◌, length, codes, Option, Result, Ok, Err}
+use Rattle.std.specs.Prelude.{◌≡◌, ◌≢◌, ◌⊎◌, ℕ, List, [], ◌++◌, length, codes, Result, Ok, Err}
 use Rattle.pure_text.specs.Lists.{IsIn}
 use Rattle.pure_definitions.specs.Names.{Label}
 use Rattle.pure_definitions.specs.Types.Typ.{Typ}
@@ -31,7 +31,7 @@ use Rattle.pure_statements.specs.Elaborated.{IsTypedTerm}
 use Rattle.pure_statements.specs.Statement.{IsNormalised, IsLarge, IsStated, IsStatedTyp}
 use Rattle.pure_statements.specs.Body.{body_of}
 use Rattle.pure_statements.specs.Rows.{declared_row, of_type, colon}
-use Rattle.pure_declare.specs.Notes.{Fork, Note, Said, Forked, Outcome, Change}
+use Rattle.pure_declare.specs.Notes.{Said, Forked, Outcome, Change}
 use Rattle.pure_declare.specs.Lookups.{AreWrittenClasses, AreWrittenSorts}
 
 -- what stands around a command: the texts of names, the source, the label, the text of the theory, and the content

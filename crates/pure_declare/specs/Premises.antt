@@ -1,10 +1,10 @@
 -- What a call that declares is given: names for what the command declares, ranges that lie in the source, and a stage that such calls made.
-use Rattle.std.specs.Prelude.{◌≡◌, ◌<◌, ◌≤◌, ℕ, List, [], ◌∷◌, length}
+use Rattle.std.specs.Prelude.{◌<◌, ◌≤◌, ℕ, List, [], ◌∷◌, length}
 use Rattle.pure_text.specs.Lists.{IsIn, Each}
 use Rattle.pure_definitions.specs.Types.Order.{Class}
 use Rattle.pure_definitions.specs.Declarations.Decl.{ClassDecl, IsDeclaredClass}
 use Rattle.pure_grammar.specs.Theories.TheoryText.{Span, Command, Class as ClassOf, TypeDecl, Arity, Const, Axiom, Definition, Lemma}
-use Rattle.pure_grammar.specs.Theories.Spans.{Cited, cited_span, command_spans}
+use Rattle.pure_grammar.specs.Theories.Spans.{cited_span, command_spans}
 use Rattle.pure_typ.specs.NameTexts.{HasText}
 use Rattle.pure_logic.specs.Content.{Content}
 use Rattle.pure_lookup.specs.Meaning.{full_text}
