@@ -45,4 +45,3 @@ module _ (texts : List (List ℕ)) (Q : Content) (s : IsInSession texts Q) (cont
 
 pub first-in : (cs : List Class) (names : List ℕ) (c : ℕ) → IsFirstUnknown cs names c → IsIn c names
 first-in cs names c h = subst (λ (l : List ℕ). IsIn c l) (sym h.is) (in-append_right c h.front (c ∷ h.rest) (inl refl))
-
