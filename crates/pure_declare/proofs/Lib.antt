@@ -1,0 +1,3 @@
+pub mod LanguageLaws
+pub mod KnownLaws
+pub mod GrownLaws

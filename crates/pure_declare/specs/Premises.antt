@@ -1,0 +1,58 @@
+-- What a call that declares is given: names for what the command declares, ranges that lie in the source, and a stage that such calls made.
+use Rattle.std.specs.Prelude.{◌<◌, ◌≤◌, ℕ, List, [], ◌∷◌, length}
+use Rattle.pure_text.specs.Lists.{IsIn, Each}
+use Rattle.pure_definitions.specs.Types.Order.{Class}
+use Rattle.pure_definitions.specs.Declarations.Decl.{ClassDecl, IsDeclaredClass}
+use Rattle.pure_grammar.specs.Theories.TheoryText.{Span, Command, Class as ClassOf, TypeDecl, Arity, Const, Axiom, Definition, Lemma}
+use Rattle.pure_grammar.specs.Theories.Spans.{cited_span, command_spans}
+use Rattle.pure_typ.specs.NameTexts.{HasText}
+use Rattle.pure_logic.specs.Content.{Content}
+use Rattle.pure_lookup.specs.Meaning.{full_text}
+use Rattle.pure_lookup.specs.Laws.{IsInSession}
+use Rattle.pure_theory.specs.Refusals.{IsLabelAbove}
+use Rattle.pure_declare.specs.Commands.{Place, fact_base}
+use Rattle.pure_declare.specs.Fold.{IsOwnText}
+
+-- the bases of what a command declares
+abbrev pub bases_of : Command → List (List ℕ)
+bases_of (ClassOf x above) = x ∷ []
+bases_of (TypeDecl x params) = x ∷ []
+bases_of (Arity con domains class) = []
+bases_of (Const x typ) = x ∷ []
+bases_of (Axiom x prop) = x ∷ []
+bases_of (Definition x typ prop) = x ∷ fact_base x ∷ []
+bases_of (Lemma x prop script) = x ∷ []
+
+-- Some name has this text.
+abbrev pub IsNamed : (texts : List (List ℕ)) → List ℕ → Type 0
+IsNamed texts text = (n : ℕ) × HasText texts n text
+
+-- In a theory with this text each full name that the command declares is a name's.
+abbrev pub HasFullNames : (texts : List (List ℕ)) → (theory : List ℕ) → Command → Type 0
+HasFullNames texts theory command = Each (λ base. IsNamed texts (full_text theory base)) (bases_of command)
+
+-- The content's own theory has a text, and the full names that the command declares are names'.
+pub record HasNames (texts : List (List ℕ)) (Q : Content) (command : Command) : Type 0 where
+  pub theory : List ℕ
+  pub own : IsOwnText texts Q theory
+  pub full : HasFullNames texts theory command
+
+-- The range lies in the source.
+pub record LiesIn (source : List ℕ) (span : Span) : Type 0 where
+  pub order : span.from ≤ span.to
+  pub within : span.to ≤ length source
+
+-- The ranges of the command lie in the source.
+abbrev pub HasRanges : (source : List ℕ) → Command → Type 0
+HasRanges source command = Each (λ c. LiesIn source (cited_span c)) (command_spans command)
+
+-- Each class is declared after those that it is declared to be below.
+abbrev pub HasClassesAbove : Content → Type 0
+HasClassesAbove Q = (k : Class) → IsIn (ClassDecl k) Q.declarations → Each (IsDeclaredClass Q.declarations) k.above
+
+-- What stands around a command: texts and a content as a session has them, a source that isn't too long, and a label above those of the content.
+pub record IsGiven (P : Place) : Type 0 where
+  pub in_session : IsInSession P.texts P.content
+  pub small : length P.source < 4294967295
+  pub above : HasClassesAbove P.content
+  pub label : IsLabelAbove P.content.declarations P.label

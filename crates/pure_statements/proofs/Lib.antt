@@ -1,0 +1,5 @@
+pub mod ChainLaws
+pub mod QuotedLaws
+pub mod SchematicLaws
+pub mod ElaboratedLaws
+pub mod StatedLaws
