@@ -1,6 +1,6 @@
 -- The schematic variables of a node, gathered along its settings.
-use Rattle.std.specs.Prelude.{◌≡◌, ◌≢◌, ◌⊎◌, ℕ, List, [], ◌∷◌, ◌++◌, map}
-use Rattle.pure_text.specs.Lists.{IsIn}
+use Rattle.std.specs.Prelude.{◌≡◌, ◌≢◌, List, [], ◌∷◌, ◌++◌, map}
+use Rattle.pure_text.specs.Lists.{AnyOf}
 use Rattle.pure_definitions.specs.Types.Typ.{Typ}
 use Rattle.pure_definitions.specs.Terms.Term.{Term}
 use Rattle.pure_definitions.specs.Terms.Subst.{term_variable, retyped_variable}
@@ -14,7 +14,10 @@ gathered vs [] = vs
 gathered vs (Typs sets ∷ ss) = gathered (map (retyped_variable (composed sets)) vs) ss
 gathered vs (Single b ∷ ss) = gathered (vs ++ term_variable b ∷ variables b.image) ss
 
--- Another variable of the list comes to the same as v under the map.
+-- Another variable comes to the same as v under the map.
+abbrev pub IsSameAs : (Typ → Typ) → (v w : Term) → Type 0
+IsSameAs typs v w = (v ≢ w) × (retyped_variable typs v ≡ retyped_variable typs w)
+
+-- Some variable of the list does.
 abbrev pub HasSame : (Typ → Typ) → (v : Term) → List Term → Type 0
-HasSame typs v [] = ⊥
-HasSame typs v (w ∷ ws) = ((v ≢ w) × (retyped_variable typs v ≡ retyped_variable typs w)) ⊎ HasSame typs v ws
+HasSame typs v ws = AnyOf (IsSameAs typs v) ws
