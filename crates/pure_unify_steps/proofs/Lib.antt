@@ -4,4 +4,4 @@ pub mod BareLaws
 pub mod TreatLaws
 pub mod GatherLaws
 pub mod RetypeLaws
-pub mod TurnLaws
+pub mod LoopLaws

@@ -1,6 +1,6 @@
 -- Settings put into sides.
 use Rattle.std.proofs.Common.{◌≡◌, ◌⊎◌, ℕ, ◌+◌, ◌<◌, ◌≤◌, List, [], ◌∷◌, ◌++◌, map, length, get_or, drop, arith, inl, inr, refl, ap, sym, subst, ◌∙◌}
-use Rattle.std.specs.Prelude.{Result, Ok, Err}
+use Rattle.std.specs.Prelude.{Result, Ok, Err, IfOk}
 use Rattle.pure_text.specs.Lists.{IsIn, Each}
 use Rattle.pure_definitions.specs.Types.Typ.{Typ, TFree, TVar, Con}
 use Rattle.pure_definitions.specs.Terms.Term.{Term, Const, Free, Var, Bound, Abs, App, IsWithin}
@@ -12,7 +12,7 @@ use Rattle.pure_term.specs.Grown.{IsGrown}
 use Rattle.pure_typ.specs.declared.grow.Grow.TheVariants.{Big, Memory}
 use Rattle.pure_term_laws.specs.LawsOccurs.{IsTypVariable}
 use Rattle.pure_term_laws.proofs.OccursLaws.{typ_instances-agree}
-use Rattle.pure_term_laws.proofs.SubstLaws.{inst_term-alone, entries-respect_types}
+use Rattle.pure_term_laws.proofs.SubstLaws.{inst_term-alone, entries-respect_types, entries-keep_fixed, typ_instance-identity}
 use Rattle.pure_term_laws.proofs.TypingBoundLaws.{typing-instance}
 use Rattle.pure_tunify.specs.Settings.{composed}
 use Rattle.pure_tunify.specs.Working.{IsWritten}
@@ -21,7 +21,14 @@ use Rattle.pure_logic.specs.Derivable.{Pair}
 use Rattle.pure_norm.specs.declared.fault.NormFault.{NormFault}
 use Rattle.pure_unify_definitions.specs.LongSides as sides
 use Rattle.pure_unify_definitions.specs.LongSides.{Long, Ends, ComesTo, is_large}
+use Rattle.pure_unify_definitions.specs.Node as node
+use Rattle.pure_unify_definitions.specs.Node.{Typs, Single, with_setting}
 use Rattle.pure_unify_nodes.specs.SideAnswer.{IsTyped, IsSideAnswer}
+use Rattle.pure_unify_steps.specs.declared.node.Setting.{Setting}
+use Rattle.pure_unify_steps.specs.declared.node.Setting.TheVariants.{OfTyps, OfTerm}
+use Rattle.pure_unify_steps.specs.Held.{IsSetting}
+use Rattle.pure_unify_steps.specs.Long.{IsLongSide}
+use Rattle.pure_unify_steps.proofs.LongLaws.{comes_long, comes_itself}
 
 -- A term beyond the limits is too large.
 pub beyond_large : (t : Term) → ¬ IsWithin t → ComesTo t (Ends sides.Big)
@@ -74,3 +81,31 @@ made_typed t u h e = subst IsTyped (sym e) h
 
 pub made_answer : (t u : Term) (r : Result Term NormFault) → u ≡ t → IsSideAnswer u r → IsSideAnswer t r
 made_answer t u r e h = subst (λ (v : Term). IsSideAnswer v r) e h
+
+pub untouched_fixed : (map : List TermBind) (t : Term) (x : ℕ) (T : Typ) → t ≡ Free x T → inst_term (term_image map) t ≡ t
+untouched_fixed map t x T e = subst (λ (u : Term). inst_term (term_image map) u ≡ u) (sym e) (entries-keep_fixed map x T ∙ ap (Free x) (typ_instance-identity T))
+
+pub untouched_long : (t u copy : Term) → u ≡ t → copy ≡ t → IsLongSide t → ComesTo u (Long copy)
+untouched_long t u copy e f h = subst (λ (v : Term). ComesTo v (Long copy)) (sym e) (subst (λ (v : Term). ComesTo t (Long v)) (sym f) (comes_itself t h))
+
+-- The answer for a side with a setting put in.
+pub typs_answer : (map sets : List TypBind) (t : Term) (r : Result Term NormFault) → IsWritten sets map → IsSideAnswer (inst_typ (typ_image map) t) r → IsSideAnswer (inst_typ (composed sets) t) r
+typs_answer map sets t r w h = subst (λ (u : Term). IsSideAnswer u r) (written_same sets map w t) h
+
+pub answer_for_typs : (map : List TypBind) (t : Term) (r : Result Term NormFault) → IsSideAnswer (inst_typ (typ_image map) t) r → (setting : Setting) → setting ≡ OfTyps map → (s : node.Setting) → IsSetting setting s → IsSideAnswer (with_setting s t) r
+answer_for_typs map t r h setting e s k = by s (subst (λ (x : Setting). IsSetting x s) e k)
+  where
+    by : (s : node.Setting) → IsSetting (OfTyps map) s → IsSideAnswer (with_setting s t) r
+    by (Typs sets) w = typs_answer map sets t r w h
+    by (Single b) w = absurd w
+
+pub answer_for_term : (map : List TermBind) (t : Term) (r : Result Term NormFault) → IsSideAnswer (inst_term (term_image map) t) r → (setting : Setting) → setting ≡ OfTerm map → (s : node.Setting) → IsSetting setting s → IsSideAnswer (with_setting s t) r
+answer_for_term map t r h setting e s k = by s (subst (λ (x : Setting). IsSetting x s) e k)
+  where
+    by : (s : node.Setting) → IsSetting (OfTerm map) s → IsSideAnswer (with_setting s t) r
+    by (Typs sets) w = absurd w
+    by (Single b) w = subst (λ (bs : List TermBind). IsSideAnswer (inst_term (term_image bs) t) r) w h
+
+pub answer_long : (t : Term) (r : Result Term NormFault) → IsSideAnswer t r → IfOk r IsLongSide
+answer_long t (Ok u) h = comes_long t u h
+answer_long t (Err fault) h = tt

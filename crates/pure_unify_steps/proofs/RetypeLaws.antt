@@ -1,7 +1,7 @@
 -- Steps on types.
-use Rattle.std.proofs.Common.{◌≡◌, ◌⊎◌, ℕ, ◌+◌, ◌≤◌, List, [], ◌∷◌, ◌++◌, Bool, true, false, inl, inr, refl, ap, sym, subst, ◌∙◌}
+use Rattle.std.proofs.Common.{◌≡◌, ◌⊎◌, ℕ, ◌+◌, ◌≤◌, List, [], ◌∷◌, ◌++◌, Bool, true, false, true≢false, inl, inr, refl, ap, sym, subst, ◌∙◌}
 use Rattle.std.specs.Prelude.{Option, Some, None, Result, Ok, Err, MatchBool}
-use Rattle.pure_text.specs.Lists.{IsIn}
+use Rattle.pure_text.specs.Lists.{IsIn, Each, EachTwo}
 use Rattle.pure_definitions.specs.Types.Typ.{Typ, TFree, TVar, Con, Typs, none, also}
 use Rattle.pure_definitions.specs.Types.Order.{Algebra}
 use Rattle.pure_definitions.specs.Types.Occurs.{OccursInTyp, OccursInTyps}
@@ -10,7 +10,7 @@ use Rattle.pure_definitions.specs.Terms.Subst.{TypBind, typ_image}
 use Rattle.pure_norm.specs.declared.fault.NormFault.{NormFault}
 use Rattle.pure_norm.specs.declared.fault.NormFault.TheVariants.{Steps, Big, Memory}
 use Rattle.pure_tunify.specs.Steps as typs
-use Rattle.pure_tunify.specs.Unifiers.{IsFresh, IsOld}
+use Rattle.pure_tunify.specs.Unifiers.{IsFresh, IsOld, IsOldPair}
 use Rattle.pure_tunify.specs.Settings.{composed}
 use Rattle.pure_tunify.specs.Procedure.{Unified, NotTyped, TooBig, Unifies}
 use Rattle.pure_tunify.specs.Working.{IsWritten}
@@ -22,6 +22,9 @@ use Rattle.pure_unify_definitions.specs.LongSides.{AllLong, Stopped, AreLong}
 use Rattle.pure_unify_definitions.specs.Node as node
 use Rattle.pure_unify_definitions.specs.Node.{Typs as OfSets, with_setting_put, node_variables}
 use Rattle.pure_unify_definitions.specs.Retyping.{Goes, Fails, Stops, MakesTwoSame, retyped, IsRetyped, no_typing, beyond, two_same, side_stops, all_long}
+use Rattle.pure_tunify.specs.declared.pair.TypPair.{TypPair}
+use Rattle.pure_unify_steps.specs.declared.node.Setting.{Setting}
+use Rattle.pure_unify_steps.specs.Held.{IsSetting}
 use Rattle.pure_unify_steps.specs.declared.retype.Retyping.{Retyping}
 use Rattle.pure_unify_steps.specs.Gathered.{gathered}
 use Rattle.pure_unify_steps.specs.Old.{HasNoFresh, HaveNoFresh}
@@ -71,11 +74,33 @@ retyping A maxidx from n T U map next r e h a = by r a
 
     by : (r : Result (Option Retyping) NormFault) → IsApartAnswer n h.sets next r → IsRetypingAnswer A maxidx n T U r
     by (Ok None) same = two_same unifies same
-    by (Ok (Some s)) (free, held, same, long) = record {
+    by (Ok (Some s)) a = record {
       sets = h.sets;
-      held = held;
-      becomes = subst (λ (k : ℕ). IsRetyped A maxidx n T U (Goes (retyped n h.sets k s.pairs.items))) (sym same) (all_long unifies free long);
+      held = a.1.0;
+      becomes = subst (λ (k : ℕ). IsRetyped A maxidx n T U (Goes (retyped n h.sets k s.pairs.items))) (sym a.1.1) (all_long unifies a.0 a.1.2);
     }
     by (Err Memory) a = tt
-    by (Err Big) (free, stopped) = side_stops unifies free stopped
-    by (Err Steps) (free, stopped) = side_stops unifies free stopped
+    by (Err Big) a = side_stops unifies a.0 a.1
+    by (Err Steps) a = side_stops unifies a.0 a.1
+
+pub retyping_none : (A : Algebra) (maxidx from : ℕ) (n : node.Node) (T U : Typ) → from ≡ n.path.fresh → IsTyping A (maxidx + 65) from T U (Ok None) → IsRetyped A maxidx n T U Fails
+retyping_none A maxidx from n T U e h = no_typing (subst (λ (k : ℕ). Unifies A (maxidx + 65) 0 k [] (typs.pair T U ∷ []) (NotTyped h.0)) e h.1)
+
+pub retyping_fault : (A : Algebra) (maxidx from : ℕ) (n : node.Node) (T U : Typ) (fault : NormFault) → from ≡ n.path.fresh → IsTyping A (maxidx + 65) from T U (Err fault) → IsRetypingAnswer A maxidx n T U (Err fault)
+retyping_fault A maxidx from n T U Big e h = beyond (subst (λ (k : ℕ). Unifies A (maxidx + 65) 0 k [] (typs.pair T U ∷ []) (TooBig h.0)) e h.1)
+retyping_fault A maxidx from n T U Steps e h = absurd h
+retyping_fault A maxidx from n T U Memory e h = tt
+
+pub pair_old : (index from : ℕ) (T U : Typ) (ps : List TypPair) → ps ≡ typs.pair T U ∷ [] → HasNoFresh index from T → HasNoFresh index from U → Each (IsOldPair index from) ps
+pair_old index from T U ps e h k = subst (λ (qs : List TypPair). Each (IsOldPair index from) qs) (sym e) ((old_of index from T h, old_of index from U k), tt)
+
+pub settings_at : (xs ys : List Setting) (ss : List node.Setting) → xs ≡ ys → EachTwo IsSetting ys ss → EachTwo IsSetting xs ss
+settings_at xs ys ss e h = subst (λ (zs : List Setting). EachTwo IsSetting zs ss) (sym e) h
+
+pub are_same_there : (n : node.Node) (map : List TypBind) (test : Bool) → test ≡ true → MatchBool test (MakesTwoSame (typ_image map) (node_variables n)) (¬ MakesTwoSame (typ_image map) (node_variables n)) → MakesTwoSame (typ_image map) (node_variables n)
+are_same_there n map true e h = h
+are_same_there n map false e h = absurd (true≢false (sym e))
+
+pub are_apart_there : (n : node.Node) (map : List TypBind) (test : Bool) → test ≡ false → MatchBool test (MakesTwoSame (typ_image map) (node_variables n)) (¬ MakesTwoSame (typ_image map) (node_variables n)) → ¬ MakesTwoSame (typ_image map) (node_variables n)
+are_apart_there n map false e h = h
+are_apart_there n map true e h = absurd (true≢false e)

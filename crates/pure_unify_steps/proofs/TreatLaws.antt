@@ -34,9 +34,9 @@ against_left l r v None b h = here
 against_left l r v (Some Fail) b h = λ one. firm one (left_bare b refl) h
 against_left l r v (Some (Put d)) b h = λ one. set_to l r v r d one (left_bare b refl) h.0 h.1 h.2
 against_left l r v (Some Dropped) b h = absurd h
-against_left l r v (Some (Differ T U)) b h = absurd h
+against_left l r v (Some (Differ typs)) b h = absurd h
 against_left l r v (Some Split) b h = absurd h
-against_left l r v (Some (Unify T U)) b h = absurd h
+against_left l r v (Some (Unify typs)) b h = absurd h
 against_left l r v (Some Leave) b h = absurd h
 
 pub against_right : (l r v : Term) (o : Option Treatment) → IsBareAnswer l None → IsBare r v → IsAgainst v l o → IsVariableAnswer l r o
@@ -50,9 +50,9 @@ against_right l r v None n b h = here
 against_right l r v (Some Fail) n b h = λ one. firm one (right_bare n b refl) h
 against_right l r v (Some (Put d)) n b h = λ one. set_to l r v l d one (right_bare n b refl) h.0 h.1 h.2
 against_right l r v (Some Dropped) n b h = absurd h
-against_right l r v (Some (Differ T U)) n b h = absurd h
+against_right l r v (Some (Differ typs)) n b h = absurd h
 against_right l r v (Some Split) n b h = absurd h
-against_right l r v (Some (Unify T U)) n b h = absurd h
+against_right l r v (Some (Unify typs)) n b h = absurd h
 against_right l r v (Some Leave) n b h = absurd h
 
 pub against_neither : (l r : Term) → IsBareAnswer l None → IsBareAnswer r None → IsVariableAnswer l r None
@@ -93,11 +93,11 @@ right_flexible l r e p = left p (or_right (is_flexible l) (is_flexible r) e)
 
 pub rigid : (l r h k : Term) (how : Treatment) → is_flexible l ≡ false → is_flexible r ≡ false → h ≡ head l → k ≡ head r → IsHeadsTreatment h k how → ArePastVariables l r → IsTreatment l r (seen how)
 rigid l r h k Split e f a b c p = same_heads (record { past = p; neither = or_neither (is_flexible l) (is_flexible r) e f }) (sym a ∙ (c ∙ b))
-rigid l r h k (Unify T U) e f a b c p = constants (record { past = p; neither = or_neither (is_flexible l) (is_flexible r) e f }) (sym a ∙ c.1) (sym b ∙ c.2) c.3
+rigid l r h k (Unify typs) e f a b c p = constants (record { past = p; neither = or_neither (is_flexible l) (is_flexible r) e f }) (sym a ∙ c.1) (sym b ∙ c.2) c.3
 rigid l r h k Fail e f a b c p =
     clash (record { past = p; neither = or_neither (is_flexible l) (is_flexible r) e f }) (subst (λ (t : Term). AreApart t (head r)) a (subst (λ (t : Term). AreApart h t) b c))
 rigid l r h k Dropped e f a b c p = absurd c
-rigid l r h k (Differ T U) e f a b c p = absurd c
+rigid l r h k (Differ typs) e f a b c p = absurd c
 rigid l r h k (Put d) e f a b c p = absurd c
 rigid l r h k Leave e f a b c p = absurd c
 
@@ -111,3 +111,7 @@ set_typed l r b (absent {other = other} {u = u} one (right_bare n c e) free form
     let variable = steps_keep_type [] r (term_variable b) one.typ c.form.reduces one.right in
     let image = steps_keep_type [] other u one.typ form.reduces (subst (λ (t : Term). HasType [] t one.typ) (sym e) one.left) in
     subst (λ (T : Typ). HasType [] u T) (sym variable) image
+
+pub others_answer : {E : Type 0} (l r : Term) (o : Result Treatment E) → ArePastVariables l r → IfOk o (λ how. ArePastVariables l r → IsTreatment l r (seen how)) → IfOk o (λ how. IsTreatment l r (seen how))
+others_answer l r (Ok how) p h = h p
+others_answer l r (Err e) p h = tt

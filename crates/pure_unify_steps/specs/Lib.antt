@@ -4,4 +4,3 @@ pub mod Treated
 pub mod Gathered
 pub mod Old
 pub mod Retyped
-pub mod Turned

@@ -15,11 +15,11 @@ use Rattle.pure_unify_steps.specs.declared.treat.Treatment.TheVariants.{Dropped,
 -- the treatment as the rules speak of it
 abbrev pub seen : Treatment → rules.Treatment
 seen Dropped = rules.Drop
-seen (Differ T U) = rules.Differ T U
+seen (Differ typs) = rules.Differ typs.0 typs.1
 seen Fail = rules.Fail
 seen (Put b) = rules.Put b
 seen Split = rules.Split
-seen (Unify T U) = rules.Unify T U
+seen (Unify typs) = rules.Unify typs.0 typs.1
 seen Leave = rules.Leave
 
 -- The term is this bare variable; or none.
@@ -56,6 +56,6 @@ IsConstantTyp t T = (c : ℕ) × (t ≡ Const c T)
 -- The treatment of rigid sides by their heads.
 abbrev pub IsHeadsTreatment : (h k : Term) → Treatment → Type 0
 IsHeadsTreatment h k Split = h ≡ k
-IsHeadsTreatment h k (Unify T U) = (c : ℕ) × (h ≡ Const c T) × (k ≡ Const c U) × (T ≢ U)
+IsHeadsTreatment h k (Unify typs) = (c : ℕ) × (h ≡ Const c typs.0) × (k ≡ Const c typs.1) × (typs.0 ≢ typs.1)
 IsHeadsTreatment h k Fail = AreApart h k
 IsHeadsTreatment h k _ = ⊥

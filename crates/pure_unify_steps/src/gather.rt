@@ -6,7 +6,7 @@ ghost use Rattle.pure_unify_definitions.specs.Fronts as fronts;
 ghost use Rattle.pure_unify_definitions.specs.Node as node;
 ghost use Rattle.pure_unify_definitions.specs.Retyping.{MakesTwoSame};
 ghost use Rattle.pure_unify_steps.specs.Held.{IsSetting};
-ghost use Rattle.pure_unify_steps.specs.Gathered.{gathered, HasSame};
+ghost use Rattle.pure_unify_steps.specs.Gathered.{gathered, IsSameAs, HasSame};
 
 use crate::node::Setting;
 use pure_term::{Term, TermBind, TermMap, TermNode, TypMap};
@@ -57,19 +57,26 @@ fn push_pair_variables(
 fn retyped(alloc: Global, v: &Term, typs: &TypMap) -> Result<Term, AllocError>
     ensures { IfOk result (λ t. t ≡ retyped_variable (typ_image typs.now) v.now) }
 {
-    let node = match &v.node {
-        TermNode::Free { name, typ } => TermNode::Free {
-            name: *name,
-            typ: instance_of(alloc, typ, typs)?,
-        },
-        TermNode::Var { name, index, typ } => TermNode::Var {
-            name: *name,
-            index: *index,
-            typ: instance_of(alloc, typ, typs)?,
-        },
-        _ => return Ok(v.copy(alloc)?),
-    };
-    Ok(Term { node })
+    match &v.node {
+        TermNode::Const { .. } => Ok(v.copy(alloc)?),
+        TermNode::Free { name, typ } => {
+            let typ = instance_of(alloc, typ, typs)?;
+            let node = TermNode::Free { name: *name, typ };
+            Ok(Term { node })
+        }
+        TermNode::Var { name, index, typ } => {
+            let typ = instance_of(alloc, typ, typs)?;
+            let node = TermNode::Var {
+                name: *name,
+                index: *index,
+                typ,
+            };
+            Ok(Term { node })
+        }
+        TermNode::Bound { .. } => Ok(v.copy(alloc)?),
+        TermNode::Abs { .. } => Ok(v.copy(alloc)?),
+        TermNode::App { .. } => Ok(v.copy(alloc)?),
+    }
 }
 
 /// The variables with their types under the map.
@@ -107,11 +114,7 @@ fn push_entries(alloc: Global, list: &mut Vec<Term>, terms: &TermMap) -> Result<
 }
 
 /// The variables with one more setting.
-fn gather_one(
-    alloc: Global,
-    list: Vec<Term>,
-    setting: &Setting,
-) -> Result<Vec<Term>, AllocError>
+fn gather_one(alloc: Global, list: Vec<Term>, setting: &Setting) -> Result<Vec<Term>, AllocError>
     ensures { (s : node.Setting) → IsSetting setting.now s → IfOk result (λ made. made.items ≡ gathered list.items (s ∷ [])) }
 {
     let mut list = list;
@@ -130,27 +133,41 @@ fn gather(alloc: Global, settings: &[Setting]) -> Result<Vec<Term>, AllocError>
 {
     let mut list = Vec::new(alloc);
     for setting in settings {
-        list = gather_one(alloc, list, setting)?;
+        let more = gather_one(alloc, list, setting)?;
+        list = more;
     }
     Ok(list)
 }
 
-/// Whether another variable of the list comes to the same under the map as this one.
-fn has_same(
+/// Whether this is another variable, and comes to the same under the map as the first one, of which `after` comes.
+fn is_same_as(
     alloc: Global,
     typs: &TypMap,
     v: &Term,
-    list: &[Term],
+    after: &Term,
+    other: &Term,
 ) -> Result<bool, AllocError>
+    requires { after.now ≡ retyped_variable (typ_image typs.now) v.now }
+    ensures { IfOk result (λ same. MatchBool same (IsSameAs (typ_image typs.now) v.now other.now) (¬ IsSameAs (typ_image typs.now) v.now other.now)) }
+{
+    if are_same(v, other) {
+        return Ok(false);
+    }
+    let image = retyped(alloc, other, typs)?;
+    if are_same(after, &image) {
+        return Ok(true);
+    }
+    Ok(false)
+}
+
+/// Whether another variable of the list comes to the same under the map as this one.
+fn has_same(alloc: Global, typs: &TypMap, v: &Term, list: &[Term]) -> Result<bool, AllocError>
     ensures { IfOk result (λ same. MatchBool same (HasSame (typ_image typs.now) v.now list.now) (¬ HasSame (typ_image typs.now) v.now list.now)) }
 {
     let after = retyped(alloc, v, typs)?;
     for other in list {
-        if !are_same(v, other) {
-            let image = retyped(alloc, other, typs)?;
-            if are_same(&after, &image) {
-                return Ok(true);
-            }
+        if is_same_as(alloc, typs, v, &after, other)? {
+            return Ok(true);
         }
     }
     Ok(false)

@@ -1,4 +1,4 @@
-//! The steps of the search for a unifier of terms: settings put into pairs, the rules of simplification, and the simplification of a node.
+//! The steps of the search for a unifier of terms: settings put into pairs, the treatment of a pair, and steps on types.
 #![tactic(auto)]
 
 mod bare;
@@ -6,11 +6,9 @@ mod gather;
 mod node;
 mod put;
 mod retype;
-mod scan;
-mod simplify;
 mod treat;
-mod turn;
 
 pub use node::{Node, Path, Setting};
 pub use put::put_pairs;
-pub use simplify::simplify;
+pub use retype::{Retyping, retype_pairs};
+pub use treat::{Treatment, treatment_of};

@@ -38,7 +38,9 @@ fn is_old(t: &Typ, index: u32, from: u32) -> bool
     match &t.node {
         TypNode::TFree { .. } => true,
         TypNode::TVar {
-            name, index: own, ..
+            name,
+            index: own,
+            ..
         } => *own != index || name.0 < from,
         TypNode::Con { args, .. } => are_old(args.as_slice(), index, from),
     }
@@ -98,12 +100,7 @@ fn unified(
 }
 
 /// The pairs with the map put in.
-fn put_map(
-    alloc: Global,
-    pairs: &[Pair],
-    map: TypMap,
-    next: u32,
-) -> Result<Retyping, NormFault>
+fn put_map(alloc: Global, pairs: &[Pair], map: TypMap, next: u32) -> Result<Retyping, NormFault>
     requires { Each IsLongPair pairs.now }
     ensures answer { (sets : List TypBind) → IsWritten sets map → IsPutAnswer pairs.now sets next result }
     ensures long { IfOk result (λ r. Each IsLongPair r.pairs.items) }
@@ -142,7 +139,7 @@ fn put_apart(
 }
 
 /// What comes of a node with these pairs and this path when two types are unified.
-pub fn retype(
+pub fn retype_pairs(
     alloc: Global,
     order: &Order,
     maxidx: u32,

@@ -1,13 +1,12 @@
 //! The treatment of a pair: the first rule that applies to it.
-ghost use Rattle.std.specs.Prelude.{◌≡◌, IfOk, []};
-ghost use Rattle.pure_definitions.specs.Terms.Typing.{HasType};
-ghost use Rattle.pure_unify_definitions.specs.Treatment.{ArePastVariables, IsTreatment};
-ghost use Rattle.pure_unify_steps.specs.Long.{IsLongSide, IsLongPair};
+ghost use Rattle.std.specs.Prelude.{IfOk};
+ghost use Rattle.pure_unify_definitions.specs.Treatment.{AreOfOneTyp, ArePastVariables, IsTreatment};
+ghost use Rattle.pure_unify_steps.specs.Long.{IsLongSide};
 ghost use Rattle.pure_unify_steps.specs.Treated.{seen, AreCompared, IsConstant, IsConstantTyp, IsHeadsTreatment};
 
 use crate::bare::treat_variables;
 use pure_term::{Term, TermBind, TermNode, Typ};
-use pure_theorem::{Pair, are_same, are_same_typs, typ_of_typed};
+use pure_theorem::{are_same, are_same_typs, typ_of_typed};
 use pure_unify_sides::{Heads, compared_heads, head, is_flexible};
 use std::alloc::{AllocError, Global};
 
@@ -15,11 +14,11 @@ use std::alloc::{AllocError, Global};
 #[derive(Drop)]
 pub enum Treatment {
     Dropped,
-    Differ(Typ, Typ),
+    Differ((Typ, Typ)),
     Fail,
     Put(TermBind),
     Split,
-    Unify(Typ, Typ),
+    Unify((Typ, Typ)),
     Leave,
 }
 
@@ -58,7 +57,7 @@ fn treat_heads(alloc: Global, h: &Term, k: &Term) -> Result<Treatment, AllocErro
         Heads::Constants => {
             let left = constant_typ(alloc, h)?;
             let right = constant_typ(alloc, k)?;
-            Ok(Treatment::Unify(left, right))
+            Ok(Treatment::Unify((left, right)))
         }
     }
 }
@@ -77,20 +76,30 @@ fn treat_others(alloc: Global, l: &Term, r: &Term) -> Result<Treatment, AllocErr
     Ok(how)
 }
 
-/// The treatment of a pair.
-pub fn treatment(alloc: Global, pair: &Pair) -> Result<Treatment, AllocError>
-    requires { IsLongPair pair.now }
-    ensures { IfOk result (λ how. IsTreatment pair.now.left pair.now.right (seen how)) }
+/// The treatment of sides that differ and are of one type.
+fn treat_same_typ(alloc: Global, l: &Term, r: &Term) -> Result<Treatment, AllocError>
+    requires left { IsLongSide l.now }
+    requires right { IsLongSide r.now }
+    requires typed { AreOfOneTyp l.now r.now }
+    ensures { IfOk result (λ how. IsTreatment l.now r.now (seen how)) }
 {
-    if are_same(&pair.left, &pair.right) {
+    match treat_variables(alloc, l, r)? {
+        Some(how) => Ok(how),
+        None => treat_others(alloc, l, r),
+    }
+}
+
+/// The treatment of a pair with these sides: the first rule that applies to it.
+pub fn treatment_of(alloc: Global, l: &Term, r: &Term) -> Result<Treatment, AllocError>
+    requires left { IsLongSide l.now }
+    requires right { IsLongSide r.now }
+    ensures { IfOk result (λ how. IsTreatment l.now r.now (seen how)) }
+{
+    if are_same(l, r) {
         return Ok(Treatment::Dropped);
     }
-    if let Some((left, right)) = differing_typs(alloc, &pair.left, &pair.right)? {
-        return Ok(Treatment::Differ(left, right));
+    match differing_typs(alloc, l, r)? {
+        Some(typs) => Ok(Treatment::Differ(typs)),
+        None => treat_same_typ(alloc, l, r),
     }
-    if let Some(how) = treat_variables(alloc, &pair.left, &pair.right)? {
-        return Ok(how);
-    }
-    let how = treat_others(alloc, &pair.left, &pair.right)?;
-    Ok(how)
 }
