@@ -1,0 +1,73 @@
+-- Bare variables are flexible, and a side is one of them at most.
+use Rattle.std.proofs.Common.{◌≡◌, ℕ, ◌+◌, Bool, true, false, refl, ap, sym, subst, ◌∙◌, true≢false}
+use Rattle.pure_definitions.specs.Types.Typ.{Typ}
+use Rattle.pure_definitions.specs.Terms.Term.{Term, Const, Free, Var, Bound, Abs, App}
+use Rattle.pure_definitions.specs.Terms.Bounds.{lift_term}
+use Rattle.pure_definitions.specs.Reduction.Beta.{IsAbs, IsBetaNormal}
+use Rattle.pure_definitions.specs.Reduction.Eta.{EtaStep, contract, body, function, argument, EtaReduces, done, next, IsEtaNormalForm}
+use Rattle.pure_term_laws.proofs.EtaNormalLaws.{one_eta_normal_form}
+use Rattle.pure_eta.proofs.KeptLaws.{steps_keep_beta_normal}
+use Rattle.pure_unify_definitions.specs.Fronts.{term_body, front, head, is_schematic, is_flexible}
+use Rattle.pure_unify_definitions.specs.Treatment.{IsBare}
+use Rattle.pure_unify_steps.specs.Long.{IsLongSide}
+use Rattle.pure_unify_steps.specs.Treated.{IsBareAnswer}
+use Rattle.std.specs.Prelude.{Option, Some, None}
+
+front-lift : (by from : ℕ) (t : Term) → is_schematic (front t) ≡ true → is_schematic (front (lift_term by from t)) ≡ true
+front-lift by from (Const d U) e = e
+front-lift by from (Free x U) e = e
+front-lift by from (Var x i U) e = e
+front-lift by from (Bound p) e = absurd (true≢false (sym e))
+front-lift by from (Abs U b) e = absurd (true≢false (sym e))
+front-lift by from (App f a) e = front-lift by from f e
+
+no_abs-lift : (by from : ℕ) (t : Term) → ¬ IsAbs (lift_term by from t) → ¬ IsAbs t
+no_abs-lift by from (Const d U) n is = is
+no_abs-lift by from (Free x U) n is = is
+no_abs-lift by from (Var x i U) n is = is
+no_abs-lift by from (Bound p) n is = is
+no_abs-lift by from (Abs U b) n is = n tt
+no_abs-lift by from (App f a) n is = is
+
+body-itself : (t : Term) → ¬ IsAbs t → term_body t ≡ t
+body-itself (Const d U) n = refl
+body-itself (Free x U) n = refl
+body-itself (Var x i U) n = refl
+body-itself (Bound p) n = refl
+body-itself (Abs U b) n = absurd (n tt)
+body-itself (App f a) n = refl
+
+front-step : {t u : Term} → EtaStep t u → ¬ IsAbs t → IsBetaNormal t → is_schematic (front u) ≡ true → is_schematic (front t) ≡ true
+front-step (contract e) n m f = absurd (n tt)
+front-step (body s) n m f = absurd (n tt)
+front-step (function s) n m f = front-step s m.0 m.1 f
+front-step (argument s) n m f = f
+
+head-step : {t u : Term} → EtaStep t u → IsBetaNormal t → is_flexible u ≡ true → is_flexible t ≡ true
+head-step (contract {f = f} {g = g} e) n h =
+    let free : ¬ IsAbs f = no_abs-lift 1 0 f (subst (λ (t : Term). ¬ IsAbs t) e n.0) in
+    let own : is_schematic (front f) ≡ true = ap (λ (t : Term). is_schematic (front t)) (sym (body-itself f free)) ∙ h in
+    ap (λ (t : Term). is_schematic (front t)) e ∙ front-lift 1 0 f own
+head-step (body s) n h = head-step s n h
+head-step (function s) n h = front-step s n.0 n.1 h
+head-step (argument s) n h = h
+
+head-steps : {t u : Term} → EtaReduces t u → IsBetaNormal t → is_flexible u ≡ true → is_flexible t ≡ true
+head-steps done n h = h
+head-steps (next {t = t} {u = u} s r) n h = head-step s n (head-steps r (steps_keep_beta_normal t u (next s done) n) h)
+
+schematic-flexible : (w : Term) → is_schematic w ≡ true → is_flexible w ≡ true
+schematic-flexible (Const d U) e = e
+schematic-flexible (Free x U) e = e
+schematic-flexible (Var x i U) e = e
+schematic-flexible (Bound p) e = e
+schematic-flexible (Abs U b) e = absurd (true≢false (sym e))
+schematic-flexible (App f a) e = absurd (true≢false (sym e))
+
+pub rigid_is_none : (t : Term) → IsLongSide t → is_flexible t ≡ false → IsBareAnswer t None
+rigid_is_none t long rigid w b = true≢false (sym (head-steps b.form.reduces long.form.normal (schematic-flexible w b.variable)) ∙ rigid)
+
+pub other_is_none : (t form : Term) → IsEtaNormalForm t form → is_schematic form ≡ false → IsBareAnswer t None
+other_is_none t form f rigid w b =
+    let same : form ≡ w = one_eta_normal_form t form w f b.form in
+    true≢false (sym b.variable ∙ (ap is_schematic (sym same) ∙ rigid))

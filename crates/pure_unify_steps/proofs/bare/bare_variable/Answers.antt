@@ -1,0 +1,9 @@
+use Rattle.std.proofs.Common.{sym, ◌∙◌}
+use Rattle.pure_unify_steps.proofs.BareLaws.{rigid_is_none, other_is_none}
+use Rattle.pure_unify_steps.proofs.bare.bare_variable.Goals as goal
+
+pub returns-then-not-is_flexible : goal.returns-then-not-is_flexible
+returns-then-not-is_flexible c = rigid_is_none c.args.t.now c.requires (sym c.is_flexible.ensures ∙ c.if-not-is_flexible.true)
+
+pub returns-then-not-is_schematic : goal.returns-then-not-is_schematic
+returns-then-not-is_schematic c = other_is_none c.args.t.now c.in_ok-form.form c.in_ok-form.ensures (sym c.is_schematic.ensures ∙ c.if-not-is_schematic.true)

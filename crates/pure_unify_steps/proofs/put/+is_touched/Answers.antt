@@ -1,0 +1,6 @@
+use Rattle.std.proofs.Common.{refl}
+use Rattle.pure_unify_steps.proofs.PutLaws.{untouched_fixed}
+use Rattle.pure_unify_steps.proofs.put.+is_touched.Goals as goal
+
+pub returns-in-Free : goal.returns-in-Free
+returns-in-Free t c = untouched_fixed c.args.map.now c.args.t.now c.in-Free.name c.in-Free.typ (rw (← c.t.view_is, c.in-Free.is) refl)

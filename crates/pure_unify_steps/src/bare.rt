@@ -1,0 +1,76 @@
+//! The rule for a side that is a bare variable.
+ghost use Rattle.std.specs.Prelude.{◌≡◌, IfOk, true};
+ghost use Rattle.pure_definitions.specs.Terms.Subst.{term_variable};
+ghost use Rattle.pure_unify_definitions.specs.Fronts as fronts;
+ghost use Rattle.pure_unify_steps.specs.Long.{IsLongSide};
+ghost use Rattle.pure_unify_steps.specs.Treated.{IsBareAnswer, IsAgainst, IsVariableAnswer};
+
+use crate::treat::Treatment;
+use pure_eta::eta_norm;
+use pure_term::{Term, TermBind, TermNode, occurs};
+use pure_unify_sides::{is_flexible, is_schematic, occurs_firmly};
+use std::alloc::{AllocError, Global};
+
+/// The variable that the side is, where it is a bare variable.
+fn bare_variable(alloc: Global, t: &Term) -> Result<Option<Term>, AllocError>
+    requires { IsLongSide t.now }
+    ensures { IfOk result (IsBareAnswer t.now) }
+{
+    if !is_flexible(t) {
+        return Ok(None);
+    }
+    let form = eta_norm(alloc, t)?;
+    if !is_schematic(&form) {
+        return Ok(None);
+    }
+    Ok(Some(form))
+}
+
+/// The entry that sets the schematic variable to the image.
+fn entry_for(v: Term, image: Term) -> TermBind
+    requires { fronts.is_schematic v ≡ true }
+    ensures variable { term_variable result ≡ v }
+    ensures image { result.image ≡ image }
+{
+    let Term { node } = v;
+    match node {
+        TermNode::Var { name, index, typ } => TermBind {
+            name,
+            index,
+            typ,
+            image,
+        },
+        _ => unreachable!(),
+    }
+}
+
+/// What the rule does with the other side of a bare variable, where it applies.
+fn treat_bare(alloc: Global, v: Term, other: &Term) -> Result<Option<Treatment>, AllocError>
+    requires variable { fronts.is_schematic v ≡ true }
+    requires long { IsLongSide other.now }
+    ensures { IfOk result (IsAgainst v other.now) }
+{
+    if occurs_firmly(&v, other) {
+        return Ok(Some(Treatment::Fail));
+    }
+    if occurs(&v, other) {
+        return Ok(None);
+    }
+    let image = eta_norm(alloc, other)?;
+    Ok(Some(Treatment::Put(entry_for(v, image))))
+}
+
+/// What the rule does with sides of one type, where it applies: the left is looked at first.
+pub fn treat_variables(alloc: Global, l: &Term, r: &Term) -> Result<Option<Treatment>, AllocError>
+    requires left { IsLongSide l.now }
+    requires right { IsLongSide r.now }
+    ensures { IfOk result (IsVariableAnswer l.now r.now) }
+{
+    match bare_variable(alloc, l)? {
+        Some(v) => treat_bare(alloc, v, r),
+        None => match bare_variable(alloc, r)? {
+            Some(v) => treat_bare(alloc, v, l),
+            None => Ok(None),
+        },
+    }
+}

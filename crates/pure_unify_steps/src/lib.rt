@@ -1,0 +1,14 @@
+//! The steps of the search for a unifier of terms: settings put into pairs, the treatment of a pair, and steps on types.
+#![tactic(auto)]
+
+mod bare;
+mod gather;
+mod node;
+mod put;
+mod retype;
+mod treat;
+
+pub use node::{Node, Path, Setting};
+pub use put::put_pairs;
+pub use retype::{Retyping, retype_pairs};
+pub use treat::{Treatment, treatment_of};
