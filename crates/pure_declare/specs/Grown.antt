@@ -9,7 +9,7 @@ use Rattle.pure_declare.specs.Notes.{Note}
 use Rattle.pure_declare.specs.Fold.{Declares}
 use Rattle.pure_declare.specs.Premises.{HasClassesAbove}
 
--- The second content is the first with more declarations, in the same theory; classes stand after those above them; and each label behind this one is above all its labels.
+-- The second content is the first with more declarations, in the same theory; the classes above a class are declared; and each label behind this one is above all its labels.
 pub record IsGrown (label : Label) (Q R : Content) : Type 0 where
   pub own : R.own ≡ Q.own
   pub ancestors : R.ancestors ≡ Q.ancestors

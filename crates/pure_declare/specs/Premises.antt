@@ -46,7 +46,7 @@ pub record LiesIn (source : List ℕ) (span : Span) : Type 0 where
 abbrev pub HasRanges : (source : List ℕ) → Command → Type 0
 HasRanges source command = Each (λ c. LiesIn source (cited_span c)) (command_spans command)
 
--- Each class is declared after those that it is declared to be below.
+-- The classes that a class is declared to be below are declared.
 abbrev pub HasClassesAbove : Content → Type 0
 HasClassesAbove Q = (k : Class) → IsIn (ClassDecl k) Q.declarations → Each (IsDeclaredClass Q.declarations) k.above
 
@@ -54,5 +54,4 @@ HasClassesAbove Q = (k : Class) → IsIn (ClassDecl k) Q.declarations → Each (
 pub record IsGiven (P : Place) : Type 0 where
   pub in_session : IsInSession P.texts P.content
   pub small : length P.source < 4294967295
-  pub above : HasClassesAbove P.content
   pub label : IsLabelAbove P.content.declarations P.label
