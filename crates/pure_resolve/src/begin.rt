@@ -59,7 +59,8 @@ pub fn single(alloc: Global, t: Term) -> Result<Vec<Term>, AllocError>
 ///
 /// # Errors
 ///
-/// `Big` where the long form, or the goal, isn't within the limits.
+/// `Steps` where the statement, which need not be normal, has too many beta steps; `Big` where its long form, or the goal,
+/// isn't within the limits.
 pub fn start<B: Base>(alloc: Global, _thy: &B, c: &Term) -> Result<Goal, StepFault>
     requires { IsTyped c.now }
     ensures answer { IsOutcome (BeginsAs c.now) (λ rests. rests ≡ []) result }
