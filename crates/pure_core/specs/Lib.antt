@@ -1,0 +1,4 @@
+pub mod Policy
+pub mod State
+pub mod Step
+pub mod Turns
