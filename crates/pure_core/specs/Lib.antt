@@ -2,3 +2,4 @@ pub mod Policy
 pub mod State
 pub mod Step
 pub mod Turns
+pub mod Seen
