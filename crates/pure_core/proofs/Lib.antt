@@ -1,2 +1,6 @@
-mod ClosedLaws
-
+pub mod LogLaws
+pub mod PromiseLaws
+pub mod ReadyLaws
+pub mod FinishLaws
+pub mod DueLaws
+pub mod MachineLaws

@@ -3,3 +3,5 @@ pub mod State
 pub mod Step
 pub mod Turns
 pub mod Seen
+pub mod Parts
+pub mod Calls

@@ -1,5 +1,4 @@
 -- How the parts of a core are seen.
-use Rattle.std.specs.Prelude.{List, map}
 use Rattle.pure_core.specs.State.{Progress, Waiting, Running, Closed, Standing, Ready, Taken, Settled, Cancelled, Event, TakeTheory, TakeProof, Fork, CloseTheory, Deliver, Stop}
 use Rattle.pure_core.specs.declared.parts.Progress as progress
 use Rattle.pure_core.specs.declared.parts.Progress.TheVariants as progress_code
@@ -29,6 +28,3 @@ seen_event (event_code.Fork i goal) = Fork i goal.value
 seen_event (event_code.CloseTheory i value) = CloseTheory i value.value
 seen_event (event_code.Deliver n outcome fault) = Deliver n outcome.value fault
 seen_event event_code.Stop = Stop
-
-abbrev pub seen_events : {G C O : Type 0} → List (event.Event G C O) → List (Event G C O)
-seen_events = map seen_event

@@ -1,18 +1,14 @@
 -- The state of a core: what became of each theory and of each promise, and how it came to be so.
-use Rattle.std.specs.Prelude.{ℕ, zero, suc, ◌+◌, List, [], ◌∷◌, ◌++◌, map, length, Bool, true, false, ◌&&◌, ◌||◌, not, if◌then◌else◌, Option, Some, None, slice_get}
+use Rattle.std.specs.Prelude.{ℕ, zero, suc, ◌+◌, List, [], ◌∷◌, ◌++◌, map, length, Bool, true, false, ◌&&◌, ◌||◌, not, if◌then◌else◌, Option, Some, None, slice_get, slice_set}
 use Rattle.pure_core.specs.declared.policy.Group.{Group}
-use Rattle.pure_core.specs.Policy.{Policy, Opening, due, has_session, has_theory}
+use Rattle.pure_core.specs.declared.policy.Group.TheVariants.{Session, Theory}
+use Rattle.pure_core.specs.Policy.{Opening, due}
 
 -- what became of a theory: it waits; or it runs, and its commands have made so many forks; or a value closed it after so many
 pub data Progress (C : Type 0) : Type 0 where
   Waiting : Progress C
   Running : (forks : ℕ) → Progress C
   Closed : (forks : ℕ) → (value : C) → Progress C
-
--- a theory: what became of it, and whether its own group is cancelled
-pub record Theory (C : Type 0) : Type 0 where
-  pub progress : Progress C
-  pub cancelled : Bool
 
 -- what became of a promise: it is ready; or its proof runs; or it is settled by an outcome; or it is cancelled
 pub data Standing (O : Type 0) : Type 0 where
@@ -36,18 +32,23 @@ pub data Event (G C O : Type 0) : Type 0 where
   Deliver : (number : ℕ) → (outcome : O) → (fault : Bool) → Event G C O
   Stop : Event G C O
 
--- a state: theory i is entry i - 1, promise n is entry n; whether the session's group is cancelled; how many deliveries were kept; whether the work was stopped; and all events so far, in order
+-- which groups are cancelled: whether the session's is, and of theory i entry i - 1 says it
+pub record Marks : Type 0 where
+  pub session : Bool
+  pub theories : List Bool
+
+-- a state: what became of theory i is entry i - 1, promise n is entry n; the cancelled groups; how many deliveries were kept; whether the work was stopped; and all events so far, in order
 pub record State (G C O : Type 0) : Type 0 where
   pub opening : Opening
-  pub theories : List (Theory C)
+  pub theories : List (Progress C)
   pub promises : List (Promise G O)
-  pub cancelled : Bool
+  pub cancelled : Marks
   pub kept : ℕ
   pub stopped : Bool
   pub history : List (Event G C O)
 
--- the theory of this number, if there is one
-abbrev pub theory_at : {C : Type 0} → List (Theory C) → (number : ℕ) → Option (Theory C)
+-- what became of the theory of this number, if there is one
+abbrev pub theory_at : {C : Type 0} → List (Progress C) → (number : ℕ) → Option (Progress C)
 theory_at ts zero = None
 theory_at ts (suc i) = slice_get ts i
 
@@ -56,52 +57,75 @@ abbrev pub parents_at : List (List ℕ) → (number : ℕ) → Option (List ℕ)
 parents_at ps zero = None
 parents_at ps (suc i) = slice_get ps i
 
--- the list with the entry at the place changed, if there is one
-abbrev pub changed_at : {A : Type 0} → List A → (place : ℕ) → (A → A) → List A
-changed_at [] place change = []
-changed_at (x ∷ xs) zero change = change x ∷ xs
-changed_at (x ∷ xs) (suc place) change = x ∷ changed_at xs place change
-
 -- the theories, of which this one has come so far
-abbrev pub with_progress : {C : Type 0} → List (Theory C) → (number : ℕ) → Progress C → List (Theory C)
+abbrev pub with_progress : {C : Type 0} → List (Progress C) → (number : ℕ) → Progress C → List (Progress C)
 with_progress ts zero p = ts
-with_progress ts (suc i) p = changed_at ts i (λ t. record { progress = p; cancelled = t.cancelled })
+with_progress ts (suc i) p = slice_set ts i p
+
+-- the promises with this one in the place of what stood there
+abbrev pub restood : {G O : Type 0} → List (Promise G O) → (number : ℕ) → Option (Promise G O) → Standing O → List (Promise G O)
+restood ps n None s = ps
+restood ps n (Some p) s = slice_set ps n (record { theory = p.theory; goal = p.goal; standing = s })
 
 -- the promises, of which this one stands so
 abbrev pub with_standing : {G O : Type 0} → List (Promise G O) → (number : ℕ) → Standing O → List (Promise G O)
-with_standing ps n s = changed_at ps n (λ p. record { theory = p.theory; goal = p.goal; standing = s })
+with_standing ps n s = restood ps n (slice_get ps n) s
+
+-- the truth value there, and false where there is none
+abbrev pub is_true_there : Option Bool → Bool
+is_true_there None = false
+is_true_there (Some b) = b
 
 -- whether the theory's own group is cancelled
-abbrev pub is_marked : {C : Type 0} → Option (Theory C) → Bool
-is_marked None = false
-is_marked (Some t) = t.cancelled
+abbrev pub is_marked : List Bool → (number : ℕ) → Bool
+is_marked bs zero = false
+is_marked bs (suc i) = is_true_there (slice_get bs i)
 
--- whether a promise of the theory is in a cancelled group
-abbrev pub is_theory_cancelled : {G C O : Type 0} → State G C O → (number : ℕ) → Bool
-is_theory_cancelled s i = s.cancelled || is_marked (theory_at s.theories i)
+-- whether the promises of the theory are in a cancelled group: its own, or the session's above
+abbrev pub is_theory_cancelled : Marks → (number : ℕ) → Bool
+is_theory_cancelled m i = m.session || is_marked m.theories i
+
+-- the list with a mark for the theory, if there is one
+abbrev pub with_mark : List Bool → (number : ℕ) → List Bool
+with_mark bs zero = bs
+with_mark bs (suc i) = slice_set bs i true
+
+-- the cancelled groups and this one
+abbrev pub marked : Marks → Group → Marks
+marked m Session = record { session = true; theories = m.theories }
+marked m (Theory i) = record { session = m.session; theories = with_mark m.theories i }
+
+-- the cancelled groups and these
+abbrev pub all_marked : Marks → List Group → Marks
+all_marked m [] = m
+all_marked m (g ∷ gs) = all_marked (marked m g) gs
 
 -- whether the promise is settled
 abbrev pub is_settled : {O : Type 0} → Standing O → Bool
 is_settled (Settled o) = true
 is_settled _ = false
 
--- the theories from this number on, each marked where its own group is among those that are cancelled
-abbrev pub marked_theories : {C : Type 0} → List Group → (number : ℕ) → List (Theory C) → List (Theory C)
-marked_theories gs i [] = []
-marked_theories gs i (t ∷ ts) = record { progress = t.progress; cancelled = t.cancelled || has_theory i gs } ∷ marked_theories gs (i + 1) ts
+-- the promise, cancelled where its group or the one above is, unless it is settled
+abbrev pub cancelled_promise : {G O : Type 0} → Marks → Promise G O → Promise G O
+cancelled_promise m p = if is_theory_cancelled m p.theory && not (is_settled p.standing) then record { theory = p.theory; goal = p.goal; standing = Cancelled } else p
 
--- the promise, cancelled where its group or the one above is among those that are cancelled, unless it is settled
-abbrev pub cancelled_promise : {G O : Type 0} → List Group → Promise G O → Promise G O
-cancelled_promise gs p = if (has_session gs || has_theory p.theory gs) && not (is_settled p.standing) then record { theory = p.theory; goal = p.goal; standing = Cancelled } else p
+-- the state in which these groups are cancelled, and so are their promises that aren't settled
+abbrev pub recancelled : {G C O : Type 0} → State G C O → Marks → State G C O
+recancelled s m = record s { promises = map (cancelled_promise m) s.promises; cancelled = m }
 
--- the state with these groups cancelled: each of their promises that isn't settled is, and so are those that are forked there later
+-- the state once these groups are cancelled, if there are any: each of their promises that isn't settled is, and so are those that are forked there later
 abbrev pub with_cancelled : {G C O : Type 0} → State G C O → List Group → State G C O
-with_cancelled s gs = record s { theories = marked_theories gs 1 s.theories; promises = map (cancelled_promise gs) s.promises; cancelled = s.cancelled || has_session gs }
+with_cancelled s [] = s
+with_cancelled s (g ∷ gs) = recancelled s (all_marked s.cancelled (g ∷ gs))
 
 -- all theories of the shape, each of which waits
-abbrev pub waiting : {C : Type 0} → List (List ℕ) → List (Theory C)
-waiting = map (λ _. record { progress = Waiting; cancelled = false })
+abbrev pub waiting : {C : Type 0} → List (List ℕ) → List (Progress C)
+waiting = map (λ _. Waiting)
+
+-- no group cancelled
+abbrev pub unmarked : List (List ℕ) → Marks
+unmarked shape = record { session = false; theories = map (λ _. false) shape }
 
 -- the state at the opening: all theories wait, there is no promise, and the groups whose number is 0 are cancelled
 abbrev pub opened : {G C O : Type 0} → Opening → State G C O
-opened o = with_cancelled (record { opening = o; theories = waiting o.shape; promises = []; cancelled = false; kept = 0; stopped = false; history = [] }) (due o.policy.cancels 0)
+opened o = with_cancelled (record { opening = o; theories = waiting o.shape; promises = []; cancelled = unmarked o.shape; kept = 0; stopped = false; history = [] }) (due o.policy.cancels 0)

@@ -4,7 +4,7 @@ use Rattle.pure_text.specs.Lists.{IsIn, Each}
 use Rattle.pure_core.specs.declared.policy.Group.{Group}
 use Rattle.pure_core.specs.declared.policy.Group.TheVariants.{Session}
 use Rattle.pure_core.specs.Policy.{Opening, Policy, due}
-use Rattle.pure_core.specs.State.{Progress, Waiting, Running, Closed, Theory, Standing, Ready, Taken, Settled, Cancelled, Promise, Event, TakeTheory, TakeProof, Fork, CloseTheory, Deliver, Stop, State, theory_at, parents_at, with_progress, with_standing, is_theory_cancelled, with_cancelled, opened}
+use Rattle.pure_core.specs.State.{Progress, Waiting, Running, Closed, Standing, Ready, Taken, Settled, Cancelled, Promise, Event, TakeTheory, TakeProof, Fork, CloseTheory, Deliver, Stop, State, theory_at, parents_at, with_progress, with_standing, is_theory_cancelled, with_cancelled, opened}
 
 -- the value that closed a theory, if one did
 abbrev pub value_of : {C : Type 0} → Progress C → Option C
@@ -12,9 +12,9 @@ value_of (Closed forks value) = Some value
 value_of _ = None
 
 -- the value that closed the theory of this number, if there is one and one did
-abbrev pub closed_value : {C : Type 0} → Option (Theory C) → Option C
+abbrev pub closed_value : {C : Type 0} → Option (Progress C) → Option C
 closed_value None = None
-closed_value (Some t) = value_of t.progress
+closed_value (Some t) = value_of t
 
 -- a value in front of others, where all are there
 abbrev pub joined_values : {C : Type 0} → Option C → Option (List C) → Option (List C)
@@ -22,34 +22,48 @@ joined_values (Some c) (Some cs) = Some (c ∷ cs)
 joined_values _ _ = None
 
 -- the values that closed these theories, in this order; none where one of them isn't closed
-abbrev pub closed_values : {C : Type 0} → List (Theory C) → (numbers : List ℕ) → Option (List C)
+abbrev pub closed_values : {C : Type 0} → List (Progress C) → (numbers : List ℕ) → Option (List C)
 closed_values ts [] = Some []
 closed_values ts (i ∷ is) = joined_values (closed_value (theory_at ts i)) (closed_values ts is)
 
+-- The parents of each theory have smaller numbers, from 1 on.
+abbrev pub IsShape : List (List ℕ) → Type 0
+IsShape shape = (i : ℕ) (numbers : List ℕ) → parents_at shape i ≡ Some numbers → Each (λ p. (0 < p) × (p < i)) numbers
+
 -- The theory waits, and its parents are closed by these values.
-pub record IsReady {G C O : Type 0} (s : State G C O) (number : ℕ) (parents : List C) : Type 0 where
-  pub theory : Theory C
-  pub at : theory_at s.theories number ≡ Some theory
-  pub waits : theory.progress ≡ Waiting
+pub record IsReadyIn {C : Type 0} (shape : List (List ℕ)) (theories : List (Progress C)) (number : ℕ) (parents : List C) : Type 0 where
+  pub waits : theory_at theories number ≡ Some Waiting
   pub numbers : List ℕ
-  pub parents_are : parents_at s.opening.shape number ≡ Some numbers
-  pub closed : closed_values s.theories numbers ≡ Some parents
+  pub parents_are : parents_at shape number ≡ Some numbers
+  pub closed : closed_values theories numbers ≡ Some parents
+
+-- No theory before this number is ready.
+abbrev pub NoneReadyBelow : {C : Type 0} → List (List ℕ) → List (Progress C) → (bound : ℕ) → Type 0
+NoneReadyBelow {C} shape ts bound = (i : ℕ) → i < bound → (cs : List C) → ¬ IsReadyIn shape ts i cs
+
+-- The theory of the state is ready, with these values of its parents.
+abbrev pub IsReady : {G C O : Type 0} → State G C O → (number : ℕ) → (parents : List C) → Type 0
+IsReady s i cs = IsReadyIn s.opening.shape s.theories i cs
 
 -- No theory is ready.
 abbrev pub NoTheoryReady : {G C O : Type 0} → State G C O → Type 0
-NoTheoryReady s = (i : ℕ) (cs : _) → ¬ IsReady s i cs
+NoTheoryReady {G} {C} {O} s = (i : ℕ) (cs : List C) → ¬ IsReady s i cs
 
 -- It is the first ready theory.
 abbrev pub IsNextTheory : {G C O : Type 0} → State G C O → (number : ℕ) → (parents : List C) → Type 0
-IsNextTheory s i cs = IsReady s i cs × ((j : ℕ) (ds : _) → j < i → ¬ IsReady s j ds)
+IsNextTheory s i cs = IsReady s i cs × NoneReadyBelow s.opening.shape s.theories i
 
 -- The promise of this number stands so.
 abbrev pub Stands : {G C O : Type 0} → State G C O → (number : ℕ) → Promise G O → Type 0
 Stands s n p = slice_get s.promises n ≡ Some p
 
+-- No promise before this number is ready.
+abbrev pub NoPromiseReadyBelow : {G O : Type 0} → List (Promise G O) → (bound : ℕ) → Type 0
+NoPromiseReadyBelow {G} {O} ps bound = (m : ℕ) → m < bound → (q : Promise G O) → slice_get ps m ≡ Some q → ¬ (q.standing ≡ Ready)
+
 -- It is the first promise that is ready.
 abbrev pub IsNextPromise : {G C O : Type 0} → State G C O → (number : ℕ) → Promise G O → Type 0
-IsNextPromise s n p = Stands s n p × (p.standing ≡ Ready) × ((m : ℕ) (q : _) → m < n → Stands s m q → ¬ (q.standing ≡ Ready))
+IsNextPromise s n p = Stands s n p × (p.standing ≡ Ready) × NoPromiseReadyBelow s.promises n
 
 -- The proof was taken, and no outcome of it was delivered yet.
 pub record IsOut {G C O : Type 0} (history : List (Event G C O)) (number : ℕ) : Type 0 where
@@ -78,18 +92,18 @@ forks_of (Closed forks value) = forks
 forks_of Waiting = 0
 
 -- the theory runs, one fork further
-abbrev pub forked_once : {C : Type 0} → Option (Theory C) → Progress C
+abbrev pub forked_once : {C : Type 0} → Option (Progress C) → Progress C
 forked_once None = Waiting
-forked_once (Some t) = Running (forks_of t.progress + 1)
+forked_once (Some t) = Running (forks_of t + 1)
 
 -- the theory closed by the value, after as many forks as it has made
-abbrev pub closed_by : {C : Type 0} → Option (Theory C) → C → Progress C
+abbrev pub closed_by : {C : Type 0} → Option (Progress C) → C → Progress C
 closed_by None c = Waiting
-closed_by (Some t) c = Closed (forks_of t.progress) c
+closed_by (Some t) c = Closed (forks_of t) c
 
 -- the promise that a fork makes: cancelled where its group or the one above is, and else ready
 abbrev pub new_promise : {G C O : Type 0} → State G C O → (theory : ℕ) → G → Promise G O
-new_promise s i g = record { theory = i; goal = g; standing = if is_theory_cancelled s i then Cancelled else Ready }
+new_promise s i g = record { theory = i; goal = g; standing = if is_theory_cancelled s.cancelled i then Cancelled else Ready }
 
 -- whether a promise that stands so is cancelled
 abbrev pub is_cancelled_standing : {O : Type 0} → Standing O → Bool
@@ -131,8 +145,8 @@ after_all s (e ∷ es) = after_all (after s e) es
 abbrev pub Allows : {G C O : Type 0} → (forks : ℕ → ℕ → G → Type 0) → (closes : ℕ → ℕ → C → Type 0) → (may : G → O → Type 0) → (is_fault : O → Bool) → State G C O → Event G C O → Type 0
 Allows forks closes may is_fault s (TakeTheory i) = (s.stopped ≡ false) × ((cs : _) × IsNextTheory s i cs)
 Allows forks closes may is_fault s (TakeProof n) = (s.stopped ≡ false) × NoTheoryReady s × ((p : _) × IsNextPromise s n p)
-Allows forks closes may is_fault s (Fork i g) = (t : _) × (k : ℕ) × (theory_at s.theories i ≡ Some t) × (t.progress ≡ Running k) × forks i k g
-Allows forks closes may is_fault s (CloseTheory i c) = (t : _) × (k : ℕ) × (theory_at s.theories i ≡ Some t) × (t.progress ≡ Running k) × closes i k c
+Allows forks closes may is_fault s (Fork i g) = (k : ℕ) × (theory_at s.theories i ≡ Some (Running k)) × forks i k g
+Allows forks closes may is_fault s (CloseTheory i c) = (k : ℕ) × (theory_at s.theories i ≡ Some (Running k)) × closes i k c
 Allows forks closes may is_fault s (Deliver n o fault) = (p : _) × Stands s n p × IsOut s.history n × may p.goal o × (fault ≡ is_fault o)
 Allows forks closes may is_fault s Stop = stops s.history < s.opening.workers
 
@@ -163,7 +177,7 @@ pub record IsNothingReady {G C O : Type 0} (s : State G C O) : Type 0 where
 
 -- A theory or a proof runs.
 abbrev pub Runs : {G C O : Type 0} → State G C O → Type 0
-Runs s = ((i : ℕ) × (t : _) × (k : ℕ) × (theory_at s.theories i ≡ Some t) × (t.progress ≡ Running k)) ⊎ ((n : ℕ) × (p : _) × Stands s n p × (p.standing ≡ Taken))
+Runs s = ((i : ℕ) × (k : ℕ) × (theory_at s.theories i ≡ Some (Running k))) ⊎ ((n : ℕ) × (p : _) × Stands s n p × (p.standing ≡ Taken))
 
 -- The reading is Idle: the work wasn't stopped, nothing is ready, and something runs.
 pub record IsIdle {G C O : Type 0} (s : State G C O) : Type 0 where
@@ -185,5 +199,5 @@ IsClosed _ = ⊥
 -- The reading is Finished: the work wasn't stopped, each theory is closed, and each promise is settled or cancelled.
 pub record IsFinished {G C O : Type 0} (s : State G C O) : Type 0 where
   pub goes_on : s.stopped ≡ false
-  pub theories : Each (λ t. IsClosed t.progress) s.theories
+  pub theories : Each IsClosed s.theories
   pub promises : Each (λ p. IsOver p.standing) s.promises

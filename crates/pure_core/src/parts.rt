@@ -10,21 +10,20 @@ pub enum Progress<C> {
     Closed { forks: u32, value: Arc<C> },
 }
 
-/// A theory, and whether its own group is cancelled.
+/// A theory, by what became of it.
 #[derive(Drop)]
 pub struct Theory<C> {
     pub progress: Progress<C>,
-    pub cancelled: bool,
 }
 
 impl<C> Model for Theory<C> {
     ghost use Rattle.pure_core.specs.State as seen;
 
-    ghost Value = { seen.Theory C };
+    ghost Value = { seen.Progress C };
 
     ghost use Rattle.pure_core.specs.Seen.{seen_progress};
 
-    ghost view = { λ t. record { progress = seen_progress t.progress; cancelled = t.cancelled } };
+    ghost view = { λ t. seen_progress t.progress };
 }
 
 /// What became of a promise: it is ready; its proof runs; it is settled by an outcome; or it is cancelled.
@@ -63,4 +62,20 @@ pub enum Event<G, C, O> {
     CloseTheory { number: u32, value: Arc<C> },
     Deliver { number: u32, outcome: Arc<O>, fault: bool },
     Stop,
+}
+
+/// An entry of the history.
+#[derive(Drop)]
+pub struct Entry<G, C, O> {
+    pub event: Event<G, C, O>,
+}
+
+impl<G, C, O> Model for Entry<G, C, O> {
+    ghost use Rattle.pure_core.specs.State as seen;
+
+    ghost Value = { seen.Event G C O };
+
+    ghost use Rattle.pure_core.specs.Seen.{seen_event};
+
+    ghost view = { λ e. seen_event e.event };
 }

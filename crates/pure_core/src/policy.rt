@@ -5,7 +5,7 @@ use std::marker::Model;
 #[derive(Clone, Copy, Debug, PartialEq, Eq)]
 pub enum Group {
     Session,
-    Theory { number: u32 },
+    Theory { index: u32 },
 }
 
 /// The group is cancelled at the moment when so many deliveries have been kept, and at the opening where `after` is 0.
