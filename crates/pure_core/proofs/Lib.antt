@@ -3,4 +3,5 @@ pub mod PromiseLaws
 pub mod ReadyLaws
 pub mod FinishLaws
 pub mod DueLaws
-pub mod MachineLaws
+pub mod TakeLaws
+pub mod RunsLaws

@@ -2,11 +2,11 @@
 ghost use Rattle.std.specs.Prelude.{◌≡◌, ◌<◌, ◌-◌, ◌^◌, ◌++◌, ℕ, List, length, false, Some, None, IfOk, MatchResult, MatchOption, OnOk, slice_get, if◌then◌else◌};
 ghost use Rattle.pure_core.specs.State.{Running, Fork, CloseTheory, Deliver, Stop, Marks, Cancelled, Ready, theory_at, opened, with_cancelled};
 ghost use Rattle.pure_core.specs.Policy.{due, due_one};
-ghost use Rattle.pure_core.specs.Step.{stops, after, closed_value, cancelled_by, is_cancelled_promise};
+ghost use Rattle.pure_core.specs.Step.{stops, after, closed_value, cancelled_by, is_cancelled_promise, IsNextTheory, IsNothingReady, NoTheoryReady};
 ghost use Rattle.pure_core.specs.Seen.{seen_standing};
-ghost use Rattle.pure_core.specs.Calls.{delivered_as, polled_as, is_in_cancelled};
+ghost use Rattle.pure_core.specs.Calls.{Takes, delivered_as, polled_as, is_in_cancelled};
 
-use crate::answers::{Delivered, Polled};
+use crate::answers::{Delivered, Polled, Task};
 use crate::groups::Groups;
 use crate::log::Log;
 use crate::parts::{Event, Promise, Standing};
@@ -229,5 +229,60 @@ impl<G: Drop, C: Drop, O: Drop> Machine<G, C, O> {
         }
         self.groups.cancel(groups);
         self.promises.cancel(&self.groups);
+    }
+
+    /// What is there to do.
+    pub fn take(&mut self) -> Result<Task<G, C>, AllocError>
+        ensures { MatchResult result (λ task. Takes self.old self.new task) (λ _. self.new ≡ self.old) }
+    {
+        if self.stopped {
+            return Ok(Task::Stopped);
+        }
+        match self.theories.next_ready() {
+            None => self.take_proof(),
+            Some(index) => self.take_theory(index),
+        }
+    }
+
+    /// Takes the first theory that is ready.
+    fn take_theory(&mut self, index: u32) -> Result<Task<G, C>, AllocError>
+        requires going { self.old.stopped ≡ false }
+        requires next { (cs : _) × IsNextTheory self.old index cs }
+        ensures { MatchResult result (λ task. Takes self.old self.new task) (λ _. self.new ≡ self.old) }
+    {
+        let parents = self.theories.parents(index)?;
+        self.log.enter(Event::TakeTheory { number: index })?;
+        self.theories.run(index, 0);
+        Ok(Task::Theory { index, parents })
+    }
+
+    /// Where no theory is ready, takes the first proof that is.
+    fn take_proof(&mut self) -> Result<Task<G, C>, AllocError>
+        requires going { self.old.stopped ≡ false }
+        requires none { NoTheoryReady self.old }
+        ensures { MatchResult result (λ task. Takes self.old self.new task) (λ _. self.new ≡ self.old) }
+    {
+        let Some(number) = self.promises.next_ready() else {
+            return Ok(self.reading());
+        };
+        let goal = Arc::try_clone(&self.promises.at(number).goal)?;
+        self.log.enter(Event::TakeProof { number })?;
+        self.promises.stand(number, Standing::Taken);
+        Ok(Task::Proof { number, goal })
+    }
+
+    /// Where nothing is ready, whether something runs.
+    fn reading(&self) -> Task<G, C>
+        requires going { self.now.stopped ≡ false }
+        requires nothing { IsNothingReady self.now }
+        ensures { Takes self.now self.now result }
+    {
+        if self.theories.runs() {
+            return Task::Idle;
+        }
+        if self.promises.runs() {
+            return Task::Idle;
+        }
+        Task::Finished
     }
 }

@@ -2,7 +2,8 @@
 ghost use Rattle.std.specs.Prelude.{◌≡◌, ◌≢◌, ◌<◌, ◌≤◌, ◌+◌, ◌^◌, ◌-◌, vec_len, ℕ, List, length, map, Option, Some, None, IfOk, MatchOption, MatchBool};
 ghost use Rattle.pure_core.specs.State.{Waiting, Running, Closed, theory_at, with_progress, waiting};
 ghost use Rattle.pure_core.specs.Seen.{seen_progress};
-ghost use Rattle.pure_core.specs.Step.{value_of as closing_value, closed_value, closed_values, IsReadyIn, NoneReadyBelow};
+ghost use Rattle.pure_core.specs.Step.{value_of as closing_value, closed_value, closed_values, IsReadyIn, NoneReadyBelow, IsShape, IsClosed};
+ghost use Rattle.pure_text.specs.Lists.{Each};
 
 use crate::parts::{Progress, Theory};
 use crate::policy::Node;
@@ -21,13 +22,13 @@ pub(crate) struct Theories<C> {
 impl<C> Model for Theories<C> {
     ghost use Rattle.std.specs.Prelude.{◌≡◌, ◌<◌, ◌^◌, ◌-◌, vec_len};
     ghost use Rattle.pure_core.specs.Parts.{Stages};
-    ghost use Rattle.pure_core.specs.Step.{NoneReadyBelow};
+    ghost use Rattle.pure_core.specs.Step.{NoneReadyBelow, IsShape};
 
     ghost Value = { Stages C };
 
     ghost view = { λ t. record { shape = t.shape.items; progress = t.list.items } };
 
-    ghost invariant = { λ t. NoneReadyBelow t.shape.items t.list.items t.cursor × (vec_len t.list ≡ vec_len t.shape) × (vec_len t.list < 2 ^ 32 - 1) };
+    ghost invariant = { λ t. NoneReadyBelow t.shape.items t.list.items t.cursor × (vec_len t.list ≡ vec_len t.shape) × (vec_len t.list < 2 ^ 32 - 1) × IsShape t.shape.items };
 }
 
 /// The value that closed a theory, if one did.
@@ -153,6 +154,20 @@ fn some_runs<C>(theories: &[Theory<C>]) -> bool
     false
 }
 
+/// Whether some theory runs; where none does and none is ready, all are closed.
+fn some_runs_or_all_closed<C>(shape: &[Node], theories: &[Theory<C>]) -> bool
+    requires formed { IsShape shape.now }
+    requires same { length theories.now ≡ length shape.now }
+    ensures { MatchBool result ((i : ℕ) × (k : ℕ) × (theory_at theories.now i ≡ Some (Running k)))
+        (((i : ℕ) (cs : List C) → ¬ IsReadyIn shape.now theories.now i cs) → Each IsClosed theories.now) }
+{
+    let _ = shape;
+    if some_runs(theories) {
+        return true;
+    }
+    false
+}
+
 /// The theories of the shape, each of which waits.
 fn all_waiting<C: Drop>(alloc: Global, shape: &[Node]) -> Result<Vec<Theory<C>>, AllocError>
     ensures { IfOk result (λ list. list.items ≡ waiting shape.now) }
@@ -177,7 +192,8 @@ fn set_progress<C: Drop>(theory: &mut Theory<C>, progress: Progress<C>)
 impl<C: Drop> Theories<C> {
     /// The theories of the shape, each of which waits.
     pub fn open(shape: Vec<Node>) -> Result<Theories<C>, AllocError>
-        requires { vec_len shape < 2 ^ 32 - 1 }
+        requires formed { IsShape shape.items }
+        requires few { vec_len shape < 2 ^ 32 - 1 }
         ensures { IfOk result (λ t. t ≡ record { shape = shape.items; progress = waiting shape.items }) }
     {
         let list = all_waiting(*shape.allocator(), shape.as_slice())?;
@@ -239,11 +255,12 @@ impl<C: Drop> Theories<C> {
         }
     }
 
-    /// Whether some theory runs.
+    /// Whether some theory runs; where none does and none is ready, all are closed.
     pub fn runs(&self) -> bool
-        ensures { MatchBool result ((i : ℕ) × (k : ℕ) × (theory_at self.now.progress i ≡ Some (Running k))) ((i k : ℕ) → theory_at self.now.progress i ≢ Some (Running k)) }
+        ensures { MatchBool result ((i : ℕ) × (k : ℕ) × (theory_at self.now.progress i ≡ Some (Running k)))
+            (((i : ℕ) (cs : List C) → ¬ IsReadyIn self.now.shape self.now.progress i cs) → Each IsClosed self.now.progress) }
     {
-        some_runs(self.list.as_slice())
+        some_runs_or_all_closed(self.shape.as_slice(), self.list.as_slice())
     }
 
     /// Lets a theory run, after so many forks.
