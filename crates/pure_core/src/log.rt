@@ -20,7 +20,6 @@ pub(crate) struct Log<G, C, O> {
 impl<G, C, O> Model for Log<G, C, O> {
     ghost use Rattle.std.specs.Prelude.{◌≡◌, ◌≤◌, ◌+◌, vec_len, vec_capacity};
     ghost use Rattle.pure_core.specs.Parts.{Logged};
-
     ghost use Rattle.pure_core.specs.Step.{stops};
 
     ghost Value = { Logged G C O };
@@ -61,8 +60,6 @@ impl<G: Drop, C: Drop, O: Drop> Log<G, C, O> {
         ensures { self.new ≡ entered self.old Stop }
     {
         self.stopped += 1;
-        self.entries.push_reserved(Entry {
-            event: Event::Stop,
-        });
+        self.entries.push_reserved(Entry { event: Event::Stop });
     }
 }

@@ -156,10 +156,7 @@ impl<G: Drop, C: Drop, O: Drop> Machine<G, C, O> {
             goal,
             standing,
         };
-        let event = Event::Fork {
-            theory,
-            goal: told,
-        };
+        let event = Event::Fork { theory, goal: told };
         let number = self.promises.fork(&mut self.log, promise, event)?;
         self.theories.run(theory, forks + 1);
         Ok(number)

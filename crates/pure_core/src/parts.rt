@@ -56,11 +56,25 @@ impl<G, O> Model for Promise<G, O> {
 /// What happens to a core.
 #[derive(Drop)]
 pub enum Event<G, C, O> {
-    TakeTheory { number: u32 },
-    TakeProof { number: u32 },
-    Fork { theory: u32, goal: Arc<G> },
-    CloseTheory { number: u32, value: Arc<C> },
-    Deliver { number: u32, outcome: Arc<O>, fault: bool },
+    TakeTheory {
+        number: u32,
+    },
+    TakeProof {
+        number: u32,
+    },
+    Fork {
+        theory: u32,
+        goal: Arc<G>,
+    },
+    CloseTheory {
+        number: u32,
+        value: Arc<C>,
+    },
+    Deliver {
+        number: u32,
+        outcome: Arc<O>,
+        fault: bool,
+    },
     Stop,
 }
 

@@ -118,10 +118,7 @@ impl<G: Drop, O: Drop> Promises<G, O> {
         requires { list.items ≡ [] }
         ensures { result ≡ [] }
     {
-        Promises {
-            list,
-            cursor: 0,
-        }
+        Promises { list, cursor: 0 }
     }
 
     /// How many there are.

@@ -108,7 +108,8 @@ fn is_ready<C>(shape: &[Node], theories: &[Theory<C>], number: u32) -> bool
     }
     let place = number as usize - 1;
     match (theories.get(place), shape.get(place)) {
-        (Some(theory), Some(node)) => waits(theory) && are_closed(theories, node.parents.as_slice()),
+        (Some(theory), Some(node)) => waits(theory)
+            && are_closed(theories, node.parents.as_slice()),
         _ => false,
     }
 }
@@ -269,7 +270,10 @@ impl<C: Drop> Theories<C> {
         requires high { number ≤ length self.old.progress }
         ensures { self.new ≡ record { shape = self.old.shape; progress = with_progress self.old.progress number (Running forks) } }
     {
-        set_progress(&mut self.list[number as usize - 1], Progress::Running { forks });
+        set_progress(
+            &mut self.list[number as usize - 1],
+            Progress::Running { forks },
+        );
     }
 
     /// Closes a theory by a value.
@@ -279,7 +283,10 @@ impl<C: Drop> Theories<C> {
         ensures { self.new ≡ record { shape = self.old.shape; progress = with_progress self.old.progress number (Closed forks value.value) } }
     {
         self.cursor = 0;
-        set_progress(&mut self.list[number as usize - 1], Progress::Closed { forks, value });
+        set_progress(
+            &mut self.list[number as usize - 1],
+            Progress::Closed { forks, value },
+        );
     }
 }
 

@@ -19,9 +19,13 @@ pub trait Work: Send + Sync {
     ghost use Rattle.pure_core.specs.Turns.{IsTurn, IsAdvance};
 
     type Goal: Send + Sync + Drop;
+
     type Closed: Send + Sync + Drop;
+
     type Outcome: Send + Sync + Drop;
+
     type Run: Send + Sync + Drop;
+
     type Proving: Send + Sync + Drop;
 
     // The numbers of the parents of each theory, of which the first has number 1.
@@ -56,10 +60,7 @@ pub trait Work: Send + Sync {
         ensures { IfOk result (λ run. runs self.now theory 0 run) };
 
     /// One turn of a theory's run that hasn't closed.
-    fn command(
-        &self,
-        run: &mut Self::Run,
-    ) -> Result<Turn<Self::Goal, Self::Closed>, AllocError>
+    fn command(&self, run: &mut Self::Run) -> Result<Turn<Self::Goal, Self::Closed>, AllocError>
         requires { (i : ℕ) × (n : ℕ) × runs self.now i n run.old }
         ensures { IfOk result (λ turn. (i n : ℕ) → runs self.now i n run.old
             → IsTurn (forks self.now) (closes self.now) (runs self.now) turns_left i n run.old run.new turn) };
