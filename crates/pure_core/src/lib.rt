@@ -12,5 +12,7 @@ mod theories;
 mod work;
 
 pub use answers::{Delivered, Polled, Task};
+pub use machine::Machine;
+pub use parts::{Promise, Standing};
 pub use policy::{Cancel, Group, Node, Policy};
 pub use work::{Turn, Work};

@@ -1,8 +1,8 @@
 //! The state machine of a core.
-ghost use Rattle.std.specs.Prelude.{◌≡◌, ◌<◌, ◌-◌, ◌^◌, ◌++◌, ℕ, List, length, false, Some, None, IfOk, MatchResult, MatchOption, OnOk, slice_get, if◌then◌else◌};
-ghost use Rattle.pure_core.specs.State.{Running, Fork, CloseTheory, Deliver, Stop, Marks, Cancelled, Ready, theory_at, opened, with_cancelled};
+ghost use Rattle.std.specs.Prelude.{◌≡◌, ◌<◌, ◌-◌, ◌^◌, ◌++◌, ℕ, List, length, vec_len, false, Some, None, IfOk, MatchResult, MatchOption, OnOk, slice_get, if◌then◌else◌};
+ghost use Rattle.pure_core.specs.State.{Running, Fork, CloseTheory, Deliver, Stop, Marks, Cancelled, Ready, theory_at, opened, unmarked, with_cancelled};
 ghost use Rattle.pure_core.specs.Policy.{due, due_one};
-ghost use Rattle.pure_core.specs.Step.{stops, after, closed_value, cancelled_by, is_cancelled_promise, IsNextTheory, IsNothingReady, NoTheoryReady};
+ghost use Rattle.pure_core.specs.Step.{stops, after, closed_value, cancelled_by, is_cancelled_promise, IsNextTheory, IsNothingReady, NoTheoryReady, IsShape};
 ghost use Rattle.pure_core.specs.Seen.{seen_standing};
 ghost use Rattle.pure_core.specs.Calls.{Takes, delivered_as, polled_as, is_in_cancelled};
 
@@ -19,7 +19,7 @@ use std::sync::Arc;
 
 /// The state of a core, which contracts see as such.
 #[derive(Drop)]
-pub(crate) struct Machine<G, C, O> {
+pub struct Machine<G, C, O> {
     theories: Theories<C>,
     promises: Promises<G, O>,
     groups: Groups,
@@ -85,7 +85,49 @@ fn cancelled_groups(
     Ok(groups)
 }
 
+/// For each theory of the shape that its group isn't cancelled.
+fn all_unmarked(alloc: Global, shape: &[Node]) -> Result<Vec<bool>, AllocError>
+    ensures { IfOk result (λ marks. record { session = false; theories = marks.items } ≡ unmarked shape.now) }
+{
+    let mut marks = Vec::with_capacity(alloc, shape.len())?;
+    for node in shape {
+        let _ = node;
+        marks.push(false)?;
+    }
+    Ok(marks)
+}
+
 impl<G: Drop, C: Drop, O: Drop> Machine<G, C, O> {
+    /// The state at the opening: all theories wait, there is no promise, and the groups whose number is 0 are cancelled.
+    pub fn open(
+        alloc: Global,
+        shape: Vec<Node>,
+        policy: Policy,
+        workers: u32,
+    ) -> Result<Machine<G, C, O>, AllocError>
+        requires formed { IsShape shape.items }
+        requires few { vec_len shape < 2 ^ 32 - 1 }
+        ensures { IfOk result (λ m. m ≡ opened (record { shape = shape.items; policy = policy; workers = workers })) }
+    {
+        let mut due = Vec::new(alloc);
+        add_due(&mut due, policy.cancels.as_slice(), 0)?;
+        let groups = Groups::new(all_unmarked(alloc, shape.as_slice())?);
+        let log = Log::open(alloc, workers)?;
+        let theories = Theories::open(shape)?;
+        let promises = Promises::new(Vec::new(alloc));
+        let mut machine = Machine {
+            theories,
+            promises,
+            groups,
+            policy,
+            kept: 0,
+            stopped: false,
+            log,
+        };
+        machine.cancel(due.as_slice());
+        Ok(machine)
+    }
+
     /// Whether the work was stopped.
     pub fn stopped(&self) -> bool
         ensures { result ≡ self.now.stopped }
