@@ -1,0 +1,7 @@
+pub mod Policy
+pub mod State
+pub mod Step
+pub mod Turns
+pub mod Seen
+pub mod Parts
+pub mod Calls
