@@ -1,7 +1,5 @@
-pub mod LogLaws
-pub mod PromiseLaws
-pub mod ReadyLaws
-pub mod FinishLaws
-pub mod DueLaws
-pub mod TakeLaws
-pub mod RunsLaws
+pub mod PlaceLaws
+pub mod KeptLaws
+pub mod RunLaws
+pub mod AloneLaws
+pub mod TaskLaws

@@ -1,7 +1,2 @@
-pub mod Policy
-pub mod State
-pub mod Step
 pub mod Turns
-pub mod Seen
-pub mod Parts
-pub mod Calls
+pub mod Legal

@@ -1,18 +1,12 @@
-//! The core of parallel checking: a state machine of theories and promises.
+//! The core of parallel checking: a work, whose theories fork goals and whose proofs settle them, on its state machine.
 #![tactic(auto)]
 
-mod answers;
-mod groups;
-mod log;
-mod machine;
-mod parts;
-mod policy;
-mod promises;
-mod theories;
+pub mod laws;
+mod runs;
 mod work;
 
-pub use answers::{Delivered, Polled, Task};
-pub use machine::Machine;
-pub use parts::{Promise, Standing};
-pub use policy::{Cancel, Group, Node, Policy};
+pub use pure_machine::{
+    Cancel, Delivered, Group, Machine, Node, Policy, Polled, Promise, Standing, Task,
+};
+pub use runs::{Core, drain, open};
 pub use work::{Turn, Work};

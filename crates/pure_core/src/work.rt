@@ -15,7 +15,7 @@ pub enum Turn<G, C> {
 pub trait Work: Send + Sync {
     ghost use Rattle.std.specs.Prelude.{◌≡◌, ◌<◌, ℕ, List, Bool, map, Option, Some, IfOk};
     ghost use Rattle.pure_text.specs.Lists.{EachTwo};
-    ghost use Rattle.pure_core.specs.State.{parents_at};
+    ghost use Rattle.pure_machine.specs.State.{parents_at};
     ghost use Rattle.pure_core.specs.Turns.{IsTurn, IsAdvance};
 
     type Goal: Send + Sync + Drop;

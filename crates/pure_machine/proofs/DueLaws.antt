@@ -1,0 +1,18 @@
+-- The groups that a list of cancellations cancels, one cancellation further.
+use Rattle.std.proofs.Common.{◌≡◌, ◌∙◌, ◌<◌, ℕ, ◌+◌, List, [], ◌∷◌, ◌++◌, length, get_or, take, refl, sym, ap, append_assoc}
+use Rattle.pure_text.proofs.LoopLaws.{longer_by}
+use Rattle.pure_machine.specs.declared.policy.Group.{Group}
+use Rattle.pure_machine.specs.declared.policy.Cancel.{Cancel}
+use Rattle.pure_machine.specs.Policy.{due, due_one}
+
+due-more : (cs : List Cancel) (c : Cancel) (kept : ℕ) → due (cs ++ c ∷ []) kept ≡ due cs kept ++ due_one c kept
+due-more [] c kept = nothing_behind (due_one c kept)
+  where
+    nothing_behind : (gs : List Group) → gs ++ [] ≡ gs
+    nothing_behind [] = refl
+    nothing_behind (g ∷ gs) = ap (λ hs. g ∷ hs) (nothing_behind gs)
+due-more (d ∷ cs) c kept = ap (λ gs. due_one d kept ++ gs) (due-more cs c kept) ∙ sym (append_assoc (due_one d kept) (due cs kept) (due_one c kept))
+
+pub due-turn : (cs : List Cancel) (k : ℕ) (c : Cancel) (kept : ℕ) (old now new : List Group) → k < length cs → c ≡ get_or cs k c → now ≡ old ++ due (take k cs) kept → new ≡ now ++ due_one c kept → new ≡ old ++ due (take (k + 1) cs) kept
+due-turn cs k c kept old now new within read so_far more =
+    rw (more, so_far, longer_by cs k c within read, due-more (take k cs) c kept) (append_assoc old (due (take k cs) kept) (due_one c kept))

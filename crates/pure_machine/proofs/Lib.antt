@@ -1,0 +1,7 @@
+pub mod LogLaws
+pub mod PromiseLaws
+pub mod ReadyLaws
+pub mod FinishLaws
+pub mod DueLaws
+pub mod TakeLaws
+pub mod RunsLaws

@@ -1,0 +1,6 @@
+pub mod Policy
+pub mod State
+pub mod Step
+pub mod Seen
+pub mod Parts
+pub mod Calls
