@@ -19,7 +19,7 @@ use Rattle.pure_tunify.specs.Asks.{IsMeet}
 use Rattle.pure_tunify.specs.Steps.{pair, setting, instance_pair, Asks, narrow, eliminate, occurs, sort, sort_left, IsReduction}
 use Rattle.pure_tunify.specs.Settings.{composed, bind, AreWithinLimits}
 use Rattle.pure_tunify.specs.Procedure.{place_of, IsSchematic, Shows, left_side, right_side, IsNeededSort, Narrows, fits, replace, IsTreated, IsBlocked, rigid, occurring, sortless, Equalises, equal, treat, Blocks, blocked, later, Outcome, Unifies, over, no_typing, big, next}
-use Rattle.pure_tunify.specs.ProcedureLaws.{AreNamesUsed, IsReached, Makes, made, make, IsMade, HasOldImagesWithin, HaveLargeImage, IsWithinBefore, IsBeyond, IsMeant}
+use Rattle.pure_tunify.specs.ProcedureLaws.{AreNamesUsed, IsReached, Makes, made, make, HasOldImagesWithin, HaveLargeImage, IsWithinBefore, IsBeyond, IsMeant}
 use Rattle.pure_tunify.proofs.ReductionLaws.{agree_unifier, reduction_along, stays, composed-append, equalised, blocks_unifiers}
 use Rattle.pure_tunify.proofs.NameLaws.{names_next, no_names}
 use Rattle.pure_tunify.proofs.RootLaws.{AreRooted, rooted_next, rooted_start, all_within, within_as_general}
@@ -107,20 +107,21 @@ module _ (A : Algebra) (index from : ℕ) where
     rooted = rooted_next A index from n m sets more p (each-right (IsOldPair index from) front (p ∷ ps) old).0 h.rooted e;
   }
 
-  is_made : (front : List TypPair) (sets : List TypBind) (n : ℕ) → HasMade front sets n → Each (IsOldPair index from) front → IsMade A index from front sets n
-  is_made front sets n h old = record {
-    makes = makes_front front sets n h.goes;
-    reached = record { general = leads_general front sets n h.leads old; names = h.names };
-  }
+  is_reached : (front : List TypPair) (sets : List TypBind) (n : ℕ) → HasMade front sets n → Each (IsOldPair index from) front → IsReached A index from front sets n
+  is_reached front sets n h old = record { general = leads_general front sets n h.leads old; names = h.names }
 
   within_before : (front : List TypPair) (p : TypPair) (ps : List TypPair) (sets : List TypBind) (at n : ℕ) → length front ≡ at → HasMade front sets n → (at ≡ 0) ⊎ AreWithinLimits sets n → Each (IsOldPair index from) (front ++ p ∷ ps)
       → IsWithinBefore A index from (front ++ p ∷ ps) at
   within_before front p ps sets at n long h within old = record {
     sets = sets;
     next = n;
-    is = subst (λ (qs : List TypPair). IsMade A index from qs sets n) (sym (subst (λ (k : ℕ). take k (front ++ p ∷ ps) ≡ front) long (take_front front (p ∷ ps)))) (is_made front sets n h (old_front front (p ∷ ps) old));
+    makes = subst (λ (qs : List TypPair). Makes A index from [] qs sets n) (sym cut) (makes_front front sets n h.goes);
+    reached = subst (λ (qs : List TypPair). IsReached A index from qs sets n) (sym cut) (is_reached front sets n h (old_front front (p ∷ ps) old));
     within = within;
   }
+    where
+      cut : take at (front ++ p ∷ ps) ≡ front
+      cut = subst (λ (k : ℕ). take k (front ++ p ∷ ps) ≡ front) long (take_front front (p ∷ ps))
 
   -- Settings that pass the limits do so by an image of a variable of the pairs under each most general unifier, or by names.
   beyond_by : (front : List TypPair) (sets : List TypBind) (m : ℕ) → HasMade front sets m → Each (IsOldPair index from) front → ¬ AreWithinLimits sets m → HaveLargeImage A index from front ⊎ (2 ^ 31 < m)
@@ -146,14 +147,15 @@ module _ (A : Algebra) (index from : ℕ) where
     before = within_before front p ps sets at n long h within old;
     sets = all;
     next = m;
-    is = subst (λ (qs : List TypPair). IsMade A index from qs all m) (sym (take_one_more front p ps at long)) (is_made (front ++ p ∷ []) all m with_pair (old_with front p ps old));
+    makes = subst (λ (qs : List TypPair). Makes A index from [] qs all m) (sym (take_one_more front p ps at long)) (makes_front (front ++ p ∷ []) all m with_pair.goes);
+    reached = subst (λ (qs : List TypPair). IsReached A index from qs all m) (sym (take_one_more front p ps at long)) (is_reached (front ++ p ∷ []) all m with_pair (old_with front p ps old));
     beyond = subst (λ (qs : List TypPair). HaveLargeImage A index from qs ⊎ (2 ^ 31 < m)) (sym (take_one_more front p ps at long)) (beyond_by (front ++ p ∷ []) all m with_pair (old_with front p ps old) beyond);
   }
 
   meant : {at n : ℕ} {sets : List TypBind} {ps : List TypPair} {outcome : Outcome} → Unifies A index at n sets ps outcome → (front : List TypPair) → length front ≡ at → HasMade front sets n → (at ≡ 0) ⊎ AreWithinLimits sets n
       → Each (IsOldPair index from) (front ++ ps) → IsMeant A index from (front ++ ps) outcome
   meant (over {n = n} {sets = sets}) front long h within old =
-      subst (λ (qs : List TypPair). IsReached A index from qs sets n) (sym (append-nil front)) (is_made front sets n h (old_front front [] old)).reached
+      subst (λ (qs : List TypPair). IsReached A index from qs sets n) (sym (append-nil front)) (is_reached front sets n h (old_front front [] old))
   meant (no_typing {at = at} {n = n} {sets = sets} {p = p} {ps = ps} blocks) front long h within old = record {
     inside = inside_all front p ps at long;
     before = within_before front p ps sets at n long h within old;

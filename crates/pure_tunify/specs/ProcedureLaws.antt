@@ -31,24 +31,20 @@ pub data Makes (A : Algebra) (index : ℕ) : (n : ℕ) → List TypBind → List
   made : {n : ℕ} {sets : List TypBind} → Makes A index n sets [] sets n
   make : {n k m : ℕ} {sets more all : List TypBind} {p : TypPair} {ps : List TypPair} → Equalises A index n (instance_pair (composed sets) p) more k → Makes A index k (sets ++ more) ps all m → Makes A index n sets (p ∷ ps) all m
 
--- The settings are the procedure's for the pairs, with the names below the next: a most general unifier of them.
-pub record IsMade (A : Algebra) (index from : ℕ) (pairs : List TypPair) (sets : List TypBind) (next : ℕ) : Type 0 where
-  pub makes : Makes A index from [] pairs sets next
-  pub reached : IsReached A index from pairs sets next
-
 -- The image of each variable that isn't fresh is within the limits.
 abbrev pub HasOldImagesWithin : (index from : ℕ) → (Typ → Typ) → Type 0
 HasOldImagesWithin index from typs = (x i : ℕ) (s : List ℕ) → ¬ IsFresh index from (TVar x i s) → IsWithinTyp (typs (TVar x i s))
 
--- The most general unifiers of the pairs, which differ in the names of fresh variables alone, have an image of a variable of the pairs beyond the limits.
+-- Under each most general unifier of the pairs an image of a variable that isn't fresh is beyond the limits. These unifiers differ in the names of variables alone, so it is one of them or all.
 abbrev pub HaveLargeImage : Algebra → (index from : ℕ) → List TypPair → Type 0
 HaveLargeImage A index from pairs = (typs : Typ → Typ) → IsMostGeneral A index from pairs typs → ¬ HasOldImagesWithin index from typs
 
--- The pairs before this number, if there are any, have a most general unifier within the limits: so do all fewer ones, since images and names only grow.
+-- The pairs before this number, if there are any, have a most general unifier within the limits, the procedure's: so do all fewer ones, since images and names only grow.
 pub record IsWithinBefore (A : Algebra) (index from : ℕ) (pairs : List TypPair) (at : ℕ) : Type 0 where
   pub sets : List TypBind
   pub next : ℕ
-  pub is : IsMade A index from (take at pairs) sets next
+  pub makes : Makes A index from [] (take at pairs) sets next
+  pub reached : IsReached A index from (take at pairs) sets next
   pub within : (at ≡ 0) ⊎ AreWithinLimits sets next
 
 -- The pair of this number is the first such that it and those before have no unifier; those before have one within the limits.
@@ -57,13 +53,14 @@ pub record IsFirstWithout (A : Algebra) (index from : ℕ) (pairs : List TypPair
   pub before : IsWithinBefore A index from pairs at
   pub none : (typs : Typ → Typ) → ¬ IsUnifier A (take (at + 1) pairs) typs
 
--- The pair of this number is the first such that the most general unifier of it and those before is beyond the limits: an image of a variable of the pairs is, or the names of the fresh variables that the procedure makes pass 2^31.
+-- The pair of this number is the first such that the most general unifier of it and those before is beyond the limits: an image of a variable that isn't fresh is, or the names of the fresh variables that the procedure makes pass 2^31.
 pub record IsBeyond (A : Algebra) (index from : ℕ) (pairs : List TypPair) (at : ℕ) : Type 0 where
   pub inside : at < length pairs
   pub before : IsWithinBefore A index from pairs at
   pub sets : List TypBind
   pub next : ℕ
-  pub is : IsMade A index from (take (at + 1) pairs) sets next
+  pub makes : Makes A index from [] (take (at + 1) pairs) sets next
+  pub reached : IsReached A index from (take (at + 1) pairs) sets next
   pub beyond : HaveLargeImage A index from (take (at + 1) pairs) ⊎ (2 ^ 31 < next)
 
 abbrev pub IsMeant : Algebra → (index from : ℕ) → List TypPair → Outcome → Type 0
