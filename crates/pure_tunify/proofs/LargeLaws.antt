@@ -32,12 +32,8 @@ use Rattle.pure_tunify.proofs.SettingLaws.{instance-append, instance_pair-append
 use Rattle.pure_tunify.proofs.PursueLaws.{place_now, pursuit_starts, pursuit_ends, as_pair, pursued_as_pair, left_as_pair, left_place, right_place}
 use Rattle.pure_tunify.proofs.ReductionLaws.{agree_unifier, equalised, blocks_unifiers}
 use Rattle.pure_tunify.proofs.OutcomeLaws.{equalisable_or_blocked}
-use Rattle.pure_tunify.proofs.UnifyLaws.{size-grows, depth-grows}
+use Rattle.pure_tunify.proofs.SizeLaws.{shrinks}
 use Rattle.pure_tunify.proofs.WorkLaws.{last_first}
-
--- A type whose instance is within the limits is so too.
-shrinks : (f : Typ → Typ) (t : Typ) → IsWithinTyp (typ_instance f t) → IsWithinTyp t
-shrinks f t w = record { size = le_trans (size-grows f t) w.size; depth = le_trans (depth-grows f t) w.depth }
 
 -- Pairs whose sides are equal under a map have no place under it, and the other way round.
 nowhere : (f : Typ → Typ) (qs : List TypPair) → Each (Equates f) qs → place_among (map (instance_pair f) qs) ≡ None

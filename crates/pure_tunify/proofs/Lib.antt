@@ -25,3 +25,5 @@ pub mod NarrowableLaws
 pub mod OutcomeLaws
 pub mod LargeLaws
 pub mod WritingLaws
+pub mod SizeLaws
+pub mod RootLaws

@@ -4,13 +4,12 @@ use Rattle.std.specs.Prelude.{Result, Ok, Err, IfErr}
 use Rattle.std.proofs.lemmas.List.{drop_all}
 use Rattle.std.proofs.Math.Nat.{le_trans}
 use Rattle.pure_text.specs.Lists.{IsIn, Each}
-use Rattle.pure_definitions.specs.Types.Typ.{Typ, TFree, TVar, Con, Typs, none, also, typ_size, typs_size, typ_depth, typs_depth}
+use Rattle.pure_definitions.specs.Types.Typ.{Typ, TFree, TVar, Con}
 use Rattle.pure_definitions.specs.Types.Occurs.{OccursInTyp}
 use Rattle.pure_definitions.specs.Types.Order.{Algebra}
-use Rattle.pure_definitions.specs.Terms.Subst.{TypBind, typ_variable, typ_image, typ_instance, typs_instance}
+use Rattle.pure_definitions.specs.Terms.Subst.{TypBind, typ_variable, typ_image, typ_instance}
 use Rattle.pure_definitions.specs.Terms.Limits.{IsWithinTyp}
 use Rattle.pure_definitions.proofs.InstanceLemmas.{typ_image-fixed}
-use Rattle.pure_definitions.proofs.TypsLemmas.{typ_size-some, typ_depth-some}
 use Rattle.pure_term_laws.specs.LawsOccurs.{IsTypVariable}
 use Rattle.pure_term_laws.proofs.OccursLaws.{typ_instances-agree}
 use Rattle.pure_term_laws.proofs.SubstLaws.{typ_instance-identity}
@@ -23,6 +22,7 @@ use Rattle.pure_tunify.specs.declared.fault.TypFault.{TypFault}
 use Rattle.pure_tunify.specs.declared.fault.TypFault.TheVariants.{NoTyping, Big, Memory}
 use Rattle.pure_tunify.specs.Passes.{HasCome, IsJudged}
 use Rattle.pure_tunify.specs.Answers.{IsEqualised, IsPassed, AreUnified, IsDecided, IsReason}
+use Rattle.pure_tunify.proofs.SizeLaws.{shrinks}
 use Rattle.pure_tunify.proofs.SettingLaws.{instance-append, instance-free, composed-absent, composed-fixed}
 use Rattle.pure_tunify.proofs.PursueLaws.{pursuit_ends}
 use Rattle.pure_tunify.proofs.ReductionLaws.{agree_unifier}
@@ -64,27 +64,6 @@ written_idempotent sets written tri h x i s =
     typ_instances-agree (typ_image written) (composed sets) (typ_image written (TVar x i s)) (λ v is o. written_agrees sets written h v is)
     ∙ (ap (typ_instance (composed sets)) (h x i s) ∙ (settled sets tri (TVar x i s) ∙ sym (h x i s)))
 
--- Types only grow under maps.
-mutual
-  pub size-grows : (f : Typ → Typ) (t : Typ) → typ_size t ≤ typ_size (typ_instance f t)
-  size-grows f (TFree x s) = let some = typ_size-some (f (TFree x s)) in omega arith
-  size-grows f (TVar x i s) = let some = typ_size-some (f (TVar x i s)) in omega arith
-  size-grows f (Con k ts) = let inside = sizes-grow f ts in omega arith
-
-  sizes-grow : (f : Typ → Typ) (ts : Typs) → typs_size ts ≤ typs_size (typs_instance f ts)
-  sizes-grow f none = omega arith
-  sizes-grow f (also t ts) = let here = size-grows f t in let there = sizes-grow f ts in omega arith
-
-mutual
-  pub depth-grows : (f : Typ → Typ) (t : Typ) → typ_depth t ≤ typ_depth (typ_instance f t)
-  depth-grows f (TFree x s) = let some = typ_depth-some (f (TFree x s)) in omega arith
-  depth-grows f (TVar x i s) = let some = typ_depth-some (f (TVar x i s)) in omega arith
-  depth-grows f (Con k ts) = let inside = depths-grow f ts in omega arith
-
-  depths-grow : (f : Typ → Typ) (ts : Typs) → typs_depth ts ≤ typs_depth (typs_instance f ts)
-  depths-grow f none = omega arith
-  depths-grow f (also t ts) = let here = depth-grows f t in let there = depths-grow f ts in omega arith
-
 -- Settings that are within the limits after further ones were so before.
 pub within_before : (sets more : List TypBind) (n m : ℕ) → n ≤ m → AreWithinLimits (sets ++ more) m → AreWithinLimits sets n
 within_before sets more n m le h = record {
@@ -93,7 +72,7 @@ within_before sets more n m le h = record {
 }
   where
     by : (t : Typ) → IsWithinTyp (typ_instance (composed more) t) → IsWithinTyp t
-    by t w = record { size = le_trans (size-grows (composed more) t) w.size; depth = le_trans (depth-grows (composed more) t) w.depth }
+    by t w = shrinks (composed more) t w
 
 module _ (A : Algebra) (index from : ℕ) (pairs : List TypPair) (i : ℕ) (now : Progress) (p : TypPair) (h : HasCome A index from pairs i now) (within : i < length pairs) (read : p ≡ get_or pairs i p) where
   pub come_next : (new : Progress) → IsEqualised A now new p → HasCome A index from pairs (i + 1) new
