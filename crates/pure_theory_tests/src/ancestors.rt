@@ -1,11 +1,11 @@
 //! What written names mean in a theory over two ancestors that declare the same bases, whichever of these is last in load order.
-ghost use Rattle.std.specs.Prelude.{◌≡◌, ◌<◌, IfOk, map};
+ghost use Rattle.std.specs.Prelude.{◌≡◌, IfOk, map};
 ghost use Rattle.pure_typ.specs.NameTexts.{AreSessionTexts};
 
 use crate::notation::{declare_axiom, declare_const, shared, variable};
 use crate::promises::{LABEL, promised};
 use crate::sessions::{begun, put};
-use pure_term::{Name, Names};
+use pure_term::{Name, Names, Term};
 use pure_theory::{Built, DeclFault, Fact, Stage, Theory};
 use pure_typ::{NamesByBase, Text};
 use std::alloc::{AllocError, Global};
@@ -196,19 +196,26 @@ fn place_of(which: Built) -> u32 {
     }
 }
 
+/// Whether this is what all facts of the tests state.
+fn is_stated(alloc: Global, prop: &Term) -> bool {
+    let stated = variable(alloc);
+    *prop == stated
+}
+
+/// The number, where the test holds.
+fn number_if(test: bool, number: u32) -> u32 {
+    if test { number } else { NOTHING }
+}
+
 /// The number of the fact; a declared one states `?A`, and a promise has the label.
 fn fact_number(alloc: Global, fact: &Fact) -> u32 {
-    let stated = variable(alloc);
     match fact {
         Fact::Built { which } => BUILT.saturating_add(place_of(*which)),
-        Fact::Axiom { name, prop } => { if *prop == stated { name.0 } else { NOTHING } }
-        Fact::Promised { name, label, prop } => {
-            if *prop == stated && *label == LABEL {
-                name.0.saturating_add(PROMISED)
-            } else {
-                NOTHING
-            }
-        }
+        Fact::Axiom { name, prop } => number_if(is_stated(alloc, prop), name.0),
+        Fact::Promised { name, label, prop } => number_if(
+            is_stated(alloc, prop) && *label == LABEL,
+            name.0.saturating_add(PROMISED),
+        ),
     }
 }
 
@@ -267,31 +274,41 @@ fn has_meaning(
 }
 
 /// Each row holds in the theory, by its meaning at this place.
-fn check(rt: &impl Abort, alloc: Global, theory: &Theory, place: usize) -> Result<(), Fail>
-    requires { place < 3 }
-{
+fn check(rt: &impl Abort, alloc: Global, theory: &Theory, place: usize) -> Result<(), Fail> {
     let names = names_by_base(alloc)?;
     for (row, (space, written, numbers)) in ROWS.iter().enumerate() {
-        let found = has_meaning(alloc, theory, &names, (*space, written), numbers[place])?;
+        let number = numbers.get(place).copied().unwrap_or(NOTHING);
+        let found = has_meaning(alloc, theory, &names, (*space, written), number)?;
         assert!(rt; found, "row {row}");
     }
     Ok(())
 }
 
-/// The theory, or a failure.
-fn made(theory: Result<Theory, DeclFault>) -> Result<Theory, Fail> {
-    match theory {
-        Ok(theory) => Ok(theory),
+/// The index of A, whether B comes first among the parents, whether the theory itself declares `x`, and the place of the meanings.
+static SETTINGS: [(u32, bool, bool, usize); 5] = [
+    (0, false, false, 0),
+    (0, true, false, 0),
+    (1, false, false, 1),
+    (1, true, false, 1),
+    (0, false, true, 2),
+];
+
+/// Each row holds in the theory of the setting.
+fn check_setting(
+    rt: &impl Abort,
+    alloc: Global,
+    setting: (u32, bool, bool, usize),
+) -> Result<(), Fail> {
+    match theory_c(alloc, setting.0, setting.1, setting.2) {
+        Ok(theory) => check(rt, alloc, &theory, setting.3),
         Err(_) => Err("no theory".into()),
     }
 }
 
 #[test]
 fn names_over_two_theories(rt: HostRuntime) -> Result<(), Fail> {
-    let alloc = rt.alloc();
-    check(&rt, alloc, &made(theory_c(alloc, 0, false, false))?, 0)?;
-    check(&rt, alloc, &made(theory_c(alloc, 0, true, false))?, 0)?;
-    check(&rt, alloc, &made(theory_c(alloc, 1, false, false))?, 1)?;
-    check(&rt, alloc, &made(theory_c(alloc, 1, true, false))?, 1)?;
-    check(&rt, alloc, &made(theory_c(alloc, 0, false, true))?, 2)
+    for setting in SETTINGS {
+        check_setting(&rt, rt.alloc(), setting)?;
+    }
+    Ok(())
 }

@@ -31,12 +31,27 @@ const INSTANCE: &[u8] =
 /// The classes for which A.i has an arity, and whether it is of class A.c then.
 static ROWS: [(&[u32], bool); 3] = [(&[], false), (&[8], true), (&[9], true)];
 
+/// The theory of the class A.c.
+fn with_upper(alloc: Global) -> Result<Theory, DeclFault> {
+    let pure = Theory::pure(alloc)?;
+    pure.declare_class(UPPER, &[])
+}
+
+/// The theory of both classes.
+fn with_classes(alloc: Global) -> Result<Theory, DeclFault> {
+    let first = with_upper(alloc)?;
+    first.declare_class(LOWER, &[UPPER])
+}
+
+/// The theory of the classes and the type.
+fn with_typ(alloc: Global) -> Result<Theory, DeclFault> {
+    let classes = with_classes(alloc)?;
+    classes.declare_typ(CON, 0)
+}
+
 /// The theory of the classes and the type, with the constant of this body.
 fn defined(alloc: Global, body: &Term) -> Result<Theory, DeclFault> {
-    let pure = Theory::pure(alloc)?;
-    let upper = pure.declare_class(UPPER, &[])?;
-    let lower = upper.declare_class(LOWER, &[UPPER])?;
-    let theory = lower.declare_typ(CON, 0)?;
+    let theory = with_typ(alloc)?;
     define(&theory, CONSTANT, FACT, body)
 }
 
@@ -117,12 +132,22 @@ fn holds(alloc: Global, theory: &Theory, passes: bool) -> Result<bool, Fail> {
     }
 }
 
+/// Whether the row's theory answers so.
+fn is_row(alloc: Global, body: &Term, row: &(&[u32], bool)) -> Result<bool, Fail> {
+    let theory = theory_of(alloc, body, row.0)?;
+    holds(alloc, &theory, row.1)
+}
+
+/// The rows hold for the constant of this body.
+fn check(rt: &impl Abort, alloc: Global, body: &Term) -> Result<(), Fail> {
+    for (place, row) in ROWS.iter().enumerate() {
+        assert!(rt; is_row(alloc, body, row)?, "row {place}");
+    }
+    Ok(())
+}
+
 #[test]
 fn instances(rt: HostRuntime) -> Result<(), Fail> {
     let body = read_term(rt.alloc(), BODY)?;
-    for (place, (classes, passes)) in ROWS.iter().enumerate() {
-        let theory = theory_of(rt.alloc(), &body, classes)?;
-        assert!(rt; holds(rt.alloc(), &theory, *passes)?, "row {place}");
-    }
-    Ok(())
+    check(&rt, rt.alloc(), &body)
 }
