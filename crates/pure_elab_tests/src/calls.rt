@@ -2,7 +2,7 @@
 ghost use Rattle.std.specs.Prelude.{IfOk, IsTrue};
 ghost use Rattle.pure_elab.specs.Answers.{IsFixedTyp};
 
-use crate::theory::{Theory, make_theory};
+use crate::theory::{Theory, make_early_theory, make_theory};
 use pure_elab::{ElabFault, elaborate, elaborate_at, elaborate_typ};
 use pure_lex::tokens;
 use pure_notation::{read_term, read_typ};
@@ -12,7 +12,7 @@ use std::alloc::Global;
 use std::test::Fail;
 
 /// Propositions with their terms.
-static PROPOSITIONS: [(&[u8], &[u8]); 17] = [
+static PROPOSITIONS: [(&[u8], &[u8]); 18] = [
     (b"x", b"-x: Pure.prop"),
     // An unknown that is left is a fixed variable of a fresh name.
     (b"P x", b"@ =A.P: > '#0 Pure.prop -x: '#0"),
@@ -72,6 +72,30 @@ static PROPOSITIONS: [(&[u8], &[u8]); 17] = [
     ),
     (b"P (%_0. _0)", b"@ =A.P: > > '#0 '#0 Pure.prop %: '#0 _0"),
     (b"A.P (x :: (i))", b"@ =A.P: > A.i Pure.prop -x: A.i"),
+    // A constant of a type variable on constants of two types.
+    (
+        b"P i ==> P d ==> k",
+        b"@ @ =Pure.imp: > Pure.prop > Pure.prop Pure.prop @ =A.P: > A.i Pure.prop =A.i: A.i @ @ =Pure.imp: > Pure.prop > Pure.prop Pure.prop @ =A.P: > A.k/1 A.i Pure.prop =A.d: A.k/1 A.i =A.k: Pure.prop",
+    ),
+];
+
+/// Propositions that are ill-typed before the arity of A.i is declared, with the place, and with their terms after it.
+static BEFORE_AND_AFTER: [(&[u8], u32, &[u8]); 3] = [
+    (
+        b"P (f i)",
+        5,
+        b"@ =A.P: > A.i Pure.prop @ =A.f: > A.i A.i =A.i: A.i",
+    ),
+    (
+        b"P (f (x :: i))",
+        6,
+        b"@ =A.P: > A.i Pure.prop @ =A.f: > A.i A.i -x: A.i",
+    ),
+    (
+        b"P (f x) ==> x == i",
+        17,
+        b"@ @ =Pure.imp: > Pure.prop > Pure.prop Pure.prop @ =A.P: > A.i Pure.prop @ =A.f: > A.i A.i -x: A.i @ @ =Pure.eq: > A.i > A.i Pure.prop -x: A.i =A.i: A.i",
+    ),
 ];
 
 // A fault is written by its letter and its place: `n` an unknown name, `s` an unknown class, `w` a wrong count, `v` a
@@ -303,6 +327,20 @@ fn says_propositions(rt: HostRuntime) -> Result<(), Fail> {
     let theory = make_theory(rt.alloc())?;
     for (row, (text, wanted)) in PROPOSITIONS.iter().enumerate() {
         assert!(rt; says(rt.alloc(), &theory, text, wanted)?, "row {row}");
+    }
+    Ok(())
+}
+
+#[test]
+fn says_more_after_an_arity(rt: HostRuntime) -> Result<(), Fail> {
+    let early = make_early_theory(rt.alloc())?;
+    let late = make_theory(rt.alloc())?;
+    for (row, (text, place, wanted)) in BEFORE_AND_AFTER.iter().enumerate() {
+        assert!(rt;
+            has_fault(rt.alloc(), &early, text, b't', *place)?,
+            "row {row}"
+        );
+        assert!(rt; says(rt.alloc(), &late, text, wanted)?, "row {row}");
     }
     Ok(())
 }

@@ -10,8 +10,9 @@ use std::alloc::{AllocError, Global};
 use std::test::Fail;
 
 // Names are the notation's. The theory A declares the classes A.c and A.d, this one below the other; the types A.i, with
-// an arity for A.c, and A.k, with one argument and an arity for A.d from one of A.d; and two constants. Pure's are
-// declared too.
+// an arity for A.c, and A.k, with one argument and an arity for A.d from one of A.d; the constants A.P and A.f, which are
+// polymorphic, and A.i, A.d and A.k of the types A.i, A.i A.k and prop. Pure's are declared too. Before the arity of A.i
+// all but that is declared.
 
 /// How a name is written.
 #[derive(Drop)]
@@ -59,7 +60,7 @@ static CONS: [(&[u8], u32); 8] = [
     (b"A.k", 12),
 ];
 
-static CONSTS: [(&[u8], u32); 10] = [
+static CONSTS: [(&[u8], u32); 16] = [
     (b"all", 2),
     (b"Pure.all", 2),
     (b"imp", 3),
@@ -70,6 +71,12 @@ static CONSTS: [(&[u8], u32); 10] = [
     (b"A.P", 7),
     (b"f", 10),
     (b"A.f", 10),
+    (b"i", 11),
+    (b"A.i", 11),
+    (b"d", 9),
+    (b"A.d", 9),
+    (b"k", 12),
+    (b"A.k", 12),
 ];
 
 /// The names that fixed variables and type variables of the tests have.
@@ -85,12 +92,15 @@ static NAMES: [(&[u8], u32); 7] = [
 
 static COUNTS: [(u32, u32); 4] = [(0, 2), (1, 0), (11, 0), (12, 1)];
 
-static TYPS: [(u32, &[u8]); 5] = [
+static TYPS: [(u32, &[u8]); 8] = [
     (2, b"> > ?'a Pure.prop Pure.prop"),
     (3, b"> Pure.prop > Pure.prop Pure.prop"),
     (4, b"> ?'a > ?'a Pure.prop"),
     (7, b"> ?'a Pure.prop"),
     (10, b"> ?'a:A.c A.i"),
+    (11, b"A.i"),
+    (9, b"A.k/1 A.i"),
+    (12, b"Pure.prop"),
 ];
 
 /// How many names the notation has.
@@ -144,13 +154,20 @@ fn domain(alloc: Global, class: Name) -> Result<Vec<Sort>, AllocError> {
     Ok(vec![in alloc; sort(alloc, class)?]?)
 }
 
-fn order(alloc: Global) -> Result<Order, OrderFault> {
+/// The classes and arities without that of A.i.
+fn early_order(alloc: Global) -> Result<Order, OrderFault> {
     let (lower, upper) = (Name(9), Name(8));
     let mut order = Order::empty(alloc);
     order.add_class(alloc, upper, &[])?;
     order.add_class(alloc, lower, &[upper])?;
-    order.add_arity(alloc, Name(11), Vec::new(alloc), upper)?;
     order.add_arity(alloc, Name(12), domain(alloc, lower)?, lower)?;
+    Ok(order)
+}
+
+/// The classes and arities.
+fn order(alloc: Global) -> Result<Order, OrderFault> {
+    let mut order = early_order(alloc)?;
+    order.add_arity(alloc, Name(11), Vec::new(alloc), Name(8))?;
     Ok(order)
 }
 
@@ -189,14 +206,13 @@ fn typs(alloc: Global) -> Result<Vec<Constant>, Fail> {
     Ok(entries)
 }
 
-pub(crate) fn make_theory(alloc: Global) -> Result<Theory, Fail> {
+fn make_over(alloc: Global, order: Order) -> Result<Theory, Fail> {
     let classes = make_written(alloc, &CLASSES)?;
     let cons = make_written(alloc, &CONS)?;
     let consts = make_written(alloc, &CONSTS)?;
     let names = make_written(alloc, &NAMES)?;
     let counts = counts(alloc)?;
     let typs = typs(alloc)?;
-    let order = order(alloc)?;
     Ok(Theory {
         classes,
         cons,
@@ -206,6 +222,17 @@ pub(crate) fn make_theory(alloc: Global) -> Result<Theory, Fail> {
         typs,
         order,
     })
+}
+
+pub(crate) fn make_theory(alloc: Global) -> Result<Theory, Fail> {
+    let order = order(alloc)?;
+    make_over(alloc, order)
+}
+
+/// The theory before the arity of A.i.
+pub(crate) fn make_early_theory(alloc: Global) -> Result<Theory, Fail> {
+    let order = early_order(alloc)?;
+    make_over(alloc, order)
 }
 
 impl Language for Theory {

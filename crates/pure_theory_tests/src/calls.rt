@@ -43,7 +43,7 @@ static ROWS: [(&[u8], u32, &[u8], &[u8]); 27] = [
 ];
 
 /// Whether the theory has so many declarations.
-fn has_count(theory: &Theory, count: u32) -> bool {
+pub(crate) fn has_count(theory: &Theory, count: u32) -> bool {
     let last = count.saturating_sub(1);
     theory.decl_at(last).is_some() && theory.decl_at(count).is_none()
 }

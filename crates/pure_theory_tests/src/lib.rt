@@ -2,12 +2,20 @@
 #![tactic(auto)]
 
 #[cfg(test)]
+mod ancestors;
+#[cfg(test)]
+mod begins;
+#[cfg(test)]
 mod calls;
 #[cfg(test)]
 mod definitions;
+#[cfg(test)]
+mod instances;
 #[cfg(test)]
 mod lookups;
 #[cfg(test)]
 mod notation;
 #[cfg(test)]
 mod promises;
+#[cfg(test)]
+mod sessions;

@@ -12,7 +12,7 @@ ghost use Rattle.pure_logic.specs.PureContent.{proposition_variable};
 ghost use Rattle.std.specs.Prelude.{◌≡◌};
 
 use pure_term::{Name, Sort, Term, TermNode, Typ, TypNode};
-use pure_theory::{DeclFault, Theory};
+use pure_theory::{DeclFault, Stage, Theory};
 use std::alloc::{AllocError, Global};
 
 /// The name that the byte stands for.
@@ -89,14 +89,22 @@ pub(crate) fn variable(alloc: Global) -> Term
 }
 
 /// Declares a constant of type prop.
-fn declare_const(alloc: Global, theory: &Theory, name: Name) -> Result<Theory, DeclFault> {
+pub(crate) fn declare_const(
+    alloc: Global,
+    theory: &Theory,
+    name: Name,
+) -> Result<Theory, DeclFault> {
     theory.content_is_sound();
     let typ = prop(alloc);
     theory.declare_const(name, &typ)
 }
 
 /// Declares an axiom that states `?A`.
-fn declare_axiom(alloc: Global, theory: &Theory, name: Name) -> Result<Theory, DeclFault> {
+pub(crate) fn declare_axiom(
+    alloc: Global,
+    theory: &Theory,
+    name: Name,
+) -> Result<Theory, DeclFault> {
     theory.content_is_sound();
     let term = variable(alloc);
     theory.declare_axiom(name, &term)
@@ -151,15 +159,30 @@ fn count_of(text: &[u8]) -> u32 {
     }
 }
 
-/// The theory with the declarations of a text.
-pub(crate) fn declared(alloc: Global, text: &[u8]) -> Result<Theory, DeclFault> {
-    let mut theory = Theory::pure(alloc)?;
+/// The theory with the declarations of a text more.
+pub(crate) fn declared_over(
+    alloc: Global,
+    first: Theory,
+    text: &[u8],
+) -> Result<Theory, DeclFault> {
+    let mut theory = first;
     for word in text.split(|byte| *byte == b' ') {
         if word.len() > 1 {
             theory = declare(alloc, &theory, word)?;
         }
     }
     Ok(theory)
+}
+
+/// The theory with the declarations of a text.
+pub(crate) fn declared(alloc: Global, text: &[u8]) -> Result<Theory, DeclFault> {
+    let pure = Theory::pure(alloc)?;
+    declared_over(alloc, pure, text)
+}
+
+/// The theory behind a pointer.
+pub(crate) fn shared(alloc: Global, theory: Theory) -> Result<Stage, DeclFault> {
+    Ok(pure_stage::shared(alloc, theory)?)
 }
 
 /// Whether the refusal is the written one.

@@ -1,5 +1,5 @@
 //! A promise, a theorem that rests on it, and theories to which that is handed on.
-use crate::notation::{declare, name, variable};
+use crate::notation::{declare, name, shared, variable};
 use pure_rules::promise;
 use pure_term::{Label, Name};
 use pure_theory::{Cthm, Decl, DeclFault, Stage, Theory, TransferFault};
@@ -9,17 +9,17 @@ use std::sync::Arc;
 use std::test::Fail;
 
 /// The label of the promise.
-const LABEL: Label = Label {
+pub(crate) const LABEL: Label = Label {
     theory: 1,
     command: 2,
     part: 0,
 };
 
-/// Pure with a promise that states `?A`.
-fn promised(alloc: Global) -> Result<Theory, DeclFault> {
+/// Pure with a promise of this name that states `?A`.
+pub(crate) fn promised(alloc: Global, name: Name) -> Result<Theory, DeclFault> {
     let pure = Theory::pure(alloc)?;
     pure.content_is_sound();
-    pure.declare_promise(name(b'p'), LABEL, &variable(alloc))
+    pure.declare_promise(name, LABEL, &variable(alloc))
 }
 
 /// The theorem of the promise.
@@ -39,6 +39,18 @@ fn is_handed_on(theorem: &Cthm, to: &Stage) -> bool {
     }
 }
 
+/// Whether a copy of the theorem is of the same theory, and is handed on as well.
+fn is_copied(theorem: &Cthm, to: &Stage) -> bool {
+    match theorem.copy() {
+        Ok(copy) => {
+            copy.thm().prop == theorem.thm().prop
+                && copy.stage().promise_prop(LABEL).is_some()
+                && is_handed_on(&copy, to)
+        }
+        Err(_) => false,
+    }
+}
+
 /// Why the theorem isn't handed on to the theory.
 fn fault_of(theorem: &Cthm, to: &Stage) -> Option<TransferFault> {
     theorem.transfer(to).err()
@@ -51,15 +63,10 @@ fn is_taken(alloc: Global, theory: &Theory) -> bool {
     taken && theory.promise_prop(LABEL).is_some() && theory.promise_prop(other).is_none()
 }
 
-/// The theory behind a pointer.
-fn shared(alloc: Global, theory: Theory) -> Result<Stage, DeclFault> {
-    Ok(pure_stage::shared(alloc, theory)?)
-}
-
 /// Whether a theorem of the promise is handed on to the theory of the promise and to one that has more, and not to Pure, which lacks the promise.
 fn is_transferred(alloc: Global) -> Result<bool, DeclFault> {
     let pure = shared(alloc, Theory::pure(alloc)?)?;
-    let first = promised(alloc)?;
+    let first = promised(alloc, name(b'p'))?;
     let more = shared(alloc, declare(alloc, &first, b"f.")?)?;
     let taken = is_taken(alloc, &first);
     let stage = shared(alloc, first)?;
@@ -76,6 +83,7 @@ fn is_transferred(alloc: Global) -> Result<bool, DeclFault> {
         taken
             && is_handed_on(&theorem, &stage)
             && is_handed_on(&theorem, &more)
+            && is_copied(&theorem, &more)
             && fault_of(&theorem, &pure) == Some(missing),
     )
 }
@@ -83,5 +91,8 @@ fn is_transferred(alloc: Global) -> Result<bool, DeclFault> {
 #[test]
 fn promises(rt: HostRuntime) -> Result<(), Fail> {
     assert!(rt; is_transferred(rt.alloc()) == Ok(true));
+    // Pure has an axiom of this name.
+    let taken = promised(rt.alloc(), Name::PROTECT).err();
+    assert!(rt; taken == Some(DeclFault::Duplicate));
     Ok(())
 }
