@@ -94,6 +94,12 @@ none_fresh_more index from (u ∷ us) (suc i) t h e k l =
     let next : suc i + 1 ≡ suc (i + 1) = omega arith in
     rw next (k.0, none_fresh_more index from us i t (omega arith) e k.1 l)
 
+-- A type with fresh variables, among types.
+pub some_fresh : (index from : ℕ) (ts : List Typ) (i : ℕ) (t : Typ) → i < length ts → t ≡ get_or ts i t → ¬ HasNoFresh index from t → ¬ HaveNoFresh index from (typs_of ts)
+some_fresh index from [] i t h e n k = absurd (omega arith)
+some_fresh index from (u ∷ us) zero t h e n k = n (subst (HasNoFresh index from) (sym e) k.0)
+some_fresh index from (u ∷ us) (suc i) t h e n k = some_fresh index from us i t (omega arith) e n k.1
+
 -- Gathering, as far as a loop has come.
 pub gather_turn : (settings : List Setting) (ss : List node.Setting) (i : ℕ) (item : Setting) (list made : List Term) → EachTwo IsSetting settings ss → i < length settings → item ≡ get_or settings i item
     → gathered [] ss ≡ gathered list (drop i ss) → ((s : node.Setting) → IsSetting item s → made ≡ gathered list (s ∷ [])) → gathered [] ss ≡ gathered made (drop (i + 1) ss)
@@ -112,7 +118,7 @@ pub gather_typs : (typs : List TypBind) (list made : List Term) (setting : Setti
 gather_typs typs list made setting e h s k = by s (subst (λ (x : Setting). IsSetting x s) e k)
   where
     by : (s : node.Setting) → IsSetting (OfTyps typs) s → made ≡ gathered list (s ∷ [])
-    by (Typs sets) w = h ∙ map-same (retyped_variable (typ_image typs)) (retyped_variable (composed sets)) (variable_same sets typs w) list
+    by (Typs sets) w = h ∙ map-same (retyped_variable (typ_image typs)) (retyped_variable (composed sets)) (variable_same sets typs w.0) list
     by (Single b) w = absurd w
 
 -- A front that is taken, as far as a loop has come.

@@ -96,7 +96,7 @@ pub answer_for_typs : (map : List TypBind) (t : Term) (r : Result Term NormFault
 answer_for_typs map t r h setting e s k = by s (subst (λ (x : Setting). IsSetting x s) e k)
   where
     by : (s : node.Setting) → IsSetting (OfTyps map) s → IsSideAnswer (with_setting s t) r
-    by (Typs sets) w = typs_answer map sets t r w h
+    by (Typs sets) w = typs_answer map sets t r w.0 h
     by (Single b) w = absurd w
 
 pub answer_for_term : (map : List TermBind) (t : Term) (r : Result Term NormFault) → IsSideAnswer (inst_term (term_image map) t) r → (setting : Setting) → setting ≡ OfTerm map → (s : node.Setting) → IsSetting setting s → IsSideAnswer (with_setting s t) r

@@ -1,6 +1,6 @@
 -- Steps on types.
 use Rattle.std.proofs.Common.{◌≡◌, ◌⊎◌, ℕ, ◌+◌, ◌≤◌, List, [], ◌∷◌, ◌++◌, Bool, true, false, true≢false, inl, inr, refl, ap, sym, subst, ◌∙◌}
-use Rattle.std.specs.Prelude.{Option, Some, None, Result, Ok, Err, MatchBool}
+use Rattle.std.specs.Prelude.{Option, Some, None, Result, Ok, Err, IfOk, IfSome, MatchBool}
 use Rattle.pure_text.specs.Lists.{IsIn, Each, EachTwo}
 use Rattle.pure_definitions.specs.Types.Typ.{Typ, TFree, TVar, Con, Typs, none, also}
 use Rattle.pure_definitions.specs.Types.Order.{Algebra}
@@ -28,7 +28,7 @@ use Rattle.pure_unify_steps.specs.Held.{IsSetting}
 use Rattle.pure_unify_steps.specs.declared.retype.Retyping.{Retyping}
 use Rattle.pure_unify_steps.specs.Gathered.{gathered}
 use Rattle.pure_unify_steps.specs.Old.{HasNoFresh, HaveNoFresh}
-use Rattle.pure_unify_steps.specs.Retyped.{IsTyping, IsPutAnswer, IsApartAnswer, GoesOn, IsRetypingAnswer}
+use Rattle.pure_unify_steps.specs.Retyped.{IsTyping, IsPutAnswer, ArePut, IsApartAnswer, GoesOn, IsRetypingAnswer}
 use Rattle.pure_unify_steps.proofs.GatherLaws.{list_in_node, node_in_list, same_elsewhere, same_written, same_settings}
 
 mutual
@@ -82,6 +82,12 @@ retyping A maxidx from n T U map next r e h a = by r a
     by (Err Memory) a = tt
     by (Err Big) a = side_stops unifies a.0 a.1
     by (Err Steps) a = side_stops unifies a.0 a.1
+
+pub retyping_put : (A : Algebra) (index from : ℕ) (T U : Typ) (ps : List Pair) (map : List TypBind) (next : ℕ) (r : Result (Option Retyping) NormFault) → (h : AreUnified A index from (typs.pair T U ∷ []) map next)
+    → IfOk r (λ o. IfSome o (λ s. AreLong (with_setting_put (OfSets h.sets) ps) (AllLong s.pairs.items))) → IfOk r (λ o. IfSome o (λ s. ArePut A index from T U ps s.pairs.items))
+retyping_put A index from T U ps map next (Ok (Some s)) h a = record { sets = h.sets; next = next; unifies = h.unifies; long = a }
+retyping_put A index from T U ps map next (Ok None) h a = tt
+retyping_put A index from T U ps map next (Err fault) h a = tt
 
 pub retyping_none : (A : Algebra) (maxidx from : ℕ) (n : node.Node) (T U : Typ) → from ≡ n.path.fresh → IsTyping A (maxidx + 65) from T U (Ok None) → IsRetyped A maxidx n T U Fails
 retyping_none A maxidx from n T U e h = no_typing (subst (λ (k : ℕ). Unifies A (maxidx + 65) 0 k [] (typs.pair T U ∷ []) (NotTyped h.0)) e h.1)

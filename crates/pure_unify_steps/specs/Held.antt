@@ -2,7 +2,7 @@
 use Rattle.std.specs.Prelude.{◌≡◌, List, [], ◌∷◌}
 use Rattle.pure_text.specs.Lists.{EachTwo}
 use Rattle.pure_definitions.specs.Terms.Subst.{AreTypeRespecting}
-use Rattle.pure_tunify.specs.Working.{IsWritten}
+use Rattle.pure_tunify.specs.Working.{IsWrittenInOrder}
 use Rattle.pure_logic.specs.Derivable.{Pair}
 use Rattle.pure_unify_definitions.specs.Fronts.{pair}
 use Rattle.pure_unify_definitions.specs.Node as node
@@ -12,9 +12,9 @@ use Rattle.pure_unify_steps.specs.declared.node.Setting.TheVariants.{OfTyps, OfT
 use Rattle.pure_unify_steps.specs.declared.node.Path.{Path}
 use Rattle.pure_unify_steps.specs.declared.node.Node.{Node}
 
--- The setting is held as this one: the type variables that it sets, each written with its image under the later ones; or its entry.
+-- The setting is held as this one: the type variables that it sets, in order, each written with its image under the later ones; or its entry.
 abbrev pub IsSetting : Setting → node.Setting → Type 0
-IsSetting (OfTyps map) (Typs sets) = IsWritten sets map
+IsSetting (OfTyps map) (Typs sets) = IsWrittenInOrder sets map
 IsSetting (OfTerm map) (Single bind) = map ≡ bind ∷ []
 IsSetting _ _ = ⊥
 

@@ -6,7 +6,7 @@ use Rattle.pure_definitions.specs.Terms.Subst.{TypBind}
 use Rattle.pure_norm.specs.declared.fault.NormFault.{NormFault}
 use Rattle.pure_norm.specs.declared.fault.NormFault.TheVariants.{Steps, Big, Memory}
 use Rattle.pure_tunify.specs.Steps as typs
-use Rattle.pure_tunify.specs.Procedure.{NotTyped, TooBig, Unifies}
+use Rattle.pure_tunify.specs.Procedure.{Unified, NotTyped, TooBig, Unifies}
 use Rattle.pure_tunify.specs.Answers.{AreUnified}
 use Rattle.pure_tunify.specs.Settings.{composed}
 use Rattle.pure_logic.specs.Derivable.{Pair}
@@ -31,6 +31,13 @@ IsTyping A index from T U (Err Memory) = Unit {0}
 abbrev pub IsPutAnswer : List Pair → (sets : List TypBind) → (next : ℕ) → Result Retyping NormFault → Type 0
 IsPutAnswer ps sets next (Ok r) = IsSetting r.setting (Typs sets) × (r.next ≡ next) × AreLong (with_setting_put (Typs sets) ps) (AllLong r.pairs.items)
 IsPutAnswer ps sets next (Err fault) = IsSidesFault (with_setting_put (Typs sets) ps) fault
+
+-- The types are unified, and the second pairs are the first with the unifier put in, in long form.
+pub record ArePut (A : Algebra) (index from : ℕ) (T U : Typ) (ps qs : List Pair) : Type 0 where
+  pub sets : List TypBind
+  pub next : ℕ
+  pub unifies : Unifies A index 0 from [] (typs.pair T U ∷ []) (Unified sets next)
+  pub long : AreLong (with_setting_put (Typs sets) ps) (AllLong qs)
 
 -- So do those of a node, unless two of its variables become the same.
 abbrev pub IsApartAnswer : node.Node → (sets : List TypBind) → (next : ℕ) → Result (Option Retyping) NormFault → Type 0

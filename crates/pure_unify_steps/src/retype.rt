@@ -1,16 +1,16 @@
 //! Steps on types: two types are unified, and the unifier is put into a node.
-ghost use Rattle.std.specs.Prelude.{◌≡◌, ◌+◌, ◌<◌, ◌^◌, ◌∷◌, [], List, IfOk, IfSome};
-ghost use Rattle.std.specs.Bool.{OnTrue};
+ghost use Rattle.std.specs.Prelude.{◌≡◌, ◌+◌, ◌<◌, ◌^◌, ◌∷◌, [], List, IfOk, IfSome, MatchBool};
 ghost use Rattle.pure_text.specs.Lists.{Each};
 ghost use Rattle.pure_definitions.specs.Types.Typ.{typs_of};
 ghost use Rattle.pure_definitions.specs.Terms.Subst.{TypBind};
 ghost use Rattle.pure_tunify.specs.Steps as typs_steps;
-ghost use Rattle.pure_tunify.specs.Working.{IsWritten};
+ghost use Rattle.pure_tunify.specs.Working.{IsWrittenInOrder};
+ghost use Rattle.pure_unify_definitions.specs.LongSides.{AllLong, AreLong};
 ghost use Rattle.pure_unify_definitions.specs.Node as node;
 ghost use Rattle.pure_unify_steps.specs.Held.{IsPath};
 ghost use Rattle.pure_unify_steps.specs.Long.{IsLongPair};
 ghost use Rattle.pure_unify_steps.specs.Old.{HasNoFresh, HaveNoFresh};
-ghost use Rattle.pure_unify_steps.specs.Retyped.{IsTyping, IsPutAnswer, IsApartAnswer, IsRetypingAnswer};
+ghost use Rattle.pure_unify_steps.specs.Retyped.{IsTyping, IsPutAnswer, ArePut, IsApartAnswer, IsRetypingAnswer};
 
 use crate::gather::makes_same;
 use crate::node::{Path, Setting};
@@ -33,7 +33,7 @@ pub struct Retyping {
 /// Whether the type has no fresh variables.
 #[cycle(is_old)]
 fn is_old(t: &Typ, index: u32, from: u32) -> bool
-    ensures { OnTrue result (HasNoFresh index from t.now) }
+    ensures { MatchBool result (HasNoFresh index from t.now) (¬ HasNoFresh index from t.now) }
 {
     match &t.node {
         TypNode::TFree { .. } => true,
@@ -49,7 +49,7 @@ fn is_old(t: &Typ, index: u32, from: u32) -> bool
 /// Whether the types have no fresh variables.
 #[cycle(is_old)]
 fn are_old(types: &[Typ], index: u32, from: u32) -> bool
-    ensures { OnTrue result (HaveNoFresh index from (typs_of types.now)) }
+    ensures { MatchBool result (HaveNoFresh index from (typs_of types.now)) (¬ HaveNoFresh index from (typs_of types.now)) }
 {
     for typ in types {
         if !is_old(typ, index, from) {
@@ -102,7 +102,7 @@ fn unified(
 /// The pairs with the map put in.
 fn put_map(alloc: Global, pairs: &[Pair], map: TypMap, next: u32) -> Result<Retyping, NormFault>
     requires { Each IsLongPair pairs.now }
-    ensures answer { (sets : List TypBind) → IsWritten sets map → IsPutAnswer pairs.now sets next result }
+    ensures answer { (sets : List TypBind) → IsWrittenInOrder sets map → IsPutAnswer pairs.now sets next result }
     ensures long { IfOk result (λ r. Each IsLongPair r.pairs.items) }
 {
     let setting = Setting::OfTyps(map);
@@ -125,7 +125,8 @@ fn put_apart(
     next: u32,
 ) -> Result<Option<Retyping>, NormFault>
     requires { Each IsLongPair pairs.now }
-    ensures answer { (n : node.Node) → pairs.now ≡ n.pairs → IsPath path.now n.path → (sets : List TypBind) → IsWritten sets map → IsApartAnswer n sets next result }
+    ensures answer { (n : node.Node) → pairs.now ≡ n.pairs → IsPath path.now n.path → (sets : List TypBind) → IsWrittenInOrder sets map → IsApartAnswer n sets next result }
+    ensures put { (sets : List TypBind) → IsWrittenInOrder sets map → IfOk result (λ o. IfSome o (λ r. AreLong (node.with_setting_put (node.Typs sets) pairs.now) (AllLong r.pairs.items))) }
     ensures long { IfOk result (λ o. IfSome o (λ r. Each IsLongPair r.pairs.items)) }
 {
     match makes_same(alloc, &map, pairs, &path.settings) {
@@ -150,6 +151,7 @@ pub fn retype_pairs(
     requires long { Each IsLongPair pairs.now }
     requires room { maxidx + 66 < 2 ^ 32 }
     ensures answer { (n : node.Node) → pairs.now ≡ n.pairs → IsPath path.now n.path → IsRetypingAnswer order.now maxidx n typs.now.0 typs.now.1 result }
+    ensures put { IfOk result (λ o. IfSome o (λ r. ArePut order.now (maxidx + 65) path.now.fresh typs.now.0 typs.now.1 pairs.now r.pairs.items)) }
     ensures long { IfOk result (λ o. IfSome o (λ r. Each IsLongPair r.pairs.items)) }
 {
     match unified(alloc, order, &typs.0, &typs.1, maxidx + 65, path.fresh) {

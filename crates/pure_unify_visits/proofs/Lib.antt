@@ -1,0 +1,4 @@
+pub mod ListLaws
+pub mod AlikeLaws
+pub mod ScanLaws
+pub mod TurnLaws
