@@ -1,1 +1,5 @@
 pub mod AnswerLaws
+pub mod ExtraLaws
+pub mod RuleLaws
+pub mod UnfoldingLaws
+pub mod GivenLaws

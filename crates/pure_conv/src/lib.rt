@@ -2,7 +2,11 @@
 #![tactic(auto)]
 
 mod fault;
+mod matching;
+mod rule;
 mod simple;
+mod unfolding;
 
 pub use fault::ConvFault;
 pub use simple::{abs_conv, all_conv, comb_conv, then_conv};
+pub use unfolding::unfold;

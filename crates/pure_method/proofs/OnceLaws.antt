@@ -1,0 +1,259 @@
+-- One value comes of a proof.
+use Rattle.std.proofs.Common.{◌≡◌, ◌⊎◌, ℕ, ◌+◌, List, [], ◌∷◌, map, inl, inr, refl, ap, sym, subst, ◌∙◌}
+use Rattle.std.specs.Prelude.{Result, Ok, Err}
+use Rattle.pure_text.specs.Lists.{IsIn}
+use Rattle.pure_text.proofs.ListLaws.{none_in, each_of}
+use Rattle.pure_definitions.specs.Names.{Label}
+use Rattle.pure_definitions.specs.Types.Order.{Algebra}
+use Rattle.pure_definitions.specs.Terms.Term.{Term}
+use Rattle.pure_definitions.specs.Models.Comparison.{term_cmp}
+use Rattle.pure_definitions.specs.Declarations.Decl.{algebra_of}
+use Rattle.pure_grammar.specs.Theories.TheoryText.{Step, Rule, Erule, Drule, Assumption, Unfold, Prefer, Defer, Close, Done}
+use Rattle.pure_order_tables.specs.Classes.{IsAntisymmetric}
+use Rattle.pure_logic.specs.Connectives.{protect}
+use Rattle.pure_logic.specs.Content.{Content, IsContent}
+use Rattle.pure_logic.specs.Derivable.{Pair, Theorem}
+use Rattle.pure_theorem.specs.Sets.{IsSetOf}
+use Rattle.pure_theorem.specs.Within.{AreWithin}
+use Rattle.pure_lookup.specs.Laws.{IsInSession}
+use Rattle.pure_unfold.proofs.UnfoldLaws.{unfolds-once, unfolds-something}
+use Rattle.pure_pairs.specs.Smash.{with_constants, fresh_variable, IsWithConstants, Smashes}
+use Rattle.pure_fates.proofs.LabelSets.{set_once}
+use Rattle.pure_goal_steps.specs.State.{State, theorem_of}
+use Rattle.pure_goal_steps.specs.Follows.{Outcome}
+use Rattle.pure_goal_steps.specs.Steps.{BeginsAs, RuleStep, EliminationStep, DestructionStep, ConversionStep, EndsAs}
+use Rattle.pure_goal_steps.specs.declared.fault.StepFault.{StepFault}
+use Rattle.pure_goal_steps.proofs.FollowsLaws.{becomes-once}
+use Rattle.pure_goal_steps.proofs.OneOutcomeLaws.{rule_once, elimination_once, destruction_once, assumption_once, prefer_once, defer_once, conversion_once}
+use Rattle.pure_method.specs.Facts.{AreNamed}
+use Rattle.pure_method.specs.Unfolding.{IsSmallEquation, TakesFact, ComesByFacts, UnfoldStep, chained_equation}
+use Rattle.pure_method.specs.Proof.{ByFacts, WithOne, Gives, Closes, ProofFault, ProofOutcome, Ending, Proved, Failed, Ends, IsProof}
+use Rattle.pure_method.proofs.FactLaws.{all_found-once, all_found-known}
+
+ok-same : {A E : Type 0} (x y : A) → ◌≡◌ {A = Result A E} (Ok x) (Ok y) → x ≡ y
+ok-same x y e = cc
+
+not-both : {A E : Type 0} (x : A) (f : E) → ◌≡◌ {A = Result A E} (Ok x) (Err f) → ⊥
+not-both x f e = cc
+
+err-same : {A E : Type 0} (f g : E) → ◌≡◌ {A = Result A E} (Err f) (Err g) → f ≡ g
+err-same f g e = cc
+
+-- What is smashed, of a theorem without hypotheses.
+no-hyps : (th : Theorem) (f : Term → Term) (hyps : List Term) → th.hyps ≡ [] → IsSetOf term_cmp (map f th.hyps) hyps → hyps ≡ []
+no-hyps th f hyps e set = none_in hyps (each_of (λ A. IsIn A []) hyps (λ A m. subst (λ (As : List Term). IsIn A (map f As)) e ((set.members A).0 m)))
+
+some-pair : (p : Pair) (ps qs : List Pair) → qs ≡ [] → qs ≡ p ∷ ps → ⊥
+some-pair p ps qs e d = absurd (cc)
+
+pairs-same : (p q : Pair) (ps qs : List Pair) → p ∷ ps ≡ q ∷ qs → (p ≡ q) × (ps ≡ qs)
+pairs-same p q ps qs e = (cc, cc)
+
+with-once : (th : Theorem) (p q : Pair) (ps qs : List Pair) (next other : Theorem) → th.hyps ≡ [] → p ≡ q → ps ≡ qs → IsWithConstants p (fresh_variable th p) ps th next → IsWithConstants q (fresh_variable th q) qs th other → next ≡ other
+with-once th p q ps qs next other none e d h k =
+    let moved : IsWithConstants p (fresh_variable th p) ps th other = subst (λ (rs : List Pair). IsWithConstants p (fresh_variable th p) rs th other) (sym d) (subst (λ (r : Pair). IsWithConstants r (fresh_variable th r) qs th other) (sym e) k) in
+    let hyps : next.hyps ≡ other.hyps = no-hyps th (with_constants p (fresh_variable th p)) next.hyps none h.hyps ∙ sym (no-hyps th (with_constants p (fresh_variable th p)) other.hyps none moved.hyps) in
+    let pairs : next.pairs ≡ other.pairs = h.are_pairs ∙ sym moved.are_pairs in
+    let prop : next.prop ≡ other.prop = h.prop ∙ sym moved.prop in
+    let rests : next.rests ≡ other.rests = h.rests ∙ sym moved.rests in
+    λ i. record { hyps = hyps i; pairs = pairs i; prop = prop i; rests = rests i }
+
+smash-once : (th a b : Theorem) → th.hyps ≡ [] → Smashes th a → Smashes th b → a ≡ b
+smash-once th a b none (Smashes.no_pair e) (Smashes.no_pair d) = refl
+smash-once th a b none (Smashes.no_pair e) (Smashes.trivial {p = q} {ps = qs} d g r) = absurd (some-pair q qs th.pairs e d)
+smash-once th a b none (Smashes.no_pair e) (Smashes.constants {p = q} {ps = qs} d g k r) = absurd (some-pair q qs th.pairs e d)
+smash-once th a b none (Smashes.trivial {p = p} {ps = ps} e g r) (Smashes.no_pair d) = absurd (some-pair p ps th.pairs d e)
+smash-once th a b none (Smashes.trivial {p = p} {ps = ps} e g r) (Smashes.trivial {p = q} {ps = qs} d h t) =
+    let same = pairs-same p q ps qs (sym e ∙ d) in
+    smash-once (record th { pairs = ps }) a b none r (subst (λ (rs : List Pair). Smashes (record th { pairs = rs }) b) (sym same.1) t)
+smash-once th a b none (Smashes.trivial {p = p} {ps = ps} e g r) (Smashes.constants {p = q} {ps = qs} d differ k t) =
+    let same = pairs-same p q ps qs (sym e ∙ d) in
+    absurd (differ (subst (λ (x : Pair). x.left ≡ x.right) same.0 g))
+smash-once th a b none (Smashes.constants {p = p} {ps = ps} e differ k r) (Smashes.no_pair d) = absurd (some-pair p ps th.pairs d e)
+smash-once th a b none (Smashes.constants {p = p} {ps = ps} e differ k r) (Smashes.trivial {p = q} {ps = qs} d g t) =
+    let same = pairs-same p q ps qs (sym e ∙ d) in
+    absurd (differ (subst (λ (x : Pair). x.left ≡ x.right) (sym same.0) g))
+smash-once th a b none (Smashes.constants {next = next} {p = p} {ps = ps} e differ k r) (Smashes.constants {next = other} {p = q} {ps = qs} d unlike h t) =
+    let same = pairs-same p q ps qs (sym e ∙ d) in
+    let nexts : next ≡ other = with-once th p q ps qs next other none same.0 same.1 k h in
+    smash-once next a b (no-hyps th (with_constants p (fresh_variable th p)) next.hyps none k.hyps) r (subst (λ (n : Theorem). Smashes n b) (sym nexts) t)
+
+no-subgoal : (A : Term) (As Bs : List Term) → Bs ≡ [] → Bs ≡ A ∷ As → ⊥
+no-subgoal A As Bs e d = absurd (cc)
+
+marks-same : (A B : Term) → protect A ≡ protect B → A ≡ B
+marks-same A B e = cc
+
+ends_as-once : (s : State) (one other : Result Theorem StepFault) → EndsAs s one → EndsAs s other → one ≡ other
+ends_as-once s one other (EndsAs.subgoals_left e) (EndsAs.subgoals_left d) = refl
+ends_as-once s one other (EndsAs.subgoals_left {A = A} {others = As} e) (EndsAs.large d m w) = absurd (no-subgoal A As s.subgoals d e)
+ends_as-once s one other (EndsAs.subgoals_left {A = A} {others = As} e) (EndsAs.proved d m w p) = absurd (no-subgoal A As s.subgoals d e)
+ends_as-once s one other (EndsAs.large e m w) (EndsAs.subgoals_left {A = A} {others = As} d) = absurd (no-subgoal A As s.subgoals e d)
+ends_as-once s one other (EndsAs.large e m w) (EndsAs.large d k v) = refl
+ends_as-once s one other (EndsAs.large {smashed = a} e m w) (EndsAs.proved {smashed = b} d k v p) =
+    absurd (w (subst AreWithin (smash-once (theorem_of s []) b a refl k m) v))
+ends_as-once s one other (EndsAs.proved e m w p) (EndsAs.subgoals_left {A = A} {others = As} d) = absurd (no-subgoal A As s.subgoals e d)
+ends_as-once s one other (EndsAs.proved {smashed = a} e m w p) (EndsAs.large {smashed = b} d k v) =
+    absurd (v (subst AreWithin (smash-once (theorem_of s []) a b refl m k) w))
+ends_as-once s one other (EndsAs.proved {smashed = a} {C = C} e m w p) (EndsAs.proved {smashed = b} {C = D} d k v r) =
+    let same = smash-once (theorem_of s []) a b refl m k in
+    let marks : protect C ≡ protect D = sym p ∙ ap (λ (th : Theorem). th.prop) same ∙ r in
+    let inside : C ≡ D = marks-same C D marks in
+    λ i. Ok (record (same i) { prop = inside i })
+
+-- What facts come to.
+module _ (A : Algebra) (first : Term) where
+  takes-once : (now : Term) (fact : Theorem) (one other : Result Term StepFault) → TakesFact A first now fact one → TakesFact A first now fact other → one ≡ other
+  takes-once now fact one other (TakesFact.no_definition h) (TakesFact.no_definition k) = refl
+  takes-once now fact one other (TakesFact.no_definition h) (TakesFact.nothing k) = absurd (h k.name k.typ k.body k.definition)
+  takes-once now fact one other (TakesFact.no_definition h) (TakesFact.large k w) = absurd (h k.name k.typ k.body k.definition)
+  takes-once now fact one other (TakesFact.no_definition h) (TakesFact.unfolded k w v) = absurd (h k.name k.typ k.body k.definition)
+  takes-once now fact one other (TakesFact.nothing h) (TakesFact.no_definition k) = absurd (k h.name h.typ h.body h.definition)
+  takes-once now fact one other (TakesFact.nothing h) (TakesFact.nothing k) = refl
+  takes-once now fact one other (TakesFact.nothing h) (TakesFact.large {u = u} k w) = absurd (unfolds-something A fact.prop now u k h)
+  takes-once now fact one other (TakesFact.nothing h) (TakesFact.unfolded {u = u} k w v) = absurd (unfolds-something A fact.prop now u k h)
+  takes-once now fact one other (TakesFact.large h w) (TakesFact.no_definition k) = absurd (k h.name h.typ h.body h.definition)
+  takes-once now fact one other (TakesFact.large {u = u} h w) (TakesFact.nothing k) = absurd (unfolds-something A fact.prop now u h k)
+  takes-once now fact one other (TakesFact.large h w) (TakesFact.large k v) = refl
+  takes-once now fact one other (TakesFact.large {u = u} h w) (TakesFact.unfolded {u = v} k x y) = absurd (small u v (unfolds-once A fact.prop now u v h k) w x y)
+    where
+      small : (u v : Term) → u ≡ v → (¬ IsSmallEquation now u) ⊎ (¬ IsSmallEquation first u) → IsSmallEquation now v → IsSmallEquation first v → ⊥
+      small u v e (inl big) x y = big (subst (λ (t : Term). IsSmallEquation now t) (sym e) x)
+      small u v e (inr big) x y = big (subst (λ (t : Term). IsSmallEquation first t) (sym e) y)
+  takes-once now fact one other (TakesFact.unfolded h w v) (TakesFact.no_definition k) = absurd (k h.name h.typ h.body h.definition)
+  takes-once now fact one other (TakesFact.unfolded {u = u} h w v) (TakesFact.nothing k) = absurd (unfolds-something A fact.prop now u h k)
+  takes-once now fact one other (TakesFact.unfolded {u = u} h w x) (TakesFact.large {u = v} k (inl big)) = absurd (big (subst (λ (t : Term). IsSmallEquation now t) (unfolds-once A fact.prop now u v h k) w))
+  takes-once now fact one other (TakesFact.unfolded {u = u} h w x) (TakesFact.large {u = v} k (inr big)) = absurd (big (subst (λ (t : Term). IsSmallEquation first t) (unfolds-once A fact.prop now u v h k) x))
+  takes-once now fact one other (TakesFact.unfolded {u = u} h w x) (TakesFact.unfolded {u = v} k y z) = ap Ok (unfolds-once A fact.prop now u v h k)
+
+  comes-once : (now : Term) (facts : List Theorem) (one other : Result Term StepFault) → ComesByFacts A first now facts one → ComesByFacts A first now facts other → one ≡ other
+  comes-once now [] one other ComesByFacts.no_more ComesByFacts.no_more = refl
+  comes-once now (fact ∷ facts) one other (ComesByFacts.fails {f = f} h) (ComesByFacts.fails {f = g} k) =
+      ap Err (err-same f g (takes-once now fact (Err f) (Err g) h k))
+  comes-once now (fact ∷ facts) one other (ComesByFacts.fails {f = f} h) (ComesByFacts.goes_on {u = u} k rest) = absurd (not-both u f (takes-once now fact (Ok u) (Err f) k h))
+  comes-once now (fact ∷ facts) one other (ComesByFacts.goes_on {u = u} h rest) (ComesByFacts.fails {f = f} k) = absurd (not-both u f (takes-once now fact (Ok u) (Err f) h k))
+  comes-once now (fact ∷ facts) one other (ComesByFacts.goes_on {u = u} h rest) (ComesByFacts.goes_on {u = v} k more) =
+      let same : v ≡ u = ok-same v u (takes-once now fact (Ok v) (Ok u) k h) in
+      comes-once u facts one other rest (subst (λ (t : Term). ComesByFacts A first t facts other) same more)
+
+firsts-same : (A B : Term) (As Bs Cs : List Term) → Cs ≡ A ∷ As → Cs ≡ B ∷ Bs → B ≡ A
+firsts-same A B As Bs Cs e d = let same : A ∷ As ≡ B ∷ Bs = sym e ∙ d in cc
+
+unfold-once : (A : Algebra) (s : State) (facts : List Theorem) (one other : Outcome) → UnfoldStep A s facts one → UnfoldStep A s facts other → one ≡ other
+unfold-once A s facts one other (UnfoldStep.no_subgoal e) (UnfoldStep.no_subgoal d) = refl
+unfold-once A s facts one other (UnfoldStep.no_subgoal e) (UnfoldStep.refused {first = first} {others = others} d c) = absurd (no-subgoal first others s.subgoals e d)
+unfold-once A s facts one other (UnfoldStep.no_subgoal e) (UnfoldStep.converted {first = first} {others = others} d c k) = absurd (no-subgoal first others s.subgoals e d)
+unfold-once A s facts one other (UnfoldStep.refused {first = first} {others = others} d c) (UnfoldStep.no_subgoal e) = absurd (no-subgoal first others s.subgoals e d)
+unfold-once A s facts one other (UnfoldStep.refused {first = first} {others = As} {f = f} d c) (UnfoldStep.refused {first = second} {others = Bs} {f = g} e h) =
+    let same : second ≡ first = firsts-same first second As Bs s.subgoals d e in
+    ap Err (err-same f g (comes-once A first first facts (Err f) (Err g) c (subst (λ (t : Term). ComesByFacts A t t facts (Err g)) same h)))
+unfold-once A s facts one other (UnfoldStep.refused {first = first} {others = As} {f = f} d c) (UnfoldStep.converted {first = second} {last = last} {others = Bs} e h k) =
+    let same : second ≡ first = firsts-same first second As Bs s.subgoals d e in
+    absurd (not-both last f (comes-once A first first facts (Ok last) (Err f) (subst (λ (t : Term). ComesByFacts A t t facts (Ok last)) same h) c))
+unfold-once A s facts one other (UnfoldStep.converted {first = first} {others = others} d c k) (UnfoldStep.no_subgoal e) = absurd (no-subgoal first others s.subgoals e d)
+unfold-once A s facts one other (UnfoldStep.converted {first = first} {last = last} {others = As} e h k) (UnfoldStep.refused {first = second} {others = Bs} {f = f} d c) =
+    let same : second ≡ first = firsts-same first second As Bs s.subgoals e d in
+    absurd (not-both last f (comes-once A first first facts (Ok last) (Err f) h (subst (λ (t : Term). ComesByFacts A t t facts (Err f)) same c)))
+unfold-once A s facts one other (UnfoldStep.converted {first = first} {last = last} {others = As} e h k) (UnfoldStep.converted {first = second} {last = end} {others = Bs} d c l) =
+    let same : second ≡ first = firsts-same first second As Bs s.subgoals e d in
+    let ends : end ≡ last = ok-same end last (comes-once A first first facts (Ok end) (Ok last) (subst (λ (t : Term). ComesByFacts A t t facts (Ok end)) same c) h) in
+    conversion_once s (chained_equation first last facts) one other k
+    (subst (λ (t : Term). ConversionStep s (chained_equation first t facts) other) ends (subst (λ (t : Term). ConversionStep s (chained_equation t end facts) other) same l))
+
+-- A step, the closing of subgoals, and all steps.
+module _ (texts : List (List ℕ)) (Q : Content) (session : IsInSession texts Q) (q : IsContent Q) (anti : IsAntisymmetric (algebra_of Q.declarations)) where
+  by_facts-once : (With : List Theorem → Outcome → Type 0) → ((facts : List Theorem) (one other : Outcome) → With facts one → With facts other → one ≡ other) → (written : List (List ℕ)) (one other : Outcome)
+      → ByFacts texts Q With written one → ByFacts texts Q With written other → one ≡ other
+  by_facts-once With once written one other (ByFacts.unknown h) (ByFacts.unknown k) = refl
+  by_facts-once With once written one other (ByFacts.unknown h) (ByFacts.known {facts = facts} f k) = absurd (all_found-known texts Q written facts f h)
+  by_facts-once With once written one other (ByFacts.known {facts = facts} f k) (ByFacts.unknown h) = absurd (all_found-known texts Q written facts f h)
+  by_facts-once With once written one other (ByFacts.known {facts = facts} f h) (ByFacts.known {facts = more} g k) =
+      once facts one other h (subst (λ (ths : List Theorem). With ths other) (all_found-once texts Q session q written more facts g f) k)
+
+  with_one-once : (With : Theorem → Outcome → Type 0) → ((fact : Theorem) (one other : Outcome) → With fact one → With fact other → one ≡ other) → (facts : List Theorem) (one other : Outcome) → WithOne With facts one → WithOne With facts other → one ≡ other
+  with_one-once With once facts one other h k =
+      let same : h.0 ∷ [] ≡ k.0 ∷ [] = sym h.1 ∙ k.1 in
+      let fact : k.0 ≡ h.0 = cc in
+      once h.0 one other h.2 (subst (λ (th : Theorem). With th other) fact k.2)
+
+  gives-once : (step : Step) (s : State) (one other : Outcome) → Gives texts Q step s one → Gives texts Q step s other → one ≡ other
+  gives-once (Rule fact) s = by_facts-once (WithOne (RuleStep (algebra_of Q.declarations) s)) (with_one-once (RuleStep (algebra_of Q.declarations) s) (rule_once (algebra_of Q.declarations) anti s)) (fact ∷ [])
+  gives-once (Erule fact) s = by_facts-once (WithOne (EliminationStep (algebra_of Q.declarations) s)) (with_one-once (EliminationStep (algebra_of Q.declarations) s) (elimination_once (algebra_of Q.declarations) anti s)) (fact ∷ [])
+  gives-once (Drule fact) s = by_facts-once (WithOne (DestructionStep (algebra_of Q.declarations) s)) (with_one-once (DestructionStep (algebra_of Q.declarations) s) (destruction_once (algebra_of Q.declarations) anti s)) (fact ∷ [])
+  gives-once (Unfold facts) s = by_facts-once (UnfoldStep (algebra_of Q.declarations) s) (unfold-once (algebra_of Q.declarations) s) facts
+  gives-once Assumption s = assumption_once (algebra_of Q.declarations) anti s
+  gives-once (Prefer n) s = prefer_once s n
+  gives-once Defer s = defer_once s
+  gives-once Close s = λ one other h k. absurd h
+  gives-once Done s = λ one other h k. absurd h
+
+  closes-once : (s one other : State) → Closes (algebra_of Q.declarations) s one → Closes (algebra_of Q.declarations) s other → one ≡ other
+  closes-once s one other (Closes.stops h) (Closes.stops k) = refl
+  closes-once s one other (Closes.stops {f = f} h) (Closes.goes_on {next = next} k rest) = absurd (not-both next f (assumption_once (algebra_of Q.declarations) anti s (Ok next) (Err f) k h))
+  closes-once s one other (Closes.goes_on {next = next} k rest) (Closes.stops {f = f} h) = absurd (not-both next f (assumption_once (algebra_of Q.declarations) anti s (Ok next) (Err f) k h))
+  closes-once s one other (Closes.goes_on {next = next} h rest) (Closes.goes_on {next = then} k more) =
+      let same : then ≡ next = ok-same then next (assumption_once (algebra_of Q.declarations) anti s (Ok then) (Ok next) k h) in
+      closes-once next one other rest (subst (λ (x : State). Closes (algebra_of Q.declarations) x other) same more)
+
+  -- the fault of the step of this number
+  abbrev at : ℕ → StepFault → Ending
+  at number f = Failed (record { step = number; fault = f })
+
+  ends-once : (number : ℕ) (s : State) (steps : List Step) (one other : Ending) → Ends texts Q number s steps one → Ends texts Q number s steps other → one ≡ other
+  ends-once number s steps one other (Ends.finished h) (Ends.finished k) = refl
+  ends-once number s steps one other (Ends.finished {th = th} h) (Ends.unfinished {f = f} k) = absurd (not-both th f (ends_as-once s (Ok th) (Err f) h k))
+  ends-once number s steps one other (Ends.finished h) (Ends.refused k) = absurd k
+  ends-once number s steps one other (Ends.finished h) (Ends.goes_on k rest) = absurd k
+  ends-once number s steps one other (Ends.unfinished {f = f} k) (Ends.finished {th = th} h) = absurd (not-both th f (ends_as-once s (Ok th) (Err f) h k))
+  ends-once number s steps one other (Ends.unfinished {f = f} h) (Ends.unfinished {f = g} k) = ap (at number) (err-same f g (ends_as-once s (Err f) (Err g) h k))
+  ends-once number s steps one other (Ends.unfinished h) (Ends.refused k) = absurd k
+  ends-once number s steps one other (Ends.unfinished h) (Ends.goes_on k rest) = absurd k
+  ends-once number s steps one other (Ends.closed {next = next} {steps = left} h rest) (Ends.closed {next = then} k more) =
+      let same = closes-once s then next k h in
+      ends-once number next left one other rest (subst (λ (x : State). Ends texts Q number x left other) same more)
+  ends-once number s steps one other (Ends.closed h rest) (Ends.refused k) = absurd k
+  ends-once number s steps one other (Ends.closed h rest) (Ends.goes_on k more) = absurd k
+  ends-once number s steps one other (Ends.refused h) (Ends.finished k) = absurd h
+  ends-once number s steps one other (Ends.refused h) (Ends.unfinished k) = absurd h
+  ends-once number s steps one other (Ends.refused h) (Ends.closed k more) = absurd h
+  ends-once number s steps one other (Ends.refused {step = step} {f = f} h) (Ends.refused {f = g} k) = ap (at number) (err-same f g (gives-once step s (Err f) (Err g) h k))
+  ends-once number s steps one other (Ends.refused {step = step} {f = f} h) (Ends.goes_on {next = next} k more) = absurd (not-both next f (gives-once step s (Ok next) (Err f) k h))
+  ends-once number s steps one other (Ends.goes_on h rest) (Ends.finished k) = absurd h
+  ends-once number s steps one other (Ends.goes_on h rest) (Ends.unfinished k) = absurd h
+  ends-once number s steps one other (Ends.goes_on h rest) (Ends.closed k more) = absurd h
+  ends-once number s steps one other (Ends.goes_on {next = next} {step = step} h rest) (Ends.refused {f = f} k) = absurd (not-both next f (gives-once step s (Ok next) (Err f) h k))
+  ends-once number s steps one other (Ends.goes_on {next = next} {step = step} {steps = left} h rest) (Ends.goes_on {next = then} k more) =
+      let same : then ≡ next = ok-same then next (gives-once step s (Ok then) (Ok next) k h) in
+      ends-once (number + 1) next left one other rest (subst (λ (x : State). Ends texts Q (number + 1) x left other) same more)
+
+  begins-same : (statement : Term) (s other : State) → BeginsAs statement (Ok s) → BeginsAs statement (Ok other) → other ≡ s
+  begins-same statement s other h k = ok-same other s (becomes-once _ (Ok other) (Ok s) k h)
+
+  begins-both : (statement : Term) (s : State) (f : StepFault) → BeginsAs statement (Ok s) → BeginsAs statement (Err f) → ⊥
+  begins-both statement s f h k = not-both s f (becomes-once _ (Ok s) (Err f) h k)
+
+  faults-same : (f g : ProofFault) → Failed f ≡ Failed g → f ≡ g
+  faults-same f g e = cc
+
+  never-both : (f : ProofFault) → Failed f ≡ Proved → ⊥
+  never-both f e = cc
+
+  labels-once : (script : List Step) (ls ms : List Label) → AreNamed texts Q script ls → AreNamed texts Q script ms → ls ≡ ms
+  labels-once script ls ms h k = set_once ls ms h.ascend k.ascend (λ l. (λ m. (k.exactly l).1 ((h.exactly l).0 m), λ m. (h.exactly l).1 ((k.exactly l).0 m)))
+
+  pub proof-once : (statement : Term) (script : List Step) (one other : ProofOutcome) → IsProof texts Q statement script one → IsProof texts Q statement script other → one ≡ other
+  proof-once statement script one other (IsProof.not_begun h) (IsProof.not_begun k) = refl
+  proof-once statement script one other (IsProof.not_begun {f = f} h) (IsProof.failed {s = s} b e) = absurd (begins-both statement s f b h)
+  proof-once statement script one other (IsProof.not_begun {f = f} h) (IsProof.proved {s = s} b e n) = absurd (begins-both statement s f b h)
+  proof-once statement script one other (IsProof.failed {s = s} b e) (IsProof.not_begun {f = f} h) = absurd (begins-both statement s f b h)
+  proof-once statement script one other (IsProof.failed {s = s} {f = f} b e) (IsProof.failed {s = t} {f = g} c d) =
+      let same = begins-same statement s t b c in
+      ap Err (faults-same f g (ends-once 1 s script (Failed f) (Failed g) e (subst (λ (x : State). Ends texts Q 1 x script (Failed g)) same d)))
+  proof-once statement script one other (IsProof.failed {s = s} {f = f} b e) (IsProof.proved {s = t} c d n) =
+      let same = begins-same statement s t b c in
+      absurd (never-both f (ends-once 1 s script (Failed f) Proved e (subst (λ (x : State). Ends texts Q 1 x script Proved) same d)))
+  proof-once statement script one other (IsProof.proved {s = s} b e n) (IsProof.not_begun {f = f} h) = absurd (begins-both statement s f b h)
+  proof-once statement script one other (IsProof.proved {s = s} b e n) (IsProof.failed {s = t} {f = f} c d) =
+      let same = begins-same statement s t b c in
+      absurd (never-both f (ends-once 1 s script (Failed f) Proved (subst (λ (x : State). Ends texts Q 1 x script (Failed f)) same d) e))
+  proof-once statement script one other (IsProof.proved {labels = ls} b e n) (IsProof.proved {labels = ms} c d m) = ap Ok (labels-once script ls ms n m)

@@ -1,0 +1,5 @@
+pub mod Facts
+pub mod Unfolding
+pub mod Proof
+pub mod Laws
+pub mod Examples

@@ -1,0 +1,3 @@
+pub mod Replaced
+pub mod Unfold
+pub mod Laws
