@@ -60,7 +60,7 @@ outcome_map G H R S f g (Err Steps) h = f (Err Steps) h
 outcome_map G H R S f g (Err NoHypothesis) h = f (Err NoHypothesis) h
 outcome_map G H R S f g (Err SubgoalsLeft) h = f (Err SubgoalsLeft) h
 
-theorem-same : (s : State) (th : Theorem) → IsTheoremOf s th → theorem_of s th.rests ≡ th
+pub theorem-same : (s : State) (th : Theorem) → IsTheoremOf s th → theorem_of s th.rests ≡ th
 theorem-same s th is = λ i. record { hyps = sym is.hyps i; pairs = sym is.same_pairs i; prop = sym is.prop i; rests = th.rests }
 
 -- A sound outcome is derivable.

@@ -108,7 +108,7 @@ start_big : (C : Term) → ComesTo C (Ends sides.Big) → BeginsAs C (Err Big)
 start_big C f = first-stops (record { statement = C; subgoals = C ∷ []; pairs = [] }) C [] sides.Big refl f
 
 -- The goal's first subgoal is the equation's left side.
-equated-first : (th equation : Theorem) (g : IsGoalTheorem th) (e : IsEquationFor th equation) → g.state.subgoals ≡ e.left ∷ e.others
+pub equated-first : (th equation : Theorem) (g : IsGoalTheorem th) (e : IsEquationFor th equation) → g.state.subgoals ≡ e.left ∷ e.others
 equated-first th equation g e = (chain_once g.state.subgoals e.state.subgoals g.state.statement e.state.statement (sym g.is.prop ∙ e.is.prop)).0 ∙ e.stand
 
 sides-same : (T U : Typ) (A B C D : Term) → eq T A B ≡ eq U C D → B ≡ D
