@@ -1,12 +1,11 @@
 -- Prefixes as the program holds them, read and built.
-use Rattle.std.proofs.Common.{◌≡◌, ◌≢◌, ℕ, ◌+◌, ◌<◌, List, [], ◌∷◌, ◌++◌, map, length, Result, Ok, Err, IfOk, refl, ap, sym, subst, ◌∙◌, arith, append_assoc}
+use Rattle.std.proofs.Common.{◌≡◌, ◌≢◌, ◌<◌, List, [], ◌∷◌, ◌++◌, length, refl, ap, sym, ◌∙◌, arith, append_assoc}
 use Rattle.pure_definitions.specs.Types.Typ.{Typ}
 use Rattle.pure_definitions.specs.Terms.Term.{Term, Abs}
 use Rattle.pure_definitions.specs.Terms.Typing.{node_count}
 use Rattle.pure_logic.specs.Connectives.{all, all_of, imp}
 use Rattle.pure_theorem.specs.Shapes.{IsNoQuantification, IsNoImplication}
 use Rattle.pure_goal_laws.specs.Prefix.{Item, Parameter, Hypothesis, behind}
-use Rattle.pure_goal_steps.specs.Reading.{IsConclusion, IsRead}
 use Rattle.pure_goal_rules.specs.Shown.{IsNoQuantified, IsReadBehind}
 
 pub shorter : {X : Type 0} (xs : List X) (y : X) (ys : List X) → xs ≡ y ∷ ys → length ys < length xs

@@ -1,5 +1,5 @@
 -- Facts as rules: variables put for quantified ones, and fronts stripped.
-use Rattle.std.proofs.Common.{◌≡◌, ◌≢◌, ◌⊎◌, ℕ, ◌+◌, ◌-◌, ◌<◌, ◌≤◌, Bool, true, false, List, [], ◌∷◌, ◌++◌, Result, Ok, Err, IfOk, inl, inr, refl, ap, sym, subst, ◌∙◌, arith, append_assoc}
+use Rattle.std.proofs.Common.{◌≡◌, ◌≢◌, ℕ, ◌+◌, ◌-◌, ◌<◌, ◌≤◌, Bool, true, false, List, [], ◌∷◌, ◌++◌, Result, Ok, Err, IfOk, refl, ap, sym, subst, ◌∙◌, arith, append_assoc}
 use Rattle.std.specs.Prelude.{if◌then◌else◌, nat_lt, nat_eq}
 use Rattle.std.proofs.lemmas.Bool.Decides.{nat_tests}
 use Rattle.pure_definitions.specs.Types.Typ.{Typ}
@@ -14,7 +14,7 @@ use Rattle.pure_logic.specs.Derivable.{Theorem}
 use Rattle.pure_logic.specs.Laws.Maps.{raised_typs, raised_terms}
 use Rattle.pure_theorem.specs.Shapes.{IsNoImplication}
 use Rattle.pure_goal_steps.specs.State.{greatest_index}
-use Rattle.pure_goal_steps.specs.Reading.{IsConclusion, Strips, bare, quantified, supposed, IsRuleOf}
+use Rattle.pure_goal_steps.specs.Reading.{Strips, bare, quantified, supposed, IsRuleOf}
 use Rattle.pure_goal_rules.specs.Shown.{IsNoQuantified}
 use Rattle.pure_goal_rules.specs.Rules.{IsStrippedOn}
 

@@ -1,5 +1,5 @@
 -- Attempts as the program holds them.
-use Rattle.std.specs.Prelude.{List, map}
+use Rattle.std.specs.Prelude.{List}
 use Rattle.pure_definitions.specs.Terms.Term.{Term}
 use Rattle.pure_goal_laws.specs.Prefix.{Item, behind}
 use Rattle.pure_goal_laws.specs.Lifting.{lifted_behind}

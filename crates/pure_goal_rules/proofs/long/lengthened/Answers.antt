@@ -1,5 +1,4 @@
-use Rattle.std.proofs.Common.{false, [], sym, subst}
-use Rattle.pure_definitions.specs.Terms.Term.{Term}
+use Rattle.std.proofs.Common.{sym, subst}
 use Rattle.pure_definitions.specs.Reduction.Eta.{IsLongForm}
 use Rattle.pure_eta.proofs.LongLaws.{long_form-is}
 use Rattle.pure_goal_rules.proofs.long.lengthened.Goals as goal
