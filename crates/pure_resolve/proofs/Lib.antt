@@ -1,3 +1,5 @@
 pub mod ChainLaws
 pub mod AnswerLaws
 pub mod StepLaws
+pub mod EndLaws
+pub mod CallLaws

@@ -1,11 +1,12 @@
 -- Goals as theorems, and what calls on them answer.
-use Rattle.std.specs.Prelude.{◌≡◌, List, [], ◌∷◌, Result, Ok, Err}
+use Rattle.std.specs.Prelude.{◌≡◌, List, [], ◌∷◌, ◌++◌, Result, Ok, Err}
 use Rattle.pure_definitions.specs.Names.{Label}
 use Rattle.pure_definitions.specs.Types.Typ.{Typ, prop}
 use Rattle.pure_definitions.specs.Terms.Term.{Term, IsWithin}
 use Rattle.pure_definitions.specs.Terms.Typing.{HasType}
 use Rattle.pure_logic.specs.Connectives.{eq}
 use Rattle.pure_logic.specs.Derivable.{Pair, Theorem, IsUnderPairs}
+use Rattle.pure_theorem.specs.Sets.{label_cmp, IsSetOf}
 use Rattle.pure_theorem.specs.Shapes.{IsTyped}
 use Rattle.pure_unify_definitions.specs.LongSides as sides
 use Rattle.pure_unify_definitions.specs.LongSides.{Long, Ends, ComesTo}
@@ -45,6 +46,11 @@ IsConcluded pairs A rests (Ok new) = (new.thm ≡ record { hyps = []; pairs = pa
 IsConcluded pairs A rests (Err Big) = (q : Term) × IsUnderPairs pairs A q × (¬ IsWithin q)
 IsConcluded pairs A rests (Err Memory) = Unit {0}
 IsConcluded pairs A rests (Err fault) = ⊥
+
+-- The goal of the theorem's pairs and this proposition, which rests on what the theorem and the fact rest on, within the limits; or `Big`; or `Memory`.
+abbrev pub IsUnited : (th fact : Theorem) → Term → Result Goal StepFault → Type 0
+IsUnited th fact A (Err Memory) = Unit {0}
+IsUnited th fact A result = (rests : List Label) × IsSetOf label_cmp (th.rests ++ fact.rests) rests × IsConcluded th.pairs A rests result
 
 -- The long form of a subgoal, or the stop to which it comes; or `Memory`.
 abbrev pub IsLongSubgoal : Term → Result Term StepFault → Type 0

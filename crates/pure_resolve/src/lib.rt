@@ -3,8 +3,12 @@
 
 mod begin;
 mod close;
+mod convert;
+mod end;
+pub mod laws;
 mod limits;
 mod open;
+mod reorder;
 mod state;
 
 pub use begin::start;

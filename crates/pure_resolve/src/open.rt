@@ -1,8 +1,9 @@
 //! A goal's proposition taken apart: its subgoals, and the marked statement.
-ghost use Rattle.std.specs.Prelude.{◌≡◌, ◌++◌, List, IfOk};
+ghost use Rattle.std.specs.Prelude.{◌≡◌, ◌∷◌, ◌++◌, List, IfOk};
 ghost use Rattle.pure_definitions.specs.Terms.Term as tree;
-ghost use Rattle.pure_logic.specs.Connectives.{chain, protect};
+ghost use Rattle.pure_logic.specs.Connectives.{imp, chain, protect};
 
+use crate::begin::single;
 use pure_term::Term;
 use pure_theorem::as_implication;
 use std::alloc::{AllocError, Global};
@@ -31,5 +32,18 @@ pub fn opened(alloc: Global, t: &Term) -> Result<Parts, AllocError>
 {
     let mut subgoals = Vec::new(alloc);
     let marked = put_premises(alloc, t, &mut subgoals)?;
+    Ok(Parts { subgoals, marked })
+}
+
+/// The subgoals and the marked statement of a goal's proposition, with this subgoal in place of the first.
+pub fn opened_with(alloc: Global, t: &Term, first: Term) -> Result<Parts, AllocError>
+    requires { (A : tree.Term) × (B : tree.Term) × (t.now ≡ imp A B) }
+    ensures { (A : tree.Term) → (others : List tree.Term) → (C : tree.Term) → t.now ≡ chain (A ∷ others) (protect C) → IfOk result (λ o. (o.subgoals.items ≡ first ∷ others) × (o.marked ≡ protect C)) }
+{
+    let Some((_, rest)) = as_implication(t) else {
+        unreachable!();
+    };
+    let mut subgoals = single(alloc, first)?;
+    let marked = put_premises(alloc, rest, &mut subgoals)?;
     Ok(Parts { subgoals, marked })
 }

@@ -1,0 +1,3 @@
+pub mod PrefixLaws
+pub mod RuleLaws
+pub mod AttemptLaws

@@ -1,0 +1,8 @@
+use Rattle.std.proofs.Common.{◌≡◌, ◌∷◌, length, ap, arith}
+use Rattle.pure_goal_rules.proofs.lifting.+function_typ.Goals as goal
+
+pub function_typ-requires : goal.function_typ-requires
+function_typ-requires t c =
+    let e : c.args.items.now ≡ c.in-Some.first.now ∷ c.in-Some.rest.now = c.in-Some.ensures.cases.0 in
+    let counted = ap length e in
+    (omega (arith, counted), tt)

@@ -1,0 +1,21 @@
+//! Subgoals read, facts as rules, and attempts to make a step on a subgoal.
+#![tactic(auto)]
+
+mod attempt;
+mod build;
+mod index;
+mod item;
+mod lifting;
+mod long;
+mod raising;
+mod read;
+mod rule;
+mod standing;
+mod stripping;
+
+pub use attempt::{
+    Attempt, Eliminator, assumption_attempt, destruction_attempt, elimination_attempt, rule_attempt,
+};
+pub use item::{Item, Spot};
+pub use read::{Parts, read_proposition};
+pub use rule::{Rule, greatest_index, rule_index, rule_of};

@@ -1,0 +1,79 @@
+-- What calls on goals ask of each other.
+use Rattle.std.proofs.Common.{◌≡◌, ◌≢◌, ℕ, ◌-◌, ◌<◌, ◌≤◌, List, [], ◌∷◌, ◌++◌, length, Result, Err, IfOk, refl, ap, sym, subst, ◌∙◌, arith}
+use Rattle.pure_text.specs.Lists.{IsIn, Each}
+use Rattle.pure_text.proofs.ListLaws.{in-append_left, in-append_right}
+use Rattle.pure_definitions.specs.Names.{Label}
+use Rattle.pure_definitions.specs.Types.Typ.{Typ}
+use Rattle.pure_definitions.specs.Terms.Term.{Term}
+use Rattle.pure_definitions.specs.Terms.Limits.{cut_off}
+use Rattle.pure_logic.specs.Connectives.{eq, protect, chain}
+use Rattle.pure_logic.specs.Content.{Content}
+use Rattle.pure_logic.specs.Derivable.{Pair, Theorem, IsDerivable}
+use Rattle.pure_theorem.specs.Facts.{IsTheoryContent}
+use Rattle.pure_theorem.specs.Sets.{label_cmp, IsSetOf}
+use Rattle.pure_unify_definitions.specs.LongSides.{Long, ComesTo}
+use Rattle.pure_goal_steps.specs.State.{State, IsTheoremOf}
+use Rattle.pure_goal_steps.specs.Steps.{PreferStep, DeferStep, ConversionStep}
+use Rattle.pure_goal_steps.specs.Derivability.{IsSound}
+use Rattle.pure_goal_steps.specs.declared.fault.StepFault.{StepFault}
+use Rattle.pure_goal_steps.specs.declared.fault.StepFault.TheVariants.{NoSubgoal, Memory}
+use Rattle.pure_goal_steps.proofs.SoundLaws.{preferred_is_sound, deferred_is_sound, converted_is_sound}
+use Rattle.pure_resolve.specs.Goals.{IsGoalTheorem, IsLeftTyped, IsUnited, IsStep, IsEquationFor}
+use Rattle.pure_resolve.specs.declared.state.Goal.{Goal}
+use Rattle.pure_resolve.proofs.AnswerLaws.{left-typed, step_derivable}
+use Rattle.pure_resolve.proofs.StepLaws.{convert_answer, equated-first}
+
+pub goal_left_typed : (th : Theorem) → IsGoalTheorem th → Each IsLeftTyped th.pairs
+goal_left_typed th g = subst (λ (ps : List Pair). Each IsLeftTyped ps) (sym g.is.same_pairs) (left-typed g.state.pairs g.goal.left_pairs)
+
+pub too_few : (th : Theorem) (g : IsGoalTheorem th) (n count : ℕ) → n < 4294967296 → ((s : State) → IsTheoremOf s th → count ≡ cut_off (length s.subgoals)) → count < n → length g.state.subgoals < n
+too_few th g n count fits h l = let counted = h g.state g.is in omega (arith, counted, l, fits)
+
+none-of : (As : List Term) → cut_off (length As) ≡ 0 → As ≡ []
+none-of [] e = refl
+none-of (A ∷ As) e = absurd (omega arith)
+
+pub defer_none : (th : Theorem) (g : IsGoalTheorem th) (count : ℕ) → ((s : State) → IsTheoremOf s th → count ≡ cut_off (length s.subgoals)) → count ≡ 0 → IsStep DeferStep th (λ rests. rests ≡ th.rests) (Err NoSubgoal)
+defer_none th g count h e = (g.state, g.is, g.goal, DeferStep.no_subgoal (none-of g.state.subgoals (sym (h g.state g.is) ∙ e)))
+
+-- What the calls derive.
+pub prefer_derivable : (Q : Content) (th : Theorem) (n : ℕ) (result : Result Goal StepFault) → IsStep (λ s. PreferStep s n) th (λ rests. rests ≡ th.rests) result → IsTheoryContent Q → IsDerivable Q th → IfOk result (λ goal. IsDerivable Q goal.thm)
+prefer_derivable Q th n result h q d =
+    step_derivable Q (λ s. PreferStep s n) (λ rests. rests ≡ th.rests) th
+    (λ s t rests sound f e. subst (λ (r : List Label). IsSound Q r t) (sym e) (preferred_is_sound Q q.content q.above_pure s t n th.rests sound f)) result h d
+
+pub defer_derivable : (Q : Content) (th : Theorem) (result : Result Goal StepFault) → IsStep DeferStep th (λ rests. rests ≡ th.rests) result → IsTheoryContent Q → IsDerivable Q th → IfOk result (λ goal. IsDerivable Q goal.thm)
+defer_derivable Q th result h q d =
+    step_derivable Q DeferStep (λ rests. rests ≡ th.rests) th
+    (λ s t rests sound f e. subst (λ (r : List Label). IsSound Q r t) (sym e) (deferred_is_sound Q q.content q.above_pure s t th.rests sound f)) result h d
+
+in-left : (l : Label) (xs ys all : List Label) → IsSetOf label_cmp (xs ++ ys) all → IsIn l xs → IsIn l all
+in-left l xs ys all s m = (s.members l).1 (in-append_left l xs ys m)
+
+in-right : (l : Label) (xs ys all : List Label) → IsSetOf label_cmp (xs ++ ys) all → IsIn l ys → IsIn l all
+in-right l xs ys all s m = (s.members l).1 (in-append_right l xs ys m)
+
+pub convert_derivable : (Q : Content) (th equation : Theorem) → IsEquationFor th equation → (result : Result Goal StepFault) → IsStep (λ s. ConversionStep s equation) th (IsSetOf label_cmp (th.rests ++ equation.rests)) result
+    → IsTheoryContent Q → IsDerivable Q th → IsDerivable Q equation → IfOk result (λ goal. IsDerivable Q goal.thm)
+convert_derivable Q th equation e result h q d k =
+    step_derivable Q (λ s. ConversionStep s equation) (IsSetOf label_cmp (th.rests ++ equation.rests)) th
+    (λ s t rests sound f u. converted_is_sound Q q.content q.above_pure s t equation th.rests rests sound e.no_hyps e.no_pairs k
+    (λ l m. in-left l th.rests equation.rests rests u m) (λ l m. in-right l th.rests equation.rests rests u m) f) result h d
+
+-- The converted goal, which rests on what both rest on.
+pub convert_united : (th equation : Theorem) (g : IsGoalTheorem th) (e : IsEquationFor th equation) (T : Typ) (l r : Term) → equation.prop ≡ eq T l r → (S : Term) → ComesTo r (Long S)
+    → (new : List Term) (marked : Term) → ((A : Term) (others : List Term) (C : Term) → th.prop ≡ chain (A ∷ others) (protect C) → (new ≡ S ∷ others) × (marked ≡ protect C))
+    → (result : Result Goal StepFault) → IsUnited th equation (chain new marked) result → IsStep (λ s. ConversionStep s equation) th (IsSetOf label_cmp (th.rests ++ equation.rests)) result
+convert_united th equation g e T l r is S comes new marked made (Err Memory) h = (g.state, g.is, g.goal, tt)
+convert_united th equation g e T l r is S comes new marked made result (rests, union, h) =
+    let prop : (A : Term) (others : List Term) → g.state.subgoals ≡ A ∷ others → th.prop ≡ chain (A ∷ others) (protect g.state.statement) = λ A others stand. g.is.prop ∙ ap (λ (As : List Term). chain As (protect g.state.statement)) stand in
+    let first = equated-first th equation g e in
+    convert_answer th equation g e T l r is S comes g.state.subgoals new refl (λ A others stand. (made A others g.state.statement (prop A others stand)).0)
+    th.pairs refl rests marked (made e.left e.others g.state.statement (prop e.left e.others first)).1 (IsSetOf label_cmp (th.rests ++ equation.rests)) union result h
+
+-- There is the subgoal that is asked for.
+pub enough : (As items : List Term) (n count : ℕ) → items ≡ As → count ≡ cut_off (length As) → n ≢ 0 → n ≤ count → n - 1 < length items
+enough As items n count e h some l = let same = ap length e in omega (arith, same, h, some, l)
+
+pub some_left : (As items : List Term) (count : ℕ) → items ≡ As → count ≡ cut_off (length As) → count ≢ 0 → 0 < length items
+some_left As items count e h some = let same = ap length e in omega (arith, same, h, some)
