@@ -163,7 +163,7 @@ module _ (A : Algebra) (index : ℕ) where
     pub all_within : (sets : List TypBind) → AreRooted (λ w. ¬ IsFresh index from w) sets → HasOldImagesWithin index from (composed sets) → HasImagesWithin sets
     all_within sets r old x i s = elim (set_or_not (TVar x i s) sets) [
       | inl m ↦ (let found = r (TVar x i s) m in subst IsWithinTyp (typ_instance-identity (composed sets (TVar x i s)))
-      (found.3 (λ v. v) (subst IsWithinTyp (sym (typ_instance-identity (composed sets found.0))) (root_within found.0 found.1 found.2))))
+          (found.3 (λ v. v) (subst IsWithinTyp (sym (typ_instance-identity (composed sets found.0))) (root_within found.0 found.1 found.2))))
       | inr absent ↦ subst IsWithinTyp (sym (composed-absent sets (TVar x i s) tt absent)) (record { size = omega arith; depth = omega arith })
     ]
       where
