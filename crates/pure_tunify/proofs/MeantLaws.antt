@@ -19,7 +19,7 @@ use Rattle.pure_tunify.specs.Asks.{IsMeet}
 use Rattle.pure_tunify.specs.Steps.{pair, setting, instance_pair, Asks, narrow, eliminate, occurs, sort, sort_left, IsReduction}
 use Rattle.pure_tunify.specs.Settings.{composed, bind, AreWithinLimits}
 use Rattle.pure_tunify.specs.Procedure.{place_of, IsSchematic, Shows, left_side, right_side, IsNeededSort, Narrows, fits, replace, IsTreated, IsBlocked, rigid, occurring, sortless, Equalises, equal, treat, Blocks, blocked, later, Outcome, Unifies, over, no_typing, big, next}
-use Rattle.pure_tunify.specs.ProcedureLaws.{AreNamesUsed, IsReached, Makes, made, make, HasOldImagesWithin, HaveLargeImage, IsWithinBefore, IsBeyond, IsMeant}
+use Rattle.pure_tunify.specs.ProcedureLaws.{AreNamesUsed, IsReached, Makes, made, make, HaveLargeImage, IsWithinBefore, IsBeyond, IsMeant}
 use Rattle.pure_tunify.proofs.ReductionLaws.{agree_unifier, reduction_along, stays, composed-append, equalised, blocks_unifiers}
 use Rattle.pure_tunify.proofs.NameLaws.{names_next, no_names}
 use Rattle.pure_tunify.proofs.RootLaws.{AreRooted, rooted_next, rooted_start, all_within, within_as_general}
