@@ -93,14 +93,14 @@ static SORTED: [(&[u8], Wanted); 19] = [
     (b"?'a:c, ?'b:d, ?'b:d, g/1 ?'a:c", Wanted::NoTyping(1)),
     (b"?'a:c, ?'b:d, g/1 ?'a:c, ?'b:d", Wanted::NoTyping(1)),
     (
-        b"?'a:c, ?'b:d, ?'e:s, ?'b:d, ?'a:c, g/1 ?'e:s",
+        b"?'a:c, ?'b:d, ?'v:s, ?'b:d, ?'a:c, g/1 ?'v:s",
         Wanted::NoTyping(2),
     ),
     // The greatest of both arities' domains, once for each of two variables of two sorts.
     (
-        b"?'a:c, g/1 ?'e, ?'b:d, g/1 ?'h",
+        b"?'a:c, g/1 ?'v, ?'b:d, g/1 ?'w",
         Wanted::Unifier(
-            b"?'e, ?'Pure.fun^1:c, ?'a:c, g/1 ?'Pure.fun^1:c, ?'h, ?'Pure.prop^1:s, ?'b:d, g/1 ?'Pure.prop^1:s",
+            b"?'v, ?'Pure.fun^1:c, ?'a:c, g/1 ?'Pure.fun^1:c, ?'w, ?'Pure.prop^1:s, ?'b:d, g/1 ?'Pure.prop^1:s",
         ),
     ),
     (

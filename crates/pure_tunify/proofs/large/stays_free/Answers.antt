@@ -1,4 +1,3 @@
-use Rattle.pure_tunify.specs.LargeTypes.{HasNoClasses}
 use Rattle.pure_tunify.proofs.LargeLaws.{on_true, free_answer, away_answer}
 use Rattle.pure_tunify.proofs.large.stays_free.Goals as goal
 
