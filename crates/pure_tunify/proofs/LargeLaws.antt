@@ -1,16 +1,15 @@
 -- A pair with a type that is too large to be written out passes the limits, where what is left of it has a unifier.
-use Rattle.std.proofs.Common.{◌≡◌, ◌≢◌, ℕ, ◌+◌, ◌≤◌, List, [], ◌∷◌, ◌++◌, map, Option, Some, None, inl, inr, ◌⊎◌, refl, ap, sym, subst, ◌∙◌, arith, append_assoc, Bool, true, false, cond, ◌↔◌, IsTrue, length, not}
-use Rattle.std.proofs.Math.Nat.{le_trans}
+use Rattle.std.proofs.Common.{◌≡◌, ◌≢◌, ℕ, ◌≤◌, List, [], ◌∷◌, ◌++◌, map, Option, Some, None, inl, inr, ◌⊎◌, refl, ap, sym, subst, ◌∙◌, arith, append_assoc, Bool, true, false, cond, ◌↔◌, IsTrue, length, take, take_all, not}
 use Rattle.std.specs.Prelude.{reverse, MatchBool}
 use Rattle.std.specs.Bool.{OnTrue}
 use Rattle.pure_text.specs.Lists.{IsIn, Each, AnyOf}
 use Rattle.pure_text.proofs.ListLaws.{any-append_left, any-append_right}
-use Rattle.pure_definitions.specs.Types.Typ.{Typ, TFree, TVar, Con, Typs, typs_of, typ_eq}
+use Rattle.pure_definitions.specs.Types.Typ.{Typ, TFree, TVar, Con, typs_of, typ_eq}
 use Rattle.pure_definitions.specs.Types.Occurs.{OccursInTyp, OccursInTyps}
 use Rattle.pure_definitions.specs.Types.Order.{Algebra, IsCoregular}
 use Rattle.pure_definitions.specs.Terms.Subst.{TypBind, typ_variable, typ_image, typ_instance}
 use Rattle.pure_definitions.specs.Terms.Limits.{IsWithinTyp}
-use Rattle.pure_definitions.specs.Models.Equality.{typ_eq-same, typ_eq-itself}
+use Rattle.pure_definitions.specs.Models.Equality.{typ_eq-same}
 use Rattle.pure_term_laws.specs.LawsOccurs.{IsTypVariable}
 use Rattle.pure_term_laws.proofs.OccursLaws.{typ_instances-agree, typ_variable_of_typ_instance}
 use Rattle.pure_term_laws.proofs.SubstLaws.{typ_instance-identity}
@@ -18,17 +17,17 @@ use Rattle.pure_term_laws.proofs.MapLaws.{typ_instance-again}
 use Rattle.pure_tunify.specs.declared.pair.TypPair.{TypPair}
 use Rattle.pure_tunify.specs.Unifiers.{IsSubstitution, Equates, IsUnifier, IsFresh, IsOld, IsOldPair}
 use Rattle.pure_tunify.specs.Steps.{pair, setting, instance_pair}
-use Rattle.pure_tunify.specs.Settings.{composed, bind, AreWithinLimits, Progress, IsTidy}
+use Rattle.pure_tunify.specs.Settings.{composed, AreWithinLimits, Progress, IsTidy}
 use Rattle.pure_tunify.specs.Procedure.{sooner, difference, place_of, IsSchematic, Equalises, Blocks}
-use Rattle.pure_tunify.specs.Working.{IsFurther, place_among, IsLeftOf, Pursues}
+use Rattle.pure_tunify.specs.Working.{place_among, Pursues}
 use Rattle.pure_tunify.specs.Meeting.{GoesOn, Stops, IsLargeAt, HasLargeHead}
 use Rattle.pure_tunify.specs.declared.meeting.Turned.{Turned}
 use Rattle.pure_tunify.specs.declared.meeting.Turned.TheVariants.{Further, Never, Large}
 use Rattle.pure_tunify.specs.LargeTypes.{HasNoClasses, Covers, IsReachedBy, IsSettled, IsSettling}
 use Rattle.pure_tunify.specs.Answers.{IsPassed, IsSolvable, IsSolvability}
 use Rattle.pure_tunify.proofs.MapLaws.{identity_is_substitution, after_is_substitution, setting_is_substitution, setting-itself, setting-other}
-use Rattle.pure_tunify.proofs.PlaceLaws.{IsPlaceOf, difference_is_place, no_difference, difference-itself}
-use Rattle.pure_tunify.proofs.SettingLaws.{instance-append, instance_pair-append, instance_pairs-identity, as_variable, composed-absent, instance-untouched, instance-old, old_pair-later, setting-new}
+use Rattle.pure_tunify.proofs.PlaceLaws.{difference_is_place, no_difference, difference-itself}
+use Rattle.pure_tunify.proofs.SettingLaws.{instance-append, as_variable, composed-absent, instance-new, instance-old, old_pair-later}
 use Rattle.pure_tunify.proofs.PursueLaws.{place_now, pursuit_starts, pursuit_ends, as_pair, pursued_as_pair, left_as_pair, left_place, right_place}
 use Rattle.pure_tunify.proofs.ReductionLaws.{agree_unifier, equalised, blocks_unifiers}
 use Rattle.pure_tunify.proofs.OutcomeLaws.{equalisable_or_blocked}
@@ -138,6 +137,24 @@ pub free_answer : (sets : List TypBind) (t v : Typ) (typs slice : List Typ) → 
     → OnTrue (not occurs) ((¬ IsIn v (map typ_variable sets)) × ¬ OccursInTyp v (typ_instance (composed sets) t))
 free_answer sets t v typs slice plain covers same true h absent = tt
 free_answer sets t v typs slice plain covers same false h absent = (absent (subst IsTypVariable (sym plain.is) tt), never_reached sets t v typs slice plain covers same h)
+
+pub on_true : (P : Type 0) (b : Bool) → OnTrue b P → b ≡ true → P
+on_true P b h e = subst (λ (c : Bool). OnTrue c P) e h
+
+-- The variable occurs in no image.
+pub in_no_image : (v : Typ) (sets items : List TypBind) (i : ℕ) → items ≡ sets → length items ≤ i → Each (λ b. ¬ OccursInTyp v b.image) (take i items) → Each (λ b. ¬ OccursInTyp v b.image) sets
+in_no_image v sets items i same full each = subst (Each (λ b. ¬ OccursInTyp v b.image)) (take_all i items full ∙ same) each
+
+-- A variable that is in no image is in a type with all set variables replaced where it is in the type.
+pub away_answer : (sets : List TypBind) (t v : Typ) → HasNoClasses v → Each (λ b. ¬ OccursInTyp v b.image) sets → (occurs : Bool) → (IsTrue occurs ↔ OccursInTyp v t) → (IsTypVariable v → ¬ IsIn v (map typ_variable sets))
+    → OnTrue (not occurs) ((¬ IsIn v (map typ_variable sets)) × ¬ OccursInTyp v (typ_instance (composed sets) t))
+away_answer sets t v plain images true h absent = tt
+away_answer sets t v plain images false h absent =
+    let is : IsTypVariable v = subst IsTypVariable (sym plain.is) tt in
+    (absent is, instance-new v is sets t images (λ o. false_true (h.1 o)))
+  where
+    false_true : false ≡ true → ⊥
+    false_true e = cc
 
 -- The rest is made equal, and the variable is set to the type.
 module _ (A : Algebra) (old new : Progress) (work : List TypPair) (v t : Typ) (tidy : IsTidy old) (olds : Each (IsOldPair old.index old.next) work) (h : IsSettled A old new work v t) where

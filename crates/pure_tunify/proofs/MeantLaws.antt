@@ -1,34 +1,24 @@
 -- What the outcomes of the procedure mean.
-use Rattle.std.proofs.Common.{◌≡◌, ◌≢◌, ℕ, ◌+◌, List, [], ◌∷◌, ◌++◌, map, length, take, Some, inl, inr, ◌⊎◌, ◌<◌, ◌≤◌, ◌^◌, refl, ap, sym, subst, ◌∙◌, arith, append_assoc}
+use Rattle.std.proofs.Common.{◌≡◌, ℕ, ◌+◌, List, [], ◌∷◌, ◌++◌, map, length, take, inl, inr, ◌⊎◌, ◌<◌, ◌≤◌, ◌^◌, refl, sym, subst, arith, append_assoc}
 use Rattle.std.proofs.lemmas.List.{append-nil, length-append}
 use Rattle.std.proofs.Math.Seq.{take-append_seam}
 use Rattle.pure_text.specs.Lists.{Each}
-use Rattle.pure_text.proofs.ListLaws.{each_of, each_at, any_of, each-left, each-right}
-use Rattle.pure_definitions.specs.Types.Typ.{Typ, TFree, TVar, Con, Typs, typs_count}
-use Rattle.pure_definitions.specs.Types.Occurs.{OccursInTyp}
-use Rattle.pure_definitions.specs.Types.Order.{Algebra, IsClassBelow, itself, HasClassBelow, IsOfClass, IsOfSort}
-use Rattle.pure_definitions.specs.Terms.Subst.{TypBind, typ_instance, typs_instance, KeepsFixedTyps}
-use Rattle.pure_definitions.proofs.OrderLaws.{sort_below-itself}
-use Rattle.pure_term_laws.specs.LawsOccurs.{IsTypVariable}
-use Rattle.pure_term_laws.proofs.OccursLaws.{typ_instances-agree}
+use Rattle.pure_text.proofs.ListLaws.{each-left, each-right}
+use Rattle.pure_definitions.specs.Types.Typ.{Typ}
+use Rattle.pure_definitions.specs.Types.Order.{Algebra}
+use Rattle.pure_definitions.specs.Terms.Subst.{TypBind, typ_instance}
 use Rattle.pure_term_laws.proofs.SubstLaws.{typ_instance-identity}
-use Rattle.pure_term_laws.proofs.MapLaws.{typ_instance-again, typs_count-instance}
 use Rattle.pure_tunify.specs.declared.pair.TypPair.{TypPair}
-use Rattle.pure_tunify.specs.Unifiers.{IsSubstitution, Equates, IsUnifier, IsFresh, IsOld, IsOldPair, IsMostGeneral}
-use Rattle.pure_tunify.specs.Asks.{IsMeet}
-use Rattle.pure_tunify.specs.Steps.{pair, setting, instance_pair, Asks, narrow, eliminate, occurs, sort, sort_left, IsReduction}
-use Rattle.pure_tunify.specs.Settings.{composed, bind, AreWithinLimits}
-use Rattle.pure_tunify.specs.Procedure.{place_of, IsSchematic, Shows, left_side, right_side, IsNeededSort, Narrows, fits, replace, IsTreated, IsBlocked, rigid, occurring, sortless, Equalises, equal, treat, Blocks, blocked, later, Outcome, Unifies, over, no_typing, big, next}
-use Rattle.pure_tunify.specs.ProcedureLaws.{AreNamesUsed, IsReached, Makes, made, make, HasOldImagesWithin, HaveLargeImage, IsWithinBefore, IsBeyond, IsMeant}
+use Rattle.pure_tunify.specs.Unifiers.{IsUnifier, IsFresh, IsOldPair, IsMostGeneral}
+use Rattle.pure_tunify.specs.Steps.{instance_pair, IsReduction}
+use Rattle.pure_tunify.specs.Settings.{composed, AreWithinLimits}
+use Rattle.pure_tunify.specs.Procedure.{Equalises, Blocks, Outcome, Unifies, over, no_typing, big, next}
+use Rattle.pure_tunify.specs.ProcedureLaws.{AreNamesUsed, IsReached, Makes, made, make, HaveLargeImage, IsWithinBefore, IsBeyond, IsMeant}
 use Rattle.pure_tunify.proofs.ReductionLaws.{agree_unifier, reduction_along, stays, composed-append, equalised, blocks_unifiers}
 use Rattle.pure_tunify.proofs.NameLaws.{names_next, no_names}
 use Rattle.pure_tunify.proofs.RootLaws.{AreRooted, rooted_next, rooted_start, all_within, within_as_general}
-use Rattle.pure_tunify.proofs.MapLaws.{identity_is_substitution, after_is_substitution, setting-other, old-instance, together}
-use Rattle.pure_tunify.proofs.StepLaws.{nothing_set, step_is_reduction, failed_has_no_unifier}
-use Rattle.pure_tunify.proofs.PlaceLaws.{DifferAtRoot, IsPlaceOf, difference_is_place, no_difference}
-use Rattle.pure_tunify.proofs.SettingLaws.{instance-append, instance_pairs-append, instance_pairs-identity, as_variable, setting-new}
-use Rattle.pure_tunify.proofs.NarrowLaws.{first_occurs, is_fresh_of}
-use Rattle.pure_tunify.proofs.PursueLaws.{pairs_after}
+use Rattle.pure_tunify.proofs.MapLaws.{identity_is_substitution}
+use Rattle.pure_tunify.proofs.SettingLaws.{instance_pairs-append, instance_pairs-identity}
 
 -- The settings so far, of the pairs in front, lead from the pairs to those that are left under them.
 abbrev Leads : (A : Algebra) (index from : ℕ) → (front : List TypPair) → List TypBind → (n : ℕ) → Type 0

@@ -1,15 +1,15 @@
 -- The names that the procedure uses: from the first on, each up to the next one.
 use Rattle.std.proofs.Common.{◌≡◌, ℕ, ◌+◌, ◌<◌, ◌≤◌, List, [], ◌∷◌, ◌++◌, Some, inl, inr, ◌⊎◌, refl, sym, subst, arith}
-use Rattle.pure_text.specs.Lists.{Each, AnyOf}
+use Rattle.pure_text.specs.Lists.{Each}
 use Rattle.pure_text.proofs.ListLaws.{each_imply, each-append}
-use Rattle.pure_definitions.specs.Types.Typ.{Typ, TFree, TVar, Con}
+use Rattle.pure_definitions.specs.Types.Typ.{Typ, TVar}
 use Rattle.pure_definitions.specs.Types.Occurs.{OccursInTyp}
 use Rattle.pure_definitions.specs.Types.Order.{Algebra}
 use Rattle.pure_definitions.specs.Terms.Subst.{TypBind, typ_instance}
 use Rattle.pure_definitions.proofs.TypsLemmas.{occurs-itself}
 use Rattle.pure_tunify.specs.declared.pair.TypPair.{TypPair}
-use Rattle.pure_tunify.specs.Unifiers.{IsFresh, IsOld, IsOldPair}
-use Rattle.pure_tunify.specs.Steps.{pair, setting, instance_pair}
+use Rattle.pure_tunify.specs.Unifiers.{IsOld, IsOldPair}
+use Rattle.pure_tunify.specs.Steps.{setting, instance_pair}
 use Rattle.pure_tunify.specs.Settings.{composed, bind}
 use Rattle.pure_tunify.specs.Procedure.{place_of, Shows, left_side, right_side, Narrows, fits, replace, IsTreated, Equalises, equal, treat}
 use Rattle.pure_tunify.specs.ProcedureLaws.{IsNameUsed, AreNamesUsed}

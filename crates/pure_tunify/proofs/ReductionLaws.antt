@@ -1,9 +1,7 @@
 -- What the procedure comes to is most general, and what it refuses has no unifier.
-use Rattle.std.proofs.Common.{◌≡◌, ◌≢◌, ℕ, ◌+◌, List, [], ◌∷◌, ◌++◌, map, length, take, Some, inl, inr, refl, ap, sym, subst, ◌∙◌, arith, append_assoc}
-use Rattle.std.proofs.lemmas.List.{append-nil, length-append}
-use Rattle.std.proofs.Math.Seq.{take-append_seam}
+use Rattle.std.proofs.Common.{◌≡◌, ◌≢◌, ℕ, ◌+◌, List, [], ◌∷◌, ◌++◌, map, Some, inl, inr, refl, ap, sym, subst, ◌∙◌}
 use Rattle.pure_text.specs.Lists.{Each}
-use Rattle.pure_text.proofs.ListLaws.{each_of, each_at, any_of, each-left}
+use Rattle.pure_text.proofs.ListLaws.{each_of, each_at, any_of}
 use Rattle.pure_definitions.specs.Types.Typ.{Typ, TFree, TVar, Con, Typs, typs_count}
 use Rattle.pure_definitions.specs.Types.Occurs.{OccursInTyp}
 use Rattle.pure_definitions.specs.Types.Order.{Algebra, IsClassBelow, itself, HasClassBelow, IsOfClass, IsOfSort}
@@ -11,16 +9,14 @@ use Rattle.pure_definitions.specs.Terms.Subst.{TypBind, typ_instance, typs_insta
 use Rattle.pure_definitions.proofs.OrderLaws.{sort_below-itself}
 use Rattle.pure_term_laws.specs.LawsOccurs.{IsTypVariable}
 use Rattle.pure_term_laws.proofs.OccursLaws.{typ_instances-agree}
-use Rattle.pure_term_laws.proofs.SubstLaws.{typ_instance-identity}
 use Rattle.pure_term_laws.proofs.MapLaws.{typ_instance-again, typs_count-instance}
 use Rattle.pure_tunify.specs.declared.pair.TypPair.{TypPair}
-use Rattle.pure_tunify.specs.Unifiers.{IsSubstitution, Equates, IsUnifier, IsOld, IsOldPair, IsMostGeneral}
+use Rattle.pure_tunify.specs.Unifiers.{IsSubstitution, Equates, IsUnifier, IsOld, IsOldPair}
 use Rattle.pure_tunify.specs.Asks.{IsMeet}
 use Rattle.pure_tunify.specs.Steps.{pair, setting, instance_pair, Asks, narrow, eliminate, occurs, sort, sort_left, IsReduction}
 use Rattle.pure_tunify.specs.Settings.{composed, bind}
-use Rattle.pure_tunify.specs.Procedure.{place_of, IsSchematic, Shows, left_side, right_side, IsNeededSort, Narrows, fits, replace, IsTreated, IsBlocked, rigid, occurring, sortless, Equalises, equal, treat, Blocks, blocked, later, Outcome, Unifies, over, no_typing, big, next}
-use Rattle.pure_tunify.specs.ProcedureLaws.{IsMeant}
-use Rattle.pure_tunify.proofs.MapLaws.{identity_is_substitution, after_is_substitution, setting-other, old-instance, together}
+use Rattle.pure_tunify.specs.Procedure.{place_of, IsSchematic, Shows, left_side, right_side, IsNeededSort, Narrows, fits, replace, IsTreated, IsBlocked, rigid, occurring, sortless, Equalises, equal, treat, Blocks, blocked, later}
+use Rattle.pure_tunify.proofs.MapLaws.{after_is_substitution, setting-other, old-instance, together}
 use Rattle.pure_tunify.proofs.StepLaws.{nothing_set, step_is_reduction, failed_has_no_unifier}
 use Rattle.pure_tunify.proofs.PlaceLaws.{DifferAtRoot, IsPlaceOf, difference_is_place, no_difference}
 use Rattle.pure_tunify.proofs.SettingLaws.{instance-append, instance_pairs-append, instance_pairs-identity, as_variable, setting-new}

@@ -1,10 +1,10 @@
 -- A variable that the procedure sets stood in the pairs, or in the image of one of them: so its image is no larger than that of a variable of the pairs.
-use Rattle.std.proofs.Common.{◌≡◌, ℕ, ◌+◌, ◌≤◌, List, [], ◌∷◌, ◌++◌, map, inl, inr, ◌⊎◌, refl, ap, sym, subst, ◌∙◌, arith}
+use Rattle.std.proofs.Common.{◌≡◌, ℕ, List, [], ◌∷◌, ◌++◌, map, inl, inr, ◌⊎◌, refl, ap, sym, subst, ◌∙◌, arith}
 use Rattle.pure_text.specs.Lists.{IsIn}
 use Rattle.pure_definitions.specs.Types.Typ.{Typ, TFree, TVar, Con}
 use Rattle.pure_definitions.specs.Types.Occurs.{OccursInTyp}
 use Rattle.pure_definitions.specs.Types.Order.{Algebra}
-use Rattle.pure_definitions.specs.Terms.Subst.{TypBind, typ_variable, typ_image, typ_instance}
+use Rattle.pure_definitions.specs.Terms.Subst.{TypBind, typ_variable, typ_instance}
 use Rattle.pure_definitions.specs.Terms.Limits.{IsWithinTyp}
 use Rattle.pure_term_laws.specs.LawsOccurs.{IsTypVariable}
 use Rattle.pure_term_laws.proofs.OccursLaws.{typ_variable_of_typ_instance}
@@ -14,7 +14,7 @@ use Rattle.pure_tunify.specs.declared.pair.TypPair.{TypPair}
 use Rattle.pure_tunify.specs.Unifiers.{IsFresh, IsOldPair, IsMostGeneral}
 use Rattle.pure_tunify.specs.Steps.{setting, instance_pair}
 use Rattle.pure_tunify.specs.Settings.{composed, bind}
-use Rattle.pure_tunify.specs.Procedure.{place_of, Shows, left_side, right_side, Narrows, fits, replace, IsTreated, Equalises, equal, treat}
+use Rattle.pure_tunify.specs.Procedure.{Shows, left_side, right_side, Narrows, fits, replace, IsTreated, Equalises, equal, treat}
 use Rattle.pure_tunify.specs.Working.{HasImagesWithin}
 use Rattle.pure_tunify.specs.ProcedureLaws.{HasOldImagesWithin}
 use Rattle.pure_tunify.proofs.DecidedLaws.{same_or_not}
@@ -163,7 +163,7 @@ module _ (A : Algebra) (index : ℕ) where
     pub all_within : (sets : List TypBind) → AreRooted (λ w. ¬ IsFresh index from w) sets → HasOldImagesWithin index from (composed sets) → HasImagesWithin sets
     all_within sets r old x i s = elim (set_or_not (TVar x i s) sets) [
       | inl m ↦ (let found = r (TVar x i s) m in subst IsWithinTyp (typ_instance-identity (composed sets (TVar x i s)))
-      (found.3 (λ v. v) (subst IsWithinTyp (sym (typ_instance-identity (composed sets found.0))) (root_within found.0 found.1 found.2))))
+          (found.3 (λ v. v) (subst IsWithinTyp (sym (typ_instance-identity (composed sets found.0))) (root_within found.0 found.1 found.2))))
       | inr absent ↦ subst IsWithinTyp (sym (composed-absent sets (TVar x i s) tt absent)) (record { size = omega arith; depth = omega arith })
     ]
       where

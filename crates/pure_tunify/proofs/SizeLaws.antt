@@ -1,5 +1,5 @@
 -- How large instances of types are, beside the types and their parts.
-use Rattle.std.proofs.Common.{◌≡◌, ◌+◌, ◌≤◌, inl, inr, subst, arith}
+use Rattle.std.proofs.Common.{◌≤◌, inl, inr, subst, arith}
 use Rattle.std.proofs.Math.Nat.{le_trans}
 use Rattle.pure_definitions.specs.Types.Typ.{Typ, TFree, TVar, Con, Typs, none, also, typ_size, typs_size, typ_depth, typs_depth}
 use Rattle.pure_definitions.specs.Types.Occurs.{OccursInTyp, OccursInTyps}

@@ -1,6 +1,7 @@
 -- Types with all set variables replaced, and the settings written out as one map.
 use Rattle.std.proofs.Common.{◌≡◌, ℕ, ◌-◌, ◌<◌, ◌≤◌, List, [], ◌∷◌, ◌++◌, map, length, take, take_all, Some, None, inl, inr, ◌⊎◌, refl, ap, sym, subst, ◌∙◌, arith, Bool, true, false, cond}
 use Rattle.std.proofs.lemmas.List.{append_assoc}
+use Rattle.std.proofs.Math.Nat.{le_trans}
 use Rattle.pure_text.specs.Lists.{IsIn, Each, AnyOf}
 use Rattle.pure_text.proofs.ListLaws.{each_at, any_decided, any_some, in_split, in-append_right}
 use Rattle.pure_definitions.specs.Types.Typ.{Typ, TFree, TVar, Con, typ_eq, typ_size, typ_depth}
@@ -10,10 +11,13 @@ use Rattle.pure_definitions.specs.Terms.Limits.{Leaves, IsWithinTyp}
 use Rattle.pure_definitions.proofs.EntryLemmas.{typ_image-entry}
 use Rattle.pure_definitions.proofs.TypsLemmas.{occurs-itself}
 use Rattle.pure_term_laws.specs.LawsOccurs.{IsTypVariable}
+use Rattle.pure_term_laws.proofs.OccursLaws.{typ_instances-agree}
+use Rattle.pure_term_laws.proofs.MapLaws.{typ_instance-again}
 use Rattle.pure_tunify.specs.Unifiers.{IsOld}
 use Rattle.pure_tunify.specs.Settings.{composed, AreTriangular, Progress, IsTidy}
 use Rattle.pure_tunify.specs.Working.{HasImagesWithin, IsSmall}
 use Rattle.pure_tunify.proofs.DecidedLaws.{same_or_not}
+use Rattle.pure_tunify.proofs.SizeLaws.{size-grows, depth-grows}
 use Rattle.pure_tunify.proofs.SettingLaws.{other_variable, as_variable, composed-image, composed-absent, image-old}
 
 -- No fixed variable is set.
@@ -31,6 +35,17 @@ image_same p t u tidy is e = ap (typ_instance (composed p.sets)) (sym e) ∙ (sy
 
 pub image_old : (p : Progress) (t u : Typ) → IsTidy p → typ_image p.sets t ≡ u → IsOld p.index p.next t → IsOld p.index p.next u
 image_old p t u tidy e old = subst (IsOld p.index p.next) e (image-old p.index p.next p.sets t tidy.old old)
+
+-- A type that doesn't fit with the images as they were set doesn't with all set variables replaced.
+pub leaves_grow : (p : Progress) (t : Typ) (left room : ℕ) → IsTidy p → Leaves left room (typ_size (typ_instance (typ_image p.sets) t)) (typ_depth (typ_instance (typ_image p.sets) t)) None
+    → Leaves left room (typ_size (typ_instance (composed p.sets) t)) (typ_depth (typ_instance (composed p.sets) t)) None
+leaves_grow p t left room tidy h fits =
+    let whole : typ_instance (composed p.sets) (typ_instance (typ_image p.sets) t) ≡ typ_instance (composed p.sets) t = typ_instance-again (typ_image p.sets) (composed p.sets) t
+    ∙ typ_instances-agree (λ v. typ_instance (composed p.sets) (typ_image p.sets v)) (composed p.sets) t (λ v is o. sym (composed-image p.sets v tidy.triangular is)) in
+    let size = subst (λ (u : Typ). typ_size (typ_instance (typ_image p.sets) t) ≤ typ_size u) whole (size-grows (composed p.sets) (typ_instance (typ_image p.sets) t)) in
+    let depth = subst (λ (u : Typ). typ_depth (typ_instance (typ_image p.sets) t) ≤ typ_depth u) whole (depth-grows (composed p.sets) (typ_instance (typ_image p.sets) t)) in
+    let deep : room < typ_depth (typ_instance (typ_image p.sets) t) = h (le_trans size fits) in
+    omega arith
 
 -- A variable that isn't set is its own instance, and one node.
 pub leaf_same : (sets : List TypBind) (top : Typ) → IsTypVariable top → (¬ IsIn top (map typ_variable sets)) → typ_instance (composed sets) top ≡ top

@@ -3,7 +3,7 @@ use Rattle.std.specs.Prelude.{◌≡◌, ◌⊎◌, ℕ, List, ◌∷◌, ◌++�
 use Rattle.std.specs.List.Sorted.{IsStrictlyIncreasing}
 use Rattle.pure_text.specs.Lists.{IsIn, Each, AnyOf}
 use Rattle.pure_definitions.specs.Types.Typ.{Typ, TVar}
-use Rattle.pure_definitions.specs.Types.Order.{Algebra, IsClassBelow, HasClassBelow}
+use Rattle.pure_definitions.specs.Types.Order.{Algebra, IsClassBelow, HasClassBelow, IsSortBelow}
 use Rattle.pure_tunify.specs.declared.asks.Asked.{Asked}
 
 -- the variable of which a sort is asked
@@ -21,6 +21,15 @@ IsOwnOrAsked asked a c = IsIn c a.sort ⊎ IsAskedClass (asked_variable a) asked
 -- Each class that is asked of the variable is above its own sort.
 abbrev pub AsksNoMore : Algebra → List Asked → Asked → Type 0
 AsksNoMore A asked a = (c : ℕ) → IsAskedClass (asked_variable a) asked c → HasClassBelow A a.sort c
+
+-- Among these variables is each one of which more than its own sort is asked somewhere in the list.
+abbrev pub AreAsking : Algebra → List Asked → (variables : List Typ) → Type 0
+AreAsking A asked variables = Each (λ a. IsIn (asked_variable a) variables ⊎ IsSortBelow A a.sort a.asked) asked
+
+-- The variable has been added, where more than its own sort is asked of it here.
+pub record IsPutAsking (A : Algebra) (a : Asked) (old new : List Typ) : Type 0 where
+  pub here : IsIn (asked_variable a) new ⊎ IsSortBelow A a.sort a.asked
+  pub kept : (v : Typ) → IsIn v old → IsIn v new
 
 -- The sort is the reduced union of the variable's own and all that is asked of it.
 pub record IsUnionAsked (A : Algebra) (asked : List Asked) (a : Asked) (u : List ℕ) : Type 0 where

@@ -82,6 +82,18 @@ fn has_no_classes(t: &Typ) -> bool
     }
 }
 
+/// Whether the variable occurs in no image, as it was set.
+fn is_in_no_image(settings: &Settings, variable: &Typ) -> bool
+    ensures { OnTrue result (Each (λ b. ¬ OccursInTyp variable.now b.image) settings.now.sets) }
+{
+    for bind in settings.binds() {
+        if occurs_in_typ(variable, &bind.image) {
+            return false;
+        }
+    }
+    true
+}
+
 /// Whether the variable isn't set, and doesn't occur in the type with all set variables replaced.
 fn stays_free(
     settings: &Settings,
@@ -95,6 +107,10 @@ fn stays_free(
     match settings.find(variable) {
         Some(_) => Ok(false),
         None => {
+            if is_in_no_image(settings, variable) {
+                let here = occurs_in_typ(variable, t);
+                return Ok(!here);
+            }
             let typs = reached(settings, alloc, t)?;
             let occurs = occurs_in_any(variable, typs.as_slice());
             Ok(!occurs)

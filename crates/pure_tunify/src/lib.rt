@@ -1,6 +1,7 @@
 //! Order-sorted unification of types: its steps, their laws, and what sorts ask of types.
 #![tactic(auto)]
 
+mod asking;
 mod asks;
 mod fault;
 mod index;

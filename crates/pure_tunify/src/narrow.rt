@@ -1,16 +1,17 @@
 //! Narrowing a type to a sort.
-ghost use Rattle.std.specs.Prelude.{◌≡◌, ◌↔◌, ◌⊎◌, ℕ, IfOk, MatchOption};
+ghost use Rattle.std.specs.Prelude.{◌≡◌, ◌↔◌, ◌⊎◌, ℕ, map, IfOk, MatchOption};
 ghost use Rattle.pure_text.specs.Lists.{IsIn, Each};
 ghost use Rattle.pure_definitions.specs.Types.Typ.{typ_eq};
 ghost use Rattle.pure_definitions.specs.Types.Typ as tree;
-ghost use Rattle.pure_definitions.specs.Terms.Subst.{typ_instance};
+ghost use Rattle.pure_definitions.specs.Terms.Subst.{typ_variable, typ_instance};
 ghost use Rattle.pure_tunify.specs.Unifiers.{IsOld};
 ghost use Rattle.pure_tunify.specs.Steps.{setting};
 ghost use Rattle.pure_tunify.specs.Asks.{HasNoInstance};
-ghost use Rattle.pure_tunify.specs.Asking.{asked_variable, IsOwnOrAsked, AsksNoMore, IsUnionAsked, IsFirstAsking};
+ghost use Rattle.pure_tunify.specs.Asking.{asked_variable, IsOwnOrAsked, AsksNoMore, AreAsking, IsUnionAsked, IsFirstAsking};
 ghost use Rattle.pure_tunify.specs.Working.{IsFreeOf, IsNarrowing, IsNarrowed};
 ghost use Rattle.pure_tunify.specs.NarrowingStep.{IsToNarrow, IsNarrowingStep};
 
+use crate::asking::asking_variables;
 use crate::asks::{Asked, asked_of};
 use crate::settings::Settings;
 use pure_order::Order;
@@ -71,6 +72,26 @@ fn union_asked(
     Ok(Some(union))
 }
 
+/// The same, where the variables are known of which more may be asked.
+fn union_among(
+    order: &Order,
+    alloc: Global,
+    asked: &[Asked],
+    asking: &TypMap,
+    variable: &Asked,
+) -> Result<Option<Sort>, AllocError>
+    requires { AreAsking order.now asked.now (map typ_variable asking.now) }
+    ensures { IfOk result (λ o. MatchOption o (AsksNoMore order.now asked.now variable.now) (λ u. (¬ AsksNoMore order.now asked.now variable.now) × IsUnionAsked order.now asked.now variable.now u)) }
+{
+    match asking.find(variable.name, variable.index, &variable.sort) {
+        None => Ok(None),
+        Some(_) => {
+            let union = union_asked(order, alloc, asked, variable)?;
+            Ok(union)
+        }
+    }
+}
+
 /// The variable with the sort that is asked of it.
 fn asked_again(alloc: Global, variable: &Asked, asked: Sort) -> Result<Asked, AllocError>
     ensures { IfOk result (λ a. (asked_variable a ≡ asked_variable variable.now) × (a.asked ≡ asked)) }
@@ -89,8 +110,9 @@ fn asked_again(alloc: Global, variable: &Asked, asked: Sort) -> Result<Asked, Al
 fn first_asking(order: &Order, alloc: Global, asked: &[Asked]) -> Result<Option<Asked>, AllocError>
     ensures { IfOk result (λ o. MatchOption o (Each (AsksNoMore order.now asked.now) asked.now) (λ found. IsFirstAsking order.now asked.now found)) }
 {
+    let asking = asking_variables(order, alloc, asked)?;
     for variable in asked {
-        let union = union_asked(order, alloc, asked, variable)?;
+        let union = union_among(order, alloc, asked, &asking, variable)?;
         match union {
             None => {}
             Some(sort) => {

@@ -106,6 +106,44 @@ pub fn resolved_leaves(
     }
 }
 
+/// The type with all set variables replaced, as above. First the images are measured as they were set, which takes less:
+/// they only grow.
+pub fn resolve_measured(
+    settings: &Settings,
+    alloc: Global,
+    t: &Typ,
+    left: u32,
+    room: u32,
+) -> Result<Option<Resolved>, AllocError>
+    ensures { IfOk result (IsResolved settings.now.sets t.now left room) }
+{
+    match settings.leaves(t, left, room) {
+        None => Ok(None),
+        Some(_) => {
+            let found = resolve(settings, alloc, t, left, room)?;
+            Ok(found)
+        }
+    }
+}
+
+/// What is left of the room, as above, and in the same way.
+pub fn measured_leaves(
+    settings: &Settings,
+    t: &Typ,
+    left: u32,
+    room: u32,
+) -> Result<Option<u32>, AllocError>
+    ensures { IfOk result (λ o. Leaves left room (typ_size (typ_instance (composed settings.now.sets) t.now)) (typ_depth (typ_instance (composed settings.now.sets) t.now)) o) }
+{
+    match settings.leaves(t, left, room) {
+        None => Ok(None),
+        Some(_) => {
+            let found = resolved_leaves(settings, t, left, room)?;
+            Ok(found)
+        }
+    }
+}
+
 /// Whether the image is a variable, or within the limits. It is measured and not made.
 fn is_small(settings: &Settings, image: &Typ) -> Result<bool, AllocError>
     ensures { IfOk result (λ small. MatchBool small (IsSmall settings.now.sets image.now) (¬ IsWithinTyp (typ_instance (composed settings.now.sets) image.now))) }

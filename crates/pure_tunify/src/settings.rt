@@ -1,12 +1,14 @@
 //! The variables that unification has set, one after the other.
 ghost use Rattle.std.specs.Prelude.{◌≡◌, ◌++◌, [], ◌∷◌, map, IfOk, OnOk, MatchOption};
 ghost use Rattle.pure_text.specs.Lists.{IsIn};
+ghost use Rattle.pure_definitions.specs.Types.Typ.{typ_size, typ_depth};
+ghost use Rattle.pure_definitions.specs.Terms.Limits.{Leaves};
 ghost use Rattle.pure_definitions.specs.Terms.Subst.{IsTypMap, typ_variable, typ_image, typ_instance};
 ghost use Rattle.pure_term_laws.specs.LawsOccurs.{IsTypVariable};
 ghost use Rattle.pure_tunify.specs.Unifiers.{IsOld};
 ghost use Rattle.pure_tunify.specs.Settings.{composed, IsTidy};
 
-use pure_typ::{Typ, TypBind, TypMap, TypNode};
+use pure_typ::{Typ, TypBind, TypMap, TypNode, instance_leaves};
 use std::alloc::{AllocError, Global};
 use std::marker::Model;
 
@@ -107,6 +109,15 @@ impl Settings {
             }
         }
         Err(AllocError)
+    }
+
+    /// What is left of a room for so many nodes, on paths of so many, when the type is put in with the image of each set
+    /// variable as it was set.
+    pub fn leaves(&self, t: &Typ, left: u32, room: u32) -> Option<u32>
+        ensures leaves { Leaves left room (typ_size (typ_instance (typ_image self.now.sets) t.now)) (typ_depth (typ_instance (typ_image self.now.sets) t.now)) result }
+        ensures tidy { IsTidy self.now }
+    {
+        instance_leaves(t, &self.map, left, room)
     }
 
     /// Sets one more variable.

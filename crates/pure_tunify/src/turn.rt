@@ -14,7 +14,7 @@ ghost use Rattle.pure_tunify.specs.declared.meeting.Turned.TheVariants.{Large};
 use crate::meeting::{Meeting, Turned, arguments, meeting_of, push_arguments, put_back};
 use crate::narrow::narrow;
 use crate::pair::TypPair;
-use crate::resolve::{Resolved, resolve, resolved_leaves};
+use crate::resolve::{Resolved, measured_leaves, resolve_measured};
 use crate::settings::Settings;
 use pure_order::Order;
 use pure_typ::{MAX_DEPTH, MAX_SIZE, Typ, TypBind, TypNode, occurs_in_typ};
@@ -27,7 +27,7 @@ const MOST_DEPTH: u32 = 6000;
 fn too_large(settings: &Settings, t: &Typ) -> Result<Turned, AllocError>
     ensures { IfOk result (λ turned. (turned ≡ Large) × ¬ IsWithinTyp (typ_instance (composed settings.now.sets) t.now)) }
 {
-    let found = resolved_leaves(settings, t, MAX_SIZE, MAX_DEPTH)?;
+    let found = measured_leaves(settings, t, MAX_SIZE, MAX_DEPTH)?;
     match found {
         None => Ok(Turned::Large),
         Some(_) => Err(AllocError),
@@ -51,7 +51,7 @@ fn treat(
     let TypNode::TVar { name, index, sort } = &variable.node else {
         return Err(AllocError);
     };
-    let found = resolve(settings, alloc, other, settings.most(), MOST_DEPTH)?;
+    let found = resolve_measured(settings, alloc, other, settings.most(), MOST_DEPTH)?;
     let Some(resolved) = found else {
         let turned = too_large(settings, other)?;
         return Ok(turned);

@@ -48,7 +48,7 @@ static PLAIN: [(&[u8], Wanted); 15] = [
 ];
 
 /// Pairs with sorts, narrowed variables among them.
-static SORTED: [(&[u8], Wanted); 15] = [
+static SORTED: [(&[u8], Wanted); 19] = [
     (
         b"?'a:c, ?'b:d",
         Wanted::Unifier(b"?'b:d, ?'Pure.fun^1:c:d, ?'a:c, ?'Pure.fun^1:c:d"),
@@ -88,6 +88,21 @@ static SORTED: [(&[u8], Wanted); 15] = [
     ),
     (b"?'a:c, k/1 i", Wanted::NoTyping(0)),
     (b"?'a:c, ?'b:d, ?'b:d, > ?'a:c i", Wanted::NoTyping(1)),
+    // The fresh variable that both have become occurs in the other side, which would be of its sort; on the left, and behind
+    // a third variable that was narrowed to it.
+    (b"?'a:c, ?'b:d, ?'b:d, g/1 ?'a:c", Wanted::NoTyping(1)),
+    (b"?'a:c, ?'b:d, g/1 ?'a:c, ?'b:d", Wanted::NoTyping(1)),
+    (
+        b"?'a:c, ?'b:d, ?'v:s, ?'b:d, ?'a:c, g/1 ?'v:s",
+        Wanted::NoTyping(2),
+    ),
+    // The greatest of both arities' domains, once for each of two variables of two sorts.
+    (
+        b"?'a:c, g/1 ?'v, ?'b:d, g/1 ?'w",
+        Wanted::Unifier(
+            b"?'v, ?'Pure.fun^1:c, ?'a:c, g/1 ?'Pure.fun^1:c, ?'w, ?'Pure.prop^1:s, ?'b:d, g/1 ?'Pure.prop^1:s",
+        ),
+    ),
     (
         b"?'a:c, ?'b:d, ?'a:c, g/1 'x:s",
         Wanted::Unifier(b"?'b:d, g/1 'x:s, ?'Pure.fun^1:c:d, g/1 'x:s, ?'a:c, g/1 'x:s"),
@@ -203,6 +218,21 @@ fn pairs_with_sorts(rt: HostRuntime) -> Result<(), Fail> {
 #[test]
 fn images_at_the_limits(rt: HostRuntime) -> Result<(), Fail> {
     check(&rt, &LIMITS)
+}
+
+/// The first fresh variable has the name that is given.
+#[test]
+fn names_from_the_given_one(rt: HostRuntime) -> Result<(), Fail> {
+    let order = order(rt.alloc(), CLASSES)?;
+    let given = pairs(rt.alloc(), b"?'a:c, ?'b:d")?;
+    let answer = unifier_from(rt.alloc(), &order, given.as_slice(), 1);
+    let Ok((map, next)) = &answer else {
+        return Err("no unifier".into());
+    };
+    let wanted: &[u8] = b"?'b:d, ?'Pure.prop^1:c:d, ?'a:c, ?'Pure.prop^1:c:d";
+    let right = has_entries(rt.alloc(), map, wanted)?;
+    assert!(rt; right && *next == 2);
+    Ok(())
 }
 
 /// Names are counted from the one given; 2^31 of them are the most.
