@@ -3,3 +3,5 @@ pub mod ExtraLaws
 pub mod RuleLaws
 pub mod UnfoldingLaws
 pub mod GivenLaws
+pub mod ConvertedLaws
+pub mod BecomingLaws

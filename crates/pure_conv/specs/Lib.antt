@@ -1,3 +1,4 @@
 pub mod Answer
 pub mod UnfoldAnswer
 pub mod Rules
+pub mod Bottom
