@@ -1,26 +1,23 @@
 -- Arities, step by step.
-use Rattle.std.proofs.Common.{◌≡◌, ◌≢◌, ℕ, List, [], ◌∷◌, ◌++◌, length, refl, sym, ap, subst, inl, inr, ◌⊎◌, ⊎_elim, ◌∙◌}
-use Rattle.std.specs.Prelude.{Result, Ok, Err, IsErrAnd, IfErr}
+use Rattle.std.proofs.Common.{◌≡◌, ℕ, List, [], ◌∷◌, ◌++◌, length, refl, sym, ap, subst, ⊎_elim, ◌∙◌}
+use Rattle.std.specs.Prelude.{Result, Ok, Err, IsErrAnd}
 use Rattle.pure_text.specs.Lists.{IsIn, Each, EachTwo}
 use Rattle.pure_text.proofs.ListLaws.{each_imply, each_at}
-use Rattle.pure_definitions.specs.Types.Order.{Arity, Algebra, IsCoregular, Class}
+use Rattle.pure_definitions.specs.Types.Order.{Arity, IsCoregular, Class}
 use Rattle.pure_definitions.specs.Declarations.Decl.{Decl, ConDecl, ArityDecl, classes_of, algebra_of, IsDeclaredClass}
 use Rattle.pure_logic.specs.Content.{Content, IsContent}
 use Rattle.pure_order_tables.specs.Classes.{IsDeclared}
 use Rattle.pure_order_tables.specs.Arities.{IsKnown, with_arity}
-use Rattle.pure_order_tables.specs.Checks.{IsLeastInConflict}
-use Rattle.pure_order_tables.specs.Unknown.{IsFirstUnknown, HasArityFor, names_of, joined}
+use Rattle.pure_order_tables.specs.Unknown.{IsFirstUnknown, names_of, joined}
 use Rattle.pure_stage.proofs.AlgebraLaws.{arity_algebra}
 use Rattle.pure_theory.specs.declared.fault.DeclFault.{DeclFault}
 use Rattle.pure_theory.specs.declared.fault.DeclFault.TheVariants as fault
 use Rattle.pure_theory.specs.Refusals.{IsArityRefusal, IsGivenArityRefusal, IsCountRefusal, HasCon, IsNewArity}
 use Rattle.pure_theory.specs.Stage.{with_decl}
-use Rattle.pure_statements.specs.declared.reason.Reason.{Reason}
-use Rattle.pure_statements.specs.declared.reason.Reason.TheVariants.{Duplicate, UnknownClass, UnknownType, WrongCount, NotCoregular}
+use Rattle.pure_statements.specs.declared.reason.Reason.TheVariants.{UnknownClass, UnknownType, NotCoregular}
 use Rattle.pure_statements.specs.declared.reason.Failed.{Failed}
-use Rattle.pure_statements.specs.declared.reason.Failed.TheVariants.{Refused, Memory}
-use Rattle.pure_statements.specs.Chain.{Then, Gives, Answers, FailsAs, Found, refuses, goes_on, holds, passes}
-use Rattle.pure_statements.proofs.ChainLaws.{answers-failed, answers-memory, answers-next, fails-answers}
+use Rattle.pure_statements.specs.Chain.{Gives, Answers, FailsAs, Found, refuses, goes_on, holds, passes}
+use Rattle.pure_statements.proofs.ChainLaws.{answers-failed, answers-next, fails-answers}
 use Rattle.pure_declare.specs.Notes.{Change}
 use Rattle.pure_declare.specs.Changes.{failed_declaration}
 use Rattle.pure_declare.specs.Commands.{Place, vocabulary, AreKnown, IsMiscounted, declaring, IsFoundArityChange, IsClassArityChange, IsDomainsArityChange, IsArityChange}

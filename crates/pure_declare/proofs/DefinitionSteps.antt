@@ -1,5 +1,5 @@
 -- Definitions, step by step.
-use Rattle.std.proofs.Common.{◌≡◌, ℕ, List, [], ◌∷◌, ◌++◌, refl, sym, ap, subst, inl, inr, ◌⊎◌, ⊎_elim, ◌↔◌, Bool, false, IsTrue}
+use Rattle.std.proofs.Common.{◌≡◌, ℕ, List, ◌++◌, refl, sym, ap, subst, inl, inr, ◌⊎◌, ◌↔◌, Bool, false, IsTrue}
 use Rattle.std.specs.Prelude.{Option, Some, None, Result, Ok, Err, IsErrAnd, option_map}
 use Rattle.pure_text.specs.Lists.{IsIn, AnyOf}
 use Rattle.pure_text.proofs.ListLaws.{in-append_right}
@@ -7,11 +7,11 @@ use Rattle.pure_text.proofs.AnswerLaws.{test_fails}
 use Rattle.pure_definitions.specs.Types.Typ.{Typ}
 use Rattle.pure_definitions.specs.Terms.Term.{Term}
 use Rattle.pure_definitions.specs.Terms.Subst.{typ_instance}
-use Rattle.pure_definitions.specs.Declarations.Decl.{Decl, ConstDecl, AxiomDecl, PromiseDecl}
+use Rattle.pure_definitions.specs.Declarations.Decl.{Decl, AxiomDecl}
 use Rattle.pure_grammar.specs.Theories.TheoryText.{Span}
 use Rattle.pure_grammar.specs.Terms.RawTree.{RawTree}
-use Rattle.pure_logic.specs.Content.{Content, IsContent, AreNamedAlike, definition, schematic_typ_variable}
-use Rattle.pure_lookup.specs.Meaning.{constants, facts, IsDeclaredIn}
+use Rattle.pure_logic.specs.Content.{Content, definition, schematic_typ_variable}
+use Rattle.pure_lookup.specs.Meaning.{constants, facts}
 use Rattle.pure_theory.specs.declared.fault.DeclFault.{DeclFault}
 use Rattle.pure_theory.specs.declared.fault.DeclFault.TheVariants as fault
 use Rattle.pure_theory.specs.Refusals.{HasNamesake}
@@ -22,7 +22,7 @@ use Rattle.pure_statements.specs.declared.reason.Reason.TheVariants.{Duplicate, 
 use Rattle.pure_statements.specs.declared.reason.Failed.{Failed}
 use Rattle.pure_statements.specs.declared.reason.Failed.TheVariants.{Refused, Memory}
 use Rattle.pure_statements.specs.Body.{body_of}
-use Rattle.pure_statements.specs.Chain.{Then, Unless, Gives, Answers, FailsAs, Found, refuses, goes_on, holds, passes}
+use Rattle.pure_statements.specs.Chain.{Unless, Gives, Answers, FailsAs, Found, refuses, holds, passes}
 use Rattle.pure_statements.specs.Quoted.{IsReadTerm}
 use Rattle.pure_statements.specs.Elaborated.{IsTypedTerm}
 use Rattle.pure_statements.specs.Statement.{IsNormalised, IsLarge, IsStatedTyp}

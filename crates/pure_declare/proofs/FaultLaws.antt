@@ -1,13 +1,12 @@
 -- Where the names are new, nothing but memory can be wanting.
-use Rattle.std.proofs.Common.{◌≡◌, ℕ, List, [], ◌∷◌, refl, sym, subst, inl, inr}
-use Rattle.std.specs.Prelude.{◌⊎◌}
+use Rattle.std.proofs.Common.{◌≡◌, ℕ, List, refl, sym, subst, inl, inr}
 use Rattle.pure_text.specs.Lists.{IsIn, Each}
 use Rattle.pure_text.proofs.ListLaws.{each_at}
 use Rattle.pure_definitions.specs.Names.{Label}
 use Rattle.pure_definitions.specs.Types.Typ.{Typ}
 use Rattle.pure_definitions.specs.Types.Order.{Class}
 use Rattle.pure_definitions.specs.Terms.Term.{Term}
-use Rattle.pure_definitions.specs.Declarations.Decl.{Decl, ClassDecl, ConDecl, ArityDecl, ConstDecl, AxiomDecl, PromiseDecl, classes_of, IsDeclaredClass}
+use Rattle.pure_definitions.specs.Declarations.Decl.{Decl, ClassDecl, ConDecl, ConstDecl, AxiomDecl, PromiseDecl, classes_of, IsDeclaredClass}
 use Rattle.pure_logic.specs.Content.{Content, AreNamedAlike}
 use Rattle.pure_lookup.specs.Meaning.{classes, constructors, constants, facts, IsDeclaredIn}
 use Rattle.pure_theory.specs.declared.fault.DeclFault.{DeclFault}

@@ -1,5 +1,5 @@
 -- Lemmas, step by step.
-use Rattle.std.proofs.Common.{◌≡◌, ◌<◌, ℕ, ◌+◌, List, [], ◌∷◌, ◌++◌, map, take, get_or, length, refl, sym, ap, subst, ◌∙◌}
+use Rattle.std.proofs.Common.{◌≡◌, ◌<◌, ℕ, ◌+◌, List, [], ◌∷◌, ◌++◌, take, get_or, length, refl, sym, ap, ◌∙◌}
 use Rattle.std.specs.Prelude.{Result, Ok, Err, IsErrAnd, IfErr, IfOk}
 use Rattle.pure_grammar.specs.Theories.TheoryText.{Span, Step}
 use Rattle.pure_lookup.specs.Meaning.{facts}

@@ -2,7 +2,7 @@
 use Rattle.std.proofs.Common.{◌≡◌, ◌<◌, ℕ, ◌+◌, List, [], ◌∷◌, ◌++◌, take, get_or, length, refl, sym, ap, subst, inl, inr}
 use Rattle.std.specs.Prelude.{Option, Some, None, Result, Ok, Err, IsErrAnd, IfErr}
 use Rattle.std.specs.Global.{Vec}
-use Rattle.pure_text.specs.Lists.{IsIn, Each, EachTwo, AnyOf}
+use Rattle.pure_text.specs.Lists.{IsIn, Each, EachTwo}
 use Rattle.pure_text.proofs.ListLaws.{any_read, any-map}
 use Rattle.pure_definitions.specs.Declarations.Decl.{IsDeclaredClass, ConDecl}
 use Rattle.pure_logic.specs.Content.{Content, IsContent}

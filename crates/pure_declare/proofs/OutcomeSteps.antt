@@ -5,11 +5,10 @@ use Rattle.pure_definitions.specs.Names.{Label}
 use Rattle.pure_grammar.specs.Theories.TheoryText.{Span, Step, Command, Class, TypeDecl, Arity, Const, Axiom, Definition, Lemma}
 use Rattle.pure_typ.specs.NameTexts.{HasText, IsFound, name_texts}
 use Rattle.pure_logic.specs.Content.{Content, TheoryId}
-use Rattle.pure_lookup.specs.Meaning.{full_text}
 use Rattle.pure_statements.specs.declared.reason.Reason.{Reason}
 use Rattle.pure_statements.specs.declared.reason.Failed.{Failed}
 use Rattle.pure_statements.specs.declared.reason.Failed.TheVariants.{Refused, Memory}
-use Rattle.pure_statements.specs.Chain.{Then, Gives, Answers, FailsAs, refuses, goes_on}
+use Rattle.pure_statements.specs.Chain.{Answers, FailsAs, refuses, goes_on}
 use Rattle.pure_declare.specs.declared.notes.Declared.{Declared}
 use Rattle.pure_declare.specs.Notes.{Change, Outcome}
 use Rattle.pure_declare.specs.Seen.{seen_outcome, seen_note}

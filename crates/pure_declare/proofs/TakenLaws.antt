@@ -1,6 +1,6 @@
 -- Which names are taken.
-use Rattle.std.proofs.Common.{◌≡◌, ◌↔◌, ◌⊎◌, ℕ, List, Bool, true, false, IsTrue, refl, sym, subst, inl, inr}
-use Rattle.std.specs.Prelude.{Option, Some, None}
+use Rattle.std.proofs.Common.{◌≡◌, ◌↔◌, ℕ, List, Bool, true, false, IsTrue, refl, subst}
+use Rattle.std.specs.Prelude.{Some, None}
 use Rattle.pure_text.specs.Lists.{IsIn}
 use Rattle.pure_text.proofs.AnswerLaws.{yes_as, no_as}
 use Rattle.pure_definitions.specs.Types.Typ.{Typ}

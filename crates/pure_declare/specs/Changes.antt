@@ -1,5 +1,5 @@
 -- What the parts of the call say: what commands other than lemmas declare, with the names that they are found under, and faults of declarations as those of commands.
-use Rattle.std.specs.Prelude.{ℕ, List, Result}
+use Rattle.std.specs.Prelude.{ℕ, Result}
 use Rattle.pure_grammar.specs.Theories.TheoryText.{Command, Class, TypeDecl, Arity, Const, Axiom, Definition, Lemma}
 use Rattle.pure_theory.specs.declared.fault.DeclFault.{DeclFault}
 use Rattle.pure_theory.specs.declared.fault.DeclFault.TheVariants as fault
