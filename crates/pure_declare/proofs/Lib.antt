@@ -10,3 +10,6 @@ pub mod ArityLaws
 pub mod DefinitionSteps
 pub mod LemmaSteps
 pub mod OutcomeSteps
+pub mod FixedLaws
+pub mod TidyLaws
+pub mod TidyDeclared

@@ -8,3 +8,4 @@ pub mod Premises
 pub mod Changes
 pub mod Seen
 pub mod Grown
+pub mod Tidy
