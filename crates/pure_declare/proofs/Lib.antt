@@ -1,3 +1,15 @@
 pub mod LanguageLaws
 pub mod KnownLaws
 pub mod GrownLaws
+pub mod FaultLaws
+pub mod TakenLaws
+pub mod QuotedLaws
+pub mod LookupSteps
+pub mod SimpleLaws
+pub mod ArityLaws
+pub mod DefinitionSteps
+pub mod LemmaSteps
+pub mod OutcomeSteps
+pub mod FixedLaws
+pub mod TidyLaws
+pub mod TidyDeclared

@@ -2,6 +2,10 @@ pub mod Named
 pub mod Notes
 pub mod Lookups
 pub mod Commands
+pub mod Codes
 pub mod Fold
 pub mod Premises
+pub mod Changes
+pub mod Seen
 pub mod Grown
+pub mod Tidy

@@ -1,5 +1,5 @@
 -- Written names of classes looked up, one or several.
-use Rattle.std.specs.Prelude.{◌≡◌, ℕ, List, Option, Some, None, Result, Ok, Err}
+use Rattle.std.specs.Prelude.{◌≡◌, ℕ, List, Some, None, Result, Ok, Err}
 use Rattle.pure_text.specs.Lists.{EachTwo, AnyOf}
 use Rattle.pure_elab.specs.Vocabulary.{Vocabulary}
 use Rattle.pure_elab.specs.Table.{IsSortOf}
@@ -27,16 +27,3 @@ IsWrittenSort V written sort = (cs : List ℕ) × AreWritten V written cs × IsS
 abbrev pub AreWrittenSorts : Vocabulary → (domains : List (List (List ℕ))) → Result (List (List ℕ)) Reason → Type 0
 AreWrittenSorts V domains (Ok sorts) = EachTwo (IsWrittenSort V) domains sorts
 AreWrittenSorts V domains (Err reason) = AnyOf (HasUnknown V) domains × (reason ≡ UnknownClass)
-
--- what was found of classes, of a sort, and of sorts; none where a name means no class
-abbrev pub AreClassesOrNone : Vocabulary → (written : List (List ℕ)) → Option (List ℕ) → Type 0
-AreClassesOrNone V written None = HasUnknown V written
-AreClassesOrNone V written (Some cs) = AreWritten V written cs
-
-abbrev pub IsSortOrNone : Vocabulary → (written : List (List ℕ)) → Option (List ℕ) → Type 0
-IsSortOrNone V written None = HasUnknown V written
-IsSortOrNone V written (Some sort) = IsWrittenSort V written sort
-
-abbrev pub AreSortsOrNone : Vocabulary → (domains : List (List (List ℕ))) → Option (List (List ℕ)) → Type 0
-AreSortsOrNone V domains None = AnyOf (HasUnknown V) domains
-AreSortsOrNone V domains (Some sorts) = EachTwo (IsWrittenSort V) domains sorts

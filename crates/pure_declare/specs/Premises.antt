@@ -1,6 +1,7 @@
 -- What a call that declares is given: names for what the command declares, ranges that lie in the source, and a stage that such calls made.
 use Rattle.std.specs.Prelude.{◌<◌, ◌≤◌, ℕ, List, [], ◌∷◌, length}
 use Rattle.pure_text.specs.Lists.{IsIn, Each}
+use Rattle.pure_definitions.specs.Names.{Label}
 use Rattle.pure_definitions.specs.Types.Order.{Class}
 use Rattle.pure_definitions.specs.Declarations.Decl.{ClassDecl, IsDeclaredClass}
 use Rattle.pure_grammar.specs.Theories.TheoryText.{Span, Command, Class as ClassOf, TypeDecl, Arity, Const, Axiom, Definition, Lemma}
@@ -10,7 +11,7 @@ use Rattle.pure_logic.specs.Content.{Content}
 use Rattle.pure_lookup.specs.Meaning.{full_text}
 use Rattle.pure_lookup.specs.Laws.{IsInSession}
 use Rattle.pure_theory.specs.Refusals.{IsLabelAbove}
-use Rattle.pure_declare.specs.Commands.{Place, fact_base}
+use Rattle.pure_declare.specs.Commands.{fact_base}
 use Rattle.pure_declare.specs.Fold.{IsOwnText}
 
 -- the bases of what a command declares
@@ -51,7 +52,7 @@ abbrev pub HasClassesAbove : Content → Type 0
 HasClassesAbove Q = (k : Class) → IsIn (ClassDecl k) Q.declarations → Each (IsDeclaredClass Q.declarations) k.above
 
 -- What stands around a command: texts and a content as a session has them, a source that isn't too long, and a label above those of the content.
-pub record IsGiven (P : Place) : Type 0 where
-  pub in_session : IsInSession P.texts P.content
-  pub small : length P.source < 4294967295
-  pub label : IsLabelAbove P.content.declarations P.label
+pub record IsGiven (texts : List (List ℕ)) (source : List ℕ) (Q : Content) (label : Label) : Type 0 where
+  pub in_session : IsInSession texts Q
+  pub small : length source < 4294967295
+  pub label_above : IsLabelAbove Q.declarations label

@@ -1,7 +1,23 @@
 //! The statement phase: what each command of a theory declares, or why it is refused.
 #![tactic(auto)]
 
+mod arity;
+mod change;
+mod command;
+mod definition;
+mod fault;
+mod grown;
 mod language;
 pub mod laws;
+mod lemma;
+mod lookups;
+mod notes;
+mod place;
+mod quoted;
+mod simple;
+mod tails;
+mod taken;
 
+pub use command::declare;
 pub use language::NamedTheory;
+pub use notes::{Declared, Duty, Note};

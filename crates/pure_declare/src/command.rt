@@ -1,0 +1,249 @@
+//! The call that declares.
+ghost use Rattle.std.specs.Prelude.{◌≡◌, ◌++◌, ℕ, List, IfOk, IfErr, Ok, Err};
+ghost use Rattle.pure_lookup.specs.Meaning.{full_text};
+ghost use Rattle.pure_script.specs.Seen.{span, seen_command, seen_steps};
+ghost use Rattle.pure_statements.specs.Chain.{Answers, FailsAs};
+ghost use Rattle.pure_declare.specs.Changes.{IsCommandChange, IsNoLemma};
+ghost use Rattle.pure_declare.specs.Commands as spec;
+ghost use Rattle.pure_declare.specs.Commands.{IsNameOf, IsSaid, IsOutcome};
+ghost use Rattle.pure_declare.specs.Fold as fold;
+ghost use Rattle.pure_declare.specs.Fold.{IsDeclaredAs, IsOwnText, Declares};
+ghost use Rattle.pure_declare.specs.Premises.{IsNamed, HasFullNames, HasNames, HasRanges, LiesIn, IsGiven};
+ghost use Rattle.pure_declare.specs.Seen.{seen_note, seen_outcome};
+
+use crate::arity::arity_change;
+use crate::change::Change;
+use crate::definition::{Pair, definition_change};
+use crate::lemma::lemma_outcome;
+use crate::notes::{Declared, Note};
+use crate::place::Place;
+use crate::simple::{axiom_change, class_change, const_change, typ_change};
+use pure_script::{Command, Span, Step};
+use pure_stage::shared;
+use pure_statements::{Failed, Reason, declared_row, refused_row};
+use pure_text::Text;
+use pure_theory::Stage;
+use pure_typ::{Label, Name, NamesByBase};
+use std::alloc::{AllocError, Global};
+use std::sync::Arc;
+
+/// The name of what has this base in the theory.
+fn name_of(place: &Place<'_>, base: &[u8]) -> Name
+    requires { IsNamed place.now.texts (full_text place.now.theory base.now) }
+    ensures { IsNameOf place.now base.now result }
+{
+    match place.names().find_in(place.text(), base) {
+        Some(name) => name,
+        None => unreachable!(),
+    }
+}
+
+/// The base of a definition's fact.
+#[tactic(auto, unfolding(crate::specs::Commands::definition_end))]
+fn fact_base(alloc: Global, base: &[u8]) -> Result<Text, AllocError>
+    ensures { IfOk result (λ t. t ≡ spec.fact_base base.now) }
+{
+    let mut bytes = Vec::from_slice(alloc, base)?;
+    bytes.extend_from_slice(b"_def")?;
+    Ok(Text::from(bytes))
+}
+
+/// The names of a definition.
+fn pair_of(alloc: Global, place: &Place<'_>, base: &[u8]) -> Result<Pair, AllocError>
+    requires own { IsNamed place.now.texts (full_text place.now.theory base.now) }
+    requires fact { IsNamed place.now.texts (full_text place.now.theory (spec.fact_base base.now)) }
+    ensures own { IfOk result (λ p. IsNameOf place.now base.now p.constant) }
+    ensures fact { IfOk result (λ p. IsNameOf place.now (spec.fact_base base.now) p.fact) }
+{
+    let constant = name_of(place, base);
+    let fact = fact_base(alloc, base)?;
+    let fact = name_of(place, fact.bytes());
+    Ok(Pair { constant, fact })
+}
+
+/// A definition, by its base.
+fn based_definition(
+    alloc: Global,
+    place: &Place<'_>,
+    base: &[u8],
+    typ: Span,
+    text: Span,
+) -> Result<Change, Failed>
+    requires own { IsNamed place.now.texts (full_text place.now.theory base.now) }
+    requires fact { IsNamed place.now.texts (full_text place.now.theory (spec.fact_base base.now)) }
+    requires typ { LiesIn place.now.source (span typ) }
+    requires text { LiesIn place.now.source (span text) }
+    ensures { Answers (λ answer. (n : ℕ) × (f : ℕ) × IsNameOf place.now base.now n × IsNameOf place.now (spec.fact_base base.now) f × spec.IsDefinitionChange place.now base.now n f (span typ) (span text) answer) result }
+{
+    let names = pair_of(alloc, place, base)?;
+    definition_change(alloc, place, base, &names, typ, text)
+}
+
+/// What a command that isn't a lemma declares.
+fn change_of(alloc: Global, place: &Place<'_>, command: &Command) -> Result<Change, Failed>
+    requires kind { IsNoLemma (seen_command command.now) }
+    requires names { HasFullNames place.now.texts place.now.theory (seen_command command.now) }
+    requires ranges { HasRanges place.now.source (seen_command command.now) }
+    ensures { Answers (IsCommandChange place.now (seen_command command.now)) result }
+{
+    match command {
+        Command::Class { name, above } => {
+            let number = name_of(place, name.bytes());
+            class_change(alloc, place, number, above)
+        }
+        Command::TypeDecl { name, params } => {
+            let number = name_of(place, name.bytes());
+            typ_change(alloc, place, number, *params)
+        }
+        Command::Arity { con, doms, class } => {
+            arity_change(alloc, place, con.bytes(), doms, class.bytes())
+        }
+        Command::Const { name, typ } => {
+            let number = name_of(place, name.bytes());
+            const_change(alloc, place, number, *typ)
+        }
+        Command::Axiom { name, prop } => {
+            let number = name_of(place, name.bytes());
+            axiom_change(alloc, place, number, *prop)
+        }
+        Command::Definition { name, typ, prop } => {
+            based_definition(alloc, place, name.bytes(), *typ, *prop)
+        }
+        Command::Lemma { .. } => unreachable!(),
+    }
+}
+
+/// The row of a command that declares so, and the next stage.
+fn saying(
+    alloc: Global,
+    place: &Place<'_>,
+    command: &Command,
+    change: Change,
+) -> Result<Declared, AllocError>
+    ensures { IfOk result (λ d. seen_outcome d ≡ spec.saying place.now (seen_command command.now) change) }
+{
+    let (tail, next) = change.into_parts();
+    let row = declared_row(alloc, place.text(), command, tail)?;
+    let stage = shared(alloc, next)?;
+    Ok(Declared {
+        stage,
+        note: Note::Row { row },
+    })
+}
+
+/// What comes of a command that isn't a lemma, where it isn't refused.
+fn said(alloc: Global, place: &Place<'_>, command: &Command) -> Result<Declared, Failed>
+    requires kind { IsNoLemma (seen_command command.now) }
+    requires names { HasFullNames place.now.texts place.now.theory (seen_command command.now) }
+    requires ranges { HasRanges place.now.source (seen_command command.now) }
+    ensures kind { IsNoLemma (seen_command command.now) }
+    ensures ok { IfOk result (λ d. IsSaid place.now (seen_command command.now) (IsCommandChange place.now (seen_command command.now)) (Ok (seen_outcome d))) }
+    ensures failed { IfErr result (FailsAs (IsSaid place.now (seen_command command.now) (IsCommandChange place.now (seen_command command.now)))) }
+{
+    let change = change_of(alloc, place, command)?;
+    let declared = saying(alloc, place, command, change)?;
+    Ok(declared)
+}
+
+/// What comes of a lemma, by its base, where it isn't refused.
+fn based_lemma(
+    alloc: Global,
+    place: &Place<'_>,
+    base: &[u8],
+    at: Span,
+    script: &[Step],
+) -> Result<Declared, Failed>
+    requires name { IsNamed place.now.texts (full_text place.now.theory base.now) }
+    requires within { LiesIn place.now.source (span at) }
+    ensures ok { IfOk result (λ d. (n : ℕ) × IsNameOf place.now base.now n × spec.IsLemmaOutcome place.now n (span at) (seen_steps script.now) (Ok (seen_outcome d))) }
+    ensures failed { IfErr result (FailsAs (λ answer. (n : ℕ) × IsNameOf place.now base.now n × spec.IsLemmaOutcome place.now n (span at) (seen_steps script.now) answer)) }
+{
+    let number = name_of(place, base);
+    lemma_outcome(alloc, place, number, at, script)
+}
+
+/// What comes of a command that isn't refused.
+fn outcome_of(alloc: Global, place: &Place<'_>, command: &Command) -> Result<Declared, Failed>
+    requires names { HasFullNames place.now.texts place.now.theory (seen_command command.now) }
+    requires ranges { HasRanges place.now.source (seen_command command.now) }
+    ensures ok { IfOk result (λ d. IsOutcome place.now (seen_command command.now) (Ok (seen_outcome d))) }
+    ensures failed { IfErr result (FailsAs (IsOutcome place.now (seen_command command.now))) }
+{
+    match command {
+        Command::Lemma { name, prop, script } => {
+            based_lemma(alloc, place, name.bytes(), *prop, script)
+        }
+        _ => said(alloc, place, command),
+    }
+}
+
+/// The row of a command that is refused, and the same stage.
+fn refused(
+    alloc: Global,
+    place: &Place<'_>,
+    command: &Command,
+    reason: Reason,
+) -> Result<Declared, AllocError>
+    ensures { IfOk result (λ d. seen_outcome d ≡ fold.outcome_of place.now (seen_command command.now) (Err reason)) }
+{
+    let row = refused_row(
+        alloc,
+        place.names(),
+        place.source(),
+        place.text(),
+        command,
+        reason,
+    )?;
+    let stage = Arc::try_clone(place.stage())?;
+    Ok(Declared {
+        stage,
+        note: Note::Row { row },
+    })
+}
+
+/// What comes of a command.
+fn declared(alloc: Global, place: &Place<'_>, command: &Command) -> Result<Declared, AllocError>
+    requires names { HasFullNames place.now.texts place.now.theory (seen_command command.now) }
+    requires ranges { HasRanges place.now.source (seen_command command.now) }
+    ensures { IfOk result (λ d. IsDeclaredAs place.now (seen_command command.now) (seen_outcome d)) }
+{
+    match outcome_of(alloc, place, command) {
+        Ok(declared) => Ok(declared),
+        Err(Failed::Refused { reason }) => refused(alloc, place, command, reason),
+        Err(Failed::Memory) => Err(AllocError),
+    }
+}
+
+/// The text of the name of the stage's own theory.
+fn own_text<'n>(stage: &Stage, names: &'n NamesByBase) -> &'n [u8]
+    requires { (theory : List ℕ) × IsOwnText names.now stage.now.value theory }
+    ensures { IsOwnText names.now stage.now.value result.now }
+{
+    let Some(name) = stage.name() else {
+        unreachable!()
+    };
+    let Some(text) = names.names().text(name) else {
+        unreachable!()
+    };
+    text
+}
+
+/// What comes of a command over the stage before it: its row, or the duty to prove it, and the next stage. A command that is refused leaves the stage as it is.
+pub fn declare(
+    alloc: Global,
+    stage: &Stage,
+    names: &NamesByBase,
+    source: &[u8],
+    command: &Command,
+    label: Label,
+) -> Result<Declared, AllocError>
+    requires names { HasNames names.now stage.now.value (seen_command command.now) }
+    requires ranges { HasRanges source.now (seen_command command.now) }
+    requires given { IsGiven names.now source.now stage.now.value label }
+    ensures { IfOk result (λ d. Declares names.now source.now label stage.now.value (seen_command command.now) (seen_note d.note) d.stage.value) }
+{
+    let text = own_text(stage, names);
+    let place = Place::make(stage, names, source, text, label);
+    let declared = declared(alloc, &place, command)?;
+    Ok(declared)
+}

@@ -1,0 +1,44 @@
+//! What commands leave: a row, or a lemma whose proof is still to be given.
+use pure_print::Row;
+use pure_script::Step;
+use pure_term::Term;
+use pure_theory::Stage;
+use pure_typ::{Label, Name};
+use std::marker::Model;
+
+/// A lemma that is bound before its proof is run: its label and name, the stage before it, its statement with fixed variables and generalised, and the steps of its proof.
+#[derive(Drop)]
+pub struct Duty {
+    pub label: Label,
+    pub name: Name,
+    pub stage: Stage,
+    pub fixed: Term,
+    pub prop: Term,
+    pub script: Vec<Step>,
+}
+
+impl Model for Duty {
+    ghost use Rattle.pure_declare.specs.Codes.{coded_fork};
+    ghost use Rattle.pure_declare.specs.Notes.{Fork};
+    ghost use Rattle.pure_script.specs.Seen.{seen_steps};
+
+    ghost Value = { Fork };
+
+    ghost coded = { coded_fork };
+
+    ghost view = { λ d. record { label = d.label; name = d.name; content = d.stage.value; fixed = d.fixed; prop = d.prop; script = seen_steps d.script.items } };
+}
+
+/// What a command leaves in the table: a row, or a lemma whose row its proof gives.
+#[derive(Drop)]
+pub enum Note {
+    Row { row: Row },
+    Forked { duty: Duty },
+}
+
+/// What comes of a command: what it leaves in the table, and the next stage.
+#[derive(Drop)]
+pub struct Declared {
+    pub stage: Stage,
+    pub note: Note,
+}
