@@ -71,7 +71,10 @@ fn run(alloc: Global, order: &Order, maxidx: u32, search: Search) -> Result<Unif
     Err(UnifyFault::Memory)
 }
 
-/// The unifier that the search for one of the pairs comes to first, as in Isabelle/Pure (Isabelle/Isar Implementation manual, sections 2.3 and 4.1); its new variables have indexes above `maxidx`.
+/// The unifier of the pairs to which the search comes first: nodes in preorder, imitation before projections (Huet, A
+/// unification algorithm for typed lambda-calculus, 1975; Isabelle/Isar Implementation manual, section 4.1). The new
+/// variables have indexes above `maxidx`, which is at least each index in the pairs. Why there is none to answer, the fault
+/// says; where new variables weren't new, since an index is greater, it may be want of memory.
 pub fn unify(
     alloc: Global,
     order: &Order,
