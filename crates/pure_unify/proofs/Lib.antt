@@ -1,0 +1,16 @@
+pub mod ListLaws
+pub mod ImageLaws
+pub mod ChoiceLaws
+pub mod HeadLaws
+pub mod ComesLaws
+pub mod LaterLaws
+pub mod ResolveLaws
+pub mod PathLaws
+pub mod ResolvedLaws
+pub mod VisitLaws
+pub mod ChildLaws
+pub mod TypedLaws
+pub mod FrameLaws
+pub mod GoLaws
+pub mod CallLaws
+pub mod CountLaws

@@ -1,0 +1,34 @@
+use Rattle.std.proofs.Common.{List, [], ◌∷◌, refl, arith}
+use Rattle.std.specs.Prelude.{Ok, Err}
+use Rattle.pure_unify_definitions.specs.Node as nodes
+use Rattle.pure_unify_definitions.specs.Node.{root}
+use Rattle.pure_unify_definitions.specs.Search.{Searches, IsUnifyAnswer}
+use Rattle.pure_unify.proofs.FrameLaws.{told_of, found_at, onward_at, none_held}
+use Rattle.pure_unify.proofs.CallLaws.{solves_of, finite_of}
+use Rattle.pure_unify.proofs.call.unify.Goals as goal
+
+pub returns-in-Ok-Some-clause-answer : goal.returns-in-Ok-Some-clause-answer
+returns-in-Ok-Some-clause-answer c =
+    found_at c.args.order.now c.args.maxidx (IsUnifyAnswer c.args.order.now c.args.maxidx c.args.pairs.now) c.after_visit.new.search c.in-Ok-Some.field-0 c.in-Ok-Some.unifier c.in-Ok-Some.field-0-is
+    (c.in-Ok-Some.ensures.answer c.args.order.now (root c.args.pairs.now) [] 0 c.visit_root-outcome.ensures.answer (none_held c.new.result.items c.new.ensures.items) refl (omega arith))
+
+pub returns-in-Ok-Some-clause-solves : goal.returns-in-Ok-Some-clause-solves
+returns-in-Ok-Some-clause-solves c = solves_of c.args.order.now c.args.maxidx c.args.pairs.now (Ok c.in-Ok-Some.unifier) (returns-in-Ok-Some-clause-answer c)
+
+pub returns-in-Ok-Some-clause-finite : goal.returns-in-Ok-Some-clause-finite
+returns-in-Ok-Some-clause-finite c = finite_of c.args.order.now c.args.maxidx c.args.pairs.now (Ok c.in-Ok-Some.unifier) (returns-in-Ok-Some-clause-answer c)
+
+pub returns-in-Ok-None-clause-answer : goal.returns-in-Ok-None-clause-answer
+returns-in-Ok-None-clause-answer c =
+    let step = onward_at c.args.order.now c.args.maxidx (IsUnifyAnswer c.args.order.now c.args.maxidx c.args.pairs.now) c.after_visit.new.search c.in-Ok-None.field-0 c.in-Ok-None.field-0-is
+    (c.in-Ok-None.ensures.answer c.args.order.now (root c.args.pairs.now) [] 0 c.visit_root-outcome.ensures.answer (none_held c.new.result.items c.new.ensures.items) refl (omega arith)) in
+    told_of (Searches c.args.order.now c.args.maxidx c.after_visit.new.search.visited c.after_visit.new.search.cut step.0) (IsUnifyAnswer c.args.order.now c.args.maxidx c.args.pairs.now) step.2 c.run.result (c.run.ensures.answer step.0 step.1)
+
+pub returns-in-Ok-None-clause-solves : goal.returns-in-Ok-None-clause-solves
+returns-in-Ok-None-clause-solves c = solves_of c.args.order.now c.args.maxidx c.args.pairs.now c.run.result (returns-in-Ok-None-clause-answer c)
+
+pub returns-in-Ok-None-clause-finite : goal.returns-in-Ok-None-clause-finite
+returns-in-Ok-None-clause-finite c = finite_of c.args.order.now c.args.maxidx c.args.pairs.now c.run.result (returns-in-Ok-None-clause-answer c)
+
+pub returns-in-Err-clause-answer : goal.returns-in-Err-clause-answer
+returns-in-Err-clause-answer c = c.in-Err.ensures.answer c.args.order.now (root c.args.pairs.now) [] 0 c.visit_root-outcome.ensures.answer (none_held c.new.result.items c.new.ensures.items) refl (omega arith)

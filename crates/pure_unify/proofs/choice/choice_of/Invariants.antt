@@ -1,0 +1,7 @@
+use Rattle.std.proofs.Common.{take}
+use Rattle.pure_text.specs.Lists.{Each}
+use Rattle.pure_unify_definitions.specs.Children.{IsFlexFlex}
+use Rattle.pure_unify.proofs.choice.choice_of.Given as goal
+
+abbrev pub invariant-loop-pair : goal.invariant-loop-pair
+invariant-loop-pair l = Each IsFlexFlex (take l.pair-index l.pairs)

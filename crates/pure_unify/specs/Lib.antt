@@ -1,0 +1,6 @@
+pub mod Images
+pub mod Later
+pub mod Heads
+pub mod Unified
+pub mod Resolved
+pub mod Frames

@@ -1,0 +1,102 @@
+//! The call that unifies.
+ghost use Rattle.std.specs.Prelude.{◌≡◌, ◌+◌, ◌<◌, ◌^◌, [], List, IfOk};
+ghost use Rattle.pure_text.specs.Lists.{Each};
+ghost use Rattle.pure_definitions.specs.Declarations.Decl.{algebra_of};
+ghost use Rattle.pure_logic.specs.Content.{Content};
+ghost use Rattle.pure_unify_definitions.specs.Node as nodes;
+ghost use Rattle.pure_unify_definitions.specs.Search as answers;
+ghost use Rattle.pure_unify_nodes.specs.SideAnswer.{AreSidesTyped};
+ghost use Rattle.pure_unify_steps.specs.Held.{IsNode};
+ghost use Rattle.pure_unify_laws.specs.Condition.{IsUnifyContent, AreUnifiable};
+ghost use Rattle.pure_unify_answers.specs.Maps.{Solves, IsFiniteUnifier};
+ghost use Rattle.pure_unify_visits.specs.Visited.{IsVisitAnswer};
+ghost use Rattle.pure_unify.specs.Unified.{seen, IsToldAs, IsUnified, IsLeftOver};
+ghost use Rattle.pure_unify.specs.Frames.{HoldNodes, CanGoOn, IsSimpleVisit};
+
+use crate::fault::UnifyFault;
+use crate::search::{Search, after_visit, take_turn};
+use crate::unifier::Unifier;
+use pure_norm::NormFault;
+use pure_order::Order;
+use pure_theorem::{Pair, copied_pairs};
+use pure_unify_steps::{Node, Path};
+use pure_unify_visits::{Visited, visit};
+use std::alloc::{AllocError, Global};
+
+/// The root: the given pairs.
+fn root_of(alloc: Global, pairs: &[Pair]) -> Result<Node, AllocError>
+    ensures node { IfOk result (λ held. IsNode held (nodes.root pairs.now)) }
+    ensures pairs { IfOk result (λ held. held.pairs.items ≡ pairs.now) }
+{
+    let pairs = copied_pairs(alloc, pairs)?;
+    let path = Path {
+        settings: Vec::new(alloc),
+        choices: 0,
+        fresh: 0,
+    };
+    Ok(Node { pairs, path })
+}
+
+/// The root is visited.
+fn visit_root(
+    alloc: Global,
+    order: &Order,
+    maxidx: u32,
+    pairs: &[Pair],
+) -> Result<Visited, NormFault>
+    requires typed { Each AreSidesTyped pairs.now }
+    requires room { maxidx + 66 < 2 ^ 32 }
+    ensures answer { IsVisitAnswer order.now maxidx (nodes.root pairs.now) result }
+    ensures simple { IfOk result IsSimpleVisit }
+{
+    let root = root_of(alloc, pairs)?;
+    visit(alloc, order, maxidx, root)
+}
+
+/// What the search answers from here on.
+fn run(alloc: Global, order: &Order, maxidx: u32, search: Search) -> Result<Unifier, UnifyFault>
+    requires room { maxidx + 66 < 2 ^ 32 }
+    requires go { CanGoOn search }
+    ensures answer { (ns : List nodes.Node) → HoldNodes search.frames.items ns → IsToldAs (answers.Searches order.now maxidx search.visited search.cut ns) result }
+    ensures left { IfOk result (λ u. Each IsLeftOver u.flexflex.items) }
+{
+    let mut search = search;
+    for _ in 0..u64::MAX {
+        match take_turn(alloc, order, maxidx, &mut search) {
+            Ok(Some(unifier)) => return Ok(unifier),
+            Ok(None) => {}
+            Err(fault) => return Err(fault),
+        }
+    }
+    Err(UnifyFault::Memory)
+}
+
+/// The unifier of the pairs to which the search comes first: nodes in preorder, imitation before projections (Huet, A
+/// unification algorithm for typed lambda-calculus, 1975; Isabelle/Isar Implementation manual, section 4.1). The new
+/// variables have indexes above `maxidx`, which is at least each index in the pairs. Why there is none to answer, the fault
+/// says; where new variables weren't new, since an index is greater, it may be want of memory.
+pub fn unify(
+    alloc: Global,
+    order: &Order,
+    pairs: &[Pair],
+    maxidx: u32,
+) -> Result<Unifier, UnifyFault>
+    requires typed { Each AreSidesTyped pairs.now }
+    requires room { maxidx + 66 < 2 ^ 32 }
+    ensures answer { IsUnified order.now maxidx pairs.now result }
+    ensures left { IfOk result (λ u. Each IsLeftOver u.flexflex.items) }
+    ensures solves { (Q : Content) → IsUnifyContent Q → order.now ≡ algebra_of Q.declarations → AreUnifiable Q maxidx pairs.now → IfOk result (λ u. Solves Q pairs.now (seen u)) }
+    ensures finite { (Q : Content) → IsUnifyContent Q → order.now ≡ algebra_of Q.declarations → AreUnifiable Q maxidx pairs.now → IfOk result (λ u. IsFiniteUnifier Q (seen u)) }
+{
+    let outcome = visit_root(alloc, order, maxidx, pairs);
+    let mut search = Search {
+        frames: Vec::new(alloc),
+        visited: 1,
+        cut: false,
+    };
+    match after_visit(alloc, maxidx, &mut search, outcome) {
+        Ok(Some(unifier)) => Ok(unifier),
+        Ok(None) => run(alloc, order, maxidx, search),
+        Err(fault) => Err(fault),
+    }
+}

@@ -1,0 +1,18 @@
+//! The search for a unifier of terms: nodes are visited in preorder, until one stops it or is a success.
+#![tactic(auto)]
+
+mod branch;
+mod call;
+mod child;
+mod choice;
+mod comes;
+mod fault;
+mod images;
+mod later;
+mod resolve;
+mod search;
+mod unifier;
+
+pub use call::unify;
+pub use fault::UnifyFault;
+pub use unifier::Unifier;
