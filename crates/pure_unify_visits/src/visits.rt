@@ -53,7 +53,9 @@ pub fn visit_long(
 }
 
 /// What a node comes to: the sides of its pairs are brought to long form, and as long as a rule applies to some pair, the
-/// first pair to which one applies is treated by the first that applies.
+/// first pair to which one applies is treated by the first that applies (SIMPL of Huet, A Unification Algorithm for Typed
+/// Lambda-Calculus, 1975). `Steps` and `Big` are what stops the search: the normaliser at a side, or a long form or a
+/// unifier of types beyond the limits.
 pub fn visit(alloc: Global, order: &Order, maxidx: u32, node: Node) -> Result<Visited, NormFault>
     requires typed { Each AreSidesTyped node.pairs.items }
     requires room { maxidx + 66 < 2 ^ 32 }
