@@ -1,22 +1,19 @@
 -- Visits of the root and of children.
-use Rattle.std.proofs.Common.{◌≡◌, ℕ, ◌+◌, ◌<◌, ◌≤◌, List, [], ◌∷◌, ◌++◌, map, Bool, true, false, ◌||◌, refl, ap, sym, subst, ◌∙◌, arith}
+use Rattle.std.proofs.Common.{◌≡◌, ℕ, ◌+◌, ◌≤◌, List, [], ◌∷◌, ◌++◌, refl, ap, sym, subst, ◌∙◌, arith}
 use Rattle.std.specs.Prelude.{Result, Ok, Err, IfOk}
 use Rattle.pure_text.specs.Lists.{Each, EachTwo}
 use Rattle.pure_definitions.specs.Types.Typ.{Typ}
 use Rattle.pure_definitions.specs.Types.Order.{Algebra}
-use Rattle.pure_definitions.specs.Terms.Term.{Term, Var}
-use Rattle.pure_definitions.specs.Terms.Typing.{HasType}
+use Rattle.pure_definitions.specs.Terms.Term.{Term}
 use Rattle.pure_logic.specs.Derivable.{Pair}
 use Rattle.pure_norm.specs.declared.fault.NormFault.{NormFault}
 use Rattle.pure_norm.specs.declared.fault.NormFault.TheVariants.{Steps, Big, Memory}
-use Rattle.pure_unify_definitions.specs.Fronts.{is_flexible}
-use Rattle.pure_unify_definitions.specs.LongSides.{AllLong, Stopped, AreLong}
+use Rattle.pure_unify_definitions.specs.LongSides.{AllLong, AreLong}
 use Rattle.pure_unify_definitions.specs.Node as nodes
 use Rattle.pure_unify_definitions.specs.Node.{Single, bind, with_setting_put, further}
 use Rattle.pure_unify_steps.specs.declared.node.Setting.TheVariants.{OfTerm}
 use Rattle.pure_unify_definitions.specs.Treatment.{left}
-use Rattle.pure_unify_definitions.specs.Simplification as rules
-use Rattle.pure_unify_definitions.specs.Simplification.{IsLeft, with_pairs, Visits, visited, visit_stops}
+use Rattle.pure_unify_definitions.specs.Simplification.{IsLeft, with_pairs, visited, visit_stops}
 use Rattle.pure_unify_definitions.specs.Children.{IsFlexFlex, child}
 use Rattle.pure_unify_definitions.specs.Search.{max_choices}
 use Rattle.pure_unify_nodes.specs.SideAnswer.{IsSidesFault}

@@ -1,12 +1,12 @@
 -- The choice, as far as a loop has come.
-use Rattle.std.proofs.Common.{◌≡◌, ℕ, ◌+◌, ◌<◌, ◌≤◌, List, [], ◌∷◌, ◌++◌, length, get_or, take, drop, Bool, true, false, ◌||◌, refl, ap, sym, subst, ◌∙◌, arith, true≢false}
+use Rattle.std.proofs.Common.{◌≡◌, ℕ, ◌+◌, ◌<◌, ◌≤◌, List, [], ◌∷◌, ◌++◌, length, get_or, take, drop, Bool, true, false, ◌||◌, ap, sym, subst, ◌∙◌, true≢false}
 use Rattle.std.proofs.lemmas.List.{take-append-drop, take_all}
 use Rattle.pure_text.specs.Lists.{Each}
 use Rattle.pure_text.proofs.ListLaws.{each-append, each-right}
 use Rattle.pure_definitions.specs.Terms.Term.{Term}
 use Rattle.pure_logic.specs.Derivable.{Pair}
 use Rattle.pure_unify_definitions.specs.Fronts.{is_flexible, head}
-use Rattle.pure_unify_definitions.specs.Children.{IsFlexFlex, HasFlexible, on_left, on_right, IsChoice}
+use Rattle.pure_unify_definitions.specs.Children.{IsFlexFlex, on_left, on_right, IsChoice}
 use Rattle.pure_unify.specs.Images.{HasFlexibleSide}
 use Rattle.pure_unify.proofs.ListLaws.{take_one}
 

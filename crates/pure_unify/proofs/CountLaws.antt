@@ -1,11 +1,10 @@
 -- The heads of sides within the limits.
-use Rattle.std.proofs.Common.{◌≡◌, ℕ, ◌+◌, ◌<◌, ◌≤◌, ◌^◌, max, List, [], ◌∷◌, ◌++◌, Bool, true, false, ap, sym, subst, ◌∙◌, arith, true≢false}
+use Rattle.std.proofs.Common.{◌≡◌, ◌≤◌, List, ◌∷◌, true, ap, sym, subst, ◌∙◌, arith, true≢false}
 use Rattle.pure_text.specs.Lists.{Each}
 use Rattle.pure_text.proofs.ListLaws.{each-right}
-use Rattle.pure_definitions.specs.Types.Typ.{Typ, typ_depth}
 use Rattle.pure_definitions.specs.Terms.Term.{Term, Const, Free, Var, Bound, Abs, App, term_depth}
 use Rattle.pure_logic.specs.Derivable.{Pair}
-use Rattle.pure_unify_definitions.specs.Fronts.{term_body, front, head, is_schematic, is_flexible}
+use Rattle.pure_unify_definitions.specs.Fronts.{term_body, front, head, is_schematic}
 use Rattle.pure_unify_definitions.specs.Children.{HasFlexible, on_left, on_right, IsChoice}
 use Rattle.pure_unify_steps.specs.Long.{IsLongSide, IsLongPair}
 use Rattle.pure_unify.specs.Images.{HasCountable, IsCountableVariable}

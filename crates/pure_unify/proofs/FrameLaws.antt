@@ -1,14 +1,11 @@
 -- The nodes that frames hold, and what comes of one of them.
-use Rattle.std.proofs.Common.{◌≡◌, ℕ, zero, suc, ◌+◌, ◌<◌, ◌≤◌, List, [], ◌∷◌, ◌++◌, map, length, Bool, true, false, ◌||◌, refl, ap, sym, subst, ◌∙◌, arith, append_assoc}
+use Rattle.std.proofs.Common.{◌≡◌, ℕ, ◌+◌, ◌<◌, ◌≤◌, List, [], ◌∷◌, ◌++◌, map, length, Bool, true, refl, ap, sym, subst, ◌∙◌, arith, append_assoc}
 use Rattle.std.specs.Prelude.{reverse, Result, Ok, Err, Option, Some, None, IfOk, IfSome}
 use Rattle.std.proofs.lemmas.List.{append-nil, reverse-reverse}
 use Rattle.std.proofs.lemmas.Grind.{reverse_onto}
 use Rattle.pure_text.specs.Lists.{Each}
-use Rattle.pure_text.proofs.ListLaws.{each-append, each-left, each-right}
-use Rattle.pure_definitions.specs.Types.Typ.{Typ}
 use Rattle.pure_definitions.specs.Types.Order.{Algebra}
 use Rattle.pure_definitions.specs.Terms.Term.{Term, Var}
-use Rattle.pure_definitions.specs.Terms.Typing.{HasType}
 use Rattle.pure_logic.specs.Derivable.{Pair}
 use Rattle.pure_unify_definitions.specs.Node as node
 use Rattle.pure_unify_definitions.specs.LongSides as sides
@@ -19,7 +16,6 @@ use Rattle.pure_unify_definitions.specs.Search as search
 use Rattle.pure_unify_definitions.specs.Search.{Searches, AreImagesWithin, unifier_of, max_choices, max_nodes, over, over_cut, bound, node_fails, node_stops, success, too_large, node_is_cut, inner}
 use Rattle.pure_unify_steps.specs.declared.node.Node.{Node}
 use Rattle.pure_unify_steps.specs.Held.{IsNode}
-use Rattle.pure_unify_steps.specs.Long.{IsLongPair}
 use Rattle.pure_unify.specs.declared.branch.Branch.{Branch}
 use Rattle.pure_unify.specs.declared.branch.Chosen.TheVariants as chosen
 use Rattle.pure_unify.specs.declared.search.Frame.{Frame}
@@ -28,8 +24,7 @@ use Rattle.pure_unify.specs.declared.unifier.Unifier.{Unifier}
 use Rattle.pure_unify.specs.declared.fault.UnifyFault.{UnifyFault}
 use Rattle.pure_unify.specs.declared.fault.UnifyFault.TheVariants.{NoUnifier, SearchBound, Steps, Big, Memory}
 use Rattle.pure_unify.specs.Unified.{seen, IsToldAs, IsLeftOver}
-use Rattle.pure_unify.specs.Frames.{IsOpen, IsBranch, IsChosen, IsFrame, HoldNodes, IsSimpleHeld, IsReady, CanGoOn, IsStep, IsSuccess, AreLeftOver}
-use Rattle.pure_unify.proofs.VisitLaws.{visit_choices}
+use Rattle.pure_unify.specs.Frames.{IsBranch, IsChosen, IsFrame, HoldNodes, IsStep, IsSuccess, AreLeftOver}
 
 -- One frame more holds its nodes before the others.
 pub hold_more : (fs : List Frame) (f : Frame) (mine ns : List node.Node) → HoldNodes fs ns → IsFrame f mine → HoldNodes (fs ++ f ∷ []) (mine ++ ns)

@@ -1,7 +1,7 @@
 -- Types under later settings, from their heads.
-use Rattle.std.proofs.Common.{◌≡◌, ℕ, zero, suc, ◌+◌, ◌-◌, ◌<◌, ◌≤◌, List, [], ◌∷◌, ◌++◌, map, length, get_or, take, drop, Bool, true, false, refl, ap, sym, subst, ◌∙◌, arith, true≢false}
+use Rattle.std.proofs.Common.{◌≡◌, ℕ, ◌+◌, ◌<◌, ◌≤◌, List, [], ◌∷◌, map, length, get_or, drop, true, false, refl, ap, sym, subst, ◌∙◌, arith, true≢false}
 use Rattle.pure_definitions.specs.Types.Typ.{Typ, TFree, TVar, Con, typs_of}
-use Rattle.pure_definitions.specs.Terms.Subst.{typ_image, typ_instance, typs_instance}
+use Rattle.pure_definitions.specs.Terms.Subst.{typ_image, typ_instance}
 use Rattle.pure_definitions.proofs.InstanceLemmas.{typ_image-fixed, typs_instance-of}
 use Rattle.pure_unify_steps.specs.declared.node.Setting.{Setting}
 use Rattle.pure_unify_steps.specs.declared.node.Setting.TheVariants.{OfTyps, OfTerm}

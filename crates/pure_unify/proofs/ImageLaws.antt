@@ -1,9 +1,9 @@
 -- Images in the order in which they are made: the last first.
-use Rattle.std.proofs.Common.{◌≡◌, ℕ, zero, suc, ◌+◌, ◌-◌, ◌<◌, ◌≤◌, ◌^◌, max, List, [], ◌∷◌, ◌++◌, reverse, length, Bool, true, false, refl, ap, sym, ◌∙◌, arith, append_assoc}
+use Rattle.std.proofs.Common.{◌≡◌, ℕ, zero, ◌+◌, ◌-◌, ◌<◌, ◌≤◌, List, [], ◌∷◌, ◌++◌, reverse, length, Bool, true, false, refl, ap, sym, ◌∙◌, arith, append_assoc}
 use Rattle.std.specs.Prelude.{if◌then◌else◌}
 use Rattle.std.proofs.lemmas.List.{append-nil, reverse-append}
 use Rattle.std.proofs.lemmas.Grind.{reverse_onto}
-use Rattle.pure_definitions.specs.Types.Typ.{Typ, TFree, TVar, Con, none, also, typ_depth, typs_depth, typ_eq, arrow}
+use Rattle.pure_definitions.specs.Types.Typ.{Typ, Con, none, also, typ_depth, typ_eq, arrow}
 use Rattle.pure_definitions.specs.Terms.Term.{Term, Const, Free, Var, Bound, Abs, App}
 use Rattle.pure_unify_definitions.specs.Fronts.{domains, range}
 use Rattle.pure_unify_definitions.specs.Children.{imitations, projections, images, image_of}

@@ -3,7 +3,7 @@ use Rattle.std.proofs.Common.{◌≡◌, ℕ, zero, suc, ◌+◌, ◌-◌, ◌<�
 use Rattle.std.specs.Prelude.{if◌then◌else◌}
 use Rattle.std.proofs.lemmas.List.{length-reverse, length-append, take_all, get_or-reverse}
 use Rattle.pure_text.specs.Lists.{Each}
-use Rattle.pure_definitions.specs.Types.Typ.{Typ, TFree, TVar, Con}
+use Rattle.pure_definitions.specs.Types.Typ.{Typ}
 use Rattle.pure_definitions.specs.Terms.Term.{Term, Const, Free, Var, Bound, Abs, App, term_eq}
 use Rattle.pure_definitions.specs.Models.Equality.{term_eq-itself, term_eq-same}
 use Rattle.pure_definitions.specs.Terms.Subst.{TypBind, TermBind, term_variable, typ_image, term_image, typ_instance, inst_typ, inst_term}
@@ -11,7 +11,7 @@ use Rattle.pure_definitions.proofs.InstanceLemmas.{term_image-fixed}
 use Rattle.pure_unify_steps.specs.declared.node.Setting.{Setting}
 use Rattle.pure_unify_steps.specs.declared.node.Setting.TheVariants.{OfTyps, OfTerm}
 use Rattle.pure_unify_steps.proofs.GatherLaws.{drop_here, drop_all}
-use Rattle.pure_unify.specs.Later.{typ_later, term_later, typ_entry, term_entry, typ_entries, term_entries, IsSingle}
+use Rattle.pure_unify.specs.Later.{typ_later, term_later, term_entry, term_entries, IsSingle}
 use Rattle.pure_unify.proofs.ListLaws.{take_one, each_get}
 
 pub later-const : (hs : List Setting) (c : ℕ) (T : Typ) → term_later hs (Const c T) ≡ Const c (typ_later hs T)

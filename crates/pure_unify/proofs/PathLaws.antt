@@ -1,27 +1,23 @@
 -- Settings as they are held, and the settings that they are.
-use Rattle.std.proofs.Common.{◌≡◌, ◌⊎◌, ℕ, zero, suc, ◌+◌, ◌<◌, ◌≤◌, List, [], ◌∷◌, ◌++◌, map, Bool, true, false, cond, inl, inr, refl, ap, sym, subst, ◌∙◌, append_assoc}
-use Rattle.std.specs.Prelude.{if◌then◌else◌}
+use Rattle.std.proofs.Common.{◌≡◌, ℕ, List, [], ◌∷◌, ◌++◌, map, Bool, true, false, cond, inl, inr, refl, ap, sym, subst, ◌∙◌}
 use Rattle.pure_text.specs.Lists.{IsIn, Each, EachTwo}
 use Rattle.pure_definitions.specs.Types.Typ.{Typ, TFree, TVar, Con, typ_eq}
 use Rattle.pure_definitions.specs.Terms.Term.{Term}
-use Rattle.pure_definitions.specs.Terms.Limits.{IsWithinTyp}
 use Rattle.pure_definitions.specs.Models.Equality.{typ_eq-same, typ_eq-itself}
-use Rattle.pure_definitions.specs.Terms.Subst.{TypBind, TermBind, IsTypMap, typ_variable, typ_image, typ_instance, inst_typ, inst_term, term_image}
-use Rattle.pure_term_laws.specs.LawsOccurs.{IsTypVariable}
+use Rattle.pure_definitions.specs.Terms.Subst.{TypBind, IsTypMap, typ_variable, typ_image, typ_instance, inst_typ, inst_term, term_image}
 use Rattle.pure_term_laws.proofs.OccursLaws.{typ_instances-agree}
 use Rattle.pure_term_laws.proofs.SubstLaws.{typ_instance-identity}
 use Rattle.pure_tunify.specs.Settings.{composed}
-use Rattle.pure_tunify.specs.Working.{IsWritten, IsWrittenInOrder}
+use Rattle.pure_tunify.specs.Working.{IsWritten}
 use Rattle.pure_tunify.proofs.SettingLaws.{instance-append, composed-absent}
 use Rattle.pure_unify_definitions.specs.Node as node
 use Rattle.pure_unify_definitions.specs.Node.{Typs, Single, bind, with_setting, typ_settings, typ_after, term_after, written_typs, resolved}
-use Rattle.pure_unify_definitions.specs.Search.{AreImagesWithin, unifier_of}
 use Rattle.pure_unify_steps.specs.declared.node.Setting.{Setting}
 use Rattle.pure_unify_steps.specs.declared.node.Setting.TheVariants.{OfTyps, OfTerm}
 use Rattle.pure_unify_steps.specs.Held.{IsSetting}
 use Rattle.pure_unify_steps.proofs.PutLaws.{written_agrees, written_same}
-use Rattle.pure_unify.specs.Later.{typ_later, term_later, typ_entry, term_entry, typ_entries, term_entries, IsSingle, IsDistinct, AreEntriesWithin}
-use Rattle.pure_unify.proofs.ListLaws.{map-append, map-map, map-same}
+use Rattle.pure_unify.specs.Later.{typ_later, term_later, typ_entry, term_entry, typ_entries, term_entries, IsSingle, IsDistinct}
+use Rattle.pure_unify.proofs.ListLaws.{map-same}
 
 -- A map that is written out in order is the list of the entries as they are written out.
 variable-name : {x y i j : ℕ} {s r : List ℕ} → TVar x i s ≡ TVar y j r → x ≡ y

@@ -1,23 +1,21 @@
 -- The entries of settings, from the last one on.
-use Rattle.std.proofs.Common.{◌≡◌, ◌⊎◌, ℕ, zero, suc, ◌+◌, ◌-◌, ◌<◌, ◌≤◌, List, [], ◌∷◌, ◌++◌, map, length, get_or, take, drop, drop-cons, Bool, true, false, cond, inl, inr, refl, ap, sym, subst, ◌∙◌, arith}
+use Rattle.std.proofs.Common.{◌≡◌, ◌⊎◌, ℕ, zero, suc, ◌-◌, ◌<◌, ◌≤◌, List, [], ◌∷◌, ◌++◌, map, length, get_or, drop, drop-cons, Bool, true, false, cond, inl, inr, refl, ap, sym, subst, ◌∙◌, arith}
 use Rattle.std.specs.Prelude.{reverse}
-use Rattle.std.proofs.lemmas.List.{reverse-append, reverse-reverse}
+use Rattle.std.proofs.lemmas.List.{reverse-reverse}
 use Rattle.std.proofs.lemmas.Grind.{reverse_onto}
 use Rattle.pure_text.specs.Lists.{IsIn, Each}
-use Rattle.pure_text.proofs.ListLaws.{each-append, each-left, each-right}
+use Rattle.pure_text.proofs.ListLaws.{each-append, each-right}
 use Rattle.pure_definitions.specs.Types.Typ.{Typ, TFree, TVar, Con, Typs, none, also, typ_eq}
-use Rattle.pure_definitions.specs.Terms.Term.{Term, IsWithin}
+use Rattle.pure_definitions.specs.Terms.Term.{IsWithin}
 use Rattle.pure_definitions.specs.Terms.Limits.{IsWithinTyp}
 use Rattle.pure_definitions.specs.Models.Equality.{typ_eq-same}
-use Rattle.pure_definitions.specs.Terms.Subst.{TypBind, TermBind, IsTypMap, typ_variable, typ_image, typ_instance, typs_instance}
+use Rattle.pure_definitions.specs.Terms.Subst.{TypBind, IsTypMap, typ_variable, typ_image, typ_instance, typs_instance}
 use Rattle.pure_term_laws.specs.LawsOccurs.{IsTypVariable}
 use Rattle.pure_term_laws.proofs.OccursLaws.{typ_instances-agree}
 use Rattle.pure_term_laws.proofs.SubstLaws.{typ_instance-identity}
 use Rattle.pure_unify_steps.specs.declared.node.Setting.{Setting}
 use Rattle.pure_unify_steps.specs.declared.node.Setting.TheVariants.{OfTyps, OfTerm}
-use Rattle.pure_unify.specs.Later.{typ_later, term_later, typ_entry, term_entry, typ_entries, term_entries, IsSingle, IsDistinct, AreEntriesWithin}
-use Rattle.pure_unify.proofs.HeadLaws.{typ_later-fixed}
-use Rattle.pure_unify.proofs.ListLaws.{map-same}
+use Rattle.pure_unify.specs.Later.{typ_later, typ_entry, term_entry, typ_entries, term_entries, AreEntriesWithin}
 
 pub reverse-cons : {X : Type 0} (x : X) (xs : List X) → reverse (x ∷ xs) ≡ reverse xs ++ x ∷ []
 reverse-cons x xs = reverse_onto xs x []

@@ -1,13 +1,12 @@
 -- What is resolved of settings, one after the other from the last one on.
-use Rattle.std.proofs.Common.{◌≡◌, ℕ, zero, suc, ◌+◌, ◌-◌, ◌<◌, ◌≤◌, List, [], ◌∷◌, ◌++◌, map, length, get_or, take, drop, refl, ap, sym, subst, ◌∙◌, arith}
-use Rattle.std.specs.Prelude.{reverse, Result, Ok, Err}
+use Rattle.std.proofs.Common.{◌≡◌, ℕ, ◌+◌, ◌-◌, ◌<◌, ◌≤◌, List, [], ◌∷◌, ◌++◌, map, length, get_or, take, drop, refl, ap, sym, subst, ◌∙◌, arith}
+use Rattle.std.specs.Prelude.{reverse, Err}
 use Rattle.std.proofs.lemmas.List.{reverse-append, reverse-reverse, take_rest}
-use Rattle.pure_text.specs.Lists.{IsIn, Each}
-use Rattle.pure_text.proofs.ListLaws.{each-append, each-left, each-right}
-use Rattle.pure_definitions.specs.Types.Typ.{Typ}
-use Rattle.pure_definitions.specs.Terms.Term.{Term, IsWithin}
+use Rattle.pure_text.specs.Lists.{Each}
+use Rattle.pure_text.proofs.ListLaws.{each-append, each-left}
+use Rattle.pure_definitions.specs.Terms.Term.{IsWithin}
 use Rattle.pure_definitions.specs.Terms.Limits.{IsWithinTyp}
-use Rattle.pure_definitions.specs.Terms.Subst.{TypBind, TermBind, IsTypMap, typ_variable, typ_image, typ_instance}
+use Rattle.pure_definitions.specs.Terms.Subst.{TypBind, TermBind, IsTypMap, typ_image, typ_instance}
 use Rattle.pure_term_laws.proofs.SubstLaws.{typ_instance-identity}
 use Rattle.pure_typ.specs.declared.grow.Grow.{Grow}
 use Rattle.pure_typ.specs.declared.grow.Grow.TheVariants.{Big, Memory}
@@ -20,10 +19,10 @@ use Rattle.pure_unify_steps.specs.Held.{IsNode}
 use Rattle.pure_unify.specs.declared.resolve.Later.{Later}
 use Rattle.pure_unify.specs.declared.unifier.Unifier.{Unifier}
 use Rattle.pure_unify.specs.Unified.{seen}
-use Rattle.pure_unify.specs.Later.{typ_later, term_later, typ_entry, term_entry, entry_under, typ_entries, term_entries, IsSingle, IsDistinct, AreEntriesWithin}
+use Rattle.pure_unify.specs.Later.{term_later, typ_entry, term_entry, entry_under, typ_entries, term_entries, IsDistinct, AreEntriesWithin}
 use Rattle.pure_unify.specs.Resolved.{IsLater, IsLaterAnswer, IsBigFor, IsUnifierAnswer}
 use Rattle.pure_unify.proofs.ListLaws.{map-same}
-use Rattle.pure_unify.proofs.ResolveLaws.{reverse-cons, rest_here, each-reverse, map_is, within_rest, within_drop}
+use Rattle.pure_unify.proofs.ResolveLaws.{reverse-cons, rest_here, each-reverse, map_is, within_drop}
 use Rattle.pure_unify.proofs.PathLaws.{entries_terms, entries_typs}
 
 -- No setting.

@@ -1,15 +1,11 @@
 -- What a visit keeps, and what it leaves.
-use Rattle.std.proofs.Common.{◌≡◌, ℕ, ◌+◌, ◌≤◌, List, [], ◌∷◌, Bool, true, false, ◌||◌, refl, ap, sym, subst, ◌∙◌}
+use Rattle.std.proofs.Common.{◌≡◌, ℕ, refl, ap, ◌∙◌}
 use Rattle.pure_text.specs.Lists.{Each}
 use Rattle.pure_definitions.specs.Types.Typ.{Typ}
 use Rattle.pure_definitions.specs.Types.Order.{Algebra}
-use Rattle.pure_definitions.specs.Terms.Subst.{TypBind}
-use Rattle.pure_logic.specs.Derivable.{Pair}
 use Rattle.pure_unify_definitions.specs.Node.{Node}
-use Rattle.pure_unify_definitions.specs.LongSides.{AllLong, AreLong}
-use Rattle.pure_unify_definitions.specs.Treatment.{left}
-use Rattle.pure_unify_definitions.specs.Retyping.{Next, Goes, Fails, Stops, IsRetyped, no_typing, beyond, two_same, side_stops, all_long}
-use Rattle.pure_unify_definitions.specs.Simplification.{IsLeft, IsSplitAt, with_pairs, Applies, drops, retypes, fails, puts, put_stops, splits, unifies, unify_fails, unify_stops, Simplifies, simple, step, failed, halted, Simple, Visits, visited, visit_stops}
+use Rattle.pure_unify_definitions.specs.Retyping.{Next, Goes, IsRetyped, no_typing, beyond, two_same, side_stops, all_long}
+use Rattle.pure_unify_definitions.specs.Simplification.{IsLeft, with_pairs, Applies, drops, retypes, fails, puts, put_stops, splits, unifies, unify_fails, unify_stops, Simplifies, simple, step, Simple, Visits, visited}
 
 -- A step on types keeps the count of choices.
 abbrev goes : Node → Next → Type 0

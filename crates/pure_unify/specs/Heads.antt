@@ -1,9 +1,9 @@
 -- What stands for a type under settings, as long as it is a schematic variable.
 use Rattle.std.specs.Prelude.{◌≡◌, ℕ, ◌≤◌, List, length, drop, Bool, true, false}
-use Rattle.pure_definitions.specs.Types.Typ.{Typ, TFree, TVar, Con}
+use Rattle.pure_definitions.specs.Types.Typ.{Typ, TVar}
 use Rattle.pure_definitions.specs.Terms.Subst.{typ_image}
 use Rattle.pure_unify_steps.specs.declared.node.Setting.{Setting}
-use Rattle.pure_unify_steps.specs.declared.node.Setting.TheVariants.{OfTyps, OfTerm}
+use Rattle.pure_unify_steps.specs.declared.node.Setting.TheVariants.{OfTyps}
 use Rattle.pure_unify.specs.Later.{typ_later}
 
 -- whether the type is a schematic variable

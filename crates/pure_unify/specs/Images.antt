@@ -1,11 +1,10 @@
 -- What calls for images and for the choice of a node answer.
-use Rattle.std.specs.Prelude.{◌≡◌, ℕ, ◌+◌, ◌-◌, ◌<◌, ◌^◌, List, [], ◌∷◌, length, true, ◌||◌, Option, Some, None, if◌then◌else◌}
-use Rattle.pure_text.specs.Lists.{Each}
+use Rattle.std.specs.Prelude.{◌≡◌, ℕ, ◌+◌, ◌-◌, ◌<◌, ◌^◌, List, [], ◌∷◌, length, true, ◌||◌, if◌then◌else◌}
 use Rattle.pure_definitions.specs.Types.Typ.{Typ, typ_eq, typ_depth}
 use Rattle.pure_definitions.specs.Terms.Term.{Term, Const, Free, Var, Bound}
 use Rattle.pure_logic.specs.Derivable.{Pair}
 use Rattle.pure_unify_definitions.specs.Fronts.{is_flexible, domains, range}
-use Rattle.pure_unify_definitions.specs.Children.{IsFlexFlex, IsChoice, image_of}
+use Rattle.pure_unify_definitions.specs.Children.{image_of}
 
 -- the projection to the variable at place `from` of abstractions of the types Ts, whose type is U: none where that doesn't end in the type R
 abbrev pub projection : (index : ℕ) → (Ts : List Typ) → (R : Typ) → (from : ℕ) → (U : Typ) → List Term

@@ -1,12 +1,10 @@
 -- What later settings, as the program holds them, make of types and of terms; and the entries that come of them.
-use Rattle.std.specs.Prelude.{◌≡◌, ℕ, List, [], ◌∷◌, ◌++◌, map, reverse, Result, Ok, Err}
+use Rattle.std.specs.Prelude.{◌≡◌, List, [], ◌∷◌, ◌++◌, map}
 use Rattle.pure_text.specs.Lists.{Each}
 use Rattle.pure_definitions.specs.Types.Typ.{Typ}
 use Rattle.pure_definitions.specs.Terms.Term.{Term, IsWithin}
 use Rattle.pure_definitions.specs.Terms.Limits.{IsWithinTyp}
 use Rattle.pure_definitions.specs.Terms.Subst.{TypBind, TermBind, IsTypMap, typ_image, term_image, typ_instance, inst_typ, inst_term}
-use Rattle.pure_typ.specs.declared.grow.Grow.{Grow}
-use Rattle.pure_typ.specs.declared.grow.Grow.TheVariants.{Big, Memory}
 use Rattle.pure_unify_definitions.specs.Node as node
 use Rattle.pure_unify_steps.specs.declared.node.Setting.{Setting}
 use Rattle.pure_unify_steps.specs.declared.node.Setting.TheVariants.{OfTyps, OfTerm}

@@ -1,9 +1,7 @@
 -- What the resolution of a path answers.
-use Rattle.std.specs.Prelude.{◌≡◌, List, [], ◌∷◌, reverse, Result, Ok, Err}
-use Rattle.pure_text.specs.Lists.{Each}
+use Rattle.std.specs.Prelude.{◌≡◌, List, reverse, Result, Ok, Err}
 use Rattle.pure_definitions.specs.Types.Typ.{Typ}
-use Rattle.pure_definitions.specs.Terms.Limits.{IsWithinTyp}
-use Rattle.pure_definitions.specs.Terms.Subst.{TypBind, typ_image, typ_instance}
+use Rattle.pure_definitions.specs.Terms.Subst.{typ_image, typ_instance}
 use Rattle.pure_typ.specs.declared.grow.Grow.{Grow}
 use Rattle.pure_typ.specs.declared.grow.Grow.TheVariants.{Big, Memory}
 use Rattle.pure_logic.specs.Derivable.{Pair}

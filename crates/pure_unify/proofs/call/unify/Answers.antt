@@ -1,6 +1,5 @@
-use Rattle.std.proofs.Common.{List, [], ◌∷◌, refl, arith}
-use Rattle.std.specs.Prelude.{Ok, Err}
-use Rattle.pure_unify_definitions.specs.Node as nodes
+use Rattle.std.proofs.Common.{[], refl, arith}
+use Rattle.std.specs.Prelude.{Ok}
 use Rattle.pure_unify_definitions.specs.Node.{root}
 use Rattle.pure_unify_definitions.specs.Search.{Searches, IsUnifyAnswer}
 use Rattle.pure_unify.proofs.FrameLaws.{told_of, found_at, onward_at, none_held}

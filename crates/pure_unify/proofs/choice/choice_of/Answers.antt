@@ -1,4 +1,4 @@
-use Rattle.std.proofs.Common.{◌≡◌, List, ◌∷◌, ◌+◌, drop, ap, ◌∙◌, sym}
+use Rattle.std.proofs.Common.{◌∷◌, ◌+◌, drop, ap, ◌∙◌, sym}
 use Rattle.pure_logic.specs.Derivable.{Pair}
 use Rattle.pure_unify_steps.proofs.GatherLaws.{drop_here}
 use Rattle.pure_unify.proofs.ChoiceLaws.{choice_right, choice_left}

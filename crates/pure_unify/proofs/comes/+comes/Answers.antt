@@ -1,11 +1,9 @@
-use Rattle.std.proofs.Common.{◌≡◌, ◌≢◌, ◌+◌, ◌-◌, ◌*◌, List, map, length, take, drop, refl, ap, sym, ◌∙◌, arith}
+use Rattle.std.proofs.Common.{◌≡◌, ◌≢◌, ◌+◌, refl, ap, arith}
 use Rattle.std.proofs.lemmas.List.{take_rest}
 use Rattle.pure_text.proofs.AnswerLaws.{test_eq, test_fails, no_as}
-use Rattle.pure_definitions.specs.Types.Typ.{Typ, TFree, TVar, Con, typs_of, typ_depth, typs_depth}
+use Rattle.pure_definitions.specs.Types.Typ.{TFree, TVar, Con, typs_of, typ_depth, typs_depth}
 use Rattle.pure_definitions.proofs.TypsLemmas.{typ_depth-item}
-use Rattle.pure_unify_steps.specs.declared.node.Setting.{Setting}
-use Rattle.pure_unify.specs.Later.{typ_later}
-use Rattle.pure_unify.proofs.ComesLaws.{con_other, con_fixed, con_variable, con_same, atom_fixed, atom_variable, joined}
+use Rattle.pure_unify.proofs.ComesLaws.{con_other, con_fixed, con_variable, con_same, atom_fixed, joined}
 use Rattle.pure_unify.proofs.comes.+comes.Goals as goal
 
 pub come_to-comes_to-requires : goal.come_to-comes_to-requires

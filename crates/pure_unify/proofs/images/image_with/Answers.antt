@@ -1,4 +1,4 @@
-use Rattle.std.proofs.Common.{◌<◌, ◌^◌, ◌+◌, length, arith}
+use Rattle.std.proofs.Common.{◌<◌, ◌^◌, length, arith}
 use Rattle.pure_unify_definitions.specs.Fronts.{domains}
 use Rattle.pure_unify.proofs.ImageLaws.{domains_few}
 use Rattle.pure_unify.proofs.images.image_with.Goals as goal

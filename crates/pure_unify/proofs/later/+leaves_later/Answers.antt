@@ -1,11 +1,10 @@
-use Rattle.std.proofs.Common.{◌≡◌, ◌+◌, max, refl, ap, arith}
-use Rattle.pure_definitions.specs.Types.Typ.{Typ, typ_size, typ_depth}
-use Rattle.pure_definitions.specs.Terms.Term.{Term, Const, Free, Var, Bound, Abs, App, term_size, term_depth}
-use Rattle.pure_definitions.specs.Terms.Subst.{typ_image, typ_instance}
+use Rattle.std.proofs.Common.{◌≡◌, refl, ap, arith}
+use Rattle.pure_definitions.specs.Terms.Term.{Const, Free, Bound, Abs, App, term_size, term_depth}
+use Rattle.pure_definitions.specs.Terms.Subst.{typ_image}
 use Rattle.pure_definitions.proofs.TermLemmas.{term_size-some, term_depth-some}
 use Rattle.pure_definitions.proofs.GrownLemmas.{leaves-equal, leaves-abs, leaves-node, leaves-part_none}
 use Rattle.pure_unify.specs.Later.{term_later}
-use Rattle.pure_unify.proofs.LaterLaws.{is_const, is_free, is_variable, is_bound, is_abs, is_app}
+use Rattle.pure_unify.proofs.LaterLaws.{is_const, is_free, is_bound, is_abs, is_app}
 use Rattle.pure_unify.proofs.later.+leaves_later.Goals as goal
 
 pub returns-then-left-eq0 : goal.returns-then-left-eq0

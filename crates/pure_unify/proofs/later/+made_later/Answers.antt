@@ -1,8 +1,6 @@
 use Rattle.std.proofs.Common.{◌≡◌, refl, ap, sym, ◌∙◌}
-use Rattle.pure_definitions.specs.Types.Typ.{Typ}
-use Rattle.pure_definitions.specs.Terms.Term.{Term, Const, Free, Var, Bound, Abs, App}
-use Rattle.pure_definitions.specs.Terms.Subst.{typ_image, typ_instance}
-use Rattle.pure_unify.specs.Later.{term_later}
+use Rattle.pure_definitions.specs.Terms.Term.{Const, Free, Bound, Abs, App}
+use Rattle.pure_definitions.specs.Terms.Subst.{typ_image}
 use Rattle.pure_unify.proofs.LaterLaws.{is_const, is_free, is_bound, is_abs, is_app}
 use Rattle.pure_unify.proofs.later.+made_later.Goals as goal
 

@@ -1,10 +1,8 @@
-use Rattle.std.proofs.Common.{rules, ◌≡◌, ◌-◌, ◌<◌, length, take, ◌∷◌, [], ap, sym, ◌∙◌, refl, arith}
-use Rattle.std.specs.Prelude.{Bool, false}
+use Rattle.std.proofs.Common.{rules, ◌≡◌, ◌-◌, ◌<◌, length, take, ap, sym, ◌∙◌, refl, arith}
 use Rattle.pure_text.proofs.AnswerLaws.{test_fails}
-use Rattle.pure_text.proofs.ListLaws.{each_read}
 use Rattle.pure_definitions.specs.Terms.Term.{Var}
 use Rattle.pure_definitions.specs.Terms.Subst.{TermBind, term_variable}
-use Rattle.pure_unify.specs.Later.{typ_later, IsSingle}
+use Rattle.pure_unify.specs.Later.{typ_later}
 use Rattle.pure_unify.proofs.LaterLaws.{kept_typs, kept_term, kept_found, kept_some, single_at, first_is}
 use Rattle.pure_unify.proofs.later.image_later.Goals as goal
 use Rattle.pure_unify.proofs.later.image_later.Goals.{in-OfTyps, in-OfTerm+else-replaces}

@@ -1,5 +1,4 @@
-use Rattle.std.proofs.Common.{List, ◌++◌, ◌∷◌, [], ◌+◌, refl, sym, ◌∙◌, subst, arith}
-use Rattle.pure_unify_definitions.specs.Node as nodes
+use Rattle.std.proofs.Common.{List, ◌++◌, ◌∷◌, sym, subst}
 use Rattle.pure_unify_definitions.specs.Children.{child}
 use Rattle.pure_unify.specs.declared.search.Frame.{Frame}
 use Rattle.pure_unify.specs.Frames.{HoldNodes}

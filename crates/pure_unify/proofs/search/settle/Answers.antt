@@ -1,4 +1,4 @@
-use Rattle.std.proofs.Common.{List, ◌++◌, ◌∷◌, [], true, refl, sym, subst}
+use Rattle.std.proofs.Common.{List, true, refl, sym, subst}
 use Rattle.pure_text.specs.Lists.{Each}
 use Rattle.pure_logic.specs.Derivable.{Pair}
 use Rattle.pure_unify_definitions.specs.Children.{IsFlexFlex}

@@ -1,4 +1,4 @@
-use Rattle.std.proofs.Common.{List, ◌++◌, ◌∷◌, [], ap, sym, refl, subst, arith}
+use Rattle.std.proofs.Common.{List, ◌++◌, sym, subst, arith}
 use Rattle.std.specs.Prelude.{Err}
 use Rattle.pure_unify_definitions.specs.Node as nodes
 use Rattle.pure_unify_definitions.specs.Search.{Searches}

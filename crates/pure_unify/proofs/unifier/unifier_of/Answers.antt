@@ -1,8 +1,8 @@
-use Rattle.std.proofs.Common.{List, refl, ap, ◌∙◌, subst}
-use Rattle.std.specs.Prelude.{reverse, Err}
+use Rattle.std.proofs.Common.{List, refl, subst}
+use Rattle.std.specs.Prelude.{Err}
 use Rattle.pure_text.specs.Lists.{Each}
 use Rattle.pure_unify_steps.specs.declared.node.Setting.{Setting}
-use Rattle.pure_unify.specs.Later.{IsDistinct, AreEntriesWithin}
+use Rattle.pure_unify.specs.Later.{IsDistinct}
 use Rattle.pure_unify.specs.Resolved.{IsLater, IsLaterAnswer}
 use Rattle.pure_unify.proofs.ResolvedLaws.{big_for, fault_later, unifier_fault, unifier_beyond, unifier_is}
 use Rattle.pure_unify.proofs.unifier.unifier_of.Goals as goal
