@@ -1,5 +1,5 @@
 -- What the calls for steps without unification answer, from what their parts ensure.
-use Rattle.std.proofs.Common.{◌≡◌, ◌⊎◌, ℕ, ◌+◌, ◌<◌, List, [], ◌∷◌, ◌++◌, length, Result, Err, refl, ap, sym, subst, ◌∙◌, arith}
+use Rattle.std.proofs.Common.{◌≡◌, ◌⊎◌, ℕ, ◌+◌, ◌<◌, List, [], ◌∷◌, ◌++◌, length, Result, Ok, Err, inl, inr, refl, ap, sym, subst, ◌∙◌, arith}
 use Rattle.pure_text.specs.Lists.{Each}
 use Rattle.pure_text.proofs.ListLaws.{each-append, each-left, each-right}
 use Rattle.pure_definitions.specs.Names.{Label}
@@ -10,8 +10,8 @@ use Rattle.pure_logic.specs.Connectives.{eq, protect, chain}
 use Rattle.pure_logic.specs.Derivable.{Pair, Theorem}
 use Rattle.pure_unify_definitions.specs.LongSides as sides
 use Rattle.pure_unify_definitions.specs.LongSides.{Stop, Long, Ends, ComesTo, is_long}
-use Rattle.pure_goal_steps.specs.State.{State, IsLeftPair}
-use Rattle.pure_goal_steps.specs.Follows.{Outcome, stop_fault, Halted, Come, no_more, first_stops, all_long, Becomes, halted}
+use Rattle.pure_goal_steps.specs.State.{State, IsTheoremOf, IsLeftPair, IsGoal}
+use Rattle.pure_goal_steps.specs.Follows.{Outcome, stop_fault, AllLong, Halted, Come, no_more, first_stops, all_long, Becomes, halted}
 use Rattle.pure_goal_steps.specs.Steps.{BeginsAs, PreferStep, DeferStep, ConversionStep}
 use Rattle.pure_goal_steps.specs.declared.fault.StepFault.{StepFault}
 use Rattle.pure_goal_steps.specs.declared.fault.StepFault.TheVariants.{UnknownFact, NoSubgoal, NoPremise, NotDefinition, NothingToUnfold, NoUnifier, SearchBound, Steps, Big, NoHypothesis, SubgoalsLeft, Memory}
@@ -86,7 +86,7 @@ no-length (x ∷ xs) e = absurd (omega arith)
 pub defer_none : (th : Theorem) (g : IsGoalTheorem th) (subgoals : List Term) → subgoals ≡ g.state.subgoals → length subgoals ≡ 0 → IsStep DeferStep th (λ all. all ≡ th.rests) (Err NoSubgoal)
 defer_none th g subgoals same z = (g.state, g.is, g.goal, DeferStep.no_subgoal (sym same ∙ no-length subgoals z))
 
-come-long : (t u : Term) → ComesTo t (Long u) → IsLongForm u u
+pub come-long : (t u : Term) → ComesTo t (Long u) → IsLongForm u u
 come-long t u (is_long {n = n} b l w) = record { typ = l.typ; typed = l.long_typed; long_typed = l.long_typed; reduces = EtaReduces.done; normal = l.normal; saturated = l.saturated; parts = l.parts }
 
 -- A first subgoal that comes to its long form, before others that are so.
