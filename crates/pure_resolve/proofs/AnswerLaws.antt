@@ -1,14 +1,14 @@
 -- What calls on goals answer, from what the goal's parts conclude.
-use Rattle.std.proofs.Common.{◌≡◌, List, [], ◌∷◌, ◌++◌, Result, Ok, Err, IfOk, refl, ap, sym, subst, ◌∙◌}
+use Rattle.std.proofs.Common.{◌≡◌, List, ◌++◌, Result, Ok, Err, IfOk, ap, sym, subst}
 use Rattle.pure_text.specs.Lists.{Each}
 use Rattle.pure_text.proofs.ListLaws.{each-append, each_imply}
 use Rattle.pure_definitions.specs.Names.{Label}
-use Rattle.pure_definitions.specs.Terms.Term.{Term, IsWithin}
+use Rattle.pure_definitions.specs.Terms.Term.{Term}
 use Rattle.pure_definitions.specs.Reduction.Eta.{IsLongForm}
 use Rattle.pure_logic.specs.Connectives.{protect, chain}
 use Rattle.pure_logic.specs.Content.{Content}
 use Rattle.pure_logic.specs.Derivable.{Pair, Theorem, IsDerivable}
-use Rattle.pure_goal_steps.specs.State.{State, theorem_of, IsTheoremOf, IsLeftPair, IsGoal}
+use Rattle.pure_goal_steps.specs.State.{State, theorem_of, IsTheoremOf, IsLeftPair}
 use Rattle.pure_goal_steps.specs.Follows.{Outcome, AllLong, Come, Becomes}
 use Rattle.pure_goal_steps.specs.Derivability.{IsSound}
 use Rattle.pure_goal_steps.specs.declared.fault.StepFault.{StepFault}

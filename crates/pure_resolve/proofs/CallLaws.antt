@@ -1,5 +1,5 @@
 -- What calls on goals ask of each other.
-use Rattle.std.proofs.Common.{◌≡◌, ◌≢◌, ℕ, ◌+◌, ◌-◌, ◌<◌, ◌≤◌, List, [], ◌∷◌, ◌++◌, length, Result, Ok, Err, IfOk, refl, ap, sym, subst, ◌∙◌, arith}
+use Rattle.std.proofs.Common.{◌≡◌, ◌≢◌, ℕ, ◌-◌, ◌<◌, ◌≤◌, List, [], ◌∷◌, ◌++◌, length, Result, Err, IfOk, refl, ap, sym, subst, ◌∙◌, arith}
 use Rattle.pure_text.specs.Lists.{IsIn, Each}
 use Rattle.pure_text.proofs.ListLaws.{in-append_left, in-append_right}
 use Rattle.pure_definitions.specs.Names.{Label}
@@ -16,9 +16,9 @@ use Rattle.pure_goal_steps.specs.State.{State, IsTheoremOf}
 use Rattle.pure_goal_steps.specs.Steps.{PreferStep, DeferStep, ConversionStep}
 use Rattle.pure_goal_steps.specs.Derivability.{IsSound}
 use Rattle.pure_goal_steps.specs.declared.fault.StepFault.{StepFault}
-use Rattle.pure_goal_steps.specs.declared.fault.StepFault.TheVariants.{UnknownFact, NoSubgoal, NoPremise, NotDefinition, NothingToUnfold, NoUnifier, SearchBound, Steps, Big, NoHypothesis, SubgoalsLeft, Memory}
+use Rattle.pure_goal_steps.specs.declared.fault.StepFault.TheVariants.{NoSubgoal, Memory}
 use Rattle.pure_goal_steps.proofs.SoundLaws.{preferred_is_sound, deferred_is_sound, converted_is_sound}
-use Rattle.pure_resolve.specs.Goals.{IsGoalTheorem, IsLeftTyped, IsConcluded, IsUnited, IsStep, IsEquationFor}
+use Rattle.pure_resolve.specs.Goals.{IsGoalTheorem, IsLeftTyped, IsUnited, IsStep, IsEquationFor}
 use Rattle.pure_resolve.specs.declared.state.Goal.{Goal}
 use Rattle.pure_resolve.proofs.AnswerLaws.{left-typed, step_derivable}
 use Rattle.pure_resolve.proofs.StepLaws.{convert_answer, equated-first}

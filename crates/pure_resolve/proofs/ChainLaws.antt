@@ -1,5 +1,5 @@
 -- A goal's proposition is taken apart premise by premise, and made from behind.
-use Rattle.std.proofs.Common.{◌≡◌, ℕ, zero, suc, ◌+◌, ◌<◌, List, Result, Ok, Err, IfOk, [], ◌∷◌, ◌++◌, length, refl, ap, sym, ◌∙◌, arith, append_assoc}
+use Rattle.std.proofs.Common.{◌≡◌, ℕ, zero, suc, ◌<◌, List, Result, Ok, Err, IfOk, [], ◌∷◌, ◌++◌, length, refl, ap, sym, ◌∙◌, arith, append_assoc}
 use Rattle.pure_definitions.specs.Terms.Term.{Term, term_size}
 use Rattle.pure_logic.specs.Connectives.{imp, protect, chain}
 use Rattle.pure_theorem.specs.Shapes.{IsNoImplication}

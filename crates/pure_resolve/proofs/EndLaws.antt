@@ -1,7 +1,7 @@
 -- The last step of a goal: smashing goes on whatever a theorem rests on, keeps the mark and has one outcome.
 use Rattle.std.proofs.Common.{inl, ◌≡◌, ◌≢◌, ℕ, ◌+◌, Bool, true, false, List, [], ◌∷◌, map, length, drop, Result, Ok, Err, refl, ap, sym, subst, ◌∙◌, arith}
 use Rattle.std.specs.Prelude.{if◌then◌else◌}
-use Rattle.pure_text.specs.Lists.{IsIn, Each}
+use Rattle.pure_text.specs.Lists.{Each}
 use Rattle.pure_text.proofs.ListLaws.{each_imply}
 use Rattle.pure_definitions.specs.Names.{Label, protect_name}
 use Rattle.pure_definitions.specs.Types.Typ.{Typ}

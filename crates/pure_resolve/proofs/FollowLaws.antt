@@ -1,5 +1,5 @@
 -- What follows from an attempt to make a step.
-use Rattle.std.proofs.Common.{◌≡◌, ◌≢◌, ◌≤◌, ℕ, List, [], ◌∷◌, ◌++◌, map, Result, Ok, Err, refl, ap, sym, subst, ◌∙◌, arith}
+use Rattle.std.proofs.Common.{◌≡◌, ◌≤◌, ℕ, List, [], ◌∷◌, ◌++◌, map, Result, Err, refl, ap, sym, subst, ◌∙◌, arith}
 use Rattle.pure_text.specs.Lists.{Each}
 use Rattle.pure_text.proofs.ListLaws.{each-append, each_imply}
 use Rattle.pure_definitions.specs.Names.{Label}
@@ -20,8 +20,7 @@ use Rattle.pure_unify.specs.declared.fault.UnifyFault.{UnifyFault}
 use Rattle.pure_unify.specs.declared.fault.UnifyFault.TheVariants as unify
 use Rattle.pure_unify.specs.Unified.{seen, IsUnified, IsLeftOver}
 use Rattle.pure_goal_steps.specs.State.{State, IsTheoremOf, IsLeftPair}
-use Rattle.pure_goal_steps.specs.Follows as follows
-use Rattle.pure_goal_steps.specs.Follows.{Outcome, stop_fault, AllLong, Halted, Come, no_more, all_long, Becomes, halted, Attempt, unified_pairs, with_unifier, Follows, FollowsBy}
+use Rattle.pure_goal_steps.specs.Follows.{AllLong, Come, no_more, all_long, Becomes, halted, Attempt, unified_pairs, with_unifier, FollowsBy}
 use Rattle.pure_goal_steps.specs.declared.fault.StepFault.{StepFault}
 use Rattle.pure_goal_steps.specs.declared.fault.StepFault.TheVariants.{UnknownFact, NoSubgoal, NoPremise, NotDefinition, NothingToUnfold, NoUnifier, SearchBound, Steps, Big, NoHypothesis, SubgoalsLeft, Memory}
 use Rattle.pure_resolve.specs.Goals.{IsLeftTyped, IsConcluded, IsOutcome}

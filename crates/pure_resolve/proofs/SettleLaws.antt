@@ -1,6 +1,6 @@
 -- Terms under a unifier, in long form.
-use Rattle.std.proofs.Common.{◌≡◌, ℕ, ◌+◌, ◌<◌, List, [], ◌∷◌, ◌++◌, map, length, take, get_or, zero, suc, Result, Ok, Err, inl, inr, refl, ap, sym, subst, ◌∙◌, arith}
-use Rattle.pure_text.specs.Lists.{IsIn, Each}
+use Rattle.std.proofs.Common.{◌≡◌, ℕ, ◌+◌, ◌<◌, List, [], ◌∷◌, ◌++◌, map, length, take, get_or, zero, suc, Result, Ok, Err, inl, refl, ap, sym, subst, ◌∙◌, arith}
+use Rattle.pure_text.specs.Lists.{Each}
 use Rattle.pure_definitions.specs.Types.Typ.{Typ}
 use Rattle.pure_definitions.specs.Types.Order.{Algebra}
 use Rattle.pure_definitions.specs.Terms.Term.{Term, IsWithin}
@@ -14,11 +14,10 @@ use Rattle.pure_logic.specs.Laws.Maps.{instantiated}
 use Rattle.pure_theorem.specs.Sets.{IsSetOf}
 use Rattle.pure_theorem.specs.Within.{IsPairWithin, AreWithin}
 use Rattle.pure_theorem.specs.Shapes.{IsTyped}
-use Rattle.pure_inst.specs.Image.{IsImage}
 use Rattle.pure_inst.specs.Instance.{GivesInstance}
 use Rattle.pure_unify_definitions.specs.LongSides as sides
 use Rattle.pure_unify_definitions.specs.LongSides.{Stop, Long, Ends, ComesTo, is_large}
-use Rattle.pure_goal_steps.specs.Follows.{stop_fault, AllLong, Halted, Come, no_more, first_stops, later_stops, all_long}
+use Rattle.pure_goal_steps.specs.Follows.{AllLong, Halted, Come, no_more, first_stops, later_stops, all_long}
 use Rattle.pure_goal_steps.specs.declared.fault.StepFault.{StepFault}
 use Rattle.pure_goal_steps.specs.declared.fault.StepFault.TheVariants.{UnknownFact, NoSubgoal, NoPremise, NotDefinition, NothingToUnfold, NoUnifier, SearchBound, Steps, Big, NoHypothesis, SubgoalsLeft, Memory}
 use Rattle.pure_resolve.specs.Goals.{IsLongSubgoal}

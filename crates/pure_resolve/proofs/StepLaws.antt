@@ -1,5 +1,5 @@
 -- What the calls for steps without unification answer, from what their parts ensure.
-use Rattle.std.proofs.Common.{◌≡◌, ◌⊎◌, ℕ, ◌+◌, ◌<◌, List, [], ◌∷◌, ◌++◌, length, Result, Ok, Err, inl, inr, refl, ap, sym, subst, ◌∙◌, arith}
+use Rattle.std.proofs.Common.{◌≡◌, ◌⊎◌, ℕ, ◌+◌, ◌<◌, List, [], ◌∷◌, ◌++◌, length, Result, Err, refl, ap, sym, subst, ◌∙◌, arith}
 use Rattle.pure_text.specs.Lists.{Each}
 use Rattle.pure_text.proofs.ListLaws.{each-append, each-left, each-right}
 use Rattle.pure_definitions.specs.Names.{Label}
@@ -10,8 +10,8 @@ use Rattle.pure_logic.specs.Connectives.{eq, protect, chain}
 use Rattle.pure_logic.specs.Derivable.{Pair, Theorem}
 use Rattle.pure_unify_definitions.specs.LongSides as sides
 use Rattle.pure_unify_definitions.specs.LongSides.{Stop, Long, Ends, ComesTo, is_long}
-use Rattle.pure_goal_steps.specs.State.{State, IsTheoremOf, IsLeftPair, IsGoal}
-use Rattle.pure_goal_steps.specs.Follows.{Outcome, stop_fault, AllLong, Halted, Come, no_more, first_stops, all_long, Becomes, halted}
+use Rattle.pure_goal_steps.specs.State.{State, IsLeftPair}
+use Rattle.pure_goal_steps.specs.Follows.{Outcome, stop_fault, Halted, Come, no_more, first_stops, all_long, Becomes, halted}
 use Rattle.pure_goal_steps.specs.Steps.{BeginsAs, PreferStep, DeferStep, ConversionStep}
 use Rattle.pure_goal_steps.specs.declared.fault.StepFault.{StepFault}
 use Rattle.pure_goal_steps.specs.declared.fault.StepFault.TheVariants.{UnknownFact, NoSubgoal, NoPremise, NotDefinition, NothingToUnfold, NoUnifier, SearchBound, Steps, Big, NoHypothesis, SubgoalsLeft, Memory}

@@ -1,20 +1,17 @@
 -- What a step on a derivable goal hands to the unifier is typed, and so are its new subgoals.
-use Rattle.std.proofs.Common.{◌≡◌, ℕ, ◌+◌, List, [], ◌∷◌, ◌++◌, map, length, inl, inr, refl, ap, sym, subst, ◌∙◌, append_assoc}
+use Rattle.std.proofs.Common.{◌≡◌, ℕ, ◌+◌, List, [], ◌∷◌, ◌++◌, length, inl, inr, refl, ap, sym, subst, ◌∙◌}
 use Rattle.pure_text.specs.Lists.{IsIn, Each}
 use Rattle.pure_text.proofs.ListLaws.{each-append, each_imply}
-use Rattle.pure_definitions.specs.Names.{Label}
-use Rattle.pure_definitions.specs.Types.Typ.{Typ, prop}
+use Rattle.pure_definitions.specs.Types.Typ.{prop}
 use Rattle.pure_definitions.specs.Terms.Term.{Term}
 use Rattle.pure_definitions.specs.Terms.Bounds.{lift_term}
 use Rattle.pure_logic.specs.Connectives.{protect, chain}
-use Rattle.pure_logic.specs.Content.{Content, IsContent, IsBelow, IsProposition}
-use Rattle.pure_logic.specs.PureContent.{pure_content}
-use Rattle.pure_logic.specs.Derivable.{Pair, Theorem, IsDerivable}
+use Rattle.pure_logic.specs.Content.{Content, IsProposition}
+use Rattle.pure_logic.specs.Derivable.{Pair, Theorem}
 use Rattle.pure_logic.specs.Proves.{Proves}
 use Rattle.pure_logic.proofs.PropositionLaws.{derivable_is_proposition}
 use Rattle.pure_logic.proofs.ProvesLaws.{proved_is_proposition}
 use Rattle.pure_theorem.specs.Shapes.{IsTyped}
-use Rattle.pure_equated.specs.Equated.{IsTypedUnder}
 use Rattle.pure_equated.proofs.ReductionLaws.{long_form_is_equated}
 use Rattle.pure_unify_nodes.specs.SideAnswer.{AreSidesTyped}
 use Rattle.pure_goal_laws.specs.Prefix.{Item, Parameter, Hypothesis, behind, parameters, hypotheses, below_parameters}
@@ -23,9 +20,8 @@ use Rattle.pure_goal_laws.specs.GoalStep.{IsRuleFor, closed_pair}
 use Rattle.pure_goal_laws.proofs.PrefixLaws.{behind-append, implication_behind, hypothesis_is_proved}
 use Rattle.pure_goal_laws.proofs.StateLaws.{subgoals_are_propositions}
 use Rattle.pure_goal_laws.proofs.FactLaws.{rule-proved}
-use Rattle.pure_goal_steps.specs.State.{State, IsTheoremOf, IsLeftPair, greatest_index}
-use Rattle.pure_goal_steps.specs.Reading.{Place, around, without, standing, Strips, bare, quantified, supposed, IsRead, IsRuleOf}
-use Rattle.pure_goal_steps.specs.Follows.{Attempt}
+use Rattle.pure_goal_steps.specs.State.{IsLeftPair, greatest_index}
+use Rattle.pure_goal_steps.specs.Reading.{Place, around, without, standing, Strips, bare, quantified, supposed, IsRuleOf}
 use Rattle.pure_goal_steps.specs.Steps.{premises_behind, rule_attempt, elimination_attempt, destruction_attempt, assumption_attempt}
 use Rattle.pure_goal_step_laws.proofs.ClosedLaws.{closed_typed, lifted_propositions, without_hypothesis}
 use Rattle.pure_resolve.specs.Settled.{HasFirst, MayAttempt}

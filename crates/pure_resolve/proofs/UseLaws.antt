@@ -1,17 +1,14 @@
 -- Steps by unification, from what their parts ensure.
-use Rattle.std.proofs.Common.{◌≡◌, ◌≢◌, ℕ, zero, suc, ◌+◌, ◌-◌, ◌<◌, ◌≤◌, max, List, [], ◌∷◌, ◌++◌, map, length, take, drop, take_all, get_or, Result, Ok, Err, IfOk, inl, inr, refl, ap, sym, subst, ◌∙◌, arith}
-use Rattle.pure_text.specs.Lists.{IsIn, Each}
+use Rattle.std.proofs.Common.{◌≡◌, ◌≢◌, ℕ, zero, suc, ◌+◌, ◌-◌, ◌<◌, ◌≤◌, List, [], ◌∷◌, ◌++◌, map, length, take, drop, take_all, get_or, Result, Ok, Err, IfOk, refl, ap, sym, subst, ◌∙◌, arith}
 use Rattle.pure_text.proofs.ListLaws.{in-append_left, in-append_right}
 use Rattle.pure_definitions.specs.Names.{Label}
 use Rattle.pure_definitions.specs.Types.Typ.{Typ, prop}
 use Rattle.pure_definitions.specs.Types.Order.{Algebra}
 use Rattle.pure_definitions.specs.Terms.Term.{Term}
 use Rattle.pure_definitions.specs.Declarations.Decl.{algebra_of}
-use Rattle.pure_logic.specs.Connectives.{imp, protect, chain}
 use Rattle.pure_logic.specs.Content.{Content, IsProposition}
-use Rattle.pure_logic.specs.Derivable.{Pair, Theorem, IsDerivable}
+use Rattle.pure_logic.specs.Derivable.{Theorem, IsDerivable}
 use Rattle.pure_logic.proofs.PropositionLaws.{derivable_is_proposition}
-use Rattle.pure_theorem.specs.Facts.{IsTheoryContent}
 use Rattle.pure_theorem.specs.Sets.{label_cmp, IsSetOf}
 use Rattle.pure_theorem.specs.Shapes.{IsNoImplication}
 use Rattle.pure_unify_definitions.specs.LongSides as sides
@@ -23,10 +20,10 @@ use Rattle.pure_unify_answers.proofs.SolveLaws.{unifier_solves}
 use Rattle.pure_pairs.specs.Smash.{theorem_index_above}
 use Rattle.pure_goal_laws.specs.Prefix as prefix
 use Rattle.pure_goal_laws.specs.Prefix.{behind}
-use Rattle.pure_goal_steps.specs.State.{State, theorem_of, IsTheoremOf, greatest_index}
-use Rattle.pure_goal_steps.specs.Reading.{IsRead, IsRuleOf, rule_maxidx, Place, places, around}
+use Rattle.pure_goal_steps.specs.State.{State, IsTheoremOf, greatest_index}
+use Rattle.pure_goal_steps.specs.Reading.{IsRead, IsRuleOf, Place, places, around}
 use Rattle.pure_goal_steps.specs.Follows.{Outcome, Attempt, unified_pairs, Follows, Becomes, halted, large, small, stop_fault, FollowsBy, FollowsByFirst, none, passed, decided}
-use Rattle.pure_goal_steps.specs.Steps.{IsFirst, indexed, rule_attempt, elimination_attempt, destruction_attempt, assumption_attempt, RuleStep, EliminationStep, DestructionStep, AssumptionStep}
+use Rattle.pure_goal_steps.specs.Steps.{IsFirst, indexed, elimination_attempt, destruction_attempt, assumption_attempt, RuleStep, EliminationStep, DestructionStep, AssumptionStep}
 use Rattle.pure_goal_steps.specs.Derivability.{IsSound}
 use Rattle.pure_goal_steps.specs.declared.fault.StepFault.{StepFault}
 use Rattle.pure_goal_steps.specs.declared.fault.StepFault.TheVariants as fault
@@ -35,17 +32,14 @@ use Rattle.pure_goal_step_laws.proofs.UnifiedLaws.{rule_is_sound, assumption_is_
 use Rattle.pure_goal_rules.specs.Rules.{IsFactProposition}
 use Rattle.pure_goal_rules.specs.Shown.{seen, shown}
 use Rattle.pure_goal_rules.specs.declared.item.Item.{Item}
-use Rattle.pure_goal_rules.specs.declared.item.Item.TheVariants.{Parameter, Hypothesis}
 use Rattle.pure_resolve.specs.Goals.{IsGoalTheorem, IsOutcome, IsStep}
 use Rattle.pure_resolve.specs.Settled.{HasFirst, MayAttempt}
-use Rattle.pure_resolve.specs.Uses.{MayStep, MayUse, IsFirstSubgoal, IsResolver, IsRuleAttempt, IsFactAttempt, attempted, places_from}
+use Rattle.pure_resolve.specs.Uses.{MayStep, MayUse, IsFirstSubgoal, IsResolver, IsRuleAttempt, IsFactAttempt, places_from}
 use Rattle.pure_resolve.specs.declared.state.Goal.{Goal}
 use Rattle.pure_resolve.specs.declared.resolve.Resolver.{Resolver}
 use Rattle.pure_resolve.specs.declared.resolve.Trying.{Trying}
 use Rattle.pure_goal_rules.specs.declared.read.Parts.{Parts}
 use Rattle.pure_goal_rules.specs.Attempts.{seen_attempt}
-use Rattle.pure_resolve.specs.declared.trial.Use.{Use}
-use Rattle.pure_resolve.specs.declared.trial.Use.TheVariants.{Assume, Eliminate, Destruct}
 use Rattle.pure_resolve.proofs.ChainLaws.{no-premise, first-premise}
 use Rattle.pure_resolve.proofs.AnswerLaws.{outcome_map, step_derivable}
 use Rattle.pure_resolve.proofs.TypedLaws.{first-of, has_first, assumption_typed, rule_typed, elimination_typed, destruction_typed}

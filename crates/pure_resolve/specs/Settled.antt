@@ -1,15 +1,12 @@
 -- Terms under a unifier: their instances, and these in long form.
-use Rattle.std.specs.Prelude.{◌≡◌, ℕ, List, [], ◌∷◌, ◌++◌, map, Result, Ok, Err}
+use Rattle.std.specs.Prelude.{◌≡◌, List, ◌∷◌, ◌++◌, Result, Ok, Err}
 use Rattle.pure_text.specs.Lists.{Each}
-use Rattle.pure_definitions.specs.Names.{Label}
-use Rattle.pure_definitions.specs.Types.Order.{Algebra}
 use Rattle.pure_definitions.specs.Terms.Term.{Term, IsWithin}
 use Rattle.pure_definitions.specs.Terms.Subst.{TypBind, TermBind, AreTypeRespecting}
-use Rattle.pure_logic.specs.Derivable.{Pair, Theorem}
+use Rattle.pure_logic.specs.Derivable.{Theorem}
 use Rattle.pure_logic.specs.Laws.Maps.{instantiated}
 use Rattle.pure_theorem.specs.Shapes.{IsTyped}
 use Rattle.pure_unify_definitions.specs.LongSides as sides
-use Rattle.pure_unify_definitions.specs.Search as search
 use Rattle.pure_unify_nodes.specs.SideAnswer.{AreSidesTyped}
 use Rattle.pure_unify.specs.declared.fault.UnifyFault.{UnifyFault}
 use Rattle.pure_unify.specs.declared.fault.UnifyFault.TheVariants as unify

@@ -1,4 +1,4 @@
-use Rattle.std.proofs.Common.{◌≡◌, ◌∷◌, List, ap, sym, ◌∙◌}
+use Rattle.std.proofs.Common.{◌≡◌, List, ap, sym, ◌∙◌}
 use Rattle.pure_definitions.specs.Names.{Label}
 use Rattle.pure_definitions.specs.Terms.Term.{Term}
 use Rattle.pure_definitions.specs.Declarations.Decl.{algebra_of}

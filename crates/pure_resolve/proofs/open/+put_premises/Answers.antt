@@ -1,4 +1,3 @@
-use Rattle.std.proofs.Common.{◌∙◌}
 use Rattle.pure_logic.specs.Connectives.{protect}
 use Rattle.pure_resolve.proofs.ChainLaws.{first-premise, end-premises, more-premises}
 use Rattle.pure_resolve.proofs.open.+put_premises.Goals as goal

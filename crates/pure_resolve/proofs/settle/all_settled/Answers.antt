@@ -1,4 +1,4 @@
-use Rattle.std.proofs.Common.{List, map, take, sym, subst, take_all}
+use Rattle.std.proofs.Common.{List, map, subst, take_all}
 use Rattle.pure_text.proofs.ListLaws.{each_read}
 use Rattle.pure_definitions.specs.Terms.Term.{Term}
 use Rattle.pure_logic.specs.Laws.Maps.{instantiated}

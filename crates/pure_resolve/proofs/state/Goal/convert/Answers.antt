@@ -1,6 +1,5 @@
-use Rattle.std.proofs.Common.{◌≡◌, ◌∷◌, ◌++◌, refl, ap, sym, ◌∙◌}
+use Rattle.std.proofs.Common.{◌++◌, ap, sym, ◌∙◌}
 use Rattle.pure_logic.specs.Derivable.{Theorem}
-use Rattle.pure_logic.specs.Connectives.{protect}
 use Rattle.pure_theorem.specs.Sets.{label_cmp, IsSetOf}
 use Rattle.pure_resolve.proofs.CallLaws.{goal_left_typed, convert_united, convert_derivable}
 use Rattle.pure_resolve.proofs.StepLaws.{convert_stopped}

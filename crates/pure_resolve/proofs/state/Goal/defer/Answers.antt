@@ -1,6 +1,5 @@
-use Rattle.std.proofs.Common.{◌≡◌, ◌<◌, length, refl, ap, sym, ◌∙◌, arith}
+use Rattle.std.proofs.Common.{refl, ap, ◌∙◌}
 use Rattle.pure_logic.specs.Derivable.{Theorem}
-use Rattle.pure_logic.specs.Connectives.{protect}
 use Rattle.pure_resolve.proofs.CallLaws.{goal_left_typed, defer_none, some_left, defer_derivable}
 use Rattle.pure_resolve.proofs.StepLaws.{defer_answer}
 use Rattle.pure_resolve.specs.declared.state.Goal.{Goal}

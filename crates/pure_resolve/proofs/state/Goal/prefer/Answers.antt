@@ -1,6 +1,5 @@
-use Rattle.std.proofs.Common.{◌≡◌, ◌+◌, ◌-◌, ◌<◌, length, inl, inr, refl, ap, sym, ◌∙◌, arith}
+use Rattle.std.proofs.Common.{◌-◌, inl, inr, refl, ap, ◌∙◌, arith}
 use Rattle.pure_logic.specs.Derivable.{Theorem}
-use Rattle.pure_logic.specs.Connectives.{chain, protect}
 use Rattle.pure_resolve.proofs.CallLaws.{goal_left_typed, too_few, enough, prefer_derivable}
 use Rattle.pure_resolve.proofs.StepLaws.{prefer_answer, prefer_none}
 use Rattle.pure_resolve.specs.declared.state.Goal.{Goal}
