@@ -17,7 +17,7 @@ pub record IsPremise (A B : Term) (As : List Term) (C : Term) : Type 0 where
 imp-no-mark : (A B C : Term) → imp A B ≡ protect C → ⊥
 imp-no-mark A B C e = absurd (cc)
 
-imp-premise : (A B D E : Term) → imp A B ≡ imp D E → (D ≡ A) × (B ≡ E)
+pub imp-premise : (A B D E : Term) → imp A B ≡ imp D E → (D ≡ A) × (B ≡ E)
 imp-premise A B D E e = (cc, cc)
 
 pub first-premise : (t A B : Term) (As : List Term) (C : Term) → t ≡ imp A B → t ≡ chain As (protect C) → IsPremise A B As C
@@ -63,7 +63,7 @@ chain_once (A ∷ As) (B ∷ Bs) C D e =
 pub chained-turn : (new all : List Term) (p g c : Term) → all ≡ new ++ p ∷ [] → c ≡ imp p g → chain new c ≡ chain all g
 chained-turn new all p g c e d = ap (chain new) d ∙ (sym (chain-last new p g) ∙ ap (λ (As : List Term). chain As g) (sym e))
 
-nothing-more : (xs : List Term) → xs ≡ xs ++ []
+pub nothing-more : (xs : List Term) → xs ≡ xs ++ []
 nothing-more [] = refl
 nothing-more (x ∷ xs) = ap (λ (ys : List Term). x ∷ ys) (nothing-more xs)
 

@@ -3,3 +3,7 @@ pub mod AnswerLaws
 pub mod StepLaws
 pub mod EndLaws
 pub mod CallLaws
+pub mod SettleLaws
+pub mod FollowLaws
+pub mod TypedLaws
+pub mod UseLaws

@@ -86,7 +86,7 @@ no-length (x ∷ xs) e = absurd (omega arith)
 pub defer_none : (th : Theorem) (g : IsGoalTheorem th) (subgoals : List Term) → subgoals ≡ g.state.subgoals → length subgoals ≡ 0 → IsStep DeferStep th (λ all. all ≡ th.rests) (Err NoSubgoal)
 defer_none th g subgoals same z = (g.state, g.is, g.goal, DeferStep.no_subgoal (sym same ∙ no-length subgoals z))
 
-come-long : (t u : Term) → ComesTo t (Long u) → IsLongForm u u
+pub come-long : (t u : Term) → ComesTo t (Long u) → IsLongForm u u
 come-long t u (is_long {n = n} b l w) = record { typ = l.typ; typed = l.long_typed; long_typed = l.long_typed; reduces = EtaReduces.done; normal = l.normal; saturated = l.saturated; parts = l.parts }
 
 -- A first subgoal that comes to its long form, before others that are so.

@@ -1,2 +1,4 @@
 pub mod Goals
 pub mod Ending
+pub mod Settled
+pub mod Uses

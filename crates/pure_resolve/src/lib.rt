@@ -5,11 +5,16 @@ mod begin;
 mod close;
 mod convert;
 mod end;
+mod follow;
+mod hypotheses;
 pub mod laws;
 mod limits;
 mod open;
 mod reorder;
+mod resolve;
+mod settle;
 mod state;
+mod trial;
 
 pub use begin::start;
 pub use pure_goal_steps::StepFault;

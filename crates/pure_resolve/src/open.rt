@@ -16,7 +16,7 @@ pub struct Parts {
 }
 
 /// Puts the premises before a mark behind those of the list, and gives what is marked, with the mark.
-fn put_premises(alloc: Global, t: &Term, premises: &mut Vec<Term>) -> Result<Term, AllocError>
+pub fn put_premises(alloc: Global, t: &Term, premises: &mut Vec<Term>) -> Result<Term, AllocError>
     ensures { (As : List tree.Term) → (C : tree.Term) → t.now ≡ chain As (protect C) → IfOk result (λ marked. (premises.new.items ≡ premises.old.items ++ As) × (marked ≡ protect C)) }
 {
     let Some((premise, rest)) = as_implication(t) else {

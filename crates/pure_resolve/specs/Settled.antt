@@ -1,0 +1,53 @@
+-- Terms under a unifier: their instances, and these in long form.
+use Rattle.std.specs.Prelude.{◌≡◌, List, ◌∷◌, ◌++◌, Result, Ok, Err}
+use Rattle.pure_text.specs.Lists.{Each}
+use Rattle.pure_definitions.specs.Terms.Term.{Term, IsWithin}
+use Rattle.pure_definitions.specs.Terms.Subst.{TypBind, TermBind, AreTypeRespecting}
+use Rattle.pure_logic.specs.Derivable.{Theorem}
+use Rattle.pure_logic.specs.Laws.Maps.{instantiated}
+use Rattle.pure_theorem.specs.Shapes.{IsTyped}
+use Rattle.pure_unify_definitions.specs.LongSides as sides
+use Rattle.pure_unify_nodes.specs.SideAnswer.{AreSidesTyped}
+use Rattle.pure_unify.specs.declared.fault.UnifyFault.{UnifyFault}
+use Rattle.pure_unify.specs.declared.fault.UnifyFault.TheVariants as unify
+use Rattle.pure_goal_steps.specs.State.{State, IsTheoremOf}
+use Rattle.pure_goal_steps.specs.Follows.{Attempt, AllLong, Halted, Come}
+use Rattle.pure_goal_steps.specs.declared.fault.StepFault.{StepFault}
+use Rattle.pure_goal_steps.specs.declared.fault.StepFault.TheVariants.{NoUnifier, SearchBound, Steps, Big, Memory}
+
+-- The answer for an instance of a term by finite maps: the instance, and then the maps respect types; or `Big` where it isn't within the limits; or `Memory`.
+abbrev pub IsInstanceAnswer : List TypBind → List TermBind → Term → Result Term StepFault → Type 0
+IsInstanceAnswer typs terms t (Ok u) = (u ≡ instantiated typs terms t) × AreTypeRespecting terms
+IsInstanceAnswer typs terms t (Err Big) = ¬ IsWithin (instantiated typs terms t)
+IsInstanceAnswer typs terms t (Err Memory) = Unit {0}
+IsInstanceAnswer typs terms t (Err fault) = ⊥
+
+-- The answer for terms: their long forms; or the stop to which the first that has none comes; or `Memory`.
+abbrev pub IsComeAnswer : List Term → Result (List Term) StepFault → Type 0
+IsComeAnswer As (Ok Ss) = Come As (AllLong Ss)
+IsComeAnswer As (Err Steps) = Come As (Halted sides.Steps)
+IsComeAnswer As (Err Big) = Come As (Halted sides.Big)
+IsComeAnswer As (Err Memory) = Unit {0}
+IsComeAnswer As (Err fault) = ⊥
+
+-- the fault of a step that the unifier's is
+abbrev pub step_fault : UnifyFault → StepFault
+step_fault unify.NoUnifier = NoUnifier
+step_fault unify.SearchBound = SearchBound
+step_fault unify.Steps = Steps
+step_fault unify.Big = Big
+step_fault unify.Memory = Memory
+
+-- The goal's theorem has a first subgoal, and each of the others is typed.
+pub record HasFirst (goal : Theorem) : Type 0 where
+  pub state : State
+  pub is : IsTheoremOf state goal
+  pub first : Term
+  pub others : List Term
+  pub stand : state.subgoals ≡ first ∷ others
+  pub typed : Each IsTyped others
+
+-- The attempt may be made on the goal: what is unified is typed, and so are the new subgoals.
+pub record MayAttempt (goal : Theorem) (a : Attempt) : Type 0 where
+  pub pairs : Each AreSidesTyped (a.matched ++ goal.pairs)
+  pub premises : Each IsTyped a.premises

@@ -1,0 +1,133 @@
+//! What follows from an attempt to make a step.
+ghost use Rattle.std.specs.Prelude.{◌≡◌, ◌∷◌, ◌++◌, [], List, IfOk};
+ghost use Rattle.pure_text.specs.Lists.{Each};
+ghost use Rattle.pure_definitions.specs.Terms.Term as tree;
+ghost use Rattle.pure_definitions.specs.Declarations.Decl.{algebra_of};
+ghost use Rattle.pure_logic.specs.Connectives.{chain};
+ghost use Rattle.pure_logic.specs.Laws.Maps.{instantiated};
+ghost use Rattle.pure_theorem.specs.Shapes.{IsTyped};
+ghost use Rattle.pure_theorem.specs.Sets.{IsLabelSet};
+ghost use Rattle.pure_unify_nodes.specs.SideAnswer.{AreSidesTyped};
+ghost use Rattle.pure_unify.specs.Unified.{seen, IsUnified, IsLeftOver};
+ghost use Rattle.pure_goal_steps.specs.State.{State, IsTheoremOf};
+ghost use Rattle.pure_goal_steps.specs.Follows as follows;
+ghost use Rattle.pure_goal_rules.specs.Attempts.{seen_attempt};
+ghost use Rattle.pure_resolve.specs.Goals.{IsConcluded, IsOutcome};
+ghost use Rattle.pure_resolve.specs.Settled as settling;
+ghost use Rattle.pure_resolve.specs.Settled.{HasFirst, MayAttempt};
+
+use crate::close::concluded;
+use crate::open::put_premises;
+use crate::settle::{all_settled, instance_of};
+use crate::state::Goal;
+use pure_goal_rules::Attempt;
+use pure_goal_steps::StepFault;
+use pure_inst::Ordered;
+use pure_term::{Label, Term, TermMap, TypMap};
+use pure_theorem::{Pair, Thm, as_implication, extend_pairs};
+use pure_unify::{Unifier, UnifyFault, unify};
+use std::alloc::Global;
+
+/// The fault of a step that the unifier's is.
+fn step_fault(fault: UnifyFault) -> StepFault
+    ensures { result ≡ settling.step_fault fault }
+{
+    match fault {
+        UnifyFault::NoUnifier => StepFault::NoUnifier,
+        UnifyFault::SearchBound => StepFault::SearchBound,
+        UnifyFault::Steps => StepFault::Steps,
+        UnifyFault::Big => StepFault::Big,
+        UnifyFault::Memory => StepFault::Memory,
+    }
+}
+
+/// The unifier of what is matched and the goal's own pairs.
+fn unified<B: Ordered>(
+    alloc: Global,
+    thy: &B,
+    goal: &Thm,
+    matched: Vec<Pair>,
+    maxidx: u32,
+) -> Result<Unifier, UnifyFault>
+    requires { Each AreSidesTyped (matched.items ++ goal.now.pairs) }
+    ensures answer { IsUnified (algebra_of (B.content thy.now).declarations) maxidx (matched.items ++ goal.now.pairs) result }
+    ensures left { IfOk result (λ u. Each IsLeftOver u.flexflex.items) }
+{
+    let mut pairs = matched;
+    extend_pairs(alloc, &mut pairs, &goal.pairs)?;
+    if maxidx > u32::MAX - 66 {
+        return Err(UnifyFault::Memory);
+    }
+    unify(alloc, thy.order(), &pairs, maxidx)
+}
+
+/// The goal of these subgoals, with the instance of the marked statement.
+fn with_statement<B: Ordered>(
+    alloc: Global,
+    thy: &B,
+    unifier: Unifier,
+    subgoals: Vec<Term>,
+    marked: &Term,
+    rests: Vec<Label>,
+) -> Result<Goal, StepFault>
+    requires left { Each IsLeftOver unifier.flexflex.items }
+    requires set { IsLabelSet rests.items }
+    ensures { IsConcluded unifier.flexflex.items (chain subgoals.items (instantiated unifier.typs unifier.terms marked.now)) rests.items result }
+{
+    let Unifier {
+        typs,
+        terms,
+        flexflex,
+    } = unifier;
+    match instance_of(alloc, thy, &typs, &terms, marked) {
+        Ok(statement) => concluded(alloc, subgoals, statement, flexflex, rests),
+        Err(fault) => Err(fault),
+    }
+}
+
+/// The goal with the new subgoals in place of the first, and the unifier put into all.
+fn with_unifier<B: Ordered>(
+    alloc: Global,
+    thy: &B,
+    goal: &Thm,
+    premises: Vec<Term>,
+    unifier: Unifier,
+    rests: Vec<Label>,
+) -> Result<Goal, StepFault>
+    requires goal { HasFirst goal.now }
+    requires typed { Each IsTyped premises.items }
+    requires left { Each IsLeftOver unifier.flexflex.items }
+    requires set { IsLabelSet rests.items }
+    ensures { (s : State) → (first : tree.Term) → (others : List tree.Term) → (a : follows.Attempt) → IsTheoremOf s goal.now → s.subgoals ≡ first ∷ others → a.premises ≡ premises.items → IsOutcome (follows.Becomes (follows.with_unifier s others a (seen unifier))) (λ all. all ≡ rests.items) result }
+{
+    let Some((_, rest)) = as_implication(&goal.prop) else {
+        unreachable!();
+    };
+    let mut subgoals = premises;
+    let marked = put_premises(alloc, rest, &mut subgoals)?;
+    match all_settled(alloc, thy, &unifier.typs, &unifier.terms, &subgoals) {
+        Ok(subgoals) => with_statement(alloc, thy, unifier, subgoals, &marked, rests),
+        Err(fault) => Err(fault),
+    }
+}
+
+/// What follows from the attempt on the goal.
+pub fn followed<B: Ordered>(
+    alloc: Global,
+    thy: &B,
+    goal: &Thm,
+    attempt: Attempt,
+    maxidx: u32,
+    rests: Vec<Label>,
+) -> Result<Goal, StepFault>
+    requires goal { HasFirst goal.now }
+    requires attempt { MayAttempt goal.now (seen_attempt attempt) }
+    requires set { IsLabelSet rests.items }
+    ensures { (s : State) → (first : tree.Term) → (others : List tree.Term) → IsTheoremOf s goal.now → s.subgoals ≡ first ∷ others → IsOutcome (follows.FollowsBy (algebra_of (B.content thy.now).declarations) maxidx s others (seen_attempt attempt)) (λ all. all ≡ rests.items) result }
+{
+    let Attempt { matched, premises } = attempt;
+    match unified(alloc, thy, goal, matched, maxidx) {
+        Ok(unifier) => with_unifier(alloc, thy, goal, premises, unifier, rests),
+        Err(fault) => Err(step_fault(fault)),
+    }
+}

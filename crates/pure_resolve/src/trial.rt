@@ -1,0 +1,135 @@
+//! Hypotheses tried one after the other.
+ghost use Rattle.std.specs.Prelude.{◌≡◌, ◌∷◌, List, take, drop, map, IfOk, ◌<◌, length, get_or, MatchBool, ◌≢◌};
+ghost use Rattle.pure_definitions.specs.Terms.Term as tree;
+ghost use Rattle.pure_definitions.specs.Declarations.Decl.{algebra_of};
+ghost use Rattle.pure_theorem.specs.Sets.{IsLabelSet};
+ghost use Rattle.pure_goal_steps.specs.State.{State, IsTheoremOf};
+ghost use Rattle.pure_goal_steps.specs.Reading as reading;
+ghost use Rattle.pure_goal_steps.specs.Follows.{FollowsBy, FollowsByFirst};
+ghost use Rattle.pure_goal_rules.specs.Shown.{shown, seen_place};
+ghost use Rattle.pure_goal_rules.specs.Attempts.{seen_attempt};
+ghost use Rattle.pure_resolve.specs.Goals.{IsOutcome};
+ghost use Rattle.pure_resolve.specs.Settled.{HasFirst, MayAttempt};
+ghost use Rattle.pure_resolve.specs.Uses.{attempted};
+
+use crate::follow::followed;
+use crate::state::Goal;
+use pure_goal_rules::{
+    Attempt, Eliminator, Item, Spot, assumption_attempt, destruction_attempt, elimination_attempt,
+};
+use pure_goal_steps::StepFault;
+use pure_inst::Ordered;
+use pure_term::{Label, Term};
+use pure_theorem::Thm;
+use std::alloc::{AllocError, Global};
+
+/// How a hypothesis is used: it is the conclusion, or a rule eliminates it, or destructs it.
+#[derive(Clone, Copy)]
+pub enum Use<'r> {
+    Assume,
+    Eliminate(Eliminator<'r>),
+    Destruct(Eliminator<'r>),
+}
+
+/// A goal's first subgoal, read, and what a new goal rests on.
+#[derive(Clone, Copy)]
+pub struct Trial<'g, 't> {
+    pub goal: &'g Thm,
+    pub items: &'g [Item<'t>],
+    pub conclusion: &'t Term,
+    pub maxidx: u32,
+    pub rests: &'g [Label],
+}
+
+/// The attempt to use the hypothesis.
+fn attempt_at(
+    alloc: Global,
+    items: &[Item],
+    conclusion: &Term,
+    used: &Use,
+    spot: &Spot,
+) -> Result<Attempt, AllocError>
+    requires { shown items.now ≡ reading.around (seen_place spot.now) }
+    ensures { IfOk result (λ a. seen_attempt a ≡ attempted used.now conclusion.now (seen_place spot.now)) }
+{
+    match used {
+        Use::Assume => assumption_attempt(alloc, items, conclusion, spot),
+        Use::Eliminate(rule) => elimination_attempt(alloc, items, conclusion, rule, spot),
+        Use::Destruct(rule) => destruction_attempt(alloc, items, conclusion, rule, spot),
+    }
+}
+
+/// What follows from the attempt to use the hypothesis at this place.
+fn tried_at<B: Ordered>(
+    alloc: Global,
+    thy: &B,
+    trial: &Trial,
+    used: &Use,
+    spot: &Spot,
+) -> Result<Goal, StepFault>
+    requires stands { shown trial.now.items.now ≡ reading.around (seen_place spot.now) }
+    requires first { HasFirst trial.now.goal.now }
+    requires may { MayAttempt trial.now.goal.now (attempted used.now trial.now.conclusion.now (seen_place spot.now)) }
+    requires set { IsLabelSet trial.now.rests.now }
+    ensures { (s : State) → (first : tree.Term) → (others : List tree.Term) → IsTheoremOf s trial.now.goal.now → s.subgoals ≡ first ∷ others → IsOutcome (FollowsBy (algebra_of (B.content thy.now).declarations) trial.now.maxidx s others (attempted used.now trial.now.conclusion.now (seen_place spot.now))) (λ all. all ≡ trial.now.rests.now) result }
+{
+    let attempt = attempt_at(alloc, trial.items, trial.conclusion, used, spot)?;
+    let rests = Vec::from_slice(alloc, trial.rests)?;
+    followed(alloc, thy, trial.goal, attempt, trial.maxidx, rests)
+}
+
+/// Whether the fault is that there is no unifier.
+fn is_no_unifier(fault: StepFault) -> bool
+    ensures { MatchBool result (fault ≡ StepFault.NoUnifier) (fault ≢ StepFault.NoUnifier) }
+{
+    match fault {
+        StepFault::NoUnifier => true,
+        _ => false,
+    }
+}
+
+/// The item at this place.
+fn item_at<'t>(items: &[Item<'t>], at: usize) -> Item<'t>
+    requires { at < length items.now }
+    ensures { result ≡ get_or items.now at result }
+{
+    items[at]
+}
+
+/// What follows from the first hypothesis from this place on that serves.
+pub fn tried_from<B: Ordered>(
+    alloc: Global,
+    thy: &B,
+    trial: &Trial,
+    used: &Use,
+    from: usize,
+) -> Result<Goal, StepFault>
+    requires first { HasFirst trial.now.goal.now }
+    requires may { (p : reading.Place) → shown trial.now.items.now ≡ reading.around p → MayAttempt trial.now.goal.now (attempted used.now trial.now.conclusion.now p) }
+    requires set { IsLabelSet trial.now.rests.now }
+    ensures { (s : State) → (first : tree.Term) → (others : List tree.Term) → IsTheoremOf s trial.now.goal.now → s.subgoals ≡ first ∷ others
+        → IsOutcome (FollowsByFirst (algebra_of (B.content thy.now).declarations) trial.now.maxidx s others (map (attempted used.now trial.now.conclusion.now) (reading.places (shown (take from trial.now.items.now)) (shown (drop from trial.now.items.now))))) (λ all. all ≡ trial.now.rests.now) result }
+{
+    if from >= trial.items.len() {
+        return Err(StepFault::NoHypothesis);
+    }
+    match item_at(trial.items, from) {
+        Item::Parameter(_) => tried_from(alloc, thy, trial, used, from + 1),
+        Item::Hypothesis(hypothesis) => {
+            let spot = Spot {
+                before: &trial.items[..from],
+                hypothesis,
+                after: &trial.items[from + 1..],
+            };
+            match tried_at(alloc, thy, trial, used, &spot) {
+                Ok(goal) => Ok(goal),
+                Err(fault) => {
+                    if is_no_unifier(fault) {
+                        return tried_from(alloc, thy, trial, used, from + 1);
+                    }
+                    Err(fault)
+                }
+            }
+        }
+    }
+}
