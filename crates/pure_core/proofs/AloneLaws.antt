@@ -1,14 +1,14 @@
 -- What runs after an event, where one theory, one proof or nothing ran.
-use Rattle.std.proofs.Common.{◌≡◌, ◌≢◌, ◌∙◌, ℕ, zero, suc, ◌+◌, List, [], ◌∷◌, ◌++◌, map, refl, sym, ap, subst, arith, Bool, true, false, if◌then◌else◌, Option, Some, None, slice_get, inl, inr, ◌⊎◌}
+use Rattle.std.proofs.Common.{◌≡◌, ◌≢◌, ◌∙◌, ℕ, ◌+◌, List, [], ◌∷◌, map, refl, sym, ap, subst, Bool, true, false, if◌then◌else◌, Option, Some, None, slice_get, inl, inr}
 use Rattle.std.proofs.lemmas.Option.{same_Some, none-some}
-use Rattle.pure_text.specs.Lists.{IsIn, Each, EachTwo}
+use Rattle.pure_text.specs.Lists.{EachTwo}
 use Rattle.pure_text.proofs.ListLaws.{in_split, in-append_right}
 use Rattle.pure_machine.specs.declared.policy.Group.{Group}
-use Rattle.pure_machine.specs.State.{Progress, Waiting, Running, Closed, Promise, Standing, Ready, Taken, Settled, Cancelled, Event, TakeTheory, TakeProof, Fork, CloseTheory, Deliver, State, theory_at, parents_at, with_standing, with_cancelled, is_theory_cancelled}
-use Rattle.pure_machine.specs.Step.{Stands, IsReady, IsReadyIn, IsNextPromise, IsOver, IsOut, forked_once, closed_by, closed_value, closed_values, joined_values, value_of, new_promise, is_cancelled_promise, is_cancelled_standing, cancelled_by, settled, after}
+use Rattle.pure_machine.specs.State.{Progress, Waiting, Running, Closed, Promise, Standing, Ready, Taken, Settled, Cancelled, Event, TakeTheory, TakeProof, Fork, CloseTheory, Deliver, State, theory_at, parents_at, with_standing, is_theory_cancelled}
+use Rattle.pure_machine.specs.Step.{IsReady, IsNextPromise, forked_once, closed_by, closed_value, closed_values, joined_values, new_promise, is_cancelled_promise, is_cancelled_standing, cancelled_by, after}
 use Rattle.pure_core.specs.Legal.{IsAtRest, IsTheoryAlone, IsProofAlone}
 use Rattle.pure_core.proofs.PlaceLaws.{theory-changed, theory-there, promise-changed, promise-there, pushed-at, standing_so}
-use Rattle.pure_core.proofs.KeptLaws.{delivered_state, IsKept, Delivered, before-cancel, cancel-keeps}
+use Rattle.pure_core.proofs.KeptLaws.{delivered_state, IsKept, before-cancel, cancel-keeps}
 
 abbrev RunsNow : {C : Type 0} → Progress C → Type 0
 RunsNow (Running k) = Unit {0}

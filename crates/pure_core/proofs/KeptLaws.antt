@@ -6,8 +6,8 @@ use Rattle.pure_text.specs.Lists.{IsIn}
 use Rattle.pure_text.proofs.ListLaws.{in_split}
 use Rattle.pure_machine.specs.declared.policy.Group.{Group}
 use Rattle.pure_machine.specs.Policy.{Opening, due}
-use Rattle.pure_machine.specs.State.{Progress, Waiting, Running, Closed, Promise, Standing, Ready, Taken, Settled, Cancelled, Event, TakeTheory, TakeProof, Fork, CloseTheory, Deliver, Stop, Marks, State, theory_at, waiting, unmarked, with_progress, with_standing, restood, is_theory_cancelled, is_settled, cancelled_promise, recancelled, with_cancelled, opened}
-use Rattle.pure_machine.specs.Step.{Stands, IsReady, IsOver, IsClosed, IsOut, forked_once, closed_by, forks_of, new_promise, is_cancelled_standing, is_cancelled_promise, cancelled_by, settled, changed, after, after_all, Allows, IsRunFrom}
+use Rattle.pure_machine.specs.State.{Progress, Waiting, Running, Closed, Promise, Standing, Ready, Taken, Settled, Cancelled, Event, TakeTheory, TakeProof, Fork, CloseTheory, Deliver, Stop, Marks, State, theory_at, waiting, unmarked, with_standing, restood, is_theory_cancelled, is_settled, cancelled_promise, with_cancelled, opened}
+use Rattle.pure_machine.specs.Step.{Stands, IsOver, IsClosed, forked_once, closed_by, new_promise, is_cancelled_standing, is_cancelled_promise, cancelled_by, settled, after, after_all, Allows, IsRunFrom}
 use Rattle.pure_machine.proofs.PromiseLaws.{slice_get-mapped, ready-cancelled}
 use Rattle.pure_core.proofs.PlaceLaws.{theory-changed, promise-changed, pushed-at, standing_so}
 

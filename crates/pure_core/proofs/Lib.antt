@@ -3,3 +3,4 @@ pub mod KeptLaws
 pub mod RunLaws
 pub mod AloneLaws
 pub mod TaskLaws
+pub mod ReplyLaws

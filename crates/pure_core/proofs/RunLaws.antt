@@ -1,5 +1,5 @@
 -- Legal runs, one after the other.
-use Rattle.std.proofs.Common.{◌≡◌, ◌≢◌, ◌∙◌, ℕ, zero, suc, ◌+◌, List, [], ◌∷◌, ◌++◌, refl, sym, ap, subst, arith, Bool, true, false, if◌then◌else◌, Option, Some, None, append_assoc}
+use Rattle.std.proofs.Common.{◌≡◌, ◌∙◌, ℕ, ◌+◌, List, [], ◌∷◌, ◌++◌, refl, sym, ap, subst, arith, Bool, true, false, if◌then◌else◌, Some, append_assoc}
 use Rattle.std.proofs.lemmas.Option.{none-some}
 use Rattle.std.proofs.lemmas.List.{append-nil}
 use Rattle.pure_machine.specs.State.{Progress, Waiting, Running, State, Event, TakeTheory, TakeProof, Fork, CloseTheory, Deliver, Stop, opened, waiting, unmarked, theory_at}

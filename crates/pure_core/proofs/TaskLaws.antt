@@ -1,12 +1,11 @@
 -- What follows from what was taken and from a turn, where nothing else runs.
-use Rattle.std.proofs.Common.{◌≡◌, ◌∙◌, ℕ, ◌+◌, List, map, refl, sym, ap, subst, Bool, true, false, Option, Some, None, Global}
+use Rattle.std.proofs.Common.{◌≡◌, ℕ, ◌+◌, List, map, refl, sym, subst, Bool, false, Option, Some}
 use Rattle.std.specs.Prelude.{MatchBool}
-use Rattle.std.specs.declared.sync.Arc as arc
 use Rattle.pure_text.specs.Lists.{EachTwo}
 use Rattle.pure_machine.specs.declared.answers.Task as task
 use Rattle.pure_machine.specs.declared.answers.Task.TheVariants as task_code
 use Rattle.pure_machine.specs.Calls.{Takes}
-use Rattle.pure_machine.specs.State.{State, Event, TakeTheory, TakeProof, Deliver, parents_at}
+use Rattle.pure_machine.specs.State.{State, TakeTheory, TakeProof, parents_at}
 use Rattle.pure_machine.specs.Step.{IsNextTheory, IsNextPromise, NoTheoryReady, after}
 use Rattle.pure_core.specs.declared.work.Turn as turn
 use Rattle.pure_core.specs.declared.work.Turn.TheVariants as turn_code

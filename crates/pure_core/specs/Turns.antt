@@ -1,5 +1,5 @@
 -- What a turn of a theory's commands, or of a proof, leads to.
-use Rattle.std.specs.Prelude.{◌≡◌, ◌<◌, ℕ, ◌+◌, List, [], ◌∷◌, Option, Some, None}
+use Rattle.std.specs.Prelude.{◌<◌, ℕ, ◌+◌, Option, Some, None}
 use Rattle.pure_core.specs.declared.work.Turn.{Turn}
 use Rattle.pure_core.specs.declared.work.Turn.TheVariants.{Declared, Forked, Closed}
 

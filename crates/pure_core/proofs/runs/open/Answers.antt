@@ -1,4 +1,3 @@
-use Rattle.pure_core.specs.Legal.{IsAtRest}
 use Rattle.pure_core.proofs.RunLaws.{rest-opened}
 use Rattle.pure_core.proofs.runs.open.Goals as goal
 
