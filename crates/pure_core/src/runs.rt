@@ -14,7 +14,11 @@ use std::sync::Arc;
 pub type Core<W> = Machine<<W as Work>::Goal, <W as Work>::Closed, <W as Work>::Outcome>;
 
 /// The core at the opening of a session, with the shape that the work says: all theories wait, there is no promise, and the
-/// groups whose number is 0 are cancelled.
+/// groups whose number is 0 are cancelled (Wenzel, Parallel Proof Checking in Isabelle/Isar, 2009).
+///
+/// # Errors
+///
+/// Want of memory alone.
 pub fn open<W: Work>(
     alloc: Global,
     work: &W,
@@ -126,6 +130,10 @@ fn take_and_run<W: Work>(core: &mut Core<W>, work: &W) -> Result<bool, AllocErro
 
 /// Takes and runs until all is finished, by one worker. Where memory is wanted the state is that of a legal run that goes on
 /// from the one before. No event of it stops the work.
+///
+/// # Errors
+///
+/// Want of memory alone.
 pub fn drain<W: Work>(core: &mut Core<W>, work: &W) -> Result<(), AllocError>
     requires legal { IsLegal (W.shape work.now) (W.forks work.now) (W.closes work.now) (W.may work.now) (W.faults work.now) core.old }
     requires rests { IsAtRest core.old }

@@ -228,7 +228,12 @@ fn own_text<'n>(stage: &Stage, names: &'n NamesByBase) -> &'n [u8]
     text
 }
 
-/// What comes of a command over the stage before it: its row, or the duty to prove it, and the next stage. A command that is refused leaves the stage as it is.
+/// What comes of a command over the stage before it: its row, or the duty to prove it, and the next stage. A command that is refused leaves the stage as it is
+/// (Isabelle/Isar Implementation manual, chapter 2; the order of each command's tests is that of its definition).
+///
+/// # Errors
+///
+/// Want of memory alone: why a command is refused stands in its row.
 pub fn declare(
     alloc: Global,
     stage: &Stage,

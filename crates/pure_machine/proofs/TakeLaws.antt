@@ -1,4 +1,4 @@
--- What a take reads of the parts of a core.
+-- What a take reads of the parts of a machine.
 use Rattle.std.proofs.Common.{◌≡◌, ◌∙◌, ◌<◌, ℕ, List, length, refl, sym, ap, subst, Bool, false, Some, slice_get}
 use Rattle.std.specs.Prelude.{Result, MatchResult}
 use Rattle.pure_machine.specs.declared.answers.Task as task

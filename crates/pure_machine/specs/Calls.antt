@@ -1,4 +1,4 @@
--- What the calls of a core answer.
+-- What the calls of a machine answer.
 use Rattle.std.specs.Prelude.{◌≡◌, ℕ, List, map, Bool, true, false, Option, Some, None}
 use Rattle.pure_machine.specs.State.{State, Promise, TakeTheory, TakeProof, is_theory_cancelled}
 use Rattle.pure_machine.specs.Step.{IsNextTheory, NoTheoryReady, IsNextPromise, IsIdle, IsFinished, after}

@@ -1,4 +1,4 @@
--- What the parts of a core hold.
+-- What the parts of a machine hold.
 use Rattle.std.specs.Prelude.{◌≡◌, ℕ, Some, slice_get, List, [], ◌∷◌, ◌++◌, Bool, true, false}
 use Rattle.pure_machine.specs.Policy.{Policy}
 use Rattle.pure_machine.specs.State.{Progress, Promise, Taken, Event, Stop, Marks, State}

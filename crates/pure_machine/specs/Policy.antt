@@ -1,4 +1,4 @@
--- What a core is opened with: the theories by the numbers of their parents, and when groups of promises are cancelled (Wenzel, Parallel Proof Checking in Isabelle/Isar, 2009).
+-- What a machine is opened with: the theories by the numbers of their parents, and when groups of promises are cancelled (Wenzel, Parallel Proof Checking in Isabelle/Isar, 2009).
 use Rattle.pure_machine.specs.declared.policy.Group.{Group}
 use Rattle.pure_machine.specs.declared.policy.Cancel.{Cancel}
 use Rattle.std.specs.Prelude.{ℕ, nat_eq, List, [], ◌∷◌, ◌++◌, Bool, if◌then◌else◌}
@@ -8,7 +8,7 @@ pub record Policy : Type 0 where
   pub fail_fast : Bool
   pub cancels : List Cancel
 
--- what a core is opened with: the parents of each theory, of which the first has number 1, the policy, and how many workers there are
+-- what a machine is opened with: the parents of each theory, of which the first has number 1, the policy, and how many workers there are
 pub record Opening : Type 0 where
   pub shape : List (List ℕ)
   pub policy : Policy

@@ -1,4 +1,4 @@
--- How the parts of a core are seen.
+-- How the parts of a machine are seen.
 use Rattle.pure_machine.specs.State.{Progress, Waiting, Running, Closed, Standing, Ready, Taken, Settled, Cancelled, Event, TakeTheory, TakeProof, Fork, CloseTheory, Deliver, Stop}
 use Rattle.pure_machine.specs.declared.parts.Progress as progress
 use Rattle.pure_machine.specs.declared.parts.Progress.TheVariants as progress_code

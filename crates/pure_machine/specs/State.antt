@@ -1,4 +1,4 @@
--- The state of a core: what became of each theory and of each promise, and how it came to be so.
+-- The state of a machine: what became of each theory and of each promise, and how it came to be so.
 use Rattle.std.specs.Prelude.{ℕ, zero, suc, ◌+◌, List, [], ◌∷◌, ◌++◌, map, length, Bool, true, false, ◌&&◌, ◌||◌, not, if◌then◌else◌, Option, Some, None, slice_get, slice_set}
 use Rattle.pure_machine.specs.declared.policy.Group.{Group}
 use Rattle.pure_machine.specs.declared.policy.Group.TheVariants.{Session, Theory}
@@ -23,7 +23,7 @@ pub record Promise (G O : Type 0) : Type 0 where
   pub goal : G
   pub standing : Standing O
 
--- what happens to a core: a theory or a proof is taken; a running theory forks a promise with a goal, or is closed by a value; a proof's outcome is delivered, which is a fault or none; a worker stops the work
+-- what happens to a machine: a theory or a proof is taken; a running theory forks a promise with a goal, or is closed by a value; a proof's outcome is delivered, which is a fault or none; a worker stops the work
 pub data Event (G C O : Type 0) : Type 0 where
   TakeTheory : (number : ℕ) → Event G C O
   TakeProof : (number : ℕ) → Event G C O

@@ -1,4 +1,4 @@
--- One step of a core: what an event changes, what it is answered, and where it may happen.
+-- One step of a machine: what an event changes, what it is answered, and where it may happen.
 use Rattle.std.specs.Prelude.{◌≡◌, ◌⊎◌, ◌<◌, ℕ, ◌+◌, List, [], ◌∷◌, ◌++◌, length, Bool, true, false, ◌&&◌, if◌then◌else◌, Option, Some, None, slice_get}
 use Rattle.pure_text.specs.Lists.{IsIn, Each}
 use Rattle.pure_machine.specs.declared.policy.Group.{Group}

@@ -1,4 +1,4 @@
-//! What a core answers.
+//! What a machine answers.
 use std::sync::Arc;
 
 /// What is there to do: a theory, with the values that closed its parents, or a proof; or nothing now, nothing any more, or the work was stopped.

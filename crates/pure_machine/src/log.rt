@@ -1,4 +1,4 @@
-//! The history of a core, with room for a stop by each worker.
+//! The history of a machine, with room for a stop by each worker.
 ghost use Rattle.std.specs.Prelude.{◌≡◌, ◌<◌, [], false, IfOk, MatchResult};
 ghost use Rattle.pure_machine.specs.State.{Stop};
 ghost use Rattle.pure_machine.specs.Step.{stops};

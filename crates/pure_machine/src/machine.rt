@@ -1,4 +1,4 @@
-//! The state machine of a core.
+//! The state machine.
 ghost use Rattle.std.specs.Prelude.{◌≡◌, ◌<◌, ◌-◌, ◌^◌, ◌++◌, ℕ, List, length, vec_len, false, Some, None, IfOk, MatchResult, MatchOption, OnOk, slice_get, if◌then◌else◌};
 ghost use Rattle.pure_machine.specs.State.{Running, Fork, CloseTheory, Deliver, Stop, Marks, Cancelled, Ready, theory_at, opened, unmarked, with_cancelled};
 ghost use Rattle.pure_machine.specs.Policy.{due, due_one};
@@ -17,7 +17,7 @@ use std::alloc::{AllocError, Global};
 use std::marker::Model;
 use std::sync::Arc;
 
-/// The state of a core, which contracts see as such.
+/// A state, which contracts see as such.
 #[derive(Drop)]
 pub struct Machine<G, C, O> {
     theories: Theories<C>,

@@ -1,4 +1,4 @@
-//! What a core keeps of each theory, of each promise, and of each event.
+//! What a machine keeps of each theory, of each promise, and of each event.
 use std::marker::Model;
 use std::sync::Arc;
 
@@ -53,7 +53,7 @@ impl<G, O> Model for Promise<G, O> {
     ghost view = { λ p. record { theory = p.theory; goal = p.goal.value; standing = seen_standing p.standing } };
 }
 
-/// What happens to a core.
+/// What happens to a machine.
 #[derive(Drop)]
 pub enum Event<G, C, O> {
     TakeTheory {

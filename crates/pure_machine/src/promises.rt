@@ -1,4 +1,4 @@
-//! The promises of a core, in order of number.
+//! The promises of a machine, in order of number.
 ghost use Rattle.std.specs.Prelude.{◌≡◌, ◌≢◌, ◌<◌, ◌≤◌, ◌++◌, [], ◌∷◌, map, ℕ, length, false, Some, MatchBool, MatchOption, MatchResult, slice_get};
 ghost use Rattle.pure_machine.specs.State.{Ready, Taken, Cancelled, with_standing, cancelled_promise};
 ghost use Rattle.pure_machine.specs.Step.{NoPromiseReadyBelow, is_cancelled_promise};

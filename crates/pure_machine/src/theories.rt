@@ -1,4 +1,4 @@
-//! The theories of a core: what became of each, and which are ready.
+//! The theories of a machine: what became of each, and which are ready.
 ghost use Rattle.std.specs.Prelude.{◌≡◌, ◌≢◌, ◌<◌, ◌≤◌, ◌+◌, ◌^◌, ◌-◌, vec_len, ℕ, List, length, map, Option, Some, None, IfOk, MatchOption, MatchBool};
 ghost use Rattle.pure_machine.specs.State.{Waiting, Running, Closed, theory_at, with_progress, waiting};
 ghost use Rattle.pure_machine.specs.Seen.{seen_progress};
