@@ -7,3 +7,4 @@ pub mod ExampleLaws
 pub mod FrontLaws
 pub mod OutcomeLaws
 pub mod ClosingLaws
+pub mod ValueLaws

@@ -1,5 +1,5 @@
 -- Laws of steps: each has an outcome, on each sound goal.
-use Rattle.std.specs.Prelude.{◌≡◌, List, ◌∷◌, ℕ, Result}
+use Rattle.std.specs.Prelude.{◌≡◌, ◌≢◌, ◌⊎◌, ℕ, List, [], ◌∷◌, Option, Result}
 use Rattle.pure_definitions.specs.Names.{Label}
 use Rattle.pure_definitions.specs.Types.Typ.{prop}
 use Rattle.pure_definitions.specs.Types.Order.{Algebra}
@@ -7,9 +7,13 @@ use Rattle.pure_definitions.specs.Terms.Term.{Term}
 use Rattle.pure_definitions.specs.Reduction.Beta.{IsBetaNormal}
 use Rattle.pure_definitions.specs.Declarations.Decl.{algebra_of}
 use Rattle.pure_term_laws.specs.LawsOccurs.{HasNoSchematic}
+use Rattle.pure_grammar.specs.Theories.TheoryText.{Step, Done}
 use Rattle.pure_logic.specs.Connectives.{eq}
 use Rattle.pure_logic.specs.Content.{Content, IsProposition}
 use Rattle.pure_logic.specs.Derivable.{Theorem}
+use Rattle.pure_lookup.specs.LookUps.{Fact, IsFoundFact}
+use Rattle.pure_lookup.specs.Laws.{IsInSession}
+use Rattle.pure_unfold.specs.Unfold.{IsNoDefinition, Unfolds, UnfoldsNothing}
 use Rattle.pure_unify_laws.specs.Condition.{IsUnifyContent}
 use Rattle.pure_goal_steps.specs.State.{State}
 use Rattle.pure_goal_steps.specs.Reading.{IsRuleOf}
@@ -18,7 +22,8 @@ use Rattle.pure_goal_steps.specs.Steps.{BeginsAs, RuleStep, EliminationStep, Des
 use Rattle.pure_goal_steps.specs.Derivability.{IsSound}
 use Rattle.pure_goal_steps.specs.declared.fault.StepFault.{StepFault}
 use Rattle.pure_goal_step_laws.specs.Laws.{IsUsed}
-use Rattle.pure_method.specs.Proof.{Closes}
+use Rattle.pure_method.specs.Facts.{IsFound}
+use Rattle.pure_method.specs.Proof.{Closes, ProofOutcome, IsProof}
 
 -- Some outcome comes of it.
 abbrev pub HasOutcome : (Outcome → Type 0) → Type 0
@@ -72,3 +77,19 @@ ClosesSomehow = OnSoundGoals (λ A s. (last : State) × Closes A s last)
 -- A goal for a statement without schematic variables ends somehow: proved, or with a fault.
 abbrev pub EndsSomehow : Type 0
 EndsSomehow = OnSoundGoals (λ A s. HasNoSchematic s.statement → (end : Result Theorem StepFault) × EndsAs s end)
+
+-- The last step of the script is the end, and no other is.
+pub data IsScript : List Step → Type 0 where
+  ends_here : IsScript (Done ∷ [])
+  goes_further : {step : Step} {steps : List Step} → step ≢ Done → IsScript steps → IsScript (step ∷ steps)
+
+-- What the steps of a proof ask of a content besides goals: each written name means a fact or none; each fact that one means is beta-normal; and a proposition is no definition, or unfolds nothing in a term, or unfolds something.
+pub record HasAnswers (texts : List (List ℕ)) (Q : Content) : Type 0 where
+  pub found : (written : List ℕ) → (fact : Option Fact) × IsFoundFact texts Q written fact
+  pub normal : (written : List ℕ) (th : Theorem) → IsFound texts Q written th → IsBetaNormal th.prop
+  pub unfolded : (A t : Term) → IsNoDefinition A ⊎ (UnfoldsNothing (algebra_of Q.declarations) A t ⊎ ((u : Term) × Unfolds (algebra_of Q.declarations) A t u))
+
+-- Over a content that has these answers something comes of each proof of a statement without schematic variables.
+abbrev pub ProofHasAValue : Type 0
+ProofHasAValue = (texts : List (List ℕ)) (Q : Content) → IsInSession texts Q → IsUnifyContent Q → HasAnswers texts Q → (statement : Term) → IsProposition Q statement → HasNoSchematic statement
+    → (script : List Step) → IsScript script → (outcome : ProofOutcome) × IsProof texts Q statement script outcome

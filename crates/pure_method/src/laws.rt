@@ -1,6 +1,6 @@
 //! Laws of proofs: each is the contract of a function that does nothing.
 ghost use Rattle.pure_method.specs.Laws.{ProofOnce, ProvedIsDerivable, RestsOnPromises, NeverMemory};
-ghost use Rattle.pure_method.specs.Outcomes.{BeginsSomehow, IsSomeRule, RuleSomehow, EliminationSomehow, DestructionSomehow, AssumptionSomehow, PreferSomehow, DeferSomehow, ConversionSomehow, ClosesSomehow, EndsSomehow};
+ghost use Rattle.pure_method.specs.Outcomes.{BeginsSomehow, IsSomeRule, RuleSomehow, EliminationSomehow, DestructionSomehow, AssumptionSomehow, PreferSomehow, DeferSomehow, ConversionSomehow, ClosesSomehow, EndsSomehow, ProofHasAValue};
 
 /// One value at most comes of a proof.
 pub fn proof_once()
@@ -35,4 +35,9 @@ pub fn steps_have_outcomes()
 pub fn goals_end()
     ensures closes { ClosesSomehow }
     ensures ends { EndsSomehow }
+{}
+
+/// Something comes of each proof, where names and definitions have answers.
+pub fn proof_has_a_value()
+    ensures { ProofHasAValue }
 {}
