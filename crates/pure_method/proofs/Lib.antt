@@ -7,4 +7,5 @@ pub mod ExampleLaws
 pub mod FrontLaws
 pub mod OutcomeLaws
 pub mod ClosingLaws
+pub mod UnfoldDecidedLaws
 pub mod ValueLaws

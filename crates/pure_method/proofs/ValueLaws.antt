@@ -36,6 +36,7 @@ use Rattle.pure_method.specs.Facts.{theorem, IsFound, IsUnknown, named_facts, Me
 use Rattle.pure_method.specs.Unfolding.{IsSmallEquation, TakesFact, ComesByFacts, UnfoldStep, chained_equation}
 use Rattle.pure_method.specs.Proof.{ByFacts, WithOne, Gives, ProofOutcome, Ending, Proved, Failed, Ends, IsProof}
 use Rattle.pure_method.specs.Outcomes.{HasOutcome, HasAnswers, IsScript, ends_here, goes_further}
+use Rattle.pure_method.proofs.UnfoldDecidedLaws.{unfolds_or_not}
 use Rattle.pure_method.proofs.OutcomeLaws.{begins_somehow, rule_somehow, elimination_somehow, destruction_somehow, assumption_somehow, prefer_somehow, defer_somehow, conversion_somehow}
 use Rattle.pure_method.proofs.ClosingLaws.{closes_somehow, ends_somehow}
 use Rattle.pure_method.proofs.SoundLaws.{Holds, AreCovered, AreStepsCovered, used, all-given, comes-proved, first-proposition, gives-holds, closes-holds, becomes-keeps}
@@ -156,7 +157,7 @@ module _ (texts : List (List ℕ)) (Q : Content) (session : IsInSession texts Q)
 
   module _ (C : Term) (closed : HasNoSchematic C) (labels : List Label) where
     takes_somehow : (first now : Term) (fact : Theorem) → (r : Result Term StepFault) × TakesFact A first now fact r
-    takes_somehow first now fact = by (answers.unfolded fact.prop now)
+    takes_somehow first now fact = by (unfolds_or_not A k.content.coregular fact.prop now)
       where
         measured : (u : Term) → Unfolds A fact.prop now u → IsSmallEquation now u ⊎ ¬ IsSmallEquation now u → IsSmallEquation first u ⊎ ¬ IsSmallEquation first u → (r : Result Term StepFault) × TakesFact A first now fact r
         measured u f (inr n) other = (Err fault.Big, TakesFact.large f (inl n))

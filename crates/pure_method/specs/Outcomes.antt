@@ -9,7 +9,7 @@ use Rattle.pure_definitions.specs.Declarations.Decl.{algebra_of}
 use Rattle.pure_term_laws.specs.LawsOccurs.{HasNoSchematic}
 use Rattle.pure_grammar.specs.Theories.TheoryText.{Step, Done}
 use Rattle.pure_logic.specs.Connectives.{eq}
-use Rattle.pure_logic.specs.Content.{Content, IsProposition}
+use Rattle.pure_logic.specs.Content.{Content, IsContent, IsProposition}
 use Rattle.pure_logic.specs.Derivable.{Theorem}
 use Rattle.pure_lookup.specs.LookUps.{Fact, IsFoundFact}
 use Rattle.pure_lookup.specs.Laws.{IsInSession}
@@ -78,16 +78,19 @@ ClosesSomehow = OnSoundGoals (λ A s. (last : State) × Closes A s last)
 abbrev pub EndsSomehow : Type 0
 EndsSomehow = OnSoundGoals (λ A s. HasNoSchematic s.statement → (end : Result Theorem StepFault) × EndsAs s end)
 
+-- A proposition is no definition, or by it nothing is unfolded in a term, or something is.
+abbrev pub UnfoldsSomehow : Type 0
+UnfoldsSomehow = (Q : Content) → IsContent Q → (A t : Term) → IsNoDefinition A ⊎ (UnfoldsNothing (algebra_of Q.declarations) A t ⊎ ((u : Term) × Unfolds (algebra_of Q.declarations) A t u))
+
 -- The last step of the script is the end, and no other is.
 pub data IsScript : List Step → Type 0 where
   ends_here : IsScript (Done ∷ [])
   goes_further : {step : Step} {steps : List Step} → step ≢ Done → IsScript steps → IsScript (step ∷ steps)
 
--- What the steps of a proof ask of a content besides goals: each written name means a fact or none; each fact that one means is beta-normal; and a proposition is no definition, or unfolds nothing in a term, or unfolds something.
+-- What the steps of a proof ask of a content besides goals: each written name means a fact or none; and each fact that one means is beta-normal.
 pub record HasAnswers (texts : List (List ℕ)) (Q : Content) : Type 0 where
   pub found : (written : List ℕ) → (fact : Option Fact) × IsFoundFact texts Q written fact
   pub normal : (written : List ℕ) (th : Theorem) → IsFound texts Q written th → IsBetaNormal th.prop
-  pub unfolded : (A t : Term) → IsNoDefinition A ⊎ (UnfoldsNothing (algebra_of Q.declarations) A t ⊎ ((u : Term) × Unfolds (algebra_of Q.declarations) A t u))
 
 -- Over a content that has these answers something comes of each proof of a statement without schematic variables.
 abbrev pub ProofHasAValue : Type 0

@@ -1,6 +1,6 @@
 //! Laws of proofs: each is the contract of a function that does nothing.
 ghost use Rattle.pure_method.specs.Laws.{ProofOnce, ProvedIsDerivable, RestsOnPromises, NeverMemory};
-ghost use Rattle.pure_method.specs.Outcomes.{BeginsSomehow, IsSomeRule, RuleSomehow, EliminationSomehow, DestructionSomehow, AssumptionSomehow, PreferSomehow, DeferSomehow, ConversionSomehow, ClosesSomehow, EndsSomehow, ProofHasAValue};
+ghost use Rattle.pure_method.specs.Outcomes.{BeginsSomehow, IsSomeRule, RuleSomehow, EliminationSomehow, DestructionSomehow, AssumptionSomehow, PreferSomehow, DeferSomehow, ConversionSomehow, ClosesSomehow, EndsSomehow, UnfoldsSomehow, ProofHasAValue};
 
 /// One value at most comes of a proof.
 pub fn proof_once()
@@ -37,7 +37,12 @@ pub fn goals_end()
     ensures ends { EndsSomehow }
 {}
 
-/// Something comes of each proof, where names and definitions have answers.
+/// A proposition unfolds something in a term, or nothing, or is no definition.
+pub fn unfolds_or_not()
+    ensures { UnfoldsSomehow }
+{}
+
+/// Something comes of each proof, where names have answers and facts are beta-normal.
 pub fn proof_has_a_value()
     ensures { ProofHasAValue }
 {}
