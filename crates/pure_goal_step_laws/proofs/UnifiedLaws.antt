@@ -40,7 +40,7 @@ use Rattle.pure_goal_step_laws.proofs.IndexLaws.{IsUpTo, term-more, typs_up_to, 
 use Rattle.pure_goal_step_laws.proofs.ClosedLaws.{closed_typed, lifted_propositions, without_hypothesis}
 use Rattle.pure_goal_step_laws.proofs.AttemptLaws.{map-append, left_pairs, attempt_step, matched_pairs}
 
-has-indexes : (n : ℕ) (t : Term) → IsUpTo n t → HasIndexesUpTo n t
+pub has-indexes : (n : ℕ) (t : Term) → IsUpTo n t → HasIndexesUpTo n t
 has-indexes n t h = record { typs = λ x i s o. typs_up_to n x i s t h o; terms = λ x i T o. terms_up_to n x i T t h o }
 
 is-stripped : {index name : ℕ} {t C : Term} {As : List Term} → Strips index name t As C → IsStripped t As C
@@ -72,7 +72,7 @@ some-ends-well A maxidx s others attempt new ps [] h f = elim f [ ]
 some-ends-well A maxidx s others attempt new ps (p ∷ rest) h (passed u f) = some-ends-well A maxidx s others attempt new ps rest h.1 f
 some-ends-well A maxidx s others attempt new ps (p ∷ rest) h (decided {answer = answer} u n f) = record { place = p; stands = h.0; ends = ends-well A maxidx s others (attempt p) answer new u f }
 
-places-around : (before ps : List Item) → Each (λ p. around p ≡ before ++ ps) (places before ps)
+pub places-around : (before ps : List Item) → Each (λ p. around p ≡ before ++ ps) (places before ps)
 places-around before [] = tt
 places-around before (Parameter T ∷ after) =
     let same : (before ++ Parameter T ∷ []) ++ after ≡ before ++ Parameter T ∷ after = append_assoc before (Parameter T ∷ []) after in
@@ -81,25 +81,25 @@ places-around before (Hypothesis H ∷ after) =
     let same : (before ++ Hypothesis H ∷ []) ++ after ≡ before ++ Hypothesis H ∷ after = append_assoc before (Hypothesis H ∷ []) after in
     (refl, subst (λ (qs : List Item). Each (λ p. around p ≡ qs) (places (before ++ Hypothesis H ∷ []) after)) same (places-around (before ++ Hypothesis H ∷ []) after))
 
-standing-in : (before : List Item) (H : Term) (after : List Item) → IsIn (lift_term (length (parameters after)) 0 H) (hypotheses (before ++ Hypothesis H ∷ after))
+pub standing-in : (before : List Item) (H : Term) (after : List Item) → IsIn (lift_term (length (parameters after)) 0 H) (hypotheses (before ++ Hypothesis H ∷ after))
 standing-in [] H after = inl refl
 standing-in (Parameter T ∷ before) H after = standing-in before H after
 standing-in (Hypothesis A ∷ before) H after = inr (standing-in before H after)
 
 module _ (Q : Content) (k : IsUnifyContent Q) (solver : UnifierSolves) where
   module _ (s : State) (rests all : List Label) (h : IsSound Q rests s) (kept : (l : Label) → IsIn l rests → IsIn l all) (first : Term) (others : List Term) (stand : s.subgoals ≡ first ∷ others) where
-    subgoals : Each (IsProposition Q) (first ∷ others)
+    pub subgoals : Each (IsProposition Q) (first ∷ others)
     subgoals = subgoals_are_propositions Q k.content k.above (theorem_of s rests) (first ∷ others) (protect s.statement) (ap (λ (As : List Term). chain As (protect s.statement)) stand) h.derivable
 
-    first-up_to : (n : ℕ) → greatest_index (indexed s) ≤ n → IsUpTo n first
+    pub first-up_to : (n : ℕ) → greatest_index (indexed s) ≤ n → IsUpTo n first
     first-up_to n l = term-more (greatest_index (indexed s)) n first l (subst (λ (As : List Term). Each (IsUpTo (greatest_index (indexed s))) As) stand (goal_up_to s)).0
 
-    own-certified : Each (AreSidesCertified Q.declarations) s.pairs
+    pub own-certified : Each (AreSidesCertified Q.declarations) s.pairs
     own-certified = each_imply (IsCertifiedPair Q) (AreSidesCertified Q.declarations) s.pairs
         (λ p c. ((c.0, record { parts = c.1.certified.parts; typed = c.1.typed }), (c.0, record { parts = c.2.certified.parts; typed = c.2.typed })))
         (pairs_are_certified Q k.content k.above (theorem_of s rests) h.derivable)
 
-    own-indexes : (n : ℕ) → greatest_index (indexed s) ≤ n → Each (AreIndexesUpTo n) s.pairs
+    pub own-indexes : (n : ℕ) → greatest_index (indexed s) ≤ n → Each (AreIndexesUpTo n) s.pairs
     own-indexes n l = each_imply (λ p. IsUpTo (greatest_index (indexed s)) p.left × IsUpTo (greatest_index (indexed s)) p.right) (AreIndexesUpTo n) s.pairs
         (λ p c. (has-indexes n p.left (term-more (greatest_index (indexed s)) n p.left l c.0), has-indexes n p.right (term-more (greatest_index (indexed s)) n p.right l c.1)))
         (pairs_up_to s)
@@ -116,7 +116,7 @@ module _ (Q : Content) (k : IsUnifyContent Q) (solver : UnifierSolves) where
         becomes_sound Q k.content k.above (with_unifier s others a e.unifier) new all (left_pairs Q (unified_pairs s a) e.unifier solves) (made e.unifier solves) e.becomes
 
     module _ (fact : Theorem) (used : IsUsed Q fact rests all) (As : List Term) (B : Term) (r : IsRuleOf (indexed s) fact As B) where
-      is-rule : (made : State) → IsRuleFor Q (theorem_of made all) fact (greatest_index (indexed s) + 1) As B
+      pub is-rule : (made : State) → IsRuleFor Q (theorem_of made all) fact (greatest_index (indexed s) + 1) As B
       is-rule made =
           let is = derivable_is_proposition Q k.content k.above fact used.derivable in
           record {
@@ -126,10 +126,10 @@ module _ (Q : Content) (k : IsUnifyContent Q) (solver : UnifierSolves) where
             stripped = is-stripped r.strips;
           }
 
-      proved : Proves Q [] all (chain As B)
+      pub proved : Proves Q [] all (chain As B)
       proved = rule-proved Q k.content k.above (theorem_of s all) fact (greatest_index (indexed s) + 1) As B (is-rule s) used.derivable
 
-      index-above : greatest_index (indexed s) ≤ rule_maxidx (indexed s) fact
+      pub index-above : greatest_index (indexed s) ≤ rule_maxidx (indexed s) fact
       index-above = omega arith
 
       rule-sound : (ps : List Item) (C : Term) → first ≡ behind ps C → (new : State) → EndsWell (algebra_of Q.declarations) (rule_maxidx (indexed s) fact) s others (rule_attempt ps C As B) new → IsSound Q all new
@@ -159,14 +159,14 @@ module _ (Q : Content) (k : IsUnifyContent Q) (solver : UnifierSolves) where
     stands : s.subgoals ≡ behind (around place) C ∷ others
     stands = stand ∙ ap (λ (A : Term). A ∷ others) is
 
-    whole-proposition : IsProposition Q (behind (around place) C)
+    pub whole-proposition : IsProposition Q (behind (around place) C)
     whole-proposition = subst (IsProposition Q) is (subgoals s rests all h kept first others stand).0
 
-    up-to : (n : ℕ) → greatest_index (indexed s) ≤ n → IsUpTo n (behind (around place) C)
+    pub up-to : (n : ℕ) → greatest_index (indexed s) ≤ n → IsUpTo n (behind (around place) C)
     up-to n l = subst (IsUpTo n) is (first-up_to s rests all h kept first others stand n l)
 
     -- The hypothesis behind the prefix.
-    hypothesis-proposition : IsProposition Q (behind (around place) (standing place))
+    pub hypothesis-proposition : IsProposition Q (behind (around place) (standing place))
     hypothesis-proposition =
         proved_is_proposition Q k.content k.above [] rests (behind (around place) (standing place))
         (hypothesis_is_proved Q k.content k.above [] rests (around place) (standing place) C whole-proposition (standing-in place.before place.hypothesis place.after))
@@ -189,26 +189,26 @@ module _ (Q : Content) (k : IsUnifyContent Q) (solver : UnifierSolves) where
         e
 
     module _ (fact : Theorem) (used : IsUsed Q fact rests all) (P : Term) (As : List Term) (B : Term) (r : IsRuleOf (indexed s) fact (P ∷ As) B) where
-      its-proof : Proves Q [] all (chain (P ∷ As) B)
+      pub its-proof : Proves Q [] all (chain (P ∷ As) B)
       its-proof = proved s rests all h kept first others stand fact used (P ∷ As) B r
 
       rule-for : (made : State) → IsRuleFor Q (theorem_of made all) fact (greatest_index (indexed s) + 1) (P ∷ As) B
       rule-for made = is-rule s rests all h kept first others stand fact used (P ∷ As) B r made
 
-      without-proposition : IsProposition Q (behind (without place) C)
+      pub without-proposition : IsProposition Q (behind (without place) C)
       without-proposition = without_hypothesis Q k.content k.above place.before place.hypothesis place.after C whole-proposition
 
-      eliminated-certified : AreSidesCertified Q.declarations (closed_pair (around place) (lifted_behind (around place) P) (standing place))
+      pub eliminated-certified : AreSidesCertified Q.declarations (closed_pair (around place) (lifted_behind (around place) P) (standing place))
       eliminated-certified =
           let lifted = lifted_propositions Q k.content k.above all (around place) C (P ∷ As) B whole-proposition its-proof in
           (closed_typed Q (around place) (lifted_behind (around place) P) lifted.premises.0, closed_typed Q (around place) (standing place) hypothesis-proposition)
 
-      conclusion-certified : AreSidesCertified Q.declarations (closed_pair (around place) (lifted_behind (around place) B) C)
+      pub conclusion-certified : AreSidesCertified Q.declarations (closed_pair (around place) (lifted_behind (around place) B) C)
       conclusion-certified =
           let lifted = lifted_propositions Q k.content k.above all (around place) C (P ∷ As) B whole-proposition its-proof in
           (closed_typed Q (around place) (lifted_behind (around place) B) lifted.conclusion, closed_typed Q (around place) C whole-proposition)
 
-      eliminated-indexes : AreIndexesUpTo (rule_maxidx (indexed s) fact) (closed_pair (around place) (lifted_behind (around place) P) (standing place))
+      pub eliminated-indexes : AreIndexesUpTo (rule_maxidx (indexed s) fact) (closed_pair (around place) (lifted_behind (around place) P) (standing place))
       eliminated-indexes =
           let n : ℕ = rule_maxidx (indexed s) fact in
           let ps : List Item = around place in
@@ -220,7 +220,7 @@ module _ (Q : Content) (k : IsUnifyContent Q) (solver : UnifierSolves) where
             has-indexes n (closed_pair ps (lifted_behind ps P) (standing place)).right (up_to-below n ps (standing place) parts.0 hypothesis),
           )
 
-      conclusion-indexes : AreIndexesUpTo (rule_maxidx (indexed s) fact) (closed_pair (around place) (lifted_behind (around place) B) C)
+      pub conclusion-indexes : AreIndexesUpTo (rule_maxidx (indexed s) fact) (closed_pair (around place) (lifted_behind (around place) B) C)
       conclusion-indexes =
           let n : ℕ = rule_maxidx (indexed s) fact in
           let ps : List Item = around place in
@@ -246,7 +246,7 @@ module _ (Q : Content) (k : IsUnifyContent Q) (solver : UnifierSolves) where
           e
 
       -- The subgoal that destruction leaves.
-      last-proposition : IsProposition Q (behind (without place ++ Hypothesis (lifted_behind (without place) B) ∷ []) C)
+      pub last-proposition : IsProposition Q (behind (without place ++ Hypothesis (lifted_behind (without place) B) ∷ []) C)
       last-proposition =
           let lifted = lifted_propositions Q k.content k.above all (without place) C (P ∷ As) B without-proposition its-proof in
           subst (IsProposition Q) (sym (behind-append (without place) (Hypothesis (lifted_behind (without place) B) ∷ []) C))

@@ -124,13 +124,13 @@ all-kept p n [] h = tt
 all-kept p n (q ∷ qs) h = (pair-kept p q n h.0, all-kept p n qs h.1)
 
 -- What is smashed of a theorem with such a proposition, without hypotheses: it has no hypotheses and no pairs, the same proposition, and the same promises.
-record IsKept (th smashed : Theorem) : Type 0 where
-  hyps : smashed.hyps ≡ []
-  pairs : smashed.pairs ≡ []
-  prop : smashed.prop ≡ th.prop
-  rests : smashed.rests ≡ th.rests
+pub record IsKept (th smashed : Theorem) : Type 0 where
+  pub hyps : smashed.hyps ≡ []
+  pub pairs : smashed.pairs ≡ []
+  pub prop : smashed.prop ≡ th.prop
+  pub rests : smashed.rests ≡ th.rests
 
-smashed-kept : (th smashed : Theorem) (C : Term) → HasNoSchematic C → th.prop ≡ protect C → th.hyps ≡ [] → Each IsFlexFlex th.pairs → Smashes th smashed → IsKept th smashed
+pub smashed-kept : (th smashed : Theorem) (C : Term) → HasNoSchematic C → th.prop ≡ protect C → th.hyps ≡ [] → Each IsFlexFlex th.pairs → Smashes th smashed → IsKept th smashed
 smashed-kept th smashed C closed e none flexible (Smashes.no_pair d) = record { hyps = none; pairs = d; prop = refl; rests = refl }
 smashed-kept th smashed C closed e none flexible (Smashes.trivial {ps = ps} d g rest) =
     let kept = smashed-kept (record th { pairs = ps }) smashed C closed e none (subst (λ (qs : List Pair). Each IsFlexFlex qs) d flexible).1 rest in

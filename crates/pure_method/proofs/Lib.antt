@@ -4,3 +4,8 @@ pub mod EndLaws
 pub mod SoundLaws
 pub mod FaultLaws
 pub mod ExampleLaws
+pub mod FrontLaws
+pub mod OutcomeLaws
+pub mod ClosingLaws
+pub mod UnfoldDecidedLaws
+pub mod ValueLaws

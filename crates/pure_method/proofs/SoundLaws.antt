@@ -64,7 +64,7 @@ unifier-keeps typs terms t h =
 
 -- Each step leaves such a statement as it is.
 module _ (C : Term) (closed : HasNoSchematic C) where
-  becomes-keeps : (made s : State) → made.statement ≡ C → Becomes made (Ok s) → s.statement ≡ C
+  pub becomes-keeps : (made s : State) → made.statement ≡ C → Becomes made (Ok s) → s.statement ≡ C
   becomes-keeps made s e (Becomes.small f w) = e
 
   follows-keeps : (s new : State) (others : List Term) (a : Attempt) (answer : Answer) → s.statement ≡ C → Follows s others a answer (Ok new) → new.statement ≡ C
@@ -106,15 +106,15 @@ in-all l th ths m = in_split l th.rests (all_rests ths) m
 
 module _ (texts : List (List ℕ)) (Q : Content) (k : IsUnifyContent Q) (C : Term) (closed : HasNoSchematic C) (labels : List Label) where
   -- The state is sound, resting on the labels, and its statement is still C.
-  record Holds (s : State) : Type 0 where
-    sound : IsSound Q labels s
-    statement : s.statement ≡ C
+  pub record Holds (s : State) : Type 0 where
+    pub sound : IsSound Q labels s
+    pub statement : s.statement ≡ C
 
   -- Each promise that the names mean is among the labels.
-  abbrev AreCovered : List (List ℕ) → Type 0
+  abbrev pub AreCovered : List (List ℕ) → Type 0
   AreCovered written = (l : Label) → AnyOf (MeansPromise texts Q l) written → IsIn l labels
 
-  used : (written : List ℕ) (fact : Theorem) → AreCovered (written ∷ []) → IsFound texts Q written fact → IsUsed Q fact labels labels
+  pub used : (written : List ℕ) (fact : Theorem) → AreCovered (written ∷ []) → IsFound texts Q written fact → IsUsed Q fact labels labels
   used written fact covered found =
       let u = found-usable texts Q k.above written fact found in
       record { no_hyps = u.no_hyps; no_pairs = u.no_pairs; derivable = u.derivable; goal_rests = λ l m. m; fact_rests = λ l m. covered l (inl (u.named l m)) }
@@ -136,26 +136,26 @@ module _ (texts : List (List ℕ)) (Q : Content) (k : IsUnifyContent Q) (C : Ter
   abbrev IsGiven : Theorem → Type 0
   IsGiven fact = IsDerivable Q (theorem fact.prop labels)
 
-  given : (written : List ℕ) (fact : Theorem) → AreCovered (written ∷ []) → IsFound texts Q written fact → IsGiven fact
+  pub given : (written : List ℕ) (fact : Theorem) → AreCovered (written ∷ []) → IsFound texts Q written fact → IsGiven fact
   given written fact covered found =
       let u = used written fact covered found in
       let alike : IsDerivable Q (theorem fact.prop fact.rests) = subst (IsDerivable Q) (λ i. record { hyps = u.no_hyps i; pairs = u.no_pairs i; prop = fact.prop; rests = fact.rests }) u.derivable in
       weaker_is_derivable Q (theorem fact.prop fact.rests) [] labels (record { hyps = λ B m. m; rests = u.fact_rests }) alike
 
-  all-given : (written : List (List ℕ)) (facts : List Theorem) → AreCovered written → EachTwo (IsFound texts Q) written facts → Each IsGiven facts
+  pub all-given : (written : List (List ℕ)) (facts : List Theorem) → AreCovered written → EachTwo (IsFound texts Q) written facts → Each IsGiven facts
   all-given [] [] covered h = tt
   all-given [] (f ∷ fs) covered h = absurd h
   all-given (w ∷ ws) [] covered h = absurd h
   all-given (w ∷ ws) (f ∷ fs) covered h = (given w f (λ l m. elim m [ inl a ↦ covered l (inl a) | inr none ↦ absurd none ]) h.0, all-given ws fs (λ l m. covered l (inr m)) h.1)
 
-  comes-proved : (first now last : Term) (facts : List Theorem) → Each IsGiven facts → Proves Q [] labels (eq prop first now) → ComesByFacts (algebra_of Q.declarations) first now facts (Ok last) → Proves Q [] labels (eq prop first last)
+  pub comes-proved : (first now last : Term) (facts : List Theorem) → Each IsGiven facts → Proves Q [] labels (eq prop first now) → ComesByFacts (algebra_of Q.declarations) first now facts (Ok last) → Proves Q [] labels (eq prop first last)
   comes-proved first now last [] h p ComesByFacts.no_more = p
   comes-proved first now last (fact ∷ facts) h p (ComesByFacts.goes_on {u = u} (TakesFact.unfolded f w v) rest) =
       let side = right-of Q k.content k.above [] labels prop first now p in
       let step = (derivable_is_proves Q [] labels (eq prop now u)).0 (unfolds-derivable Q k.content k.above labels prop fact.prop now u (record { parts = side.certified.parts; typed = side.typed }) h.0 f) in
       comes-proved first u last facts h.1 (transitive_equality Q k.content k.above [] labels prop first now u p step) rest
 
-  first-proposition : (s : State) (first : Term) (others : List Term) → s.subgoals ≡ first ∷ others → IsSound Q labels s → IsProposition Q first
+  pub first-proposition : (s : State) (first : Term) (others : List Term) → s.subgoals ≡ first ∷ others → IsSound Q labels s → IsProposition Q first
   first-proposition s first others e h =
       (subgoals_are_propositions Q k.content k.above (theorem_of s labels) (first ∷ others) (protect s.statement) (ap (λ (As : List Term). chain As (protect s.statement)) e) h.derivable).0
 
@@ -172,7 +172,7 @@ module _ (texts : List (List ℕ)) (Q : Content) (k : IsUnifyContent Q) (C : Ter
         statement = conversion-keeps C closed s new equation h.statement same;
       }
 
-  gives-holds : (step : Step) (s new : State) → AreCovered (named_facts step) → Holds s → Gives texts Q step s (Ok new) → Holds new
+  pub gives-holds : (step : Step) (s new : State) → AreCovered (named_facts step) → Holds s → Gives texts Q step s (Ok new) → Holds new
   gives-holds (Rule fact) s new covered h (ByFacts.known {facts = facts} found (th, e, f)) =
       let u = used fact th covered (with_one-used fact facts th e found) in
       record { sound = rule_is_sound Q k unifier_solves s new th labels labels h.sound u f; statement = rule-keeps C closed (algebra_of Q.declarations) s new th h.statement f }
@@ -192,13 +192,13 @@ module _ (texts : List (List ℕ)) (Q : Content) (k : IsUnifyContent Q) (C : Ter
   gives-holds Close s new covered h f = absurd f
   gives-holds Done s new covered h f = absurd f
 
-  closes-holds : (s last : State) → Holds s → Closes (algebra_of Q.declarations) s last → Holds last
+  pub closes-holds : (s last : State) → Holds s → Closes (algebra_of Q.declarations) s last → Holds last
   closes-holds s last h (Closes.stops f) = h
   closes-holds s last h (Closes.goes_on {next = next} f rest) =
       closes-holds next last (record { sound = assumption_is_sound Q k unifier_solves s next labels h.sound f; statement = assumption-keeps C closed (algebra_of Q.declarations) s next h.statement f }) rest
 
   -- Each promise that the steps name is among the labels.
-  abbrev AreStepsCovered : List Step → Type 0
+  abbrev pub AreStepsCovered : List Step → Type 0
   AreStepsCovered steps = (l : Label) → IsNamed texts Q steps l → IsIn l labels
 
   module _ (Concluded : Type 0) (at_end : (s : State) (th : Theorem) → Holds s → EndsAs s (Ok th) → Concluded) where

@@ -1,5 +1,6 @@
 //! Laws of proofs: each is the contract of a function that does nothing.
 ghost use Rattle.pure_method.specs.Laws.{ProofOnce, ProvedIsDerivable, RestsOnPromises, NeverMemory};
+ghost use Rattle.pure_method.specs.Outcomes.{BeginsSomehow, IsSomeRule, RuleSomehow, EliminationSomehow, DestructionSomehow, AssumptionSomehow, PreferSomehow, DeferSomehow, ConversionSomehow, ClosesSomehow, EndsSomehow, UnfoldsSomehow, ProofHasAValue};
 
 /// One value at most comes of a proof.
 pub fn proof_once()
@@ -15,4 +16,33 @@ pub fn proved_is_derivable()
 /// A fault of a proof is never want of memory.
 pub fn never_memory()
     ensures { NeverMemory }
+{}
+
+/// Each step has an outcome on each goal that is derivable: by rules, each of which a fact is.
+pub fn steps_have_outcomes()
+    ensures begins { BeginsSomehow }
+    ensures is_rule { IsSomeRule }
+    ensures rule { RuleSomehow }
+    ensures elimination { EliminationSomehow }
+    ensures destruction { DestructionSomehow }
+    ensures assumption { AssumptionSomehow }
+    ensures prefer { PreferSomehow }
+    ensures defer { DeferSomehow }
+    ensures conversion { ConversionSomehow }
+{}
+
+/// Subgoals are closed up to some state, and a goal ends somehow.
+pub fn goals_end()
+    ensures closes { ClosesSomehow }
+    ensures ends { EndsSomehow }
+{}
+
+/// A proposition unfolds something in a term, or nothing, or is no definition.
+pub fn unfolds_or_not()
+    ensures { UnfoldsSomehow }
+{}
+
+/// Something comes of each proof, where names have answers and facts are beta-normal.
+pub fn proof_has_a_value()
+    ensures { ProofHasAValue }
 {}

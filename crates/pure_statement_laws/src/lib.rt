@@ -1,0 +1,4 @@
+//! Laws of statements.
+#![tactic(auto)]
+
+pub mod laws;
