@@ -2,7 +2,7 @@
 ghost use Rattle.std.specs.Prelude.{◌≡◌, ◌∷◌, ◌++◌, [], ◌↔◌, ℕ, List, if◌then◌else◌, IfOk, OnOk, bytes_eq};
 ghost use Rattle.std.specs.List.Sorted.{IsStrictlyIncreasing};
 ghost use Rattle.pure_text.specs.Lists.{IsIn};
-ghost use Rattle.pure_typ.specs.NameTexts.{NameHasBase};
+ghost use Rattle.pure_typ.specs.NameTexts.{AreSessionTexts, NameHasBase};
 ghost use Rattle.pure_typ.specs.NameBases.{has_base, names_at, names_with_base};
 
 use crate::name::Name;
@@ -46,6 +46,13 @@ impl NamesByBase {
         ensures { result.now ≡ self.now }
     {
         &self.names
+    }
+
+    /// The texts are those of a session.
+    pub fn are_session_texts(&self)
+        ensures { AreSessionTexts self.now }
+    {
+        self.names.are_session_texts();
     }
 
     /// The names whose texts have this base, ascending. It takes no memory.

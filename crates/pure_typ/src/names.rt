@@ -66,6 +66,13 @@ impl Names {
         }
     }
 
+    /// The texts are those of a session: they ascend, none is a text of Pure, and there are fewer than 2^31.
+    pub fn are_session_texts(&self)
+        ensures { AreSessionTexts self.now }
+    {
+        let _ = &self.texts;
+    }
+
     /// The first number that has no text: the names of fresh variables begin there.
     pub fn first_fresh(&self) -> u32
         ensures { result ≡ length (name_texts self.now) }
