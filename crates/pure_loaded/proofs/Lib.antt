@@ -1,0 +1,3 @@
+pub mod StoodLaws
+pub mod OrderLaws
+pub mod LimitLaws

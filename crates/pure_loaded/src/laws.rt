@@ -1,0 +1,13 @@
+//! Laws of loaded theories: each is the contract of a function that does nothing.
+ghost use Rattle.pure_loaded.specs.InOrder.{LoadedInOrder};
+ghost use Rattle.pure_loaded.specs.Limits.{LoadedWithinLimits};
+
+/// The theories of a session have distinct names, and the parents of each come before it.
+pub fn loaded_in_order()
+    ensures { LoadedInOrder }
+{}
+
+/// The theories of a session and their commands aren't too many.
+pub fn loaded_within_limits()
+    ensures { LoadedWithinLimits }
+{}
