@@ -1,14 +1,14 @@
 -- The parents of a theory declare the same under one name, and under one label.
-use Rattle.std.proofs.Common.{◌≡◌, ◌⊎◌, ℕ, List, refl, sym, ◌∙◌, ap, subst, inl, inr, Some}
+use Rattle.std.proofs.Common.{◌≡◌, ◌⊎◌, ℕ, List, sym, ◌∙◌, ap, subst, inl, inr}
 use Rattle.pure_text.specs.Lists.{IsIn, Each, AnyOf}
 use Rattle.pure_text.proofs.ListLaws.{each_at, any_some}
-use Rattle.pure_definitions.specs.Declarations.Decl.{Decl, ClassDecl, ConDecl, ArityDecl, ConstDecl, AxiomDecl, PromiseDecl}
+use Rattle.pure_definitions.specs.Declarations.Decl.{Decl, PromiseDecl}
 use Rattle.pure_typ.specs.NameTexts.{AreSessionTexts}
 use Rattle.pure_logic.specs.Content.{TheoryId, Content, IsContent, AreNamedAlike, AreLabelledAlike}
-use Rattle.pure_logic.specs.PureContent.{pure_content, pure_declarations}
+use Rattle.pure_logic.specs.PureContent.{pure_declarations}
 use Rattle.pure_logic.specs.Laws.Contents.{AreAgreed}
 use Rattle.pure_logic.proofs.ContentLaws.{pure_is_content}
-use Rattle.pure_owners.specs.Owned.{IsNameIn, IsOf, IsLast, IsOfEnded, IsOfOwn}
+use Rattle.pure_owners.specs.Owned.{IsNameIn, IsOf, IsLast, IsOfEnded}
 use Rattle.pure_owners.specs.Ended.{AreEnded, IsParent}
 use Rattle.pure_owners.proofs.NameLaws.{IsNamedBy, AreNamedBy, alike-named, of-name, one-theory, none-of_pure, pure-named}
 

@@ -1,17 +1,12 @@
 -- A theory may begin with its parents, and what its content is then.
-use Rattle.std.proofs.Common.{◌≡◌, ◌≢◌, ◌⊎◌, ◌<◌, ℕ, List, refl, sym, ◌∙◌, ap, subst, inl, inr, Option, Some, None}
+use Rattle.std.proofs.Common.{◌≡◌, ◌≢◌, ◌⊎◌, ◌<◌, ℕ, List, sym, ◌∙◌, ap, subst, inl, inr, Option, Some, None}
 use Rattle.std.specs.Option.{option_to_list}
-use Rattle.pure_text.specs.Lists.{IsIn, Each, AnyOf}
+use Rattle.pure_text.specs.Lists.{IsIn, Each}
 use Rattle.pure_text.proofs.ListLaws.{each_of, each_at, any_some, in_split}
-use Rattle.pure_definitions.specs.Declarations.Decl.{Decl}
-use Rattle.pure_typ.specs.NameTexts.{HasText, AreSessionTexts}
 use Rattle.pure_logic.specs.Content.{TheoryId, Content}
-use Rattle.pure_logic.specs.PureContent.{pure_content}
 use Rattle.pure_logic.specs.Beginning.{AreToldApart, IsNewOver, IsBeginning, ancestors_of, theories_of}
 use Rattle.pure_logic.proofs.MergeLaws.{merge_has_declarations}
 use Rattle.pure_logic.proofs.AncestorLaws.{ancestors_are_the_parents, beginning_has_theories_apart}
-use Rattle.pure_lookup.specs.Meaning.{pure_text}
-use Rattle.pure_lookup.specs.Laws.{IsInSession}
 use Rattle.pure_owners.specs.Owned.{IsLast}
 use Rattle.pure_owners.specs.Ended.{HasPlainName, AreEnded, IsParent, IsGivenParents}
 use Rattle.pure_owners.specs.Laws.{ParentsMayBegin, BeginningIsOwned, BeginningIsInSession}

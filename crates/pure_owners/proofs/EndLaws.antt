@@ -1,17 +1,15 @@
 -- The last content of a theory is one more of those that have ended.
-use Rattle.std.proofs.Common.{◌≡◌, ◌≢◌, ◌⊎◌, ◌<◌, ◌+◌, ℕ, List, [], ◌∷◌, ◌++◌, refl, sym, ◌∙◌, ap, subst, inl, inr, arith, Some}
+use Rattle.std.proofs.Common.{◌≡◌, ◌⊎◌, ◌<◌, ◌+◌, ℕ, List, [], ◌∷◌, ◌++◌, refl, sym, ◌∙◌, ap, subst, inl, inr, arith, Some}
 use Rattle.std.specs.Option.{option_to_list}
-use Rattle.pure_text.specs.Lists.{IsIn, Each}
+use Rattle.pure_text.specs.Lists.{IsIn}
 use Rattle.pure_text.proofs.ListLaws.{each_imply}
 use Rattle.pure_definitions.specs.Names.{Label}
-use Rattle.pure_definitions.specs.Declarations.Decl.{Decl}
 use Rattle.pure_grammar.specs.Theories.TheoryText.{Command}
-use Rattle.pure_logic.specs.Content.{TheoryId, Content, IsContent}
-use Rattle.pure_logic.specs.Beginning.{AreToldApart, IsNewOver, ancestors_of, theories_of, HasTheoriesApart, IsBeginning}
-use Rattle.pure_lookup.specs.Laws.{IsInSession}
+use Rattle.pure_logic.specs.Content.{TheoryId, Content}
+use Rattle.pure_logic.specs.Beginning.{AreToldApart, IsNewOver, ancestors_of, theories_of, HasTheoriesApart}
 use Rattle.pure_declare.specs.Notes.{Note}
-use Rattle.pure_declare.specs.Fold.{Declares, AreDeclared}
-use Rattle.pure_owners.specs.Owned.{IsLast, IsOfEnded, IsOwned}
+use Rattle.pure_declare.specs.Fold.{AreDeclared}
+use Rattle.pure_owners.specs.Owned.{IsLast, IsOwned}
 use Rattle.pure_owners.specs.Ended.{HasPlainName, AreEnded, IsNext, IsGivenParents}
 use Rattle.pure_owners.specs.Kept.{CommandKeepsOwned, CommandKeepsSession, NothingHasEnded, TheoryEnds}
 use Rattle.pure_owners.proofs.BeginLaws.{ancestor-ended, beginning-is_owned}
@@ -115,14 +113,16 @@ module _ (texts : List (List ℕ)) (ended : List Content) (all : AreEnded texts 
 pub theory-ends : TheoryEnds
 theory-ends texts ended all theory parents given first last begins source place commands notes declared content =
     let run : HasGone texts ended first last = gone texts ended source theory place first commands notes last begins.own (beginning-is_owned texts ended all theory parents given first begins) declared in
-    let own : last.own ≡ Some theory = run.own ∙ begins.own in
-    record {
-      contents = (content, all.contents);
-      owned = (later-owned texts ended last last run.owned, each_imply (IsOwned texts ended) (IsOwned texts (last ∷ ended)) ended (later-owned texts ended last) all.owned);
-      known = all-known texts ended all theory last own parents given (run.ancestors ∙ begins.ancestors);
-      apart = all-apart texts ended all theory last own given.next;
-      plain = all-plain texts ended all theory last own given.plain;
-    }
+    let own : last.own ≡ Some theory = run.own ∙ begins.own in (
+      record {
+        contents = (content, all.contents);
+        owned = (later-owned texts ended last last run.owned, each_imply (IsOwned texts ended) (IsOwned texts (last ∷ ended)) ended (later-owned texts ended last) all.owned);
+        known = all-known texts ended all theory last own parents given (run.ancestors ∙ begins.ancestors);
+        apart = all-apart texts ended all theory last own given.next;
+        plain = all-plain texts ended all theory last own given.plain;
+      },
+      record { among = inl refl; own = own },
+    )
 
 -- ---- look-ups
 

@@ -1,6 +1,6 @@
 -- The name of a theory's declaration is no name of another theory, and none of Pure.
-use Rattle.std.proofs.Common.{◌≡◌, ◌<◌, ℕ, zero, suc, List, [], ◌∷◌, ◌++◌, refl, sym, ◌∙◌, ap, subst, inl, inr, arith, Some}
-use Rattle.std.specs.Prelude.{codes, slice_get}
+use Rattle.std.proofs.Common.{◌≡◌, ◌<◌, ℕ, zero, suc, List, refl, sym, ◌∙◌, subst, inl, inr, arith, Some}
+use Rattle.std.specs.Prelude.{codes}
 use Rattle.pure_text.specs.Lists.{IsIn}
 use Rattle.pure_definitions.specs.Declarations.Decl.{Decl, ClassDecl, ConDecl, ArityDecl, ConstDecl, AxiomDecl, PromiseDecl}
 use Rattle.pure_typ.specs.NameTexts.{builtin_texts, HasText, AreSessionTexts}

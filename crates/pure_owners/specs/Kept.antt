@@ -7,7 +7,7 @@ use Rattle.pure_logic.specs.Beginning.{IsBeginning}
 use Rattle.pure_lookup.specs.Laws.{IsInSession}
 use Rattle.pure_declare.specs.Notes.{Note}
 use Rattle.pure_declare.specs.Fold.{Declares, AreDeclared}
-use Rattle.pure_owners.specs.Owned.{IsOwned}
+use Rattle.pure_owners.specs.Owned.{IsLast, IsOwned}
 use Rattle.pure_owners.specs.Ended.{AreEnded, IsGivenParents}
 
 -- A command whose label has the index of the content's own theory keeps the declarations owned.
@@ -24,10 +24,10 @@ CommandKeepsSession = (texts : List (List ℕ)) (source : List ℕ) (label : Lab
 abbrev pub NothingHasEnded : Type 0
 NothingHasEnded = (texts : List (List ℕ)) → AreEnded texts []
 
--- When a theory ends, that began with its parents and went through commands, its last content is one more of those that have ended.
+-- When a theory ends, that began with its parents and went through commands, its last content is one more of those that have ended, and is the theory's.
 abbrev pub TheoryEnds : Type 0
 TheoryEnds = (texts : List (List ℕ)) (ended : List Content) → AreEnded texts ended
     → (theory : TheoryId) (parents : List Content) → IsGivenParents texts ended theory parents
     → (first last : Content) → IsBeginning theory parents first
     → (source : List ℕ) (place : ℕ) (commands : List Command) (notes : List Note) → AreDeclared texts source theory.index place first commands notes last
-    → IsContent last → AreEnded texts (last ∷ ended)
+    → IsContent last → AreEnded texts (last ∷ ended) × IsLast (last ∷ ended) theory last

@@ -1,5 +1,5 @@
 -- Laws of the contents of a session.
-use Rattle.std.specs.Prelude.{◌≡◌, ℕ, List}
+use Rattle.std.specs.Prelude.{ℕ, List}
 use Rattle.pure_typ.specs.NameTexts.{AreSessionTexts}
 use Rattle.pure_logic.specs.Content.{TheoryId, Content}
 use Rattle.pure_logic.specs.Beginning.{IsBeginning}
