@@ -13,3 +13,7 @@ pub mod OutcomeSteps
 pub mod FixedLaws
 pub mod TidyLaws
 pub mod TidyDeclared
+pub mod DoneLaws
+pub mod PromisedLaws
+pub mod BoundLaws
+pub mod GoodLaws
