@@ -1,0 +1,7 @@
+pub mod StoodLaws
+pub mod OrderLaws
+pub mod LimitLaws
+pub mod HeaderLaws
+pub mod NamedLaws
+pub mod ScriptLaws
+pub mod WellLaws

@@ -1,0 +1,20 @@
+//! Laws of loaded theories: each is the contract of a function that does nothing.
+ghost use Rattle.pure_loaded.specs.InOrder.{LoadedInOrder};
+ghost use Rattle.pure_loaded.specs.Limits.{LoadedWithinLimits};
+ghost use Rattle.pure_loaded.specs.Well.{LoadedWell};
+
+/// Each theory of a session has what is asked of those whose commands are checked: ranges that lie in its source, names for
+/// all that it declares, a name that isn't Pure's, and scripts that end.
+pub fn loaded_well()
+    ensures { LoadedWell }
+{}
+
+/// The theories of a session have distinct names, and the parents of each come before it.
+pub fn loaded_in_order()
+    ensures { LoadedInOrder }
+{}
+
+/// The theories of a session and their commands aren't too many.
+pub fn loaded_within_limits()
+    ensures { LoadedWithinLimits }
+{}

@@ -1,0 +1,4 @@
+//! What a session gives with its loaded theories.
+#![tactic(auto)]
+
+pub mod laws;

@@ -1,0 +1,5 @@
+pub mod NameLaws
+pub mod AgreedLaws
+pub mod BeginLaws
+pub mod DeclaredLaws
+pub mod EndLaws

@@ -1,0 +1,24 @@
+-- Laws of the contents of a session.
+use Rattle.std.specs.Prelude.{◌≡◌, ℕ, List}
+use Rattle.pure_typ.specs.NameTexts.{AreSessionTexts}
+use Rattle.pure_logic.specs.Content.{TheoryId, Content}
+use Rattle.pure_logic.specs.Beginning.{IsBeginning}
+use Rattle.pure_lookup.specs.Laws.{IsInSession}
+use Rattle.pure_theory.specs.Begin.{MayBegin}
+use Rattle.pure_owners.specs.Owned.{IsOwned}
+use Rattle.pure_owners.specs.Ended.{AreEnded, IsGivenParents}
+
+-- A theory may begin with parents that have ended, or Pure.
+abbrev pub ParentsMayBegin : Type 0
+ParentsMayBegin = (texts : List (List ℕ)) (ended : List Content) → AreSessionTexts texts → AreEnded texts ended
+    → (theory : TheoryId) (parents : List Content) → IsGivenParents texts ended theory parents → MayBegin theory parents
+
+-- The declarations of the content with which it begins are owned.
+abbrev pub BeginningIsOwned : Type 0
+BeginningIsOwned = (texts : List (List ℕ)) (ended : List Content) → AreEnded texts ended
+    → (theory : TheoryId) (parents : List Content) → IsGivenParents texts ended theory parents → (Q : Content) → IsBeginning theory parents Q → IsOwned texts ended Q
+
+-- That content is as look-ups ask of one.
+abbrev pub BeginningIsInSession : Type 0
+BeginningIsInSession = (texts : List (List ℕ)) (ended : List Content) → AreSessionTexts texts → AreEnded texts ended
+    → (theory : TheoryId) (parents : List Content) → IsGivenParents texts ended theory parents → (Q : Content) → IsBeginning theory parents Q → IsInSession texts Q
