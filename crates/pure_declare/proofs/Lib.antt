@@ -17,3 +17,9 @@ pub mod DoneLaws
 pub mod PromisedLaws
 pub mod BoundLaws
 pub mod GoodLaws
+pub mod OnceSteps
+pub mod OnceLaws
+pub mod SomeTexts
+pub mod SomeSteps
+pub mod SomeTests
+pub mod SomeLaws

@@ -13,3 +13,5 @@ pub mod Promised
 pub mod Bound
 pub mod Sessions
 pub mod Good
+pub mod Once
+pub mod Somehow

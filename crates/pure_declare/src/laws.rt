@@ -2,8 +2,10 @@
 ghost use Rattle.pure_declare.specs.Bound.{ForksBound};
 ghost use Rattle.pure_declare.specs.Good.{PureIsGood, DeclaresGood, GoodHasCertifiedParts};
 ghost use Rattle.pure_declare.specs.Grown.{DeclaresGrown};
+ghost use Rattle.pure_declare.specs.Once.{DeclaresOnce};
 ghost use Rattle.pure_declare.specs.Promised.{DeclaresPromises};
 ghost use Rattle.pure_declare.specs.Sessions.{DeclaresInSession};
+ghost use Rattle.pure_declare.specs.Somehow.{DeclaresSomehow};
 ghost use Rattle.pure_declare.specs.Tidy.{PureIsTidy, DeclaresTidy, ForksTidy};
 
 /// A command's next content is of the same theory, has the declarations of the one before, and keeps what the next command asks.
@@ -54,4 +56,14 @@ pub fn declares_good()
 /// Such a content is above Pure's, and over declared classes alone.
 pub fn good_has_certified_parts()
     ensures { GoodHasCertifiedParts }
+{}
+
+/// Over such a content of a session a command leaves one note and one next content at most.
+pub fn declares_once()
+    ensures { DeclaresOnce }
+{}
+
+/// Over such a content of a session, with names for what it declares and ranges that lie in the source, a command leaves some note and some next content.
+pub fn declares_somehow()
+    ensures { DeclaresSomehow }
 {}
