@@ -5,3 +5,4 @@ pub mod HeaderLaws
 pub mod NamedLaws
 pub mod ScriptLaws
 pub mod WellLaws
+pub mod FollowingLaws

@@ -1,3 +1,4 @@
 pub mod InOrder
 pub mod Limits
 pub mod Well
+pub mod Following

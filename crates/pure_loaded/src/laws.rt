@@ -1,4 +1,5 @@
 //! Laws of loaded theories: each is the contract of a function that does nothing.
+ghost use Rattle.pure_loaded.specs.Following.{NextHasEnded, NextIsGiven, NoneHasEnded, ParentsHaveEnded};
 ghost use Rattle.pure_loaded.specs.InOrder.{LoadedInOrder};
 ghost use Rattle.pure_loaded.specs.Limits.{LoadedWithinLimits};
 ghost use Rattle.pure_loaded.specs.Well.{LoadedWell};
@@ -17,4 +18,13 @@ pub fn loaded_in_order()
 /// The theories of a session and their commands aren't too many.
 pub fn loaded_within_limits()
     ensures { LoadedWithinLimits }
+{}
+
+/// Where the theories of a session begin and end in load order, each has parents that have ended, and is given what one that
+/// begins asks.
+pub fn theories_follow()
+    ensures none { NoneHasEnded }
+    ensures parents { ParentsHaveEnded }
+    ensures given { NextIsGiven }
+    ensures ended { NextHasEnded }
 {}

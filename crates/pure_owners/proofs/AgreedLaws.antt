@@ -13,11 +13,11 @@ use Rattle.pure_owners.specs.Ended.{AreEnded, IsParent}
 use Rattle.pure_owners.proofs.NameLaws.{IsNamedBy, AreNamedBy, alike-named, of-name, one-theory, none-of_pure, pure-named}
 
 -- The declaration is a promise.
-abbrev IsPromise : Decl → Type 0
+abbrev pub IsPromise : Decl → Type 0
 IsPromise (PromiseDecl x l A) = Unit {0}
 IsPromise _ = ⊥
 
-none-promised : (d : Decl) → IsIn d pure_declarations → ¬ IsPromise d
+pub none-promised : (d : Decl) → IsIn d pure_declarations → ¬ IsPromise d
 none-promised d (inl e) h = subst IsPromise e h
 none-promised d (inr (inl e)) h = subst IsPromise e h
 none-promised d (inr (inr (inl e))) h = subst IsPromise e h

@@ -1,16 +1,19 @@
 -- A theory may begin with its parents, and what its content is then.
-use Rattle.std.proofs.Common.{◌≡◌, ◌≢◌, ◌⊎◌, ◌<◌, ℕ, List, sym, ◌∙◌, ap, subst, inl, inr, Option, Some, None}
+use Rattle.std.proofs.Common.{◌≡◌, ◌≢◌, ◌⊎◌, ◌<◌, ℕ, List, sym, ◌∙◌, ap, subst, inl, inr, arith, Option, Some, None}
 use Rattle.std.specs.Option.{option_to_list}
 use Rattle.pure_text.specs.Lists.{IsIn, Each}
 use Rattle.pure_text.proofs.ListLaws.{each_of, each_at, any_some, in_split}
+use Rattle.pure_definitions.specs.Names.{Label}
+use Rattle.pure_definitions.specs.Declarations.Decl.{PromiseDecl}
 use Rattle.pure_logic.specs.Content.{TheoryId, Content}
 use Rattle.pure_logic.specs.Beginning.{AreToldApart, IsNewOver, IsBeginning, ancestors_of, theories_of}
 use Rattle.pure_logic.proofs.MergeLaws.{merge_has_declarations}
 use Rattle.pure_logic.proofs.AncestorLaws.{ancestors_are_the_parents, beginning_has_theories_apart}
+use Rattle.pure_theory.specs.Refusals.{IsBefore}
 use Rattle.pure_owners.specs.Owned.{IsLast}
-use Rattle.pure_owners.specs.Ended.{HasPlainName, AreEnded, IsParent, IsGivenParents}
-use Rattle.pure_owners.specs.Laws.{ParentsMayBegin, BeginningIsOwned, BeginningIsInSession}
-use Rattle.pure_owners.proofs.AgreedLaws.{placed, are-agreed}
+use Rattle.pure_owners.specs.Ended.{HasPlainName, AreEnded, IsNext, IsParent, IsGivenParents}
+use Rattle.pure_owners.specs.Laws.{ParentsMayBegin, BeginningIsOwned, BeginningIsInSession, LabelsAreBelow}
+use Rattle.pure_owners.proofs.AgreedLaws.{none-promised, placed, are-agreed}
 
 some-same : {A : Type 0} (a b : A) → Some a ≡ Some b → a ≡ b
 some-same a b e = cc
@@ -80,3 +83,13 @@ beginning-is_in_session texts ended session all theory parents given Q begins = 
   apart = beginning_has_theories_apart theory parents Q (told-apart texts ended all parents given.each) (new-over texts ended all theory parents given) begins;
   theories = λ t text m has. all-plain texts ended all theory parents given Q begins t m text has;
 }
+
+earlier-label : (texts : List (List ℕ)) (ended : List Content) (theory : TheoryId) → IsNext ended theory → (label l : Label) → label.theory ≡ theory.index → (t : TheoryId) (P : Content) → IsLast ended t P → l.theory ≡ t.index → IsBefore l label
+earlier-label texts ended theory next label l same t P last its = let less = (next t P last).0 in inl (omega (arith, less, its, same))
+
+pub labels-are_below : LabelsAreBelow
+labels-are_below texts ended all theory parents given Q begins label same x l A m =
+    elim (placed texts ended all parents given.each (PromiseDecl x l A) ((merge_has_declarations parents Q.declarations begins.merge (PromiseDecl x l A)).0 m)) [
+      | inl pure ↦ absurd (none-promised (PromiseDecl x l A) pure tt)
+      | inr o ↦ earlier-label texts ended theory given.next label l same o.theory o.last o.is_last o.of_theory.1
+    ]

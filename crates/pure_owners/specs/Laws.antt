@@ -1,10 +1,12 @@
 -- Laws of the contents of a session.
-use Rattle.std.specs.Prelude.{ℕ, List}
+use Rattle.std.specs.Prelude.{◌≡◌, ℕ, List}
+use Rattle.pure_definitions.specs.Names.{Label}
 use Rattle.pure_typ.specs.NameTexts.{AreSessionTexts}
 use Rattle.pure_logic.specs.Content.{TheoryId, Content}
 use Rattle.pure_logic.specs.Beginning.{IsBeginning}
 use Rattle.pure_lookup.specs.Laws.{IsInSession}
 use Rattle.pure_theory.specs.Begin.{MayBegin}
+use Rattle.pure_theory.specs.Refusals.{IsLabelAbove}
 use Rattle.pure_owners.specs.Owned.{IsOwned}
 use Rattle.pure_owners.specs.Ended.{AreEnded, IsGivenParents}
 
@@ -22,3 +24,9 @@ BeginningIsOwned = (texts : List (List ℕ)) (ended : List Content) → AreEnded
 abbrev pub BeginningIsInSession : Type 0
 BeginningIsInSession = (texts : List (List ℕ)) (ended : List Content) → AreSessionTexts texts → AreEnded texts ended
     → (theory : TheoryId) (parents : List Content) → IsGivenParents texts ended theory parents → (Q : Content) → IsBeginning theory parents Q → IsInSession texts Q
+
+-- A label with the theory's index comes after all labels of that content.
+abbrev pub LabelsAreBelow : Type 0
+LabelsAreBelow = (texts : List (List ℕ)) (ended : List Content) → AreEnded texts ended
+    → (theory : TheoryId) (parents : List Content) → IsGivenParents texts ended theory parents → (Q : Content) → IsBeginning theory parents Q
+    → (label : Label) → label.theory ≡ theory.index → IsLabelAbove Q.declarations label

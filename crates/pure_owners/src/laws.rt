@@ -1,6 +1,6 @@
 //! Laws of the contents of a session: each is the contract of a function that does nothing.
 ghost use Rattle.pure_owners.specs.Kept.{CommandKeepsOwned, CommandKeepsSession, NothingHasEnded, TheoryEnds};
-ghost use Rattle.pure_owners.specs.Laws.{BeginningIsInSession, BeginningIsOwned, ParentsMayBegin};
+ghost use Rattle.pure_owners.specs.Laws.{BeginningIsInSession, BeginningIsOwned, LabelsAreBelow, ParentsMayBegin};
 
 /// A theory may begin with parents that are last contents of its session, or Pure.
 pub fn parents_may_begin()
@@ -12,9 +12,10 @@ pub fn beginning_is_owned()
     ensures { BeginningIsOwned }
 {}
 
-/// The content with which a theory begins is as look-ups ask.
+/// The content with which a theory begins is as look-ups ask, and its labels come before the theory's own.
 pub fn beginning_is_in_session()
-    ensures { BeginningIsInSession }
+    ensures session { BeginningIsInSession }
+    ensures labels { LabelsAreBelow }
 {}
 
 /// What a command declares is its own theory's, and it keeps a content as look-ups ask.
