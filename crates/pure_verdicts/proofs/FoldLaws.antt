@@ -1,5 +1,5 @@
 -- Folds over commands, put together and taken apart.
-use Rattle.std.proofs.Common.{◌≡◌, ℕ, ◌+◌, List, [], ◌∷◌, ◌++◌, length, refl, sym, ap, ◌∙◌, subst, arith}
+use Rattle.std.proofs.Common.{◌≡◌, ℕ, ◌+◌, List, [], ◌∷◌, ◌++◌, length, refl, sym, ap, subst, arith}
 use Rattle.pure_grammar.specs.Theories.TheoryText.{Command}
 use Rattle.pure_logic.specs.Content.{Content}
 use Rattle.pure_declare.specs.Notes.{Note}
@@ -28,3 +28,35 @@ declared-count texts source index place (c ∷ cs) Q R ns h =
     let longer : length ns ≡ length (h.0 ∷ h.2) = ap length h.5 in
     let rest : length h.2 ≡ length cs = declared-count texts source index (place + 1) cs h.1 R h.2 h.4 in
     omega (arith, longer, rest)
+
+-- A fold taken apart behind some of its notes.
+pub record IsSplit (texts : List (List ℕ)) (source : List ℕ) (index place : ℕ) (cs : List Command) (Q R : Content) (ns ms : List Note) : Type 0 where
+  pub front : List Command
+  pub back : List Command
+  pub between : Content
+  pub commands : cs ≡ front ++ back
+  pub first : AreDeclared texts source index place Q front ns between
+  pub second : AreDeclared texts source index (place + length ns) between back ms R
+
+pub declared-split : (texts : List (List ℕ)) (source : List ℕ) (index place : ℕ) (cs : List Command) (Q R : Content) (ns ms : List Note) → AreDeclared texts source index place Q cs (ns ++ ms) R → IsSplit texts source index place cs Q R ns ms
+declared-split texts source index place cs Q R [] ms h = record {
+  front = [];
+  back = cs;
+  between = Q;
+  commands = refl;
+  first = (refl, refl);
+  second = subst (λ (p : ℕ). AreDeclared texts source index p Q cs ms R) (omega arith) h;
+}
+declared-split texts source index place [] Q R (n ∷ ns) ms h = absurd (cc)
+declared-split texts source index place (c ∷ cs) Q R (n ∷ ns) ms h =
+    let same : h.0 ≡ n = cc in
+    let rest : h.2 ≡ ns ++ ms = cc in
+    let more = declared-split texts source index (place + 1) cs h.1 R ns ms (subst (λ (x : List Note). AreDeclared texts source index (place + 1) h.1 cs x R) rest h.4) in
+    record {
+      front = c ∷ more.front;
+      back = more.back;
+      between = more.between;
+      commands = ap (λ (x : List Command). c ∷ x) more.commands;
+      first = (h.0, h.1, ns, h.3, more.first, ap (λ (x : Note). x ∷ ns) (sym same));
+      second = subst (λ (p : ℕ). AreDeclared texts source index p more.between more.back ms R) (omega arith) more.second;
+    }

@@ -1,13 +1,10 @@
 -- The steps of a theory's run.
-use Rattle.std.proofs.Common.{◌≡◌, ℕ, ◌+◌, suc, List, [], ◌∷◌, ◌++◌, length, append_assoc, append-nil, refl, sym, ap, ◌∙◌, subst, arith}
-use Rattle.std.specs.Prelude.{Option, Some, slice_get}
+use Rattle.std.proofs.Common.{◌≡◌, ℕ, suc, List, [], ◌∷◌, ◌++◌, length, append_assoc, append-nil, refl, sym, ap, ◌∙◌, subst, arith}
+use Rattle.std.specs.Prelude.{Some, slice_get}
 use Rattle.pure_grammar.specs.Theories.TheoryText.{Command}
-use Rattle.pure_logic.specs.Content.{Content}
 use Rattle.pure_graph.specs.Order.{Loaded}
-use Rattle.pure_declare.specs.Notes.{Note}
 use Rattle.pure_declare.specs.Fold.{Declares, AreDeclared}
-use Rattle.pure_verdicts.specs.Verdicts.{IsTheoryAt, Closes, Ran, ran}
-use Rattle.pure_verdicts.specs.Statements.{IsRun}
+use Rattle.pure_verdicts.specs.Verdicts.{IsTheoryAt, ran}
 use Rattle.pure_verdicts.specs.Steps.{command_label, RunBegins, RunGoesOn, RunCloses}
 use Rattle.pure_verdicts.proofs.FoldLaws.{declared-append, declared-one}
 

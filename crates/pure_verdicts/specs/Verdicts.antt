@@ -2,7 +2,7 @@
 use Rattle.std.specs.Prelude.{◌≡◌, ℕ, suc, List, [], ◌∷◌, ◌++◌, codes, Some, slice_get}
 use Rattle.pure_text.specs.Lists.{EachTwo}
 use Rattle.pure_typ.specs.NameTexts.{HasText}
-use Rattle.pure_logic.specs.Content.{TheoryId, Content}
+use Rattle.pure_logic.specs.Content.{Content}
 use Rattle.pure_logic.specs.PureContent.{pure_content}
 use Rattle.pure_logic.specs.Beginning.{IsBeginning}
 use Rattle.pure_theory.specs.Begin.{MayBegin, IsFirstConflict}
@@ -13,7 +13,7 @@ use Rattle.pure_print.specs.declared.row.RowStatus.TheVariants.{Refused}
 use Rattle.pure_statements.specs.Rows.{colon}
 use Rattle.pure_statements.specs.ReasonText.{reason_text}
 use Rattle.pure_statements.specs.declared.reason.Reason.TheVariants.{NotCoregular}
-use Rattle.pure_declare.specs.Notes.{Note, Said}
+use Rattle.pure_declare.specs.Notes.{Note}
 use Rattle.pure_declare.specs.Fold.{AreDeclared}
 
 -- what becomes of a theory: the row by which it is refused when it begins, or what its commands leave and its last content
