@@ -1,15 +1,28 @@
 //! Lemmas that are joined.
-ghost use Rattle.std.specs.Prelude.{map, IfOk};
+ghost use Rattle.std.specs.Prelude.{◌≡◌, ◌↔◌, ◌<◌, ℕ, length, map, IfOk, IsTrue};
 ghost use Rattle.pure_text.specs.Lists.{Each};
-ghost use Rattle.pure_fates.specs.Entries.{AreEntries};
+ghost use Rattle.pure_fates.specs.Entries as fates;
+ghost use Rattle.pure_fates.specs.Entries.{AreEntries, IsFate};
+ghost use Rattle.pure_fates.specs.Reach.{IsAt, AreReaches};
 ghost use Rattle.pure_promise.specs.Entries.{plain};
 ghost use Rattle.pure_promise.specs.Seen.{seen, reported};
 ghost use Rattle.pure_promise.specs.Joining.{AreJoined, MayJoin, IsSettled, IsTheorem};
 
 use crate::entry::Entry;
-use pure_fates::{is_proved, reaches};
+use pure_fates::{Reach, is_proved, reaches};
 use pure_term::Label;
 use std::alloc::{AllocError, Global};
+
+/// Whether the lemma at the place is joined, by what each reaches.
+fn is_joined(entries: &[Entry], reached: &[Reach], place: usize) -> bool
+    requires entries { AreEntries (map reported entries.now) }
+    requires reached { (width : ℕ) × AreReaches (map reported entries.now) width reached.now }
+    requires count { length reached.now ≡ length entries.now }
+    requires within { place < length entries.now }
+    ensures { (e : fates.Entry) → IsAt (map reported entries.now) place e → IsTrue result ↔ IsFate (map reported entries.now) e.label fates.Proved }
+{
+    is_proved(entries, reached, place)
+}
 
 /// The labels that are joined.
 fn joined(alloc: Global, entries: &[Entry]) -> Result<Vec<Label>, AllocError>
@@ -19,7 +32,7 @@ fn joined(alloc: Global, entries: &[Entry]) -> Result<Vec<Label>, AllocError>
     let reached = reaches(alloc, entries)?;
     let mut labels = Vec::new(alloc);
     for place in 0..entries.len() {
-        if is_proved(entries, &reached, place) {
+        if is_joined(entries, &reached, place) {
             labels.push(entries[place].label)?;
         }
     }
