@@ -6,6 +6,7 @@ pub mod OrderedLaws
 pub mod OrderlyLaws
 pub mod PromiseLaws
 pub mod ForkLaws
+pub mod ProvableLaws
 pub mod NoteLaws
 pub mod ConflictLaws
 pub mod OnceLaws

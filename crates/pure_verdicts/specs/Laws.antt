@@ -13,6 +13,7 @@ use Rattle.pure_graph.specs.Order.{Loaded}
 use Rattle.pure_declare.specs.Notes.{Fork, Note}
 use Rattle.pure_declare.specs.Tidy.{IsTidy}
 use Rattle.pure_declare.specs.Good.{IsGood}
+use Rattle.pure_method.specs.Outcome.{IsProvable}
 use Rattle.pure_verdicts.specs.Loaded.{IsLoadedSession}
 use Rattle.pure_verdicts.specs.Verdicts.{Verdict, Closes}
 use Rattle.pure_verdicts.specs.Statements.{forks_of, AreStatements, IsRun, IsFork}
@@ -27,6 +28,10 @@ pub record IsOrderly (texts : List (List ℕ)) (Q : Content) : Type 0 where
 abbrev pub RunsOrderly : Type 0
 RunsOrderly = (texts : List (List ℕ)) (theories : List Loaded) → IsLoadedSession texts theories → (index : ℕ) (notes : List Note) (now : Content) (left : List Command)
     → IsRun texts theories index notes now left → IsOrderly texts now
+
+-- A proof can be run of each lemma that is bound.
+abbrev pub ForksProvable : Type 0
+ForksProvable = (texts : List (List ℕ)) (theories : List Loaded) → IsLoadedSession texts theories → (index others : ℕ) (f : Fork) → IsFork texts theories index others f → IsProvable texts f
 
 -- The lemma is bound in the session somewhere.
 abbrev pub IsSomeFork : (texts : List (List ℕ)) → (theories : List Loaded) → Fork → Type 0

@@ -1,5 +1,5 @@
 //! What the definitions mean: laws, each carried by the contract of a function that does nothing.
-ghost use Rattle.pure_verdicts.specs.Laws.{ClosesOnce, ForkOnce, ForksStand, LabelsAscend, PromisesAreForks, RunsOrderly, StatementsBindForks, StatementsOnce};
+ghost use Rattle.pure_verdicts.specs.Laws.{ClosesOnce, ForkOnce, ForksProvable, ForksStand, LabelsAscend, PromisesAreForks, RunsOrderly, StatementsBindForks, StatementsOnce};
 ghost use Rattle.pure_verdicts.specs.Given.{RunsClose, RunsGive, TheoriesMayBegin};
 ghost use Rattle.pure_verdicts.specs.Steps.{RunBegins, RunCloses, RunGoesOn};
 
@@ -21,6 +21,11 @@ pub fn run_closes()
 /// While a theory runs its contents are good ones, in the session, with tidy facts alone.
 pub fn runs_orderly()
     ensures { RunsOrderly }
+{}
+
+/// A proof can be run of each lemma that is bound.
+pub fn forks_provable()
+    ensures { ForksProvable }
 {}
 
 /// Each lemma that is bound stands over a content of its theory's run, behind all promises of that content.
