@@ -1,17 +1,16 @@
 -- What is stated over a sound content is certified, and so are the statements of lemmas that are bound.
 use Rattle.std.proofs.Common.{◌≡◌, ℕ, List, refl, sym, ◌∙◌, ap, subst}
-use Rattle.std.specs.Prelude.{Result, Ok, Err}
+use Rattle.std.specs.Prelude.{Ok}
 use Rattle.pure_definitions.specs.Types.Typ.{Typ, prop}
 use Rattle.pure_definitions.specs.Terms.Term.{Term}
 use Rattle.pure_definitions.specs.Declarations.Certified.{IsCertifiedTyp}
-use Rattle.pure_grammar.specs.Theories.TheoryText.{Span, Command, Lemma}
+use Rattle.pure_grammar.specs.Theories.TheoryText.{Span, Command}
 use Rattle.pure_grammar.specs.Terms.RawTree.{RawTree}
 use Rattle.pure_logic.specs.Content.{Content, IsCertifiedOf, IsProposition, IsStatement}
 use Rattle.pure_lookup.specs.Laws.{IsInSession}
 use Rattle.pure_theory.specs.Stage.{IsSound}
 use Rattle.pure_elab.specs.Sound.{IsSoundVocabulary}
 use Rattle.pure_elab.proofs.CertifiedAnswerLaws.{answer_is_certified, all_propositions, typ_certified}
-use Rattle.pure_statements.specs.declared.reason.Reason.{Reason}
 use Rattle.pure_statements.specs.declared.stated.Stated.{Stated}
 use Rattle.pure_statements.specs.Chain.{refuses, goes_on, holds, passes}
 use Rattle.pure_statements.specs.Schematic.{generalised}
@@ -19,11 +18,11 @@ use Rattle.pure_statements.specs.Statement.{IsNormalised, IsStated, IsStatedTyp,
 use Rattle.pure_statements.specs.Elaborated.{IsTypedTerm}
 use Rattle.pure_statements.proofs.ElaboratedLaws.{elaborated-fixed, normal-certified}
 use Rattle.pure_statements.proofs.StatedLaws.{normal-statement}
-use Rattle.pure_declare.specs.Notes.{Note, Said, Forked, Fork, Outcome}
-use Rattle.pure_declare.specs.Commands.{Place, vocabulary, forking}
+use Rattle.pure_declare.specs.Notes.{Said, Forked, Fork, Outcome}
+use Rattle.pure_declare.specs.Commands.{Place, vocabulary}
 use Rattle.pure_declare.specs.Bound.{IsBoundAs, ForksBound}
 use Rattle.pure_declare.proofs.QuotedLaws.{sound-vocabulary}
-use Rattle.pure_declare.proofs.DoneLaws.{IsChanged, IsBinding, IsDone, changes, binds, is_refused, declared-done}
+use Rattle.pure_declare.proofs.DoneLaws.{IsBinding, IsDone, changes, binds, is_refused, declared-done}
 
 -- A statement of the content: a proposition, and generalised.
 pub record IsStatedOf (Q : Content) (s : Stated) : Type 0 where

@@ -1,6 +1,6 @@
 //! What the definitions mean: laws, each carried by the contract of a function that does nothing.
 ghost use Rattle.pure_declare.specs.Bound.{ForksBound};
-ghost use Rattle.pure_declare.specs.Good.{PureIsGood, DeclaresGood, GoodHasCertifiedParts};
+ghost use Rattle.pure_declare.specs.Good.{PureIsGood, DeclaresGood, GoodIsCertified};
 ghost use Rattle.pure_declare.specs.Grown.{DeclaresGrown};
 ghost use Rattle.pure_declare.specs.Once.{DeclaresOnce};
 ghost use Rattle.pure_declare.specs.Promised.{DeclaresPromises};
@@ -53,9 +53,9 @@ pub fn declares_good()
     ensures { DeclaresGood }
 {}
 
-/// Such a content is above Pure's, and over declared classes alone.
-pub fn good_has_certified_parts()
-    ensures { GoodHasCertifiedParts }
+/// Such a content is above Pure's, and its declarations are certified, as unification asks.
+pub fn good_is_certified()
+    ensures { GoodIsCertified }
 {}
 
 /// Over such a content of a session a command leaves one note and one next content at most.
