@@ -3,7 +3,7 @@ ghost use Rattle.pure_declare.specs.Bound.{ForksBound};
 ghost use Rattle.pure_declare.specs.Good.{PureIsGood, DeclaresGood, GoodIsCertified};
 ghost use Rattle.pure_declare.specs.Grown.{DeclaresGrown};
 ghost use Rattle.pure_declare.specs.Once.{DeclaresOnce};
-ghost use Rattle.pure_declare.specs.Promised.{DeclaresPromises};
+ghost use Rattle.pure_declare.specs.Promised.{DeclaresPromises, ForksPromised};
 ghost use Rattle.pure_declare.specs.Sessions.{DeclaresInSession};
 ghost use Rattle.pure_declare.specs.Somehow.{DeclaresSomehow};
 ghost use Rattle.pure_declare.specs.Tidy.{PureIsTidy, DeclaresTidy, ForksTidy};
@@ -31,6 +31,11 @@ pub fn forks_tidy()
 /// A promise of a command's next content stood before, or is that of the lemma which the command binds.
 pub fn declares_promises()
     ensures { DeclaresPromises }
+{}
+
+/// Where a command binds a lemma, the next content is the one before with the lemma's promise.
+pub fn forks_promised()
+    ensures { ForksPromised }
 {}
 
 /// A lemma that a command binds has the command's label, content and proof, and states a proposition of the content.
