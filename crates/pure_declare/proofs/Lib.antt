@@ -13,3 +13,13 @@ pub mod OutcomeSteps
 pub mod FixedLaws
 pub mod TidyLaws
 pub mod TidyDeclared
+pub mod DoneLaws
+pub mod PromisedLaws
+pub mod BoundLaws
+pub mod GoodLaws
+pub mod OnceSteps
+pub mod OnceLaws
+pub mod SomeTexts
+pub mod SomeSteps
+pub mod SomeTests
+pub mod SomeLaws

@@ -29,7 +29,7 @@ sorts-declared : (ds : List Decl) (ss : List (List ℕ)) → Each (IsCertifiedSo
 sorts-declared ds [] h = tt
 sorts-declared ds (s ∷ ss) h = (h.0.1, sorts-declared ds ss h.1)
 
-certified-declarations : (Q : Content) → IsSound Q → AreCertifiedDeclarations Q.declarations
+pub certified-declarations : (Q : Content) → IsSound Q → AreCertifiedDeclarations Q.declarations
 certified-declarations Q s = record {
   constants = certified-typs Q s;
   inclusions = λ k m. each_at (IsCertifiedDecl Q.declarations) Q.declarations s.certified (ClassDecl k) m;

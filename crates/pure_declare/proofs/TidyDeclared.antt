@@ -78,7 +78,7 @@ stated-tidy V source span s (goes_on raw read (goes_on t typed (goes_on u normal
     let same : stated u ≡ s = cc in
     subst IsTidyStated same (record { term = tidy-term V prop raw t u prop-fixed typed normal; prop = refl })
 
-typ-fixed : (V : Vocabulary) (source : List ℕ) (span : Span) (T : Typ) → IsStatedTyp V source span (Ok T) → IsFixedTyp T
+pub typ-fixed : (V : Vocabulary) (source : List ℕ) (span : Span) (T : Typ) → IsStatedTyp V source span (Ok T) → IsFixedTyp T
 typ-fixed V source span T (refuses reason h e) = absurd (cc)
 typ-fixed V source span T (goes_on raw read h) = elaborated-fixed V raw T h
 

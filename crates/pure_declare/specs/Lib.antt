@@ -9,3 +9,9 @@ pub mod Changes
 pub mod Seen
 pub mod Grown
 pub mod Tidy
+pub mod Promised
+pub mod Bound
+pub mod Sessions
+pub mod Good
+pub mod Once
+pub mod Somehow

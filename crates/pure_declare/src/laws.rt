@@ -1,5 +1,11 @@
 //! What the definitions mean: laws, each carried by the contract of a function that does nothing.
+ghost use Rattle.pure_declare.specs.Bound.{ForksBound};
+ghost use Rattle.pure_declare.specs.Good.{PureIsGood, DeclaresGood, GoodHasCertifiedParts};
 ghost use Rattle.pure_declare.specs.Grown.{DeclaresGrown};
+ghost use Rattle.pure_declare.specs.Once.{DeclaresOnce};
+ghost use Rattle.pure_declare.specs.Promised.{DeclaresPromises};
+ghost use Rattle.pure_declare.specs.Sessions.{DeclaresInSession};
+ghost use Rattle.pure_declare.specs.Somehow.{DeclaresSomehow};
 ghost use Rattle.pure_declare.specs.Tidy.{PureIsTidy, DeclaresTidy, ForksTidy};
 
 /// A command's next content is of the same theory, has the declarations of the one before, and keeps what the next command asks.
@@ -20,4 +26,44 @@ pub fn declares_tidy()
 /// The statement of a lemma that a command binds is in beta normal form, closed and without schematic variables, and its promise states it generalised.
 pub fn forks_tidy()
     ensures { ForksTidy }
+{}
+
+/// A promise of a command's next content stood before, or is that of the lemma which the command binds.
+pub fn declares_promises()
+    ensures { DeclaresPromises }
+{}
+
+/// A lemma that a command binds has the command's label, content and proof, and states a proposition of the content.
+pub fn forks_bound()
+    ensures { ForksBound }
+{}
+
+/// A command's next content is one of the session too.
+pub fn declares_in_session()
+    ensures { DeclaresInSession }
+{}
+
+/// Pure's content is sound, and its classes are declared once, each after those above it.
+pub fn pure_is_good()
+    ensures { PureIsGood }
+{}
+
+/// Where a content is so, a command's next content is.
+pub fn declares_good()
+    ensures { DeclaresGood }
+{}
+
+/// Such a content is above Pure's, and over declared classes alone.
+pub fn good_has_certified_parts()
+    ensures { GoodHasCertifiedParts }
+{}
+
+/// Over such a content of a session a command leaves one note and one next content at most.
+pub fn declares_once()
+    ensures { DeclaresOnce }
+{}
+
+/// Over such a content of a session, with names for what it declares and ranges that lie in the source, a command leaves some note and some next content.
+pub fn declares_somehow()
+    ensures { DeclaresSomehow }
 {}

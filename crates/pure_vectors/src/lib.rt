@@ -2,6 +2,24 @@
 #![tactic(auto)]
 
 #[cfg(test)]
+mod cases;
+#[cfg(test)]
+mod declarations;
+#[cfg(test)]
+mod faults;
+#[cfg(test)]
+mod folder;
+#[cfg(test)]
 mod generated;
 #[cfg(test)]
-mod top_call;
+mod limits;
+#[cfg(test)]
+mod proofs;
+#[cfg(test)]
+mod statements;
+#[cfg(test)]
+mod theories;
+#[cfg(test)]
+mod worked;
+#[cfg(test)]
+mod world;

@@ -1,0 +1,16 @@
+-- The promises of a command's next content.
+use Rattle.std.specs.Prelude.{◌≡◌, ◌⊎◌, ℕ, List}
+use Rattle.pure_text.specs.Lists.{IsIn}
+use Rattle.pure_definitions.specs.Names.{Label}
+use Rattle.pure_definitions.specs.Terms.Term.{Term}
+use Rattle.pure_definitions.specs.Declarations.Decl.{PromiseDecl}
+use Rattle.pure_grammar.specs.Theories.TheoryText.{Command}
+use Rattle.pure_logic.specs.Content.{Content}
+use Rattle.pure_declare.specs.Notes.{Note, Fork, Forked}
+use Rattle.pure_declare.specs.Fold.{Declares}
+
+-- A promise of the next content stood before, or is that of the lemma which the command binds, with its statement.
+abbrev pub DeclaresPromises : Type 0
+DeclaresPromises = (texts : List (List ℕ)) (source : List ℕ) (label : Label) (Q : Content) (command : Command) (note : Note) (next : Content)
+    → Declares texts source label Q command note next → (x : ℕ) (l : Label) (A : Term) → IsIn (PromiseDecl x l A) next.declarations
+    → IsIn (PromiseDecl x l A) Q.declarations ⊎ ((f : Fork) × (note ≡ Forked f) × (f.label ≡ l) × (f.prop ≡ A))

@@ -1,0 +1,4 @@
+pub mod LabelLaws
+pub mod RowLaws
+pub mod FateLaws
+pub mod JoinLaws

@@ -1,0 +1,7 @@
+pub mod Entries
+pub mod Seen
+pub mod Accepting
+pub mod RowText
+pub mod Rows
+pub mod Joining
+pub mod Laws

@@ -1,0 +1,24 @@
+-- How entries are seen.
+use Rattle.std.specs.Prelude.{List, Option, Some, None, Ok, Err, map}
+use Rattle.pure_fates.specs.Entries as fates
+use Rattle.pure_method.specs.Proof.{ProofOutcome}
+use Rattle.pure_promise.specs.declared.entry.Entry as code
+use Rattle.pure_promise.specs.declared.entry.Own as own
+use Rattle.pure_promise.specs.declared.entry.Own.TheVariants.{Proved, Fault, Cancelled}
+use Rattle.pure_promise.specs.Entries.{Entry, plain}
+
+-- of a theorem the promises on which it rests
+abbrev pub seen_own : own.Own → Option ProofOutcome
+seen_own (Proved result) = Some (Ok result.theorem.rests)
+seen_own (Fault step fault) = Some (Err (record { step = step; fault = fault }))
+seen_own Cancelled = None
+
+abbrev pub seen_entry : code.Entry → Entry
+seen_entry e = record { label = e.label; name = e.name; prop = e.prop; own = seen_own e.own }
+
+abbrev pub seen : List code.Entry → List Entry
+seen = map seen_entry
+
+-- a code's entry as fates see it
+abbrev pub reported : code.Entry → fates.Entry
+reported e = plain (seen_entry e)

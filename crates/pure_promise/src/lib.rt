@@ -1,0 +1,17 @@
+//! Promises that theorems fulfil, lemmas that are joined, and the rows of lemmas.
+#![tactic(auto)]
+
+mod entry;
+mod fault_text;
+mod find;
+mod joining;
+pub mod laws;
+mod lemma_rows;
+mod names_text;
+mod promise;
+mod row;
+
+pub use entry::{Entry, Own};
+pub use joining::join;
+pub use lemma_rows::rows;
+pub use promise::{AcceptFault, Promise};

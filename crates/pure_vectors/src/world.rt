@@ -1,0 +1,95 @@
+//! Libraries in memory, and what the top call answers on them.
+use pure_check::{Status, pure};
+use pure_io::{File, MemLibrary, MemSink, OpenGate};
+use pure_text::Text;
+use std::alloc::{AllocError, Global};
+use std::rt::Files;
+use std::sync::Wait;
+use std::thread::Threads;
+
+/// What a call answered and wrote.
+#[derive(Debug, Drop)]
+pub(crate) struct Answer {
+    pub(crate) status: Status,
+    pub(crate) bytes: Vec<u8>,
+}
+
+/// The world of a call: its words, its files, and which calls fail.
+#[derive(Drop)]
+pub(crate) struct World {
+    pub(crate) words: Vec<Text>,
+    pub(crate) files: Vec<File>,
+    pub(crate) failing_reads: Vec<u32>,
+    pub(crate) failing_writes: Vec<u32>,
+    pub(crate) capacity: usize,
+    pub(crate) width: usize,
+}
+
+pub(crate) fn empty_world(alloc: Global) -> World {
+    World {
+        words: Vec::new(alloc),
+        files: Vec::new(alloc),
+        failing_reads: Vec::new(alloc),
+        failing_writes: Vec::new(alloc),
+        capacity: 100_000,
+        width: 100_000,
+    }
+}
+
+pub(crate) fn add_file(
+    alloc: Global,
+    world: &mut World,
+    name: &[u8],
+    text: &[u8],
+) -> Result<(), AllocError> {
+    world.files.push(File {
+        name: Text::make(alloc, name)?,
+        text: Text::make(alloc, text)?,
+    })?;
+    Ok(())
+}
+
+pub(crate) fn add_words(
+    alloc: Global,
+    world: &mut World,
+    words: &[&[u8]],
+) -> Result<(), AllocError> {
+    for word in words {
+        world.words.push(Text::make(alloc, word)?)?;
+    }
+    Ok(())
+}
+
+pub(crate) fn run<R: Files + Print + AllocGlobal + Threads + Wait + Sync>(
+    rt: &R,
+    alloc: Global,
+    world: World,
+) -> Result<Answer, AllocError> {
+    let World {
+        words,
+        files,
+        failing_reads,
+        failing_writes,
+        capacity,
+        width,
+    } = world;
+    let mut library = MemLibrary::make(files, failing_reads);
+    let mut out = MemSink::make(alloc, capacity, width.max(1), failing_writes)?;
+    let ended = pure(rt, alloc, &words, &mut library, &mut out, &OpenGate::make());
+    Ok(Answer {
+        status: ended.status,
+        bytes: Vec::from_slice(alloc, out.bytes())?,
+    })
+}
+
+/// The answer for one file.
+pub(crate) fn run_file<R: Files + Print + AllocGlobal + Threads + Wait + Sync>(
+    rt: &R,
+    alloc: Global,
+    name: &[u8],
+    text: &[u8],
+) -> Result<Answer, AllocError> {
+    let mut one = empty_world(alloc);
+    add_file(alloc, &mut one, name, text)?;
+    run(rt, alloc, one)
+}

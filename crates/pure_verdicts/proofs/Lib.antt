@@ -1,0 +1,11 @@
+pub mod FoldLaws
+pub mod StepLaws
+pub mod KeptLaws
+pub mod TextLaws
+pub mod OrderedLaws
+pub mod OrderlyLaws
+pub mod PromiseLaws
+pub mod ForkLaws
+pub mod NoteLaws
+pub mod LabelLaws
+pub mod OwnLaws

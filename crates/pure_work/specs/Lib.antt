@@ -1,0 +1,10 @@
+pub mod Outline
+pub mod OutlineCodes
+pub mod Endings
+pub mod Checked
+pub mod CheckedCodes
+pub mod Parents
+pub mod Begun
+pub mod Runs
+pub mod Turns
+pub mod Sessions

@@ -1,0 +1,134 @@
+//! Theories that begin.
+ghost use Rattle.std.specs.Prelude.{◌≡◌, ◌<◌, List, [], length, IfOk};
+ghost use Rattle.pure_text.specs.Lists.{Each};
+ghost use Rattle.pure_typ.specs.NameTexts.{HasText};
+ghost use Rattle.pure_lookup.specs.Laws.{IsInSession};
+ghost use Rattle.pure_theory.specs.Begin.{contents};
+ghost use Rattle.pure_graph.specs.Session.{parent_refused_text};
+ghost use Rattle.pure_session.specs.Waiting.{seen_loaded};
+ghost use Rattle.pure_verdicts.specs.Verdicts.{beginning_over, refused_theory};
+ghost use Rattle.pure_work.specs.Outline.{Outline, outlines, lasts, HasLabelsBelow};
+ghost use Rattle.pure_work.specs.Parents.{AreOutlinesOf, HasParents, IsNameOfParent};
+ghost use Rattle.pure_work.specs.Runs.{IsRunOf};
+ghost use Rattle.pure_work.specs.Begun.{IsFirst, IsBegunOver};
+
+use crate::checker::Checker;
+use crate::closed::Closed;
+use crate::conditions::{come_before, number_of};
+use crate::parents::first_barred;
+use crate::refused::{not_begun, parent_refused};
+use crate::run::{Going, Run, Standing};
+use pure_print::Row;
+use pure_session::Loaded;
+use pure_stage::shared;
+use pure_theory::{Stage, Theory};
+use pure_typ::Name;
+use std::alloc::AllocError;
+use std::sync::Arc;
+
+impl Checker {
+    /// The name of the theory's parent at this place.
+    fn parent_name(&self, theory: &Loaded, place: usize) -> &[u8]
+        requires { (values : List Outline) × AreOutlinesOf self.now.texts self.now.theories theory.now.parents.items values × (place < length values) }
+        ensures { IsNameOfParent self.now.theories theory.now.parents.items place result.now }
+    {
+        let parent = self.theory(theory.parents[place]);
+        parent.name.bytes()
+    }
+
+    /// The row of the theory, whose parent at this place was refused when it began.
+    fn barred_row(&self, theory: &Loaded, place: usize) -> Result<Row, AllocError>
+        requires { (values : List Outline) × AreOutlinesOf self.now.texts self.now.theories theory.now.parents.items values × (place < length values) }
+        ensures { IfOk result (λ row. (name : List ℕ) × IsNameOfParent self.now.theories theory.now.parents.items place name × (row ≡ refused_theory theory.now.name (parent_refused_text ++ name))) }
+    {
+        let parent = self.parent_name(theory, place);
+        parent_refused(self.alloc, theory.name.bytes(), parent)
+    }
+
+    /// What has begun with this content, if look-ups in it may go by the session's names.
+    fn going(&self, left: u32, first: Theory) -> Result<Going, AllocError>
+        ensures { IfOk result (λ going. IsFirst self.now.texts left first going) }
+    {
+        let now = shared(self.alloc, first)?;
+        if !now.may_look_up(self.names()) {
+            return Err(AllocError);
+        }
+        Ok(Going {
+            rows: Vec::new(self.alloc),
+            now,
+            left,
+        })
+    }
+
+    /// How the theory of this name begins over these stages.
+    fn begun_over(
+        &self,
+        index: u32,
+        theory: &Loaded,
+        name: Name,
+        stages: &[Stage],
+    ) -> Result<Standing, AllocError>
+        requires text { HasText self.now.texts name theory.now.name }
+        requires labels { Each (HasLabelsBelow index) (contents stages.now) }
+        ensures { IfOk result (IsBegunOver self.now.texts index (seen_loaded theory.now) (contents stages.now)) }
+    {
+        let left = number_of(theory.text.commands.len())?;
+        if !Theory::may_begin(self.alloc, index, name, stages)? {
+            return Err(AllocError);
+        }
+        match Theory::begin(self.alloc, index, name, stages) {
+            Ok(first) => {
+                let going = self.going(left, first)?;
+                Ok(Standing::Going { going })
+            }
+            Err(fault) => {
+                let names = self.names().names();
+                let row = not_begun(self.alloc, names, theory.name.bytes(), fault)?;
+                Ok(Standing::Barred { row })
+            }
+        }
+    }
+
+    /// How the theory begins, none of whose parents was refused.
+    fn begun(
+        &self,
+        index: u32,
+        theory: &Loaded,
+        parents: &[Arc<Closed>],
+    ) -> Result<Standing, AllocError>
+        ensures { IfOk result (IsBegunOver self.now.texts index (seen_loaded theory.now) (beginning_over (lasts (outlines parents.now)))) }
+    {
+        let Some(name) = self.names().names().find(theory.name.bytes()) else {
+            return Err(AllocError);
+        };
+        if !come_before(parents, index) {
+            return Err(AllocError);
+        }
+        let stages = self.stages_over(parents)?;
+        self.begun_over(index, theory, name, stages.as_slice())
+    }
+
+    /// The run of the theory of the session with this index, from what its parents left, in their order, when they closed. It is refused where a parent was refused so, or
+    /// else where its parents, merged one after the other, aren't coregular.
+    ///
+    /// # Errors
+    ///
+    /// Want of memory alone.
+    pub fn begin(&self, theory: u32, parents: &[Arc<Closed>]) -> Result<Run, AllocError>
+        requires { HasParents self.now.texts self.now.theories theory (outlines parents.now) }
+        ensures { IfOk result (IsRunOf self.now.texts self.now.theories theory []) }
+    {
+        let loaded = self.theory(theory);
+        let standing = match first_barred(parents) {
+            Some(place) => {
+                let row = self.barred_row(loaded, place)?;
+                Standing::Barred { row }
+            }
+            None => self.begun(theory, loaded, parents)?,
+        };
+        Ok(Run {
+            index: theory,
+            standing,
+        })
+    }
+}

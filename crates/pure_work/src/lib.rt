@@ -1,0 +1,17 @@
+//! The work of a session's statements: its theories begin over their parents, and their commands run one after the other.
+#![tactic(auto)]
+
+mod begin;
+mod checker;
+mod closed;
+mod command;
+mod conditions;
+mod parents;
+mod refused;
+mod run;
+mod statements;
+
+pub use checker::Checker;
+pub use closed::Closed;
+pub use run::{Run, Turn};
+pub use statements::Statements;

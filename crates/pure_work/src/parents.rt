@@ -1,0 +1,89 @@
+//! What the parents of a theory left.
+ghost use Rattle.std.specs.Prelude.{◌≡◌, ◌++◌, IfOk, OnOk, MatchOption, map, length, take};
+ghost use Rattle.std.specs.Option.{option_to_list};
+ghost use Rattle.pure_text.specs.Lists.{EachTwo};
+ghost use Rattle.pure_theory.specs.Begin.{contents};
+ghost use Rattle.pure_verdicts.specs.Verdicts.{beginning_over};
+ghost use Rattle.pure_work.specs.Outline.{outlines, last_of, lasts};
+ghost use Rattle.pure_work.specs.Parents.{IsFirstBarredAt, IsLeftBy};
+
+use crate::checker::Checker;
+use crate::closed::Closed;
+use pure_theory::Stage;
+use std::alloc::{AllocError, Global};
+use std::sync::Arc;
+
+/// The place of the first that was refused when it began.
+pub(crate) fn first_barred(parents: &[Arc<Closed>]) -> Option<usize>
+    ensures { IsFirstBarredAt (outlines parents.now) result }
+{
+    for (place, parent) in parents.iter().enumerate() {
+        if parent.is_barred() {
+            return Some(place);
+        }
+    }
+    None
+}
+
+/// Appends the theory's last stage, if it ran.
+fn put_last(stages: &mut Vec<Stage>, parent: &Closed) -> Result<(), AllocError>
+    ensures { OnOk result (contents stages.new.items ≡ contents stages.old.items ++ option_to_list (last_of parent.now)) }
+{
+    if let Some(stage) = parent.last() {
+        let stage = Arc::try_clone(stage)?;
+        stages.push(stage)?;
+    }
+    Ok(())
+}
+
+/// The last stages of those that ran.
+fn last_stages(alloc: Global, parents: &[Arc<Closed>]) -> Result<Vec<Stage>, AllocError>
+    ensures { IfOk result (λ stages. contents stages.items ≡ lasts (outlines parents.now)) }
+{
+    let mut stages = Vec::new(alloc);
+    for parent in parents {
+        put_last(&mut stages, parent)?;
+    }
+    Ok(stages)
+}
+
+impl Checker {
+    /// The stages over which a theory with these parents begins: their last ones, or Pure's where there is none.
+    pub(crate) fn stages_over(&self, parents: &[Arc<Closed>]) -> Result<Vec<Stage>, AllocError>
+        ensures { IfOk result (λ stages. contents stages.items ≡ beginning_over (lasts (outlines parents.now))) }
+    {
+        let mut stages = last_stages(self.alloc, parents)?;
+        if stages.is_empty() {
+            stages.push(self.pure()?)?;
+        }
+        Ok(stages)
+    }
+}
+
+/// What the theory with this index left, where it stands among these, which are in load order.
+fn left_by(closed: &[Arc<Closed>], index: u32) -> Result<Arc<Closed>, AllocError>
+    ensures { IfOk result (λ value. IsLeftBy (outlines closed.now) index value.value) }
+{
+    if index == 0 {
+        return Err(AllocError);
+    }
+    match closed.get((index - 1) as usize) {
+        Some(value) => Arc::try_clone(value),
+        None => Err(AllocError),
+    }
+}
+
+/// What the theories with these indexes left, where they all stand among these, which are in load order.
+pub(crate) fn all_left_by(
+    alloc: Global,
+    closed: &[Arc<Closed>],
+    indexes: &[u32],
+) -> Result<Vec<Arc<Closed>>, AllocError>
+    ensures { IfOk result (λ values. EachTwo (IsLeftBy (outlines closed.now)) indexes.now (outlines values.items)) }
+{
+    let mut values = Vec::new(alloc);
+    for index in indexes {
+        values.push(left_by(closed, *index)?)?;
+    }
+    Ok(values)
+}
