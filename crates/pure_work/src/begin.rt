@@ -1,5 +1,5 @@
 //! Theories that begin.
-ghost use Rattle.std.specs.Prelude.{◌≡◌, ◌<◌, List, [], length, IfOk};
+ghost use Rattle.std.specs.Prelude.{◌≡◌, ◌<◌, ℕ, List, [], length, Some, IfOk, slice_get};
 ghost use Rattle.pure_text.specs.Lists.{Each};
 ghost use Rattle.pure_typ.specs.NameTexts.{HasText};
 ghost use Rattle.pure_lookup.specs.Laws.{IsInSession};
@@ -26,13 +26,22 @@ use pure_typ::Name;
 use std::alloc::AllocError;
 use std::sync::Arc;
 
+/// The index at the place.
+fn index_at(indexes: &[u32], place: usize) -> u32
+    requires { place < length indexes.now }
+    ensures { slice_get indexes.now place ≡ Some result }
+{
+    indexes[place]
+}
+
 impl Checker {
     /// The name of the theory's parent at this place.
     fn parent_name(&self, theory: &Loaded, place: usize) -> &[u8]
         requires { (values : List Outline) × AreOutlinesOf self.now.texts self.now.theories theory.now.parents.items values × (place < length values) }
         ensures { IsNameOfParent self.now.theories theory.now.parents.items place result.now }
     {
-        let parent = self.theory(theory.parents[place]);
+        let index = index_at(theory.parents.as_slice(), place);
+        let parent = self.theory(index);
         parent.name.bytes()
     }
 

@@ -24,8 +24,9 @@ pub struct Checker {
 }
 
 impl Model for Checker {
-    ghost use Rattle.pure_work.specs.Checked.{Checked, coded_checked};
     ghost use Rattle.std.specs.Prelude.{◌≡◌};
+    ghost use Rattle.pure_work.specs.Checked.{Checked};
+    ghost use Rattle.pure_work.specs.CheckedCodes.{coded_checked};
     ghost use Rattle.pure_logic.specs.PureContent.{pure_content};
     ghost use Rattle.pure_session.specs.Waiting.{all_loaded};
 

@@ -46,12 +46,20 @@ fn refused_row(alloc: Global, theory: &[u8], tail: Text) -> Result<Row, AllocErr
     })
 }
 
-/// That this parent was refused.
+/// Appends that a parent was refused.
 #[tactic(auto, unfolding(pure_graph::specs::Session::parent_refused_text))]
+fn push_words(text: &mut Vec<u8>) -> Result<(), AllocError>
+    ensures { OnOk result (text.new.items ≡ text.old.items ++ parent_refused_text) }
+{
+    text.extend_from_slice(b"parent refused ")?;
+    Ok(())
+}
+
+/// Appends that this parent was refused.
 fn push_parent(text: &mut Vec<u8>, parent: &[u8]) -> Result<(), AllocError>
     ensures { OnOk result (text.new.items ≡ text.old.items ++ (parent_refused_text ++ parent.now)) }
 {
-    text.extend_from_slice(b"parent refused ")?;
+    push_words(text)?;
     text.extend_from_slice(parent)?;
     Ok(())
 }

@@ -9,7 +9,7 @@ ghost use Rattle.pure_work.specs.Sessions.{IsTaken, RanOut, HaveClosed, AreSaid}
 
 use crate::checker::Checker;
 use crate::closed::Closed;
-use crate::conditions::number_of;
+use crate::conditions::index_behind;
 use crate::parents::all_left_by;
 use crate::run::{Run, Turn};
 use pure_declare::Duty;
@@ -56,8 +56,9 @@ impl Checker {
     {
         let mut run = self.begin(theory, parents)?;
         'turns: loop {
-            if let Some(closed) = self.take_turn(&mut run, duties)? {
-                return Ok(closed);
+            match self.take_turn(&mut run, duties)? {
+                Some(closed) => return Ok(closed),
+                None => {}
             }
         }
     }
@@ -73,11 +74,12 @@ impl Checker {
         requires before { HaveClosed self.now.texts self.now.theories (outlines closed.now) duties.old.items }
         ensures { IfOk result (λ one. RanOut self.now.texts self.now.theories (suc place) duties.old.items duties.new.items one.value) }
     {
-        let index = number_of(place + 1)?;
+        let index = index_behind(place)?;
         let theory = self.theory(index);
         let parents = all_left_by(self.alloc, closed, theory.parents.as_slice())?;
         let one = self.run_theory(index, parents.as_slice(), duties)?;
-        shared(self.alloc, one)
+        let one = shared(self.alloc, one)?;
+        Ok(one)
     }
 
     /// What the theories leave, each run until it closes, in load order.
