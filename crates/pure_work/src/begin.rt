@@ -1,5 +1,5 @@
 //! Theories that begin.
-ghost use Rattle.std.specs.Prelude.{◌≡◌, ◌<◌, ℕ, List, [], length, Some, IfOk, slice_get};
+ghost use Rattle.std.specs.Prelude.{◌≡◌, ◌<◌, ◌++◌, ℕ, List, [], length, Some, IfOk, slice_get};
 ghost use Rattle.pure_text.specs.Lists.{Each};
 ghost use Rattle.pure_typ.specs.NameTexts.{HasText};
 ghost use Rattle.pure_lookup.specs.Laws.{IsInSession};
@@ -128,16 +128,21 @@ impl Checker {
         ensures { IfOk result (IsRunOf self.now.texts self.now.theories theory []) }
     {
         let loaded = self.theory(theory);
-        let standing = match first_barred(parents) {
+        match first_barred(parents) {
             Some(place) => {
                 let row = self.barred_row(loaded, place)?;
-                Standing::Barred { row }
+                Ok(Run {
+                    index: theory,
+                    standing: Standing::Barred { row },
+                })
             }
-            None => self.begun(theory, loaded, parents)?,
-        };
-        Ok(Run {
-            index: theory,
-            standing,
-        })
+            None => {
+                let standing = self.begun(theory, loaded, parents)?;
+                Ok(Run {
+                    index: theory,
+                    standing,
+                })
+            }
+        }
     }
 }
