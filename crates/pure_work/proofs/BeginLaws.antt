@@ -1,5 +1,5 @@
 -- Runs of theories that begin.
-use Rattle.std.proofs.Common.{◌≡◌, ◌∙◌, ℕ, ◌<◌, List, [], ◌∷◌, ◌++◌, length, map, false, ap, sym, refl, subst}
+use Rattle.std.proofs.Common.{◌≡◌, ◌∙◌, ℕ, List, [], ◌++◌, length, sym, refl, subst}
 use Rattle.std.specs.Prelude.{Some, None, Result, Ok, Err, IfOk}
 use Rattle.std.specs.declared.alloc.AllocError.{AllocError}
 use Rattle.std.proofs.lemmas.List.{length-map}
@@ -11,18 +11,14 @@ use Rattle.pure_session.specs.declared.order.Loaded as loaded
 use Rattle.pure_session.specs.Waiting.{seen_loaded}
 use Rattle.pure_text.specs.Lists.{Each}
 use Rattle.pure_logic.specs.Content.{Content}
-use Rattle.pure_lookup.specs.Laws.{IsInSession}
-use Rattle.pure_theory.specs.Refusals.{IsLabelAbove}
 use Rattle.pure_print.specs.declared.row.Row.{Row}
 use Rattle.pure_graph.specs.Order.{Loaded}
 use Rattle.pure_graph.specs.Session.{parent_refused_text}
-use Rattle.pure_verdicts.specs.Verdicts.{Verdict, IsTheoryAt, AreLast, Begins, IsBarred, by_parent, not_coregular, beginning_over, refused_theory}
-use Rattle.pure_verdicts.specs.Statements.{IsRun}
-use Rattle.pure_verdicts.specs.Steps.{command_label}
+use Rattle.pure_verdicts.specs.Verdicts.{IsTheoryAt, AreLast, Begins, by_parent, not_coregular, beginning_over, refused_theory}
 use Rattle.pure_verdicts.proofs.StepLaws.{run_begins}
 use Rattle.pure_work.specs.Outline.{Outline, lasts, HasLabelsBelow}
-use Rattle.pure_work.specs.Parents.{AreOutlinesOf, HasParents, IsFirstBarredAt, IsNameOfParent}
-use Rattle.pure_work.specs.Runs.{IsUnderWay, IsGoing, IsStandingOf}
+use Rattle.pure_work.specs.Parents.{AreOutlinesOf, IsFirstBarredAt, IsNameOfParent}
+use Rattle.pure_work.specs.Runs.{IsUnderWay, IsStandingOf}
 use Rattle.pure_work.specs.Begun.{IsFirst, IsFirstOver, IsBegunOver}
 use Rattle.pure_work.specs.declared.run.Going.{Going}
 use Rattle.pure_work.specs.declared.run.Standing.{Standing}

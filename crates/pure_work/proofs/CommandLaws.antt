@@ -1,5 +1,5 @@
 -- Turns of runs.
-use Rattle.std.proofs.Common.{◌≡◌, ◌∙◌, ℕ, zero, suc, ◌+◌, ◌<◌, List, [], ◌∷◌, ◌++◌, length, map, ap, sym, refl, subst, arith, length-append}
+use Rattle.std.proofs.Common.{◌≡◌, ◌∙◌, ℕ, zero, suc, ◌+◌, ◌<◌, List, [], ◌∷◌, ◌++◌, length, ap, sym, refl, subst, arith, length-append}
 use Rattle.std.specs.Prelude.{Option, Some, None, Result, Ok, Err, IfOk, slice_get}
 use Rattle.std.specs.declared.alloc.AllocError.{AllocError}
 use Rattle.std.proofs.lemmas.List.{length-map, map-append}
@@ -114,7 +114,7 @@ module _ (texts : List (List ℕ)) (theories : List Loaded) (index : ℕ) (T : L
   going-next notes old new command note next sound going held d now_is fewer rows = record {
     way = subst (λ (Q : Content). IsUnderWay texts theories index (notes ++ note ∷ []) Q new.left) (sym now_is)
         (way-next notes old.now.value next old.left new.left command note sound going.way (held-notes notes old (Some command) going held) fewer
-            (subst (λ (n : ℕ). Declares texts T.source (command_label index n) old.now.value command note next) (rows-count notes old going) d));
+        (subst (λ (n : ℕ). Declares texts T.source (command_label index n) old.now.value command note next) (rows-count notes old going) d));
     rows = rows ∙ ap (λ (rs : List (Option Row)). rs ++ row_of note ∷ []) going.rows ∙ sym (map-append row_of notes (note ∷ []));
   }
 

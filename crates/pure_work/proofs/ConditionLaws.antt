@@ -1,5 +1,5 @@
 -- What tests of conditions answer.
-use Rattle.std.proofs.Common.{◌≡◌, ◌∙◌, ℕ, ◌+◌, ◌-◌, ◌<◌, ◌≤◌, List, [], ◌∷◌, length, get_or, ◌↔◌, Bool, true, false, IsTrue, refl, ap, sym, subst, arith}
+use Rattle.std.proofs.Common.{◌≡◌, ◌∙◌, ℕ, ◌+◌, ◌-◌, ◌<◌, ◌≤◌, List, length, get_or, ◌↔◌, Bool, false, IsTrue, refl, ap, sym, subst, arith}
 use Rattle.std.specs.Prelude.{Result, Ok, Err, IfOk, Some, None, slice_get}
 use Rattle.std.specs.Option.{option_map}
 use Rattle.std.specs.declared.alloc.Global.{Global}
@@ -8,14 +8,13 @@ use Rattle.std.specs.declared.alloc.AllocError.{AllocError}
 use Rattle.std.proofs.lemmas.Option.{slice_get-map, slice_get_read, slice_get_past}
 use Rattle.pure_logic.specs.Content.{Content}
 use Rattle.pure_grammar.specs.Theories.TheoryText.{Command}
-use Rattle.pure_lookup.specs.Meaning.{full_text}
 use Rattle.pure_declare.specs.Fold.{IsOwnText}
 use Rattle.pure_declare.specs.Premises.{HasFullNames, HasNames}
 use Rattle.pure_declare.proofs.OutcomeSteps.{same-text}
 use Rattle.pure_script.specs.declared.theory.Command as code
 use Rattle.pure_script.specs.Seen.{seen_command, seen_commands}
 use Rattle.pure_work.specs.Parents.{IsLeftBy}
-use Rattle.pure_work.specs.Outline.{Outline, Barred, Ran, HasLabelsBelow, AreLabelsBelow, outlines}
+use Rattle.pure_work.specs.Outline.{Outline, Barred, Ran, AreLabelsBelow, outlines}
 
 -- Labels below one bound are below a greater one.
 pub labels-within : (m n : ℕ) (o : Outline) → m < n → AreLabelsBelow (m + 1) o → AreLabelsBelow n o

@@ -1,13 +1,12 @@
 -- Outlines of what became of theories.
-use Rattle.std.proofs.Common.{◌≡◌, ◌∙◌, ℕ, zero, suc, ◌+◌, ◌<◌, List, [], ◌∷◌, ◌++◌, add-one, length, map, take, get_or, Bool, true, false, ap, sym, refl, subst, arith}
-use Rattle.std.specs.Prelude.{Option, Some, None, slice_get}
+use Rattle.std.proofs.Common.{◌≡◌, ◌∙◌, ℕ, zero, suc, ◌+◌, ◌<◌, List, [], ◌∷◌, ◌++◌, add-one, length, map, take, true, false, ap, sym, refl, subst, arith}
+use Rattle.std.specs.Prelude.{Some, slice_get}
 use Rattle.std.specs.Option.{option_to_list}
 use Rattle.std.proofs.lemmas.List.{length-map}
 use Rattle.std.proofs.lemmas.Option.{same_Some}
-use Rattle.pure_text.specs.Lists.{Each, EachTwo}
+use Rattle.pure_text.specs.Lists.{Each}
 use Rattle.pure_logic.specs.Content.{Content}
 use Rattle.pure_graph.specs.Order.{Loaded}
-use Rattle.pure_declare.specs.Notes.{Note}
 use Rattle.pure_verdicts.specs.Verdicts.{Verdict, IsTheoryAt, Closes, barred, ran, AllClose, nothing, also, IsFirstBarred, AreLast}
 use Rattle.pure_verdicts.specs.Verdicts as verdicts
 use Rattle.pure_verdicts.proofs.StepLaws.{theory-once}

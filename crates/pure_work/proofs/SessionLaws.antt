@@ -15,13 +15,13 @@ use Rattle.std.proofs.lemmas.Option.{same_Some, slice_get-map}
 use Rattle.pure_text.specs.Lists.{EachTwo}
 use Rattle.pure_graph.specs.Order.{Loaded}
 use Rattle.pure_declare.specs.Notes.{Fork, Note, Said, Forked}
-use Rattle.pure_verdicts.specs.Verdicts.{Verdict, IsTheoryAt, Closes, AllClose, nothing, also}
-use Rattle.pure_verdicts.specs.Statements.{notes_of, forks_of, AreVerdicts}
+use Rattle.pure_verdicts.specs.Verdicts.{Verdict, Closes, nothing, also}
+use Rattle.pure_verdicts.specs.Statements.{notes_of, forks_of}
 use Rattle.pure_work.specs.Outline.{Outline, outline, outlines}
-use Rattle.pure_work.specs.Parents.{AreOutlinesOf, HasParents, IsLeftBy}
+use Rattle.pure_work.specs.Parents.{AreOutlinesOf, IsLeftBy}
 use Rattle.pure_work.specs.Runs.{IsRunOf, turns_left}
-use Rattle.pure_work.specs.Turns.{ClosesWith, IsTurn}
-use Rattle.pure_work.specs.Sessions.{GoesOnWith, IsTaken, RanOut, HaveClosed, AreSaid}
+use Rattle.pure_work.specs.Turns.{IsTurn}
+use Rattle.pure_work.specs.Sessions.{IsTaken, RanOut, HaveClosed, AreSaid}
 use Rattle.pure_work.specs.declared.run.Run.{Run}
 use Rattle.pure_work.specs.declared.run.Turn.{Turn}
 use Rattle.pure_work.specs.declared.run.Turn.TheVariants as turns
@@ -91,7 +91,7 @@ left-outline : (texts : List (List ℕ)) (theories : List Loaded) (values : List
     → (v : Verdict) × Closes texts theories index v × (value ≡ outline v)
 left-outline texts theories values forks index value h l =
     let image : option_map outline (slice_get h.verdicts l.place) ≡ Some value =
-        sym (slice_get-map outline h.verdicts l.place) ∙ ap (λ (os : List Outline). slice_get os l.place) (sym h.values_are) ∙ l.held in
+    sym (slice_get-map outline h.verdicts l.place) ∙ ap (λ (os : List Outline). slice_get os l.place) (sym h.values_are) ∙ l.held in
     let some = map-some outline (slice_get h.verdicts l.place) value image in
     (some.0, subst (λ (i : ℕ). Closes texts theories i some.0) (sym l.index_is) (h.are l.place some.0 some.1), some.2)
 

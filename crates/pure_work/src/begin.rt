@@ -2,7 +2,6 @@
 ghost use Rattle.std.specs.Prelude.{◌≡◌, ◌<◌, ◌++◌, ℕ, List, [], length, Some, IfOk, slice_get};
 ghost use Rattle.pure_text.specs.Lists.{Each};
 ghost use Rattle.pure_typ.specs.NameTexts.{HasText};
-ghost use Rattle.pure_lookup.specs.Laws.{IsInSession};
 ghost use Rattle.pure_theory.specs.Begin.{contents};
 ghost use Rattle.pure_graph.specs.Session.{parent_refused_text};
 ghost use Rattle.pure_session.specs.Waiting.{seen_loaded};

@@ -53,11 +53,7 @@ impl Checker {
     /// # Errors
     ///
     /// Want of memory alone.
-    pub fn make(
-        alloc: Global,
-        names: Names,
-        theories: Vec<Loaded>,
-    ) -> Result<Checker, AllocError>
+    pub fn make(alloc: Global, names: Names, theories: Vec<Loaded>) -> Result<Checker, AllocError>
         ensures { IfOk result (λ c. c ≡ record { texts = names; theories = all_loaded theories.items }) }
     {
         let pure = pure_stage(alloc)?;

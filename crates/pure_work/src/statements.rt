@@ -1,7 +1,6 @@
 //! The statements of all theories, one after the other.
-ghost use Rattle.std.specs.Prelude.{◌≡◌, ◌<◌, ◌++◌, ℕ, suc, List, [], length, map, option_map, IfOk};
+ghost use Rattle.std.specs.Prelude.{◌<◌, ℕ, suc, List, length, IfOk};
 ghost use Rattle.pure_declare.specs.Notes as notes;
-ghost use Rattle.pure_verdicts.specs.Statements.{AreVerdicts};
 ghost use Rattle.pure_work.specs.Outline.{outlines};
 ghost use Rattle.pure_work.specs.Parents.{HasParents};
 ghost use Rattle.pure_work.specs.Runs.{IsRunOf};
@@ -26,11 +25,7 @@ pub struct Statements {
 
 impl Checker {
     /// One turn of the run, whose lemma, if it binds one, is put behind the others; what the theory leaves, where it closes.
-    fn take_turn(
-        &self,
-        run: &mut Run,
-        duties: &mut Vec<Duty>,
-    ) -> Result<Option<Closed>, AllocError>
+    fn take_turn(&self, run: &mut Run, duties: &mut Vec<Duty>) -> Result<Option<Closed>, AllocError>
         requires { (index : ℕ) × (past : List notes.Note) × IsRunOf self.now.texts self.now.theories index past run.old }
         ensures { IfOk result (λ closed. (index : ℕ) (past : List notes.Note) → IsRunOf self.now.texts self.now.theories index past run.old → IsTaken self.now.texts self.now.theories index past run.old run.new duties.old.items duties.new.items closed) }
     {

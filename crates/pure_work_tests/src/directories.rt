@@ -33,17 +33,17 @@ static ROWS: [(&[u8], &[u8]); 6] = [
 ];
 
 /// Theories that are refused when they begin.
-static REFUSED: [(&[u8], &[u8]); 1] = [
-    (
-        b"A= begin class c class d < c typedecl 'a t|B= imports A begin arities t :: ({}) d|C= imports A begin arities t :: ({c}) c|D= imports B C begin class e|E= imports A D begin class e|F= imports E D begin",
-        b"declared class A.c\ndeclared class A.d\ndeclared type A.t\ndeclared arity B: t d\ndeclared arity C: t c\nrefused theory D: not coregular A.t A.c A.d\nrefused theory E: parent refused D\nrefused theory F: parent refused E\n",
-    ),
-];
+static REFUSED: [(&[u8], &[u8]); 1] = [(
+    b"A= begin class c class d < c typedecl 'a t|B= imports A begin arities t :: ({}) d|C= imports A begin arities t :: ({c}) c|D= imports B C begin class e|E= imports A D begin class e|F= imports E D begin",
+    b"declared class A.c\ndeclared class A.d\ndeclared type A.t\ndeclared arity B: t d\ndeclared arity C: t c\nrefused theory D: not coregular A.t A.c A.d\nrefused theory E: parent refused D\nrefused theory F: parent refused E\n",
+)];
 
 /// What the statements of a session leave.
 fn said(alloc: Global, session: Session) -> Result<Vec<u8>, AllocError> {
     let Session {
-        names, theories, ..
+        names,
+        theories,
+        ..
     } = session;
     let checker = Checker::make(alloc, names, theories)?;
     let statements = checker.statements()?;

@@ -1,4 +1,3 @@
-use Rattle.pure_work.specs.declared.run.Run.{Run}
 use Rattle.pure_work.specs.declared.run.Standing.TheVariants as code
 use Rattle.pure_work.proofs.CommandLaws.{barred-made}
 use Rattle.pure_work.proofs.checker.Checker.command.Goals as goal

@@ -1,4 +1,4 @@
-use Rattle.std.proofs.Common.{ℕ, ◌≡◌, length, arith}
+use Rattle.std.proofs.Common.{◌≡◌, length, arith}
 use Rattle.pure_script.specs.Seen.{seen_command}
 use Rattle.pure_session.specs.Waiting.{seen_loaded}
 use Rattle.pure_declare.specs.Seen.{seen_note}

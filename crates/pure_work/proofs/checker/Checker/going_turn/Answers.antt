@@ -1,4 +1,4 @@
-use Rattle.std.proofs.Common.{ℕ, ◌≡◌, length, arith}
+use Rattle.std.proofs.Common.{◌≡◌, length, arith}
 use Rattle.pure_session.specs.Waiting.{seen_loaded}
 use Rattle.pure_work.proofs.ConditionLaws.{command-here, no-command}
 use Rattle.pure_work.proofs.CommandLaws.{going-labels, last-made}

@@ -1,5 +1,3 @@
-use Rattle.std.proofs.Common.{refl, subst, ℕ, List, ◌≡◌}
-use Rattle.std.specs.Prelude.{slice_get, Some}
 use Rattle.pure_session.specs.Waiting.{seen_loaded}
 use Rattle.pure_work.proofs.OutlineLaws.{parent-within, parent-theory}
 use Rattle.pure_work.proofs.checker.Checker.parent_name.Goals as goal

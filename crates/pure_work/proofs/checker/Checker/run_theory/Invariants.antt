@@ -1,4 +1,3 @@
-use Rattle.std.proofs.Common.{ℕ}
 use Rattle.pure_work.specs.Runs.{turns_left}
 use Rattle.pure_work.proofs.SessionLaws.{IsOnTheWay}
 use Rattle.pure_work.proofs.checker.Checker.run_theory.Given as goal
