@@ -1,7 +1,6 @@
-use Rattle.std.proofs.Common.{ℕ}
 use Rattle.pure_work.specs.Runs.{turns_left}
 use Rattle.pure_work.proofs.SessionLaws.{IsOnTheWay}
-use Rattle.pure_work.proofs.statements.Checker.run_theory.Given as goal
+use Rattle.pure_work.proofs.checker.Checker.run_theory.Given as goal
 
 -- the run is on its way
 abbrev pub invariant-turns : goal.invariant-turns

@@ -1,7 +1,7 @@
 use Rattle.std.proofs.Common.{◌≡◌, length}
 use Rattle.pure_work.specs.Outline.{outlines}
 use Rattle.pure_work.specs.Sessions.{HaveClosed}
-use Rattle.pure_work.proofs.statements.Checker.statements.Given as goal
+use Rattle.pure_work.proofs.checker.Checker.statements.Given as goal
 
 -- the theories so far have closed
 abbrev pub invariant-loop-place : goal.invariant-loop-place
