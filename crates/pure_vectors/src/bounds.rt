@@ -155,7 +155,7 @@ fn unfolds_up_to_the_limits(rt: HostRuntime) -> Result<(), Fail> {
     let cases: [(Vec<u8>, &[u8]); 4] = [
         (unfoldings(alloc, 65)?, LEFT),
         (unfoldings(alloc, 66)?, LARGE),
-        (nested(alloc, 6)?, LEFT),
+        (nested(alloc, 5)?, LEFT),
         (nested(alloc, 7)?, LARGE),
     ];
     for (text, middle) in cases {
