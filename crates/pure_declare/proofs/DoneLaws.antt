@@ -1,5 +1,5 @@
 -- What a command did: what it added to the content, and why it might.
-use Rattle.std.proofs.Common.{◌≡◌, ℕ, List, [], ◌∷◌, ◌++◌, refl, sym, ◌∙◌, ap, subst, inl, inr}
+use Rattle.std.proofs.Common.{◌≡◌, ℕ, List, [], ◌++◌, refl, sym, ap, subst, inl, inr}
 use Rattle.std.specs.Prelude.{Result, Ok, Err}
 use Rattle.pure_text.specs.Lists.{EachTwo}
 use Rattle.pure_definitions.specs.Types.Typ.{Typ}
@@ -23,7 +23,7 @@ use Rattle.pure_statements.specs.Chain.{Gives, Found, refuses, goes_on, holds, p
 use Rattle.pure_statements.specs.Statement.{IsNormalised, IsStated, IsStatedTyp}
 use Rattle.pure_statements.specs.Elaborated.{IsTypedTerm}
 use Rattle.pure_statements.specs.Rows.{declared_row, refused_row}
-use Rattle.pure_declare.specs.Notes.{Note, Said, Forked, Outcome, Change}
+use Rattle.pure_declare.specs.Notes.{Said, Outcome, Change}
 use Rattle.pure_declare.specs.Lookups.{AreWritten, IsWrittenSort}
 use Rattle.pure_declare.specs.Commands.{Place, vocabulary, IsTaken, IsOutcome, IsSaid, IsMiscounted, IsNewClassChange, IsClassChange, IsTypeChange, IsFoundArityChange, IsClassArityChange, IsDomainsArityChange, IsArityChange, IsNewConstChange, IsConstChange, IsAxiomChange, IsBodyChange, IsTermChange, IsTypedChange, IsTreeChange, IsTextChange, IsNewDefinitionChange, IsDefinitionChange, IsLemmaOutcome, declaring, declaring_const, declaring_definition, declaring_axiom, saying, forking}
 use Rattle.pure_declare.specs.Fold.{IsDeclaredAs, outcome_of}

@@ -1,5 +1,5 @@
 -- Each command keeps a content good.
-use Rattle.std.proofs.Common.{◌≡◌, ℕ, List, [], ◌∷◌, ◌++◌, length, refl, sym, ◌∙◌, ap, subst, inl, inr, append_assoc}
+use Rattle.std.proofs.Common.{◌≡◌, ℕ, List, [], ◌∷◌, ◌++◌, length, refl, sym, subst, inl, inr, append_assoc}
 use Rattle.std.specs.Prelude.{Option, Some, None, Ok}
 use Rattle.std.specs.List.Sorted.{IsStrictlyIncreasing}
 use Rattle.std.proofs.lemmas.Bool.Decides.{eqb_tells}
@@ -18,7 +18,7 @@ use Rattle.pure_order_tables.proofs.BelowLaws.{antisymmetric, antisymmetric_at, 
 use Rattle.pure_order_tables.proofs.CoregularLaws.{coregular_with_class}
 use Rattle.pure_stage.specs.Facts as Facts
 use Rattle.pure_stage.specs.Facts.{fact, fact_decl}
-use Rattle.pure_stage.proofs.AlgebraLaws.{IsPlain, plain_algebra, class_algebra, arity_algebra}
+use Rattle.pure_stage.proofs.AlgebraLaws.{class_algebra, arity_algebra}
 use Rattle.pure_grammar.specs.Theories.TheoryText.{Span, Command}
 use Rattle.pure_logic.specs.Content.{Content, IsStatement, definition, schematic_typ_variable}
 use Rattle.pure_logic.specs.PureContent.{pure_content}
@@ -37,12 +37,12 @@ use Rattle.pure_elab.specs.Sound.{AreCertifiedDeclarations}
 use Rattle.pure_declare.specs.Lookups.{IsWrittenSort}
 use Rattle.pure_declare.specs.Notes.{Outcome}
 use Rattle.pure_declare.specs.Commands.{Place, vocabulary, IsTaken, IsMiscounted, defining}
-use Rattle.pure_declare.specs.Good.{IsGood, PureIsGood, DeclaresGood, GoodHasCertifiedParts}
+use Rattle.pure_declare.specs.Good.{IsGood, PureIsGood, DeclaresGood, GoodIsCertified}
 use Rattle.pure_declare.proofs.KnownLaws.{declared_among, classes-known}
 use Rattle.pure_declare.proofs.LookupSteps.{sorts-known, typ-known, one_class-known}
 use Rattle.pure_declare.proofs.QuotedLaws.{certified-declarations}
 use Rattle.pure_declare.proofs.BoundLaws.{stated-of, typ-of, body-of}
-use Rattle.pure_declare.proofs.DoneLaws.{IsFoundArity, IsFoundDefinition, IsChanged, a_class, a_typ, an_arity, a_const, an_axiom, a_definition, IsBinding, IsDone, changes, binds, is_refused, declared-done}
+use Rattle.pure_declare.proofs.DoneLaws.{IsFoundArity, IsFoundDefinition, IsChanged, a_class, a_typ, an_arity, a_const, an_axiom, a_definition, IsDone, changes, binds, is_refused, declared-done}
 
 -- The order of declaration is enough.
 good : (Q : Content) → IsSound Q → Follows [] (classes_of Q.declarations) → IsGood Q
@@ -173,5 +173,5 @@ declares_good texts source label Q command note next session g labels h =
 pub pure_is_good : PureIsGood
 pure_is_good = good pure_content pure_is_sound tt
 
-pub good_has_certified_parts : GoodHasCertifiedParts
-good_has_certified_parts Q g = record { content = g.sound.content; above = g.sound.above_pure; certified = certified-declarations Q g.sound }
+pub good_is_certified : GoodIsCertified
+good_is_certified Q g = record { content = g.sound.content; above = g.sound.above_pure; certified = certified-declarations Q g.sound }

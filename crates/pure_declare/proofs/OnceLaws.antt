@@ -1,6 +1,7 @@
 -- A command has one outcome at most.
-use Rattle.std.proofs.Common.{◌≡◌, ◌⊎◌, ◌≤◌, ℕ, List, [], ◌∷◌, refl, sym, ◌∙◌, ap, subst, inl, inr, arith}
-use Rattle.std.specs.Prelude.{Option, Some, None, Result, Ok, Err, slice_get}
+use Rattle.std.proofs.Common.{◌≡◌, ◌⊎◌, ◌≤◌, ℕ, List, [], ◌∷◌, refl, sym, ◌∙◌, ap, subst, inl, arith}
+use Rattle.std.specs.Prelude.{Result}
+use Rattle.std.proofs.lemmas.Option.{same_Some}
 use Rattle.pure_text.proofs.ListLaws.{in-append_right}
 use Rattle.pure_definitions.specs.Types.Typ.{Typ}
 use Rattle.pure_definitions.specs.Types.Order.{Arity, Algebra, IsCoregular}
@@ -11,8 +12,7 @@ use Rattle.pure_order_tables.specs.Checks.{IsLeastInConflict}
 use Rattle.pure_order_tables.specs.Classes.{IsAntisymmetric}
 use Rattle.pure_order_tables.specs.Unknown.{HasArityFor}
 use Rattle.pure_grammar.specs.Theories.TheoryText.{Span, Step, Command, Class as ClassOf, TypeDecl, Arity as ArityOf, Const, Axiom, Definition, Lemma}
-use Rattle.pure_grammar.specs.Terms.RawTree.{RawTree}
-use Rattle.pure_typ.specs.NameTexts.{HasText, name_texts}
+use Rattle.pure_typ.specs.NameTexts.{HasText}
 use Rattle.pure_logic.specs.Content.{Content, TheoryId}
 use Rattle.pure_lookup.specs.Meaning.{classes, constructors, constants, facts, full_text}
 use Rattle.pure_lookup.specs.Laws.{IsInSession}
@@ -20,17 +20,15 @@ use Rattle.pure_lookup.proofs.TextLemmas.{one_name}
 use Rattle.pure_theory.specs.Definitions.{HasVariable, HasExtraTyp}
 use Rattle.pure_statements.specs.declared.reason.Reason.{Reason}
 use Rattle.pure_statements.specs.declared.reason.Reason.TheVariants.{Duplicate, UnknownClass, UnknownType, WrongCount, NotCoregular, TooLarge, NotDefinition, NotClosed, ExtraTypeVariable}
-use Rattle.pure_statements.specs.declared.stated.Stated.{Stated}
 use Rattle.pure_statements.specs.Chain.{Then, Unless, Gives, Found}
 use Rattle.pure_statements.specs.Quoted.{IsReadTerm}
 use Rattle.pure_statements.specs.Elaborated.{IsTypedTerm}
 use Rattle.pure_statements.specs.Statement.{IsNormalised, IsLarge, IsStated, IsStatedTyp}
 use Rattle.pure_statements.specs.Body.{body_of}
-use Rattle.pure_declare.specs.Notes.{Note, Outcome, Change}
+use Rattle.pure_declare.specs.Notes.{Outcome, Change}
 use Rattle.pure_declare.specs.Lookups.{AreWrittenClasses, AreWrittenSorts}
 use Rattle.pure_declare.specs.Commands.{Place, vocabulary, IsNameOf, IsTaken, IsOutcome, IsSaid, IsMiscounted, IsFitting, IsNewClassChange, IsClassChange, IsTypeChange, IsFoundArityChange, IsClassArityChange, IsDomainsArityChange, IsArityChange, IsNewConstChange, IsConstChange, IsAxiomChange, IsBodyChange, IsTermChange, IsTypedChange, IsTreeChange, IsTextChange, IsNewDefinitionChange, IsDefinitionChange, IsLemmaOutcome, declaring, declaring_const, declaring_definition, declaring_axiom, defining, saying, forking, fact_base}
-use Rattle.pure_declare.specs.Fold.{IsOwnText, IsDeclaredAs, Declares, outcome_of}
-use Rattle.pure_declare.specs.Good.{IsGood}
+use Rattle.pure_declare.specs.Fold.{IsOwnText, IsDeclaredAs, outcome_of}
 use Rattle.pure_declare.specs.Once.{DeclaresOnce}
 use Rattle.pure_declare.proofs.OnceSteps.{Once, once-by, gives-once, found-once, then-once, unless-once, read_term-once, typed-once, normalised-once, stated_typ-once, stated-once, classes-once, sorts-once}
 
@@ -150,18 +148,10 @@ module _ (P : Place) (anti : IsAntisymmetric (algebra_of P.content.declarations)
     declared-once command o p h k = h.comes ∙ ap (outcome_of P command) (outcome-once command h.answer k.answer h.is k.is) ∙ sym k.comes
 
 -- The own theory of a content has one text.
-theory-once : (o : Option TheoryId) (t u : TheoryId) → o ≡ Some t → o ≡ Some u → t ≡ u
-theory-once None t u h k = absurd (cc)
-theory-once (Some v) t u h k = cc
-
-text-is : (o : Option (List ℕ)) (a b : List ℕ) → o ≡ Some a → o ≡ Some b → a ≡ b
-text-is None a b h k = absurd (cc)
-text-is (Some c) a b h k = cc
-
 own-once : (texts : List (List ℕ)) (Q : Content) (a b : List ℕ) → IsOwnText texts Q a → IsOwnText texts Q b → a ≡ b
 own-once texts Q a b h k =
-    let same = theory-once Q.own h.own k.own h.is_own k.is_own in
-    text-is (slice_get (name_texts texts) k.own.name) a b (subst (λ (t : TheoryId). HasText texts t.name a) same h.text) k.text
+    let same = same_Some h.own k.own (sym h.is_own ∙ k.is_own) in
+    same_Some a b (sym (subst (λ (t : TheoryId). HasText texts t.name a) same h.text) ∙ k.text)
 
 pub declares_once : DeclaresOnce
 declares_once texts source label Q command note other next more session g h k =

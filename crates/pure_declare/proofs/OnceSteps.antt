@@ -1,8 +1,9 @@
 -- Each step of a command has one answer at most.
-use Rattle.std.proofs.Common.{◌≡◌, ◌≢◌, ◌<◌, ℕ, ◌+◌, suc, List, [], ◌∷◌, length, refl, sym, ◌∙◌, ap, subst, inl, inr, arith}
+use Rattle.std.proofs.Common.{◌≡◌, ◌<◌, ℕ, ◌+◌, suc, List, [], ◌∷◌, refl, sym, ◌∙◌, ap, subst, inl, inr, arith}
 use Rattle.std.specs.Prelude.{Option, Some, None, Result, Ok, Err, slice_range}
 use Rattle.std.specs.List.Sorted.{IsStrictlyIncreasing}
-use Rattle.pure_text.specs.Lists.{IsIn, Each, EachTwo, AnyOf}
+use Rattle.std.proofs.lemmas.Option.{same_Some, none-some}
+use Rattle.pure_text.specs.Lists.{IsIn, EachTwo, AnyOf}
 use Rattle.pure_definitions.specs.Types.Typ.{Typ, prop}
 use Rattle.pure_definitions.specs.Terms.Term.{Term}
 use Rattle.pure_definitions.specs.Reduction.Beta as beta
@@ -23,9 +24,7 @@ use Rattle.pure_elab.specs.declared.fault.ElabFault.TheVariants as elab
 use Rattle.pure_elab.proofs.AnswerLaws.{one_elab_answer, one_elab_typ_answer}
 use Rattle.pure_statements.specs.declared.reason.Reason.{Reason}
 use Rattle.pure_statements.specs.declared.reason.Reason.TheVariants.{Syntax, TooLong, TooLarge, TooManySteps}
-use Rattle.pure_statements.specs.declared.reason.Failed.{Failed}
 use Rattle.pure_statements.specs.declared.reason.Failed.TheVariants.{Refused}
-use Rattle.pure_statements.specs.declared.stated.Stated.{Stated}
 use Rattle.pure_statements.specs.Chain.{Then, Unless, Gives, Found, refuses, goes_on, holds, passes}
 use Rattle.pure_statements.specs.Quoted.{AreTokensOf, IsTermOf, IsTypeOf, IsReadTerm, IsReadTyp, ended_at}
 use Rattle.pure_statements.specs.Elaborated.{failed_elaboration, IsTypedTerm, IsWrittenTyp}
@@ -164,14 +163,6 @@ stated-once V anti source span = then-once (IsReadTerm source span) (IsStatedTre
     (λ u. unless-once (IsLarge u) TooLarge (Gives (stated u)) (gives-once (stated u)))))
 
 -- Written classes and sorts.
-some-once : (o : Option ℕ) (c d : ℕ) → o ≡ Some c → o ≡ Some d → c ≡ d
-some-once None c d h k = absurd (cc)
-some-once (Some e) c d h k = cc
-
-none-some : (o : Option ℕ) (c : ℕ) → o ≡ Some c → o ≡ None → ⊥
-none-some None c h k = absurd (cc)
-none-some (Some e) c h k = absurd (cc)
-
 rises_behind : (x : ℕ) (xs : List ℕ) → IsStrictlyIncreasing (x ∷ xs) → IsStrictlyIncreasing xs
 rises_behind x xs rises k within = let later : suc k + 1 ≡ suc (k + 1) = omega arith in rw later at (rises (suc k) (omega arith))
 
@@ -219,10 +210,10 @@ two-lacks R P not (x ∷ xs) (y ∷ ys) h (inr k) = two-lacks R P not xs ys h.1 
 
 module _ (V : Vocabulary) where
   written_classes-once : (ws : List (List ℕ)) (cs ds : List ℕ) → AreWritten V ws cs → AreWritten V ws ds → cs ≡ ds
-  written_classes-once ws cs ds h k = two-once (λ w c. V.class_written w ≡ Some c) (λ w c d f g. some-once (V.class_written w) c d f g) ws cs ds h k
+  written_classes-once ws cs ds h k = two-once (λ w c. V.class_written w ≡ Some c) (λ w c d f g. same_Some c d (sym f ∙ g)) ws cs ds h k
 
   unwritten : (ws : List (List ℕ)) (cs : List ℕ) → AreWritten V ws cs → HasUnknown V ws → ⊥
-  unwritten ws cs h k = two-lacks (λ w c. V.class_written w ≡ Some c) (λ w. V.class_written w ≡ None) (λ w c f g. none-some (V.class_written w) c f g) ws cs h k
+  unwritten ws cs h k = two-lacks (λ w c. V.class_written w ≡ Some c) (λ w. V.class_written w ≡ None) (λ w c f g. none-some c (sym g ∙ f)) ws cs h k
 
   pub classes-once : (ws : List (List ℕ)) → Once (AreWrittenClasses V ws)
   classes-once ws = once-by (AreWrittenClasses V ws) (λ cs ds h k. written_classes-once ws cs ds h k) (λ cs p h k. unwritten ws cs h k.0) (λ p q h k. h.1 ∙ sym k.1)

@@ -1,5 +1,5 @@
 -- Where the promises of a command's next content come from, and that its theories stay.
-use Rattle.std.proofs.Common.{◌≡◌, ◌⊎◌, ℕ, List, [], ◌∷◌, ◌++◌, refl, sym, ap, subst, inl, inr}
+use Rattle.std.proofs.Common.{◌≡◌, ◌⊎◌, ℕ, List, [], ◌∷◌, ◌++◌, sym, ap, subst, inl, inr}
 use Rattle.pure_text.specs.Lists.{IsIn}
 use Rattle.pure_text.proofs.ListLaws.{in_split}
 use Rattle.pure_definitions.specs.Names.{Label}
@@ -8,12 +8,10 @@ use Rattle.pure_definitions.specs.Terms.Term.{Term}
 use Rattle.pure_definitions.specs.Declarations.Decl.{Decl, ClassDecl, ConDecl, ArityDecl, ConstDecl, AxiomDecl, PromiseDecl}
 use Rattle.pure_grammar.specs.Theories.TheoryText.{Command}
 use Rattle.pure_logic.specs.Content.{Content, definition}
-use Rattle.pure_logic.specs.Beginning.{HasTheoriesApart}
 use Rattle.pure_lookup.specs.Laws.{IsInSession}
 use Rattle.pure_theory.specs.Stage.{with_declarations}
 use Rattle.pure_declare.specs.Notes.{Note, Fork, Forked, Outcome}
-use Rattle.pure_declare.specs.Commands.{Place, forking}
-use Rattle.pure_declare.specs.Fold.{Declares}
+use Rattle.pure_declare.specs.Commands.{Place}
 use Rattle.pure_declare.specs.Promised.{DeclaresPromises}
 use Rattle.pure_declare.specs.Sessions.{DeclaresInSession}
 use Rattle.pure_declare.proofs.DoneLaws.{IsChanged, a_class, a_typ, an_arity, a_const, an_axiom, a_definition, IsBinding, IsDone, changes, binds, is_refused, declared-done}

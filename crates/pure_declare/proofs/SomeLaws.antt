@@ -1,14 +1,12 @@
 -- A command has an outcome.
-use Rattle.std.proofs.Common.{◌≡◌, ◌⊎◌, ℕ, List, [], ◌∷◌, refl}
-use Rattle.std.specs.Prelude.{Result, Ok, Err}
-use Rattle.pure_text.specs.Lists.{IsIn}
+use Rattle.std.proofs.Common.{◌⊎◌, ℕ, List, [], refl}
+use Rattle.std.specs.Prelude.{Result}
 use Rattle.pure_definitions.specs.Types.Typ.{Typ}
 use Rattle.pure_definitions.specs.Types.Order.{Arity, IsCoregular}
 use Rattle.pure_definitions.specs.Terms.Term.{Term, term_size}
 use Rattle.pure_definitions.specs.Declarations.Decl.{ClassDecl, ConDecl, ArityDecl, algebra_of}
 use Rattle.pure_order_tables.specs.Unknown.{HasArityFor}
 use Rattle.pure_grammar.specs.Theories.TheoryText.{Span, Step, Command, Class as ClassOf, TypeDecl, Arity as ArityOf, Const, Axiom, Definition, Lemma}
-use Rattle.pure_grammar.specs.Terms.RawTree.{RawTree}
 use Rattle.pure_lookup.specs.Meaning.{Space, classes, constructors, constants, facts}
 use Rattle.pure_theory.specs.Definitions.{HasVariable, HasExtraTyp}
 use Rattle.pure_elab.specs.Answers.{IsFixedTyp}
@@ -19,7 +17,7 @@ use Rattle.pure_statements.specs.Quoted.{IsReadTerm}
 use Rattle.pure_statements.specs.Elaborated.{IsTypedTerm}
 use Rattle.pure_statements.specs.Statement.{IsNormalised, IsLarge, max_statement, IsStated, IsStatedTyp}
 use Rattle.pure_statements.specs.Body.{body_of}
-use Rattle.pure_declare.specs.Notes.{Note, Outcome, Change}
+use Rattle.pure_declare.specs.Notes.{Change}
 use Rattle.pure_declare.specs.Lookups.{AreWrittenClasses, AreWrittenSorts}
 use Rattle.pure_declare.specs.Commands.{Place, vocabulary, IsTaken, IsOutcome, IsSaid, IsMiscounted, IsFitting, IsNewClassChange, IsClassChange, IsTypeChange, IsFoundArityChange, IsClassArityChange, IsDomainsArityChange, IsArityChange, IsNewConstChange, IsConstChange, IsAxiomChange, IsBodyChange, IsTermChange, IsTypedChange, IsTreeChange, IsTextChange, IsNewDefinitionChange, IsDefinitionChange, IsLemmaOutcome, declaring, declaring_const, declaring_definition, declaring_axiom, defining, saying, forking}
 use Rattle.pure_declare.specs.Fold.{outcome_of}

@@ -1,5 +1,5 @@
 -- Each step of a command has an answer.
-use Rattle.std.proofs.Common.{◌≡◌, ◌≢◌, ◌⊎◌, ◌<◌, ◌≤◌, ℕ, zero, suc, ◌+◌, List, [], ◌∷◌, length, map, refl, sym, ◌∙◌, ap, subst, inl, inr, arith}
+use Rattle.std.proofs.Common.{◌≡◌, ◌≢◌, ◌⊎◌, ◌<◌, ◌≤◌, ℕ, zero, suc, ◌+◌, List, [], ◌∷◌, length, map, refl, sym, ap, subst, inl, inr, arith}
 use Rattle.std.specs.Prelude.{Option, Some, None, Result, Ok, Err, slice_get, slice_range}
 use Rattle.std.proofs.lemmas.Bool.Decides.{eqb_tells, leb_tells}
 use Rattle.pure_text.specs.Lists.{IsIn, Each, EachTwo, AnyOf}
@@ -21,7 +21,6 @@ use Rattle.pure_tunify.specs.Unifiers.{IsOldPair}
 use Rattle.pure_tunify.proofs.ReducedLaws.{AreReduced, reduced_of, reduced_rises}
 use Rattle.pure_tunify.proofs.SettingLaws.{instance_pairs-identity}
 use Rattle.pure_tunify.proofs.OutcomeLaws.{unifies_some}
-use Rattle.pure_grammar.specs.declared.token.Token.{Token}
 use Rattle.pure_grammar.specs.Theories.TheoryText.{Span}
 use Rattle.pure_grammar.specs.Terms.RawTree.{RawTypTree, RawTree}
 use Rattle.pure_lex.proofs.Existence.{some_reading}
@@ -31,9 +30,9 @@ use Rattle.pure_elab.specs.Vocabulary.{Vocabulary}
 use Rattle.pure_elab.specs.Table.{IsSortOf}
 use Rattle.pure_elab.specs.Written.{IsReducedSort, AreSorts, classes_at, term_classes, typ_classes, written_typ}
 use Rattle.pure_elab.specs.Faults.{IsEarliest, earliest, term_faults, typ_faults}
-use Rattle.pure_elab.specs.Drafts.{Constraint, Draft, whole_draft, pair_of}
+use Rattle.pure_elab.specs.Drafts.{Draft, whole_draft, pair_of}
 use Rattle.pure_elab.specs.Numbered.{with_fixed}
-use Rattle.pure_elab.specs.Answers.{IsFixedTyp, IsDraftOf, Comes, IsNameFault}
+use Rattle.pure_elab.specs.Answers.{IsFixedTyp, IsDraftOf, Comes}
 use Rattle.pure_elab.specs.declared.classes.WrittenClass.{WrittenClass}
 use Rattle.pure_elab.specs.declared.fault.FaultAt.{FaultAt}
 use Rattle.pure_elab.specs.declared.fault.NameFault.{NameFault}
@@ -43,7 +42,7 @@ use Rattle.pure_elab.proofs.EarliestLaws.{earliest_decides, none_found}
 use Rattle.pure_elab.proofs.OldLaws.{whole_is_old}
 use Rattle.pure_elab.proofs.CallLaws.{prop_is_fixed}
 use Rattle.pure_statements.specs.declared.reason.Reason.{Reason}
-use Rattle.pure_statements.specs.declared.reason.Reason.TheVariants.{Syntax, TooLong, TooLarge, TooManySteps, UnknownClass, UnknownNameAt, UnknownClassAt, WrongCountAt, SchematicAt, IllTyped}
+use Rattle.pure_statements.specs.declared.reason.Reason.TheVariants.{Syntax, TooLong, TooLarge, UnknownClass, UnknownNameAt, UnknownClassAt, WrongCountAt, SchematicAt, IllTyped}
 use Rattle.pure_statements.specs.Chain.{Then, Unless, Gives, Found, refuses, goes_on, holds, passes}
 use Rattle.pure_statements.specs.Quoted.{AreTokensOf, IsTermOf, IsTypeOf, IsReadTerm, IsReadTyp, ended_at}
 use Rattle.pure_statements.specs.Elaborated.{IsTypedTerm, IsWrittenTyp}

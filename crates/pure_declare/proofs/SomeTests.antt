@@ -1,24 +1,22 @@
 -- What commands test is decided: whether a name is taken, whether an arity fits, and what a definition's body has.
-use Rattle.std.proofs.Common.{◌≡◌, ◌≢◌, ◌⊎◌, ◌≤◌, ℕ, List, [], ◌∷◌, length, map, refl, sym, ◌∙◌, ap, subst, inl, inr, arith}
-use Rattle.std.specs.Prelude.{Result, Ok, Err}
+use Rattle.std.proofs.Common.{◌≡◌, ◌≢◌, ◌⊎◌, ◌≤◌, ℕ, List, [], ◌∷◌, length, map, refl, sym, subst, inl, inr, arith}
+use Rattle.std.specs.Prelude.{Ok, Err}
 use Rattle.std.proofs.lemmas.Bool.Decides.{eqb_tells, leb_tells}
-use Rattle.pure_text.specs.Lists.{IsIn, Each, EachTwo, AnyOf}
+use Rattle.pure_text.specs.Lists.{IsIn, EachTwo, AnyOf}
 use Rattle.pure_text.proofs.ListLaws.{any_some, any_of, any_decided, each_decided, each_of, each_at, in-append_left, in-map}
 use Rattle.pure_definitions.specs.Types.Typ.{Typ, TFree, TVar, Con, Typs, none, also}
 use Rattle.pure_definitions.specs.Types.Occurs.{OccursInTyp}
 use Rattle.pure_definitions.specs.Types.Order.{Class, Arity, Algebra, IsClassBelow, IsSortBelow, AreDomainsBelow, IsJoin, AreCompatible, IsCoregular}
 use Rattle.pure_definitions.specs.Terms.Term.{Term, Const, Free, Var, Bound, Abs, App}
-use Rattle.pure_definitions.specs.Declarations.Decl.{Decl, ClassDecl, ConDecl, ArityDecl, ConstDecl, AxiomDecl, PromiseDecl, algebra_of}
-use Rattle.pure_order_tables.specs.Classes.{IsDeclared, Follows}
+use Rattle.pure_definitions.specs.Declarations.Decl.{Decl, ClassDecl, ConDecl, ConstDecl, AxiomDecl, PromiseDecl}
+use Rattle.pure_order_tables.specs.Classes.{Follows}
 use Rattle.pure_order_tables.specs.Arities.{with_arity}
-use Rattle.pure_order_tables.specs.Checks.{IsInConflict, IsLeastInConflict}
 use Rattle.pure_order_tables.specs.Unknown.{HasArityFor}
 use Rattle.pure_order_tables.proofs.BelowLaws.{reaches}
 use Rattle.pure_order_tables.proofs.CoregularLaws.{coregular_with}
 use Rattle.pure_tunify.proofs.DecidedLaws.{is_decided, sort_below_or_not, occurs_or_not}
 use Rattle.pure_lookup.specs.Meaning.{Space, classes, constructors, constants, facts, IsDeclaredIn}
 use Rattle.pure_theory.specs.Definitions.{HasVariable, HasExtra, HaveExtra, HasExtraTyp}
-use Rattle.pure_statements.specs.declared.reason.Reason.{Reason}
 use Rattle.pure_statements.specs.declared.reason.Reason.TheVariants.{NotCoregular}
 use Rattle.pure_declare.specs.Commands.{IsMiscounted, IsFitting}
 use Rattle.pure_declare.proofs.SomeSteps.{Answered}

@@ -27,12 +27,12 @@ abbrev pub DeclaresGood : Type 0
 DeclaresGood = (texts : List (List ℕ)) (source : List ℕ) (label : Label) (Q : Content) (command : Command) (note : Note) (next : Content)
     → IsInSession texts Q → IsGood Q → IsLabelAbove Q.declarations label → Declares texts source label Q command note next → IsGood next
 
--- What is asked of a content over which terms are unified: it is a content above Pure's, and its declarations are certified, so that they are over declared classes alone.
-pub record HasCertifiedParts (Q : Content) : Type 0 where
+-- A content above Pure's, whose declarations are certified, and so over declared classes alone: what is asked of a content over which terms are unified.
+pub record IsCertifiedContent (Q : Content) : Type 0 where
   pub content : IsContent Q
   pub above : IsBelow pure_content Q
   pub certified : AreCertifiedDeclarations Q.declarations
 
--- A good content is one.
-abbrev pub GoodHasCertifiedParts : Type 0
-GoodHasCertifiedParts = (Q : Content) → IsGood Q → HasCertifiedParts Q
+-- A good content is such a one.
+abbrev pub GoodIsCertified : Type 0
+GoodIsCertified = (Q : Content) → IsGood Q → IsCertifiedContent Q

@@ -6,6 +6,7 @@ use Rattle.pure_definitions.specs.Terms.Term.{Term}
 use Rattle.pure_definitions.specs.Declarations.Decl.{PromiseDecl}
 use Rattle.pure_grammar.specs.Theories.TheoryText.{Command}
 use Rattle.pure_logic.specs.Content.{Content}
+use Rattle.pure_theory.specs.Stage.{with_decl}
 use Rattle.pure_declare.specs.Notes.{Note, Fork, Forked}
 use Rattle.pure_declare.specs.Fold.{Declares}
 
@@ -14,3 +15,8 @@ abbrev pub DeclaresPromises : Type 0
 DeclaresPromises = (texts : List (List ℕ)) (source : List ℕ) (label : Label) (Q : Content) (command : Command) (note : Note) (next : Content)
     → Declares texts source label Q command note next → (x : ℕ) (l : Label) (A : Term) → IsIn (PromiseDecl x l A) next.declarations
     → IsIn (PromiseDecl x l A) Q.declarations ⊎ ((f : Fork) × (note ≡ Forked f) × (f.label ≡ l) × (f.prop ≡ A))
+
+-- Where a command binds a lemma, the next content is the one before with the lemma's promise at its end.
+abbrev pub ForksPromised : Type 0
+ForksPromised = (texts : List (List ℕ)) (source : List ℕ) (label : Label) (Q : Content) (command : Command) (f : Fork) (next : Content)
+    → Declares texts source label Q command (Forked f) next → next ≡ with_decl Q (PromiseDecl f.name f.label f.prop)

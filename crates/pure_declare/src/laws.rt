@@ -1,9 +1,9 @@
 //! What the definitions mean: laws, each carried by the contract of a function that does nothing.
 ghost use Rattle.pure_declare.specs.Bound.{ForksBound};
-ghost use Rattle.pure_declare.specs.Good.{PureIsGood, DeclaresGood, GoodHasCertifiedParts};
+ghost use Rattle.pure_declare.specs.Good.{PureIsGood, DeclaresGood, GoodIsCertified};
 ghost use Rattle.pure_declare.specs.Grown.{DeclaresGrown};
 ghost use Rattle.pure_declare.specs.Once.{DeclaresOnce};
-ghost use Rattle.pure_declare.specs.Promised.{DeclaresPromises};
+ghost use Rattle.pure_declare.specs.Promised.{DeclaresPromises, ForksPromised};
 ghost use Rattle.pure_declare.specs.Sessions.{DeclaresInSession};
 ghost use Rattle.pure_declare.specs.Somehow.{DeclaresSomehow};
 ghost use Rattle.pure_declare.specs.Tidy.{PureIsTidy, DeclaresTidy, ForksTidy};
@@ -33,6 +33,11 @@ pub fn declares_promises()
     ensures { DeclaresPromises }
 {}
 
+/// Where a command binds a lemma, the next content is the one before with the lemma's promise.
+pub fn forks_promised()
+    ensures { ForksPromised }
+{}
+
 /// A lemma that a command binds has the command's label, content and proof, and states a proposition of the content.
 pub fn forks_bound()
     ensures { ForksBound }
@@ -53,9 +58,9 @@ pub fn declares_good()
     ensures { DeclaresGood }
 {}
 
-/// Such a content is above Pure's, and over declared classes alone.
-pub fn good_has_certified_parts()
-    ensures { GoodHasCertifiedParts }
+/// Such a content is above Pure's, and its declarations are certified, as unification asks.
+pub fn good_is_certified()
+    ensures { GoodIsCertified }
 {}
 
 /// Over such a content of a session a command leaves one note and one next content at most.

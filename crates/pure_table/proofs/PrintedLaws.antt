@@ -1,0 +1,74 @@
+-- What is printed is the table of the session.
+use Rattle.std.proofs.Common.{◌≡◌, ℕ, List, [], ◌∷◌, ◌++◌, take, drop, refl, sym, ◌∙◌, ap, subst, map}
+use Rattle.std.specs.List.{flat_map}
+use Rattle.pure_text.specs.Lists.{EachTwo}
+use Rattle.pure_definitions.specs.Names.{Label}
+use Rattle.pure_graph.specs.Session.{Session}
+use Rattle.pure_print.specs.declared.row.Row.{Row}
+use Rattle.pure_print.specs.RowText.{table_text}
+use Rattle.pure_declare.specs.Notes.{Note, Said, Forked}
+use Rattle.pure_promise.specs.Rows.{AreRowsOf}
+use Rattle.pure_verdicts.specs.Verdicts.{Verdict, Barred, Ran}
+use Rattle.pure_verdicts.specs.Statements.{notes_of}
+use Rattle.pure_work.specs.Outline.{outline, row_of, rows_of}
+use Rattle.pure_table.specs.Table.{IsEntryOf, with_rows, refusal_row}
+use Rattle.pure_table.specs.Laws.{SaidAreStatements, SaidAreParts}
+use Rattle.pure_table.specs.Filling.{places_of, filled}
+use Rattle.pure_table.specs.Printed.{Parts, ArePartsOf, AreTableRows, IsTableText}
+
+-- the rows of notes are filled
+filled-notes : (notes : List Note) (lemmas : List Row) → filled (rows_of notes) lemmas ≡ with_rows notes lemmas
+filled-notes [] lemmas = refl
+filled-notes (Said row ∷ notes) lemmas = ap (λ rows. row ∷ rows) (filled-notes notes lemmas)
+filled-notes (Forked fork ∷ notes) lemmas = ap (λ rows. take 1 lemmas ++ rows) (filled-notes notes (drop 1 lemmas))
+
+rows_of-append : (notes more : List Note) → rows_of (notes ++ more) ≡ rows_of notes ++ rows_of more
+rows_of-append [] more = refl
+rows_of-append (note ∷ notes) more = ap (λ rows. row_of note ∷ rows) (rows_of-append notes more)
+
+places-outline : (v : Verdict) → places_of (outline v) ≡ rows_of (notes_of v)
+places-outline (Barred row) = refl
+places-outline (Ran notes last) = refl
+
+places-outlines : (verdicts : List Verdict) → flat_map places_of (map outline verdicts) ≡ rows_of (flat_map notes_of verdicts)
+places-outlines [] = refl
+places-outlines (v ∷ vs) =
+    ap (λ rows. rows ++ flat_map places_of (map outline vs)) (places-outline v)
+    ∙ ap (λ rows. rows_of (notes_of v) ++ rows) (places-outlines vs)
+    ∙ sym (rows_of-append (notes_of v) (flat_map notes_of vs))
+
+-- Rows that are made of the parts are those of the session's table.
+pub table-rows : (p : Parts) (lemmas rows : List Row) → AreRowsOf p.texts p.entries lemmas → rows ≡ filled (flat_map places_of p.values) lemmas ++ map refusal_row p.refused
+    → (S : Session) (cancelled : List Label) → ArePartsOf S cancelled p → AreTableRows S cancelled rows
+table-rows p lemmas rows each is S cancelled of =
+    let notes = flat_map notes_of of.verdicts in
+    let places : filled (flat_map places_of p.values) lemmas ≡ with_rows notes lemmas =
+    ap (λ values. filled (flat_map places_of values) lemmas) of.values ∙ ap (λ places. filled places lemmas) (places-outlines of.verdicts) ∙ filled-notes notes lemmas in (
+      record { notes = notes; entries = p.entries; lemmas = lemmas },
+      record {
+        statements = record { verdicts = of.verdicts; are = of.are; all = of.all; notes_are = refl };
+        entries = of.entries;
+        rows = subst (λ texts. AreRowsOf texts p.entries lemmas) (sym of.texts) each;
+      },
+      is ∙ (λ i. places i ++ map refusal_row (of.refused i)),
+    )
+
+-- A text that is printed of them is that of the session's table.
+pub table-text : (S : Session) (cancelled : List Label) (files : ℕ) (rows : List Row) (text : List ℕ) → text ≡ table_text files rows → S.files ≡ files → AreTableRows S cancelled rows → IsTableText S cancelled text
+table-text S cancelled files rows text is same (t, table, are) = (t, table, is ∙ (λ i. table_text (sym same i) (are i)))
+
+-- What the theories left are the statements.
+pub said_are_statements : SaidAreStatements
+said_are_statements texts theories values forks said =
+    (flat_map notes_of said.closed.verdicts, record { verdicts = said.closed.verdicts; are = said.closed.are; all = said.all; notes_are = refl }, said.closed.forks_are)
+
+pub said_are_parts : SaidAreParts
+said_are_parts S cancelled p forks texts said entries refused = record {
+  texts = texts;
+  verdicts = said.closed.verdicts;
+  are = said.closed.are;
+  all = said.all;
+  values = said.closed.values_are;
+  entries = subst (λ fs. EachTwo (IsEntryOf S.names cancelled) fs p.entries) said.closed.forks_are entries;
+  refused = refused;
+}

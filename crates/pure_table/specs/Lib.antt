@@ -1,0 +1,4 @@
+pub mod Table
+pub mod Filling
+pub mod Printed
+pub mod Laws

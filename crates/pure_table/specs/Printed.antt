@@ -1,0 +1,36 @@
+-- What the rows of a table are made of, and that they are, or the text is, the table of a session.
+use Rattle.std.specs.Prelude.{◌≡◌, ℕ, List, length, map}
+use Rattle.std.specs.List.{flat_map}
+use Rattle.pure_definitions.specs.Names.{Label}
+use Rattle.pure_graph.specs.Session.{Session, Shown, shown}
+use Rattle.pure_print.specs.declared.row.Row.{Row}
+use Rattle.pure_promise.specs.Entries.{Entry}
+use Rattle.pure_verdicts.specs.Verdicts.{Verdict}
+use Rattle.pure_verdicts.specs.Statements.{notes_of, AreVerdicts}
+use Rattle.pure_work.specs.Outline.{Outline, outline}
+use Rattle.pure_table.specs.Table.{Table, AreEntriesOf, IsTable, table_rows, session_text}
+
+-- what the rows of a table are made of: the texts of names, what the theories left, the entries of the lemmas, and the refused files with their reasons
+pub record Parts : Type 0 where
+  pub texts : List (List ℕ)
+  pub values : List Outline
+  pub entries : List Entry
+  pub refused : List Shown
+
+-- They are those of the session, where the lemmas with these labels are cancelled.
+pub record ArePartsOf (S : Session) (cancelled : List Label) (p : Parts) : Type 0 where
+  pub texts : S.names ≡ p.texts
+  pub verdicts : List Verdict
+  pub are : AreVerdicts S.names S.theories verdicts
+  pub all : length verdicts ≡ length S.theories
+  pub values : p.values ≡ map outline verdicts
+  pub entries : AreEntriesOf S.names cancelled (flat_map notes_of verdicts) p.entries
+  pub refused : p.refused ≡ map shown S.refused
+
+-- They are the rows of the table to which the session comes.
+abbrev pub AreTableRows : Session → (cancelled : List Label) → List Row → Type 0
+AreTableRows S cancelled rows = (t : Table) × IsTable S cancelled t × (rows ≡ table_rows S t)
+
+-- The text is that of the table to which the session comes.
+abbrev pub IsTableText : Session → (cancelled : List Label) → (text : List ℕ) → Type 0
+IsTableText S cancelled text = (t : Table) × IsTable S cancelled t × (text ≡ session_text S t)
