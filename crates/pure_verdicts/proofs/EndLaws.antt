@@ -1,5 +1,5 @@
 -- Each theory that begins closes.
-use Rattle.std.proofs.Common.{ℕ, List, [], ◌∷◌, ◌++◌, length, append_assoc, append-nil, sym, subst}
+use Rattle.std.proofs.Common.{List, [], ◌∷◌, ◌++◌, length, append_assoc, append-nil, sym, subst}
 use Rattle.pure_declare.specs.Notes.{Note}
 use Rattle.pure_declare.proofs.SomeLaws.{declares_somehow}
 use Rattle.pure_verdicts.specs.Verdicts.{Ran, Closes}
@@ -9,10 +9,6 @@ use Rattle.pure_verdicts.proofs.StepLaws.{run_goes_on, run_closes}
 use Rattle.pure_verdicts.proofs.OrderlyLaws.{run-ordered}
 use Rattle.pure_verdicts.proofs.OwnLaws.{runs_give}
 
-one-more : (texts : List (List ℕ)) (theories : List Loaded) (index : ℕ) (notes : List Note) (note : Note) (more : List Note) (last : Content) → Closes texts theories index (Ran ((notes ++ note ∷ []) ++ more) last)
-    → Closes texts theories index (Ran (notes ++ note ∷ more) last)
-one-more texts theories index notes note more last h = subst (λ (ns : List Note). Closes texts theories index (Ran ns last)) (append_assoc notes (note ∷ []) more) h
-
 pub runs_close : RunsClose
 runs_close texts theories session index notes now [] run = ([], now, subst (λ (ns : List Note). Closes texts theories index (Ran ns now)) (sym (append-nil notes)) (run_closes texts theories index notes now run))
 runs_close texts theories session index notes now (c ∷ left) run =
@@ -21,4 +17,4 @@ runs_close texts theories session index notes now (c ∷ left) run =
     let w = declares_somehow texts run.theory.source (command_label index (length notes)) now c give.names give.ranges give.given order.good in
     let goes = run_goes_on texts theories index run.theory run.is_at notes now c left run w.0 w.1 w.2 in
     let rest = runs_close texts theories session index (notes ++ w.0 ∷ []) w.1 left goes in
-    (w.0 ∷ rest.0, rest.1, one-more texts theories index notes w.0 rest.0 rest.1 rest.2)
+    (w.0 ∷ rest.0, rest.1, subst (λ (ns : List Note). Closes texts theories index (Ran ns rest.1)) (append_assoc notes (w.0 ∷ []) rest.0) rest.2)
