@@ -82,12 +82,9 @@ commands-end (p ∷ ps) = each-append Ends (phrase_commands p) (commands_of ps) 
 
 -- ---- with few steps
 
-no-or : (a b : Bool) → (a || b) ≡ false → (a ≡ false) × (b ≡ false)
-no-or true b e = absurd (cc)
-no-or false b e = (refl, e)
-
 pub neither : (a b : Bool) → (a || b) ≡ false → (a ≡ false) × (b ≡ false)
-neither = no-or
+neither true b e = absurd (cc)
+neither false b e = (refl, e)
 
 has-script : (c : Command) → Ends c → has_long_proof c ≡ false → HasProofScript c
 has-script (Class name above) e h = tt
@@ -100,7 +97,7 @@ has-script (Lemma name prop script) e h = record { ends = e; few = ltb-false mos
 
 have-scripts : (cs : List Command) → Each Ends cs → list_any has_long_proof cs ≡ false → Each HasProofScript cs
 have-scripts [] e h = tt
-have-scripts (c ∷ cs) e h = let n = no-or (has_long_proof c) (list_any has_long_proof cs) h in (has-script c e.0 n.0, have-scripts cs e.1 n.1)
+have-scripts (c ∷ cs) e h = let n = neither (has_long_proof c) (list_any has_long_proof cs) h in (has-script c e.0 n.0, have-scripts cs e.1 n.1)
 
 -- the commands of a theory whose proofs aren't too long
 pub scripts-of : (ps : List CommandPhrase) (cs : List Command) → commands_of ps ≡ cs → list_any has_long_proof cs ≡ false → Each HasProofScript cs

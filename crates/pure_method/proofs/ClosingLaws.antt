@@ -71,7 +71,7 @@ module _ (s new : State) (others : List Term) (C : Term) where
   first-length A maxidx (p ∷ ps) (FollowsByFirst.passed u rest) = first-length A maxidx ps rest
   first-length A maxidx (p ∷ ps) (FollowsByFirst.decided {answer = answer} u n f) = follows-length p answer f
 
-fewer-subgoals : (A : Algebra) (s new : State) (n : ℕ) → AssumptionStep A s (Ok new) → length s.subgoals < suc n → length new.subgoals < n
+pub fewer-subgoals : (A : Algebra) (s new : State) (n : ℕ) → AssumptionStep A s (Ok new) → length s.subgoals < suc n → length new.subgoals < n
 fewer-subgoals A s new n (AssumptionStep.tried {ps = ps} {C = C} {others = others} i f) h =
     lower (length new.subgoals) (length others) (length s.subgoals) n (first-length s new others C A _ (places [] ps) f) (ap length i.stand) h
 

@@ -9,3 +9,11 @@ pub mod OutcomeLaws
 pub mod ClosingLaws
 pub mod UnfoldDecidedLaws
 pub mod ValueLaws
+pub mod ReadyLaws
+pub mod StepAnswers
+pub mod ChainedLaws
+pub mod RunLaws
+pub mod CloseLaws
+pub mod StartLaws
+pub mod StepPlaces
+pub mod PlaceLaws

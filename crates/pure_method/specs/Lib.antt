@@ -4,3 +4,7 @@ pub mod Proof
 pub mod Laws
 pub mod Outcomes
 pub mod Examples
+pub mod Outcome
+pub mod Running
+pub mod Taking
+pub mod Closing

@@ -1,5 +1,18 @@
 //! Whole proofs: what comes of a statement and the steps of its proof.
 #![tactic(auto)]
 
+mod close;
+mod duty;
 pub mod examples;
+mod fact;
+mod fault;
 pub mod laws;
+mod outcome;
+mod proving;
+mod run;
+mod step;
+mod unfold;
+
+pub use outcome::Outcome;
+pub use proving::{Proving, prove, start};
+pub use pure_goal_steps::StepFault;

@@ -240,6 +240,8 @@ consts f :: "'a => 'b::c => ('a, 'b) p"
   r :: "((i => i) => (i => i)) => i"
   s :: "'a::{} => i"
   t :: "'a::e k => 'b k"
+  u :: "'end => 'where"
+  v :: "'a::{e,d,c} => i"
 end"#,
         rows: b"declared class A.c
 declared class A.d
@@ -257,7 +259,9 @@ declared const A.o :: ?'b::{A.c,A.e} => ?'a
 declared const A.q :: A.i => A.i => A.i
 declared const A.r :: ((A.i => A.i) => A.i => A.i) => A.i
 declared const A.s :: ?'a => A.i
-declared const A.t :: ?'a::A.e A.k => ?'b A.k",
+declared const A.t :: ?'a::A.e A.k => ?'b A.k
+declared const A.u :: ?'end => ?'where
+declared const A.v :: ?'a::{A.d,A.e} => A.i",
     },
     // constants are declared one after the other, and a refused one isn't there
     Case {

@@ -3,7 +3,7 @@ use crate::cases::{Case, run_cases};
 use std::test::Fail;
 
 /// Theories and names of other theories.
-const THEORIES: [Case; 7] = [
+const THEORIES: [Case; 8] = [
     // a theory's own names come before its parents', and a parent's is no duplicate
     Case {
         theories: br#"theory A begin
@@ -223,6 +223,25 @@ declared arity C: k e
 refused theory D: not coregular A.k A.e A.e
 refused theory E: parent refused D
 proved F.n: ?A ==> ?A",
+    },
+    // Pure is the built-in theory whatever files there are, and an import counts once
+    Case {
+        theories: br#"theory A imports Pure begin
+lemma l: "A ==> A" by assumption
+end
+theory B imports A Pure A begin
+lemma l: "A ==> A" by (rule A.l)
+end
+theory Pure begin
+lemma l: "A ==> A" by assumption
+end
+theory Z imports Pure Y begin
+lemma l: "A ==> A" by assumption
+end"#,
+        rows: b"proved A.l: ?A ==> ?A
+proved B.l: ?A ==> ?A
+refused theory Pure: header name
+refused theory Z: no file Y",
     },
 ];
 

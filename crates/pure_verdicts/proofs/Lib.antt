@@ -7,5 +7,11 @@ pub mod OrderlyLaws
 pub mod PromiseLaws
 pub mod ForkLaws
 pub mod NoteLaws
+pub mod ConflictLaws
+pub mod OnceLaws
+pub mod FrontLaws
+pub mod StatementLaws
 pub mod LabelLaws
 pub mod OwnLaws
+pub mod OwnerLaws
+pub mod EndLaws

@@ -1,13 +1,15 @@
--- What the call that declares is given in a session.
-use Rattle.std.specs.Prelude.{ℕ, List, ◌∷◌, length}
+-- What the calls that begin theories and declare are given in a session, so that theories close.
+use Rattle.std.specs.Prelude.{ℕ, List, ◌∷◌, ◌++◌, length}
 use Rattle.pure_definitions.specs.Names.{Label}
 use Rattle.pure_grammar.specs.Theories.TheoryText.{Command}
+use Rattle.pure_typ.specs.NameTexts.{HasText}
 use Rattle.pure_logic.specs.Content.{Content}
+use Rattle.pure_theory.specs.Begin.{MayBegin}
 use Rattle.pure_graph.specs.Order.{Loaded}
 use Rattle.pure_declare.specs.Notes.{Note}
 use Rattle.pure_declare.specs.Premises.{HasNames, HasRanges, IsGiven}
 use Rattle.pure_verdicts.specs.Loaded.{IsLoadedSession}
-use Rattle.pure_verdicts.specs.Verdicts.{IsTheoryAt}
+use Rattle.pure_verdicts.specs.Verdicts.{Verdict, Ran, IsTheoryAt, AreLast, beginning_over, Closes, AllClose}
 use Rattle.pure_verdicts.specs.Statements.{IsRun}
 use Rattle.pure_verdicts.specs.Steps.{command_label}
 
@@ -22,3 +24,14 @@ abbrev pub RunsGive : Type 0
 RunsGive = (texts : List (List ℕ)) (theories : List Loaded) → IsLoadedSession texts theories → (index : ℕ) (theory : Loaded) → IsTheoryAt theories index theory
     → (notes : List Note) (now : Content) (command : Command) (left : List Command) → IsRun texts theories index notes now (command ∷ left)
     → IsNextGiven texts theory.source now (command_label index (length notes)) command
+
+-- A run goes on, so that the theory closes: each theory that begins does.
+abbrev pub RunsClose : Type 0
+RunsClose = (texts : List (List ℕ)) (theories : List Loaded) → IsLoadedSession texts theories → (index : ℕ) (notes : List Note) (now : Content) (left : List Command)
+    → IsRun texts theories index notes now left → (more : List Note) × (last : Content) × Closes texts theories index (Ran (notes ++ more) last)
+
+-- A theory of the session whose parents ran may begin over their last contents.
+abbrev pub TheoriesMayBegin : Type 0
+TheoriesMayBegin = (texts : List (List ℕ)) (theories : List Loaded) → IsLoadedSession texts theories → (index : ℕ) (theory : Loaded) → IsTheoryAt theories index theory
+    → (parents : List Verdict) → AllClose texts theories theory.parents parents → (contents : List Content) → AreLast parents contents
+    → (name : ℕ) → HasText texts name theory.name → MayBegin (record { name = name; index = index }) (beginning_over contents)

@@ -1,4 +1,4 @@
--- Laws of what becomes of theories: what each content of a session is, and that promises are those of lemmas bound before.
+-- Laws of what becomes of theories: what each content of a session is, that promises are those of lemmas bound before, and that everything has one value at most.
 use Rattle.std.specs.Prelude.{◌≡◌, ℕ, List, map}
 use Rattle.pure_text.specs.Lists.{IsIn}
 use Rattle.pure_definitions.specs.Names.{Label}
@@ -14,6 +14,7 @@ use Rattle.pure_declare.specs.Notes.{Fork, Note}
 use Rattle.pure_declare.specs.Tidy.{IsTidy}
 use Rattle.pure_declare.specs.Good.{IsGood}
 use Rattle.pure_verdicts.specs.Loaded.{IsLoadedSession}
+use Rattle.pure_verdicts.specs.Verdicts.{Verdict, Closes}
 use Rattle.pure_verdicts.specs.Statements.{forks_of, AreStatements, IsRun, IsFork}
 
 -- What each content of a session is: good, in the session, and with tidy facts alone.
@@ -53,6 +54,20 @@ abbrev pub PromisesAreForks : Type 0
 PromisesAreForks = (texts : List (List ℕ)) (theories : List Loaded) → IsLoadedSession texts theories → (index : ℕ) (notes : List Note) (now : Content) (left : List Command)
     → IsRun texts theories index notes now left → (x : ℕ) (l : Label) (A : Term) → IsIn (PromiseDecl x l A) now.declarations → (f : Fork) × IsSomeFork texts theories f × IsPromiseOf l A now f
 
--- The labels of the lemmas of the session ascend.
+-- All lemmas of the session are bound somewhere, and their labels ascend.
+abbrev pub StatementsBindForks : Type 0
+StatementsBindForks = (texts : List (List ℕ)) (theories : List Loaded) → IsLoadedSession texts theories → (notes : List Note) → AreStatements texts theories notes
+    → (f : Fork) → (IsIn f (forks_of notes) → IsSomeFork texts theories f) × (IsSomeFork texts theories f → IsIn f (forks_of notes))
+
 abbrev pub LabelsAscend : Type 0
 LabelsAscend = (texts : List (List ℕ)) (theories : List Loaded) → IsLoadedSession texts theories → (notes : List Note) → AreStatements texts theories notes → IsLabelSet (map Fork.label (forks_of notes))
+
+-- One thing at most becomes of a theory; there is one list of notes at most; and a theory's lemma after so many others is one.
+abbrev pub ClosesOnce : Type 0
+ClosesOnce = (texts : List (List ℕ)) (theories : List Loaded) → IsLoadedSession texts theories → (index : ℕ) (v w : Verdict) → Closes texts theories index v → Closes texts theories index w → v ≡ w
+
+abbrev pub StatementsOnce : Type 0
+StatementsOnce = (texts : List (List ℕ)) (theories : List Loaded) → IsLoadedSession texts theories → (notes others : List Note) → AreStatements texts theories notes → AreStatements texts theories others → notes ≡ others
+
+abbrev pub ForkOnce : Type 0
+ForkOnce = (texts : List (List ℕ)) (theories : List Loaded) → IsLoadedSession texts theories → (index before : ℕ) (f g : Fork) → IsFork texts theories index before f → IsFork texts theories index before g → f ≡ g

@@ -1,6 +1,6 @@
 //! What the definitions mean: laws, each carried by the contract of a function that does nothing.
-ghost use Rattle.pure_verdicts.specs.Given.{RunsGive};
-ghost use Rattle.pure_verdicts.specs.Laws.{ForksStand, LabelsAscend, PromisesAreForks, RunsOrderly};
+ghost use Rattle.pure_verdicts.specs.Laws.{ClosesOnce, ForkOnce, ForksStand, LabelsAscend, PromisesAreForks, RunsOrderly, StatementsBindForks, StatementsOnce};
+ghost use Rattle.pure_verdicts.specs.Given.{RunsClose, RunsGive, TheoriesMayBegin};
 ghost use Rattle.pure_verdicts.specs.Steps.{RunBegins, RunCloses, RunGoesOn};
 
 /// A theory that begins is a run without notes.
@@ -23,11 +23,6 @@ pub fn runs_orderly()
     ensures { RunsOrderly }
 {}
 
-/// The next command of a run is given what the call that declares asks.
-pub fn runs_give()
-    ensures { RunsGive }
-{}
-
 /// Each lemma that is bound stands over a content of its theory's run, behind all promises of that content.
 pub fn forks_stand()
     ensures { ForksStand }
@@ -38,7 +33,42 @@ pub fn promises_are_forks()
     ensures { PromisesAreForks }
 {}
 
+/// All lemmas of the session are bound somewhere.
+pub fn statements_bind_forks()
+    ensures { StatementsBindForks }
+{}
+
 /// The labels of the session's lemmas ascend.
 pub fn labels_ascend()
     ensures { LabelsAscend }
+{}
+
+/// One thing at most becomes of a theory.
+pub fn closes_once()
+    ensures { ClosesOnce }
+{}
+
+/// The session's notes are one list.
+pub fn statements_once()
+    ensures { StatementsOnce }
+{}
+
+/// A theory's lemma after so many others is one.
+pub fn fork_once()
+    ensures { ForkOnce }
+{}
+
+/// The next command of a run is given what the call that declares asks.
+pub fn runs_give()
+    ensures { RunsGive }
+{}
+
+/// Each theory that begins closes.
+pub fn runs_close()
+    ensures { RunsClose }
+{}
+
+/// A theory of the session whose parents ran may begin over their last contents.
+pub fn theories_may_begin()
+    ensures { TheoriesMayBegin }
 {}

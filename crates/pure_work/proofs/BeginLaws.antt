@@ -1,26 +1,30 @@
 -- Runs of theories that begin.
-use Rattle.std.proofs.Common.{◌≡◌, ◌∙◌, ℕ, ◌<◌, List, [], ◌∷◌, ◌++◌, length, map, false, ap, sym, refl, subst}
-use Rattle.std.specs.Prelude.{Some, None}
+use Rattle.std.proofs.Common.{◌≡◌, ◌∙◌, ℕ, List, [], ◌++◌, length, sym, refl, subst}
+use Rattle.std.specs.Prelude.{Some, None, Result, Ok, Err, IfOk}
+use Rattle.std.specs.declared.alloc.AllocError.{AllocError}
+use Rattle.std.proofs.lemmas.List.{length-map}
+use Rattle.pure_typ.specs.NameTexts.{HasText}
+use Rattle.pure_logic.specs.Beginning.{IsBeginning}
+use Rattle.pure_theory.specs.Begin.{MayBegin}
+use Rattle.pure_script.specs.Seen.{seen_command}
+use Rattle.pure_session.specs.declared.order.Loaded as loaded
+use Rattle.pure_session.specs.Waiting.{seen_loaded}
 use Rattle.pure_text.specs.Lists.{Each}
 use Rattle.pure_logic.specs.Content.{Content}
-use Rattle.pure_lookup.specs.Laws.{IsInSession}
-use Rattle.pure_theory.specs.Refusals.{IsLabelAbove}
 use Rattle.pure_print.specs.declared.row.Row.{Row}
 use Rattle.pure_graph.specs.Order.{Loaded}
 use Rattle.pure_graph.specs.Session.{parent_refused_text}
-use Rattle.pure_verdicts.specs.Verdicts.{Verdict, IsTheoryAt, AreLast, Begins, IsBarred, by_parent, not_coregular, beginning_over, refused_theory}
-use Rattle.pure_verdicts.specs.Statements.{IsRun}
-use Rattle.pure_verdicts.specs.Steps.{command_label}
+use Rattle.pure_verdicts.specs.Verdicts.{IsTheoryAt, AreLast, Begins, by_parent, not_coregular, beginning_over, refused_theory}
 use Rattle.pure_verdicts.proofs.StepLaws.{run_begins}
-use Rattle.pure_work.specs.Outline.{Outline, outline, is_barred, lasts}
-use Rattle.pure_work.specs.Parents.{AreOutlinesOf, HasParents, IsFirstBarredAt, IsNameOfParent}
-use Rattle.pure_work.specs.Runs.{IsUnderWay, IsGoing, IsStandingOf}
-use Rattle.pure_work.specs.Begun.{IsFirstOver, IsBegunOver}
+use Rattle.pure_work.specs.Outline.{Outline, lasts, HasLabelsBelow}
+use Rattle.pure_work.specs.Parents.{AreOutlinesOf, IsFirstBarredAt, IsNameOfParent}
+use Rattle.pure_work.specs.Runs.{IsUnderWay, IsStandingOf}
+use Rattle.pure_work.specs.Begun.{IsFirst, IsFirstOver, IsBegunOver}
 use Rattle.pure_work.specs.declared.run.Going.{Going}
 use Rattle.pure_work.specs.declared.run.Standing.{Standing}
 use Rattle.pure_work.specs.declared.run.Standing.TheVariants as code
 use Rattle.pure_work.proofs.OutlineLaws.{first-barred, last-all}
-use Rattle.pure_work.proofs.LabelLaws.{label-first}
+use Rattle.pure_work.proofs.LabelLaws.{label-first, labels-begun}
 
 module _ (texts : List (List ℕ)) (theories : List Loaded) (index : ℕ) (T : Loaded) (at : IsTheoryAt theories index T) (values : List Outline) (parents : AreOutlinesOf texts theories T.parents values) where
   -- A parent was refused.
@@ -73,3 +77,22 @@ module _ (texts : List (List ℕ)) (theories : List Loaded) (index : ℕ) (T : L
     });
     rows = b.going_is.rows;
   }
+
+-- A row that names the first parent that was refused.
+pub barred-named : (theories : List Loaded) (indexes : List ℕ) (place : ℕ) (name theory : List ℕ) (r : Result Row AllocError) → IsNameOfParent theories indexes place name
+    → IfOk r (λ row. row ≡ refused_theory theory (parent_refused_text ++ name)) → IfOk r (λ row. (n : List ℕ) × IsNameOfParent theories indexes place n × (row ≡ refused_theory theory (parent_refused_text ++ n)))
+barred-named theories indexes place name theory (Ok row) named h = (name, named, h)
+barred-named theories indexes place name theory (Err e) named h = h
+
+-- None of its commands was run yet.
+pub first-over : (texts : List (List ℕ)) (index : ℕ) (t : loaded.Loaded) (Qs : List Content) (g : Going) (first : Content) (name left : ℕ) → HasText texts name t.name → Each (HasLabelsBelow index) Qs
+    → MayBegin (record { name = name; index = index }) Qs → IsBeginning (record { name = name; index = index }) Qs first → left ≡ length t.text.commands.items → IsFirst texts left first g → IsFirstOver texts index (seen_loaded t) Qs g
+first-over texts index t Qs g first name left text labels may begins count f = record {
+  first = first;
+  going_is = subst (λ (n : ℕ). IsFirst texts n first g) (count ∙ sym (length-map t.text.commands.items seen_command)) f;
+  name = name;
+  text = text;
+  may = may;
+  begins = begins;
+  labels = labels-begun index (record { name = name; index = index }) Qs first labels begins;
+}

@@ -1,6 +1,7 @@
 -- Turns of runs.
-use Rattle.std.proofs.Common.{◌≡◌, ◌∙◌, ℕ, zero, suc, ◌+◌, ◌<◌, List, [], ◌∷◌, ◌++◌, length, map, ap, sym, refl, subst, arith, length-append}
-use Rattle.std.specs.Prelude.{Option, Some, None, slice_get}
+use Rattle.std.proofs.Common.{◌≡◌, ◌∙◌, ℕ, zero, suc, ◌+◌, ◌<◌, List, [], ◌∷◌, ◌++◌, length, ap, sym, refl, subst, arith, length-append}
+use Rattle.std.specs.Prelude.{Option, Some, None, Result, Ok, Err, IfOk, slice_get}
+use Rattle.std.specs.declared.alloc.AllocError.{AllocError}
 use Rattle.std.proofs.lemmas.List.{length-map, map-append}
 use Rattle.std.proofs.lemmas.Option.{same_Some}
 use Rattle.pure_definitions.specs.Names.{Label}
@@ -113,7 +114,7 @@ module _ (texts : List (List ℕ)) (theories : List Loaded) (index : ℕ) (T : L
   going-next notes old new command note next sound going held d now_is fewer rows = record {
     way = subst (λ (Q : Content). IsUnderWay texts theories index (notes ++ note ∷ []) Q new.left) (sym now_is)
         (way-next notes old.now.value next old.left new.left command note sound going.way (held-notes notes old (Some command) going held) fewer
-            (subst (λ (n : ℕ). Declares texts T.source (command_label index n) old.now.value command note next) (rows-count notes old going) d));
+        (subst (λ (n : ℕ). Declares texts T.source (command_label index n) old.now.value command note next) (rows-count notes old going) d));
     rows = rows ∙ ap (λ (rs : List (Option Row)). rs ++ row_of note ∷ []) going.rows ∙ sym (map-append row_of notes (note ∷ []));
   }
 
@@ -168,3 +169,39 @@ module _ (texts : List (List ℕ)) (theories : List Loaded) (index : ℕ) (notes
   turn-going g g' turns.Declared was is same h = (h.0, going-run (notes ++ Said h.0 ∷ []) g' is same h.1, fewer-left g g' was is h.2)
   turn-going g g' (turns.Forked goal) was is same h = (going-run (notes ++ Forked goal ∷ []) g' is same h.0, fewer-left g g' was is h.1)
   turn-going g g' (turns.Closed value) was is same h = h
+
+-- The label of the next command.
+pub label-here : (texts : List (List ℕ)) (theories : List Loaded) (index : ℕ) (notes : List Note) (g : Going) (n : ℕ) → IsGoing texts theories index notes g → n ≡ length g.rows.items → IsLabelAbove g.now.value.declarations (command_label index n)
+label-here texts theories index notes g n going count =
+    subst (λ (k : ℕ). IsLabelAbove g.now.value.declarations (command_label index k)) (sym (count ∙ (ap length going.rows ∙ length-map notes row_of))) going.way.label_above
+
+-- Turns as calls answer them.
+pub turn-made : (texts : List (List ℕ)) (theories : List Loaded) (index : ℕ) (T : Loaded) → IsTheoryAt theories index T → (old new : Going) (command : Command) (note : Note) (next : Content) (n : ℕ) → IsSound old.now.value
+    → slice_get T.text.commands (length old.rows.items) ≡ Some command → n ≡ length old.rows.items → Declares texts T.source (command_label index n) old.now.value command note next → (r : Result Turn AllocError)
+    → IfOk r (λ _. new.now.value ≡ next) → IfOk r (λ _. new.left + 1 ≡ old.left) → IfOk r (λ _. new.rows.items ≡ old.rows.items ++ row_of note ∷ []) → IfOk r (λ turn. turn ≡ turn_of note)
+    → IfOk r (λ turn. (notes : List Note) → IsGoing texts theories index notes old → IsGoingTurn texts theories index notes old new turn)
+turn-made texts theories index T at old new command note next n sound held count d (Ok turn) now_is fewer rows e =
+    λ notes going. turn-next texts theories index T at notes old new command note next sound going held (subst (λ (k : ℕ). Declares texts T.source (command_label index k) old.now.value command note next) count d) now_is fewer rows turn e
+turn-made texts theories index T at old new command note next n sound held count d (Err e) now_is fewer rows h = h
+
+pub last-made : (texts : List (List ℕ)) (theories : List Loaded) (index : ℕ) (T : Loaded) → IsTheoryAt theories index T → (old new : Going) → slice_get T.text.commands (length old.rows.items) ≡ None → (r : Result Turn AllocError)
+    → IfOk r (λ turn. turn ≡ turns.Closed (Ran old.rows.items old.now.value)) → IfOk r (λ turn. (notes : List Note) → IsGoing texts theories index notes old → IsGoingTurn texts theories index notes old new turn)
+last-made texts theories index T at old new none (Ok turn) e = λ notes going. turn-last texts theories index T at notes old new going none turn e
+last-made texts theories index T at old new none (Err e) h = h
+
+pub barred-made : (texts : List (List ℕ)) (theories : List Loaded) (old new : Run) (row : Row) → old.standing ≡ code.Barred row → (r : Result Turn AllocError) → IfOk r (λ turn. turn ≡ turns.Closed (Barred row))
+    → IfOk r (λ turn. (index : ℕ) (notes : List Note) → IsRunOf texts theories index notes old → IsTurn texts theories index notes old new turn)
+barred-made texts theories old new row stands (Ok turn) e = λ index notes run. turn-barred texts theories index notes old new row turn stands e run
+barred-made texts theories old new row stands (Err e) h = h
+
+pub going-made : (texts : List (List ℕ)) (theories : List Loaded) (old new : Run) (g g' : Going) → old.standing ≡ code.Going g → new.standing ≡ code.Going g' → new.index ≡ old.index → (r : Result Turn AllocError)
+    → IfOk r (λ turn. (notes : List Note) → IsGoing texts theories old.index notes g → IsGoingTurn texts theories old.index notes g g' turn)
+    → IfOk r (λ turn. (index : ℕ) (notes : List Note) → IsRunOf texts theories index notes old → IsTurn texts theories index notes old new turn)
+going-made texts theories old new g g' was is same (Ok turn) h = λ index notes run.
+    (let going = run-going texts theories index notes old new g was run in
+    let here : IsGoing texts theories old.index notes g = subst (λ (i : ℕ). IsGoing texts theories i notes g) (sym run.index_is) going in
+    turn-going texts theories index notes old new g g' turn was is (same ∙ run.index_is) (subst (λ (i : ℕ). IsGoingTurn texts theories i notes g g' turn) run.index_is (h notes here)))
+going-made texts theories old new g g' was is same (Err e) h = h
+
+pub going-some : (texts : List (List ℕ)) (theories : List Loaded) (old : Run) (g : Going) → old.standing ≡ code.Going g → ((index : ℕ) × (notes : List Note) × IsRunOf texts theories index notes old) → (notes : List Note) × IsGoing texts theories old.index notes g
+going-some texts theories old g was h = (h.1, subst (λ (i : ℕ). IsGoing texts theories i h.1 g) (sym h.2.index_is) (run-going texts theories h.0 h.1 old old g was h.2))

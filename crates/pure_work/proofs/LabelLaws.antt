@@ -1,11 +1,11 @@
 -- Labels of the promises of contents.
-use Rattle.std.proofs.Common.{◌≡◌, ℕ, ◌+◌, ◌<◌, ◌≤◌, List, [], ◌∷◌, inl, inr, ◌⊎◌, refl, arith, subst}
+use Rattle.std.proofs.Common.{ℕ, ◌+◌, ◌<◌, List, [], ◌∷◌, inl, inr, refl, arith}
 use Rattle.pure_text.specs.Lists.{IsIn, Each, AnyOf}
 use Rattle.pure_definitions.specs.Names.{Label}
 use Rattle.pure_definitions.specs.Terms.Term.{Term}
 use Rattle.pure_definitions.specs.Declarations.Decl.{PromiseDecl}
 use Rattle.pure_logic.specs.Content.{TheoryId, Content}
-use Rattle.pure_logic.specs.PureContent.{pure_content, pure_declarations}
+use Rattle.pure_logic.specs.PureContent.{pure_declarations}
 use Rattle.pure_logic.specs.Beginning.{IsBeginning}
 use Rattle.pure_logic.proofs.MergeLaws.{merge_has_declarations}
 use Rattle.pure_theory.specs.Refusals.{IsBefore, IsLabelAbove}

@@ -1,4 +1,5 @@
 pub mod PlaceLaws
+pub mod ConditionLaws
 pub mod OutlineLaws
 pub mod LabelLaws
 pub mod BeginLaws

@@ -1,16 +1,16 @@
 -- Outlines of what became of theories.
-use Rattle.std.proofs.Common.{◌≡◌, ◌∙◌, ℕ, zero, suc, ◌<◌, List, [], ◌∷◌, length, map, take, get_or, Bool, true, false, ap, sym, refl, subst, arith}
-use Rattle.std.specs.Prelude.{Option, Some, None, slice_get}
+use Rattle.std.proofs.Common.{◌≡◌, ◌∙◌, ℕ, zero, suc, ◌+◌, ◌<◌, List, [], ◌∷◌, ◌++◌, add-one, length, map, take, true, false, ap, sym, refl, subst, arith}
+use Rattle.std.specs.Prelude.{Some, slice_get}
+use Rattle.std.specs.Option.{option_to_list}
 use Rattle.std.proofs.lemmas.List.{length-map}
 use Rattle.std.proofs.lemmas.Option.{same_Some}
-use Rattle.pure_text.specs.Lists.{Each, EachTwo}
+use Rattle.pure_text.specs.Lists.{Each}
 use Rattle.pure_logic.specs.Content.{Content}
 use Rattle.pure_graph.specs.Order.{Loaded}
-use Rattle.pure_declare.specs.Notes.{Note}
 use Rattle.pure_verdicts.specs.Verdicts.{Verdict, IsTheoryAt, Closes, barred, ran, AllClose, nothing, also, IsFirstBarred, AreLast}
 use Rattle.pure_verdicts.specs.Verdicts as verdicts
 use Rattle.pure_verdicts.proofs.StepLaws.{theory-once}
-use Rattle.pure_work.specs.Outline.{Outline, Barred, Ran, outline, is_barred, lasts}
+use Rattle.pure_work.specs.Outline.{Outline, Barred, Ran, outline, is_barred, last_of, lasts}
 use Rattle.pure_work.specs.Parents.{AreOutlinesOf, HasParents, IsFirstBarredAt, IsNameOfParent}
 
 -- What becomes of an index becomes of a theory of the session.
@@ -64,3 +64,21 @@ parents-of texts theories index values T h at = subst (λ (U : Loaded). AreOutli
 -- A place among the values is one among the indexes.
 pub outlines-long : (texts : List (List ℕ)) (theories : List Loaded) (indexes : List ℕ) (values : List Outline) → AreOutlinesOf texts theories indexes values → length values ≡ length indexes
 outlines-long texts theories indexes values h = ap length h.values_are ∙ length-map h.verdicts outline ∙ close-long texts theories indexes h.verdicts h.closed
+
+-- A place among the values is that of a parent's index, and this is a theory's.
+pub parent-within : (texts : List (List ℕ)) (theories : List Loaded) (indexes : List ℕ) (values : List Outline) (place : ℕ) → AreOutlinesOf texts theories indexes values → place < length values → place < length indexes
+parent-within texts theories indexes values place h within = omega (arith, outlines-long texts theories indexes values h, within)
+
+pub parent-theory : (texts : List (List ℕ)) (theories : List Loaded) (indexes : List ℕ) (values : List Outline) (place index : ℕ) → AreOutlinesOf texts theories indexes values → slice_get indexes place ≡ Some index → (T : Loaded) × IsTheoryAt theories index T
+parent-theory texts theories indexes values place index h held = close-at texts theories indexes h.verdicts h.closed place index held
+
+-- The last contents of those so far.
+lasts-next : (os : List Outline) (i : ℕ) (o : Outline) → slice_get os i ≡ Some o → lasts (take (suc i) os) ≡ lasts (take i os) ++ option_to_list (last_of o)
+lasts-next [] i o e = absurd (cc)
+lasts-next (Barred row ∷ os) zero o e = subst (λ (x : Outline). [] ≡ option_to_list (last_of x)) (same_Some (Barred row) o e) refl
+lasts-next (Ran rows Q ∷ os) zero o e = subst (λ (x : Outline). Q ∷ [] ≡ option_to_list (last_of x)) (same_Some (Ran rows Q) o e) refl
+lasts-next (Barred row ∷ os) (suc i) o e = lasts-next os i o e
+lasts-next (Ran rows Q ∷ os) (suc i) o e = ap (λ (Qs : List Content). Q ∷ Qs) (lasts-next os i o e)
+
+pub lasts-turn : (os : List Outline) (i : ℕ) (o : Outline) → slice_get os i ≡ Some o → lasts (take (i + 1) os) ≡ lasts (take i os) ++ option_to_list (last_of o)
+lasts-turn os i o e = rw add-one (lasts-next os i o e)

@@ -1,8 +1,8 @@
 -- Theories at their indexes.
-use Rattle.std.proofs.Common.{◌≡◌, ◌∙◌, ℕ, suc, ◌-◌, ◌<◌, ◌≤◌, List, length, get_or, ap, sym, refl, arith}
-use Rattle.std.specs.Prelude.{Some, slice_get}
+use Rattle.std.proofs.Common.{◌≡◌, ◌∙◌, ℕ, ◌+◌, ◌-◌, ◌<◌, ◌≤◌, inl, inr, List, length, get_or, ap, sym, refl, arith}
+use Rattle.std.specs.Prelude.{slice_get}
 use Rattle.std.specs.Option.{option_map}
-use Rattle.std.proofs.lemmas.Option.{slice_get-map, slice_get_within, slice_get_read}
+use Rattle.std.proofs.lemmas.Option.{slice_get-map, slice_get_within, slice_get_read, slice_get_cases}
 use Rattle.std.proofs.lemmas.List.{length-map}
 use Rattle.pure_graph.specs.Order.{Loaded}
 use Rattle.pure_session.specs.declared.order.Loaded as code
@@ -22,3 +22,13 @@ loaded-at items theories index l same one within read = (
   omega (arith, one),
   ap (λ (ts : List Loaded). slice_get ts (index - 1)) (sym same) ∙ slice_get-map seen_loaded items (index - 1) ∙ ap (option_map seen_loaded) (slice_get_read items (length items) (index - 1) l refl within read),
 )
+
+pub loaded-here : (items : List code.Loaded) (theories : List Loaded) (index : ℕ) (l : code.Loaded) → ((T : Loaded) × IsTheoryAt theories index T) → all_loaded items ≡ theories → l ≡ get_or items (index - 1) l → IsTheoryAt theories index (seen_loaded l)
+loaded-here items theories index l h same read = loaded-at items theories index l same (index-some theories index h.0 h.1) (place-within items theories index h.0 same h.1) read
+
+-- The theory behind so many others.
+pub theory-behind : (theories : List Loaded) (place index : ℕ) → place < length theories → index ≡ place + 1 → (T : Loaded) × IsTheoryAt theories index T
+theory-behind theories place index within next = elim (slice_get_cases theories place).1 [
+  | inl h ↦ (h.0, (place, omega (arith, next), h.2))
+  | inr h ↦ absurd (omega (arith, within, h.0))
+]

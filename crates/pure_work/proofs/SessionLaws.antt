@@ -1,21 +1,27 @@
 -- The theories of a session, run one after the other.
-use Rattle.std.proofs.Common.{◌≡◌, ◌∙◌, ℕ, zero, suc, ◌+◌, ◌<◌, ◌⊎◌, inl, inr, List, [], ◌∷◌, ◌++◌, length, map, take, ap, sym, refl, subst, arith, length-append, append_assoc}
+use Rattle.std.proofs.Common.{◌≡◌, ◌∙◌, ℕ, zero, suc, ◌+◌, ◌<◌, ◌≤◌, get_or, ◌⊎◌, inl, inr, List, [], ◌∷◌, ◌++◌, length, map, take, ap, sym, refl, subst, arith, length-append, append_assoc}
 use Rattle.std.specs.Prelude.{Option, Some, None, slice_get}
 use Rattle.std.specs.Option.{option_map}
 use Rattle.std.specs.List.{flat_map}
-use Rattle.std.proofs.lemmas.Grind.{flat_map-append}
+use Rattle.std.specs.declared.alloc.Global.{Global}
+use Rattle.std.specs.declared.sync.Arc.{Arc}
+use Rattle.std.proofs.lemmas.Grind.{flat_map-append, get_or_default_zero}
+use Rattle.pure_text.proofs.ListLaws.{two-append}
+use Rattle.pure_text.proofs.LoopLaws.{longer_by}
+use Rattle.pure_session.specs.declared.order.Loaded as loaded
+use Rattle.pure_session.specs.Waiting.{seen_loaded, all_loaded}
 use Rattle.std.proofs.lemmas.List.{length-map, map-append, append-nil}
 use Rattle.std.proofs.lemmas.Option.{same_Some, slice_get-map}
 use Rattle.pure_text.specs.Lists.{EachTwo}
 use Rattle.pure_graph.specs.Order.{Loaded}
 use Rattle.pure_declare.specs.Notes.{Fork, Note, Said, Forked}
-use Rattle.pure_verdicts.specs.Verdicts.{Verdict, IsTheoryAt, Closes, AllClose, nothing, also}
-use Rattle.pure_verdicts.specs.Statements.{notes_of, forks_of, AreVerdicts}
-use Rattle.pure_work.specs.Outline.{Outline, outline}
-use Rattle.pure_work.specs.Parents.{AreOutlinesOf, HasParents, IsLeftBy}
+use Rattle.pure_verdicts.specs.Verdicts.{Verdict, Closes, nothing, also}
+use Rattle.pure_verdicts.specs.Statements.{notes_of, forks_of}
+use Rattle.pure_work.specs.Outline.{Outline, outline, outlines}
+use Rattle.pure_work.specs.Parents.{AreOutlinesOf, IsLeftBy}
 use Rattle.pure_work.specs.Runs.{IsRunOf, turns_left}
-use Rattle.pure_work.specs.Turns.{ClosesWith, IsTurn}
-use Rattle.pure_work.specs.Sessions.{GoesOnWith, IsTaken, RanOut, HaveClosed, AreSaid}
+use Rattle.pure_work.specs.Turns.{IsTurn}
+use Rattle.pure_work.specs.Sessions.{IsTaken, RanOut, HaveClosed, AreSaid}
 use Rattle.pure_work.specs.declared.run.Run.{Run}
 use Rattle.pure_work.specs.declared.run.Turn.{Turn}
 use Rattle.pure_work.specs.declared.run.Turn.TheVariants as turns
@@ -85,7 +91,7 @@ left-outline : (texts : List (List ℕ)) (theories : List Loaded) (values : List
     → (v : Verdict) × Closes texts theories index v × (value ≡ outline v)
 left-outline texts theories values forks index value h l =
     let image : option_map outline (slice_get h.verdicts l.place) ≡ Some value =
-        sym (slice_get-map outline h.verdicts l.place) ∙ ap (λ (os : List Outline). slice_get os l.place) (sym h.values_are) ∙ l.held in
+    sym (slice_get-map outline h.verdicts l.place) ∙ ap (λ (os : List Outline). slice_get os l.place) (sym h.values_are) ∙ l.held in
     let some = map-some outline (slice_get h.verdicts l.place) value image in
     (some.0, subst (λ (i : ℕ). Closes texts theories i some.0) (sym l.index_is) (h.are l.place some.0 some.1), some.2)
 
@@ -135,3 +141,26 @@ closed-more texts theories values more forks forks' value h r longer = record {
 
 pub closed-all : (texts : List (List ℕ)) (theories : List Loaded) (values : List Outline) (forks : List Fork) → HaveClosed texts theories values forks → length values ≡ length theories → AreSaid texts theories values forks
 closed-all texts theories values forks h all = record { closed = h; all = sym (ap length h.values_are ∙ length-map h.verdicts outline) ∙ all }
+
+-- What one more theory left.
+pub left-turn : (values : List Outline) (xs : List ℕ) (i : ℕ) (ps more : List (Arc Outline Global)) (p : Arc Outline Global) → i < length xs → IsLeftBy values (get_or xs i 0) p.value → more ≡ ps ++ p ∷ []
+    → EachTwo (IsLeftBy values) (take i xs) (outlines ps) → EachTwo (IsLeftBy values) (take (i + 1) xs) (outlines more)
+left-turn values xs i ps more p within left longer h =
+    let read : get_or xs i 0 ≡ get_or xs i (get_or xs i 0) = sym (get_or_default_zero xs i (get_or xs i 0) within) in
+    rw (longer_by xs i (get_or xs i 0) within read, longer, map-append (λ (q : Arc Outline Global). q.value) ps (p ∷ []))
+    (two-append (IsLeftBy values) (take i xs) (get_or xs i 0 ∷ []) (outlines ps) (p.value ∷ []) h (left, tt))
+
+pub closed-turn : (texts : List (List ℕ)) (theories : List Loaded) (ps more : List (Arc Outline Global)) (p : Arc Outline Global) (forks forks' : List Fork) (place : ℕ) → HaveClosed texts theories (outlines ps) forks → length ps ≡ place
+    → RanOut texts theories (suc place) forks forks' p.value → more ≡ ps ++ p ∷ [] → HaveClosed texts theories (outlines more) forks'
+closed-turn texts theories ps more p forks forks' place h count r longer =
+    closed-more texts theories (outlines ps) (outlines more) forks forks' p.value h
+    (subst (λ (n : ℕ). RanOut texts theories (suc n) forks forks' p.value) (sym (length-map ps (λ (q : Arc Outline Global). q.value) ∙ count)) r)
+    (ap outlines longer ∙ map-append (λ (q : Arc Outline Global). q.value) ps (p ∷ []))
+
+pub longer-count : {A : Type 0} (ps more : List A) (p : A) (place : ℕ) → length ps ≡ place → more ≡ ps ++ p ∷ [] → length more ≡ place + 1
+longer-count ps more p place count longer = ap length longer ∙ length-append ps (p ∷ []) ∙ ap (λ (n : ℕ). n + 1) count
+
+pub all-closed : (ps : List (Arc Outline Global)) (items : List loaded.Loaded) (theories : List Loaded) (place : ℕ) → all_loaded items ≡ theories → length ps ≡ place → place ≤ length items → length items ≤ place → length (outlines ps) ≡ length theories
+all-closed ps items theories place same count up down =
+    let here : place ≡ length items = omega (arith, up, down) in
+    length-map ps (λ (q : Arc Outline Global). q.value) ∙ count ∙ here ∙ sym (length-map items seen_loaded) ∙ ap length same

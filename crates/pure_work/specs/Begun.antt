@@ -5,7 +5,6 @@ use Rattle.pure_logic.specs.Content.{Content}
 use Rattle.pure_logic.specs.Beginning.{IsBeginning}
 use Rattle.pure_lookup.specs.Laws.{IsInSession}
 use Rattle.pure_theory.specs.Begin.{MayBegin}
-use Rattle.pure_theory.specs.Refusals.{IsLabelAbove}
 use Rattle.pure_graph.specs.Order.{Loaded}
 use Rattle.pure_work.specs.Parents.{IsConflictRow}
 use Rattle.pure_work.specs.Outline.{HasLabelsBelow}

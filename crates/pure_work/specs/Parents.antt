@@ -1,5 +1,5 @@
 -- What a theory's parents left when they closed.
-use Rattle.std.specs.Prelude.{◌≡◌, ◌<◌, ℕ, suc, List, [], length, map, take, get_or, Bool, true, false, Option, Some, None, slice_get}
+use Rattle.std.specs.Prelude.{◌≡◌, ◌<◌, ℕ, suc, List, [], length, map, take, get_or, true, false, Option, Some, None, slice_get}
 use Rattle.pure_text.specs.Lists.{Each}
 use Rattle.pure_logic.specs.Content.{Content}
 use Rattle.pure_theory.specs.Begin.{IsFirstConflict}

@@ -1,8 +1,7 @@
 //! Theories that begin.
-ghost use Rattle.std.specs.Prelude.{◌≡◌, ◌<◌, List, [], length, IfOk};
+ghost use Rattle.std.specs.Prelude.{◌≡◌, ◌<◌, ◌++◌, ℕ, List, [], length, Some, IfOk, slice_get};
 ghost use Rattle.pure_text.specs.Lists.{Each};
 ghost use Rattle.pure_typ.specs.NameTexts.{HasText};
-ghost use Rattle.pure_lookup.specs.Laws.{IsInSession};
 ghost use Rattle.pure_theory.specs.Begin.{contents};
 ghost use Rattle.pure_graph.specs.Session.{parent_refused_text};
 ghost use Rattle.pure_session.specs.Waiting.{seen_loaded};
@@ -26,13 +25,22 @@ use pure_typ::Name;
 use std::alloc::AllocError;
 use std::sync::Arc;
 
+/// The index at the place.
+fn index_at(indexes: &[u32], place: usize) -> u32
+    requires { place < length indexes.now }
+    ensures { slice_get indexes.now place ≡ Some result }
+{
+    indexes[place]
+}
+
 impl Checker {
     /// The name of the theory's parent at this place.
     fn parent_name(&self, theory: &Loaded, place: usize) -> &[u8]
         requires { (values : List Outline) × AreOutlinesOf self.now.texts self.now.theories theory.now.parents.items values × (place < length values) }
         ensures { IsNameOfParent self.now.theories theory.now.parents.items place result.now }
     {
-        let parent = self.theory(theory.parents[place]);
+        let index = index_at(theory.parents.as_slice(), place);
+        let parent = self.theory(index);
         parent.name.bytes()
     }
 
@@ -119,16 +127,21 @@ impl Checker {
         ensures { IfOk result (IsRunOf self.now.texts self.now.theories theory []) }
     {
         let loaded = self.theory(theory);
-        let standing = match first_barred(parents) {
+        match first_barred(parents) {
             Some(place) => {
                 let row = self.barred_row(loaded, place)?;
-                Standing::Barred { row }
+                Ok(Run {
+                    index: theory,
+                    standing: Standing::Barred { row },
+                })
             }
-            None => self.begun(theory, loaded, parents)?,
-        };
-        Ok(Run {
-            index: theory,
-            standing,
-        })
+            None => {
+                let standing = self.begun(theory, loaded, parents)?;
+                Ok(Run {
+                    index: theory,
+                    standing,
+                })
+            }
+        }
     }
 }

@@ -24,8 +24,9 @@ pub struct Checker {
 }
 
 impl Model for Checker {
-    ghost use Rattle.pure_work.specs.Checked.{Checked, coded_checked};
     ghost use Rattle.std.specs.Prelude.{◌≡◌};
+    ghost use Rattle.pure_work.specs.Checked.{Checked};
+    ghost use Rattle.pure_work.specs.CheckedCodes.{coded_checked};
     ghost use Rattle.pure_logic.specs.PureContent.{pure_content};
     ghost use Rattle.pure_session.specs.Waiting.{all_loaded};
 
@@ -52,11 +53,7 @@ impl Checker {
     /// # Errors
     ///
     /// Want of memory alone.
-    pub fn make(
-        alloc: Global,
-        names: Names,
-        theories: Vec<Loaded>,
-    ) -> Result<Checker, AllocError>
+    pub fn make(alloc: Global, names: Names, theories: Vec<Loaded>) -> Result<Checker, AllocError>
         ensures { IfOk result (λ c. c ≡ record { texts = names; theories = all_loaded theories.items }) }
     {
         let pure = pure_stage(alloc)?;

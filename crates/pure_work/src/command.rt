@@ -2,6 +2,7 @@
 ghost use Rattle.std.specs.Prelude.{◌≡◌, ◌<◌, ◌+◌, ◌++◌, ◌∷◌, ℕ, List, [], length, Some, IfOk, slice_get};
 ghost use Rattle.pure_lookup.specs.Laws.{IsInSession};
 ghost use Rattle.pure_theory.specs.Refusals.{IsLabelAbove};
+ghost use Rattle.pure_theory.specs.Stage.{IsSound};
 ghost use Rattle.pure_script.specs.Seen.{seen_command, seen_commands};
 ghost use Rattle.pure_session.specs.Waiting.{seen_loaded};
 ghost use Rattle.pure_declare.specs.Notes as notes;
@@ -106,8 +107,10 @@ impl Checker {
     ) -> Result<Declared, AllocError>
         requires session { IsInSession self.now.texts stage.now.value }
         requires above { IsLabelAbove stage.now.value.declarations label }
-        ensures { IfOk result (λ d. Declares self.now.texts theory.now.source label stage.now.value (seen_command command.now) (seen_note d.note) d.stage.value) }
+        ensures declares { IfOk result (λ d. Declares self.now.texts theory.now.source label stage.now.value (seen_command command.now) (seen_note d.note) d.stage.value) }
+        ensures sound { IsSound stage.now.value }
     {
+        stage.content_is_sound();
         let names = self.names();
         let source = theory.source.bytes();
         if !has_names(self.alloc, names.names(), stage, command)? {

@@ -1,5 +1,5 @@
 //! What the calls below ask, decided beside each call.
-ghost use Rattle.std.specs.Prelude.{◌≡◌, ◌<◌, ◌↔◌, ℕ, List, length, IsTrue, IfOk, MatchOption};
+ghost use Rattle.std.specs.Prelude.{◌≡◌, ◌+◌, ◌<◌, ◌↔◌, ℕ, List, length, IsTrue, IfOk, MatchOption};
 ghost use Rattle.pure_text.specs.Lists.{Each};
 ghost use Rattle.pure_lookup.specs.Meaning.{full_text};
 ghost use Rattle.pure_script.specs.Seen.{span, seen_command};
@@ -139,6 +139,17 @@ pub(crate) fn number_of(count: usize) -> Result<u32, AllocError>
     match u32::try_from(count) {
         Ok(number) => Ok(number),
         Err(_) => Err(AllocError),
+    }
+}
+
+/// The index of the theory behind so many others, where it is a number of 32 bits.
+pub(crate) fn index_behind(place: usize) -> Result<u32, AllocError>
+    ensures { IfOk result (λ index. index ≡ place + 1) }
+{
+    let number = number_of(place)?;
+    match number.checked_add(1) {
+        Some(index) => Ok(index),
+        None => Err(AllocError),
     }
 }
 

@@ -1,5 +1,5 @@
 //! What the parents of a theory left.
-ghost use Rattle.std.specs.Prelude.{◌≡◌, ◌++◌, IfOk, OnOk, MatchOption, map, length, take};
+ghost use Rattle.std.specs.Prelude.{◌≡◌, ◌++◌, IfOk, OnOk};
 ghost use Rattle.std.specs.Option.{option_to_list};
 ghost use Rattle.pure_text.specs.Lists.{EachTwo};
 ghost use Rattle.pure_theory.specs.Begin.{contents};

@@ -1,5 +1,5 @@
 //! The rows of theories that are refused when they begin.
-ghost use Rattle.std.specs.Prelude.{◌≡◌, ◌++◌, ◌∷◌, [], List, IfOk, OnOk};
+ghost use Rattle.std.specs.Prelude.{◌≡◌, ◌++◌, [], List, IfOk, OnOk};
 ghost use Rattle.pure_print.specs.declared.row.RowStatus.TheVariants as status;
 ghost use Rattle.pure_graph.specs.Session.{parent_refused_text};
 ghost use Rattle.pure_logic.specs.Content.{Content};
@@ -46,22 +46,26 @@ fn refused_row(alloc: Global, theory: &[u8], tail: Text) -> Result<Row, AllocErr
     })
 }
 
-/// That this parent was refused.
+/// Appends that a parent was refused.
 #[tactic(auto, unfolding(pure_graph::specs::Session::parent_refused_text))]
+fn push_words(text: &mut Vec<u8>) -> Result<(), AllocError>
+    ensures { OnOk result (text.new.items ≡ text.old.items ++ parent_refused_text) }
+{
+    text.extend_from_slice(b"parent refused ")?;
+    Ok(())
+}
+
+/// Appends that this parent was refused.
 fn push_parent(text: &mut Vec<u8>, parent: &[u8]) -> Result<(), AllocError>
     ensures { OnOk result (text.new.items ≡ text.old.items ++ (parent_refused_text ++ parent.now)) }
 {
-    text.extend_from_slice(b"parent refused ")?;
+    push_words(text)?;
     text.extend_from_slice(parent)?;
     Ok(())
 }
 
 /// The row of a theory whose parent of this name was refused when it began.
-pub(crate) fn parent_refused(
-    alloc: Global,
-    theory: &[u8],
-    parent: &[u8],
-) -> Result<Row, AllocError>
+pub(crate) fn parent_refused(alloc: Global, theory: &[u8], parent: &[u8]) -> Result<Row, AllocError>
     ensures { IfOk result (λ row. row ≡ refused_theory theory.now (parent_refused_text ++ parent.now)) }
 {
     let mut tail = colon(alloc)?;

@@ -1,5 +1,4 @@
 //! A theory that runs.
-ghost use Rattle.std.specs.Prelude.{◌≡◌, length};
 
 use crate::closed::Closed;
 use pure_declare::Duty;

@@ -1,7 +1,6 @@
 //! The statements of all theories, one after the other.
-ghost use Rattle.std.specs.Prelude.{◌≡◌, ◌<◌, ◌++◌, ℕ, suc, List, [], length, map, option_map, IfOk};
+ghost use Rattle.std.specs.Prelude.{◌<◌, ℕ, suc, List, length, IfOk};
 ghost use Rattle.pure_declare.specs.Notes as notes;
-ghost use Rattle.pure_verdicts.specs.Statements.{AreVerdicts};
 ghost use Rattle.pure_work.specs.Outline.{outlines};
 ghost use Rattle.pure_work.specs.Parents.{HasParents};
 ghost use Rattle.pure_work.specs.Runs.{IsRunOf};
@@ -9,7 +8,7 @@ ghost use Rattle.pure_work.specs.Sessions.{IsTaken, RanOut, HaveClosed, AreSaid}
 
 use crate::checker::Checker;
 use crate::closed::Closed;
-use crate::conditions::number_of;
+use crate::conditions::index_behind;
 use crate::parents::all_left_by;
 use crate::run::{Run, Turn};
 use pure_declare::Duty;
@@ -26,11 +25,7 @@ pub struct Statements {
 
 impl Checker {
     /// One turn of the run, whose lemma, if it binds one, is put behind the others; what the theory leaves, where it closes.
-    fn take_turn(
-        &self,
-        run: &mut Run,
-        duties: &mut Vec<Duty>,
-    ) -> Result<Option<Closed>, AllocError>
+    fn take_turn(&self, run: &mut Run, duties: &mut Vec<Duty>) -> Result<Option<Closed>, AllocError>
         requires { (index : ℕ) × (past : List notes.Note) × IsRunOf self.now.texts self.now.theories index past run.old }
         ensures { IfOk result (λ closed. (index : ℕ) (past : List notes.Note) → IsRunOf self.now.texts self.now.theories index past run.old → IsTaken self.now.texts self.now.theories index past run.old run.new duties.old.items duties.new.items closed) }
     {
@@ -56,8 +51,9 @@ impl Checker {
     {
         let mut run = self.begin(theory, parents)?;
         'turns: loop {
-            if let Some(closed) = self.take_turn(&mut run, duties)? {
-                return Ok(closed);
+            match self.take_turn(&mut run, duties)? {
+                Some(closed) => return Ok(closed),
+                None => {}
             }
         }
     }
@@ -73,11 +69,12 @@ impl Checker {
         requires before { HaveClosed self.now.texts self.now.theories (outlines closed.now) duties.old.items }
         ensures { IfOk result (λ one. RanOut self.now.texts self.now.theories (suc place) duties.old.items duties.new.items one.value) }
     {
-        let index = number_of(place + 1)?;
+        let index = index_behind(place)?;
         let theory = self.theory(index);
         let parents = all_left_by(self.alloc, closed, theory.parents.as_slice())?;
         let one = self.run_theory(index, parents.as_slice(), duties)?;
-        shared(self.alloc, one)
+        let one = shared(self.alloc, one)?;
+        Ok(one)
     }
 
     /// What the theories leave, each run until it closes, in load order.

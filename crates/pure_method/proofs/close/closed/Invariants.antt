@@ -1,0 +1,9 @@
+use Rattle.pure_method.specs.Closing.{premise_count}
+use Rattle.pure_method.proofs.CloseLaws.{ClosesFrom}
+use Rattle.pure_method.proofs.close.closed.Given as goal
+
+abbrev pub invariant-loop-now : goal.invariant-loop-now
+invariant-loop-now l = ClosesFrom l.theory l.goal.thm l.now.thm
+
+abbrev pub decreases-loop-now : goal.decreases-loop-now
+decreases-loop-now l = premise_count l.now.thm.prop

@@ -1,0 +1,89 @@
+-- How far a proof has come, and what is known of it there.
+use Rattle.std.specs.Prelude.{◌≡◌, ◌↔◌, ◌⊎◌, ◌≤◌, ℕ, ◌+◌, List, length, drop, count_by, Ok, Err}
+use Rattle.pure_text.specs.Lists.{IsIn, AnyOf}
+use Rattle.pure_definitions.specs.Names.{Label}
+use Rattle.pure_grammar.specs.Theories.TheoryText.{Step}
+use Rattle.pure_logic.specs.Content.{Content}
+use Rattle.pure_logic.specs.Derivable.{Theorem}
+use Rattle.pure_lookup.specs.Laws.{IsInSession}
+use Rattle.pure_theorem.specs.Sets.{IsLabelSet}
+use Rattle.pure_unify_laws.specs.Condition.{IsUnifyContent}
+use Rattle.pure_goal_steps.specs.State.{State, IsTheoremOf}
+use Rattle.pure_goal_steps.specs.Steps.{BeginsAs}
+use Rattle.pure_goal_steps.specs.declared.fault.StepFault.TheVariants.{Big}
+use Rattle.pure_resolve.specs.Uses.{MayStep}
+use Rattle.pure_declare.specs.Notes.{Fork}
+use Rattle.pure_declare.specs.Tidy.{IsTidy}
+use Rattle.pure_method.specs.Facts.{MeansPromise, IsNamed}
+use Rattle.pure_method.specs.Proof.{Ending, Ends, IsProof}
+use Rattle.pure_method.specs.Outcomes.{IsScript}
+use Rattle.pure_method.specs.Outcome.{is_numbered, IsOutcomeOf}
+use Rattle.pure_method.specs.declared.run.Run.{Run}
+use Rattle.pure_method.specs.declared.run.Next.{Next}
+use Rattle.pure_method.specs.declared.run.Next.TheVariants.{Goes, Ends as EndsWith}
+use Rattle.pure_method.specs.declared.proving.Place.{Place}
+use Rattle.pure_method.specs.declared.proving.Place.TheVariants.{Runs, Refused, Broken}
+use Rattle.pure_method.specs.declared.proving.Proving.{Proving}
+
+-- What the steps of a proof ask of the content beside goals: it is one of a session, terms are unified over it, and its facts are as commands store them.
+pub record IsReady (texts : List (List ℕ)) (Q : Content) : Type 0 where
+  pub in_session : IsInSession texts Q
+  pub unify : IsUnifyContent Q
+  pub tidy : IsTidy Q
+
+-- A goal that rested on the old promises rests on the new ones: on these, and on those that the written names mean.
+pub record GainsNamed (texts : List (List ℕ)) (Q : Content) (written : List (List ℕ)) (old new : List Label) : Type 0 where
+  pub ascend : IsLabelSet new
+  pub exactly : (label : Label) → IsIn label new ↔ (IsIn label old ⊎ AnyOf (MeansPromise texts Q label) written)
+
+-- The lemma's proof begins, and ends so.
+pub record EndsWhole (texts : List (List ℕ)) (f : Fork) (end : Ending) : Type 0 where
+  pub first : State
+  pub begins : BeginsAs f.fixed (Ok first)
+  pub ends : Ends texts f.content 1 first f.script end
+
+-- The lemma's proof has come to a goal with this theorem: the next step that has a number has this one, and these steps are left. However they end from there, so does the whole proof. On the goal steps may be made, and it rests on the promises that the steps so far name.
+pub record HasCome (texts : List (List ℕ)) (f : Fork) (goal : Theorem) (number : ℕ) (left : List Step) : Type 0 where
+  pub may : MayStep f.content goal
+  pub ends : (s : State) → IsTheoremOf s goal → (end : Ending) → Ends texts f.content number s left end → EndsWhole texts f end
+  pub ascend : IsLabelSet goal.rests
+  pub named : (label : Label) → IsNamed texts f.content f.script label ↔ (IsIn label goal.rests ⊎ IsNamed texts f.content left label)
+  pub script : IsScript left
+  pub few : number + count_by is_numbered left ≤ 1001
+
+-- The same of what the program holds.
+abbrev pub IsRun : (texts : List (List ℕ)) → Fork → Run → Type 0
+IsRun texts f run = HasCome texts f run.goal.thm run.number (drop run.at f.script)
+
+-- What a step leaves of a run: a run that is one step further; or what comes of the proof.
+abbrev pub IsNext : (texts : List (List ℕ)) → Fork → (at : ℕ) → Next → Type 0
+IsNext texts f at (Goes run) = IsRun texts f run × (run.at ≡ at + 1)
+IsNext texts f at (EndsWith outcome) = IsOutcomeOf texts f outcome
+
+-- What is known of where a proof stands: it runs; or no goal began with its statement; or it is broken by want of memory, and answers that from then on.
+abbrev pub IsPlace : (texts : List (List ℕ)) → Fork → Place → Type 0
+IsPlace texts f (Runs run) = IsRun texts f run
+IsPlace texts f Refused = IsProof texts f.content f.fixed f.script (Err (record { step = 0; fault = Big }))
+IsPlace texts f Broken = Unit {0}
+
+-- The same of a proof on its way.
+abbrev pub Proves : (texts : List (List ℕ)) → Fork → Proving → Type 0
+Proves texts f proving = IsPlace texts f proving.place
+
+-- the count of the steps that are left
+abbrev pub place_left : Fork → Place → ℕ
+place_left f (Runs run) = length (drop run.at f.script)
+place_left f Refused = 0
+place_left f Broken = 0
+
+abbrev pub steps_left : Fork → Proving → ℕ
+steps_left f proving = place_left f proving.place
+
+-- The proof is broken by want of memory.
+abbrev pub IsBroken : Proving → Type 0
+IsBroken proving = proving.place ≡ Broken
+
+-- What a step leaves of a place: a run that has one step less; or what comes of the proof.
+abbrev pub IsNextAt : (texts : List (List ℕ)) → Fork → Place → Next → Type 0
+IsNextAt texts f place (Goes run) = IsRun texts f run × (length (drop run.at f.script) + 1 ≡ place_left f place)
+IsNextAt texts f place (EndsWith outcome) = IsOutcomeOf texts f outcome

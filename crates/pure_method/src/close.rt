@@ -1,0 +1,39 @@
+//! Subgoals closed by assumption.
+ghost use Rattle.std.specs.Prelude.{IfOk, MatchOption};
+ghost use Rattle.pure_definitions.specs.Declarations.Decl.{algebra_of};
+ghost use Rattle.pure_unify_laws.specs.Condition.{IsUnifyContent};
+ghost use Rattle.pure_resolve.specs.Uses.{MayStep};
+ghost use Rattle.pure_method.specs.Closing.{CannotAssume, IsAssumed, IsClosed};
+
+use crate::step::assumed;
+use pure_goal_steps::StepFault;
+use pure_resolve::Goal;
+use pure_theory::Theory;
+use std::alloc::{AllocError, Global};
+
+/// The goal without its first subgoal, where that is proved by assumption.
+fn one_closed(alloc: Global, theory: &Theory, goal: &Goal) -> Result<Option<Goal>, AllocError>
+    requires content { IsUnifyContent theory.now }
+    requires goal { MayStep theory.now goal.now.thm }
+    ensures { IfOk result (λ next. MatchOption next (CannotAssume theory.now goal.now.thm) (λ new. IsAssumed theory.now goal.now.thm new.thm)) }
+{
+    match assumed(alloc, theory, goal) {
+        Ok(new) => Ok(Some(new)),
+        Err(StepFault::Memory) => Err(AllocError),
+        Err(_) => Ok(None),
+    }
+}
+
+/// The goal without its first subgoals, as long as they are proved by assumption.
+pub fn closed(alloc: Global, theory: &Theory, goal: &Goal) -> Result<Goal, AllocError>
+    requires content { IsUnifyContent theory.now }
+    requires goal { MayStep theory.now goal.now.thm }
+    ensures { IfOk result (λ new. IsClosed theory.now goal.now.thm new.thm) }
+{
+    let thm = goal.thm.copy(alloc)?;
+    let mut now = Goal { thm };
+    while let Some(next) = one_closed(alloc, theory, &now)? {
+        now = next;
+    }
+    Ok(now)
+}

@@ -1,0 +1,143 @@
+//! The calls that run a proof.
+ghost use Rattle.std.specs.Prelude.{◌≡◌, ◌+◌, IfOk, IfErr, OnErr, MatchOption, IsErr};
+ghost use Rattle.pure_method.specs.Outcome.{IsProvable, IsOutcomeOf};
+ghost use Rattle.pure_method.specs.declared.proving.Place.TheVariants as stands;
+ghost use Rattle.pure_method.specs.Running.{Proves, IsBroken, IsPlace, IsNextAt, steps_left};
+
+use crate::duty::{statement_of, theory_of};
+use crate::fault::is_memory;
+use crate::outcome::Outcome;
+use crate::run::{Next, Run, next_of};
+use pure_declare::Duty;
+use pure_goal_steps::StepFault;
+use pure_typ::NamesByBase;
+use std::alloc::{AllocError, Global};
+use std::mem;
+
+/// Where a proof stands: it runs; or no goal began with its statement; or it is broken by want of memory.
+#[derive(Drop)]
+pub enum Place {
+    Runs { run: Run },
+    Refused,
+    Broken,
+}
+
+/// A proof on its way.
+#[derive(Drop)]
+pub struct Proving {
+    place: Place,
+}
+
+/// Begins the lemma's proof.
+///
+/// # Errors
+///
+/// `AllocError` alone: a fault that comes before the first step is answered by the first call of `advance`.
+pub fn start(alloc: Global, _names: &NamesByBase, duty: &Duty) -> Result<Proving, AllocError>
+    requires { IsProvable _names.now duty.now }
+    ensures { IfOk result (Proves _names.now duty.now) }
+{
+    match pure_resolve::start(alloc, theory_of(duty), statement_of(duty)) {
+        Ok(goal) => Ok(Proving {
+            place: Place::Runs {
+                run: Run {
+                    goal,
+                    at: 0,
+                    number: 1,
+                },
+            },
+        }),
+        Err(fault) => {
+            if is_memory(fault) {
+                return Err(AllocError);
+            }
+            Ok(Proving {
+                place: Place::Refused,
+            })
+        }
+    }
+}
+
+/// Lets the place go.
+fn discard(_place: Place) {}
+
+/// What the next step leaves.
+fn next_at(
+    alloc: Global,
+    names: &NamesByBase,
+    duty: &Duty,
+    place: &Place,
+) -> Result<Next, AllocError>
+    requires provable { IsProvable names.now duty.now }
+    requires place { IsPlace names.now duty.now place.now }
+    ensures next { IfOk result (IsNextAt names.now duty.now place.now) }
+    ensures broken { place.now ≡ stands.Broken → IsErr result }
+{
+    match place {
+        Place::Broken => Err(AllocError),
+        Place::Refused => Ok(Next::Ends {
+            outcome: Outcome::Fault {
+                step: 0,
+                fault: StepFault::Big,
+            },
+        }),
+        Place::Runs { run } => next_of(alloc, names, duty, run),
+    }
+}
+
+impl Proving {
+    /// Stands at another place.
+    fn enter(&mut self, place: Place)
+        ensures { self.new.place ≡ place }
+    {
+        discard(mem::replace(&mut self.place, place));
+    }
+
+    /// Makes one step of the proof: none exactly where steps are left and none failed, else what comes of the proof.
+    ///
+    /// # Errors
+    ///
+    /// `AllocError` where memory ran out, and from then on.
+    pub fn advance(
+        &mut self,
+        alloc: Global,
+        names: &NamesByBase,
+        duty: &Duty,
+    ) -> Result<Option<Outcome>, AllocError>
+        requires provable { IsProvable names.now duty.now }
+        requires proves { Proves names.now duty.now self.old }
+        ensures proves { Proves names.now duty.now self.new }
+        ensures outcome { IfOk result (λ answer. MatchOption answer (steps_left duty.now self.new + 1 ≡ steps_left duty.now self.old) (IsOutcomeOf names.now duty.now)) }
+        ensures broken { OnErr result (IsBroken self.new) }
+        ensures still { IsBroken self.old → IsErr result }
+    {
+        match next_at(alloc, names, duty, &self.place) {
+            Ok(Next::Goes { run }) => {
+                self.enter(Place::Runs { run });
+                Ok(None)
+            }
+            Ok(Next::Ends { outcome }) => Ok(Some(outcome)),
+            Err(error) => {
+                self.enter(Place::Broken);
+                Err(error)
+            }
+        }
+    }
+}
+
+/// Runs the lemma's proof to its end.
+///
+/// # Errors
+///
+/// `AllocError` where memory ran out.
+pub fn prove(alloc: Global, names: &NamesByBase, duty: &Duty) -> Result<Outcome, AllocError>
+    requires { IsProvable names.now duty.now }
+    ensures { IfOk result (IsOutcomeOf names.now duty.now) }
+{
+    let mut proving = start(alloc, names, duty)?;
+    loop {
+        if let Some(outcome) = proving.advance(alloc, names, duty)? {
+            return Ok(outcome);
+        }
+    }
+}

@@ -1,0 +1,175 @@
+//! The steps of a proof that have numbers, on a goal.
+ghost use Rattle.std.specs.Prelude.{◌≡◌, ◌≢◌, ◌∷◌, [], IfOk};
+ghost use Rattle.pure_definitions.specs.Declarations.Decl.{algebra_of};
+ghost use Rattle.pure_grammar.specs.Theories.TheoryText as written_steps;
+ghost use Rattle.pure_script.specs.Seen.{seen_step};
+ghost use Rattle.pure_theorem.specs.Sets.{IsLabelSet};
+ghost use Rattle.pure_unify_laws.specs.Condition.{IsUnifyContent};
+ghost use Rattle.pure_goal_steps.specs.Steps.{AssumptionStep, PreferStep, DeferStep};
+ghost use Rattle.pure_resolve.specs.Goals.{IsStep};
+ghost use Rattle.pure_resolve.specs.Uses.{MayStep};
+ghost use Rattle.pure_method.specs.Facts.{named_facts};
+ghost use Rattle.pure_method.specs.Proof.{Gives};
+ghost use Rattle.pure_method.specs.Running.{IsReady, GainsNamed};
+
+use crate::fact::{discard, discard_all, found_fact, found_facts};
+use crate::unfold::unfolded;
+use pure_goal_steps::StepFault;
+use pure_resolve::Goal;
+use pure_script::Step;
+use pure_text::Text;
+use pure_theory::Theory;
+use pure_typ::NamesByBase;
+use std::alloc::Global;
+
+/// The goal by a rule.
+fn by_rule(
+    alloc: Global,
+    names: &NamesByBase,
+    theory: &Theory,
+    goal: &Goal,
+    written: &[u8],
+) -> Result<Goal, StepFault>
+    requires ready { IsReady names.now theory.now }
+    requires goal { MayStep theory.now goal.now.thm }
+    ensures answer { IsStep (λ s. Gives names.now theory.now (written_steps.Rule written.now) s) goal.now.thm (GainsNamed names.now theory.now (written.now ∷ []) goal.now.thm.rests) result }
+    ensures may { IfOk result (λ new. MayStep theory.now new.thm) }
+{
+    match found_fact(alloc, names, theory, written) {
+        Ok(fact) => {
+            let answer = goal.rule(alloc, theory, &fact);
+            discard(fact);
+            answer
+        }
+        Err(fault) => Err(fault),
+    }
+}
+
+/// The goal by elimination with a fact.
+fn by_erule(
+    alloc: Global,
+    names: &NamesByBase,
+    theory: &Theory,
+    goal: &Goal,
+    written: &[u8],
+) -> Result<Goal, StepFault>
+    requires ready { IsReady names.now theory.now }
+    requires goal { MayStep theory.now goal.now.thm }
+    ensures answer { IsStep (λ s. Gives names.now theory.now (written_steps.Erule written.now) s) goal.now.thm (GainsNamed names.now theory.now (written.now ∷ []) goal.now.thm.rests) result }
+    ensures may { IfOk result (λ new. MayStep theory.now new.thm) }
+{
+    match found_fact(alloc, names, theory, written) {
+        Ok(fact) => {
+            let answer = goal.erule(alloc, theory, &fact);
+            discard(fact);
+            answer
+        }
+        Err(fault) => Err(fault),
+    }
+}
+
+/// The goal by destruction with a fact.
+fn by_drule(
+    alloc: Global,
+    names: &NamesByBase,
+    theory: &Theory,
+    goal: &Goal,
+    written: &[u8],
+) -> Result<Goal, StepFault>
+    requires ready { IsReady names.now theory.now }
+    requires goal { MayStep theory.now goal.now.thm }
+    ensures answer { IsStep (λ s. Gives names.now theory.now (written_steps.Drule written.now) s) goal.now.thm (GainsNamed names.now theory.now (written.now ∷ []) goal.now.thm.rests) result }
+    ensures may { IfOk result (λ new. MayStep theory.now new.thm) }
+{
+    match found_fact(alloc, names, theory, written) {
+        Ok(fact) => {
+            let answer = goal.drule(alloc, theory, &fact);
+            discard(fact);
+            answer
+        }
+        Err(fault) => Err(fault),
+    }
+}
+
+/// The goal with definitions unfolded in its first subgoal.
+fn by_unfolding(
+    alloc: Global,
+    names: &NamesByBase,
+    theory: &Theory,
+    goal: &Goal,
+    written: &[Text],
+) -> Result<Goal, StepFault>
+    requires ready { IsReady names.now theory.now }
+    requires goal { MayStep theory.now goal.now.thm }
+    ensures answer { IsStep (λ s. Gives names.now theory.now (written_steps.Unfold written.now) s) goal.now.thm (GainsNamed names.now theory.now written.now goal.now.thm.rests) result }
+    ensures may { IfOk result (λ new. MayStep theory.now new.thm) }
+{
+    match found_facts(alloc, names, theory, written) {
+        Ok(found) => {
+            let answer = unfolded(alloc, theory, goal, &found);
+            discard_all(found);
+            answer
+        }
+        Err(fault) => Err(fault),
+    }
+}
+
+/// The goal by assumption.
+pub fn assumed(alloc: Global, theory: &Theory, goal: &Goal) -> Result<Goal, StepFault>
+    requires content { IsUnifyContent theory.now }
+    requires goal { MayStep theory.now goal.now.thm }
+    ensures answer { IsStep (AssumptionStep (algebra_of theory.now.declarations)) goal.now.thm (λ rests. rests ≡ goal.now.thm.rests) result }
+    ensures may { IfOk result (λ new. MayStep theory.now new.thm) }
+{
+    let answer = goal.assumption(alloc, theory);
+    answer
+}
+
+/// The goal with this subgoal first.
+fn preferred(alloc: Global, theory: &Theory, goal: &Goal, n: u32) -> Result<Goal, StepFault>
+    requires { MayStep theory.now goal.now.thm }
+    ensures answer { IsStep (λ s. PreferStep s n) goal.now.thm (λ rests. rests ≡ goal.now.thm.rests) result }
+    ensures may { IfOk result (λ new. MayStep theory.now new.thm) }
+{
+    let answer = goal.prefer(alloc, theory, n);
+    answer
+}
+
+/// The goal with its first subgoal last.
+fn deferred(alloc: Global, theory: &Theory, goal: &Goal) -> Result<Goal, StepFault>
+    requires { MayStep theory.now goal.now.thm }
+    ensures answer { IsStep DeferStep goal.now.thm (λ rests. rests ≡ goal.now.thm.rests) result }
+    ensures may { IfOk result (λ new. MayStep theory.now new.thm) }
+{
+    let answer = goal.defer(alloc, theory);
+    answer
+}
+
+/// The goal after a step that is neither the end nor that which closes subgoals.
+pub fn stepped(
+    alloc: Global,
+    names: &NamesByBase,
+    theory: &Theory,
+    goal: &Goal,
+    step: &Step,
+) -> Result<Goal, StepFault>
+    requires ready { IsReady names.now theory.now }
+    requires goal { MayStep theory.now goal.now.thm }
+    requires set { IsLabelSet goal.now.thm.rests }
+    requires close { seen_step step.now ≢ written_steps.Close }
+    requires end { seen_step step.now ≢ written_steps.Done }
+    ensures answer { IsStep (λ s. Gives names.now theory.now (seen_step step.now) s) goal.now.thm (GainsNamed names.now theory.now (named_facts (seen_step step.now)) goal.now.thm.rests) result }
+    ensures may { IfOk result (λ new. MayStep theory.now new.thm) }
+{
+    match step {
+        Step::Rule { fact } => by_rule(alloc, names, theory, goal, fact.bytes()),
+        Step::Erule { fact } => by_erule(alloc, names, theory, goal, fact.bytes()),
+        Step::Drule { fact } => by_drule(alloc, names, theory, goal, fact.bytes()),
+        Step::Assumption => assumed(alloc, theory, goal),
+        Step::Unfold { facts } => by_unfolding(alloc, names, theory, goal, facts),
+        Step::Prefer { n } => preferred(alloc, theory, goal, *n),
+        Step::Defer => deferred(alloc, theory, goal),
+        Step::Close => unreachable!(),
+        Step::Done => unreachable!(),
+    }
+}

@@ -1,0 +1,15 @@
+use Rattle.pure_work.specs.Outline.{outlines}
+use Rattle.pure_session.specs.Waiting.{seen_loaded}
+use Rattle.pure_work.proofs.PlaceLaws.{theory-behind}
+use Rattle.pure_work.proofs.SessionLaws.{left-outlines}
+use Rattle.pure_work.proofs.checker.Checker.next_closed.Goals as goal
+
+pub theory-theory-requires : goal.theory-theory-requires
+theory-theory-requires c = theory-behind c.args.self.now.theories c.args.place c.in_ok-index.index c.requires.place c.in_ok-index.ensures
+
+pub run_theory-requires : goal.run_theory-requires
+run_theory-requires c = record {
+  theory = seen_loaded c.theory-theory.result.now;
+  is_at = c.theory-theory.ensures;
+  outlines = rw c.as_slice-2.ensures.value (left-outlines c.args.self.now.texts c.args.self.now.theories (outlines c.args.closed.now) c.args.duties.now.items c.theory-theory.result.now.parents.items (outlines c.in_ok-parents.parents.items) c.requires.before (rw c.as_slice.ensures.value at c.in_ok-parents.ensures));
+}

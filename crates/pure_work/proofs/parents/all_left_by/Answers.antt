@@ -1,0 +1,7 @@
+use Rattle.pure_work.specs.Outline.{outlines}
+use Rattle.pure_work.proofs.SessionLaws.{left-turn}
+use Rattle.pure_work.proofs.parents.all_left_by.Goals as goal
+
+pub loop-index-preserved : goal.loop-index-preserved
+loop-index-preserved c =
+    left-turn (outlines c.args.closed.now) c.args.indexes.now c.loop-index.index-index c.loop-index.values.items c.push.new.self.items c.in_ok-left_by.field-0 c.loop-index-test.true c.in_ok-left_by.ensures c.in_ok-push.ensures.items c.loop-index.invariant
