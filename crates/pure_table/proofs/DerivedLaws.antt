@@ -38,7 +38,8 @@ use Rattle.pure_verdicts.specs.Loaded.{IsLoadedSession}
 use Rattle.pure_verdicts.specs.Statements.{forks_of, AreStatements, IsRun, IsFork}
 use Rattle.pure_verdicts.specs.Laws.{IsSomeFork, IsStanding, IsPromiseOf}
 use Rattle.pure_verdicts.proofs.OrderlyLaws.{runs_orderly}
-use Rattle.pure_verdicts.proofs.ForkLaws.{forks_stand, forks_provable}
+use Rattle.pure_verdicts.proofs.ForkLaws.{forks_stand}
+use Rattle.pure_verdicts.proofs.ProvableLaws.{forks_provable}
 use Rattle.pure_verdicts.proofs.PromiseLaws.{promises_are_forks}
 use Rattle.pure_verdicts.proofs.LabelLaws.{labels_ascend}
 use Rattle.pure_verdicts.proofs.StatementLaws.{statements_bind_forks}
