@@ -1,2 +1,3 @@
 pub mod FillingLaws
 pub mod PrintedLaws
+pub mod EntryLaws
