@@ -1,2 +1,6 @@
+pub mod ClaimLaws
+pub mod DerivedLaws
+pub mod OnceLaws
 pub mod FillingLaws
 pub mod PrintedLaws
+pub mod EntryLaws

@@ -1,9 +1,11 @@
-//! The table of a session: its rows, and the text that is printed.
+//! The table of a session: the entries of its lemmas, and the text that is printed.
 #![tactic(auto)]
 
+mod entries;
 mod filling;
 pub mod laws;
 mod printing;
 mod refused;
 
+pub use entries::proofs;
 pub use printing::{printed, table};
