@@ -5,7 +5,6 @@ use Rattle.pure_text.specs.Lists.{EachTwo}
 use Rattle.pure_definitions.specs.Names.{Label}
 use Rattle.pure_graph.specs.Session.{Session}
 use Rattle.pure_print.specs.declared.row.Row.{Row}
-use Rattle.pure_print.specs.RowText.{table_text}
 use Rattle.pure_declare.specs.Notes.{Note, Said, Forked}
 use Rattle.pure_promise.specs.Rows.{AreRowsOf}
 use Rattle.pure_verdicts.specs.Verdicts.{Verdict, Barred, Ran}
@@ -14,7 +13,7 @@ use Rattle.pure_work.specs.Outline.{outline, row_of, rows_of}
 use Rattle.pure_table.specs.Table.{IsEntryOf, with_rows, refusal_row}
 use Rattle.pure_table.specs.Laws.{SaidAreStatements, SaidAreParts}
 use Rattle.pure_table.specs.Filling.{places_of, filled}
-use Rattle.pure_table.specs.Printed.{Parts, ArePartsOf, AreTableRows, IsTableText}
+use Rattle.pure_table.specs.Printed.{Parts, ArePartsOf, AreTableRows}
 
 -- the rows of notes are filled
 filled-notes : (notes : List Note) (lemmas : List Row) → filled (rows_of notes) lemmas ≡ with_rows notes lemmas
@@ -52,10 +51,6 @@ table-rows p lemmas rows each is S cancelled of =
       },
       is ∙ (λ i. places i ++ map refusal_row (of.refused i)),
     )
-
--- A text that is printed of them is that of the session's table.
-pub table-text : (S : Session) (cancelled : List Label) (files : ℕ) (rows : List Row) (text : List ℕ) → text ≡ table_text files rows → S.files ≡ files → AreTableRows S cancelled rows → IsTableText S cancelled text
-table-text S cancelled files rows text is same (t, table, are) = (t, table, is ∙ (λ i. table_text (sym same i) (are i)))
 
 -- What the theories left are the statements.
 pub said_are_statements : SaidAreStatements

@@ -8,7 +8,7 @@ use Rattle.pure_promise.specs.Entries.{Entry}
 use Rattle.pure_verdicts.specs.Verdicts.{Verdict}
 use Rattle.pure_verdicts.specs.Statements.{notes_of, AreVerdicts}
 use Rattle.pure_work.specs.Outline.{Outline, outline}
-use Rattle.pure_table.specs.Table.{Table, AreEntriesOf, IsTable, table_rows, session_text}
+use Rattle.pure_table.specs.Table.{Table, AreEntriesOf, IsTable, table_rows}
 
 -- what the rows of a table are made of: the texts of names, what the theories left, the entries of the lemmas, and the refused files with their reasons
 pub record Parts : Type 0 where
@@ -30,7 +30,3 @@ pub record ArePartsOf (S : Session) (cancelled : List Label) (p : Parts) : Type 
 -- They are the rows of the table to which the session comes.
 abbrev pub AreTableRows : Session → (cancelled : List Label) → List Row → Type 0
 AreTableRows S cancelled rows = (t : Table) × IsTable S cancelled t × (rows ≡ table_rows S t)
-
--- The text is that of the table to which the session comes.
-abbrev pub IsTableText : Session → (cancelled : List Label) → (text : List ℕ) → Type 0
-IsTableText S cancelled text = (t : Table) × IsTable S cancelled t × (text ≡ session_text S t)

@@ -1,4 +1,4 @@
-//! The table of a session: the entries of its lemmas, and the text that is printed.
+//! The table of a session: the entries of its lemmas, and the rows that are printed.
 #![tactic(auto)]
 
 mod entries;
@@ -8,4 +8,4 @@ mod printing;
 mod refused;
 
 pub use entries::proofs;
-pub use printing::{printed, table};
+pub use printing::table;

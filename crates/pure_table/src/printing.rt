@@ -1,4 +1,4 @@
-//! The rows of a session's table, and its text.
+//! The rows of a session's table.
 ghost use Rattle.std.specs.Prelude.{◌≡◌, ◌++◌, List, IfOk, map};
 ghost use Rattle.std.specs.List.{flat_map};
 ghost use Rattle.pure_definitions.specs.Names.{Label};
@@ -10,15 +10,14 @@ ghost use Rattle.pure_session.specs.Refused.{all_refused};
 ghost use Rattle.pure_work.specs.Outline.{outlines};
 ghost use Rattle.pure_table.specs.Filling as filling;
 ghost use Rattle.pure_table.specs.Filling.{places_of};
-ghost use Rattle.pure_table.specs.Printed.{ArePartsOf, AreTableRows, IsTableText};
+ghost use Rattle.pure_table.specs.Printed.{ArePartsOf, AreTableRows};
 ghost use Rattle.pure_table.specs.Table.{refusal_row};
 
 use crate::filling::filled;
 use crate::refused::put_refused;
-use pure_print::{Row, print_table};
+use pure_print::Row;
 use pure_promise::{Entry, rows};
 use pure_session::RefusedFile;
-use pure_text::Text;
 use pure_typ::Names;
 use pure_work::Closed;
 use std::alloc::{AllocError, Global};
@@ -56,25 +55,4 @@ pub fn table(
     let lemmas = rows(alloc, names, entries)?;
     let all = placed(alloc, closed, lemmas.as_slice(), refused)?;
     Ok(all)
-}
-
-/// The text of a session's table with so many files.
-///
-/// # Errors
-///
-/// Want of memory alone.
-pub fn printed(
-    alloc: Global,
-    names: &Names,
-    closed: &[Arc<Closed>],
-    entries: &[Entry],
-    refused: &[RefusedFile],
-    files: u32,
-) -> Result<Text, AllocError>
-    requires { AreEntries (map plain (seen entries.now)) }
-    ensures { IfOk result (λ text. (S : graph.Session) (cancelled : List Label) → ArePartsOf S cancelled (record { texts = names.now; values = outlines closed.now; entries = seen entries.now; refused = all_refused refused.now }) → S.files ≡ files → IsTableText S cancelled text) }
-{
-    let all = table(alloc, names, closed, entries, refused)?;
-    let text = print_table(alloc, files, all.as_slice())?;
-    Ok(text)
 }
