@@ -67,7 +67,7 @@ impl Checker {
     }
 
     /// The names by their bases.
-    pub(crate) fn names(&self) -> &NamesByBase
+    pub fn names(&self) -> &NamesByBase
         ensures value { result.now ≡ self.now.texts }
         ensures texts { AreSessionTexts self.now.texts }
     {
