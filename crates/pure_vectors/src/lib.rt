@@ -8,6 +8,10 @@ mod cases;
 #[cfg(test)]
 mod declarations;
 #[cfg(test)]
+mod examples;
+#[cfg(test)]
+mod failing;
+#[cfg(test)]
 mod faults;
 #[cfg(test)]
 mod folder;
