@@ -18,6 +18,8 @@ mod folder;
 #[cfg(test)]
 mod generated;
 #[cfg(test)]
+mod guide;
+#[cfg(test)]
 mod limits;
 #[cfg(test)]
 mod proofs;
