@@ -1,6 +1,6 @@
+(* An object logic with conjunction alone: formulas, which of them hold, and the rules. *)
 theory Conj imports Pure begin
 
-(* Formulas, which of them hold, and the rules of conjunction. *)
 typedecl o
 consts T :: "o => prop"
   conj :: "o => o => o"

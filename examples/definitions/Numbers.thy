@@ -1,3 +1,4 @@
+(* Definitions, the proofs that unfold them, and one that says too much of types. *)
 theory Numbers begin
 
 typedecl nat
@@ -23,7 +24,7 @@ lemma two_is_twice: "two == twice suc zero"
   apply (unfold two_def twice_def)
   by (rule Pure.refl)
 
-(* What a body says must be said of the constant's type alone. *)
+(* Refused: the type of x isn't in the constant's type. Below it is. *)
 definition same :: prop where "same == (!!x. x == x)"
 definition same :: "'a => prop" where "same == %x. (x == x)"
 

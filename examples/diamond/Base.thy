@@ -1,3 +1,4 @@
+(* A class of orders, which both Left and Right import. *)
 theory Base begin
 
 class order

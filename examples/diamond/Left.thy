@@ -1,3 +1,4 @@
+(* A least element. *)
 theory Left imports Base begin
 
 consts bot :: i

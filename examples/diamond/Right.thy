@@ -1,3 +1,4 @@
+(* A greatest element. *)
 theory Right imports Base begin
 
 consts top :: i

@@ -1,3 +1,4 @@
+(* Two theories imported at once, and how names are found in them. *)
 theory Top imports Left Right begin
 
 (* Both parents have a mid: the one of the theory loaded last is meant, unless the theory is named. *)

@@ -1,3 +1,4 @@
+(* What rests on the failed lemma of another theory. *)
 theory Later imports Start begin
 
 lemma so_cold: "Cold" by (rule is_cold)

@@ -1,3 +1,4 @@
+(* A lemma that fails, what rests on it, and what doesn't. *)
 theory Start begin
 
 consts Rain :: prop

@@ -8,11 +8,17 @@ mod cases;
 #[cfg(test)]
 mod declarations;
 #[cfg(test)]
+mod examples;
+#[cfg(test)]
+mod failing;
+#[cfg(test)]
 mod faults;
 #[cfg(test)]
 mod folder;
 #[cfg(test)]
 mod generated;
+#[cfg(test)]
+mod guide;
 #[cfg(test)]
 mod limits;
 #[cfg(test)]

@@ -1,0 +1,2 @@
+(* Refused with its parent. *)
+theory Beyond imports Both begin end

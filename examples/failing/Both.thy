@@ -1,0 +1,2 @@
+(* Refused when it begins: no one arity covers both. *)
+theory Both imports West East begin end

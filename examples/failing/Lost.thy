@@ -1,0 +1,2 @@
+(* An import that is no file. *)
+theory Lost imports Nowhere begin end

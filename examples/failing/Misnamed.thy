@@ -1,0 +1,2 @@
+(* A name that isn't the file's. *)
+theory Other begin end

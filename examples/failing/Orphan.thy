@@ -1,0 +1,2 @@
+(* An import that is refused. *)
+theory Orphan imports Lost begin end

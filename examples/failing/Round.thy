@@ -1,0 +1,2 @@
+(* Two theories that import each other. *)
+theory Round imports About begin end
