@@ -1,5 +1,5 @@
 -- The words that the program was called with.
-use Rattle.std.specs.Prelude.{◌≡◌, ◌≢◌, ◌⊎◌, ℕ, Bool, true, false, List, map, drop, string_bytes}
+use Rattle.std.specs.Prelude.{ℕ, List, map, drop, string_bytes}
 use Rattle.std.specs.Vec.Iter.{into_iter_items}
 use Rattle.std.specs.declared.io.ErrorKind.{ErrorKind}
 use Rattle.std.specs.declared.io.ErrorKind.TheVariants.{OutOfMemory}
@@ -16,8 +16,3 @@ words_given args = map string_bytes (drop 1 (into_iter_items args))
 abbrev pub unread_status : ErrorKind → Status
 unread_status OutOfMemory = Memory
 unread_status _ = Usage
-
--- Usage comes exactly where the words are no command's, but for want of memory
-abbrev pub UsageIsRight : Status → Bool → Type 0
-UsageIsRight status true = status ≢ Usage
-UsageIsRight status false = (status ≡ Usage) ⊎ (status ≡ Memory)

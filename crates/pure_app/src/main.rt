@@ -1,13 +1,15 @@
 //! The program: the theories of the current directory are checked, and the table goes to standard output.
 #![tactic(auto)]
 
-ghost use Rattle.std.specs.Prelude.{◌≡◌, ◌≢◌, ◌≤◌, true, false, IfOk, IfErr, option_copied};
+ghost use Rattle.std.specs.Prelude.{◌≡◌, ◌≢◌, ◌≤◌, IfOk, IfErr, option_copied};
 ghost use Rattle.std.specs.IoError.{error_kind};
 ghost use Rattle.std.specs.Process.{exit_status};
 ghost use Rattle.pure_io.specs.Outside.{Rose};
-ghost use Rattle.pure_check.specs.Answer.{takes_words, IsTableOf, Wrote, IsComplete, OnSilent, exit_number};
+ghost use Rattle.pure_check.specs.Asked.{IsCheck};
+ghost use Rattle.pure_check.specs.Answer.{Wrote, IsUntaken, IsComplete, OnSilent, exit_number};
+ghost use Rattle.pure_check.specs.Meaning.{IsMeant};
 ghost use Rattle.pure_app.specs.Message.{message_text};
-ghost use Rattle.pure_app.specs.Words.{words_given, unread_status, UsageIsRight};
+ghost use Rattle.pure_app.specs.Words.{words_given, unread_status};
 
 use pure_check::{Status, pure};
 use pure_io::{DirLibrary, Library, OpenGate, Sink, StdSink};
@@ -54,13 +56,14 @@ fn run<R: Files + Print + AllocGlobal + Threads + Wait + Sync, L: Library, S: Si
     out: &mut S,
 ) -> Status
     ensures unread { IfErr args (λ error. result ≡ unread_status (error_kind error)) }
-    ensures usage { IfOk args (λ given. UsageIsRight result (takes_words (words_given given))) }
+    ensures usage { IfOk args (λ given. IsCheck (words_given given) → result ≢ Status.Usage) }
+    ensures untaken { IfOk args (λ given. ¬ IsCheck (words_given given) → IsUntaken result) }
     ensures unlooked { result ≡ Status.Usage → library.new ≡ library.old }
     ensures unwritten { OnSilent result (out.new ≡ out.old) }
-    ensures wrote { Wrote result (IsTableOf (L.files library.old)) (S.written out.old) (S.written out.new) }
+    ensures wrote { IfOk args (λ given. Wrote result (IsMeant (L.files library.old) (words_given given)) (S.written out.old) (S.written out.new)) }
     ensures read_fault { result ≡ Status.ReadFault → Rose (L.faults library.old) (L.faults library.new) }
     ensures write_fault { result ≡ Status.WriteFault → Rose (S.faults out.old) (S.faults out.new) }
-    ensures complete { IfOk args (λ given. takes_words (words_given given) ≡ true
+    ensures complete { IfOk args (λ given. IsCheck (words_given given)
         → ¬ Rose (L.faults library.old) (L.faults library.new) → ¬ Rose (S.faults out.old) (S.faults out.new)
         → IsComplete result) }
 {

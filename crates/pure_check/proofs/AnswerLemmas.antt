@@ -1,86 +1,120 @@
--- From what was read to what the files mean, and what was written of it.
-use Rattle.std.proofs.Common.{◌≡◌, inl, inr, ℕ, ◌≤◌, Bool, List, [], ◌∷◌, take, length, refl, sym, ◌∙◌, ap, subst, arith, Option, Some, None}
+-- From the table of a session to what the files and the words mean, and what was written of it.
+use Rattle.std.proofs.Common.{◌≡◌, ◌≤◌, inl, inr, ℕ, Bool, false, List, [], ◌∷◌, map, refl, sym, ◌∙◌, ap, subst, arith, Option, Some, None}
 use Rattle.std.specs.Option.{IfSome}
-use Rattle.std.specs.List.{list_all}
-use Rattle.std.proofs.lemmas.List.{take_all, length-take}
-use Rattle.pure_first.specs.Theory.{IsFirstForm}
-use Rattle.pure_io.specs.declared.library.File.{File}
+use Rattle.std.specs.List.{list_all, filter_map}
+use Rattle.pure_text.specs.Lists.{IsIn, Each, EachTwo}
+use Rattle.pure_io.specs.declared.library.File as library
 use Rattle.pure_io.specs.Outside.{Appends, AppendsProperPrefix}
+use Rattle.pure_graph.specs.Session.{Session, Refusal, Shown, shown, IsSessionOf}
+use Rattle.pure_graph.specs.SessionNames.{AreNames}
+use Rattle.pure_graph.specs.Order.{Loaded}
+use Rattle.pure_session.specs.ToldTheories.{AreTheoriesOf}
+use Rattle.pure_typ.specs.NameTexts.{AreSessionTexts}
+use Rattle.pure_declare.specs.Notes.{Fork}
+use Rattle.pure_method.specs.Proof.{ProofOutcome}
+use Rattle.pure_promise.specs.Entries.{Entry}
+use Rattle.pure_verdicts.specs.Loaded.{IsLoadedSession}
+use Rattle.pure_verdicts.specs.Statements.{forks_of}
+use Rattle.pure_table.specs.Table.{Table, IsOwn, IsEntryOf, IsTable, table_rows, session_text}
 use Rattle.pure_check.specs.declared.status.Status.{Status}
 use Rattle.pure_check.specs.declared.status.Status.TheVariants.{Clean, Rows, Usage, ReadFault, WriteFault, Memory}
-use Rattle.pure_check.specs.Row.{Row, is_proved, table_text}
-use Rattle.pure_check.specs.Table.{FileRows, RowsOf, source_told}
-use Rattle.pure_check.specs.Loaded.{IsRead, IsSource, IsLoaded, AreSomeTheories, IsReadTable}
-use Rattle.pure_check.proofs.DerivedLemmas.{table_derived}
-use Rattle.pure_check.specs.Answer.{IsTableOf, Printed, CutShort, Wrote}
+use Rattle.pure_check.specs.Asked.{Asked, AreTaken}
+use Rattle.pure_check.specs.Policy.{Lot, is_gone, lot_of}
+use Rattle.pure_check.specs.Meaning.{IsToldSession, cancelled_of, label_if_gone, gone_label, IsMeant, is_good}
+use Rattle.pure_check.specs.Formed.{IsFormed, IsTableOf}
+use Rattle.pure_check.specs.Answer.{Printed, CutShort, Wrote}
+use Rattle.pure_loaded.proofs.OrderLaws.{loaded-in-order}
+use Rattle.pure_loaded.proofs.WellLaws.{loaded-well}
+use Rattle.pure_table.proofs.DerivedLaws.{table_is_derived}
+use Rattle.pure_check.proofs.PolicyLaws.{nothing_heeded}
+use Rattle.pure_check.proofs.WordsLaws.{job_has_worker}
 
-pub printed_by : (loaded : List (List ℕ)) (source : Option (List ℕ)) (rows : List Row) (n : ℕ) (bytes : List ℕ) (clean : Bool) (old new : Option (List ℕ))
-    → RowsOf source loaded rows → n ≡ length loaded → bytes ≡ table_text n rows → list_all is_proved rows ≡ clean → Appends old new bytes
-    → Printed (IsReadTable loaded source) clean old new
-printed_by loaded source rows n bytes clean old new are count text clean_is appended = record {
-  theories = loaded;
-  rows = rows;
-  table = (refl, are);
-  clean_is = clean_is;
-  derived = table_derived source loaded rows are;
-  written = subst (Appends old new) (text ∙ ap (λ k. table_text k rows) count) appended;
-}
-
-pub cut_short_by : (loaded : List (List ℕ)) (source : Option (List ℕ)) (rows : List Row) (n : ℕ) (bytes : List ℕ) (old new : Option (List ℕ))
-    → RowsOf source loaded rows → n ≡ length loaded → bytes ≡ table_text n rows → AppendsProperPrefix old new bytes
-    → CutShort (IsReadTable loaded source) old new
-cut_short_by loaded source rows n bytes old new are count text appended = record {
-  theories = loaded;
-  rows = rows;
-  table = (refl, are);
-  derived = table_derived source loaded rows are;
-  written = subst (AppendsProperPrefix old new) (text ∙ ap (λ k. table_text k rows) count) appended;
+pub printed_by : (S : Session) (text bytes : List ℕ) (clean told : Bool) (old new : Option (List ℕ)) → IsFormed S text clean → clean ≡ told → bytes ≡ text → Appends old new bytes → Printed (IsTableOf S) told old new
+printed_by S text bytes clean told old new formed is same appended = record {
+  session = S;
+  table = formed.table;
+  meaning = (refl, formed.is_table);
+  clean_is = formed.clean_is ∙ is;
+  written = subst (Appends old new) (same ∙ formed.text_is) appended;
 }
 
-pub Wrote-weaker : (status : Status) (P Q : List (List ℕ) → List Row → Type 0) (old new : Option (List ℕ)) → ((theories : List (List ℕ)) (rows : List Row) → P theories rows → Q theories rows)
-    → Wrote status P old new → Wrote status Q old new
-Wrote-weaker Clean P Q old new weaker w = record {
-  theories = w.theories;
-  rows = w.rows;
-  table = weaker w.theories w.rows w.table;
-  clean_is = w.clean_is;
-  derived = w.derived;
-  written = w.written;
+pub cut_short_by : (S : Session) (text bytes : List ℕ) (clean : Bool) (old new : Option (List ℕ)) → IsFormed S text clean → bytes ≡ text → AppendsProperPrefix old new bytes → CutShort (IsTableOf S) old new
+cut_short_by S text bytes clean old new formed same appended = record {
+  session = S;
+  table = formed.table;
+  meaning = (refl, formed.is_table);
+  written = subst (AppendsProperPrefix old new) (same ∙ formed.text_is) appended;
 }
-Wrote-weaker Rows P Q old new weaker w = record {
-  theories = w.theories;
-  rows = w.rows;
-  table = weaker w.theories w.rows w.table;
-  clean_is = w.clean_is;
-  derived = w.derived;
-  written = w.written;
-}
-Wrote-weaker WriteFault P Q old new weaker w = record { theories = w.theories; rows = w.rows; table = weaker w.theories w.rows w.table; derived = w.derived; written = w.written }
+
+pub Wrote-weaker : (status : Status) (P Q : Session → Table → Type 0) (old new : Option (List ℕ)) → ((S : Session) (t : Table) → P S t → Q S t) → Wrote status P old new → Wrote status Q old new
+Wrote-weaker Clean P Q old new weaker w = record { session = w.session; table = w.table; meaning = weaker w.session w.table w.meaning; clean_is = w.clean_is; written = w.written }
+Wrote-weaker Rows P Q old new weaker w = record { session = w.session; table = w.table; meaning = weaker w.session w.table w.meaning; clean_is = w.clean_is; written = w.written }
+Wrote-weaker WriteFault P Q old new weaker w = record { session = w.session; table = w.table; meaning = weaker w.session w.table w.meaning; written = w.written }
 Wrote-weaker Usage P Q old new weaker w = w
 Wrote-weaker ReadFault P Q old new weaker w = w
 Wrote-weaker Memory P Q old new weaker w = w
 
--- a file that is short enough was read whole
-whole : (bytes text : List ℕ) → text ≡ take 262145 bytes → length bytes ≤ 262144 → text ≡ bytes
-whole bytes text is short = is ∙ take_all 262145 bytes (omega arith)
+-- Where no label is cancelled, each lemma has what its proof comes to.
+kept_own : (texts : List (List ℕ)) (f : Fork) (e : Entry) → IsEntryOf texts [] f e → ((lot_of e).gone ≡ false) × (gone_label e ≡ None)
+kept_own texts f e is = of e.own is.own
+  where
+    of : (own : Option ProofOutcome) → IsOwn texts [] f own → (is_gone own ≡ false) × (label_if_gone e.label own ≡ None)
+    of None within = absurd within
+    of (Some outcome) is = (refl, refl)
 
-short_enough : (bytes text : List ℕ) → text ≡ take 262145 bytes → length text ≤ 262144 → length bytes ≤ 262144
-short_enough bytes text is short = omega (arith, ap length is, length-take 262145 bytes)
+all_kept : (texts : List (List ℕ)) (fs : List Fork) (es : List Entry) → EachTwo (IsEntryOf texts []) fs es → Each (λ (l : Lot). l.gone ≡ false) (map lot_of es) × (filter_map gone_label es ≡ [])
+all_kept texts [] [] are = (_, refl)
+all_kept texts [] (e ∷ es) are = absurd are
+all_kept texts (f ∷ fs) [] are = absurd are
+all_kept texts (f ∷ fs) (e ∷ es) (is, are) =
+    let own = kept_own texts f e is in
+    let rest = all_kept texts fs es are in
+    ((own.0, rest.0), rw own.1 rest.1)
 
-rows_of_file : (theory : List ℕ) (told source : Option (List ℕ)) (rows : List Row) → IsRead told source → FileRows theory source rows → FileRows theory told rows
-rows_of_file theory told None rows missing are = rw missing are
-rows_of_file theory told (Some text) rows (bytes, told_is, text_is) (inl (ls, form, is)) =
-    rw told_is (inl (ls, subst (λ b. IsFirstForm theory b ls) (whole bytes text text_is (short_enough bytes text text_is form.short)) form, is))
-rows_of_file theory told (Some text) rows (bytes, told_is, text_is) (inr (none, is)) =
-    rw told_is (inr ((λ ls form. none ls (subst (λ b. IsFirstForm theory b ls) (sym (whole bytes text text_is form.short)) form)), is))
+-- A table of whose lemmas none is cancelled is what the words and the files mean.
+meant_by : (told : Option (List library.File)) (words : List (List ℕ)) (asked : Asked) → AreTaken words asked → (S : Session) → IsToldSession told S → IsLoadedSession S.names S.theories
+    → (t : Table) → IsTable S [] t → IsMeant told words S t
+meant_by told words asked taken S session loaded t is =
+    let kept = all_kept S.names (forks_of t.notes) t.entries is.entries in
+    record {
+      asked = asked;
+      taken = taken;
+      session = session;
+      table = subst (λ K. IsTable S K t) (sym kept.1) is;
+      heeded = nothing_heeded S.theories asked (map lot_of t.entries) taken.slow taken.kept (job_has_worker words asked.workers asked.fail_fast asked.cancels taken.job) kept.0;
+      derived = table_is_derived S loaded [] t is;
+    }
 
-rows_of_files : (files : List File) (theories : List (List ℕ)) (source : Option (List ℕ)) (rows : List Row) → IsSource files theories source → RowsOf source theories rows → RowsOf (source_told files theories) theories rows
-rows_of_files files [] source rows read are = are
-rows_of_files files (t ∷ []) source rows read are = rows_of_file t _ source rows read are
-rows_of_files files (t ∷ u ∷ ts) source rows read are = are
+pub meant : (told : Option (List library.File)) (words : List (List ℕ)) (asked : Asked) → AreTaken words asked → (S : Session) → IsToldSession told S → IsLoadedSession S.names S.theories
+    → (R : Session) (t : Table) → IsTableOf S R t → IsMeant told words R t
+meant told words asked taken S session loaded R t (same, is) =
+    subst (λ Q. IsMeant told words Q t) (sym same) (meant_by told words asked taken S session loaded t (subst (λ Q. IsTable Q [] t) same is))
 
-pub table_of : (files : Option (List File)) (loaded : List (List ℕ)) (source : Option (List ℕ)) → AreSomeTheories loaded → IfSome files (λ fs. IsLoaded fs loaded source)
-    → (theories : List (List ℕ)) (rows : List Row) → IsReadTable loaded source theories rows → IsTableOf files theories rows
-table_of None loaded source listed is theories rows read = rw read.0 (record { names = listed.0; source = source; named = listed.1; listed = read.1 })
-table_of (Some files) loaded source listed is theories rows read =
-    rw read.0 (record { named = is.named; listed = rows_of_files files loaded source rows is.read read.1 })
+-- what was loaded of a library, as a session
+abbrev pub session_of : {told : Option (List library.File)} {theories : List Loaded} {refused : List Shown} {files : ℕ} → (texts : List (List ℕ)) → AreTheoriesOf told theories refused files → Session
+session_of {told} {theories} {refused} {files} texts of = record { names = texts; theories = theories; refused = of.refusals; files = files }
+
+pub told_session : (told : Option (List library.File)) (theories : List Loaded) (refused : List Shown) (files : ℕ) (texts : List (List ℕ)) (of : AreTheoriesOf told theories refused files) → AreNames theories texts
+    → IsToldSession told (session_of texts of)
+told_session told theories refused files texts of named = record {
+  names = of.names;
+  theories = of.listed_theories;
+  tells = of.tells;
+  listed = of.listed;
+  answers = of.answers;
+  of_theories = of.of_theories;
+  tells_answers = of.tells_answers;
+  session = record { loading = of.loading; named = named };
+}
+
+-- What was loaded of a library is what those who check it ask.
+pub loaded_session : (told : Option (List library.File)) (theories : List Loaded) (refused : List Shown) (files : ℕ) (texts : List (List ℕ)) → AreTheoriesOf told theories refused files → AreNames theories texts → AreSessionTexts texts
+    → IsLoadedSession texts theories
+loaded_session told theories refused files texts of named session =
+    let order = loaded-in-order of.answers theories of.refusals files of.loading in
+    record {
+      names = session;
+      well = loaded-well of.answers theories of.refusals files of.loading texts named;
+      distinct = order.names;
+      parents = λ place theory is. (order.parents place theory is).earlier;
+    }

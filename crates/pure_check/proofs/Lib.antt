@@ -1,5 +1,4 @@
 pub mod AnswerLemmas
-pub mod DerivedLemmas
-pub mod LawsLemmas
-pub mod RowLemmas
-pub mod TheoriesLemmas
+pub mod FormedLemmas
+pub mod PolicyLaws
+pub mod WordsLaws

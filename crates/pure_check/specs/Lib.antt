@@ -1,7 +1,6 @@
-pub mod Row
-pub mod Table
 pub mod Answer
-pub mod Seen
-pub mod Loaded
+pub mod Asked
+pub mod Formed
 pub mod Laws
-pub mod Derived
+pub mod Meaning
+pub mod Policy

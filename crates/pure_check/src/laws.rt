@@ -1,7 +1,17 @@
-//! What holds of the definitions, each law as the contract of a function that does nothing.
-ghost use Rattle.pure_check.specs.Laws.{TableIsOne};
+//! Laws of the definitions. Each function has no body: its contract is the law.
+ghost use Rattle.pure_check.specs.Laws.{NothingIsHeeded, NothingIsCancelled, CheckHasWorker};
 
-/// The files have one list of theories and one list of rows.
-pub fn table_is_one()
-    ensures { TableIsOne }
+/// Where no cancellation is asked for and no lemma is cancelled, that is as was asked.
+pub fn nothing_is_heeded()
+    ensures { NothingIsHeeded }
+{}
+
+/// Where no cancellation is asked for, no lemma is cancelled.
+pub fn nothing_is_cancelled()
+    ensures { NothingIsCancelled }
+{}
+
+/// A check has one worker at least.
+pub fn check_has_worker()
+    ensures { CheckHasWorker }
 {}

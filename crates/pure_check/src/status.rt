@@ -8,7 +8,7 @@ pub enum Status {
     Clean,
     /// The whole table was written, and some row is neither.
     Rows,
-    /// The words aren't those of a command; nothing was written.
+    /// The words ask for no check that is taken; nothing was written.
     Usage,
     /// Reading the library failed; nothing was written.
     ReadFault,

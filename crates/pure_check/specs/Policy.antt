@@ -1,0 +1,80 @@
+-- Which lemmas may be cancelled: a condition on the words, the theories and the table, without any history.
+use Rattle.std.specs.Prelude.{◌≡◌, ℕ, ◌<◌, ◌≤◌, suc, zero, Bool, true, false, IsTrue, not, ◌&&◌, ◌||◌, List, [], ◌∷◌, ◌++◌, map, codes, Option, Some, None, Ok, Err, nat_le, nat_eq, slice_get}
+use Rattle.std.specs.List.{list_any, count_by}
+use Rattle.pure_text.specs.Lists.{Each}
+use Rattle.pure_grammar.specs.Theories.Lexeme.{same}
+use Rattle.pure_graph.specs.Order.{Loaded}
+use Rattle.pure_words.specs.declared.job.CancelWord.{CancelWord}
+use Rattle.pure_method.specs.Proof.{ProofOutcome}
+use Rattle.pure_promise.specs.Entries.{Entry}
+use Rattle.pure_check.specs.Asked.{Asked}
+
+-- a lemma as a policy sees it: the index of its theory, whether it is cancelled, and whether its proof is at fault
+pub record Lot : Type 0 where
+  pub theory : ℕ
+  pub gone : Bool
+  pub fault : Bool
+
+abbrev pub is_gone : Option ProofOutcome → Bool
+is_gone None = true
+is_gone (Some outcome) = false
+
+abbrev pub is_fault : Option ProofOutcome → Bool
+is_fault None = false
+is_fault (Some (Ok labels)) = false
+is_fault (Some (Err fault)) = true
+
+abbrev pub lot_of : Entry → Lot
+lot_of e = record { theory = e.label.theory; gone = is_gone e.own; fault = is_fault e.own }
+
+unfoldable pub session_word : List ℕ
+session_word = codes "session"
+
+-- whether there is a theory, with this name
+abbrev pub is_named : Option Loaded → (name : List ℕ) → Bool
+is_named None name = false
+is_named (Some theory) name = same name theory.name
+
+-- whether the theory with this index, counted from 1, has the name
+abbrev pub is_theory : (theories : List Loaded) → (name : List ℕ) → (index : ℕ) → Bool
+is_theory theories name zero = false
+is_theory theories name (suc place) = is_named (slice_get theories place) name
+
+-- whether the lemma is of the group: each is of the session, which is meant by its word even where a theory has that name
+abbrev pub is_of : (theories : List Loaded) → (group : List ℕ) → Lot → Bool
+is_of theories group l = same group session_word || is_theory theories group l.theory
+
+-- how many are kept, and how many of a group are
+abbrev pub is_kept : Lot → Bool
+is_kept l = not l.gone
+
+abbrev pub kept : List Lot → ℕ
+kept ls = count_by is_kept ls
+
+abbrev pub kept_of : (theories : List Loaded) → (group : List ℕ) → List Lot → ℕ
+kept_of theories group ls = count_by (λ l. is_kept l && is_of theories group l) ls
+
+-- how many kept ones are at fault
+abbrev pub faults : List Lot → ℕ
+faults ls = count_by (λ (l : Lot). is_kept l && l.fault) ls
+
+-- whether the cancellation has come for the lemma, by the kept ones among these
+abbrev pub has_come : (theories : List Loaded) → List Lot → Lot → CancelWord → Bool
+has_come theories ls l c = is_of theories c.group l && nat_le c.after (kept ls)
+
+-- whether the lemma may be cancelled where these became so: a kept one is at fault and the first fault cancels all, or a cancellation of its group has come
+abbrev pub is_licensed : (theories : List Loaded) → Asked → List Lot → Lot → Bool
+is_licensed theories asked ls l = (asked.fail_fast && nat_le 1 (faults ls)) || list_any (has_come theories ls l) asked.cancels
+
+-- how many lemmas of the theory are cancelled
+abbrev pub gone_in : (theory : ℕ) → List Lot → ℕ
+gone_in theory ls = count_by (λ (l : Lot). l.gone && nat_eq l.theory theory) ls
+
+-- The lemmas, in order of their labels, are cancelled as was asked: each that is cancelled might be; where the first fault cancels all, one kept lemma at most is at fault; of a group that is cancelled after some number no more are kept;
+-- in each theory fewer cancelled lemmas than there are workers stand before a kept one; and with one worker a lemma is cancelled exactly where it might be by those before it.
+pub record IsHeeded (theories : List Loaded) (asked : Asked) (ls : List Lot) : Type 0 where
+  pub licensed : Each (λ l. IsTrue l.gone → IsTrue (is_licensed theories asked ls l)) ls
+  pub one_fault : IsTrue asked.fail_fast → faults ls ≤ 1
+  pub obeyed : Each (λ (c : CancelWord). kept_of theories c.group ls ≤ c.after) asked.cancels
+  pub in_order : (before after : List Lot) (l : Lot) → ls ≡ before ++ l ∷ after → l.gone ≡ false → gone_in l.theory before < asked.workers
+  pub one_worker : asked.workers ≡ 1 → (before after : List Lot) (l : Lot) → ls ≡ before ++ l ∷ after → l.gone ≡ is_licensed theories asked before l

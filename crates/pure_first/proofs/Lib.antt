@@ -1,3 +1,0 @@
-pub mod StatementLemmas
-pub mod TheoryLemmas
-pub mod TokenLemmas

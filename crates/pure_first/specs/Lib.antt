@@ -1,6 +1,0 @@
-pub mod Limits
-pub mod Token
-pub mod Theory
-pub mod Reading
-pub mod Seen
-pub mod Laws
