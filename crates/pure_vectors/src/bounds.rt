@@ -1,8 +1,13 @@
 //! Proofs that pass a limit. Expected rows come from the rules, by hand.
 use crate::cases::{Case, run_cases};
-use crate::world::run_file;
-use std::alloc::{AllocError, Global};
+use crate::texts::text_of;
+use crate::world::{expect_end, run_file};
+use pure_check::Status;
+use std::process::Abort;
+use std::rt::Files;
+use std::sync::Wait;
 use std::test::Fail;
+use std::thread::Threads;
 
 /// Steps that pass a limit.
 const BOUNDS: [Case; 2] = [
@@ -62,112 +67,72 @@ failed A.l3: step 1: search bound",
     },
 ];
 
-/// A piece so many times.
-fn push_times(text: &mut Vec<u8>, piece: &[u8], times: u32) -> Result<(), AllocError> {
-    for _ in 0..times {
-        text.extend_from_slice(piece)?;
+/// A theory that is written short, one of whose lemmas fails, and how the table ends.
+struct Large {
+    text: &'static [u8],
+    end: &'static [u8],
+}
+
+/// A lemma whose statement has a constant of a tower of twice so many arrows, so that its long form has some four times their square. Each arrow of a tower takes what comes of the one before.
+const TOWERS: [Large; 2] = [
+    Large {
+        text: b"theory A begin\ntypedecl i\nconsts k :: \"@190@(@'a@190@ => i)@\" m :: \"@190@(@i@190@ => i)@\" j :: \"'a => @190@(@'a@190@ => i)@ => prop\"\nlemma n: \"A ==> A\" by assumption\nlemma l: \"j m k\" done\nend",
+        end: b"proved A.n: ?A ==> ?A\nfailed A.l: step 1: subgoals left\ntotal: 1 theories, 4 declared, 0 refused, 1 proved, 1 failed, 0 tainted, 0 cancelled, 0 unsettled\n",
+    },
+    Large {
+        text: b"theory A begin\ntypedecl i\nconsts k :: \"@210@(@'a@210@ => i)@\" m :: \"@210@(@i@210@ => i)@\" j :: \"'a => @210@(@'a@210@ => i)@ => prop\"\nlemma n: \"A ==> A\" by assumption\nlemma l: \"j m k\" done\nend",
+        end: b"proved A.n: ?A ==> ?A\nfailed A.l: step 0: too large\ntotal: 1 theories, 4 declared, 0 refused, 1 proved, 1 failed, 0 tainted, 0 cancelled, 0 unsettled\n",
+    },
+];
+
+/// A constant that is unfolded so many times and once more, each time to a proposition of 2,990 nodes, and a function that is unfolded so many times, each time to 300 applications, one in another.
+const UNFOLDINGS: [Large; 4] = [
+    Large {
+        text: b"theory A begin\nconsts Q :: prop\ndefinition d :: prop where \"d == (@298@Q ==> @!!x. x)\"\nlemma n: \"A ==> A\" by assumption\nlemma l: \"@65@d ==> @d\" apply (unfold d_def) done\nend",
+        end: b"proved A.n: ?A ==> ?A\nfailed A.l: step 2: subgoals left\ntotal: 1 theories, 2 declared, 0 refused, 1 proved, 1 failed, 0 tainted, 0 cancelled, 0 unsettled\n",
+    },
+    Large {
+        text: b"theory A begin\nconsts Q :: prop\ndefinition d :: prop where \"d == (@298@Q ==> @!!x. x)\"\nlemma n: \"A ==> A\" by assumption\nlemma l: \"@66@d ==> @d\" apply (unfold d_def) done\nend",
+        end: b"proved A.n: ?A ==> ?A\nfailed A.l: step 1: too large\ntotal: 1 theories, 2 declared, 0 refused, 1 proved, 1 failed, 0 tainted, 0 cancelled, 0 unsettled\n",
+    },
+    Large {
+        text: b"theory A begin\ntypedecl i\nconsts P :: \"i => prop\" f :: \"i => i\"\ndefinition h :: \"i => i\" where \"h == %x. @300@f (@x@300@)@\"\nlemma n: \"A ==> A\" by assumption\nlemma l: \"P (@5@h (@x@5@)@)\" apply (unfold h_def) done\nend",
+        end: b"proved A.n: ?A ==> ?A\nfailed A.l: step 2: subgoals left\ntotal: 1 theories, 4 declared, 0 refused, 1 proved, 1 failed, 0 tainted, 0 cancelled, 0 unsettled\n",
+    },
+    Large {
+        text: b"theory A begin\ntypedecl i\nconsts P :: \"i => prop\" f :: \"i => i\"\ndefinition h :: \"i => i\" where \"h == %x. @300@f (@x@300@)@\"\nlemma n: \"A ==> A\" by assumption\nlemma l: \"P (@7@h (@x@7@)@)\" apply (unfold h_def) done\nend",
+        end: b"proved A.n: ?A ==> ?A\nfailed A.l: step 1: too large\ntotal: 1 theories, 4 declared, 0 refused, 1 proved, 1 failed, 0 tainted, 0 cancelled, 0 unsettled\n",
+    },
+];
+
+fn check_large<R: Abort + Files + Print + AllocGlobal + Threads + Wait + Sync>(
+    rt: &R,
+    large: &Large,
+) -> Result<(), Fail> {
+    let text = text_of(rt.alloc(), large.text)?;
+    let answer = run_file(rt, rt.alloc(), b"A.thy", &text)?;
+    expect_end(rt, &answer, Status::Rows, large.end);
+    Ok(())
+}
+
+fn check_all<R: Abort + Files + Print + AllocGlobal + Threads + Wait + Sync>(
+    rt: &R,
+    cases: &[Large],
+) -> Result<(), Fail> {
+    for large in cases {
+        check_large(rt, large)?;
     }
     Ok(())
 }
-
-/// The type of arrows, each of which takes what comes of the one before; the first takes this.
-fn push_tower(text: &mut Vec<u8>, first: &[u8], arrows: u32) -> Result<(), AllocError> {
-    push_times(text, b"(", arrows)?;
-    text.extend_from_slice(first)?;
-    push_times(text, b" => i)", arrows)?;
-    Ok(())
-}
-
-/// A theory whose last lemma's statement has a constant of a tower of twice so many arrows, so that its long form has some four times their square.
-fn towers(alloc: Global, arrows: u32) -> Result<Vec<u8>, AllocError> {
-    let mut text = Vec::from_slice(alloc, b"theory A begin\ntypedecl i\nconsts k :: \"")?;
-    push_tower(&mut text, b"'a", arrows)?;
-    text.extend_from_slice(b"\" m :: \"")?;
-    push_tower(&mut text, b"i", arrows)?;
-    text.extend_from_slice(b"\" j :: \"'a => ")?;
-    push_tower(&mut text, b"'a", arrows)?;
-    text.extend_from_slice(
-        b" => prop\"\nlemma n: \"A ==> A\" by assumption\nlemma l: \"j m k\" done\nend",
-    )?;
-    Ok(text)
-}
-
-/// What is printed last of two such theories.
-const OF_TOWERS: [(u32, &[u8]); 2] = [
-    (
-        190,
-        b"proved A.n: ?A ==> ?A\nfailed A.l: step 1: subgoals left\ntotal: 1 theories, 4 declared, 0 refused, 1 proved, 1 failed, 0 tainted, 0 cancelled, 0 unsettled\n",
-    ),
-    (
-        210,
-        b"proved A.n: ?A ==> ?A\nfailed A.l: step 0: too large\ntotal: 1 theories, 4 declared, 0 refused, 1 proved, 1 failed, 0 tainted, 0 cancelled, 0 unsettled\n",
-    ),
-];
 
 #[test]
 fn begins_no_goal_that_is_too_large(rt: HostRuntime) -> Result<(), Fail> {
-    let alloc = rt.alloc();
-    for (arrows, end) in OF_TOWERS {
-        let answer = run_file(&rt, alloc, b"A.thy", &towers(alloc, arrows)?)?;
-        assert!(rt; answer.bytes.ends_with(end), "{arrows} arrows");
-    }
-    Ok(())
-}
-
-/// The row where the unfolding was made, and the one where it wasn't.
-const LEFT: &[u8] = b"failed A.l: step 2: subgoals left";
-
-const LARGE: &[u8] = b"failed A.l: step 1: too large";
-
-/// A theory in which a constant is unfolded so many times and once more, each time to a proposition of 2,990 nodes.
-fn unfoldings(alloc: Global, premises: u32) -> Result<Vec<u8>, AllocError> {
-    let mut text = Vec::from_slice(
-        alloc,
-        b"theory A begin\nconsts Q :: prop\ndefinition d :: prop where \"d == (",
-    )?;
-    push_times(&mut text, b"Q ==> ", 298)?;
-    text.extend_from_slice(b"!!x. x)\"\nlemma n: \"A ==> A\" by assumption\nlemma l: \"")?;
-    push_times(&mut text, b"d ==> ", premises)?;
-    text.extend_from_slice(b"d\" apply (unfold d_def) done\nend")?;
-    Ok(text)
-}
-
-/// A theory in which a function is unfolded so many times, each time to 300 applications, one in another.
-fn nested(alloc: Global, times: u32) -> Result<Vec<u8>, AllocError> {
-    let mut text = Vec::from_slice(
-        alloc,
-        b"theory A begin\ntypedecl i\nconsts P :: \"i => prop\" f :: \"i => i\"\ndefinition h :: \"i => i\" where \"h == %x. ",
-    )?;
-    push_times(&mut text, b"f (", 300)?;
-    text.extend_from_slice(b"x")?;
-    push_times(&mut text, b")", 300)?;
-    text.extend_from_slice(b"\"\nlemma n: \"A ==> A\" by assumption\nlemma l: \"P (")?;
-    push_times(&mut text, b"h (", times)?;
-    text.extend_from_slice(b"x")?;
-    push_times(&mut text, b")", times)?;
-    text.extend_from_slice(b")\" apply (unfold h_def) done\nend")?;
-    Ok(text)
+    check_all(&rt, &TOWERS)
 }
 
 #[test]
 fn unfolds_up_to_the_limits(rt: HostRuntime) -> Result<(), Fail> {
-    let alloc = rt.alloc();
-    let cases: [(Vec<u8>, &[u8]); 4] = [
-        (unfoldings(alloc, 65)?, LEFT),
-        (unfoldings(alloc, 66)?, LARGE),
-        (nested(alloc, 5)?, LEFT),
-        (nested(alloc, 7)?, LARGE),
-    ];
-    for (text, middle) in cases {
-        let answer = run_file(&rt, alloc, b"A.thy", &text)?;
-        let rows = answer.bytes.split(|byte| *byte == b'\n');
-        assert!(rt;
-            rows.filter(|row| *row == middle).count() == 1,
-            "{:?}",
-            answer.bytes
-        );
-    }
-    Ok(())
+    check_all(&rt, &UNFOLDINGS)
 }
 
 #[test]

@@ -1,5 +1,6 @@
 //! Theories written one behind another, and the rows that are printed of them.
-use crate::world::{Answer, World, add_file, empty_world, run};
+use crate::texts::push_number;
+use crate::world::{Answer, World, add_file, empty_world, expect, run};
 use pure_check::Status;
 use std::alloc::{AllocError, Global};
 use std::process::Abort;
@@ -20,25 +21,13 @@ const HEAD: &[u8] = b"theory ";
 
 /// The first words of rows, in the order of the last line.
 const STATUSES: [&[u8]; 7] = [
-    b"declared ",
-    b"refused ",
-    b"proved ",
-    b"failed ",
-    b"tainted ",
-    b"cancelled ",
-    b"unsettled ",
-];
-
-/// What the last line says behind each of its numbers.
-const COUNTED: [&[u8]; 8] = [
-    b" theories, ",
-    b" declared, ",
-    b" refused, ",
-    b" proved, ",
-    b" failed, ",
-    b" tainted, ",
-    b" cancelled, ",
-    b" unsettled\n",
+    b"declared",
+    b"refused",
+    b"proved",
+    b"failed",
+    b"tainted",
+    b"cancelled",
+    b"unsettled",
 ];
 
 /// Whether the byte may stand in an identifier.
@@ -63,20 +52,29 @@ fn add_theory(alloc: Global, world: &mut World, text: &[u8]) -> Result<(), Alloc
     add_file(alloc, world, &name, text)
 }
 
-/// The files of theories.
-pub(crate) fn folder_of(alloc: Global, theories: &[u8]) -> Result<World, AllocError> {
-    let mut world = empty_world(alloc);
+/// Goes on by a line: where it begins a theory, the text of the theory before is added.
+fn push_line(
+    alloc: Global,
+    world: &mut World,
+    text: &mut Vec<u8>,
+    line: &[u8],
+) -> Result<(), AllocError> {
+    if line.starts_with(HEAD) {
+        add_theory(alloc, world, text)?;
+        text.clear();
+    }
+    text.extend_from_slice(line)?;
+    text.push(b'\n')?;
+    Ok(())
+}
+
+/// Adds the files of theories.
+fn add_theories(alloc: Global, world: &mut World, theories: &[u8]) -> Result<(), AllocError> {
     let mut text = Vec::new(alloc);
     for line in theories.split(|byte| *byte == b'\n') {
-        if line.starts_with(HEAD) {
-            add_theory(alloc, &mut world, &text)?;
-            text.clear();
-        }
-        text.extend_from_slice(line)?;
-        text.push(b'\n')?;
+        push_line(alloc, world, &mut text, line)?;
     }
-    add_theory(alloc, &mut world, &text)?;
-    Ok(world)
+    add_theory(alloc, world, &text)
 }
 
 /// How many of the rows begin so.
@@ -90,24 +88,45 @@ fn count(rows: &[u8], status: &[u8]) -> usize {
     found
 }
 
+/// Adds how many of the rows begin so.
+fn push_total(
+    alloc: Global,
+    text: &mut Vec<u8>,
+    rows: &[u8],
+    status: &[u8],
+) -> Result<(), AllocError> {
+    text.extend_from_slice(b", ")?;
+    push_number(alloc, text, count(rows, status))?;
+    text.extend_from_slice(b" ")?;
+    text.extend_from_slice(status)
+}
+
+/// Adds the numbers of the last line.
+fn push_totals(
+    alloc: Global,
+    text: &mut Vec<u8>,
+    theories: usize,
+    rows: &[u8],
+) -> Result<(), AllocError> {
+    push_number(alloc, text, theories)?;
+    text.extend_from_slice(b" theories")?;
+    for status in &STATUSES {
+        push_total(alloc, text, rows, status)?;
+    }
+    text.extend_from_slice(b"\n")
+}
+
 /// The rows and the line of totals.
-pub(crate) fn table_of(alloc: Global, theories: usize, rows: &[u8]) -> Result<Vec<u8>, AllocError> {
+fn table_of(alloc: Global, theories: usize, rows: &[u8]) -> Result<Vec<u8>, AllocError> {
     let mut text = Vec::from_slice(alloc, rows)?;
     text.extend_from_slice(b"\ntotal: ")?;
-    let mut number = theories;
-    for (place, words) in COUNTED.iter().enumerate() {
-        text.extend_from_slice(number.to_string(alloc)?.as_bytes())?;
-        text.extend_from_slice(words)?;
-        if place < STATUSES.len() {
-            number = count(rows, STATUSES[place]);
-        }
-    }
+    push_totals(alloc, &mut text, theories, rows)?;
     Ok(text)
 }
 
 /// The status of a run that prints the rows.
 fn status_of(rows: &[u8]) -> Status {
-    let good = count(rows, b"declared ").saturating_add(count(rows, b"proved "));
+    let good = count(rows, b"declared").saturating_add(count(rows, b"proved"));
     let all = rows.split(|byte| *byte == b'\n').count();
     if good == all {
         Status::Clean
@@ -116,22 +135,28 @@ fn status_of(rows: &[u8]) -> Status {
     }
 }
 
-/// Compares what a run answered with what it should print, and shows the texts where they differ.
-pub(crate) fn compare<R: Files + Print + AllocGlobal + Threads + Wait + Sync + Abort>(
+/// Looks that a call answered what belongs to the rows of so many theories.
+fn check_rows<R: AllocGlobal + Abort>(
     rt: &R,
     got: &Answer,
     theories: usize,
     rows: &[u8],
 ) -> Result<(), Fail> {
-    let alloc = rt.alloc();
-    let wanted = table_of(alloc, theories, rows)?;
-    if got.bytes.as_slice() != wanted.as_slice() {
-        let shown = String::from_utf8_lossy(alloc, &got.bytes)?;
-        let asked = String::from_utf8_lossy(alloc, &wanted)?;
-        assert!(rt; false, "{shown}where this was wanted:\n{asked}");
-    }
-    assert_eq!(rt; got.status, status_of(rows));
+    let wanted = table_of(rt.alloc(), theories, rows)?;
+    expect(rt, got, status_of(rows), &wanted);
     Ok(())
+}
+
+/// Runs a case.
+fn run_case<R: Files + Print + AllocGlobal + Threads + Wait + Sync + Abort>(
+    rt: &R,
+    case: &Case,
+) -> Result<(), Fail> {
+    let mut world = empty_world(rt.alloc());
+    add_theories(rt.alloc(), &mut world, case.theories)?;
+    let theories = world.files.len();
+    let answer = run(rt, rt.alloc(), world)?;
+    check_rows(rt, &answer, theories, case.rows)
 }
 
 /// Runs the cases.
@@ -139,12 +164,8 @@ pub(crate) fn run_cases<R: Files + Print + AllocGlobal + Threads + Wait + Sync +
     rt: &R,
     cases: &[Case],
 ) -> Result<(), Fail> {
-    let alloc = rt.alloc();
     for case in cases {
-        let world = folder_of(alloc, case.theories)?;
-        let theories = world.files.len();
-        let answer = run(rt, alloc, world)?;
-        compare(rt, &answer, theories, case.rows)?;
+        run_case(rt, case)?;
     }
     Ok(())
 }

@@ -1,11 +1,14 @@
 //! Libraries and sinks that fail, and files that are missing.
-use crate::world::{add_file, add_words, empty_world, run};
+use crate::world::{World, add_file, add_words, empty_world, expect, run};
 use pure_check::{Status, pure};
 use pure_io::{LibFault, Library, MemSink, OpenGate, ReadFault};
 use pure_text::Text;
 use std::alloc::{AllocError, Global};
+use std::process::Abort;
 use std::rt::Files;
+use std::sync::Wait;
 use std::test::Fail;
+use std::thread::Threads;
 
 const PROVED: &[u8] = b"theory A begin lemma id: \"A ==> A\" by assumption end";
 
@@ -63,70 +66,135 @@ fn refuses_a_listed_file_that_is_missing(rt: HostRuntime) -> Result<(), Fail> {
 }
 
 /// A call: its words, which reads and writes fail, the sink's room and width, and what comes of it.
-type Fault = (
-    &'static [&'static [u8]],
-    &'static [u32],
-    &'static [u32],
-    usize,
-    usize,
-    Status,
-    &'static [u8],
-);
+struct Fault {
+    words: &'static [&'static [u8]],
+    reads: &'static [u32],
+    writes: &'static [u32],
+    capacity: usize,
+    width: usize,
+    status: Status,
+    bytes: &'static [u8],
+}
 
 const FAULTS: [Fault; 10] = [
-    (
-        &[b"check"],
-        &[],
-        &[],
-        1000,
-        1000,
-        Status::Clean,
-        b"proved A.id: ?A ==> ?A\ntotal: 1 theories, 0 declared, 0 refused, 1 proved, 0 failed, 0 tainted, 0 cancelled, 0 unsettled\n",
-    ),
-    (
-        &[b"check", b"check"],
-        &[],
-        &[],
-        1000,
-        1000,
-        Status::Usage,
-        b"",
-    ),
-    (&[b"chec"], &[], &[], 1000, 1000, Status::Usage, b""),
-    (&[b""], &[0], &[], 1000, 1000, Status::Usage, b""),
-    (&[], &[0], &[], 1000, 1000, Status::ReadFault, b""),
-    (&[], &[1], &[], 1000, 1000, Status::ReadFault, b""),
-    (
-        &[],
-        &[2],
-        &[],
-        1000,
-        1000,
-        Status::Clean,
-        b"proved A.id: ?A ==> ?A\ntotal: 1 theories, 0 declared, 0 refused, 1 proved, 0 failed, 0 tainted, 0 cancelled, 0 unsettled\n",
-    ),
-    (&[], &[], &[1], 1000, 10, Status::WriteFault, b"proved A.i"),
-    (&[], &[], &[0], 1000, 10, Status::WriteFault, b""),
-    (&[], &[], &[], 12, 5, Status::WriteFault, b"proved A.id:"),
+    Fault {
+        words: &[b"check"],
+        reads: &[],
+        writes: &[],
+        capacity: 1000,
+        width: 1000,
+        status: Status::Clean,
+        bytes: b"proved A.id: ?A ==> ?A\ntotal: 1 theories, 0 declared, 0 refused, 1 proved, 0 failed, 0 tainted, 0 cancelled, 0 unsettled\n",
+    },
+    Fault {
+        words: &[b"check", b"check"],
+        reads: &[],
+        writes: &[],
+        capacity: 1000,
+        width: 1000,
+        status: Status::Usage,
+        bytes: b"",
+    },
+    Fault {
+        words: &[b"chec"],
+        reads: &[],
+        writes: &[],
+        capacity: 1000,
+        width: 1000,
+        status: Status::Usage,
+        bytes: b"",
+    },
+    Fault {
+        words: &[b""],
+        reads: &[0],
+        writes: &[],
+        capacity: 1000,
+        width: 1000,
+        status: Status::Usage,
+        bytes: b"",
+    },
+    Fault {
+        words: &[],
+        reads: &[0],
+        writes: &[],
+        capacity: 1000,
+        width: 1000,
+        status: Status::ReadFault,
+        bytes: b"",
+    },
+    Fault {
+        words: &[],
+        reads: &[1],
+        writes: &[],
+        capacity: 1000,
+        width: 1000,
+        status: Status::ReadFault,
+        bytes: b"",
+    },
+    Fault {
+        words: &[],
+        reads: &[2],
+        writes: &[],
+        capacity: 1000,
+        width: 1000,
+        status: Status::Clean,
+        bytes: b"proved A.id: ?A ==> ?A\ntotal: 1 theories, 0 declared, 0 refused, 1 proved, 0 failed, 0 tainted, 0 cancelled, 0 unsettled\n",
+    },
+    Fault {
+        words: &[],
+        reads: &[],
+        writes: &[1],
+        capacity: 1000,
+        width: 10,
+        status: Status::WriteFault,
+        bytes: b"proved A.i",
+    },
+    Fault {
+        words: &[],
+        reads: &[],
+        writes: &[0],
+        capacity: 1000,
+        width: 10,
+        status: Status::WriteFault,
+        bytes: b"",
+    },
+    Fault {
+        words: &[],
+        reads: &[],
+        writes: &[],
+        capacity: 12,
+        width: 5,
+        status: Status::WriteFault,
+        bytes: b"proved A.id:",
+    },
 ];
+
+/// Makes the world one of this call.
+fn fill(alloc: Global, world: &mut World, fault: &Fault) -> Result<(), AllocError> {
+    add_file(alloc, world, b"A.thy", PROVED)?;
+    add_words(alloc, world, fault.words)?;
+    world.failing_reads.extend_from_slice(fault.reads)?;
+    world.failing_writes.extend_from_slice(fault.writes)?;
+    world.capacity = fault.capacity;
+    world.width = fault.width;
+    Ok(())
+}
+
+fn check_fault<R: Abort + Files + Print + AllocGlobal + Threads + Wait + Sync>(
+    rt: &R,
+    fault: &Fault,
+) -> Result<(), Fail> {
+    let mut world = empty_world(rt.alloc());
+    fill(rt.alloc(), &mut world, fault)?;
+    let answer = run(rt, rt.alloc(), world)?;
+    expect(rt, &answer, fault.status, fault.bytes);
+    Ok(())
+}
 
 #[test]
 fn answers_each_fault_by_its_cause(rt: HostRuntime) -> Result<(), Fail> {
-    let alloc = rt.alloc();
-    for (words, reads, writes, capacity, width, status, bytes) in FAULTS {
-        let mut one = empty_world(alloc);
-        add_file(alloc, &mut one, b"A.thy", PROVED)?;
-        add_words(alloc, &mut one, words)?;
-        one.failing_reads.extend_from_slice(reads)?;
-        one.failing_writes.extend_from_slice(writes)?;
-        one.capacity = capacity;
-        one.width = width;
-        let answer = run(&rt, alloc, one)?;
-        assert_eq!(rt; answer.status, status, "{words:?} {reads:?} {writes:?}");
-        assert!(rt;
-            answer.bytes.as_slice() == bytes,
-            "{words:?} {reads:?} {writes:?}"
-        );
+    for fault in FAULTS.iter() {
+        check_fault(&rt, fault)?;
     }
     Ok(())
 }

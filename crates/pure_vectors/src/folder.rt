@@ -1,5 +1,6 @@
 //! A folder with as many files as are read, with faults of every kind: each has its row.
-use crate::world::{World, add_file, empty_world, run};
+use crate::texts::push_number;
+use crate::world::{World, add_file, empty_world, expect, run};
 use pure_check::Status;
 use std::alloc::{AllocError, Global};
 use std::test::Fail;
@@ -28,13 +29,13 @@ const KINDS: [Kind; 8] = [
     Kind::ParentRefused,
 ];
 
-/// `T` and the number in three digits.
-fn name_of(alloc: Global, number: u32) -> Result<Vec<u8>, AllocError> {
-    let mut name = Vec::from_slice(alloc, b"T")?;
+/// Adds `T` and the number in three digits.
+fn push_name(alloc: Global, text: &mut Vec<u8>, number: usize) -> Result<(), AllocError> {
+    text.push(b'T')?;
     for digit in [number / 100, number / 10 % 10, number % 10] {
-        name.extend_from_slice(digit.to_string(alloc)?.as_bytes())?;
+        push_number(alloc, text, digit)?;
     }
-    Ok(name)
+    Ok(())
 }
 
 /// What stands behind the name in a file of the kind; a refused parent is the file before it, which is cyclic.
@@ -50,20 +51,27 @@ fn body_of(kind: Kind) -> &'static [u8] {
     }
 }
 
-/// The text of a file.
-fn text_of(alloc: Global, kind: Kind, number: u32) -> Result<Vec<u8>, AllocError> {
-    let mut text = Vec::from_slice(alloc, b"theory ")?;
-    text.extend_from_slice(&name_of(alloc, number)?)?;
+/// Adds the name of an imported theory and what ends the file.
+fn push_import(alloc: Global, text: &mut Vec<u8>, number: usize) -> Result<(), AllocError> {
+    push_name(alloc, text, number)?;
+    text.extend_from_slice(b" begin end")
+}
+
+/// Adds the text of a file.
+fn push_theory(
+    alloc: Global,
+    text: &mut Vec<u8>,
+    kind: Kind,
+    number: usize,
+) -> Result<(), AllocError> {
+    text.extend_from_slice(b"theory ")?;
+    push_name(alloc, text, number)?;
     text.extend_from_slice(body_of(kind))?;
-    if kind == Kind::Cyclic {
-        text.extend_from_slice(&name_of(alloc, number)?)?;
-        text.extend_from_slice(b" begin end")?;
+    match kind {
+        Kind::Cyclic => push_import(alloc, text, number),
+        Kind::ParentRefused => push_import(alloc, text, number.saturating_sub(1)),
+        _ => Ok(()),
     }
-    if kind == Kind::ParentRefused {
-        text.extend_from_slice(&name_of(alloc, number - 1)?)?;
-        text.extend_from_slice(b" begin end")?;
-    }
-    Ok(text)
 }
 
 /// What stands before the name in the row, and behind it.
@@ -80,14 +88,19 @@ fn row_of(kind: Kind) -> (&'static [u8], &'static [u8]) {
     }
 }
 
-/// The row of a file.
-fn push_row(alloc: Global, text: &mut Vec<u8>, kind: Kind, number: u32) -> Result<(), AllocError> {
+/// Adds the row of a file.
+fn push_row(
+    alloc: Global,
+    text: &mut Vec<u8>,
+    kind: Kind,
+    number: usize,
+) -> Result<(), AllocError> {
     let (front, back) = row_of(kind);
     text.extend_from_slice(front)?;
-    text.extend_from_slice(&name_of(alloc, number)?)?;
+    push_name(alloc, text, number)?;
     text.extend_from_slice(back)?;
     if kind == Kind::ParentRefused {
-        text.extend_from_slice(&name_of(alloc, number - 1)?)?;
+        push_name(alloc, text, number.saturating_sub(1))?;
     }
     text.push(b'\n')?;
     Ok(())
@@ -101,7 +114,7 @@ fn is_loaded(kind: Kind) -> bool {
 /// The rows of the files that are loaded, or of those that aren't.
 fn push_rows(alloc: Global, text: &mut Vec<u8>, loaded: bool) -> Result<(), AllocError> {
     for number in 0..256 {
-        let kind = KINDS[number as usize % 8];
+        let kind = KINDS[number % 8];
         if is_loaded(kind) == loaded {
             push_row(alloc, text, kind, number)?;
         }
@@ -121,22 +134,30 @@ fn table(alloc: Global) -> Result<Vec<u8>, AllocError> {
     Ok(text)
 }
 
-fn folder(alloc: Global) -> Result<World, AllocError> {
-    let mut world = empty_world(alloc);
+/// Adds the file with the number.
+fn add_numbered(alloc: Global, world: &mut World, number: usize) -> Result<(), AllocError> {
+    let mut name = Vec::new(alloc);
+    push_name(alloc, &mut name, number)?;
+    name.extend_from_slice(b".thy")?;
+    let mut text = Vec::new(alloc);
+    push_theory(alloc, &mut text, KINDS[number % 8], number)?;
+    add_file(alloc, world, &name, &text)
+}
+
+/// Adds all files.
+fn fill(alloc: Global, world: &mut World) -> Result<(), AllocError> {
     for number in 0..257 {
-        let mut name = name_of(alloc, number)?;
-        name.extend_from_slice(b".thy")?;
-        let text = text_of(alloc, KINDS[number as usize % 8], number)?;
-        add_file(alloc, &mut world, &name, &text)?;
+        add_numbered(alloc, world, number)?;
     }
-    Ok(world)
+    Ok(())
 }
 
 #[test]
 fn gives_each_file_its_row(rt: HostRuntime) -> Result<(), Fail> {
-    let alloc = rt.alloc();
-    let answer = run(&rt, alloc, folder(alloc)?)?;
-    assert_eq!(rt; answer.status, Status::Rows);
-    assert!(rt; answer.bytes.as_slice() == table(alloc)?.as_slice());
+    let mut world = empty_world(rt.alloc());
+    fill(rt.alloc(), &mut world)?;
+    let answer = run(&rt, rt.alloc(), world)?;
+    let wanted = table(rt.alloc())?;
+    expect(&rt, &answer, Status::Rows, &wanted);
     Ok(())
 }

@@ -26,6 +26,8 @@ mod proofs;
 #[cfg(test)]
 mod statements;
 #[cfg(test)]
+mod texts;
+#[cfg(test)]
 mod theories;
 #[cfg(test)]
 mod worked;

@@ -1,6 +1,7 @@
 //! Worked examples: files, words, and what is printed. Expected bytes come from the rules, by hand.
-use crate::world::{add_file, add_words, empty_world, run};
+use crate::world::{World, add_file, add_words, empty_world, expect, run};
 use pure_check::Status;
+use std::alloc::{AllocError, Global};
 use std::process::Abort;
 use std::rt::Files;
 use std::sync::Wait;
@@ -8,7 +9,6 @@ use std::test::Fail;
 use std::thread::Threads;
 
 /// Words, files by their theories, the status, and the bytes that are written.
-#[derive(Drop)]
 struct Example {
     words: &'static [&'static [u8]],
     files: &'static [(&'static [u8], &'static [u8])],
@@ -257,25 +257,33 @@ const THIRD: [Example; 6] = [
     },
 ];
 
+/// Makes the world one of this example.
+fn fill(alloc: Global, world: &mut World, example: &Example) -> Result<(), AllocError> {
+    add_words(alloc, world, example.words)?;
+    for (name, text) in example.files {
+        add_file(alloc, world, name, text)?;
+    }
+    Ok(())
+}
+
+fn check_example<R: Abort + Files + Print + AllocGlobal + Threads + Wait + Sync>(
+    rt: &R,
+    example: &Example,
+) -> Result<(), Fail> {
+    let mut world = empty_world(rt.alloc());
+    fill(rt.alloc(), &mut world, example)?;
+    let answer = run(rt, rt.alloc(), world)?;
+    expect(rt, &answer, example.status, example.written);
+    Ok(())
+}
+
 /// Runs the examples.
 fn run_all<R: Abort + Files + Print + AllocGlobal + Threads + Wait + Sync>(
     rt: &R,
     examples: &[Example],
 ) -> Result<(), Fail> {
-    let alloc = rt.alloc();
     for example in examples {
-        let mut world = empty_world(alloc);
-        add_words(alloc, &mut world, example.words)?;
-        for (name, text) in example.files {
-            add_file(alloc, &mut world, name, text)?;
-        }
-        let answer = run(rt, alloc, world)?;
-        assert_eq!(rt; answer.status, example.status, "{:?}", example.files);
-        assert!(rt;
-            answer.bytes.as_slice() == example.written,
-            "{:?}",
-            example.files
-        );
+        check_example(rt, example)?;
     }
     Ok(())
 }

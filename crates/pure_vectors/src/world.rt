@@ -3,6 +3,7 @@ use pure_check::{Status, pure};
 use pure_io::{File, MemLibrary, MemSink, OpenGate};
 use pure_text::Text;
 use std::alloc::{AllocError, Global};
+use std::process::Abort;
 use std::rt::Files;
 use std::sync::Wait;
 use std::thread::Threads;
@@ -60,6 +61,7 @@ pub(crate) fn add_words(
     Ok(())
 }
 
+/// Calls in the world, and lets go of it.
 pub(crate) fn run<R: Files + Print + AllocGlobal + Threads + Wait + Sync>(
     rt: &R,
     alloc: Global,
@@ -75,7 +77,17 @@ pub(crate) fn run<R: Files + Print + AllocGlobal + Threads + Wait + Sync>(
     } = world;
     let mut library = MemLibrary::make(files, failing_reads);
     let mut out = MemSink::make(alloc, capacity, width.max(1), failing_writes)?;
-    let ended = pure(rt, alloc, &words, &mut library, &mut out, &OpenGate::make());
+    call(rt, alloc, &words, &mut library, &mut out)
+}
+
+fn call<R: Files + Print + AllocGlobal + Threads + Wait + Sync>(
+    rt: &R,
+    alloc: Global,
+    words: &[Text],
+    library: &mut MemLibrary,
+    out: &mut MemSink,
+) -> Result<Answer, AllocError> {
+    let ended = pure(rt, alloc, words, library, out, &OpenGate::make());
     Ok(Answer {
         status: ended.status,
         bytes: Vec::from_slice(alloc, out.bytes())?,
@@ -92,4 +104,35 @@ pub(crate) fn run_file<R: Files + Print + AllocGlobal + Threads + Wait + Sync>(
     let mut one = empty_world(alloc);
     add_file(alloc, &mut one, name, text)?;
     run(rt, alloc, one)
+}
+
+/// Bytes as a text, to show them where a test fails.
+fn shown(bytes: &[u8]) -> &str {
+    match std::str::from_utf8(bytes) {
+        Ok(text) => text,
+        Err(_) => "no text\n",
+    }
+}
+
+/// Stops the test where the status is another or the bytes aren't right, and shows them beside these.
+fn look<R: Abort>(rt: &R, got: &Answer, status: Status, is_right: bool, wanted: &[u8]) {
+    let bytes = shown(&got.bytes);
+    let asked = shown(wanted);
+    assert!(rt; is_right, "{bytes}where this was wanted:\n{asked}");
+    assert_eq!(rt; got.status, status);
+}
+
+/// Looks that a call answered this and wrote this.
+pub(crate) fn expect<R: Abort>(rt: &R, got: &Answer, status: Status, bytes: &[u8]) {
+    look(rt, got, status, got.bytes.as_slice() == bytes, bytes);
+}
+
+/// Looks that a call answered this, and that what it wrote begins so.
+pub(crate) fn expect_front<R: Abort>(rt: &R, got: &Answer, status: Status, front: &[u8]) {
+    look(rt, got, status, got.bytes.starts_with(front), front);
+}
+
+/// Looks that a call answered this, and that what it wrote ends so.
+pub(crate) fn expect_end<R: Abort>(rt: &R, got: &Answer, status: Status, end: &[u8]) {
+    look(rt, got, status, got.bytes.ends_with(end), end);
 }
