@@ -1,5 +1,5 @@
 //! Libraries and sinks that fail, and files that are missing.
-use crate::world::{World, add_file, add_words, empty_world, expect, run};
+use crate::world::{World, add_file, add_words, check, empty_world};
 use pure_check::{Status, pure};
 use pure_io::{LibFault, Library, MemSink, OpenGate, ReadFault};
 use pure_text::Text;
@@ -186,9 +186,7 @@ fn check_fault<R: Abort + Files + Print + AllocGlobal + Threads + Wait + Sync>(
 ) -> Result<(), Fail> {
     let mut world = empty_world(rt.alloc());
     fill(rt.alloc(), &mut world, fault)?;
-    let answer = run(rt, rt.alloc(), world)?;
-    expect(rt, &answer, fault.status, fault.bytes);
-    Ok(())
+    check(rt, world, fault.status, fault.bytes)
 }
 
 #[test]

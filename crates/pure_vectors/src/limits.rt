@@ -1,6 +1,6 @@
 //! The limits of a session, on both sides, and texts that are cut.
 use crate::texts::{push_numbered, text_of};
-use crate::world::{add_file, empty_world, expect, expect_front, run, run_file};
+use crate::world::{add_file, check, empty_world, expect_front, run_file};
 use pure_check::Status;
 use std::alloc::{AllocError, Global};
 use std::process::Abort;
@@ -109,9 +109,7 @@ fn check_width<R: Abort + Files + Print + AllocGlobal + Threads + Wait + Sync>(
     add_file(alloc, &mut large, b"A.thy", text)?;
     large.capacity = 1_000_000;
     large.width = width;
-    let answer = run(rt, alloc, large)?;
-    expect(rt, &answer, Status::Clean, wanted);
-    Ok(())
+    check(rt, large, Status::Clean, wanted)
 }
 
 fn check_table<R: Abort + Files + Print + AllocGlobal + Threads + Wait + Sync>(

@@ -1,5 +1,5 @@
 //! Worked examples: files, words, and what is printed. Expected bytes come from the rules, by hand.
-use crate::world::{World, add_file, add_words, empty_world, expect, run};
+use crate::world::{World, add_file, add_words, check, empty_world};
 use pure_check::Status;
 use std::alloc::{AllocError, Global};
 use std::process::Abort;
@@ -272,9 +272,7 @@ fn check_example<R: Abort + Files + Print + AllocGlobal + Threads + Wait + Sync>
 ) -> Result<(), Fail> {
     let mut world = empty_world(rt.alloc());
     fill(rt.alloc(), &mut world, example)?;
-    let answer = run(rt, rt.alloc(), world)?;
-    expect(rt, &answer, example.status, example.written);
-    Ok(())
+    check(rt, world, example.status, example.written)
 }
 
 /// Runs the examples.

@@ -6,6 +6,7 @@ use std::alloc::{AllocError, Global};
 use std::process::Abort;
 use std::rt::Files;
 use std::sync::Wait;
+use std::test::Fail;
 use std::thread::Threads;
 
 /// What a call answered and wrote.
@@ -135,4 +136,16 @@ pub(crate) fn expect_front<R: Abort>(rt: &R, got: &Answer, status: Status, front
 /// Looks that a call answered this, and that what it wrote ends so.
 pub(crate) fn expect_end<R: Abort>(rt: &R, got: &Answer, status: Status, end: &[u8]) {
     look(rt, got, status, got.bytes.ends_with(end), end);
+}
+
+/// Calls in the world, and looks that the call answers this and writes this.
+pub(crate) fn check<R: Abort + Files + Print + AllocGlobal + Threads + Wait + Sync>(
+    rt: &R,
+    world: World,
+    status: Status,
+    bytes: &[u8],
+) -> Result<(), Fail> {
+    let answer = run(rt, rt.alloc(), world)?;
+    expect(rt, &answer, status, bytes);
+    Ok(())
 }
