@@ -12,7 +12,6 @@ ghost use Rattle.pure_work.specs.Begun.{IsFirst, IsBegunOver};
 
 use crate::checker::Checker;
 use crate::closed::Closed;
-use crate::conditions::number_of;
 use crate::parents::first_barred;
 use crate::refused::{not_begun, parent_refused};
 use crate::run::{Going, Run, Standing};
@@ -72,11 +71,13 @@ impl Checker {
         name: Name,
         stages: &[Stage],
     ) -> Result<Standing, AllocError>
+        requires theory { IsTheoryAt self.now.theories index (seen_loaded theory.now) }
         requires text { HasText self.now.texts name theory.now.name }
         requires may { MayBegin (record { name = name; index = index }) (contents stages.now) }
         ensures { IfOk result (IsBegunOver self.now.texts index (seen_loaded theory.now) (contents stages.now)) }
     {
-        let left = number_of(theory.text.commands.len())?;
+        self.is_loaded_session();
+        let left = theory.text.commands.len() as u32;
         match Theory::begin(self.alloc, index, name, stages) {
             Ok(first) => {
                 let going = self.going(left, first)?;

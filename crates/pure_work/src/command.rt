@@ -15,7 +15,6 @@ ghost use Rattle.pure_work.specs.declared.run.Turn.TheVariants as turns;
 
 use crate::checker::Checker;
 use crate::closed::Closed;
-use crate::conditions::number_of;
 use crate::run::{Going, Run, Standing, Turn};
 use pure_declare::{Declared, Note, declare};
 use pure_print::Row;
@@ -124,7 +123,7 @@ impl Checker {
         ensures { IfOk result (λ turn. (past : List notes.Note) → IsGoing self.now.texts self.now.theories index past going.old → IsGoingTurn self.now.texts self.now.theories index past going.old going.new turn) }
     {
         self.is_loaded_session();
-        let place = number_of(going.rows.len())?;
+        let place = going.rows.len() as u32;
         let label = Label {
             theory: index,
             command: place,

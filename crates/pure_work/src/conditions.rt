@@ -4,7 +4,7 @@ ghost use Rattle.std.specs.Prelude.{◌≡◌, ◌+◌, IfOk};
 use std::alloc::AllocError;
 
 /// A place or a count as a number of 32 bits, where it is one.
-pub(crate) fn number_of(count: usize) -> Result<u32, AllocError>
+fn number_of(count: usize) -> Result<u32, AllocError>
     ensures { IfOk result (λ number. number ≡ count) }
 {
     match u32::try_from(count) {
