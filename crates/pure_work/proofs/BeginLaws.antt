@@ -9,14 +9,15 @@ use Rattle.pure_theory.specs.Begin.{MayBegin}
 use Rattle.pure_script.specs.Seen.{seen_command}
 use Rattle.pure_session.specs.declared.order.Loaded as loaded
 use Rattle.pure_session.specs.Waiting.{seen_loaded}
-use Rattle.pure_text.specs.Lists.{Each}
 use Rattle.pure_logic.specs.Content.{Content}
 use Rattle.pure_print.specs.declared.row.Row.{Row}
 use Rattle.pure_graph.specs.Order.{Loaded}
 use Rattle.pure_graph.specs.Session.{parent_refused_text}
 use Rattle.pure_verdicts.specs.Verdicts.{IsTheoryAt, AreLast, Begins, by_parent, not_coregular, beginning_over, refused_theory}
+use Rattle.pure_verdicts.specs.Loaded.{IsLoadedSession}
 use Rattle.pure_verdicts.proofs.StepLaws.{run_begins}
-use Rattle.pure_work.specs.Outline.{Outline, lasts, HasLabelsBelow}
+use Rattle.pure_verdicts.proofs.OwnerLaws.{theories_may_begin}
+use Rattle.pure_work.specs.Outline.{Outline, lasts}
 use Rattle.pure_work.specs.Parents.{AreOutlinesOf, IsFirstBarredAt, IsNameOfParent}
 use Rattle.pure_work.specs.Runs.{IsUnderWay, IsStandingOf}
 use Rattle.pure_work.specs.Begun.{IsFirst, IsFirstOver, IsBegunOver}
@@ -24,7 +25,6 @@ use Rattle.pure_work.specs.declared.run.Going.{Going}
 use Rattle.pure_work.specs.declared.run.Standing.{Standing}
 use Rattle.pure_work.specs.declared.run.Standing.TheVariants as code
 use Rattle.pure_work.proofs.OutlineLaws.{first-barred, last-all}
-use Rattle.pure_work.proofs.LabelLaws.{label-first, labels-begun}
 
 module _ (texts : List (List ℕ)) (theories : List Loaded) (index : ℕ) (T : Loaded) (at : IsTheoryAt theories index T) (values : List Outline) (parents : AreOutlinesOf texts theories T.parents values) where
   -- A parent was refused.
@@ -45,6 +45,10 @@ module _ (texts : List (List ℕ)) (theories : List Loaded) (index : ℕ) (T : L
   all-last none =
       subst (λ (os : List Outline). AreLast parents.verdicts (lasts os)) (sym parents.values_are) (last-all parents.verdicts (subst (λ (os : List Outline). IsFirstBarredAt os None) parents.values_are none))
 
+  -- None was: it may begin.
+  pub may-begin : IsLoadedSession texts theories → IsFirstBarredAt values None → (name : ℕ) → HasText texts name T.name → MayBegin (record { name = name; index = index }) (beginning_over (lasts values))
+  may-begin session none name text = theories_may_begin texts theories session index T at parents.verdicts parents.closed (lasts values) (all-last none) name text
+
   first-begins : IsFirstBarredAt values None → (g : Going) (b : IsFirstOver texts index T (beginning_over (lasts values)) g) → Begins texts index T parents.verdicts b.first
   first-begins none g b = record {
     contents = lasts values;
@@ -55,7 +59,7 @@ module _ (texts : List (List ℕ)) (theories : List Loaded) (index : ℕ) (T : L
     begins = b.begins;
   }
 
-  -- None was: it is refused since they aren't coregular, or none of its commands was run yet.
+  -- Then it is refused since they aren't coregular, or none of its commands was run yet.
   pub stands-begun : IsFirstBarredAt values None → (s : Standing) → IsBegunOver texts index T (beginning_over (lasts values)) s → IsStandingOf texts theories index [] s
   stands-begun none (code.Barred row) b = (
     refl,
@@ -72,8 +76,6 @@ module _ (texts : List (List ℕ)) (theories : List Loaded) (index : ℕ) (T : L
       commands = T.text.commands;
       run = run_begins texts theories index T at parents.verdicts parents.closed b.first (first-begins none g b);
       count = b.going_is.left_is;
-      in_session = b.going_is.in_session;
-      label_above = label-first index 0 b.first b.labels;
     });
     rows = b.going_is.rows;
   }
@@ -85,14 +87,13 @@ barred-named theories indexes place name theory (Ok row) named h = (name, named,
 barred-named theories indexes place name theory (Err e) named h = h
 
 -- None of its commands was run yet.
-pub first-over : (texts : List (List ℕ)) (index : ℕ) (t : loaded.Loaded) (Qs : List Content) (g : Going) (first : Content) (name left : ℕ) → HasText texts name t.name → Each (HasLabelsBelow index) Qs
-    → MayBegin (record { name = name; index = index }) Qs → IsBeginning (record { name = name; index = index }) Qs first → left ≡ length t.text.commands.items → IsFirst texts left first g → IsFirstOver texts index (seen_loaded t) Qs g
-first-over texts index t Qs g first name left text labels may begins count f = record {
+pub first-over : (texts : List (List ℕ)) (index : ℕ) (t : loaded.Loaded) (Qs : List Content) (g : Going) (first : Content) (name left : ℕ) → HasText texts name t.name
+    → MayBegin (record { name = name; index = index }) Qs → IsBeginning (record { name = name; index = index }) Qs first → left ≡ length t.text.commands.items → IsFirst left first g → IsFirstOver texts index (seen_loaded t) Qs g
+first-over texts index t Qs g first name left text may begins count f = record {
   first = first;
-  going_is = subst (λ (n : ℕ). IsFirst texts n first g) (count ∙ sym (length-map t.text.commands.items seen_command)) f;
+  going_is = subst (λ (n : ℕ). IsFirst n first g) (count ∙ sym (length-map t.text.commands.items seen_command)) f;
   name = name;
   text = text;
   may = may;
   begins = begins;
-  labels = labels-begun index (record { name = name; index = index }) Qs first labels begins;
 }

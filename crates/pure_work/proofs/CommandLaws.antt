@@ -1,34 +1,25 @@
 -- Turns of runs.
-use Rattle.std.proofs.Common.{◌≡◌, ◌∙◌, ℕ, zero, suc, ◌+◌, ◌<◌, List, [], ◌∷◌, ◌++◌, length, ap, sym, refl, subst, arith, length-append}
+use Rattle.std.proofs.Common.{◌≡◌, ◌∙◌, ℕ, zero, suc, ◌+◌, ◌<◌, List, [], ◌∷◌, ◌++◌, length, ap, sym, refl, subst, arith}
 use Rattle.std.specs.Prelude.{Option, Some, None, Result, Ok, Err, IfOk, slice_get}
 use Rattle.std.specs.declared.alloc.AllocError.{AllocError}
 use Rattle.std.proofs.lemmas.List.{length-map, map-append}
 use Rattle.std.proofs.lemmas.Option.{same_Some}
-use Rattle.pure_definitions.specs.Names.{Label}
 use Rattle.pure_grammar.specs.Theories.TheoryText.{Command}
-use Rattle.std.specs.Option.{option_to_list}
-use Rattle.pure_text.specs.Lists.{IsIn}
-use Rattle.pure_text.proofs.ListLaws.{each_at}
-use Rattle.pure_definitions.specs.Declarations.Decl.{ClassDecl}
-use Rattle.pure_logic.specs.Content.{TheoryId, Content}
-use Rattle.pure_logic.specs.Beginning.{AreToldApart, IsNewOver, theories_of}
-use Rattle.pure_lookup.specs.Laws.{IsInSession}
-use Rattle.pure_theory.specs.Refusals.{IsLabelAbove}
-use Rattle.pure_theory.specs.Stage.{IsSound, IsCertifiedDecl}
+use Rattle.pure_logic.specs.Content.{Content}
 use Rattle.pure_print.specs.declared.row.Row.{Row}
 use Rattle.pure_graph.specs.Order.{Loaded}
 use Rattle.pure_declare.specs.Notes.{Note, Said, Forked}
 use Rattle.pure_declare.specs.Fold.{Declares}
-use Rattle.pure_declare.specs.Premises.{HasClassesAbove}
-use Rattle.pure_declare.specs.Grown.{IsGrown}
-use Rattle.pure_declare.proofs.GrownLaws.{declares_grown}
+use Rattle.pure_verdicts.specs.Loaded.{IsLoadedSession}
+use Rattle.pure_verdicts.specs.Given.{IsNextGiven}
 use Rattle.pure_verdicts.specs.Verdicts.{IsTheoryAt, barred}
 use Rattle.pure_verdicts.specs.Verdicts as verdicts
 use Rattle.pure_verdicts.specs.Statements.{IsRun, forks_of}
 use Rattle.pure_verdicts.specs.Steps.{command_label}
 use Rattle.pure_verdicts.proofs.FoldLaws.{declared-count}
 use Rattle.pure_verdicts.proofs.StepLaws.{theory-once, run_goes_on, run_closes}
-use Rattle.pure_work.specs.Outline.{Barred, Ran, row_of, HasLabelsBelow}
+use Rattle.pure_verdicts.proofs.OwnLaws.{runs_give}
+use Rattle.pure_work.specs.Outline.{Barred, Ran, row_of}
 use Rattle.pure_work.specs.Runs.{IsBarredBy, IsUnderWay, IsGoing, IsStandingOf, IsRunOf, turns_left}
 use Rattle.pure_work.specs.Turns.{ClosesWith, IsGoingTurn, IsTurn, turn_of}
 use Rattle.pure_work.specs.declared.run.Going.{Going}
@@ -37,7 +28,6 @@ use Rattle.pure_work.specs.declared.run.Standing.TheVariants as code
 use Rattle.pure_work.specs.declared.run.Run.{Run}
 use Rattle.pure_work.specs.declared.run.Turn.{Turn}
 use Rattle.pure_work.specs.declared.run.Turn.TheVariants as turns
-use Rattle.pure_work.proofs.LabelLaws.{label-next, label-last}
 
 -- The place behind the first of two lists is the first one of the second.
 get-behind : {A : Type 0} (xs ys zs : List A) (n : ℕ) → zs ≡ xs ++ ys → n ≡ length xs → slice_get zs n ≡ slice_get ys 0
@@ -60,38 +50,16 @@ left-at texts theories index T notes now left at run =
     subst (λ (U : Loaded). slice_get U.text.commands (length notes) ≡ slice_get left 0) (theory-once theories index run.theory T run.is_at at)
     (get-behind run.done left run.theory.text.commands (length notes) run.commands (declared-count texts run.theory.source index 0 run.done run.first now notes run.declared))
 
--- The classes above a class of a sound content are declared.
-classes-above : (Q : Content) → IsSound Q → HasClassesAbove Q
-classes-above Q sound k m = each_at (IsCertifiedDecl Q.declarations) Q.declarations sound.certified (ClassDecl k) m
-
--- What a command leaves is as the next one asks.
-same-theories : (Q R : Content) → R.own ≡ Q.own → R.ancestors ≡ Q.ancestors → theories_of R ≡ theories_of Q
-same-theories Q R own ancestors = ap (λ (ts : List TheoryId). ts ++ option_to_list R.own) ancestors ∙ ap (λ (o : Option TheoryId). Q.ancestors ++ option_to_list o) own
-
-session-kept : (texts : List (List ℕ)) (Q R : Content) (label : Label) → IsInSession texts Q → IsGrown label Q R → IsInSession texts R
-session-kept texts Q R label s grown = record {
-  names = s.names;
-  apart = record {
-    ancestors = subst AreToldApart (sym grown.ancestors) s.apart.ancestors;
-    own = λ t e. subst (λ (ts : List TheoryId). IsNewOver t ts) (sym grown.ancestors) (s.apart.own t (sym grown.own ∙ e));
-  };
-  theories = λ t text m has. s.theories t text (subst (λ (ts : List TheoryId). IsIn t ts) (same-theories Q R grown.own grown.ancestors) m) has;
-}
-
 module _ (texts : List (List ℕ)) (theories : List Loaded) (index : ℕ) (T : Loaded) (at : IsTheoryAt theories index T) where
-  way-next : (notes : List Note) (now next : Content) (left less : ℕ) (command : Command) (note : Note) → IsSound now → IsUnderWay texts theories index notes now left
+  way-next : (notes : List Note) (now next : Content) (left less : ℕ) (command : Command) (note : Note) → IsUnderWay texts theories index notes now left
       → slice_get T.text.commands (length notes) ≡ Some command → less + 1 ≡ left → Declares texts T.source (command_label index (length notes)) now command note next
       → IsUnderWay texts theories index (notes ++ note ∷ []) next less
-  way-next notes now next left less command note sound way held fewer d =
+  way-next notes now next left less command note way held fewer d =
       let head = head-is way.commands command (sym (left-at texts theories index T notes now way.commands at way.run) ∙ held) in
-      let grown = declares_grown texts T.source (command_label index (length notes)) now command note next way.in_session sound.content (classes-above now sound) way.label_above d in
-      let longer : length (notes ++ note ∷ []) ≡ length notes + 1 = length-append notes (note ∷ []) in
       record {
         commands = head.0;
         run = run_goes_on texts theories index T at notes now command head.0 (subst (λ (cs : List Command). IsRun texts theories index notes now cs) head.1 way.run) note next d;
         count = omega (arith, fewer, way.count, ap length head.1);
-        in_session = session-kept texts now next (command_label index (length notes)) way.in_session grown;
-        label_above = grown.labels (command_label index (length (notes ++ note ∷ []))) (label-next index (length notes) (length (notes ++ note ∷ [])) (omega (arith, longer)));
       }
 
   -- As many rows are held as there are notes.
@@ -107,24 +75,32 @@ module _ (texts : List (List ℕ)) (theories : List Loaded) (index : ℕ) (T : L
       let head = head-is going.way.commands command (sym (left-at texts theories index T notes g.now.value going.way.commands at going.way.run) ∙ held-notes notes g (Some command) going held) in
       omega (arith, going.way.count, ap length head.1)
 
+  -- What the command at this place is given.
+  pub next-given : IsLoadedSession texts theories → (notes : List Note) (g : Going) (n : ℕ) (command : Command) → IsGoing texts theories index notes g → n ≡ length g.rows.items → slice_get T.text.commands (length g.rows.items) ≡ Some command
+      → IsNextGiven texts T.source g.now.value (command_label index n) command
+  next-given session notes g n command going count held =
+      let head = head-is going.way.commands command (sym (left-at texts theories index T notes g.now.value going.way.commands at going.way.run) ∙ held-notes notes g (Some command) going held) in
+      subst (λ (k : ℕ). IsNextGiven texts T.source g.now.value (command_label index k) command) (sym (count ∙ rows-count notes g going))
+      (runs_give texts theories session index T at notes g.now.value command head.0 (subst (λ (cs : List Command). IsRun texts theories index notes g.now.value cs) head.1 going.way.run))
+
   -- A turn by the command at this place.
-  going-next : (notes : List Note) (old new : Going) (command : Command) (note : Note) (next : Content) → IsSound old.now.value → IsGoing texts theories index notes old
+  going-next : (notes : List Note) (old new : Going) (command : Command) (note : Note) (next : Content) → IsGoing texts theories index notes old
       → slice_get T.text.commands (length old.rows.items) ≡ Some command → Declares texts T.source (command_label index (length old.rows.items)) old.now.value command note next
       → new.now.value ≡ next → new.left + 1 ≡ old.left → new.rows.items ≡ old.rows.items ++ row_of note ∷ [] → IsGoing texts theories index (notes ++ note ∷ []) new
-  going-next notes old new command note next sound going held d now_is fewer rows = record {
+  going-next notes old new command note next going held d now_is fewer rows = record {
     way = subst (λ (Q : Content). IsUnderWay texts theories index (notes ++ note ∷ []) Q new.left) (sym now_is)
-        (way-next notes old.now.value next old.left new.left command note sound going.way (held-notes notes old (Some command) going held) fewer
+        (way-next notes old.now.value next old.left new.left command note going.way (held-notes notes old (Some command) going held) fewer
         (subst (λ (n : ℕ). Declares texts T.source (command_label index n) old.now.value command note next) (rows-count notes old going) d));
     rows = rows ∙ ap (λ (rs : List (Option Row)). rs ++ row_of note ∷ []) going.rows ∙ sym (map-append row_of notes (note ∷ []));
   }
 
-  pub turn-next : (notes : List Note) (old new : Going) (command : Command) (note : Note) (next : Content) → IsSound old.now.value → IsGoing texts theories index notes old
+  pub turn-next : (notes : List Note) (old new : Going) (command : Command) (note : Note) (next : Content) → IsGoing texts theories index notes old
       → slice_get T.text.commands (length old.rows.items) ≡ Some command → Declares texts T.source (command_label index (length old.rows.items)) old.now.value command note next
       → new.now.value ≡ next → new.left + 1 ≡ old.left → new.rows.items ≡ old.rows.items ++ row_of note ∷ [] → (turn : Turn) → turn ≡ turn_of note → IsGoingTurn texts theories index notes old new turn
-  turn-next notes old new command (Said row) next sound going held d now_is fewer rows turn e =
-      rw e (row, going-next notes old new command (Said row) next sound going held d now_is fewer rows, omega (arith, fewer))
-  turn-next notes old new command (Forked goal) next sound going held d now_is fewer rows turn e =
-      rw e (going-next notes old new command (Forked goal) next sound going held d now_is fewer rows, omega (arith, fewer))
+  turn-next notes old new command (Said row) next going held d now_is fewer rows turn e =
+      rw e (row, going-next notes old new command (Said row) next going held d now_is fewer rows, omega (arith, fewer))
+  turn-next notes old new command (Forked goal) next going held d now_is fewer rows turn e =
+      rw e (going-next notes old new command (Forked goal) next going held d now_is fewer rows, omega (arith, fewer))
 
   -- The turn where no command is left.
   pub turn-last : (notes : List Note) (old new : Going) → IsGoing texts theories index notes old → slice_get T.text.commands (length old.rows.items) ≡ None → (turn : Turn) → turn ≡ turns.Closed (Ran old.rows.items old.now.value)
@@ -137,9 +113,6 @@ module _ (texts : List (List ℕ)) (theories : List Loaded) (index : ℕ) (T : L
         value_is = ap (λ (rs : List (Option Row)). Ran rs old.now.value) going.rows;
         forks = refl;
       })
-
-pub going-labels : (texts : List (List ℕ)) (theories : List Loaded) (index : ℕ) (notes : List Note) (g : Going) → IsGoing texts theories index notes g → HasLabelsBelow (index + 1) g.now.value
-going-labels texts theories index notes g going = label-last index (length notes) g.now.value going.way.label_above
 
 -- A theory that was refused when it began closes.
 closes-barred : (texts : List (List ℕ)) (theories : List Loaded) (index : ℕ) (notes : List Note) (row : Row) → notes ≡ [] → IsBarredBy texts theories index row → ClosesWith texts theories index notes (Barred row)
@@ -170,19 +143,14 @@ module _ (texts : List (List ℕ)) (theories : List Loaded) (index : ℕ) (notes
   turn-going g g' (turns.Forked goal) was is same h = (going-run (notes ++ Forked goal ∷ []) g' is same h.0, fewer-left g g' was is h.1)
   turn-going g g' (turns.Closed value) was is same h = h
 
--- The label of the next command.
-pub label-here : (texts : List (List ℕ)) (theories : List Loaded) (index : ℕ) (notes : List Note) (g : Going) (n : ℕ) → IsGoing texts theories index notes g → n ≡ length g.rows.items → IsLabelAbove g.now.value.declarations (command_label index n)
-label-here texts theories index notes g n going count =
-    subst (λ (k : ℕ). IsLabelAbove g.now.value.declarations (command_label index k)) (sym (count ∙ (ap length going.rows ∙ length-map notes row_of))) going.way.label_above
-
 -- Turns as calls answer them.
-pub turn-made : (texts : List (List ℕ)) (theories : List Loaded) (index : ℕ) (T : Loaded) → IsTheoryAt theories index T → (old new : Going) (command : Command) (note : Note) (next : Content) (n : ℕ) → IsSound old.now.value
+pub turn-made : (texts : List (List ℕ)) (theories : List Loaded) (index : ℕ) (T : Loaded) → IsTheoryAt theories index T → (old new : Going) (command : Command) (note : Note) (next : Content) (n : ℕ)
     → slice_get T.text.commands (length old.rows.items) ≡ Some command → n ≡ length old.rows.items → Declares texts T.source (command_label index n) old.now.value command note next → (r : Result Turn AllocError)
     → IfOk r (λ _. new.now.value ≡ next) → IfOk r (λ _. new.left + 1 ≡ old.left) → IfOk r (λ _. new.rows.items ≡ old.rows.items ++ row_of note ∷ []) → IfOk r (λ turn. turn ≡ turn_of note)
     → IfOk r (λ turn. (notes : List Note) → IsGoing texts theories index notes old → IsGoingTurn texts theories index notes old new turn)
-turn-made texts theories index T at old new command note next n sound held count d (Ok turn) now_is fewer rows e =
-    λ notes going. turn-next texts theories index T at notes old new command note next sound going held (subst (λ (k : ℕ). Declares texts T.source (command_label index k) old.now.value command note next) count d) now_is fewer rows turn e
-turn-made texts theories index T at old new command note next n sound held count d (Err e) now_is fewer rows h = h
+turn-made texts theories index T at old new command note next n held count d (Ok turn) now_is fewer rows e =
+    λ notes going. turn-next texts theories index T at notes old new command note next going held (subst (λ (k : ℕ). Declares texts T.source (command_label index k) old.now.value command note next) count d) now_is fewer rows turn e
+turn-made texts theories index T at old new command note next n held count d (Err e) now_is fewer rows h = h
 
 pub last-made : (texts : List (List ℕ)) (theories : List Loaded) (index : ℕ) (T : Loaded) → IsTheoryAt theories index T → (old new : Going) → slice_get T.text.commands (length old.rows.items) ≡ None → (r : Result Turn AllocError)
     → IfOk r (λ turn. turn ≡ turns.Closed (Ran old.rows.items old.now.value)) → IfOk r (λ turn. (notes : List Note) → IsGoing texts theories index notes old → IsGoingTurn texts theories index notes old new turn)

@@ -1,50 +1,19 @@
--- What tests of conditions answer.
-use Rattle.std.proofs.Common.{◌≡◌, ◌∙◌, ℕ, ◌+◌, ◌-◌, ◌<◌, ◌≤◌, List, length, get_or, ◌↔◌, Bool, false, IsTrue, refl, ap, sym, subst, arith}
+-- What stands at places of lists.
+use Rattle.std.proofs.Common.{◌≡◌, ◌∙◌, ℕ, ◌-◌, ◌<◌, ◌≤◌, List, length, get_or, refl, ap, sym, arith}
 use Rattle.std.specs.Prelude.{Result, Ok, Err, IfOk, Some, None, slice_get}
 use Rattle.std.specs.Option.{option_map}
 use Rattle.std.specs.declared.alloc.Global.{Global}
 use Rattle.std.specs.declared.sync.Arc.{Arc}
 use Rattle.std.specs.declared.alloc.AllocError.{AllocError}
 use Rattle.std.proofs.lemmas.Option.{slice_get-map, slice_get_read, slice_get_past}
-use Rattle.pure_logic.specs.Content.{Content}
-use Rattle.pure_grammar.specs.Theories.TheoryText.{Command}
-use Rattle.pure_declare.specs.Fold.{IsOwnText}
-use Rattle.pure_declare.specs.Premises.{HasFullNames, HasNames}
-use Rattle.pure_declare.proofs.OutcomeSteps.{same-text}
 use Rattle.pure_script.specs.declared.theory.Command as code
 use Rattle.pure_script.specs.Seen.{seen_command, seen_commands}
 use Rattle.pure_work.specs.Parents.{IsLeftBy}
-use Rattle.pure_work.specs.Outline.{Outline, Barred, Ran, AreLabelsBelow, outlines}
-
--- Labels below one bound are below a greater one.
-pub labels-within : (m n : ℕ) (o : Outline) → m < n → AreLabelsBelow (m + 1) o → AreLabelsBelow n o
-labels-within m n (Barred row) less h = tt
-labels-within m n (Ran rows last) less h = λ x l A i. less-than l.theory (h x l A i)
-  where
-    less-than : (k : ℕ) → k < m + 1 → k < n
-    less-than k h = omega (arith, less, h)
+use Rattle.pure_work.specs.Outline.{Outline, outlines}
 
 -- The value at a place.
 pub outline-at : (ps : List (Arc Outline Global)) (i : ℕ) (p : Arc Outline Global) → i < length ps → p ≡ get_or ps i p → slice_get (outlines ps) i ≡ Some p.value
 outline-at ps i p within read = slice_get-map (λ (q : Arc Outline Global). q.value) ps i ∙ ap (option_map (λ (q : Arc Outline Global). q.value)) (slice_get_read ps (length ps) i p refl within read)
-
--- A test of two names is one of a definition's.
-pub both-named : (P Q : Type 0) (r : Result Bool AllocError) → IfOk r (λ b. IsTrue b ↔ (P × Q)) → IfOk r (λ b. IsTrue b ↔ (P × (Q × Unit {0})))
-both-named P Q (Ok b) h = (λ t. ((h.0 t).0, ((h.0 t).1, tt)), λ p. h.1 (p.0, p.1.0))
-both-named P Q (Err e) h = h
-
--- Whether a content's own text is found.
-pub names-told : (texts : List (List ℕ)) (Q : Content) (theory : List ℕ) (command : Command) (b : Bool) → IsOwnText texts Q theory → (IsTrue b ↔ HasFullNames texts theory command) → IsTrue b ↔ HasNames texts Q command
-names-told texts Q theory command b own h = (
-  λ t. record { theory = theory; own = own; full = h.0 t },
-  λ n. h.1 (subst (λ (t : List ℕ). HasFullNames texts t command) (same-text texts Q n.theory theory n.own own) n.full),
-)
-
-pub no-names : (texts : List (List ℕ)) (Q : Content) (command : Command) → ((theory : List ℕ) → ¬ IsOwnText texts Q theory) → IsTrue false ↔ HasNames texts Q command
-no-names texts Q command none = (λ t. absurd (false_true t), λ n. absurd (none n.theory n.own))
-  where
-    false_true : IsTrue false → ⊥
-    false_true t = cc
 
 -- What a theory left, where it is found.
 pub left-found : (ps : List (Arc Outline Global)) (index : ℕ) (p : Arc Outline Global) (r : Result (Arc Outline Global) AllocError) → 1 ≤ index → index - 1 < length ps → p ≡ get_or ps (index - 1) p

@@ -1,13 +1,18 @@
 -- Theories at their indexes.
-use Rattle.std.proofs.Common.{◌≡◌, ◌∙◌, ℕ, ◌+◌, ◌-◌, ◌<◌, ◌≤◌, inl, inr, List, length, get_or, ap, sym, refl, arith}
-use Rattle.std.specs.Prelude.{slice_get}
+use Rattle.std.proofs.Common.{◌≡◌, ◌∙◌, ℕ, zero, suc, ◌+◌, ◌-◌, ◌<◌, ◌≤◌, inl, inr, List, [], ◌∷◌, length, get_or, ap, sym, refl, subst, arith}
+use Rattle.std.specs.Prelude.{Some, slice_get}
 use Rattle.std.specs.Option.{option_map}
 use Rattle.std.proofs.lemmas.Option.{slice_get-map, slice_get_within, slice_get_read, slice_get_cases}
 use Rattle.std.proofs.lemmas.List.{length-map}
+use Rattle.pure_text.specs.Lists.{Each}
+use Rattle.pure_grammar.specs.Theories.TheoryText.{Command}
+use Rattle.pure_script.specs.Seen.{seen_command}
 use Rattle.pure_graph.specs.Order.{Loaded}
 use Rattle.pure_session.specs.declared.order.Loaded as code
 use Rattle.pure_session.specs.Waiting.{seen_loaded, all_loaded}
+use Rattle.pure_verdicts.specs.Loaded.{IsLoadedSession}
 use Rattle.pure_verdicts.specs.Verdicts.{IsTheoryAt}
+use Rattle.pure_verdicts.proofs.TextLaws.{theory-well}
 
 pub index-some : (theories : List Loaded) (index : ℕ) (T : Loaded) → IsTheoryAt theories index T → 1 ≤ index
 index-some theories index T h = omega (arith, h.1)
@@ -32,3 +37,23 @@ theory-behind theories place index within next = elim (slice_get_cases theories 
   | inl h ↦ (h.0, (place, omega (arith, next), h.2))
   | inr h ↦ absurd (omega (arith, within, h.0))
 ]
+
+-- What all have, one has.
+pub each-get : {A : Type 0} (P : A → Type 0) (xs : List A) (d : A) (i : ℕ) → Each P xs → i < length xs → P (get_or xs i d)
+each-get P [] d i h within = absurd (omega (arith, within))
+each-get P (x ∷ xs) d zero h within = h.0
+each-get P (x ∷ xs) d (suc i) h within = each-get P xs d i h.1 (omega (arith, within))
+
+module _ (texts : List (List ℕ)) (theories : List Loaded) (session : IsLoadedSession texts theories) where
+  -- A loaded theory has few commands.
+  pub commands-few : (index : ℕ) (l : code.Loaded) → IsTheoryAt theories index (seen_loaded l) → length l.text.commands.items ≤ 512
+  commands-few index l at = omega (arith, (theory-well texts theories session index (seen_loaded l) at).few, length-map l.text.commands.items seen_command)
+
+  pub place-few : (index : ℕ) (T : Loaded) → IsTheoryAt theories index T → (place : ℕ) (command : Command) → slice_get T.text.commands place ≡ Some command → place < 512
+  place-few index T at place command held = omega (arith, (theory-well texts theories session index T at).few, slice_get_within T.text.commands place command held)
+
+  -- Its parents are among those before it.
+  pub parents-before : (index before : ℕ) (T : Loaded) → IsTheoryAt theories index T → index ≡ before + 1 → Each (λ p. (1 ≤ p) × (p ≤ before)) T.parents
+  parents-before index before T at next =
+      let here : at.0 ≡ before = omega (arith, at.1, next) in
+      subst (λ (n : ℕ). Each (λ p. (1 ≤ p) × (p ≤ n)) T.parents) here (session.parents at.0 T at.2)

@@ -1,11 +1,7 @@
 -- What a theory leaves when it closes: the row by which it was refused, or the rows of its commands, with a hole at each lemma, and its last content.
-use Rattle.std.specs.Prelude.{ℕ, ◌<◌, List, [], ◌∷◌, map, Bool, true, false, Option, Some, None}
+use Rattle.std.specs.Prelude.{List, [], ◌∷◌, map, Bool, true, false, Option, Some, None}
 use Rattle.std.specs.declared.alloc.Global.{Global}
 use Rattle.std.specs.declared.sync.Arc.{Arc}
-use Rattle.pure_text.specs.Lists.{IsIn}
-use Rattle.pure_definitions.specs.Names.{Label}
-use Rattle.pure_definitions.specs.Terms.Term.{Term}
-use Rattle.pure_definitions.specs.Declarations.Decl.{PromiseDecl}
 use Rattle.pure_logic.specs.Content.{Content}
 use Rattle.pure_print.specs.declared.row.Row.{Row}
 use Rattle.pure_declare.specs.Notes.{Note, Said, Forked}
@@ -57,12 +53,3 @@ abbrev pub lasts : List Outline → List Content
 lasts [] = []
 lasts (Barred row ∷ os) = lasts os
 lasts (Ran rows last ∷ os) = last ∷ lasts os
-
--- Each promise of the content is one of a theory with a lesser index.
-abbrev pub HasLabelsBelow : (bound : ℕ) → Content → Type 0
-HasLabelsBelow bound Q = (x : ℕ) (l : Label) (A : Term) → IsIn (PromiseDecl x l A) Q.declarations → l.theory < bound
-
--- Each promise of the last content, if there is one, is so.
-abbrev pub AreLabelsBelow : (bound : ℕ) → Outline → Type 0
-AreLabelsBelow bound (Barred row) = Unit {0}
-AreLabelsBelow bound (Ran rows last) = HasLabelsBelow bound last

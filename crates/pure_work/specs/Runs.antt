@@ -2,14 +2,11 @@
 use Rattle.std.specs.Prelude.{◌≡◌, ℕ, List, [], length}
 use Rattle.pure_grammar.specs.Theories.TheoryText.{Command}
 use Rattle.pure_logic.specs.Content.{Content}
-use Rattle.pure_lookup.specs.Laws.{IsInSession}
-use Rattle.pure_theory.specs.Refusals.{IsLabelAbove}
 use Rattle.pure_print.specs.declared.row.Row.{Row}
 use Rattle.pure_graph.specs.Order.{Loaded}
 use Rattle.pure_declare.specs.Notes.{Note}
 use Rattle.pure_verdicts.specs.Verdicts.{Verdict, IsTheoryAt, IsBarred, AllClose}
 use Rattle.pure_verdicts.specs.Statements.{IsRun}
-use Rattle.pure_verdicts.specs.Steps.{command_label}
 use Rattle.pure_work.specs.Outline.{rows_of}
 use Rattle.pure_work.specs.declared.run.Going.{Going}
 use Rattle.pure_work.specs.declared.run.Standing.{Standing}
@@ -24,13 +21,11 @@ pub record IsBarredBy (texts : List (List ℕ)) (theories : List Loaded) (index 
   pub closed : AllClose texts theories theory.parents parents
   pub barred : IsBarred texts theories theory parents row
 
--- The theory with this index has run up to here: its first commands left these notes and this content, and so many commands are left. The content is as the next command asks.
+-- The theory with this index has run up to here: its first commands left these notes and this content, and so many commands are left.
 pub record IsUnderWay (texts : List (List ℕ)) (theories : List Loaded) (index : ℕ) (notes : List Note) (now : Content) (left : ℕ) : Type 0 where
   pub commands : List Command
   pub run : IsRun texts theories index notes now commands
   pub count : left ≡ length commands
-  pub in_session : IsInSession texts now
-  pub label_above : IsLabelAbove now.declarations (command_label index (length notes))
 
 -- and the program holds so
 pub record IsGoing (texts : List (List ℕ)) (theories : List Loaded) (index : ℕ) (notes : List Note) (going : Going) : Type 0 where

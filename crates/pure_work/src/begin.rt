@@ -1,19 +1,17 @@
 //! Theories that begin.
-ghost use Rattle.std.specs.Prelude.{◌≡◌, ◌<◌, ◌++◌, ℕ, List, [], length, Some, IfOk, slice_get};
-ghost use Rattle.pure_text.specs.Lists.{Each};
+ghost use Rattle.std.specs.Prelude.{◌≡◌, ◌<◌, ◌++◌, ℕ, List, [], length, Some, None, IfOk, slice_get};
 ghost use Rattle.pure_typ.specs.NameTexts.{HasText};
-ghost use Rattle.pure_theory.specs.Begin.{contents};
+ghost use Rattle.pure_theory.specs.Begin.{MayBegin, contents};
 ghost use Rattle.pure_graph.specs.Session.{parent_refused_text};
 ghost use Rattle.pure_session.specs.Waiting.{seen_loaded};
-ghost use Rattle.pure_verdicts.specs.Verdicts.{beginning_over, refused_theory};
-ghost use Rattle.pure_work.specs.Outline.{Outline, outlines, lasts, HasLabelsBelow};
-ghost use Rattle.pure_work.specs.Parents.{AreOutlinesOf, HasParents, IsNameOfParent};
+ghost use Rattle.pure_verdicts.specs.Verdicts.{IsTheoryAt, beginning_over, refused_theory};
+ghost use Rattle.pure_work.specs.Outline.{Outline, outlines, lasts};
+ghost use Rattle.pure_work.specs.Parents.{AreOutlinesOf, HasParents, IsFirstBarredAt, IsNameOfParent};
 ghost use Rattle.pure_work.specs.Runs.{IsRunOf};
 ghost use Rattle.pure_work.specs.Begun.{IsFirst, IsBegunOver};
 
 use crate::checker::Checker;
 use crate::closed::Closed;
-use crate::conditions::{come_before, number_of};
 use crate::parents::first_barred;
 use crate::refused::{not_begun, parent_refused};
 use crate::run::{Going, Run, Standing};
@@ -53,14 +51,11 @@ impl Checker {
         parent_refused(self.alloc, theory.name.bytes(), parent)
     }
 
-    /// What has begun with this content, if look-ups in it may go by the session's names.
+    /// What has begun with this content.
     fn going(&self, left: u32, first: Theory) -> Result<Going, AllocError>
-        ensures { IfOk result (λ going. IsFirst self.now.texts left first going) }
+        ensures { IfOk result (λ going. IsFirst left first going) }
     {
         let now = shared(self.alloc, first)?;
-        if !now.may_look_up(self.names()) {
-            return Err(AllocError);
-        }
         Ok(Going {
             rows: Vec::new(self.alloc),
             now,
@@ -76,14 +71,13 @@ impl Checker {
         name: Name,
         stages: &[Stage],
     ) -> Result<Standing, AllocError>
+        requires theory { IsTheoryAt self.now.theories index (seen_loaded theory.now) }
         requires text { HasText self.now.texts name theory.now.name }
-        requires labels { Each (HasLabelsBelow index) (contents stages.now) }
+        requires may { MayBegin (record { name = name; index = index }) (contents stages.now) }
         ensures { IfOk result (IsBegunOver self.now.texts index (seen_loaded theory.now) (contents stages.now)) }
     {
-        let left = number_of(theory.text.commands.len())?;
-        if !Theory::may_begin(self.alloc, index, name, stages)? {
-            return Err(AllocError);
-        }
+        self.is_loaded_session();
+        let left = theory.text.commands.len() as u32;
         match Theory::begin(self.alloc, index, name, stages) {
             Ok(first) => {
                 let going = self.going(left, first)?;
@@ -97,6 +91,18 @@ impl Checker {
         }
     }
 
+    /// The name of the theory.
+    fn name_of(&self, theory: &Loaded) -> Name
+        requires { (index : ℕ) × IsTheoryAt self.now.theories index (seen_loaded theory.now) }
+        ensures { HasText self.now.texts result theory.now.name }
+    {
+        self.is_loaded_session();
+        match self.names().names().find(theory.name.bytes()) {
+            Some(name) => name,
+            None => unreachable!(),
+        }
+    }
+
     /// How the theory begins, none of whose parents was refused.
     fn begun(
         &self,
@@ -104,14 +110,13 @@ impl Checker {
         theory: &Loaded,
         parents: &[Arc<Closed>],
     ) -> Result<Standing, AllocError>
+        requires theory { IsTheoryAt self.now.theories index (seen_loaded theory.now) }
+        requires parents { AreOutlinesOf self.now.texts self.now.theories theory.now.parents.items (outlines parents.now) }
+        requires ran { IsFirstBarredAt (outlines parents.now) None }
         ensures { IfOk result (IsBegunOver self.now.texts index (seen_loaded theory.now) (beginning_over (lasts (outlines parents.now)))) }
     {
-        let Some(name) = self.names().names().find(theory.name.bytes()) else {
-            return Err(AllocError);
-        };
-        if !come_before(parents, index) {
-            return Err(AllocError);
-        }
+        self.is_loaded_session();
+        let name = self.name_of(theory);
         let stages = self.stages_over(parents)?;
         self.begun_over(index, theory, name, stages.as_slice())
     }

@@ -4,6 +4,7 @@ ghost use Rattle.pure_typ.specs.NameTexts.{AreSessionTexts};
 ghost use Rattle.pure_logic.specs.PureContent.{pure_content};
 ghost use Rattle.pure_graph.specs.Order as order;
 ghost use Rattle.pure_session.specs.Waiting.{seen_loaded, all_loaded};
+ghost use Rattle.pure_verdicts.specs.Loaded.{IsLoadedSession};
 ghost use Rattle.pure_verdicts.specs.Verdicts.{IsTheoryAt};
 
 use pure_session::Loaded;
@@ -14,7 +15,7 @@ use std::alloc::{AllocError, Global};
 use std::marker::Model;
 use std::sync::Arc;
 
-/// The session whose theories are run: its names by their bases, its theories in load order, and Pure's stage.
+/// The session whose theories are run, as it was loaded: its names by their bases, its theories in load order, and Pure's stage.
 #[derive(Drop)]
 pub struct Checker {
     pub(crate) alloc: Global,
@@ -29,6 +30,7 @@ impl Model for Checker {
     ghost use Rattle.pure_work.specs.CheckedCodes.{coded_checked};
     ghost use Rattle.pure_logic.specs.PureContent.{pure_content};
     ghost use Rattle.pure_session.specs.Waiting.{all_loaded};
+    ghost use Rattle.pure_verdicts.specs.Loaded.{IsLoadedSession};
 
     ghost Value = { Checked };
 
@@ -36,7 +38,7 @@ impl Model for Checker {
 
     ghost view = { λ c. record { texts = c.names; theories = all_loaded c.theories.items } };
 
-    ghost invariant = { λ c. c.pure.value ≡ pure_content };
+    ghost invariant = { λ c. (c.pure.value ≡ pure_content) × IsLoadedSession c.names (all_loaded c.theories.items) };
 }
 
 /// Pure's stage.
@@ -54,6 +56,7 @@ impl Checker {
     ///
     /// Want of memory alone.
     pub fn make(alloc: Global, names: Names, theories: Vec<Loaded>) -> Result<Checker, AllocError>
+        requires { IsLoadedSession names (all_loaded theories.items) }
         ensures { IfOk result (λ c. c ≡ record { texts = names; theories = all_loaded theories.items }) }
     {
         let pure = pure_stage(alloc)?;
@@ -64,6 +67,13 @@ impl Checker {
             theories,
             pure,
         })
+    }
+
+    /// The session is one that was loaded.
+    pub(crate) fn is_loaded_session(&self)
+        ensures { IsLoadedSession self.now.texts self.now.theories }
+    {
+        let _ = &self.names;
     }
 
     /// The names by their bases.

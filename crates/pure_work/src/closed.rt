@@ -1,7 +1,7 @@
 //! What a theory leaves when it closes.
-ghost use Rattle.std.specs.Prelude.{◌≡◌, ◌+◌, option_map, IsTrue};
+ghost use Rattle.std.specs.Prelude.{◌≡◌, option_map};
 ghost use Rattle.pure_work.specs.Outline as spec;
-ghost use Rattle.pure_work.specs.Outline.{HasLabelsBelow, AreLabelsBelow, is_barred, last_of, refusal_of, command_rows};
+ghost use Rattle.pure_work.specs.Outline.{is_barred, last_of, refusal_of, command_rows};
 
 use pure_print::Row;
 use pure_theory::Stage;
@@ -17,7 +17,6 @@ enum Ending {
 /// What a theory leaves when it closes: the row by which it was refused when it began, or the rows that its commands left, with a hole at each lemma, and its last stage.
 #[derive(Drop)]
 pub struct Closed {
-    index: u32,
     ending: Ending,
 }
 
@@ -29,33 +28,26 @@ impl Model for Closed {
 
     ghost coded = { coded_outline };
 
-    ghost use Rattle.std.specs.Prelude.{◌+◌};
-    ghost use Rattle.pure_work.specs.Outline.{AreLabelsBelow};
     ghost use Rattle.pure_work.specs.Endings.{seen_ending};
 
     ghost view = { λ c. seen_ending c.ending };
-
-    ghost invariant = { λ c. AreLabelsBelow (c.index + 1) (seen_ending c.ending) };
 }
 
 impl Closed {
-    /// What the theory with this index leaves, which was refused by this row.
-    pub(crate) fn barred(index: u32, row: Row) -> Closed
+    /// What a theory leaves that was refused by this row.
+    pub(crate) fn barred(row: Row) -> Closed
         ensures { result ≡ spec.Barred row }
     {
         Closed {
-            index,
             ending: Ending::Barred { row },
         }
     }
 
-    /// What the theory with this index leaves, which ran.
-    pub(crate) fn ran(index: u32, rows: Vec<Option<Row>>, last: Stage) -> Closed
-        requires { HasLabelsBelow (index + 1) last.value }
+    /// What a theory leaves that ran.
+    pub(crate) fn ran(rows: Vec<Option<Row>>, last: Stage) -> Closed
         ensures { result ≡ spec.Ran rows.items last.value }
     {
         Closed {
-            index,
             ending: Ending::Ran { rows, last },
         }
     }
@@ -98,13 +90,5 @@ impl Closed {
             Ending::Barred { .. } => None,
             Ending::Ran { last, .. } => Some(last),
         }
-    }
-
-    /// Whether the theory comes before this index in load order; then all its promises do.
-    pub(crate) fn comes_before(&self, index: u32) -> bool
-        ensures { IsTrue result → AreLabelsBelow index self.now }
-    {
-        let _ = &self.ending;
-        self.index < index
     }
 }

@@ -1,23 +1,20 @@
 //! The turns of a theory that runs.
 ghost use Rattle.std.specs.Prelude.{◌≡◌, ◌<◌, ◌+◌, ◌++◌, ◌∷◌, ℕ, List, [], length, Some, IfOk, slice_get};
-ghost use Rattle.pure_lookup.specs.Laws.{IsInSession};
-ghost use Rattle.pure_theory.specs.Refusals.{IsLabelAbove};
-ghost use Rattle.pure_theory.specs.Stage.{IsSound};
 ghost use Rattle.pure_script.specs.Seen.{seen_command, seen_commands};
 ghost use Rattle.pure_session.specs.Waiting.{seen_loaded};
 ghost use Rattle.pure_declare.specs.Notes as notes;
 ghost use Rattle.pure_declare.specs.Seen.{seen_note};
 ghost use Rattle.pure_declare.specs.Fold.{Declares};
 ghost use Rattle.pure_verdicts.specs.Verdicts.{IsTheoryAt};
+ghost use Rattle.pure_verdicts.specs.Given.{IsNextGiven};
 ghost use Rattle.pure_work.specs.Outline as outline;
-ghost use Rattle.pure_work.specs.Outline.{HasLabelsBelow, row_of};
+ghost use Rattle.pure_work.specs.Outline.{row_of};
 ghost use Rattle.pure_work.specs.Runs.{IsGoing, IsRunOf};
 ghost use Rattle.pure_work.specs.Turns.{turn_of, IsGoingTurn, IsTurn};
 ghost use Rattle.pure_work.specs.declared.run.Turn.TheVariants as turns;
 
 use crate::checker::Checker;
 use crate::closed::Closed;
-use crate::conditions::{has_names, has_ranges, is_small, number_of};
 use crate::run::{Going, Run, Standing, Turn};
 use pure_declare::{Declared, Note, declare};
 use pure_print::Row;
@@ -43,24 +40,23 @@ fn copied_row(alloc: Global, row: &Row) -> Result<Row, AllocError>
 }
 
 /// A theory that was refused when it began closes with its row.
-fn barred_turn(alloc: Global, index: u32, row: &Row) -> Result<Turn, AllocError>
+fn barred_turn(alloc: Global, row: &Row) -> Result<Turn, AllocError>
     ensures { IfOk result (λ turn. turn ≡ turns.Closed (outline.Barred row.now)) }
 {
     let row = copied_row(alloc, row)?;
     Ok(Turn::Closed {
-        closed: Closed::barred(index, row),
+        closed: Closed::barred(row),
     })
 }
 
 /// A theory that has no command left closes with its rows and its last stage.
-fn last_turn(alloc: Global, index: u32, going: &mut Going) -> Result<Turn, AllocError>
-    requires { HasLabelsBelow (index + 1) going.old.now.value }
+fn last_turn(alloc: Global, going: &mut Going) -> Result<Turn, AllocError>
     ensures { IfOk result (λ turn. turn ≡ turns.Closed (outline.Ran going.old.rows.items going.old.now.value)) }
 {
     let last = Arc::try_clone(&going.now)?;
     let rows = mem::replace(&mut going.rows, Vec::new(alloc));
     Ok(Turn::Closed {
-        closed: Closed::ran(index, rows, last),
+        closed: Closed::ran(rows, last),
     })
 }
 
@@ -105,20 +101,11 @@ impl Checker {
         stage: &Stage,
         label: Label,
     ) -> Result<Declared, AllocError>
-        requires session { IsInSession self.now.texts stage.now.value }
-        requires above { IsLabelAbove stage.now.value.declarations label }
-        ensures declares { IfOk result (λ d. Declares self.now.texts theory.now.source label stage.now.value (seen_command command.now) (seen_note d.note) d.stage.value) }
-        ensures sound { IsSound stage.now.value }
+        requires { IsNextGiven self.now.texts theory.now.source stage.now.value label (seen_command command.now) }
+        ensures { IfOk result (λ d. Declares self.now.texts theory.now.source label stage.now.value (seen_command command.now) (seen_note d.note) d.stage.value) }
     {
-        stage.content_is_sound();
         let names = self.names();
         let source = theory.source.bytes();
-        if !has_names(self.alloc, names.names(), stage, command)? {
-            return Err(AllocError);
-        }
-        if !(has_ranges(source, command) && is_small(source)) {
-            return Err(AllocError);
-        }
         declare(self.alloc, stage, names, source, command, label)
     }
 
@@ -135,7 +122,8 @@ impl Checker {
         requires command { slice_get (seen_commands theory.now.text.commands.items) (length going.old.rows.items) ≡ Some (seen_command command.now) }
         ensures { IfOk result (λ turn. (past : List notes.Note) → IsGoing self.now.texts self.now.theories index past going.old → IsGoingTurn self.now.texts self.now.theories index past going.old going.new turn) }
     {
-        let place = number_of(going.rows.len())?;
+        self.is_loaded_session();
+        let place = going.rows.len() as u32;
         let label = Label {
             theory: index,
             command: place,
@@ -152,7 +140,7 @@ impl Checker {
     {
         let theory = self.theory(index);
         match theory.text.commands.get(going.rows.len()) {
-            None => last_turn(self.alloc, index, going),
+            None => last_turn(self.alloc, going),
             Some(command) => self.command_turn(index, theory, command, going),
         }
     }
@@ -168,7 +156,7 @@ impl Checker {
     {
         let index = run.index;
         match &mut run.standing {
-            Standing::Barred { row } => barred_turn(self.alloc, index, row),
+            Standing::Barred { row } => barred_turn(self.alloc, row),
             Standing::Going { going } => self.going_turn(index, going),
         }
     }

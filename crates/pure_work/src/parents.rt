@@ -1,7 +1,7 @@
 //! What the parents of a theory left.
-ghost use Rattle.std.specs.Prelude.{◌≡◌, ◌++◌, IfOk, OnOk};
+ghost use Rattle.std.specs.Prelude.{◌≡◌, ◌≤◌, ◌++◌, length, IfOk, OnOk};
 ghost use Rattle.std.specs.Option.{option_to_list};
-ghost use Rattle.pure_text.specs.Lists.{EachTwo};
+ghost use Rattle.pure_text.specs.Lists.{Each, EachTwo};
 ghost use Rattle.pure_theory.specs.Begin.{contents};
 ghost use Rattle.pure_verdicts.specs.Verdicts.{beginning_over};
 ghost use Rattle.pure_work.specs.Outline.{outlines, last_of, lasts};
@@ -60,25 +60,22 @@ impl Checker {
     }
 }
 
-/// What the theory with this index left, where it stands among these, which are in load order.
+/// What the theory with this index left, which stands among these, in load order.
 fn left_by(closed: &[Arc<Closed>], index: u32) -> Result<Arc<Closed>, AllocError>
+    requires { (1 ≤ index) × (index ≤ length closed.now) }
     ensures { IfOk result (λ value. IsLeftBy (outlines closed.now) index value.value) }
 {
-    if index == 0 {
-        return Err(AllocError);
-    }
-    match closed.get((index - 1) as usize) {
-        Some(value) => Arc::try_clone(value),
-        None => Err(AllocError),
-    }
+    let value = &closed[(index - 1) as usize];
+    Arc::try_clone(value)
 }
 
-/// What the theories with these indexes left, where they all stand among these, which are in load order.
+/// What the theories with these indexes left, which all stand among these, in load order.
 pub(crate) fn all_left_by(
     alloc: Global,
     closed: &[Arc<Closed>],
     indexes: &[u32],
 ) -> Result<Vec<Arc<Closed>>, AllocError>
+    requires { Each (λ index. (1 ≤ index) × (index ≤ length closed.now)) indexes.now }
     ensures { IfOk result (λ values. EachTwo (IsLeftBy (outlines closed.now)) indexes.now (outlines values.items)) }
 {
     let mut values = Vec::new(alloc);

@@ -1,5 +1,5 @@
 //! The statements of all theories, one after the other.
-ghost use Rattle.std.specs.Prelude.{◌<◌, ℕ, suc, List, length, IfOk};
+ghost use Rattle.std.specs.Prelude.{◌≡◌, ◌<◌, ℕ, suc, List, length, IfOk};
 ghost use Rattle.pure_declare.specs.Notes as notes;
 ghost use Rattle.pure_work.specs.Outline.{outlines};
 ghost use Rattle.pure_work.specs.Parents.{HasParents};
@@ -66,9 +66,11 @@ impl Checker {
         duties: &mut Vec<Duty>,
     ) -> Result<Arc<Closed>, AllocError>
         requires place { place < length self.now.theories }
+        requires count { length closed.now ≡ place }
         requires before { HaveClosed self.now.texts self.now.theories (outlines closed.now) duties.old.items }
         ensures { IfOk result (λ one. RanOut self.now.texts self.now.theories (suc place) duties.old.items duties.new.items one.value) }
     {
+        self.is_loaded_session();
         let index = index_behind(place)?;
         let theory = self.theory(index);
         let parents = all_left_by(self.alloc, closed, theory.parents.as_slice())?;

@@ -1,8 +1,8 @@
-use Rattle.std.proofs.Common.{arith, ◌≤◌}
+use Rattle.std.proofs.Common.{arith, ◌-◌, ◌<◌, length}
 use Rattle.pure_work.proofs.ConditionLaws.{left-found}
 use Rattle.pure_work.proofs.parents.left_by.Goals as goal
 
-pub returns-in-Some : goal.returns-in-Some
-returns-in-Some c =
-    let some : 1 ≤ c.args.index = omega (arith, c.if-index-eq0.false) in
-    left-found c.args.closed.now c.args.index c.in-Some.value.now c.try_clone.result some c.in-Some.ensures.lookup.3.0 c.in-Some.ensures.lookup.1 c.try_clone.ensures
+pub returns : goal.returns
+returns c =
+    let within : c.args.index - 1 < length c.args.closed.now = omega (arith, c.requires.0, c.requires.1) in
+    left-found c.args.closed.now c.args.index c.index-closed-index.result c.try_clone.result c.requires.0 within c.index-closed-index.is c.try_clone.ensures

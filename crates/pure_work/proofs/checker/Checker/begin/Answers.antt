@@ -33,3 +33,7 @@ returns-in_ok-standing-in-None c =
       standing = stands-begun c.args.self.now.texts c.args.self.now.theories c.args.theory (seen_loaded c.theory-loaded.result.now) c.theory-loaded.ensures (outlines c.args.parents.now) parents c.in-None.ensures c.in_ok-standing-in-None.standing
           c.in_ok-standing-in-None.ensures;
     }
+
+pub begun-requires-clause-parents : goal.begun-requires-clause-parents
+begun-requires-clause-parents c =
+    parents-of c.args.self.now.texts c.args.self.now.theories c.args.theory (outlines c.args.parents.now) (seen_loaded c.theory-loaded.result.now) c.requires c.theory-loaded.ensures

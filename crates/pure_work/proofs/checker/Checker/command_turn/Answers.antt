@@ -2,13 +2,15 @@ use Rattle.std.proofs.Common.{◌≡◌, length, arith}
 use Rattle.pure_script.specs.Seen.{seen_command}
 use Rattle.pure_session.specs.Waiting.{seen_loaded}
 use Rattle.pure_declare.specs.Seen.{seen_note}
-use Rattle.pure_work.proofs.CommandLaws.{label-here, some-left, turn-made}
+use Rattle.pure_work.proofs.CommandLaws.{next-given, some-left, turn-made}
+use Rattle.pure_work.proofs.PlaceLaws.{place-few}
 use Rattle.pure_work.proofs.checker.Checker.command_turn.Goals as goal
 
-pub declared-requires-clause-above : goal.declared-requires-clause-above
-declared-requires-clause-above c =
-    let count : c.in_ok-place.place ≡ length c.args.going.now.rows.items = omega (arith, c.in_ok-place.ensures, c.len.ensures, c.args.going.now.rows.ok) in
-    label-here c.args.self.now.texts c.args.self.now.theories c.args.index c.requires.runs.0 c.args.going.now c.in_ok-place.place c.requires.runs.1 count
+pub declared-requires : goal.declared-requires
+declared-requires c =
+    let count : c.len-place.result ≡ length c.args.going.now.rows.items = omega (arith, c.len-place.ensures, c.args.going.now.rows.ok) in
+    next-given c.args.self.now.texts c.args.self.now.theories c.args.index (seen_loaded c.args.theory.now) c.requires.theory c.is_loaded_session.ensures c.requires.runs.0 c.args.going.now c.len-place.result (seen_command c.args.command.now)
+    c.requires.runs.1 count c.requires.command
 
 pub go_on-requires : goal.go_on-requires
 go_on-requires c =
@@ -16,6 +18,11 @@ go_on-requires c =
 
 pub returns : goal.returns
 returns c =
-    let count : c.in_ok-place.place ≡ length c.args.going.now.rows.items = omega (arith, c.in_ok-place.ensures, c.len.ensures, c.args.going.now.rows.ok) in
+    let count : c.len-place.result ≡ length c.args.going.now.rows.items = omega (arith, c.len-place.ensures, c.args.going.now.rows.ok) in
     turn-made c.args.self.now.texts c.args.self.now.theories c.args.index (seen_loaded c.args.theory.now) c.requires.theory c.args.going.now c.go_on.new.going (seen_command c.args.command.now) (seen_note c.in_ok-declared.declared.note)
-    c.in_ok-declared.declared.stage.value c.in_ok-place.place c.declared.ensures.sound c.requires.command count c.in_ok-declared.ensures.declares c.go_on.result c.go_on.ensures.now c.go_on.ensures.left c.go_on.ensures.rows c.go_on.ensures.turn
+    c.in_ok-declared.declared.stage.value c.len-place.result c.requires.command count c.in_ok-declared.ensures c.go_on.result c.go_on.ensures.now c.go_on.ensures.left c.go_on.ensures.rows c.go_on.ensures.turn
+
+pub overflow_cast-place : goal.overflow_cast-place
+overflow_cast-place c =
+    let few = place-few c.args.self.now.texts c.args.self.now.theories c.is_loaded_session.ensures c.args.index (seen_loaded c.args.theory.now) c.requires.theory (length c.args.going.now.rows.items) (seen_command c.args.command.now) c.requires.command in
+    omega (arith, few, c.len-place.ensures, c.args.going.now.rows.ok)

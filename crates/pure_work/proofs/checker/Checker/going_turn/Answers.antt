@@ -1,11 +1,8 @@
 use Rattle.std.proofs.Common.{◌≡◌, length, arith}
 use Rattle.pure_session.specs.Waiting.{seen_loaded}
 use Rattle.pure_work.proofs.ConditionLaws.{command-here, no-command}
-use Rattle.pure_work.proofs.CommandLaws.{going-labels, last-made}
+use Rattle.pure_work.proofs.CommandLaws.{last-made}
 use Rattle.pure_work.proofs.checker.Checker.going_turn.Goals as goal
-
-pub last_turn-requires : goal.last_turn-requires
-last_turn-requires c = going-labels c.args.self.now.texts c.args.self.now.theories c.args.index c.requires.0 c.args.going.now c.requires.1
 
 pub command_turn-requires-clause-command : goal.command_turn-requires-clause-command
 command_turn-requires-clause-command c =

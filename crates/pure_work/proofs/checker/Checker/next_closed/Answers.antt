@@ -1,6 +1,7 @@
+use Rattle.std.proofs.Common.{◌∙◌, ◌+◌, ℕ, length, ap, sym}
 use Rattle.pure_work.specs.Outline.{outlines}
 use Rattle.pure_session.specs.Waiting.{seen_loaded}
-use Rattle.pure_work.proofs.PlaceLaws.{theory-behind}
+use Rattle.pure_work.proofs.PlaceLaws.{theory-behind, parents-before}
 use Rattle.pure_work.proofs.SessionLaws.{left-outlines}
 use Rattle.pure_work.proofs.checker.Checker.next_closed.Goals as goal
 
@@ -13,3 +14,8 @@ run_theory-requires c = record {
   is_at = c.theory-theory.ensures;
   outlines = rw c.as_slice-2.ensures.value (left-outlines c.args.self.now.texts c.args.self.now.theories (outlines c.args.closed.now) c.args.duties.now.items c.theory-theory.result.now.parents.items (outlines c.in_ok-parents.parents.items) c.requires.before (rw c.as_slice.ensures.value at c.in_ok-parents.ensures));
 }
+
+pub all_left_by-requires : goal.all_left_by-requires
+all_left_by-requires c = rw (c.as_slice.ensures.value)
+    (parents-before c.args.self.now.texts c.args.self.now.theories c.is_loaded_session.ensures c.in_ok-index.index (length c.args.closed.now) (seen_loaded c.theory-theory.result.now) c.theory-theory.ensures
+    (c.in_ok-index.ensures ∙ ap (λ (n : ℕ). n + 1) (sym c.requires.count)))
