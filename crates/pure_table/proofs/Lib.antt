@@ -4,3 +4,4 @@ pub mod OnceLaws
 pub mod FillingLaws
 pub mod PrintedLaws
 pub mod EntryLaws
+pub mod FulfilledLaws

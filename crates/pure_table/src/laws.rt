@@ -1,4 +1,5 @@
 //! What the definitions mean: laws, each carried by the contract of a function that does nothing.
+ghost use Rattle.pure_table.specs.Fulfilled.{ResultsFulfil};
 ghost use Rattle.pure_table.specs.Laws.{LemmasProvable, SaidAreParts, SaidAreStatements, TableHasFates, TableIsDerived, TableOnce};
 
 /// What the theories of a session left are its statements, and with the entries of its lemmas the parts of its table.
@@ -25,4 +26,9 @@ pub fn table_is_derived()
 /// A session comes to one table at most.
 pub fn table_once()
     ensures { TableOnce }
+{}
+
+/// A lemma's result fulfils its promise.
+pub fn results_fulfil()
+    ensures { ResultsFulfil }
 {}
