@@ -1,5 +1,5 @@
 -- The results of a session's lemmas fulfil their promises.
-use Rattle.std.proofs.Common.{◌≡◌, ℕ, List, [], ◌∷◌, ◌++◌, length, take, map, inl, inr, refl, sym, ◌∙◌, ap, subst, Ok}
+use Rattle.std.proofs.Common.{◌≡◌, ℕ, suc, List, [], ◌∷◌, ◌++◌, length, take, map, inl, inr, refl, sym, ◌∙◌, ap, subst, Ok}
 use Rattle.std.specs.declared.cmp.Ordering.TheVariants.{Less}
 use Rattle.pure_text.specs.Lists.{IsIn, Each}
 use Rattle.pure_text.proofs.ListLaws.{in_split, in-map, each_of, each_at}
@@ -35,7 +35,7 @@ labels-split (d ∷ fs) gs f = ap (λ ls. d.label ∷ ls) (labels-split fs gs f)
 
 labels-long : (fs : List Fork) → length (map Fork.label fs) ≡ length fs
 labels-long [] = refl
-labels-long (d ∷ fs) = ap (λ n. 1 + n) (labels-long fs)
+labels-long (d ∷ fs) = ap suc (labels-long fs)
 
 -- A lemma that comes before another is one of those in front of it.
 forked-before : (fs earlier later : List Fork) (f g : Fork) → fs ≡ earlier ++ f ∷ later → IsLabelSet (map Fork.label fs) → IsIn g fs → label_cmp g.label f.label ≡ Less

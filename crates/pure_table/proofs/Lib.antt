@@ -5,3 +5,8 @@ pub mod FillingLaws
 pub mod PrintedLaws
 pub mod EntryLaws
 pub mod FulfilledLaws
+pub mod JoinLaws
+pub mod MeantLaws
+pub mod FatesLaws
+pub mod CloseLaws
+pub mod ThereLaws

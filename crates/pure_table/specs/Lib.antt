@@ -3,3 +3,4 @@ pub mod Filling
 pub mod Printed
 pub mod Laws
 pub mod Fulfilled
+pub mod There

@@ -1,5 +1,6 @@
 //! What the definitions mean: laws, each carried by the contract of a function that does nothing.
-ghost use Rattle.pure_table.specs.Fulfilled.{ResultsFulfil};
+ghost use Rattle.pure_table.specs.Fulfilled.{EntriesMayJoin, ResultsFulfil};
+ghost use Rattle.pure_table.specs.There.{FatesAreThere, ProofsHaveValues, TableIsThere, TheoryCloses};
 ghost use Rattle.pure_table.specs.Laws.{LemmasProvable, SaidAreParts, SaidAreStatements, TableHasFates, TableIsDerived, TableOnce};
 
 /// What the theories of a session left are its statements, and with the entries of its lemmas the parts of its table.
@@ -31,4 +32,29 @@ pub fn table_once()
 /// A lemma's result fulfils its promise.
 pub fn results_fulfil()
     ensures { ResultsFulfil }
+{}
+
+/// Entries that are held for a session's lemmas may be joined.
+pub fn entries_may_join()
+    ensures { EntriesMayJoin }
+{}
+
+/// Something comes of the proof of each lemma that is bound.
+pub fn proofs_have_values()
+    ensures { ProofsHaveValues }
+{}
+
+/// A theory whose parents have closed closes too, where these merge or don't.
+pub fn theory_closes()
+    ensures { TheoryCloses }
+{}
+
+/// A session comes to some table, where the parents of its theories merge or don't.
+pub fn table_is_there()
+    ensures { TableIsThere }
+{}
+
+/// Each lemma has a fate.
+pub fn fates_are_there()
+    ensures { FatesAreThere }
 {}
