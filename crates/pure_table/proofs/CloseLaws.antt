@@ -21,7 +21,8 @@ use Rattle.pure_verdicts.specs.Statements.{notes_of, AreVerdicts, AreStatements}
 use Rattle.pure_verdicts.proofs.StepLaws.{run_begins}
 use Rattle.pure_verdicts.proofs.EndLaws.{runs_close}
 use Rattle.pure_verdicts.proofs.OwnerLaws.{theories_may_begin}
-use Rattle.pure_table.specs.There.{MergesOrNot, ParentsMergeOrNot, TheoryCloses}
+use Rattle.pure_table.specs.There.{TheoryCloses}
+use Rattle.pure_table.proofs.ParentLaws.{contents_merge_or_not}
 
 module _ (texts : List (List ℕ)) (theories : List Loaded) where
   -- What closes is a theory of the session.
@@ -46,7 +47,7 @@ module _ (texts : List (List ℕ)) (theories : List Loaded) where
   some-parent [] e = absurd (cc)
   some-parent (Q ∷ Qs) e = absurd (cc)
 
-  module _ (session : IsLoadedSession texts theories) (merges : ParentsMergeOrNot texts theories) where
+  module _ (session : IsLoadedSession texts theories) where
     well : (place : ℕ) (theory : Loaded) → slice_get theories place ≡ Some theory → IsWellLoaded texts theory
     well place theory held = well-at theories session.well place held
       where
@@ -77,7 +78,7 @@ module _ (texts : List (List ℕ)) (theories : List Loaded) where
           (Ran rest.0 rest.1, rest.2)
 
       over : (contents : List Content) → AreLast parents contents → IsClosed
-      over contents last = elim (merges index theory is_at parents closed contents last) [
+      over contents last = elim (contents_merge_or_not (beginning_over contents)) [
         | inl w ↦ (let named = (well is_at.0 theory is_at.2).named in begun contents last w.0 w.1 named.0 named.1)
         | inr w ↦ (Barred (refused_theory theory.name (reason_text texts [] (NotCoregular w.0 w.1 w.2))), barred is_at closed (not_coregular contents last w.0 w.1 w.2 w.3 refl))
       ]
@@ -142,4 +143,4 @@ module _ (texts : List (List ℕ)) (theories : List Loaded) where
         (w.0, record { verdicts = w.0; are = λ place v e. subst (λ n. Closes texts theories (suc n) v) (sym (from-zero place)) (w.2 place v e); all = w.1; notes_are = refl })
 
 pub theory_closes : TheoryCloses
-theory_closes texts theories session merges index theory is_at parents closed = closes texts theories session merges index theory is_at parents closed
+theory_closes texts theories session index theory is_at parents closed = closes texts theories session index theory is_at parents closed

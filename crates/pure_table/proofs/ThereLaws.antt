@@ -46,8 +46,8 @@ module _ (texts : List (List ℕ)) (theories : List Loaded) (loaded : IsLoadedSe
   ]
 
 pub table_is_there : TableIsThere
-table_is_there S loaded merges cancelled =
-    let s = statements_there S.names S.theories loaded merges in
+table_is_there S loaded cancelled =
+    let s = statements_there S.names S.theories loaded in
     let notes = flat_map notes_of s.0 in
     let entries = beside (IsEntryOf S.names cancelled) (forks_of notes) (λ f m. entry_there S.names S.theories loaded cancelled f (some_fork S.names S.theories loaded notes s.1 f m)) in
     let ordered = has_fates S.names S.theories loaded notes s.1 cancelled entries.0 entries.1 in

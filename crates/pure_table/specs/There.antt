@@ -13,7 +13,7 @@ use Rattle.pure_fates.specs.Entries.{AreEntries, Fate, IsFate}
 use Rattle.pure_declare.specs.Notes.{Fork}
 use Rattle.pure_method.specs.Proof.{ProofOutcome, IsProof}
 use Rattle.pure_verdicts.specs.Loaded.{IsLoadedSession}
-use Rattle.pure_verdicts.specs.Verdicts.{Verdict, IsTheoryAt, AreLast, beginning_over, Closes, AllClose}
+use Rattle.pure_verdicts.specs.Verdicts.{Verdict, IsTheoryAt, Closes, AllClose}
 use Rattle.pure_verdicts.specs.Laws.{IsSomeFork}
 use Rattle.pure_table.specs.Table.{Table, IsTable}
 
@@ -26,14 +26,13 @@ ProofsHaveValues = (texts : List (List ℕ)) (theories : List Loaded) → IsLoad
 abbrev pub MergesOrNot : List Content → Type 0
 MergesOrNot parents = ((merged : List Decl) × IsMerge parents merged) ⊎ ((con : ℕ) × (c1 : ℕ) × (c2 : ℕ) × IsFirstConflict parents con c1 c2)
 
--- This holds of the parents of each theory of the session.
-abbrev pub ParentsMergeOrNot : (texts : List (List ℕ)) → (theories : List Loaded) → Type 0
-ParentsMergeOrNot texts theories = (index : ℕ) (theory : Loaded) → IsTheoryAt theories index theory → (parents : List Verdict) → AllClose texts theories theory.parents parents
-    → (contents : List Content) → AreLast parents contents → MergesOrNot (beginning_over contents)
+-- Any contents do one or the other.
+abbrev pub ContentsMergeOrNot : Type 0
+ContentsMergeOrNot = (parents : List Content) → MergesOrNot parents
 
--- A theory whose parents have closed closes too, where these merge or don't.
+-- A theory whose parents have closed closes too.
 abbrev pub TheoryCloses : Type 0
-TheoryCloses = (texts : List (List ℕ)) (theories : List Loaded) → IsLoadedSession texts theories → ParentsMergeOrNot texts theories
+TheoryCloses = (texts : List (List ℕ)) (theories : List Loaded) → IsLoadedSession texts theories
     → (index : ℕ) (theory : Loaded) → IsTheoryAt theories index theory → (parents : List Verdict) → AllClose texts theories theory.parents parents
     → (v : Verdict) × Closes texts theories index v
 
@@ -41,6 +40,6 @@ TheoryCloses = (texts : List (List ℕ)) (theories : List Loaded) → IsLoadedSe
 abbrev pub FatesAreThere : Type 0
 FatesAreThere = (es : List fates.Entry) → AreEntries es → (e : fates.Entry) → IsIn e es → (fate : Fate) × IsFate es e.label fate
 
--- A session comes to some table, whichever lemmas are cancelled, where the parents of its theories merge or don't.
+-- A session comes to some table, whichever lemmas are cancelled.
 abbrev pub TableIsThere : Type 0
-TableIsThere = (S : Session) → IsLoadedSession S.names S.theories → ParentsMergeOrNot S.names S.theories → (cancelled : List Label) → (t : Table) × IsTable S cancelled t
+TableIsThere = (S : Session) → IsLoadedSession S.names S.theories → (cancelled : List Label) → (t : Table) × IsTable S cancelled t
