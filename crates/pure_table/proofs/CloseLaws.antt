@@ -1,23 +1,19 @@
 -- Each theory of a session closes.
-use Rattle.std.proofs.Common.{◌≡◌, ◌⊎◌, ◌<◌, ◌≤◌, ◌+◌, ℕ, zero, suc, List, [], ◌∷◌, ◌++◌, length, Some, slice_get, inl, inr, refl, sym, ◌∙◌, ap, subst, arith}
-use Rattle.std.proofs.lemmas.Option.{slice_get_within}
+use Rattle.std.proofs.Common.{◌≡◌, ◌⊎◌, ◌<◌, ◌≤◌, ◌+◌, ℕ, zero, suc, List, [], ◌∷◌, ◌++◌, length, Some, slice_get, inl, inr, refl, sym, ap, subst, arith}
 use Rattle.std.specs.List.{flat_map}
 use Rattle.pure_text.specs.Lists.{Each}
-use Rattle.pure_text.proofs.ListLaws.{each_at}
 use Rattle.pure_typ.specs.NameTexts.{HasText}
 use Rattle.pure_definitions.specs.Declarations.Decl.{Decl}
 use Rattle.pure_logic.specs.Content.{Content}
-use Rattle.pure_logic.specs.PureContent.{pure_content}
-use Rattle.pure_logic.specs.Beginning.{IsMerge, IsBeginning, ancestors_of}
-use Rattle.pure_theory.specs.Begin.{IsFirstConflict}
+use Rattle.pure_logic.specs.Beginning.{IsMerge, ancestors_of}
 use Rattle.pure_graph.specs.Order.{Loaded}
 use Rattle.pure_graph.specs.Session.{parent_refused_text}
 use Rattle.pure_statements.specs.ReasonText.{reason_text}
 use Rattle.pure_statements.specs.declared.reason.Reason.TheVariants.{NotCoregular}
 use Rattle.pure_loaded.specs.Well.{IsWellLoaded}
 use Rattle.pure_verdicts.specs.Loaded.{IsLoadedSession}
-use Rattle.pure_verdicts.specs.Verdicts.{Verdict, Barred, Ran, IsTheoryAt, refused_theory, IsFirstBarred, AreLast, beginning_over, Begins, IsBarred, by_parent, not_coregular, Closes, barred, ran, AllClose, nothing, also}
-use Rattle.pure_verdicts.specs.Statements.{notes_of, AreVerdicts, AreStatements}
+use Rattle.pure_verdicts.specs.Verdicts.{Verdict, Barred, Ran, IsTheoryAt, refused_theory, IsFirstBarred, AreLast, beginning_over, Begins, by_parent, not_coregular, Closes, barred, ran, AllClose, nothing, also}
+use Rattle.pure_verdicts.specs.Statements.{notes_of, AreStatements}
 use Rattle.pure_verdicts.proofs.StepLaws.{run_begins}
 use Rattle.pure_verdicts.proofs.EndLaws.{runs_close}
 use Rattle.pure_verdicts.proofs.OwnerLaws.{theories_may_begin}

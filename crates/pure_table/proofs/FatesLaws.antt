@@ -1,5 +1,5 @@
 -- Each lemma has a fate.
-use Rattle.std.proofs.Common.{◌≡◌, ◌⊎◌, ◌↔◌, ◌<◌, ◌+◌, ℕ, zero, suc, List, [], ◌∷◌, ◌++◌, length, map, append_assoc, length-append, inl, inr, refl, sym, ◌∙◌, ap, subst, arith}
+use Rattle.std.proofs.Common.{◌≡◌, ◌⊎◌, ◌<◌, ◌+◌, ℕ, zero, suc, List, [], ◌∷◌, ◌++◌, length, map, append_assoc, length-append, inl, inr, refl, sym, ◌∙◌, ap, subst, arith}
 use Rattle.std.proofs.lemmas.Bool.Decides.{eqb_tells}
 use Rattle.std.specs.declared.cmp.Ordering.TheVariants.{Less}
 use Rattle.std.specs.List.{AllByRecursion}
@@ -8,7 +8,7 @@ use Rattle.pure_text.specs.Lists.{IsIn, Each}
 use Rattle.pure_text.proofs.ListLaws.{in_split, in-append_left, in-append_right, in-map, each_at, any_some, any_of, any_decided}
 use Rattle.pure_definitions.specs.Names.{Label}
 use Rattle.pure_theorem.specs.Sets.{label_cmp, IsLabelSet}
-use Rattle.pure_fates.specs.Entries.{Own, Shown, Fault, Cancelled, Entry, Became, RestsOn, Reaches, directly, through, AreFaultsReached, ReachesCancelled, Fate, Failed, Gone, Tainted, Unsettled, Proved, IsFate, failed, gone, tainted, unsettled, proved, RestsOnEarlier, AreEntries}
+use Rattle.pure_fates.specs.Entries.{Own, Shown, Fault, Cancelled, Entry, Became, Reaches, directly, through, AreFaultsReached, ReachesCancelled, Fate, Failed, Gone, Tainted, Unsettled, Proved, IsFate, failed, gone, tainted, unsettled, proved, RestsOnEarlier, AreEntries}
 use Rattle.pure_fates.proofs.LabelSets.{not_both, not_itself, first_below, rest_is_set}
 use Rattle.pure_fates.proofs.FateLaws.{became_once}
 use Rattle.pure_fates.proofs.ProvedLaws.{in_mapped}

@@ -1,25 +1,22 @@
 -- The results of a session's lemmas fulfil their promises.
-use Rattle.std.proofs.Common.{◌≡◌, ℕ, suc, List, [], ◌∷◌, ◌++◌, length, take, map, inl, inr, refl, sym, ◌∙◌, ap, subst, Ok}
+use Rattle.std.proofs.Common.{◌≡◌, ℕ, suc, List, [], ◌∷◌, ◌++◌, length, take, map, inl, inr, refl, sym, ◌∙◌, ap, subst}
 use Rattle.std.specs.declared.cmp.Ordering.TheVariants.{Less}
 use Rattle.pure_text.specs.Lists.{IsIn, Each}
-use Rattle.pure_text.proofs.ListLaws.{in_split, in-map, each_of, each_at}
+use Rattle.pure_text.proofs.ListLaws.{in-map, each_of, each_at}
 use Rattle.pure_definitions.specs.Names.{Label}
-use Rattle.pure_definitions.specs.Terms.Term.{Term}
 use Rattle.pure_logic.specs.Content.{Content, IsBelow}
 use Rattle.pure_logic.specs.Derivable.{Theorem}
-use Rattle.pure_theorem.specs.Facts.{IsPromise}
 use Rattle.pure_theorem.specs.Sets.{label_cmp, IsLabelSet}
 use Rattle.pure_theory.specs.Certified.{Certified}
 use Rattle.pure_fates.proofs.LabelSets.{not_both, not_itself, first_below, rest_is_set}
 use Rattle.pure_graph.specs.Order.{Loaded}
-use Rattle.pure_promise.specs.declared.promise.Promise.{Promise}
-use Rattle.pure_promise.specs.Accepting.{IsForkedBefore, Fulfils}
+use Rattle.pure_promise.specs.Accepting.{IsForkedBefore}
 use Rattle.pure_declare.specs.Notes.{Fork, Note}
 use Rattle.pure_method.specs.Facts.{theorem}
 use Rattle.pure_verdicts.specs.Loaded.{IsLoadedSession}
 use Rattle.pure_verdicts.specs.Statements.{forks_of, AreStatements}
-use Rattle.pure_table.specs.Fulfilled.{IsResultOf, IsPromiseFor, ResultsFulfil}
-use Rattle.pure_table.proofs.ClaimLaws.{IsEarlier, AreBound, IsPromised, IsShownBy}
+use Rattle.pure_table.specs.Fulfilled.{IsResultOf, ResultsFulfil}
+use Rattle.pure_table.proofs.ClaimLaws.{IsPromised}
 use Rattle.pure_table.proofs.DerivedLaws.{bound, some_fork, shown_by}
 
 -- Of labels that ascend, one that is before another comes before it.

@@ -1,5 +1,5 @@
 -- Entries that are held for a session's lemmas may be joined.
-use Rattle.std.proofs.Common.{◌≡◌, ℕ, List, [], ◌∷◌, map, inl, inr, refl, sym, ◌∙◌, ap, subst}
+use Rattle.std.proofs.Common.{◌≡◌, ℕ, List, [], ◌∷◌, inl, inr, refl, sym, ◌∙◌, ap, subst}
 use Rattle.pure_text.specs.Lists.{IsIn, EachTwo}
 use Rattle.pure_text.proofs.ListLaws.{each_of, each_at}
 use Rattle.pure_definitions.specs.Names.{Label}
@@ -7,17 +7,15 @@ use Rattle.pure_definitions.specs.Terms.Term.{Term}
 use Rattle.pure_definitions.specs.Declarations.Decl.{PromiseDecl}
 use Rattle.pure_logic.specs.Content.{Content, IsBelow}
 use Rattle.pure_logic.specs.Derivable.{Theorem}
-use Rattle.pure_theory.specs.Certified.{Certified}
 use Rattle.pure_graph.specs.Order.{Loaded}
 use Rattle.pure_promise.specs.declared.entry.Entry.{Entry}
-use Rattle.pure_promise.specs.declared.entry.Own.TheVariants.{Proved}
 use Rattle.pure_promise.specs.Joining.{IsClosed, IsGrounded}
 use Rattle.pure_promise.specs.Seen.{seen}
 use Rattle.pure_declare.specs.Notes.{Fork, Note}
 use Rattle.pure_verdicts.specs.Loaded.{IsLoadedSession}
 use Rattle.pure_verdicts.specs.Statements.{forks_of, AreStatements}
 use Rattle.pure_table.specs.Table.{IsEntryOf}
-use Rattle.pure_table.specs.Fulfilled.{IsResultOf, IsHeldFor, EntriesMayJoin}
+use Rattle.pure_table.specs.Fulfilled.{IsHeldFor, EntriesMayJoin}
 use Rattle.pure_table.proofs.ClaimLaws.{IsEarlier, IsPromised, one_lemma}
 use Rattle.pure_table.proofs.DerivedLaws.{bound, some_fork, shown_by, has_fates}
 

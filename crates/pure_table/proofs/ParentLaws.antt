@@ -1,14 +1,14 @@
 -- The parents of a theory merge, one after the other, or one is the first in conflict.
-use Rattle.std.proofs.Common.{◌≡◌, ◌⊎◌, ◌<◌, ◌≤◌, ℕ, List, [], ◌∷◌, ◌++◌, Some, Bool, true, false, IsTrue, append_assoc, append-nil, inl, inr, refl, sym, ◌∙◌, ap, subst, arith}
+use Rattle.std.proofs.Common.{◌≡◌, ◌⊎◌, ◌<◌, ◌≤◌, ℕ, List, [], ◌∷◌, ◌++◌, Some, Bool, true, false, append_assoc, append-nil, inl, inr, refl, sym, ◌∙◌, ap, subst, arith}
 use Rattle.std.proofs.lemmas.Bool.Decides.{eqb_tells, leb_tells}
 use Rattle.std.specs.List.{flat_map}
-use Rattle.pure_text.specs.Lists.{IsIn, Each, AnyOf, EachTwo}
-use Rattle.pure_text.proofs.ListLaws.{in_split, in-append_left, in-append_right, any_some, any_of, any_decided, each_decided, each_at, each_of}
-use Rattle.pure_definitions.specs.Types.Order.{Class, Arity, Algebra, IsClassBelow, itself, along, IsSortBelow, AreDomainsBelow, IsJoin, AreCompatible, IsCoregular}
-use Rattle.pure_definitions.specs.Declarations.Decl.{Decl, ClassDecl, ArityDecl, classes_of, arities_of, algebra_of}
+use Rattle.pure_text.specs.Lists.{IsIn, Each, AnyOf}
+use Rattle.pure_text.proofs.ListLaws.{in-append_left, in-append_right, any_some, any_of, any_decided, each_decided, each_at, each_of}
+use Rattle.pure_definitions.specs.Types.Order.{Class, Arity, Algebra, IsClassBelow, itself, along, AreDomainsBelow, IsJoin, AreCompatible, IsCoregular}
+use Rattle.pure_definitions.specs.Declarations.Decl.{Decl, ClassDecl, ArityDecl, algebra_of}
 use Rattle.pure_term_laws.proofs.DeclLaws.{declared_classes, declared_arities}
 use Rattle.pure_order_tables.specs.Arities.{IsUnion}
-use Rattle.pure_order_tables.specs.Checks.{IsInConflict, IsLeastConflict, IsNotAfter}
+use Rattle.pure_order_tables.specs.Checks.{IsLeastConflict, IsNotAfter}
 use Rattle.pure_order_tables.proofs.ArityLaws.{two_decided}
 use Rattle.pure_order_tables.proofs.CoregularLaws.{compatible_back}
 use Rattle.pure_tunify.proofs.DecidedLaws.{is_decided}
@@ -16,7 +16,6 @@ use Rattle.pure_logic.specs.Content.{Content}
 use Rattle.pure_logic.specs.Beginning.{IsAdded, IsMergeAfter, IsMerge}
 use Rattle.pure_stage.specs.Same.{decl_eq}
 use Rattle.pure_stage.proofs.SameLaws.{told_at}
-use Rattle.pure_theory.specs.Begin.{IsFirstConflict}
 use Rattle.pure_verdicts.proofs.OrderedLaws.{IsOneOf, added-from}
 use Rattle.pure_table.specs.There.{MergesOrNot, ContentsMergeOrNot}
 

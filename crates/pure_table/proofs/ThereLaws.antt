@@ -1,11 +1,10 @@
 -- A session comes to a table.
-use Rattle.std.proofs.Common.{◌≡◌, ◌⊎◌, ℕ, List, [], ◌∷◌, Some, None, map, inl, inr, refl, ap}
+use Rattle.std.proofs.Common.{ℕ, List, [], ◌∷◌, Some, None, map, inl, inr, refl}
 use Rattle.std.specs.List.{flat_map}
 use Rattle.pure_text.specs.Lists.{IsIn, EachTwo}
 use Rattle.pure_text.proofs.ListLaws.{in-map}
 use Rattle.pure_definitions.specs.Names.{Label}
 use Rattle.pure_graph.specs.Order.{Loaded}
-use Rattle.pure_graph.specs.Session.{Session}
 use Rattle.pure_declare.specs.Notes.{Fork}
 use Rattle.pure_promise.specs.Entries.{Entry, plain}
 use Rattle.pure_promise.specs.Rows.{IsRowOf}
