@@ -88,7 +88,7 @@ module _ (texts : List (List ℕ)) (theories : List Loaded) (loaded : IsLoadedSe
       unify_content f.content (runs_orderly texts theories loaded s.index s.notes f.content s.left s.run).good.sound
 
   -- a lemma whose proof came to these promises is shown
-  shown_by : (f : Fork) → IsSomeFork texts theories f → (rests : List Label) → IsProof texts f.content f.fixed f.script (Ok rests) → IsShownBy f rests
+  pub shown_by : (f : Fork) → IsSomeFork texts theories f → (rests : List Label) → IsProof texts f.content f.fixed f.script (Ok rests) → IsShownBy f rests
   shown_by f some rests proof =
       let u = unify f some in
       let p = provable f some in
@@ -124,7 +124,7 @@ module _ (texts : List (List ℕ)) (theories : List Loaded) (loaded : IsLoadedSe
           earlier = less;
         }
 
-    bound : AreBound (forks_of notes)
+    pub bound : AreBound (forks_of notes)
     bound = record { ascend = labels_ascend texts theories loaded notes statements; promises = earlier }
 
     entries_of : (cancelled : List Label) (es : List Entry) → AreEntriesOf texts cancelled notes es → EachTwo IsOf (forks_of notes) es

@@ -4,3 +4,10 @@ pub mod OnceLaws
 pub mod FillingLaws
 pub mod PrintedLaws
 pub mod EntryLaws
+pub mod FulfilledLaws
+pub mod JoinLaws
+pub mod MeantLaws
+pub mod FatesLaws
+pub mod ParentLaws
+pub mod CloseLaws
+pub mod ThereLaws

@@ -1,4 +1,6 @@
 //! What the definitions mean: laws, each carried by the contract of a function that does nothing.
+ghost use Rattle.pure_table.specs.Fulfilled.{EntriesMayJoin, ResultsFulfil};
+ghost use Rattle.pure_table.specs.There.{ContentsMergeOrNot, FatesAreThere, ProofsHaveValues, TableIsThere, TheoryCloses};
 ghost use Rattle.pure_table.specs.Laws.{LemmasProvable, SaidAreParts, SaidAreStatements, TableHasFates, TableIsDerived, TableOnce};
 
 /// What the theories of a session left are its statements, and with the entries of its lemmas the parts of its table.
@@ -25,4 +27,39 @@ pub fn table_is_derived()
 /// A session comes to one table at most.
 pub fn table_once()
     ensures { TableOnce }
+{}
+
+/// A lemma's result fulfils its promise.
+pub fn results_fulfil()
+    ensures { ResultsFulfil }
+{}
+
+/// Entries that are held for a session's lemmas may be joined.
+pub fn entries_may_join()
+    ensures { EntriesMayJoin }
+{}
+
+/// Something comes of the proof of each lemma that is bound.
+pub fn proofs_have_values()
+    ensures { ProofsHaveValues }
+{}
+
+/// A theory whose parents have closed closes too.
+pub fn theory_closes()
+    ensures { TheoryCloses }
+{}
+
+/// A session comes to some table.
+pub fn table_is_there()
+    ensures { TableIsThere }
+{}
+
+/// Each lemma has a fate.
+pub fn fates_are_there()
+    ensures { FatesAreThere }
+{}
+
+/// Contents merge, one after the other, or one of them is the first in conflict.
+pub fn contents_merge_or_not()
+    ensures { ContentsMergeOrNot }
 {}
