@@ -1,6 +1,6 @@
 //! The limits of a session, on both sides, and texts that are cut.
 use crate::texts::{push_numbered, text_of};
-use crate::world::{add_file, check, empty_world, expect_front, run_file};
+use crate::world::{add_file, check, empty_world, expect_end, expect_front, run_file};
 use pure_check::Status;
 use std::alloc::{AllocError, Global};
 use std::process::Abort;
@@ -165,6 +165,30 @@ fn keeps_the_number_of_lemmas(rt: HostRuntime) -> Result<(), Fail> {
 #[test]
 fn refuses_more_lemmas(rt: HostRuntime) -> Result<(), Fail> {
     let text = many_lemmas(rt.alloc(), 513)?;
+    check_text(&rt, &text, Status::Rows, TOO_LARGE)
+}
+
+/// A theory of so many classes, named `c0`, `c1`, ...
+fn many_classes(alloc: Global, count: usize) -> Result<Vec<u8>, AllocError> {
+    numbered(alloc, b"theory A begin", b" class c", count, b"", b" end")
+}
+
+#[test]
+fn keeps_the_number_of_classes(rt: HostRuntime) -> Result<(), Fail> {
+    let text = many_classes(rt.alloc(), 512)?;
+    let answer = run_file(&rt, rt.alloc(), b"A.thy", &text)?;
+    expect_end(
+        &rt,
+        &answer,
+        Status::Clean,
+        b"\ndeclared class A.c511\ntotal: 1 theories, 512 declared, 0 refused, 0 proved, 0 failed, 0 tainted, 0 cancelled, 0 unsettled\n",
+    );
+    Ok(())
+}
+
+#[test]
+fn refuses_more_classes(rt: HostRuntime) -> Result<(), Fail> {
+    let text = many_classes(rt.alloc(), 513)?;
     check_text(&rt, &text, Status::Rows, TOO_LARGE)
 }
 
