@@ -23,7 +23,7 @@ use Rattle.pure_tunify.specs.Working.{place_among, Pursues}
 use Rattle.pure_tunify.specs.Meeting.{GoesOn, Stops, IsLargeAt, HasLargeHead}
 use Rattle.pure_tunify.specs.declared.meeting.Turned.{Turned}
 use Rattle.pure_tunify.specs.declared.meeting.Turned.TheVariants.{Further, Never, Large}
-use Rattle.pure_tunify.specs.LargeTypes.{HasNoClasses, Covers, IsReachedBy, IsSettled, IsSettling}
+use Rattle.pure_tunify.specs.LargeTypes.{HasNoClasses, IsSettled, IsSettling}
 use Rattle.pure_tunify.specs.Answers.{IsPassed, IsSolvable, IsSolvability}
 use Rattle.pure_tunify.proofs.MapLaws.{identity_is_substitution, after_is_substitution, setting_is_substitution, setting-itself, setting-other}
 use Rattle.pure_tunify.proofs.PlaceLaws.{difference_is_place, no_difference, difference-itself}
@@ -84,77 +84,12 @@ equalised_unifier A index n m p more e old =
     let r = equalised A index e [] (old, tt) in
     agree_unifier A (λ v. typ_instance (λ w. w) (composed more v)) (composed more) (λ v is. sym (typ_instance-identity (composed more v))) (p ∷ []) (r.back (λ w. w) (record { substitution = identity_is_substitution A; equates = tt }))
 
--- The types that a type reaches.
-in_setting : (b : TypBind) (v w : Typ) → IsTypVariable v → OccursInTyp w (composed (b ∷ []) v) → (typ_variable b ≡ v) × OccursInTyp w b.image ⊎ OccursInTyp w v
-in_setting b v w is o = by (typ_eq (typ_variable b) v) refl (subst (OccursInTyp w) (typ_instance-identity (typ_image (b ∷ []) v)) o)
-  where
-    by : (c : Bool) → typ_eq (typ_variable b) v ≡ c → OccursInTyp w (cond c b.image v) → (typ_variable b ≡ v) × OccursInTyp w b.image ⊎ OccursInTyp w v
-    by true t here = inl (typ_eq-same (typ_variable b) v t, here)
-    by false t here = inr here
+pub no_classes_variable : (v : Typ) → HasNoClasses v → IsTypVariable v
+no_classes_variable v plain = subst IsTypVariable (sym plain.is) tt
 
-variable_leaf : (w v : Typ) → IsTypVariable v → OccursInTyp w v → w ≡ v
-variable_leaf w (TFree x s) is o = o
-variable_leaf w (TVar x i s) is o = o
-variable_leaf w (Con k ts) is o = absurd is
-
-covers_next : (b : TypBind) (sets : List TypBind) (t : Typ) (old new : List Typ) → Covers sets t old → (AnyOf (OccursInTyp (typ_variable b)) old → (w : Typ) → OccursInTyp w b.image → AnyOf (OccursInTyp w) new) → ((w : Typ) → AnyOf (OccursInTyp w) old → AnyOf (OccursInTyp w) new)
-    → Covers (sets ++ b ∷ []) t new
-covers_next b sets t old new h image kept w is o =
-    let found = typ_variable_of_typ_instance (composed (b ∷ [])) w (typ_instance (composed sets) t) is (subst (OccursInTyp w) (instance-append sets (b ∷ []) t) o) in
-    elim (in_setting b found.0 w found.1 found.3) [
-      | inl set ↦ image (subst (λ (v : Typ). AnyOf (OccursInTyp v) old) (sym set.0) (h found.0 found.1 found.2)) w set.1
-      | inr same ↦ kept w (subst (λ (v : Typ). AnyOf (OccursInTyp v) old) (sym (variable_leaf w found.0 found.1 same)) (h found.0 found.1 found.2))
-    ]
-
-none_of : {X : Type 0} (P : X → Type 0) (xs : List X) → Each (λ x. ¬ P x) xs → ¬ AnyOf P xs
-none_of P [] each any = any
-none_of P (x ∷ xs) each (inl here) = each.0 here
-none_of P (x ∷ xs) each (inr there) = none_of P xs each.1 there
-
-not_reached : (b : TypBind) (typs : List Typ) → ¬ AnyOf (OccursInTyp (typ_variable b)) typs → IsReachedBy b typs typs
-not_reached b typs nope sets t h = covers_next b sets t typs typs h (λ any. absurd (nope any)) (λ w any. any)
-
-reached_image : (b : TypBind) (typs : List Typ) → IsReachedBy b typs (typs ++ b.image ∷ [])
-reached_image b typs sets t h = covers_next b sets t typs (typs ++ b.image ∷ []) h (λ any w o. any-append_right (OccursInTyp w) typs (b.image ∷ []) (inl o)) (λ w any. any-append_left (OccursInTyp w) typs (b.image ∷ []) any)
-
-reached_first : (t : Typ) → Covers [] t (t ∷ [])
-reached_first t v is o = inl (subst (OccursInTyp v) (typ_instance-identity t) o)
-
-pub reach_none : (b : TypBind) (v : Typ) (typs slice : List Typ) → v ≡ typ_variable b → slice ≡ typs → Each (λ t. ¬ OccursInTyp v t) slice → IsReachedBy b typs typs
-reach_none b v typs slice is same each = not_reached b typs (subst (λ (w : Typ). ¬ AnyOf (OccursInTyp w) typs) is (subst (λ (ts : List Typ). ¬ AnyOf (OccursInTyp v) ts) same (none_of (OccursInTyp v) slice each)))
-
-pub reach_image : (b : TypBind) (image : Typ) (old new : List Typ) → image ≡ b.image → new ≡ old ++ image ∷ [] → IsReachedBy b old new
-reach_image b image old new is e = subst (IsReachedBy b old) (sym (e ∙ ap (λ t. old ++ t ∷ []) is)) (reached_image b old)
-
-pub reached_start : (t copy : Typ) (empty typs : List Typ) → empty ≡ [] → copy ≡ t → typs ≡ empty ++ copy ∷ [] → Covers [] t typs
-reached_start t copy empty typs none is e = subst (Covers [] t) (sym (e ∙ (ap (λ xs. xs ++ copy ∷ []) none ∙ ap (λ u. u ∷ []) is))) (reached_first t)
-
--- A variable that is in none of the types isn't in the type.
-pub never_reached : (sets : List TypBind) (t v : Typ) (typs slice : List Typ) → HasNoClasses v → Covers sets t typs → slice ≡ typs → Each (λ u. ¬ OccursInTyp v u) slice → ¬ OccursInTyp v (typ_instance (composed sets) t)
-never_reached sets t v typs slice plain covers same each o = none_of (OccursInTyp v) slice each (subst (AnyOf (OccursInTyp v)) (sym same) (covers v (subst IsTypVariable (sym plain.is) tt) o))
-
-pub free_answer : (sets : List TypBind) (t v : Typ) (typs slice : List Typ) → HasNoClasses v → Covers sets t typs → slice ≡ typs → (occurs : Bool) → MatchBool occurs (Unit {0}) (Each (λ u. ¬ OccursInTyp v u) slice) → (IsTypVariable v → ¬ IsIn v (map typ_variable sets))
-    → OnTrue (not occurs) ((¬ IsIn v (map typ_variable sets)) × ¬ OccursInTyp v (typ_instance (composed sets) t))
-free_answer sets t v typs slice plain covers same true h absent = tt
-free_answer sets t v typs slice plain covers same false h absent = (absent (subst IsTypVariable (sym plain.is) tt), never_reached sets t v typs slice plain covers same h)
-
-pub on_true : (P : Type 0) (b : Bool) → OnTrue b P → b ≡ true → P
-on_true P b h e = subst (λ (c : Bool). OnTrue c P) e h
-
--- The variable occurs in no image.
-pub in_no_image : (v : Typ) (sets items : List TypBind) (i : ℕ) → items ≡ sets → length items ≤ i → Each (λ b. ¬ OccursInTyp v b.image) (take i items) → Each (λ b. ¬ OccursInTyp v b.image) sets
-in_no_image v sets items i same full each = subst (Each (λ b. ¬ OccursInTyp v b.image)) (take_all i items full ∙ same) each
-
--- A variable that is in no image is in a type with all set variables replaced where it is in the type.
-pub away_answer : (sets : List TypBind) (t v : Typ) → HasNoClasses v → Each (λ b. ¬ OccursInTyp v b.image) sets → (occurs : Bool) → (IsTrue occurs ↔ OccursInTyp v t) → (IsTypVariable v → ¬ IsIn v (map typ_variable sets))
-    → OnTrue (not occurs) ((¬ IsIn v (map typ_variable sets)) × ¬ OccursInTyp v (typ_instance (composed sets) t))
-away_answer sets t v plain images true h absent = tt
-away_answer sets t v plain images false h absent =
-    let is : IsTypVariable v = subst IsTypVariable (sym plain.is) tt in
-    (absent is, instance-new v is sets t images (λ o. false_true (h.1 o)))
-  where
-    false_true : false ≡ true → ⊥
-    false_true e = cc
+pub free_answer : (v : Typ) (sets : List TypBind) (u : Typ) (occurs : Bool) → MatchBool occurs (OccursInTyp v u) (¬ OccursInTyp v u) → ¬ IsIn v (map typ_variable sets) → OnTrue (not occurs) ((¬ IsIn v (map typ_variable sets)) × ¬ OccursInTyp v u)
+free_answer v sets u true h absent = tt
+free_answer v sets u false h absent = (absent, h)
 
 -- The rest is made equal, and the variable is set to the type.
 module _ (A : Algebra) (old new : Progress) (work : List TypPair) (v t : Typ) (tidy : IsTidy old) (olds : Each (IsOldPair old.index old.next) work) (h : IsSettled A old new work v t) where

@@ -23,6 +23,7 @@ pub mod ReducedLaws
 pub mod AskedLaws
 pub mod NarrowableLaws
 pub mod OutcomeLaws
+pub mod ReachLaws
 pub mod LargeLaws
 pub mod WritingLaws
 pub mod SizeLaws

@@ -1,17 +1,23 @@
 -- A variable is set to a type that has been narrowed to its sort.
-use Rattle.std.proofs.Common.{◌≡◌, ℕ, List, [], ◌∷◌, ◌++◌, map, inl, inr, ◌⊎◌, refl, ap, sym, subst, ◌∙◌, arith, append_assoc, ◌↔◌, Bool, true, false, IsTrue}
+use Rattle.std.proofs.Common.{◌≡◌, ℕ, List, [], ◌∷◌, ◌++◌, map, inl, inr, ◌⊎◌, refl, ap, sym, subst, ◌∙◌, arith, append_assoc, ◌↔◌, Bool, true, false, not, IsTrue, length, Option, Some, None}
+use Rattle.std.specs.Prelude.{MatchOption, is_some}
+use Rattle.std.specs.Bool.{OnTrue}
+use Rattle.std.proofs.lemmas.List.{length-map}
 use Rattle.pure_text.specs.Lists.{IsIn}
-use Rattle.pure_definitions.specs.Types.Typ.{Typ, TVar}
+use Rattle.pure_definitions.specs.Types.Typ.{Typ, TVar, Con, Typs, typs_of}
 use Rattle.pure_definitions.specs.Types.Occurs.{OccursInTyp}
 use Rattle.pure_definitions.specs.Types.Order.{Algebra}
 use Rattle.pure_definitions.specs.Terms.Subst.{TypBind, typ_variable, typ_instance}
+use Rattle.pure_definitions.proofs.InstanceLemmas.{typs_instance-of}
 use Rattle.pure_term_laws.proofs.SubstLaws.{typ_instance-identity}
 use Rattle.pure_term_laws.proofs.MapLaws.{typ_instance-again}
 use Rattle.pure_tunify.specs.Unifiers.{IsFresh, IsOld, IsOldPair}
+use Rattle.pure_tunify.specs.Asks.{HasNoSuchArguments, HasNoInstance}
 use Rattle.pure_tunify.specs.Steps.{pair, setting}
 use Rattle.pure_tunify.specs.Settings.{composed, bind, Progress, IsTidy}
 use Rattle.pure_tunify.specs.Procedure.{Narrows, fits, replace}
-use Rattle.pure_tunify.specs.Working.{IsFreeOf, IsNarrowed, IsSet, IsSetTo}
+use Rattle.pure_tunify.specs.Working.{IsFreeOf, IsNarrowed, IsSet, IsSetTo, CannotBeSetTo}
+use Rattle.pure_tunify.proofs.AskLaws.{ask_none}
 use Rattle.pure_tunify.proofs.MapLaws.{setting-itself, fresh-later}
 use Rattle.pure_tunify.proofs.SettingLaws.{instance-append, composed-absent, instance-untouched, instance-free, instance-old, tidy-snoc}
 
@@ -104,3 +110,23 @@ module _ (A : Algebra) (p mid : Progress) (variable other t image : Typ) (x i : 
   treated_set new e =
       subst (λ (v : Typ). IsSetTo A p new v (typ_instance (composed p.sets) other)) whole
       (subst (IsSet A p new x i s) is_t (subst (λ (q : Progress). IsSet A p q x i s t) (sym (e ∙ progress)) (is_set A p mid x i s t image tidy_mid here_absent here_new here_free h)))
+
+-- A constructor's type stays one under a map, so that no instance of it is of a sort of which no such type is.
+pub out_of_sort : (A : Algebra) (k : ℕ) (s : List ℕ) (ts : List Typ) (typs : Typ → Typ) → HasNoSuchArguments A k s (length ts) → HasNoInstance A (typ_instance typs (Con k (typs_of ts))) s
+out_of_sort A k s ts typs none = subst (λ (us : Typs). HasNoInstance A (Con k us) s) (sym (typs_instance-of typs ts)) (ask_none A k s (map (typ_instance typs) ts) (subst (HasNoSuchArguments A k s) (sym (length-map ts (typ_instance typs))) none))
+
+pub out_answer : {X : Type 0} (Q : X → Type 0) (A : Algebra) (k : ℕ) (s : List ℕ) (ts : List Typ) (typs : Typ → Typ) (found : Option X) (none : Bool) → MatchOption found (HasNoSuchArguments A k s (length ts)) Q → is_some found ≡ not none
+    → OnTrue none (HasNoInstance A (typ_instance typs (Con k (typs_of ts))) s)
+out_answer Q A k s ts typs found false h e = tt
+out_answer Q A k s ts typs None true h e = out_of_sort A k s ts typs h
+out_answer Q A k s ts typs (Some x) true h e = absurd (true_false e)
+  where
+    true_false : true ≡ false → ⊥
+    true_false e = cc
+
+-- A variable that occurs in the type, or is of a sort that no instance of it has, can't be set to it.
+pub occurs_unset : (A : Algebra) (variable t : Typ) (x i : ℕ) (s : List ℕ) → TVar x i s ≡ variable → OccursInTyp variable t → CannotBeSetTo A variable t
+occurs_unset A variable t x i s whole o = subst (λ (v : Typ). OccursInTyp v t → CannotBeSetTo A v t) whole (λ here. inl here) o
+
+pub sortless_unset : (A : Algebra) (variable t : Typ) (x i : ℕ) (s : List ℕ) → TVar x i s ≡ variable → HasNoInstance A t s → CannotBeSetTo A variable t
+sortless_unset A variable t x i s whole none = subst (λ (v : Typ). CannotBeSetTo A v t) whole (inr none)

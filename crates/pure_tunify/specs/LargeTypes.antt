@@ -1,11 +1,10 @@
 -- Pairs with a type that is too large to be written out.
-use Rattle.std.specs.Prelude.{◌≡◌, ℕ, List, [], ◌∷◌, ◌++◌, map}
-use Rattle.pure_text.specs.Lists.{IsIn, AnyOf}
+use Rattle.std.specs.Prelude.{◌≡◌, ℕ, List, [], map}
+use Rattle.pure_text.specs.Lists.{IsIn}
 use Rattle.pure_definitions.specs.Types.Typ.{Typ, TVar}
 use Rattle.pure_definitions.specs.Types.Occurs.{OccursInTyp}
 use Rattle.pure_definitions.specs.Types.Order.{Algebra}
-use Rattle.pure_definitions.specs.Terms.Subst.{TypBind, typ_variable, typ_instance}
-use Rattle.pure_term_laws.specs.LawsOccurs.{IsTypVariable}
+use Rattle.pure_definitions.specs.Terms.Subst.{typ_variable, typ_instance}
 use Rattle.pure_tunify.specs.declared.pair.TypPair.{TypPair}
 use Rattle.pure_tunify.specs.declared.meeting.Turned.{Turned}
 use Rattle.pure_tunify.specs.declared.meeting.Turned.TheVariants.{Further, Never, Large}
@@ -17,14 +16,6 @@ pub record HasNoClasses (t : Typ) : Type 0 where
   pub name : ℕ
   pub index : ℕ
   pub is : t ≡ TVar name index []
-
--- What occurs in the type with all set variables replaced occurs in one of these types.
-abbrev pub Covers : (sets : List TypBind) → Typ → List Typ → Type 0
-Covers sets t typs = (v : Typ) → IsTypVariable v → OccursInTyp v (typ_instance (composed sets) t) → AnyOf (OccursInTyp v) typs
-
--- With one setting more the new types are enough where the old ones were.
-abbrev pub IsReachedBy : TypBind → (old new : List Typ) → Type 0
-IsReachedBy b old new = (sets : List TypBind) (t : Typ) → Covers sets t old → Covers (sets ++ b ∷ []) t new
 
 -- The pairs have been made equal, and the variable, which has no classes, can be set to the type.
 pub record IsSettled (A : Algebra) (old new : Progress) (work : List TypPair) (variable t : Typ) : Type 0 where

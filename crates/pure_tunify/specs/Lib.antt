@@ -10,6 +10,7 @@ pub mod Working
 pub mod NarrowingStep
 pub mod Meeting
 pub mod LargeTypes
+pub mod Reached
 pub mod ProcedureLaws
 pub mod Answers
 pub mod Passes

@@ -1,5 +1,5 @@
 //! Whether pairs have a unifier of which the first has a type that is too large to be written out.
-ghost use Rattle.std.specs.Prelude.{◌≡◌, reverse, map, IfOk, OnOk, MatchBool};
+ghost use Rattle.std.specs.Prelude.{reverse, map, IfOk, MatchBool};
 ghost use Rattle.std.specs.Bool.{OnTrue};
 ghost use Rattle.pure_text.specs.Lists.{IsIn, Each};
 ghost use Rattle.pure_definitions.specs.Types.Occurs.{OccursInTyp};
@@ -7,69 +7,16 @@ ghost use Rattle.pure_definitions.specs.Terms.Subst.{typ_variable, typ_instance}
 ghost use Rattle.pure_tunify.specs.Unifiers.{IsOldPair};
 ghost use Rattle.pure_tunify.specs.Settings.{composed};
 ghost use Rattle.pure_tunify.specs.Answers.{IsSolvability};
-ghost use Rattle.pure_tunify.specs.LargeTypes.{HasNoClasses, Covers, IsReachedBy, IsSettling};
+ghost use Rattle.pure_tunify.specs.LargeTypes.{HasNoClasses, IsSettling};
 
 use crate::meeting::{Turned, is_schematic};
 use crate::pair::TypPair;
 use crate::pursue::pursue;
+use crate::reached::occurs_resolved;
 use crate::settings::Settings;
 use pure_order::Order;
-use pure_typ::{Typ, TypBind, TypNode, occurs_in_typ};
+use pure_typ::{Typ, TypNode};
 use std::alloc::{AllocError, Global};
-
-/// Whether the variable occurs in one of the types.
-fn occurs_in_any(variable: &Typ, typs: &[Typ]) -> bool
-    ensures { MatchBool result (Unit {0}) (Each (λ t. ¬ OccursInTyp variable.now t) typs.now) }
-{
-    for typ in typs {
-        if occurs_in_typ(variable, typ) {
-            return true;
-        }
-    }
-    false
-}
-
-/// The variable of the entry.
-fn variable_of(bind: &TypBind, alloc: Global) -> Result<Typ, AllocError>
-    ensures { IfOk result (λ v. v ≡ typ_variable bind.now) }
-{
-    let sort = bind.sort.copy(alloc)?;
-    Ok(Typ {
-        node: TypNode::TVar {
-            name: bind.name,
-            index: bind.index,
-            sort,
-        },
-    })
-}
-
-/// Adds the entry's image to the types, where its variable occurs in one of them.
-fn reach(alloc: Global, typs: &mut Vec<Typ>, bind: &TypBind) -> Result<(), AllocError>
-    ensures { OnOk result (IsReachedBy bind.now typs.old.items typs.new.items) }
-{
-    let variable = variable_of(bind, alloc)?;
-    let occurs = occurs_in_any(&variable, typs.as_slice());
-    if !occurs {
-        return Ok(());
-    }
-    let image = bind.image.copy(alloc)?;
-    typs.push(image)?;
-    Ok(())
-}
-
-/// Types in one of which each variable occurs that is in this type with all set variables replaced: the type, and the
-/// images that it reaches.
-fn reached(settings: &Settings, alloc: Global, t: &Typ) -> Result<Vec<Typ>, AllocError>
-    ensures { IfOk result (λ typs. Covers settings.now.sets t.now typs.items) }
-{
-    let mut typs = Vec::new(alloc);
-    let copy = t.copy(alloc)?;
-    typs.push(copy)?;
-    for bind in settings.binds() {
-        reach(alloc, &mut typs, bind)?;
-    }
-    Ok(typs)
-}
 
 /// Whether the type is a schematic variable without classes.
 fn has_no_classes(t: &Typ) -> bool
@@ -80,18 +27,6 @@ fn has_no_classes(t: &Typ) -> bool
         TypNode::TFree { .. } => false,
         TypNode::Con { .. } => false,
     }
-}
-
-/// Whether the variable occurs in no image, as it was set.
-fn is_in_no_image(settings: &Settings, variable: &Typ) -> bool
-    ensures { OnTrue result (Each (λ b. ¬ OccursInTyp variable.now b.image) settings.now.sets) }
-{
-    for bind in settings.binds() {
-        if occurs_in_typ(variable, &bind.image) {
-            return false;
-        }
-    }
-    true
 }
 
 /// Whether the variable isn't set, and doesn't occur in the type with all set variables replaced.
@@ -107,12 +42,7 @@ fn stays_free(
     match settings.find(variable) {
         Some(_) => Ok(false),
         None => {
-            if is_in_no_image(settings, variable) {
-                let here = occurs_in_typ(variable, t);
-                return Ok(!here);
-            }
-            let typs = reached(settings, alloc, t)?;
-            let occurs = occurs_in_any(variable, typs.as_slice());
+            let occurs = occurs_resolved(settings, alloc, variable, t)?;
             Ok(!occurs)
         }
     }

@@ -11,6 +11,7 @@ mod meeting;
 mod narrow;
 mod pair;
 mod pursue;
+mod reached;
 mod resolve;
 mod settings;
 mod solve;

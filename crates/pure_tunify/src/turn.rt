@@ -1,32 +1,75 @@
 //! One turn of making a pair equal: a variable is set, or arguments are looked at.
 ghost use Rattle.std.specs.Prelude.{◌≡◌, ◌∷◌, map, reverse, IfOk};
+ghost use Rattle.std.specs.Bool.{OnTrue};
 ghost use Rattle.pure_text.specs.Lists.{IsIn, Each};
 ghost use Rattle.pure_definitions.specs.Terms.Subst.{typ_variable, typ_instance};
-ghost use Rattle.pure_definitions.specs.Terms.Limits.{IsWithinTyp};
 ghost use Rattle.pure_term_laws.specs.LawsOccurs.{IsTypVariable};
 ghost use Rattle.pure_tunify.specs.Unifiers.{IsFresh, IsOld, IsOldPair};
+ghost use Rattle.pure_tunify.specs.Asks.{HasNoInstance};
 ghost use Rattle.pure_tunify.specs.Steps.{pair};
 ghost use Rattle.pure_tunify.specs.Settings.{composed, IsTidy};
 ghost use Rattle.pure_tunify.specs.Procedure.{IsSchematic};
 ghost use Rattle.pure_tunify.specs.Meeting.{IsTreating, IsTurned};
-ghost use Rattle.pure_tunify.specs.declared.meeting.Turned.TheVariants.{Large};
 
+use crate::asks::asked_of_arguments;
 use crate::meeting::{Meeting, Turned, arguments, meeting_of, push_arguments, put_back};
 use crate::narrow::narrow;
 use crate::pair::TypPair;
+use crate::reached::occurs_resolved;
 use crate::resolve::{Resolved, measured_leaves, resolve_measured};
 use crate::settings::Settings;
 use pure_order::Order;
-use pure_typ::{MAX_DEPTH, MAX_SIZE, Typ, TypBind, TypNode, occurs_in_typ};
+use pure_typ::{MAX_DEPTH, MAX_SIZE, Sort, Typ, TypBind, TypNode, occurs_in_typ};
 use std::alloc::{AllocError, Global};
 
 /// The greatest depth of a type that is written out with all set variables replaced; a deeper one is too large.
 const MOST_DEPTH: u32 = 6000;
 
-/// The type is beyond the limits with all set variables replaced, or memory is wanted.
-fn too_large(settings: &Settings, t: &Typ) -> Result<Turned, AllocError>
-    ensures { IfOk result (λ turned. (turned ≡ Large) × ¬ IsWithinTyp (typ_instance (composed settings.now.sets) t.now)) }
+/// Whether no type of this constructor, with so many arguments, is of the sort; false for variables.
+fn is_out_of_sort(
+    order: &Order,
+    alloc: Global,
+    settings: &Settings,
+    sort: &Sort,
+    t: &Typ,
+) -> Result<bool, AllocError>
+    ensures { IfOk result (λ out. OnTrue out (HasNoInstance order.now (typ_instance (composed settings.now.sets) t.now) sort.now)) }
 {
+    match &t.node {
+        TypNode::TFree { .. } => Ok(false),
+        TypNode::TVar { .. } => Ok(false),
+        TypNode::Con { name, args } => {
+            let args = args.as_slice();
+            let found = asked_of_arguments(order, alloc, *name, sort, args.len())?;
+            Ok(found.is_none())
+        }
+    }
+}
+
+/// What comes of a variable and a type that isn't written out: never where the variable occurs in it, or its constructor is
+/// never of the variable's sort; else the type is beyond the limits, or memory is wanted.
+fn treat_unwritten(
+    order: &Order,
+    alloc: Global,
+    settings: &Settings,
+    variable: &Typ,
+    t: &Typ,
+) -> Result<Turned, AllocError>
+    requires schematic { IsSchematic variable.now }
+    requires absent { ¬ IsIn variable.now (map typ_variable settings.now.sets) }
+    ensures { IfOk result (IsTreating order.now settings.now settings.now variable.now (typ_instance (composed settings.now.sets) t.now)) }
+{
+    let TypNode::TVar { sort, .. } = &variable.node else {
+        return Err(AllocError);
+    };
+    let occurs = occurs_resolved(settings, alloc, variable, t)?;
+    if occurs {
+        return Ok(Turned::Never);
+    }
+    let out = is_out_of_sort(order, alloc, settings, sort, t)?;
+    if out {
+        return Ok(Turned::Never);
+    }
     let found = measured_leaves(settings, t, MAX_SIZE, MAX_DEPTH)?;
     match found {
         None => Ok(Turned::Large),
@@ -53,7 +96,7 @@ fn treat(
     };
     let found = resolve_measured(settings, alloc, other, settings.most(), MOST_DEPTH)?;
     let Some(resolved) = found else {
-        let turned = too_large(settings, other)?;
+        let turned = treat_unwritten(order, alloc, settings, variable, other)?;
         return Ok(turned);
     };
     let Resolved { typ: t, .. } = resolved;

@@ -110,7 +110,7 @@ static SORTED: [(&[u8], Wanted); 19] = [
 ];
 
 /// Images at the limits, and beyond them; also one that grows by a later pair, and a pair that fails behind a large one.
-static LIMITS: [(&[u8], Wanted); 15] = [
+static LIMITS: [(&[u8], Wanted); 18] = [
     (b"?'a, k//199999 i", Wanted::Unifier(b"?'a, k//199999 i")),
     (b"?'a, k//200000 i", Wanted::Big(0)),
     (b"?'a, k*1999 i", Wanted::Unifier(b"?'a, k*1999 i")),
@@ -140,6 +140,17 @@ static LIMITS: [(&[u8], Wanted); 15] = [
         b"?'a, k//99999 i, ?'c, > ?'b i, ?'b, k//20 ?'a",
         Wanted::Big(2),
     ),
+    // The same where the variable occurs in the type, as it stands and through a setting, or where its class has no such
+    // constructor.
+    (
+        b"?'a, k//99999 i, ?'b, k/2 ?'b k//20 ?'a",
+        Wanted::NoTyping(1),
+    ),
+    (
+        b"?'a, > ?'b k//99997 i, ?'b, k//20 ?'a",
+        Wanted::NoTyping(1),
+    ),
+    (b"?'a, k//99999 i, ?'b:d, k//20 ?'a", Wanted::NoTyping(1)),
 ];
 
 /// The types of the text, two and two.

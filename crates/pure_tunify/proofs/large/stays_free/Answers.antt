@@ -1,8 +1,14 @@
-use Rattle.pure_tunify.proofs.LargeLaws.{on_true, free_answer, away_answer}
+use Rattle.pure_definitions.specs.Terms.Subst.{typ_instance}
+use Rattle.pure_tunify.specs.Settings.{composed}
+use Rattle.pure_tunify.proofs.LargeLaws.{no_classes_variable, free_answer}
 use Rattle.pure_tunify.proofs.large.stays_free.Goals as goal
 
-pub returns-then-is_in_no_image : goal.returns-then-is_in_no_image
-returns-then-is_in_no_image c = away_answer c.args.settings.now.sets c.args.t.now c.args.variable.now c.requires (on_true _ c.is_in_no_image.result c.is_in_no_image.ensures c.if-is_in_no_image.true) c.occurs_in_typ-here.result c.occurs_in_typ-here.ensures c.in-None.ensures.image
+pub occurs_resolved-requires-clause-variable : goal.occurs_resolved-requires-clause-variable
+occurs_resolved-requires-clause-variable c = no_classes_variable c.args.variable.now c.requires
 
-pub returns-in_ok-typs-in-None : goal.returns-in_ok-typs-in-None
-returns-in_ok-typs-in-None c = free_answer c.args.settings.now.sets c.args.t.now c.args.variable.now c.in_ok-typs-in-None.typs.items c.as_slice.result.now c.requires c.in_ok-typs-in-None.ensures c.as_slice.ensures.value c.occurs_in_any-occurs.result c.occurs_in_any-occurs.ensures c.in-None.ensures.image
+pub occurs_resolved-requires-clause-absent : goal.occurs_resolved-requires-clause-absent
+occurs_resolved-requires-clause-absent c = c.in-None.ensures.image (no_classes_variable c.args.variable.now c.requires)
+
+pub returns-in_ok-occurs-in-None : goal.returns-in_ok-occurs-in-None
+returns-in_ok-occurs-in-None c = free_answer c.args.variable.now c.args.settings.now.sets (typ_instance (composed c.args.settings.now.sets) c.args.t.now) c.in_ok-occurs-in-None.occurs c.in_ok-occurs-in-None.ensures
+    (c.in-None.ensures.image (no_classes_variable c.args.variable.now c.requires))
