@@ -110,7 +110,7 @@ static SORTED: [(&[u8], Wanted); 19] = [
 ];
 
 /// Images at the limits, and beyond them; also one that grows by a later pair, and a pair that fails behind a large one.
-static LIMITS: [(&[u8], Wanted); 18] = [
+static LIMITS: [(&[u8], Wanted); 15] = [
     (b"?'a, k//199999 i", Wanted::Unifier(b"?'a, k//199999 i")),
     (b"?'a, k//200000 i", Wanted::Big(0)),
     (b"?'a, k*1999 i", Wanted::Unifier(b"?'a, k*1999 i")),
@@ -140,8 +140,11 @@ static LIMITS: [(&[u8], Wanted); 18] = [
         b"?'a, k//99999 i, ?'c, > ?'b i, ?'b, k//20 ?'a",
         Wanted::Big(2),
     ),
-    // The same where the variable occurs in the type, as it stands and through a setting, or where its class has no such
-    // constructor.
+];
+
+/// Types of more than a million nodes that have no instance of the variable's sort, or in which the variable occurs: as
+/// they stand, and through a setting.
+static UNWRITTEN: [(&[u8], Wanted); 3] = [
     (
         b"?'a, k//99999 i, ?'b, k/2 ?'b k//20 ?'a",
         Wanted::NoTyping(1),
@@ -229,6 +232,11 @@ fn pairs_with_sorts(rt: HostRuntime) -> Result<(), Fail> {
 #[test]
 fn images_at_the_limits(rt: HostRuntime) -> Result<(), Fail> {
     check(&rt, &LIMITS)
+}
+
+#[test]
+fn variables_in_unwritten_types(rt: HostRuntime) -> Result<(), Fail> {
+    check(&rt, &UNWRITTEN)
 }
 
 /// The first fresh variable has the name that is given.
