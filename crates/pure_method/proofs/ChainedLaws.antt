@@ -19,7 +19,7 @@ use Rattle.pure_logic.proofs.ProvesLaws.{derivable_is_proves}
 use Rattle.pure_logic.proofs.EqualityLaws.{right-of, reflexive_equality}
 use Rattle.pure_theorem.specs.Facts.{IsTheoryContent}
 use Rattle.pure_theorem.specs.Sets.{label_cmp, IsSetOf}
-use Rattle.pure_theorem.specs.Shapes.{IsNoEquation, IsNoImplication}
+use Rattle.pure_theorem.specs.Shapes.{IsNoImplication}
 use Rattle.pure_theorem.specs.Within.{AreWithin}
 use Rattle.pure_theorem.proofs.SetLaws.{no_labels}
 use Rattle.pure_unfold.specs.Unfold.{Unfolds}
@@ -40,7 +40,7 @@ use Rattle.pure_resolve.specs.declared.state.Goal.{Goal}
 use Rattle.pure_resolve.proofs.ChainLaws.{first-premise, no-premise}
 use Rattle.pure_method.specs.Facts.{theorem}
 use Rattle.pure_method.specs.Unfolding.{IsSmallEquation, TakesFact, ComesByFacts, UnfoldStep, all_rests}
-use Rattle.pure_method.specs.Taking.{IsReadyFact, IsChained, IsChain, IsLinked, IsJoin, IsTaken, AreTaken, step_answer}
+use Rattle.pure_method.specs.Taking.{IsReadyFact, IsChained, IsLinked, IsJoin, IsTaken, AreTaken, step_answer}
 use Rattle.pure_resolve.proofs.AnswerLaws.{outcome_map}
 
 right-same : (S T : Typ) (t u v w : Term) → eq S t u ≡ eq T v w → u ≡ w
@@ -54,10 +54,6 @@ typ-same S T t u v w e = cc
 
 prop-of : (Q : Content) (first last : Term) (th : Theorem) → IsChained Q first last th → th.prop ≡ eq prop first last
 prop-of Q first last th c = ap (λ (t : Theorem). t.prop) c.is
-
--- A chain is an equation, and its right side is what was come to.
-pub no-chain : (Q : Content) (th : Theorem) (A : Term) → A ≡ th.prop → IsChain Q th → IsNoEquation A → ⊥
-no-chain Q th A e (first, last, c) n = n prop first last (e ∙ prop-of Q first last th c)
 
 pub come-to : (Q : Content) (first now : Term) (th : Theorem) (A : Term) (S : Typ) (l r : Term) → A ≡ th.prop → A ≡ eq S l r → IsChained Q first now th → r ≡ now
 come-to Q first now th A S l r e f c = right-same S prop l r first now (sym f ∙ (e ∙ prop-of Q first now th c))

@@ -1,40 +1,18 @@
 -- Subgoals closed by assumption: what a loop over them keeps, and that it ends.
-use Rattle.std.proofs.Common.{◌≡◌, ℕ, suc, ◌<◌, List, [], ◌∷◌, length, refl, ap, sym, subst, ◌∙◌, arith}
+use Rattle.std.proofs.Common.{◌≡◌, ℕ, suc, ◌+◌, ◌<◌, List, [], ◌∷◌, length, refl, ap, subst, ◌∙◌, arith}
 use Rattle.std.specs.Prelude.{Ok, Err}
-use Rattle.pure_definitions.specs.Terms.Term.{Term}
+use Rattle.pure_definitions.specs.Terms.Term.{Term, App}
 use Rattle.pure_definitions.specs.Declarations.Decl.{algebra_of}
 use Rattle.pure_logic.specs.Connectives.{protect, chain}
 use Rattle.pure_logic.specs.Content.{Content}
 use Rattle.pure_logic.specs.Derivable.{Theorem}
 use Rattle.pure_goal_steps.specs.State.{State, IsTheoremOf}
 use Rattle.pure_goal_steps.specs.Steps.{AssumptionStep}
-use Rattle.pure_goal_steps.specs.declared.fault.StepFault.{StepFault}
-use Rattle.pure_goal_steps.specs.declared.fault.StepFault.TheVariants.{UnknownFact, NoSubgoal, NoPremise, NotDefinition, NothingToUnfold, NoUnifier, SearchBound, Steps, Big, NoHypothesis, SubgoalsLeft, Memory}
-use Rattle.pure_resolve.specs.Goals.{IsStep}
 use Rattle.pure_resolve.specs.Uses.{MayStep}
-use Rattle.pure_resolve.specs.declared.state.Goal.{Goal}
 use Rattle.pure_method.specs.Proof.{Closes}
-use Rattle.pure_method.specs.Closing.{CannotAssume, IsAssumed, IsClosed, premise_count}
+use Rattle.pure_method.specs.Closing.{CannotAssume, IsAssumed, IsClosed}
 use Rattle.pure_method.proofs.ClosingLaws.{fewer-subgoals}
 use Rattle.pure_method.proofs.RunLaws.{state-once}
-
--- What a call by assumption answers.
-pub assumed-on : (Q : Content) (goal : Theorem) (new : Goal) → IsStep (AssumptionStep (algebra_of Q.declarations)) goal (λ rests. rests ≡ goal.rests) (Ok new) → MayStep Q new.thm → IsAssumed Q goal new.thm
-assumed-on Q goal new (s, is, kept, (t, step, after, long, rests)) may = record { before = s; is_before = is; after = t; is_after = after; step = step; rests = rests; may = may }
-
-pub cannot-assume : (Q : Content) (goal : Theorem) (fault : StepFault) → (fault ≡ Memory → ⊥) → IsStep (AssumptionStep (algebra_of Q.declarations)) goal (λ rests. rests ≡ goal.rests) (Err fault) → CannotAssume Q goal
-cannot-assume Q goal Memory n h = absurd (n refl)
-cannot-assume Q goal UnknownFact n (s, is, kept, f) = (s, is, (UnknownFact, f))
-cannot-assume Q goal NoSubgoal n (s, is, kept, f) = (s, is, (NoSubgoal, f))
-cannot-assume Q goal NoPremise n (s, is, kept, f) = (s, is, (NoPremise, f))
-cannot-assume Q goal NotDefinition n (s, is, kept, f) = (s, is, (NotDefinition, f))
-cannot-assume Q goal NothingToUnfold n (s, is, kept, f) = (s, is, (NothingToUnfold, f))
-cannot-assume Q goal NoUnifier n (s, is, kept, f) = (s, is, (NoUnifier, f))
-cannot-assume Q goal SearchBound n (s, is, kept, f) = (s, is, (SearchBound, f))
-cannot-assume Q goal Steps n (s, is, kept, f) = (s, is, (Steps, f))
-cannot-assume Q goal Big n (s, is, kept, f) = (s, is, (Big, f))
-cannot-assume Q goal NoHypothesis n (s, is, kept, f) = (s, is, (NoHypothesis, f))
-cannot-assume Q goal SubgoalsLeft n (s, is, kept, f) = (s, is, (SubgoalsLeft, f))
 
 -- A loop has come from the goal to another: what is closed from there is closed from the first.
 pub record ClosesFrom (Q : Content) (goal now : Theorem) : Type 0 where
@@ -45,9 +23,6 @@ pub record ClosesFrom (Q : Content) (goal now : Theorem) : Type 0 where
   pub closes : (last : State) → Closes (algebra_of Q.declarations) here last → Closes (algebra_of Q.declarations) before last
   pub rests : now.rests ≡ goal.rests
   pub may : MayStep Q now
-
-pub closes-at_first : (Q : Content) (goal now : Theorem) → MayStep Q goal → now ≡ goal → ClosesFrom Q goal now
-closes-at_first Q goal now may e = subst (ClosesFrom Q goal) (sym e) (record { before = may.is.state; is_before = may.is.is; here = may.is.state; is_here = may.is.is; closes = λ last c. c; rests = refl; may = may })
 
 pub closes-turn : (Q : Content) (goal now next : Theorem) → ClosesFrom Q goal now → IsAssumed Q now next → ClosesFrom Q goal next
 closes-turn Q goal now next c a = record {
@@ -70,6 +45,11 @@ closes-end Q goal now c (s, is, (f, step)) = record {
   rests = c.rests;
   may = c.may;
 }
+
+-- the count of the premises of a proposition, whatever constant stands for implication
+abbrev pub premise_count : Term → ℕ
+premise_count (App (App f A) B) = premise_count B + 1
+premise_count t = 0
 
 -- Each success takes a premise away.
 count-chain : (As : List Term) (C : Term) → premise_count (chain As (protect C)) ≡ length As

@@ -1,5 +1,6 @@
 -- Subgoals are closed up to some state, and a goal ends somehow.
 use Rattle.std.proofs.Common.{◌≡◌, ◌⊎◌, ℕ, zero, suc, ◌<◌, List, [], ◌∷◌, map, length, inl, inr, refl, ap, sym, subst, ◌∙◌, arith}
+use Rattle.std.proofs.lemmas.List.{length-map}
 use Rattle.std.specs.Prelude.{Result, Ok, Err}
 use Rattle.std.specs.List.Sorted.{IsStrictlySortedBy}
 use Rattle.pure_text.proofs.ListLaws.{each_imply, each_decided}
@@ -42,10 +43,6 @@ next_above m = omega arith
 lower : (a b c n : ℕ) → a ≡ b → c ≡ suc b → c < suc n → a < n
 lower a b c n e f h = omega (arith, e, f)
 
-length-map : {A B : Type 0} (f : A → B) (xs : List A) → length (map f xs) ≡ length xs
-length-map f [] = refl
-length-map f (x ∷ xs) = ap suc (length-map f xs)
-
 come-length : (As Ss : List Term) → Come As (AllLong Ss) → length Ss ≡ length As
 come-length [] [] f = refl
 come-length [] (S ∷ Ss) f = elim f [ ]
@@ -61,7 +58,7 @@ no-ok s f e = cc
 -- A success by assumption takes one subgoal away.
 module _ (s new : State) (others : List Term) (C : Term) where
   follows-length : (place : Place) (answer : Answer) → Follows s others (assumption_attempt C place) answer (Ok new) → length new.subgoals ≡ length others
-  follows-length place (Unified u) f = becomes-length _ new f ∙ length-map _ others
+  follows-length place (Unified u) f = becomes-length _ new f ∙ length-map others _
   follows-length place NoUnifier f = absurd (no-ok new _ f)
   follows-length place SearchBound f = absurd (no-ok new _ f)
   follows-length place (Stopped stop) f = absurd (no-ok new _ f)
@@ -115,7 +112,7 @@ smash-further n smash th none l (p ∷ ps) e = elim (terms_same_or_not p.left p.
   | inr differ ↦
       let c : Term = fresh_variable th p in
       let next : Theorem = record { hyps = []; pairs = map (pair_with p c) ps; prop = with_constants p c th.prop; rests = th.rests } in
-      let rest = smash next refl (fewer-pairs n p ps th.pairs (map (pair_with p c) ps) e (length-map (pair_with p c) ps) l) in
+      let rest = smash next refl (fewer-pairs n p ps th.pairs (map (pair_with p c) ps) e (length-map ps (pair_with p c)) l) in
       (rest.0, Smashes.constants {next = next} {p = p} {ps = ps} e differ (record { hyps = empty-set (with_constants p c) th.hyps none; are_pairs = refl; prop = refl; rests = refl }) rest.1)
 ]
 

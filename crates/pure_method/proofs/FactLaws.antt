@@ -1,6 +1,7 @@
 -- Facts by name: each name means one theorem at most, which is derivable and rests on a promise only where it is one.
 use Rattle.std.proofs.Common.{◌≡◌, ℕ, zero, suc, List, [], ◌∷◌, inl, inr, refl, ap, sym, subst, ◌∙◌}
 use Rattle.std.specs.Prelude.{Some, slice_get}
+use Rattle.std.proofs.lemmas.Option.{same_Some}
 use Rattle.pure_text.specs.Lists.{IsIn, Each, AnyOf, EachTwo}
 use Rattle.pure_definitions.specs.Names.{Label}
 use Rattle.pure_definitions.specs.Terms.Term.{Term}
@@ -16,12 +17,9 @@ use Rattle.pure_lookup.specs.Laws.{IsInSession}
 use Rattle.pure_lookup.proofs.MeaningLaws.{one_fact}
 use Rattle.pure_method.specs.Facts.{theorem, IsFact, IsFound, IsUnknown, MeansPromise}
 
-some-same : {A : Type 0} (x y : A) → Some x ≡ Some y → x ≡ y
-some-same x y e = cc
-
 fact-once : (fact : Fact) (th other : Theorem) → IsFact fact th → IsFact fact other → th ≡ other
 fact-once (BuiltFact place) th other h k =
-    let same : h.0 ≡ k.0 = some-same h.0 k.0 (sym h.1 ∙ k.1) in
+    let same : h.0 ≡ k.0 = same_Some h.0 k.0 (sym h.1 ∙ k.1) in
     h.2 ∙ ap (λ A. theorem A []) same ∙ sym k.2
 fact-once (AxiomFact name A) th other h k = h ∙ sym k
 fact-once (PromisedFact name label A) th other h k = h ∙ sym k
@@ -29,7 +27,7 @@ fact-once (PromisedFact name label A) th other h k = h ∙ sym k
 module _ (texts : List (List ℕ)) (Q : Content) where
   pub found-once : IsInSession texts Q → IsContent Q → (written : List ℕ) (th other : Theorem) → IsFound texts Q written th → IsFound texts Q written other → th ≡ other
   found-once s q written th other h k =
-      let same : h.fact ≡ k.fact = some-same h.fact k.fact (one_fact texts Q s q written (Some h.fact) (Some k.fact) h.found k.found) in
+      let same : h.fact ≡ k.fact = same_Some h.fact k.fact (one_fact texts Q s q written (Some h.fact) (Some k.fact) h.found k.found) in
       fact-once k.fact th other (subst (λ (f : Fact). IsFact f th) same h.is) k.is
 
   found-known : (written : List ℕ) (th : Theorem) → IsFound texts Q written th → ¬ IsUnknown texts Q written
@@ -64,7 +62,7 @@ module _ (texts : List (List ℕ)) (Q : Content) where
 
   built-at : (As : List Term) → Each (IsDerivableAlone Q) As → (place : ℕ) (A : Term) → slice_get As place ≡ Some A → IsDerivableAlone Q A
   built-at [] h place A e = let no : ⊥ = cc in absurd no
-  built-at (B ∷ Bs) h zero A e = let same : B ≡ A = some-same B A e in subst (IsDerivableAlone Q) same h.0
+  built-at (B ∷ Bs) h zero A e = let same : B ≡ A = same_Some B A e in subst (IsDerivableAlone Q) same h.0
   built-at (B ∷ Bs) h (suc place) A e = built-at Bs h.1 place A e
 
   usable : IsBelow pure_content Q → (written : List ℕ) (fact : Fact) (th : Theorem) → IsFoundFact texts Q written (Some fact) → IsFact fact th → IsUsable written th

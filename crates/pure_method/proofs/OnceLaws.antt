@@ -1,29 +1,23 @@
 -- One value comes of a proof.
-use Rattle.std.proofs.Common.{◌≡◌, ◌⊎◌, ℕ, ◌+◌, List, [], ◌∷◌, map, inl, inr, refl, ap, sym, subst, ◌∙◌}
+use Rattle.std.proofs.Common.{◌≡◌, ◌⊎◌, ℕ, ◌+◌, List, [], ◌∷◌, inl, inr, refl, ap, sym, subst, ◌∙◌}
 use Rattle.std.specs.Prelude.{Result, Ok, Err}
-use Rattle.pure_text.specs.Lists.{IsIn}
-use Rattle.pure_text.proofs.ListLaws.{none_in, each_of}
 use Rattle.pure_definitions.specs.Names.{Label}
 use Rattle.pure_definitions.specs.Types.Order.{Algebra}
 use Rattle.pure_definitions.specs.Terms.Term.{Term}
-use Rattle.pure_definitions.specs.Models.Comparison.{term_cmp}
 use Rattle.pure_definitions.specs.Declarations.Decl.{algebra_of}
 use Rattle.pure_grammar.specs.Theories.TheoryText.{Step, Rule, Erule, Drule, Assumption, Unfold, Prefer, Defer, Close, Done}
 use Rattle.pure_order_tables.specs.Classes.{IsAntisymmetric}
-use Rattle.pure_logic.specs.Connectives.{protect}
 use Rattle.pure_logic.specs.Content.{Content, IsContent}
-use Rattle.pure_logic.specs.Derivable.{Pair, Theorem}
-use Rattle.pure_theorem.specs.Sets.{IsSetOf}
-use Rattle.pure_theorem.specs.Within.{AreWithin}
+use Rattle.pure_logic.specs.Derivable.{Theorem}
 use Rattle.pure_lookup.specs.Laws.{IsInSession}
 use Rattle.pure_unfold.proofs.UnfoldLaws.{unfolds-once, unfolds-something}
-use Rattle.pure_pairs.specs.Smash.{with_constants, fresh_variable, IsWithConstants, Smashes}
 use Rattle.pure_fates.proofs.LabelSets.{set_once}
-use Rattle.pure_goal_steps.specs.State.{State, theorem_of}
+use Rattle.pure_goal_steps.specs.State.{State}
 use Rattle.pure_goal_steps.specs.Follows.{Outcome}
-use Rattle.pure_goal_steps.specs.Steps.{BeginsAs, RuleStep, EliminationStep, DestructionStep, ConversionStep, EndsAs}
+use Rattle.pure_goal_steps.specs.Steps.{BeginsAs, RuleStep, EliminationStep, DestructionStep, ConversionStep}
 use Rattle.pure_goal_steps.specs.declared.fault.StepFault.{StepFault}
 use Rattle.pure_goal_steps.proofs.FollowsLaws.{becomes-once}
+use Rattle.pure_resolve.proofs.EndLaws.{ends_once as ends_as-once}
 use Rattle.pure_goal_steps.proofs.OneOutcomeLaws.{rule_once, elimination_once, destruction_once, assumption_once, prefer_once, defer_once, conversion_once}
 use Rattle.pure_method.specs.Facts.{AreNamed}
 use Rattle.pure_method.specs.Unfolding.{IsSmallEquation, TakesFact, ComesByFacts, UnfoldStep, chained_equation}
@@ -39,67 +33,8 @@ not-both x f e = cc
 err-same : {A E : Type 0} (f g : E) → ◌≡◌ {A = Result A E} (Err f) (Err g) → f ≡ g
 err-same f g e = cc
 
--- What is smashed, of a theorem without hypotheses.
-no-hyps : (th : Theorem) (f : Term → Term) (hyps : List Term) → th.hyps ≡ [] → IsSetOf term_cmp (map f th.hyps) hyps → hyps ≡ []
-no-hyps th f hyps e set = none_in hyps (each_of (λ A. IsIn A []) hyps (λ A m. subst (λ (As : List Term). IsIn A (map f As)) e ((set.members A).0 m)))
-
-some-pair : (p : Pair) (ps qs : List Pair) → qs ≡ [] → qs ≡ p ∷ ps → ⊥
-some-pair p ps qs e d = absurd (cc)
-
-pairs-same : (p q : Pair) (ps qs : List Pair) → p ∷ ps ≡ q ∷ qs → (p ≡ q) × (ps ≡ qs)
-pairs-same p q ps qs e = (cc, cc)
-
-with-once : (th : Theorem) (p q : Pair) (ps qs : List Pair) (next other : Theorem) → th.hyps ≡ [] → p ≡ q → ps ≡ qs → IsWithConstants p (fresh_variable th p) ps th next → IsWithConstants q (fresh_variable th q) qs th other → next ≡ other
-with-once th p q ps qs next other none e d h k =
-    let moved : IsWithConstants p (fresh_variable th p) ps th other = subst (λ (rs : List Pair). IsWithConstants p (fresh_variable th p) rs th other) (sym d) (subst (λ (r : Pair). IsWithConstants r (fresh_variable th r) qs th other) (sym e) k) in
-    let hyps : next.hyps ≡ other.hyps = no-hyps th (with_constants p (fresh_variable th p)) next.hyps none h.hyps ∙ sym (no-hyps th (with_constants p (fresh_variable th p)) other.hyps none moved.hyps) in
-    let pairs : next.pairs ≡ other.pairs = h.are_pairs ∙ sym moved.are_pairs in
-    let prop : next.prop ≡ other.prop = h.prop ∙ sym moved.prop in
-    let rests : next.rests ≡ other.rests = h.rests ∙ sym moved.rests in
-    λ i. record { hyps = hyps i; pairs = pairs i; prop = prop i; rests = rests i }
-
-smash-once : (th a b : Theorem) → th.hyps ≡ [] → Smashes th a → Smashes th b → a ≡ b
-smash-once th a b none (Smashes.no_pair e) (Smashes.no_pair d) = refl
-smash-once th a b none (Smashes.no_pair e) (Smashes.trivial {p = q} {ps = qs} d g r) = absurd (some-pair q qs th.pairs e d)
-smash-once th a b none (Smashes.no_pair e) (Smashes.constants {p = q} {ps = qs} d g k r) = absurd (some-pair q qs th.pairs e d)
-smash-once th a b none (Smashes.trivial {p = p} {ps = ps} e g r) (Smashes.no_pair d) = absurd (some-pair p ps th.pairs d e)
-smash-once th a b none (Smashes.trivial {p = p} {ps = ps} e g r) (Smashes.trivial {p = q} {ps = qs} d h t) =
-    let same = pairs-same p q ps qs (sym e ∙ d) in
-    smash-once (record th { pairs = ps }) a b none r (subst (λ (rs : List Pair). Smashes (record th { pairs = rs }) b) (sym same.1) t)
-smash-once th a b none (Smashes.trivial {p = p} {ps = ps} e g r) (Smashes.constants {p = q} {ps = qs} d differ k t) =
-    let same = pairs-same p q ps qs (sym e ∙ d) in
-    absurd (differ (subst (λ (x : Pair). x.left ≡ x.right) same.0 g))
-smash-once th a b none (Smashes.constants {p = p} {ps = ps} e differ k r) (Smashes.no_pair d) = absurd (some-pair p ps th.pairs d e)
-smash-once th a b none (Smashes.constants {p = p} {ps = ps} e differ k r) (Smashes.trivial {p = q} {ps = qs} d g t) =
-    let same = pairs-same p q ps qs (sym e ∙ d) in
-    absurd (differ (subst (λ (x : Pair). x.left ≡ x.right) (sym same.0) g))
-smash-once th a b none (Smashes.constants {next = next} {p = p} {ps = ps} e differ k r) (Smashes.constants {next = other} {p = q} {ps = qs} d unlike h t) =
-    let same = pairs-same p q ps qs (sym e ∙ d) in
-    let nexts : next ≡ other = with-once th p q ps qs next other none same.0 same.1 k h in
-    smash-once next a b (no-hyps th (with_constants p (fresh_variable th p)) next.hyps none k.hyps) r (subst (λ (n : Theorem). Smashes n b) (sym nexts) t)
-
 no-subgoal : (A : Term) (As Bs : List Term) → Bs ≡ [] → Bs ≡ A ∷ As → ⊥
 no-subgoal A As Bs e d = absurd (cc)
-
-marks-same : (A B : Term) → protect A ≡ protect B → A ≡ B
-marks-same A B e = cc
-
-ends_as-once : (s : State) (one other : Result Theorem StepFault) → EndsAs s one → EndsAs s other → one ≡ other
-ends_as-once s one other (EndsAs.subgoals_left e) (EndsAs.subgoals_left d) = refl
-ends_as-once s one other (EndsAs.subgoals_left {A = A} {others = As} e) (EndsAs.large d m w) = absurd (no-subgoal A As s.subgoals d e)
-ends_as-once s one other (EndsAs.subgoals_left {A = A} {others = As} e) (EndsAs.proved d m w p) = absurd (no-subgoal A As s.subgoals d e)
-ends_as-once s one other (EndsAs.large e m w) (EndsAs.subgoals_left {A = A} {others = As} d) = absurd (no-subgoal A As s.subgoals e d)
-ends_as-once s one other (EndsAs.large e m w) (EndsAs.large d k v) = refl
-ends_as-once s one other (EndsAs.large {smashed = a} e m w) (EndsAs.proved {smashed = b} d k v p) =
-    absurd (w (subst AreWithin (smash-once (theorem_of s []) b a refl k m) v))
-ends_as-once s one other (EndsAs.proved e m w p) (EndsAs.subgoals_left {A = A} {others = As} d) = absurd (no-subgoal A As s.subgoals e d)
-ends_as-once s one other (EndsAs.proved {smashed = a} e m w p) (EndsAs.large {smashed = b} d k v) =
-    absurd (v (subst AreWithin (smash-once (theorem_of s []) a b refl m k) w))
-ends_as-once s one other (EndsAs.proved {smashed = a} {C = C} e m w p) (EndsAs.proved {smashed = b} {C = D} d k v r) =
-    let same = smash-once (theorem_of s []) a b refl m k in
-    let marks : protect C ≡ protect D = sym p ∙ ap (λ (th : Theorem). th.prop) same ∙ r in
-    let inside : C ≡ D = marks-same C D marks in
-    λ i. Ok (record (same i) { prop = inside i })
 
 -- What facts come to.
 module _ (A : Algebra) (first : Term) where

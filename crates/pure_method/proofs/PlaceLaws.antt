@@ -11,7 +11,7 @@ use Rattle.pure_method.specs.declared.run.Run.{Run}
 use Rattle.pure_method.specs.declared.run.Next.{Next}
 use Rattle.pure_method.specs.declared.run.Next.TheVariants.{Goes, Ends}
 use Rattle.pure_method.specs.declared.proving.Place.{Place}
-use Rattle.pure_method.specs.declared.proving.Place.TheVariants.{Runs, Refused, Broken}
+use Rattle.pure_method.specs.declared.proving.Place.TheVariants.{Runs}
 use Rattle.pure_method.proofs.RunLaws.{some-left}
 
 -- The steps of the program that are seen as these are these.
@@ -56,9 +56,3 @@ next-there texts f run h (Ends outcome) k = k
 pub next-there_if : {E : Type 0} (texts : List (List ℕ)) (f : Fork) (run : Run) (place : Place) → place ≡ Runs run → IsPlace texts f place → (result : Result Next E) → IfOk result (IsNext texts f run.at) → IfOk result (IsNextAt texts f place)
 next-there_if texts f run place e h (Ok next) k = subst (λ (p : Place). IsNextAt texts f p next) (sym e) (next-there texts f run (subst (IsPlace texts f) e h) next k)
 next-there_if texts f run place e h (Err fault) k = tt
-
-pub runs-not_broken : (run : Run) (place : Place) → place ≡ Runs run → place ≡ Broken → ⊥
-runs-not_broken run place e d = let no : Runs run ≡ Broken = sym e ∙ d in let false : ⊥ = cc in false
-
-pub refused-not_broken : (place : Place) → place ≡ Refused → place ≡ Broken → ⊥
-refused-not_broken place e d = let no : ◌≡◌ {A = Place} Refused Broken = sym e ∙ d in let false : ⊥ = cc in false

@@ -114,10 +114,6 @@ module _ (texts : List (List ℕ)) (f : Fork) where
       )
 
   module _ (goal : Theorem) (number : ℕ) (step : Step) (steps : List Step) (c : HasCome texts f goal number (step ∷ steps)) where
-    -- A number more fits the program's numbers.
-    pub number-fits : number + 1 < 4294967296
-    number-fits = let few = c.few in omega (arith, few)
-
     -- The step fails, and so does the proof.
     pub come-failed : (s : State) → IsTheoremOf s goal → (fault : StepFault) → Gives texts Q step s (Err fault) → IsProof texts Q f.fixed f.script (Err (record { step = number; fault = fault }))
     come-failed s is fault gives =
@@ -249,9 +245,6 @@ module _ (texts : List (List ℕ)) (f : Fork) (p : IsProvable texts f) where
 
     behind-left : (behind : ℕ) → behind ≡ at + 1 → (new : Theorem) (m : ℕ) → HasCome texts f new m (drop (at + 1) f.script) → HasCome texts f new m (drop behind f.script)
     behind-left behind e new m h = subst (λ (k : ℕ). HasCome texts f new m (drop k f.script)) (sym e) h
-
-    pub number_fits : number + 1 < 4294967296
-    number_fits = number-fits texts f goal number step (drop (at + 1) f.script) here
 
     pub run-closed : step ≡ Close → (new : Theorem) → IsClosed f.content goal new → (behind : ℕ) → behind ≡ at + 1 → HasCome texts f new number (drop behind f.script)
     run-closed e new k behind b = behind-left behind b new number (come-closed texts f goal number step (drop (at + 1) f.script) here e new k)

@@ -1,6 +1,5 @@
 -- What the calls that close subgoals by assumption answer.
-use Rattle.std.specs.Prelude.{◌≡◌, ℕ, ◌+◌, Ok, Err}
-use Rattle.pure_definitions.specs.Terms.Term.{Term, App}
+use Rattle.std.specs.Prelude.{◌≡◌, Ok, Err}
 use Rattle.pure_definitions.specs.Declarations.Decl.{algebra_of}
 use Rattle.pure_logic.specs.Content.{Content}
 use Rattle.pure_logic.specs.Derivable.{Theorem}
@@ -33,8 +32,3 @@ pub record IsClosed (Q : Content) (goal new : Theorem) : Type 0 where
   pub closes : Closes (algebra_of Q.declarations) before after
   pub rests : new.rests ≡ goal.rests
   pub may : MayStep Q new
-
--- the count of the premises of a proposition, whatever constant stands for implication: what falls where a subgoal goes
-abbrev pub premise_count : Term → ℕ
-premise_count (App (App f A) B) = premise_count B + 1
-premise_count t = 0

@@ -6,7 +6,7 @@ use Rattle.pure_lookup.specs.Laws.{IsInSession}
 use Rattle.pure_declare.specs.Notes.{Fork}
 use Rattle.pure_declare.specs.Tidy.{IsTidy, IsTidyFork}
 use Rattle.pure_method.specs.Facts.{theorem}
-use Rattle.pure_method.specs.Proof.{ProofOutcome, IsProof}
+use Rattle.pure_method.specs.Proof.{IsProof}
 use Rattle.pure_method.specs.Outcomes.{IsScript}
 use Rattle.pure_method.specs.declared.outcome.Outcome.{Outcome}
 use Rattle.pure_method.specs.declared.outcome.Outcome.TheVariants.{Proved, Fault}
@@ -16,7 +16,7 @@ abbrev pub is_numbered : Step → Bool
 is_numbered Close = false
 is_numbered _ = true
 
--- What a proof is run on: a lemma over a content of a session, whose facts are as commands store them, and so is the lemma's statement, which is a proposition of the content. Its script ends with the end, and nowhere else; and at most 1000 of its steps have numbers.
+-- What a proof is run on: a lemma over a content of a session, whose facts are as commands store them, and so is the lemma's statement, which is a proposition of the content. The last step of its script is the end, and no other is; and at most 1000 of its steps have numbers.
 pub record IsProvable (texts : List (List ℕ)) (f : Fork) : Type 0 where
   pub in_session : IsInSession texts f.content
   pub tidy : IsTidy f.content
@@ -24,11 +24,6 @@ pub record IsProvable (texts : List (List ℕ)) (f : Fork) : Type 0 where
   pub proposition : IsProposition f.content f.fixed
   pub script : IsScript f.script
   pub few : count_by is_numbered f.script ≤ 1000
-
--- the outcome of a proof that the call's value shows
-abbrev pub seen_outcome : Outcome → ProofOutcome
-seen_outcome (Proved c) = Ok c.theorem.rests
-seen_outcome (Fault step fault) = Err (record { step = step; fault = fault })
 
 -- The call's value is what comes of the lemma's proof. Where the lemma is proved, it is the lemma's theorem, with its content: its statement with schematic variables, without hypotheses and pairs, which rests on the promises that the proof's steps name.
 abbrev pub IsOutcomeOf : (texts : List (List ℕ)) → Fork → Outcome → Type 0

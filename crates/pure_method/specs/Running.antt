@@ -70,12 +70,13 @@ IsPlace texts f Broken = Unit {0}
 abbrev pub Proves : (texts : List (List ℕ)) → Fork → Proving → Type 0
 Proves texts f proving = IsPlace texts f proving.place
 
--- the count of the steps that are left
+-- the count of the steps that are left, where a proof stands so
 abbrev pub place_left : Fork → Place → ℕ
 place_left f (Runs run) = length (drop run.at f.script)
 place_left f Refused = 0
 place_left f Broken = 0
 
+-- the count of the steps that are left of a proof on its way
 abbrev pub steps_left : Fork → Proving → ℕ
 steps_left f proving = place_left f proving.place
 

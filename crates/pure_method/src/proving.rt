@@ -35,7 +35,8 @@ pub struct Proving {
 /// `AllocError` alone: a fault that comes before the first step is answered by the first call of `advance`.
 pub fn start(alloc: Global, _names: &NamesByBase, duty: &Duty) -> Result<Proving, AllocError>
     requires { IsProvable _names.now duty.now }
-    ensures { IfOk result (Proves _names.now duty.now) }
+    ensures proves { IfOk result (Proves _names.now duty.now) }
+    ensures unbroken { IfOk result (λ proving. ¬ IsBroken proving) }
 {
     match pure_resolve::start(alloc, theory_of(duty), statement_of(duty)) {
         Ok(goal) => Ok(Proving {
@@ -108,6 +109,7 @@ impl Proving {
         requires proves { Proves names.now duty.now self.old }
         ensures proves { Proves names.now duty.now self.new }
         ensures outcome { IfOk result (λ answer. MatchOption answer (steps_left duty.now self.new + 1 ≡ steps_left duty.now self.old) (IsOutcomeOf names.now duty.now)) }
+        ensures unbroken { IfOk result (λ _. ¬ IsBroken self.new) }
         ensures broken { OnErr result (IsBroken self.new) }
         ensures still { IsBroken self.old → IsErr result }
     {

@@ -1,5 +1,4 @@
-use Rattle.pure_method.specs.Closing.{premise_count}
-use Rattle.pure_method.proofs.CloseLaws.{ClosesFrom}
+use Rattle.pure_method.proofs.CloseLaws.{ClosesFrom, premise_count}
 use Rattle.pure_method.proofs.close.closed.Given as goal
 
 abbrev pub invariant-loop-now : goal.invariant-loop-now
