@@ -1,6 +1,7 @@
 -- A theory may begin with its parents, and what its content is then.
 use Rattle.std.proofs.Common.{◌≡◌, ◌≢◌, ◌⊎◌, ◌<◌, ℕ, List, sym, ◌∙◌, ap, subst, inl, inr, arith, Option, Some, None}
 use Rattle.std.specs.Option.{option_to_list}
+use Rattle.std.proofs.lemmas.Option.{same_Some}
 use Rattle.pure_text.specs.Lists.{IsIn, Each}
 use Rattle.pure_text.proofs.ListLaws.{each_of, each_at, any_some, in_split}
 use Rattle.pure_definitions.specs.Names.{Label}
@@ -14,9 +15,6 @@ use Rattle.pure_owners.specs.Owned.{IsLast}
 use Rattle.pure_owners.specs.Ended.{HasPlainName, AreEnded, IsNext, IsParent, IsGivenParents}
 use Rattle.pure_owners.specs.Laws.{ParentsMayBegin, BeginningIsOwned, BeginningIsInSession, LabelsAreBelow}
 use Rattle.pure_owners.proofs.AgreedLaws.{none-promised, placed, are-agreed}
-
-some-same : {A : Type 0} (a b : A) → Some a ≡ Some b → a ≡ b
-some-same a b e = cc
 
 -- a theory that has ended
 abbrev HasEnded : List Content → TheoryId → Type 0
@@ -37,7 +35,7 @@ module _ (texts : List (List ℕ)) (ended : List Content) (all : AreEnded texts 
   same-theory : (t u : TheoryId) → HasEnded ended t → HasEnded ended u → (t.name ≡ u.name) ⊎ (t.index ≡ u.index) → t ≡ u
   same-theory t u (P, a) (R, b) e =
       let same : P ≡ R = all.apart t u P R a b e in
-      some-same t u (sym a.own ∙ ap (λ (Q : Content). Q.own) same ∙ b.own)
+      same_Some t u (sym a.own ∙ ap (λ (Q : Content). Q.own) same ∙ b.own)
 
   told-apart : (parents : List Content) → Each (IsParent ended) parents → AreToldApart (ancestors_of parents)
   told-apart parents each = record {
@@ -60,7 +58,7 @@ module _ (texts : List (List ℕ)) (ended : List Content) (all : AreEnded texts 
     where
       its-own : (o : Option TheoryId) → o ≡ Some theory → IsIn t (option_to_list o) → HasPlainName texts t
       its-own None e h = absurd h
-      its-own (Some u) e (inl h) = subst (HasPlainName texts) (sym (h ∙ some-same u theory e)) given.plain
+      its-own (Some u) e (inl h) = subst (HasPlainName texts) (sym (h ∙ same_Some u theory e)) given.plain
       its-own (Some u) e (inr none) = absurd none
 
 pub parents-may_begin : ParentsMayBegin

@@ -1,6 +1,7 @@
 -- What a command adds is its theory's own.
 use Rattle.std.proofs.Common.{◌≡◌, ◌⊎◌, ℕ, List, [], ◌∷◌, ◌++◌, refl, sym, ◌∙◌, subst, inl, inr, Some}
 use Rattle.std.specs.Prelude.{Result, Ok, Err}
+use Rattle.std.proofs.lemmas.Option.{same_Some}
 use Rattle.pure_text.specs.Lists.{IsIn, Each}
 use Rattle.pure_text.proofs.ListLaws.{each_at, in_split}
 use Rattle.pure_definitions.specs.Names.{Label}
@@ -132,12 +133,9 @@ module _ (P : Place) (t : TheoryId) (text : HasText P.texts t.name P.theory) (in
   answer-adds command o (Ok p) h e = subst (λ (x : Outcome). Adds x.next) (sym e) (outcome-adds command p h)
   answer-adds command o (Err reason) h e = subst (λ (x : Outcome). Adds x.next) (sym e) same-adds
 
-some-same : {A : Type 0} (a b : A) → Some a ≡ Some b → a ≡ b
-some-same a b e = cc
-
 pub declared-adds : (texts : List (List ℕ)) (source : List ℕ) (label : Label) (Q : Content) (command : Command) (note : Note) (next : Content) (theory : TheoryId)
     → Q.own ≡ Some theory → label.theory ≡ theory.index → Declares texts source label Q command note next → HasAdded texts theory Q next
 declared-adds texts source label Q command note next theory own index h =
-    let same : h.own.own ≡ theory = some-same h.own.own theory (sym h.own.is_own ∙ own) in
+    let same : h.own.own ≡ theory = same_Some h.own.own theory (sym h.own.is_own ∙ own) in
     let text : HasText texts theory.name h.theory = subst (λ (t : TheoryId). HasText texts t.name h.theory) same h.own.text in
     answer-adds (record { texts = texts; source = source; label = label; theory = h.theory; content = Q }) theory text index command (record { note = note; next = next }) h.declares.answer h.declares.is h.declares.comes

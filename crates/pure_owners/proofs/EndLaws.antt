@@ -1,6 +1,7 @@
 -- The last content of a theory is one more of those that have ended.
 use Rattle.std.proofs.Common.{◌≡◌, ◌⊎◌, ◌<◌, ◌+◌, ℕ, List, [], ◌∷◌, ◌++◌, refl, sym, ◌∙◌, ap, subst, inl, inr, arith, Some}
 use Rattle.std.specs.Option.{option_to_list}
+use Rattle.std.proofs.lemmas.Option.{same_Some}
 use Rattle.pure_text.specs.Lists.{IsIn}
 use Rattle.pure_text.proofs.ListLaws.{each_imply}
 use Rattle.pure_definitions.specs.Names.{Label}
@@ -14,9 +15,6 @@ use Rattle.pure_owners.specs.Ended.{HasPlainName, AreEnded, IsNext, IsGivenParen
 use Rattle.pure_owners.specs.Kept.{CommandKeepsOwned, CommandKeepsSession, NothingHasEnded, TheoryEnds}
 use Rattle.pure_owners.proofs.BeginLaws.{ancestor-ended, beginning-is_owned}
 use Rattle.pure_owners.proofs.DeclaredLaws.{HasAdded, declared-adds}
-
-some-same : {A : Type 0} (a b : A) → Some a ≡ Some b → a ≡ b
-some-same a b e = cc
 
 -- ---- one command
 
@@ -78,7 +76,7 @@ module _ (texts : List (List ℕ)) (ended : List Content) (all : AreEnded texts 
   -- the new one, or one before
   by-place : (t : TheoryId) (P : Content) → IsLast (last ∷ ended) t P → ((P ≡ last) × (t ≡ theory)) ⊎ IsLast ended t P
   by-place t P a = elim a.among [
-    | inl e ↦ inl (e, some-same t theory (sym a.own ∙ ap (λ (Q : Content). Q.own) e ∙ own))
+    | inl e ↦ inl (e, same_Some t theory (sym a.own ∙ ap (λ (Q : Content). Q.own) e ∙ own))
     | inr m ↦ inr (record { among = m; own = a.own })
   ]
 

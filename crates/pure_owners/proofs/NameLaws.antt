@@ -1,6 +1,7 @@
 -- The name of a theory's declaration is no name of another theory, and none of Pure.
-use Rattle.std.proofs.Common.{◌≡◌, ◌<◌, ℕ, zero, suc, List, refl, sym, ◌∙◌, subst, inl, inr, arith, Some}
+use Rattle.std.proofs.Common.{◌≡◌, ◌<◌, ℕ, zero, suc, List, refl, sym, ◌∙◌, subst, inl, inr, arith}
 use Rattle.std.specs.Prelude.{codes}
+use Rattle.std.proofs.lemmas.Option.{same_Some}
 use Rattle.pure_text.specs.Lists.{IsIn}
 use Rattle.pure_definitions.specs.Declarations.Decl.{Decl, ClassDecl, ConDecl, ArityDecl, ConstDecl, AxiomDecl, PromiseDecl}
 use Rattle.pure_typ.specs.NameTexts.{builtin_texts, HasText, AreSessionTexts}
@@ -47,12 +48,9 @@ of-name texts t (PromiseDecl x l A) n h e = subst (IsNameIn texts t.name) e h.0
 
 -- ---- one theory
 
-some-same : (a b : List ℕ) → Some a ≡ Some b → a ≡ b
-some-same a b e = cc
-
 pub one-theory : (texts : List (List ℕ)) → AreSessionTexts texts → (t u : TheoryId) → HasPlainName texts t → HasPlainName texts u → (n : ℕ) → IsNameIn texts t.name n → IsNameIn texts u.name n → t.name ≡ u.name
 one-theory texts session t u plain other n a b =
-    let whole : full_text a.text a.base ≡ full_text b.text b.base = some-same (full_text a.text a.base) (full_text b.text b.base) (sym a.full ∙ b.full) in
+    let whole : full_text a.text a.base ≡ full_text b.text b.base = same_Some (full_text a.text a.base) (full_text b.text b.base) (sym a.full ∙ b.full) in
     let same : a.text ≡ b.text = (one_cut a.text b.text a.base b.base (plain a.text a.of_theory).0 (other b.text b.of_theory).0 whole).0 in
     one_name texts session b.text t.name u.name (subst (HasText texts t.name) same a.of_theory) b.of_theory
 
@@ -65,12 +63,12 @@ record IsOfPure (text : List ℕ) : Type 0 where
 
 builtin-of_pure : (texts : List (List ℕ)) (n : ℕ) (text : List ℕ) → n < 6 → HasText texts n text → IsOfPure text
 unfolding builtin_texts pure_text
-builtin-of_pure texts zero text h e = record { base = codes "fun"; full = sym (some-same (codes "Pure.fun") text e) }
-builtin-of_pure texts (suc zero) text h e = record { base = codes "prop"; full = sym (some-same (codes "Pure.prop") text e) }
-builtin-of_pure texts (suc (suc zero)) text h e = record { base = codes "all"; full = sym (some-same (codes "Pure.all") text e) }
-builtin-of_pure texts (suc (suc (suc zero))) text h e = record { base = codes "imp"; full = sym (some-same (codes "Pure.imp") text e) }
-builtin-of_pure texts (suc (suc (suc (suc zero)))) text h e = record { base = codes "eq"; full = sym (some-same (codes "Pure.eq") text e) }
-builtin-of_pure texts (suc (suc (suc (suc (suc zero))))) text h e = record { base = codes "protect"; full = sym (some-same (codes "Pure.protect") text e) }
+builtin-of_pure texts zero text h e = record { base = codes "fun"; full = sym (same_Some (codes "Pure.fun") text e) }
+builtin-of_pure texts (suc zero) text h e = record { base = codes "prop"; full = sym (same_Some (codes "Pure.prop") text e) }
+builtin-of_pure texts (suc (suc zero)) text h e = record { base = codes "all"; full = sym (same_Some (codes "Pure.all") text e) }
+builtin-of_pure texts (suc (suc (suc zero))) text h e = record { base = codes "imp"; full = sym (same_Some (codes "Pure.imp") text e) }
+builtin-of_pure texts (suc (suc (suc (suc zero)))) text h e = record { base = codes "eq"; full = sym (same_Some (codes "Pure.eq") text e) }
+builtin-of_pure texts (suc (suc (suc (suc (suc zero))))) text h e = record { base = codes "protect"; full = sym (same_Some (codes "Pure.protect") text e) }
 builtin-of_pure texts (suc (suc (suc (suc (suc (suc n)))))) text h e = absurd (omega arith)
 
 pub none-of_pure : (texts : List (List ℕ)) (t : TheoryId) → HasPlainName texts t → (n : ℕ) → n < 6 → IsNameIn texts t.name n → ⊥
