@@ -2,6 +2,7 @@
 use Rattle.std.proofs.Common.{◌≡◌, ◌≢◌, ◌<◌, ◌≤◌, ◌+◌, ◌-◌, inl, inr, ℕ, zero, suc, List, [], ◌∷◌, map, refl, sym, ◌∙◌, ap, subst, arith, Some}
 use Rattle.std.specs.List.{slice_get}
 use Rattle.std.proofs.lemmas.Bool.{cases_lt}
+use Rattle.std.proofs.lemmas.Option.{same_Some}
 use Rattle.pure_text.specs.Lists.{IsIn, Each, EachTwo, AreDistinct}
 use Rattle.pure_text.proofs.ListLaws.{each_at}
 use Rattle.pure_typ.specs.NameTexts.{HasText}
@@ -13,14 +14,12 @@ use Rattle.pure_owners.specs.Owned.{IsLast}
 use Rattle.pure_owners.specs.Ended.{HasPlainName, IsNext, IsParent, IsGivenParents}
 use Rattle.pure_owners.proofs.EndLaws.{nothing-has_ended, theory-ends}
 use Rattle.pure_loaded.specs.Well.{IsWellLoaded}
-use Rattle.pure_loaded.specs.Following.{IsTheoryAt, HaveEnded, IsContentAt, AreContentsOf, AreKnown, NoneHasEnded, ParentsHaveEnded, NextIsGiven, NextHasEnded}
+use Rattle.pure_loaded.specs.Following.{IsTheoryAt, HaveEnded, IsContentAt, AreContentsOf, NoneHasEnded, ParentsHaveEnded, NextIsGiven, NextHasEnded}
+use Rattle.pure_loaded.specs.Loaded.{IsLoadedSession}
 
-some-same : {A : Type 0} (a b : A) → Some a ≡ Some b → a ≡ b
-some-same a b e = cc
-
-at-in : {A : Type 0} (xs : List A) (k : ℕ) (x : A) → slice_get xs k ≡ Some x → IsIn x xs
+pub at-in : {A : Type 0} (xs : List A) (k : ℕ) (x : A) → slice_get xs k ≡ Some x → IsIn x xs
 at-in [] k x e = absurd (cc)
-at-in (y ∷ ys) zero x e = inl (sym (some-same y x e))
+at-in (y ∷ ys) zero x e = inl (sym (same_Some y x e))
 at-in (y ∷ ys) (suc k) x e = inr (at-in ys k x e)
 
 abbrev names_of : List Loaded → List (List ℕ)
@@ -36,7 +35,7 @@ apart-at : (ls : List Loaded) (j k : ℕ) (l m : Loaded) → AreDistinct (names_
 apart-at [] j k l m d h a b e = absurd (cc)
 apart-at (x ∷ ls) j zero l m d h a b e = absurd (omega (arith, h))
 apart-at (x ∷ ls) zero (suc k) l m d h a b e =
-    let first : x ≡ l = some-same x l a in
+    let first : x ≡ l = same_Some x l a in
     d.0 (subst (λ n. IsIn n (names_of ls)) (sym (ap (λ (y : Loaded). y.name) first ∙ e)) (in-names ls m (at-in ls k m b)))
 apart-at (x ∷ ls) (suc j) (suc k) l m d h a b e = apart-at ls j k l m d.1 (omega (arith, h)) a b e
 
@@ -57,7 +56,7 @@ some-parent ended [] parents are none_is = let no : pure_content ∷ [] ≡ [] =
 some-parent ended (p ∷ ps) [] are none_is = are
 some-parent ended (p ∷ ps) (P ∷ parents) are none_is = cc
 
-module _ (texts : List (List ℕ)) (theories : List Loaded) (known : AreKnown texts theories) (place : ℕ) (ended : List Content) (have : HaveEnded texts theories place ended) where
+module _ (texts : List (List ℕ)) (theories : List Loaded) (known : IsLoadedSession texts theories) (place : ℕ) (ended : List Content) (have : HaveEnded texts theories place ended) where
   is-next : (t : TheoryId) (l : Loaded) → IsTheoryAt texts theories place t l → IsNext ended t
   is-next t l at u P last =
       let w = have.before u P last in
@@ -70,12 +69,12 @@ module _ (texts : List (List ℕ)) (theories : List Loaded) (known : AreKnown te
       other-name : (u t : TheoryId) (m l : Loaded) (k : ℕ) → k < place → IsTheoryAt texts theories k u m → IsTheoryAt texts theories place t l → u.name ≢ t.name
       other-name u t m l k below a b e =
           let text : HasText texts t.name m.name = subst (λ n. HasText texts n m.name) e a.name in
-          let same : m.name ≡ l.name = some-same m.name l.name (sym text ∙ b.name) in
-          apart-at theories k place m l known.ordered.names below a.at b.at same
+          let same : m.name ≡ l.name = same_Some m.name l.name (sym text ∙ b.name) in
+          apart-at theories k place m l known.distinct below a.at b.at same
 
   plain-name : (t : TheoryId) (l : Loaded) → IsTheoryAt texts theories place t l → HasPlainName texts t
   plain-name t l at text has =
-      let same : l.name ≡ text = some-same l.name text (sym at.name ∙ has) in
+      let same : l.name ≡ text = same_Some l.name text (sym at.name ∙ has) in
       subst (λ n. (¬ IsIn 46 n) × (n ≢ pure_text)) same (each_at (IsWellLoaded texts) theories known.well l (at-in theories place l at.at)).plain
 
   given-next : (t : TheoryId) (l : Loaded) → IsTheoryAt texts theories place t l → (parents : List Content) → AreContentsOf ended l.parents parents → IsGivenParents texts ended t parents
@@ -105,7 +104,7 @@ module _ (texts : List (List ℕ)) (theories : List Loaded) (known : AreKnown te
   module _ (t : TheoryId) (l : Loaded) (at : IsTheoryAt texts theories place t l) (last : Content) (own : last.own ≡ Some t) where
     all-before : (u : TheoryId) (P : Content) → IsLast (last ∷ ended) u P → (k : ℕ) × (m : Loaded) × (k < place + 1) × IsTheoryAt texts theories k u m
     all-before u P a = elim a.among [
-      | inl e ↦ (let same : t ≡ u = some-same t u (sym own ∙ ap (λ (Q : Content). Q.own) (sym e) ∙ a.own) in
+      | inl e ↦ (let same : t ≡ u = same_Some t u (sym own ∙ ap (λ (Q : Content). Q.own) (sym e) ∙ a.own) in
           (place, l, omega arith, subst (λ (x : TheoryId). IsTheoryAt texts theories place x l) same at))
       | inr m ↦ (let w = have.before u P (record { among = m; own = a.own }) in (w.0, w.1, later w.0 w.2, w.3))
     ]
@@ -133,7 +132,7 @@ none-has_ended texts theories = record {
     none k below = omega arith
 
 pub parents-have_ended : ParentsHaveEnded
-parents-have_ended texts theories known place ended have t l at = contents-of texts theories known place ended have l.parents (known.ordered.parents place l at.at).earlier
+parents-have_ended texts theories known place ended have t l at = contents-of texts theories known place ended have l.parents (known.parents place l at.at)
 
 pub next-is_given : NextIsGiven
 next-is_given texts theories known place ended have t l at parents are = given-next texts theories known place ended have t l at parents are

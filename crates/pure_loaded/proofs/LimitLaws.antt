@@ -33,9 +33,6 @@ one_at_most : (o : Outcome) → one_each o ≤ 1
 one_at_most (Refused reason) = omega arith
 one_at_most (Stands source text) = omega arith
 
-counted-refused : (n : ℕ) (reason : Reason) → counted n (Refused reason) ≡ Refused reason
-counted-refused n reason = refl
-
 few-read : (place n : ℕ) (answers : List Answer) (files : List File) → AreReadFrom place n answers files → total one_each files ≤ most_files - place
 few-read place n [] [] read = omega arith
 few-read place n [] (f ∷ files) read = absurd read

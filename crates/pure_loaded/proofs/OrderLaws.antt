@@ -3,6 +3,7 @@ use Rattle.std.proofs.Common.{◌≡◌, ◌≤◌, ◌+◌, inl, inr, ℕ, zero
 use Rattle.std.specs.List.{filter, list_any, slice_get}
 use Rattle.std.specs.Cmp.Lexicographic.{same_text, nat_list_eq_equiv}
 use Rattle.std.proofs.lemmas.Bool.{both_ways}
+use Rattle.std.proofs.lemmas.Option.{same_Some}
 use Rattle.pure_text.specs.Lists.{IsIn, Each, AreDistinct}
 use Rattle.pure_text.proofs.ListLaws.{each_at, in-append_left, in-append_right, distinct-snoc}
 use Rattle.pure_grammar.specs.Theories.Lexeme.{same}
@@ -124,14 +125,11 @@ parents-of taken imports free d = record {
   distinct = map-distinct (index_among taken) imports (λ p q m n e. index-once taken p q (each_at (λ x. IsIn x taken) imports free p m) (each_at (λ x. IsIn x taken) imports free q n) e) d;
 }
 
-some-same : {A : Type 0} (a b : A) → Some a ≡ Some b → a ≡ b
-some-same a b e = cc
-
 parents-at : (files : List File) (taken : List (List ℕ)) (loaded : List Loaded) → AreTakenBehind files taken loaded → ((l : Loaded) → IsIn l loaded → IsOwn l.name l.source l.text)
     → (k n : ℕ) (l : Loaded) → n ≡ length taken + k → slice_get loaded k ≡ Some l → AreParents n l.parents
 parents-at files taken [] all own k n l size at = absurd (cc)
 parents-at files taken (m ∷ loaded) all own zero n l size at =
-    let here : m ≡ l = some-same m l at in
+    let here : m ≡ l = same_Some m l at in
     let before : length taken ≡ n = omega (arith, size) in
     let imports : List (List ℕ) = named_imports m.text in
     let made : AreParents (length taken) (map (index_among taken) imports) = parents-of taken imports all.0.ready.free (named-distinct m.source m.text (own m (inl refl)).spelled) in

@@ -9,6 +9,7 @@ use Rattle.pure_graph.specs.Graph.{IsOutcomeJudged, linked, without, first_absen
 use Rattle.pure_graph.specs.Order.{Loaded, file_of, AreTakenBehind}
 use Rattle.pure_graph.specs.Session.{Refusal, IsLoadingOf}
 use Rattle.pure_graph.specs.declared.outcome.Reason.TheVariants.{TooManyFiles, TooLarge, HeaderName}
+use Rattle.pure_session.proofs.GraphLemmas.{in_mapped}
 
 -- The file of a theory stands by itself: its bytes aren't too many and have this tree, with the theory's name in front, which isn't too large.
 pub record IsOwn (theory source : List ℕ) (text : TheoryText) : Type 0 where
@@ -85,11 +86,6 @@ right_of R [] (z ∷ ys) y each m = absurd each
 right_of R (x ∷ xs) [] y each m = absurd each
 right_of R (x ∷ xs) (z ∷ ys) y each (inl e) = (x, inl refl, subst (R x) (sym e) each.0)
 right_of R (x ∷ xs) (z ∷ ys) y each (inr m) = let w = right_of R xs ys y each.1 m in (w.0, inr w.1, w.2)
-
-in_mapped : {A B : Type 0} (f : A → B) (y : B) (xs : List A) → IsIn y (map f xs) → (x : A) × IsIn x xs × (y ≡ f x)
-in_mapped f y [] m = absurd m
-in_mapped f y (x ∷ xs) (inl e) = (x, inl refl, e)
-in_mapped f y (x ∷ xs) (inr m) = let w = in_mapped f y xs m in (w.0, inr w.1, w.2)
 
 -- a loaded theory is that of a file that stands
 pub taken-stands : (files : List File) (taken : List (List ℕ)) (loaded : List Loaded) → AreTakenBehind files taken loaded → (l : Loaded) → IsIn l loaded → IsIn (file_of l.name l.source l.text) files

@@ -1,7 +1,7 @@
 -- Theories of a session that begin and end one after another, in load order.
 use Rattle.std.specs.Prelude.{◌≡◌, ◌<◌, ℕ, ◌+◌, List, [], ◌∷◌, slice_get, Some}
-use Rattle.pure_text.specs.Lists.{Each, EachTwo}
-use Rattle.pure_typ.specs.NameTexts.{HasText, AreSessionTexts}
+use Rattle.pure_text.specs.Lists.{EachTwo}
+use Rattle.pure_typ.specs.NameTexts.{HasText}
 use Rattle.pure_logic.specs.Content.{TheoryId, Content, IsContent}
 use Rattle.pure_logic.specs.PureContent.{pure_content}
 use Rattle.pure_logic.specs.Beginning.{IsBeginning}
@@ -10,8 +10,7 @@ use Rattle.pure_declare.specs.Notes.{Note}
 use Rattle.pure_declare.specs.Fold.{AreDeclared}
 use Rattle.pure_owners.specs.Owned.{IsLast}
 use Rattle.pure_owners.specs.Ended.{AreEnded, IsGivenParents}
-use Rattle.pure_loaded.specs.InOrder.{AreInOrder}
-use Rattle.pure_loaded.specs.Well.{IsWellLoaded}
+use Rattle.pure_loaded.specs.Loaded.{IsLoadedSession}
 
 -- The theory stands at this place in load order: its name's text is the loaded theory's name, and its index is one more than the place, since Pure has the index 0.
 pub record IsTheoryAt (texts : List (List ℕ)) (theories : List Loaded) (place : ℕ) (t : TheoryId) (l : Loaded) : Type 0 where
@@ -34,29 +33,23 @@ abbrev pub AreContentsOf : (ended : List Content) → (indexes : List ℕ) → L
 AreContentsOf ended [] parents = parents ≡ pure_content ∷ []
 AreContentsOf ended (p ∷ ps) parents = EachTwo (IsContentAt ended) (p ∷ ps) parents
 
--- What is known of the theories of a session.
-pub record AreKnown (texts : List (List ℕ)) (theories : List Loaded) : Type 0 where
-  pub session : AreSessionTexts texts
-  pub ordered : AreInOrder theories
-  pub well : Each (IsWellLoaded texts) theories
-
 -- At first none has ended.
 abbrev pub NoneHasEnded : Type 0
 NoneHasEnded = (texts : List (List ℕ)) (theories : List Loaded) → HaveEnded texts theories 0 []
 
 -- When the theories before it have ended, the parents of a theory have last contents.
 abbrev pub ParentsHaveEnded : Type 0
-ParentsHaveEnded = (texts : List (List ℕ)) (theories : List Loaded) → AreKnown texts theories → (place : ℕ) (ended : List Content) → HaveEnded texts theories place ended
+ParentsHaveEnded = (texts : List (List ℕ)) (theories : List Loaded) → IsLoadedSession texts theories → (place : ℕ) (ended : List Content) → HaveEnded texts theories place ended
     → (t : TheoryId) (l : Loaded) → IsTheoryAt texts theories place t l → (parents : List Content) × AreContentsOf ended l.parents parents
 
 -- With these it is given what one that begins is.
 abbrev pub NextIsGiven : Type 0
-NextIsGiven = (texts : List (List ℕ)) (theories : List Loaded) → AreKnown texts theories → (place : ℕ) (ended : List Content) → HaveEnded texts theories place ended
+NextIsGiven = (texts : List (List ℕ)) (theories : List Loaded) → IsLoadedSession texts theories → (place : ℕ) (ended : List Content) → HaveEnded texts theories place ended
     → (t : TheoryId) (l : Loaded) → IsTheoryAt texts theories place t l → (parents : List Content) → AreContentsOf ended l.parents parents → IsGivenParents texts ended t parents
 
 -- When it has gone through its commands, one more has ended.
 abbrev pub NextHasEnded : Type 0
-NextHasEnded = (texts : List (List ℕ)) (theories : List Loaded) → AreKnown texts theories → (place : ℕ) (ended : List Content) → HaveEnded texts theories place ended
+NextHasEnded = (texts : List (List ℕ)) (theories : List Loaded) → IsLoadedSession texts theories → (place : ℕ) (ended : List Content) → HaveEnded texts theories place ended
     → (t : TheoryId) (l : Loaded) → IsTheoryAt texts theories place t l → (parents : List Content) → AreContentsOf ended l.parents parents
     → (first last : Content) → IsBeginning t parents first → (notes : List Note) → AreDeclared texts l.source t.index 0 first l.text.commands notes last
     → IsContent last → HaveEnded texts theories (place + 1) (last ∷ ended)

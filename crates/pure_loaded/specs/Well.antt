@@ -12,7 +12,7 @@ use Rattle.pure_graph.specs.Session.{Refusal, IsLoadingOf}
 use Rattle.pure_method.specs.Outcomes.{IsScript}
 use Rattle.pure_declare.specs.Premises.{IsNamed, HasFullNames, HasRanges}
 
--- The steps of a proof: the last one is the end, and no other is; and they aren't too many.
+-- The steps of a proof: the last one is the end, and no other is; and those that have numbers aren't too many.
 pub record IsProofScript (script : List Step) : Type 0 where
   pub ends : IsScript script
   pub few : count_by is_numbered script ≤ most_steps
