@@ -29,6 +29,7 @@ fault_text step.NoHypothesis = codes "no hypothesis"
 fault_text step.SubgoalsLeft = codes "subgoals left"
 fault_text step.Memory = []
 
+-- what stands between the parts of a row
 unfoldable pub colon : List ℕ
 colon = codes ": "
 
@@ -74,6 +75,7 @@ tail_text texts es e (Tainted faults) = by_word ++ labels_text texts es faults
 tail_text texts es e Gone = []
 tail_text texts es e Unsettled = []
 
+-- the status of a row that says this fate
 abbrev pub status_of : Fate → RowStatus
 status_of Proved = status.Proved
 status_of Failed = status.Failed

@@ -13,6 +13,7 @@ seen_own (Proved result) = Some (Ok result.theorem.rests)
 seen_own (Fault step fault) = Some (Err (record { step = step; fault = fault }))
 seen_own Cancelled = None
 
+-- the lemma of a code's entry, and those of several
 abbrev pub seen_entry : code.Entry → Entry
 seen_entry e = record { label = e.label; name = e.name; prop = e.prop; own = seen_own e.own }
 

@@ -101,6 +101,7 @@ fn tail_of(
     }
 }
 
+/// The status of a row that says this fate.
 fn status_of(fate: &Fate) -> RowStatus
     ensures { result ≡ spec.status_of (seen_fate fate.now) }
 {
