@@ -1,0 +1,3 @@
+pub mod Heeded
+pub mod Laws
+pub mod Examples
