@@ -1,12 +1,12 @@
 -- Which promises may be cancelled: a condition on the policy, the number of workers and the promises in order of their theories, without any history.
-use Rattle.std.specs.Prelude.{◌≡◌, ℕ, ◌<◌, ◌≤◌, zero, suc, Bool, true, false, IsTrue, not, ◌&&◌, ◌||◌, List, [], ◌∷◌, ◌++◌, map, length, nat_le, nat_eq}
-use Rattle.std.specs.List.{list_any, count_by, filter}
+use Rattle.std.specs.Prelude.{◌≡◌, ℕ, ◌<◌, ◌≤◌, Bool, true, false, IsTrue, not, ◌&&◌, ◌||◌, List, ◌∷◌, ◌++◌, nat_le, nat_eq}
+use Rattle.std.specs.List.{list_any, count_by}
 use Rattle.pure_text.specs.Lists.{Each}
 use Rattle.pure_machine.specs.declared.policy.Group.{Group}
 use Rattle.pure_machine.specs.declared.policy.Group.TheVariants.{Session, Theory}
 use Rattle.pure_machine.specs.declared.policy.Cancel.{Cancel}
 use Rattle.pure_machine.specs.Policy.{Policy}
-use Rattle.pure_machine.specs.State.{Standing, Settled, Promise, State}
+use Rattle.pure_machine.specs.State.{Standing, Settled, Promise}
 use Rattle.pure_machine.specs.Step.{is_cancelled_standing}
 
 -- a promise as a policy sees it: its theory, whether it is cancelled, and whether its outcome is a fault
@@ -69,16 +69,3 @@ is_at_fault is_fault _ = false
 -- a promise as a policy sees it
 abbrev pub lot_of : {G O : Type 0} → (is_fault : O → Bool) → Promise G O → Lot
 lot_of is_fault p = record { theory = p.theory; gone = is_cancelled_standing p.standing; fault = is_at_fault is_fault p.standing }
-
--- the promises of a theory, in order of their numbers
-abbrev pub promises_of : {G O : Type 0} → (theory : ℕ) → List (Promise G O) → List (Promise G O)
-promises_of i ps = filter (λ p. nat_eq p.theory i) ps
-
--- the promises of the first so many theories, one theory after the other
-abbrev pub by_theory : {G O : Type 0} → (count : ℕ) → List (Promise G O) → List (Promise G O)
-by_theory zero ps = []
-by_theory (suc i) ps = by_theory i ps ++ promises_of (suc i) ps
-
--- the promises of a state as a policy sees them, in order of their theories and of their numbers
-abbrev pub lots : {G C O : Type 0} → (is_fault : O → Bool) → State G C O → List Lot
-lots is_fault s = map (lot_of is_fault) (by_theory (length s.opening.shape) s.promises)

@@ -1,10 +1,9 @@
 -- What a promise or a theory of the state after an event was before it.
-use Rattle.std.proofs.Common.{◌≡◌, ◌≢◌, ◌∙◌, ◌<◌, ◌≤◌, ℕ, zero, suc, ◌+◌, List, [], ◌∷◌, ◌++◌, map, length, set, refl, sym, ap, subst, arith, Bool, true, false, not, ◌&&◌, if◌then◌else◌, Option, Some, None, slice_get, inl, inr, ◌⊎◌}
+use Rattle.std.proofs.Common.{◌≡◌, ◌≢◌, ◌∙◌, ◌≤◌, ℕ, zero, suc, ◌+◌, List, [], ◌∷◌, ◌++◌, length, set, refl, sym, ap, subst, arith, Bool, true, false, not, ◌&&◌, if◌then◌else◌, Option, Some, None, slice_get, inl, inr}
 use Rattle.std.proofs.lemmas.Option.{same_Some, none-some, slice_get_within}
-use Rattle.std.proofs.lemmas.List.{length-map}
 use Rattle.pure_machine.specs.declared.policy.Group.{Group}
-use Rattle.pure_machine.specs.State.{Progress, Waiting, Running, Closed, Promise, Standing, Ready, Taken, Settled, Cancelled, Event, TakeTheory, TakeProof, Fork, CloseTheory, Deliver, Stop, Marks, State, theory_at, with_progress, with_standing, restood, is_theory_cancelled, is_settled, cancelled_promise, with_cancelled}
-use Rattle.pure_machine.specs.Step.{Stands, Allows, forked_once, closed_by, new_promise, is_cancelled_standing, is_cancelled_promise, cancelled_by, settled, after}
+use Rattle.pure_machine.specs.State.{Progress, Running, Promise, Standing, Taken, Settled, Cancelled, Event, TakeTheory, TakeProof, Fork, CloseTheory, Deliver, Stop, Marks, State, theory_at, with_progress, with_standing, restood, is_theory_cancelled, is_settled, cancelled_promise, with_cancelled}
+use Rattle.pure_machine.specs.Step.{Stands, Allows, forked_once, closed_by, new_promise, is_cancelled_standing, is_cancelled_promise, cancelled_by, after}
 use Rattle.pure_machine.proofs.PromiseLaws.{slice_get-mapped}
 use Rattle.pure_core.proofs.PlaceLaws.{theory-changed, promise-changed, pushed-at, standing_so}
 use Rattle.pure_core.proofs.KeptLaws.{cancel-keeps, delivered_state}
@@ -175,6 +174,19 @@ came s (CloseTheory j c) i q at = elim (theory-changed s.theories j (closed_by (
 ]
 came s (Deliver n o fault) i q at = left_so (subst (λ ts. theory_at ts i ≡ Some q) (delivered-keeps s n o fault).0 at) tt
 came s Stop i q at = left_so at tt
+
+length-progress : {C : Type 0} (ts : List (Progress C)) (j : ℕ) (p : Progress C) → length (with_progress ts j p) ≡ length ts
+length-progress ts zero p = refl
+length-progress ts (suc j) p = length-set_there ts j p
+
+-- there are as many theories as before
+pub theories-as_many : {G C O : Type 0} (s : State G C O) (e : Event G C O) → length (after s e).theories ≡ length s.theories
+theories-as_many s (TakeTheory j) = length-progress s.theories j (Running 0)
+theories-as_many s (TakeProof n) = refl
+theories-as_many s (Fork j g) = length-progress s.theories j (forked_once (theory_at s.theories j))
+theories-as_many s (CloseTheory j c) = length-progress s.theories j (closed_by (theory_at s.theories j) c)
+theories-as_many s (Deliver n o fault) = ap length (delivered-keeps s n o fault).0
+theories-as_many s Stop = refl
 
 theory-there_set : {C : Type 0} (ts : List (Progress C)) (j : ℕ) (p : Progress C) (i : ℕ) (q : Progress C) → theory_at ts i ≡ Some q → (r : Progress C) × (theory_at (with_progress ts j p) i ≡ Some r)
 theory-there_set ts zero p i q at = (q, at)

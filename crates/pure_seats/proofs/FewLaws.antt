@@ -1,5 +1,5 @@
 -- Distinct numbers below a bound are no more than it says; so seats that stop the work, each once, are few.
-use Rattle.std.proofs.Common.{◌≡◌, ◌≢◌, ◌∙◌, ◌<◌, ◌≤◌, ℕ, zero, suc, ◌+◌, List, [], ◌∷◌, length, refl, sym, ap, subst, arith, nat_eq, Bool, true, false, if◌then◌else◌, inl, inr, ◌⊎◌}
+use Rattle.std.proofs.Common.{◌≡◌, ◌≢◌, ◌∙◌, ◌<◌, ◌≤◌, ℕ, zero, suc, ◌+◌, List, [], ◌∷◌, length, refl, sym, ap, subst, arith, nat_eq, Bool, true, false, if◌then◌else◌, inl, inr}
 use Rattle.std.proofs.lemmas.Bool.{eqb-true, eq-eqb}
 use Rattle.pure_text.specs.Lists.{IsIn, Each, AreDistinct}
 use Rattle.pure_machine.specs.State.{Event, TakeTheory, TakeProof, Fork, CloseTheory, Deliver, Stop}
@@ -31,22 +31,22 @@ length-without w (x ∷ xs) d = by_flag (nat_eq x w) refl (length-without w xs d
 
 in-without : (w y : ℕ) (xs : List ℕ) → IsIn y (without w xs) → IsIn y xs × (y ≢ w)
 in-without w y [] m = absurd m
-in-without w y (x ∷ xs) m = by_flag (nat_eq x w) refl m
+in-without w y (x ∷ xs) m = by_flag (nat_eq x w) refl (in-without w y xs) m
   where
-    by_flag : (b : Bool) → nat_eq x w ≡ b → IsIn y (if b then without w xs else x ∷ without w xs) → IsIn y (x ∷ xs) × (y ≢ w)
-    by_flag true e n = let rest = in-without w y xs n in (inr rest.0, rest.1)
-    by_flag false e n = elim n [
+    by_flag : (b : Bool) → nat_eq x w ≡ b → (IsIn y (without w xs) → IsIn y xs × (y ≢ w)) → IsIn y (if b then without w xs else x ∷ without w xs) → IsIn y (x ∷ xs) × (y ≢ w)
+    by_flag true e old n = let rest = old n in (inr rest.0, rest.1)
+    by_flag false e old n = elim n [
       | inl same ↦ (inl same, λ is. absurd (let found = eq-eqb x w (sym same ∙ is) in cc))
-      | inr old ↦ (let rest = in-without w y xs old in (inr rest.0, rest.1))
+      | inr m ↦ (let rest = old m in (inr rest.0, rest.1))
     ]
 
 distinct-without : (w : ℕ) (xs : List ℕ) → AreDistinct xs → AreDistinct (without w xs)
 distinct-without w [] d = tt
-distinct-without w (x ∷ xs) d = by_flag (nat_eq x w)
+distinct-without w (x ∷ xs) d = by_flag (nat_eq x w) (distinct-without w xs d.1)
   where
-    by_flag : (b : Bool) → AreDistinct (if b then without w xs else x ∷ without w xs)
-    by_flag true = distinct-without w xs d.1
-    by_flag false = (λ m. d.0 (in-without w x xs m).0, distinct-without w xs d.1)
+    by_flag : (b : Bool) → AreDistinct (without w xs) → AreDistinct (if b then without w xs else x ∷ without w xs)
+    by_flag true rest = rest
+    by_flag false rest = (λ m. d.0 (in-without w x xs m).0, rest)
 
 -- distinct numbers below a bound are no more than it says
 pub few_distinct : (w : ℕ) (xs : List ℕ) → AreDistinct xs → ((x : ℕ) → IsIn x xs → x < w) → length xs ≤ w
@@ -104,14 +104,14 @@ module _ {G C O : Type 0} where
 
   stopper-stops : (x : ℕ) (acts : List (ℕ × Event G C O)) → IsIn x (stoppers acts) → 1 ≤ stops (own x acts)
   stopper-stops x [] m = absurd m
-  stopper-stops x (a ∷ acts) m = by_flag (is_stop a.1) refl m
+  stopper-stops x (a ∷ acts) m = by_flag (is_stop a.1) refl (stopper-stops x acts) m
     where
-      by_flag : (b : Bool) → is_stop a.1 ≡ b → IsIn x (if b then a.0 ∷ stoppers acts else stoppers acts) → 1 ≤ stops (own x (a ∷ acts))
-      by_flag true is n = elim n [
+      by_flag : (b : Bool) → is_stop a.1 ≡ b → (IsIn x (stoppers acts) → 1 ≤ stops (own x acts)) → IsIn x (if b then a.0 ∷ stoppers acts else stoppers acts) → 1 ≤ stops (own x (a ∷ acts))
+      by_flag true is before n = elim n [
         | inl same ↦ (let here = own-stops_here a acts is in subst (λ y. 1 ≤ stops (own y (a ∷ acts))) (sym same) (omega arith))
-        | inr old ↦ (let rest = stopper-stops x acts old in let more = own-stops_more x a acts in omega arith)
+        | inr old ↦ (let rest = before old in let more = own-stops_more x a acts in omega arith)
       ]
-      by_flag false is n = let rest = stopper-stops x acts n in let more = own-stops_more x a acts in omega arith
+      by_flag false is before n = let rest = before n in let more = own-stops_more x a acts in omega arith
 
   stoppers-distinct : (acts : List (ℕ × Event G C O)) → ((x : ℕ) → stops (own x acts) ≤ 1) → AreDistinct (stoppers acts)
   stoppers-distinct [] once = tt
@@ -123,11 +123,11 @@ module _ {G C O : Type 0} where
 
   stopper-below : (x w : ℕ) (acts : List (ℕ × Event G C O)) → Each (λ a. a.0 < w) acts → IsIn x (stoppers acts) → x < w
   stopper-below x w [] few m = absurd m
-  stopper-below x w (a ∷ acts) few m = by_flag (is_stop a.1) m
+  stopper-below x w (a ∷ acts) few m = by_flag (is_stop a.1) (stopper-below x w acts few.1) m
     where
-      by_flag : (b : Bool) → IsIn x (if b then a.0 ∷ stoppers acts else stoppers acts) → x < w
-      by_flag true n = elim n [ inl same ↦ subst (λ y. y < w) (sym same) few.0 | inr old ↦ stopper-below x w acts few.1 old ]
-      by_flag false n = stopper-below x w acts few.1 n
+      by_flag : (b : Bool) → (IsIn x (stoppers acts) → x < w) → IsIn x (if b then a.0 ∷ stoppers acts else stoppers acts) → x < w
+      by_flag true before n = elim n [ inl same ↦ subst (λ y. y < w) (sym same) few.0 | inr old ↦ before old ]
+      by_flag false before n = before n
 
   -- where each of the seats stopped the work once at most, and one of them never did, there are fewer stops than seats
   pub few_stops : (w seat : ℕ) (acts : List (ℕ × Event G C O)) → Each (λ a. a.0 < w) acts → ((x : ℕ) → stops (own x acts) ≤ 1) → seat < w → stops (own seat acts) ≡ 0 → stops (events_of acts) < w

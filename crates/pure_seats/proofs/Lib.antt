@@ -4,3 +4,4 @@ pub mod ToldLaws
 pub mod StayLaws
 pub mod FewLaws
 pub mod SeatLaws
+pub mod GroupLaws

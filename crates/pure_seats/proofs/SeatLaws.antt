@@ -1,20 +1,19 @@
 -- Laws of numbered legal runs.
-use Rattle.std.proofs.Common.{◌≡◌, ◌≢◌, ◌∙◌, ◌<◌, ◌≤◌, ℕ, zero, suc, ◌+◌, List, [], ◌∷◌, ◌++◌, length, refl, sym, ap, subst, arith, append_assoc, nat_eq, Bool, true, false, if◌then◌else◌, Option, Some, None, slice_get, inl, inr, ◌⊎◌}
-use Rattle.std.proofs.lemmas.Option.{same_Some, none-some, slice_get_within}
+use Rattle.std.proofs.Common.{◌≡◌, ◌≢◌, ◌∙◌, ◌<◌, ◌≤◌, ℕ, ◌+◌, List, [], ◌∷◌, ◌++◌, refl, sym, ap, subst, arith, append_assoc, nat_eq, Bool, true, false, if◌then◌else◌, Some, inl, inr, ◌⊎◌}
 use Rattle.std.proofs.lemmas.List.{append-nil}
 use Rattle.std.proofs.lemmas.Bool.{eqb-true, eq-eqb}
-use Rattle.pure_text.specs.Lists.{IsIn, Each}
+use Rattle.pure_text.specs.Lists.{IsIn}
 use Rattle.pure_text.proofs.ListLaws.{in-append_left, in-append_right, each-append, each-left}
 use Rattle.pure_machine.specs.Policy.{Opening}
-use Rattle.pure_machine.specs.State.{Progress, Waiting, Running, Closed, Promise, Standing, Ready, Taken, Settled, Cancelled, Event, TakeTheory, TakeProof, Fork, CloseTheory, Deliver, Stop, State, theory_at, is_settled, opened}
+use Rattle.pure_machine.specs.State.{Progress, Waiting, Running, Closed, Promise, Standing, Ready, Taken, Settled, Cancelled, Event, TakeTheory, TakeProof, Fork, CloseTheory, Deliver, Stop, theory_at, is_settled, opened}
 use Rattle.pure_machine.specs.Step.{Stands, IsOut, IsOver, IsClosed, IsFinished, Allows, IsRunFrom, stops, after, after_all}
 use Rattle.pure_core.specs.Legal.{IsLegal}
 use Rattle.pure_core.proofs.KeptLaws.{IsKept, kept-opened, kept-after_all}
 use Rattle.pure_core.proofs.RunLaws.{run-append, history-after_all, opening-after_all}
 use Rattle.pure_seats.specs.Seats.{events_of, own, state_of, IsOfTaken, IsNumberedRun, MayEnter, HasNothingOpen, IsTake, IsOrderlySeat, HasTheory, forks_in, IsVain}
-use Rattle.pure_seats.proofs.SplitLaws.{split_in, in_last, cut_last, either_first, there_below, run-front, run-rest, allowed_at, events-append, events-in, entered-by, own-append, own-in, in-own, state-append, stops-append, forks-append}
-use Rattle.pure_seats.proofs.ToldLaws.{IsTold, told-legal, opened-history, opened-opening, left-forks}
-use Rattle.pure_seats.proofs.StayLaws.{IsDone, IsLater, promise-stays, closed-stays, done-stays, vain-done, goes_on-stays, stopped-stays, never-stopped, each_there, closed_there}
+use Rattle.pure_seats.proofs.SplitLaws.{split_in, cut_last, either_first, there_below, run-front, run-rest, events-append, events-in, entered-by, own-append, own-in, in-own, state-append, stops-append, forks-append}
+use Rattle.pure_seats.proofs.ToldLaws.{IsTold, told-legal, opened-history, opened-opening}
+use Rattle.pure_seats.proofs.StayLaws.{IsDone, IsLater, promise-stays, closed-stays, done-stays, vain-done, goes_on-stays, each_there, closed_there}
 use Rattle.pure_seats.proofs.FewLaws.{few_stops}
 
 -- a cut of two lists, one after the other, is within the one or the other
@@ -38,7 +37,7 @@ pub state-history : {G C O : Type 0} (o : Opening) (acts : List (ℕ × Event G 
 state-history {G} {C} {O} o acts = history-after_all (opened o) (events_of acts) ∙ ap (λ h. h ++ events_of acts) (opened-history {G = G} {C = C} {O = O} o)
 
 pub state-opening : {G C O : Type 0} (o : Opening) (acts : List (ℕ × Event G C O)) → (state_of o acts).opening ≡ o
-state-opening {G} {C} {O} o acts = opening-after_all (opened o) (events_of acts) ∙ opened-opening {G = G} {C = C} {O = O} o
+state-opening {G} {C} {O} o acts = opening-after_all (opened o) (events_of acts) ∙ opened-opening G C O o
 
 -- a seat stays orderly in a front
 pub orderly-front : {G C O : Type 0} (o : Opening) (acts more : List (ℕ × Event G C O)) (seat : ℕ) → IsOrderlySeat o (acts ++ more) seat → IsOrderlySeat o acts seat
@@ -144,11 +143,10 @@ module _ {G C O : Type 0} (forks : ℕ → ℕ → G → Type 0) (closes : ℕ �
       let first = run-begins o acts more r in
       subst IsDone (sym (state-append o acts more)) (done-stays forks closes may is_fault (state_of o acts) (events_of more) (run-further o acts more r) (run-kept o acts first) (run-told o acts first) (record { theories = f.theories; promises = f.promises }))
 
-  pub finished-vain : (o : Opening) (acts before after : List (ℕ × Event G C O)) (seat : ℕ) (e : Event G C O) → Run o (acts ++ before ++ (seat, e) ∷ after) → IsFinished (state_of o acts) → IsVain (state_of o (acts ++ before)) e
+  pub finished-vain : (o : Opening) (acts before after : List (ℕ × Event G C O)) (seat : ℕ) (e : Event G C O) → Run o ((acts ++ before) ++ (seat, e) ∷ after) → IsFinished (state_of o acts) → IsVain (state_of o (acts ++ before)) e
   finished-vain o acts before after seat e r f =
-      let whole = subst (Run o) (sym (append_assoc acts before ((seat, e) ∷ after))) r in
-      let front = run-begins o (acts ++ before) ((seat, e) ∷ after) whole in
-      vain-done forks closes may is_fault (state_of o (acts ++ before)) e (run-allows o ((acts ++ before) ++ (seat, e) ∷ after) (acts ++ before) after seat e whole refl) (run-told o (acts ++ before) front) (done-keeps o acts before front f)
+      let front = run-begins o (acts ++ before) ((seat, e) ∷ after) r in
+      vain-done forks closes may is_fault (state_of o (acts ++ before)) e (run-allows o ((acts ++ before) ++ (seat, e) ∷ after) (acts ++ before) after seat e r refl) (run-told o (acts ++ before) front) (done-keeps o acts before front f)
 
   pub finished-keeps : (o : Opening) (acts more : List (ℕ × Event G C O)) → Run o (acts ++ more) → IsFinished (state_of o acts) → stops (events_of more) ≡ 0 → IsFinished (state_of o (acts ++ more))
   finished-keeps o acts more r f none = let d = done-keeps o acts more r f in record {
@@ -206,7 +204,7 @@ module _ {G C O : Type 0} (forks : ℕ → ℕ → G → Type 0) (closes : ℕ �
 
   -- a proof that a seat took and didn't deliver
   pub out-known : (o : Opening) (acts : List (ℕ × Event G C O)) (seat n : ℕ) → Run o acts → IsOut (own seat acts) n → IsOut (events_of acts) n × ((p : Promise G O) × Stands (state_of o acts) n p × ((p.standing ≡ Taken) ⊎ (p.standing ≡ Cancelled)))
-  out-known o acts seat n r out = (whole, there.0, there.1, by_standing there.0 there.1 there.0.standing refl)
+  out-known o acts seat n r out = (whole, (there.0, there.1, by_standing there.0 there.1 there.0.standing refl))
     where
       whole : IsOut (events_of acts) n
       whole = record {
@@ -304,7 +302,7 @@ module _ {G C O : Type 0} (forks : ℕ → ℕ → G → Type 0) (closes : ℕ �
     allowed = subst (λ x. stops (state_of o acts).history < x.workers) (sym (state-opening o acts)) (subst (λ es. stops es < o.workers) (sym (state-history o acts)) (few_stops o.workers seat acts r.few r.stops_once within none));
     few = within;
     taker = tt;
-    stops_once = (let sum = stops-append (own seat acts) (Stop {G = G} {C = C} {O = O} ∷ []) in omega arith);
+    stops_once = (let last : List (Event G C O) = Stop ∷ [] in let sum = stops-append (own seat acts) last in omega arith);
   }
 
   -- at Finished

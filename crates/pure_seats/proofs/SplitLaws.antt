@@ -1,10 +1,9 @@
 -- Runs cut in two, where an element stands in a list, and the events of one seat.
-use Rattle.std.proofs.Common.{◌≡◌, ◌∙◌, ◌<◌, ◌≤◌, ℕ, zero, suc, ◌+◌, List, [], ◌∷◌, ◌++◌, map, length, refl, sym, ap, subst, arith, append_assoc, nat_eq, Bool, true, false, if◌then◌else◌, Option, Some, None, slice_get, inl, inr, ◌⊎◌}
+use Rattle.std.proofs.Common.{◌≡◌, ◌∙◌, ◌<◌, ℕ, zero, suc, ◌+◌, List, [], ◌∷◌, ◌++◌, length, refl, sym, ap, arith, nat_eq, Bool, true, false, if◌then◌else◌, Some, slice_get, inl, inr, ◌⊎◌}
 use Rattle.std.proofs.lemmas.List.{map-append}
-use Rattle.std.proofs.lemmas.Option.{same_Some, none-some}
 use Rattle.std.proofs.lemmas.Bool.{eqb-true, eq-eqb}
-use Rattle.pure_text.specs.Lists.{IsIn, Each}
-use Rattle.pure_text.proofs.ListLaws.{in_split, in-append_left, in-append_right}
+use Rattle.pure_text.specs.Lists.{IsIn}
+use Rattle.pure_text.proofs.ListLaws.{in_split, in-append_right}
 use Rattle.pure_machine.specs.State.{State, Event, TakeTheory, TakeProof, Fork, CloseTheory, Deliver, Stop}
 use Rattle.pure_machine.specs.Step.{Allows, IsRunFrom, after, after_all, stops}
 use Rattle.pure_core.proofs.RunLaws.{after_all-append}

@@ -1,10 +1,9 @@
 -- What stays in later states of a legal run.
-use Rattle.std.proofs.Common.{◌≡◌, ◌≢◌, ◌∙◌, ◌<◌, ◌≤◌, ℕ, zero, suc, ◌+◌, List, [], ◌∷◌, ◌++◌, length, refl, sym, ap, subst, arith, Bool, true, false, if◌then◌else◌, Option, Some, None, slice_get, inl, inr, ◌⊎◌}
+use Rattle.std.proofs.Common.{◌≡◌, ◌∙◌, ℕ, zero, suc, List, [], ◌∷◌, refl, sym, ap, subst, arith, Bool, true, false, Some, slice_get, inl, inr, ◌⊎◌}
 use Rattle.std.proofs.lemmas.Option.{same_Some, none-some, slice_get_within}
-use Rattle.pure_text.specs.Lists.{IsIn, Each}
-use Rattle.pure_machine.specs.State.{Progress, Waiting, Running, Closed, Promise, Standing, Ready, Taken, Settled, Cancelled, Event, TakeTheory, TakeProof, Fork, CloseTheory, Deliver, Stop, State, theory_at, is_settled}
-use Rattle.pure_machine.specs.Step.{Stands, IsOut, IsOver, IsClosed, IsFinished, Allows, IsRunFrom, stops, is_cancelled_standing, is_cancelled_promise, after, after_all}
-use Rattle.pure_core.proofs.PlaceLaws.{standing_so}
+use Rattle.pure_text.specs.Lists.{Each}
+use Rattle.pure_machine.specs.State.{Progress, Waiting, Running, Promise, Standing, Ready, Taken, Settled, Cancelled, Event, TakeTheory, TakeProof, Fork, CloseTheory, Deliver, Stop, State, theory_at, is_settled}
+use Rattle.pure_machine.specs.Step.{Stands, IsOver, IsClosed, Allows, IsRunFrom, stops, is_cancelled_standing, is_cancelled_promise, after, after_all}
 use Rattle.pure_core.proofs.KeptLaws.{IsKept, kept-after, delivered_state}
 use Rattle.pure_seats.specs.Seats.{IsVain}
 use Rattle.pure_seats.proofs.ChangeLaws.{Became, stayed, was_forked, was_taken, was_settled, was_cancelled, became, Came, left_so, began, went_on, ended, came, allowed_there, promise-there_after, theory-there_after, delivered-keeps}

@@ -1,6 +1,6 @@
 -- What the history of a legal run says of each promise and each theory of its state.
-use Rattle.std.proofs.Common.{◌≡◌, ◌≢◌, ◌∙◌, ◌<◌, ◌≤◌, ℕ, zero, suc, ◌+◌, List, [], ◌∷◌, ◌++◌, length, refl, sym, ap, subst, arith, nat_eq, Bool, true, false, if◌then◌else◌, Option, Some, None, slice_get, inl, inr, ◌⊎◌}
-use Rattle.std.proofs.lemmas.Option.{same_Some, none-some, slice_get_within}
+use Rattle.std.proofs.Common.{◌≡◌, ◌≢◌, ◌∙◌, ◌<◌, ℕ, ◌+◌, List, [], ◌∷◌, ◌++◌, length, refl, sym, ap, subst, arith, nat_eq, Bool, true, false, if◌then◌else◌, Some, inl, inr}
+use Rattle.std.proofs.lemmas.Option.{none-some, slice_get_within}
 use Rattle.std.proofs.lemmas.Bool.{eqb-true, eq-eqb}
 use Rattle.pure_text.specs.Lists.{IsIn}
 use Rattle.pure_text.proofs.ListLaws.{in-append_left, in-append_right}
@@ -28,9 +28,9 @@ new-not_taken : {O : Type 0} (b : Bool) → ◌≡◌ {A = Standing O} (if b the
 new-not_taken true e = cc
 new-not_taken false e = cc
 
-new-not_settled : {O : Type 0} (b : Bool) → is_settled {O = O} (if b then Cancelled else Ready) ≡ true → ⊥
-new-not_settled true e = cc
-new-not_settled false e = cc
+new-not_settled : (O : Type 0) (b : Bool) → is_settled {O = O} (if b then Cancelled else Ready) ≡ true → ⊥
+new-not_settled O true e = cc
+new-not_settled O false e = cc
 
 -- an event of another theory forks nothing of this one
 pub left-forks : {G C O : Type 0} (i : ℕ) (e : Event G C O) → LeavesTheory i e → forks_in i (e ∷ []) ≡ 0
@@ -45,8 +45,8 @@ left-forks i (CloseTheory j c) leaves = refl
 left-forks i (Deliver n o f) leaves = refl
 left-forks i Stop leaves = refl
 
-fork-counts : {G C O : Type 0} (i : ℕ) (g : G) → forks_in {G = G} {C = C} {O = O} i (Fork i g ∷ []) ≡ 1
-fork-counts i g = by_flag (nat_eq i i) (eq-eqb i i refl)
+fork-counts : (G C O : Type 0) (i : ℕ) (g : G) → forks_in {G = G} {C = C} {O = O} i (Fork i g ∷ []) ≡ 1
+fork-counts G C O i g = by_flag (nat_eq i i) (eq-eqb i i refl)
   where
     by_flag : (b : Bool) → b ≡ true → (if b then (0 + 1) else 0) ≡ 1
     by_flag true e = refl
@@ -107,7 +107,7 @@ module _ {G C O : Type 0} (forks : ℕ → ℕ → G → Type 0) (closes : ℕ �
 
     settled_so : (n : ℕ) (q : Promise G O) → Became s e n q → is_settled q.standing ≡ true → Delivered (s.history ++ e ∷ []) n
     settled_so n q (stayed at leaves) is = let old = h.settled n q at is in (old.0, old.1, in-append_left (Deliver n old.0 old.1) s.history (e ∷ []) old.2)
-    settled_so n q (was_forked i g what last new) is = absurd (new-not_settled _ (ap (λ x. is_settled x.standing) new ∙ is))
+    settled_so n q (was_forked i g what last new) is = absurd (new-not_settled O _ (ap (λ x. is_settled x.standing) new ∙ is))
     settled_so n q (was_taken p what at new) is = absurd (let two : ◌≡◌ {A = Bool} false true = ap (λ x. is_settled x.standing) new ∙ is in cc)
     settled_so n q (was_settled p o fault what at lives new) is = (o, fault, in-append_right (Deliver n o fault) s.history (e ∷ []) (inl (sym what)))
     settled_so n q (was_cancelled p other k o fault what apart there lives at unsettled marked new) is = absurd (let two : ◌≡◌ {A = Bool} false true = ap (λ x. is_settled x.standing) new ∙ is in cc)
@@ -133,7 +133,7 @@ module _ {G C O : Type 0} (forks : ℕ → ℕ → G → Type 0) (closes : ℕ �
         let next : run.0 + 1 ≡ k = cc in
         let old = h.runs i run.0 run.1 in
         let more = forks-append i s.history (e ∷ []) in
-        let one : forks_in i (e ∷ []) ≡ 1 = ap (λ x. forks_in i (x ∷ [])) what ∙ fork-counts {G = G} {C = C} {O = O} i g in
+        let one : forks_in i (e ∷ []) ≡ 1 = ap (λ x. forks_in i (x ∷ [])) what ∙ fork-counts G C O i g in
         omega arith
     runs_so i k (ended c what new) = absurd (let run = close-runs i c what in let two : ◌≡◌ {A = Progress C} (Closed run.0 c) (Running k) = sym (ap (λ x. closed_by x c) run.1) ∙ new in cc)
 
@@ -180,30 +180,30 @@ module _ {G C O : Type 0} (forks : ℕ → ℕ → G → Type 0) (closes : ℕ �
 pub opened-history : {G C O : Type 0} (o : Opening) → (opened {G = G} {C = C} {O = O} o).history ≡ []
 opened-history {G} {C} {O} o = (cancel-keeps (record { opening = o; theories = waiting o.shape; promises = []; cancelled = unmarked o.shape; kept = 0; stopped = false; history = [] }) (due o.policy.cancels 0)).1
 
-pub opened-opening : {G C O : Type 0} (o : Opening) → (opened {G = G} {C = C} {O = O} o).opening ≡ o
-opened-opening {G} {C} {O} o = (cancel-keeps (record { opening = o; theories = waiting o.shape; promises = []; cancelled = unmarked o.shape; kept = 0; stopped = false; history = [] }) (due o.policy.cancels 0)).4
+pub opened-opening : (G C O : Type 0) (o : Opening) → (opened {G = G} {C = C} {O = O} o).opening ≡ o
+opened-opening G C O o = (cancel-keeps (record { opening = o; theories = waiting o.shape; promises = []; cancelled = unmarked o.shape; kept = 0; stopped = false; history = [] }) (due o.policy.cancels 0)).4
 
-pub opened-goes_on : {G C O : Type 0} (o : Opening) → (opened {G = G} {C = C} {O = O} o).stopped ≡ false
-opened-goes_on {G} {C} {O} o = (cancel-keeps (record { opening = o; theories = waiting o.shape; promises = []; cancelled = unmarked o.shape; kept = 0; stopped = false; history = [] }) (due o.policy.cancels 0)).3
+pub opened-goes_on : (G C O : Type 0) (o : Opening) → (opened {G = G} {C = C} {O = O} o).stopped ≡ false
+opened-goes_on G C O o = (cancel-keeps (record { opening = o; theories = waiting o.shape; promises = []; cancelled = unmarked o.shape; kept = 0; stopped = false; history = [] }) (due o.policy.cancels 0)).3
 
-pub opened-waits : {G C O : Type 0} (o : Opening) (i : ℕ) (q : Progress C) → theory_at (opened {G = G} {C = C} {O = O} o).theories i ≡ Some q → q ≡ Waiting
-opened-waits {G} {C} {O} o i q at = waiting-at o.shape i q (subst (λ ts. theory_at ts i ≡ Some q) (cancel-keeps (record { opening = o; theories = waiting o.shape; promises = []; cancelled = unmarked o.shape; kept = 0; stopped = false; history = [] }) (due o.policy.cancels 0)).0 at)
+pub opened-waits : (G C O : Type 0) (o : Opening) (i : ℕ) (q : Progress C) → theory_at (opened {G = G} {C = C} {O = O} o).theories i ≡ Some q → q ≡ Waiting
+opened-waits G C O o i q at = waiting-at o.shape i q (subst (λ ts. theory_at ts i ≡ Some q) (cancel-keeps (record { opening = o; theories = waiting o.shape; promises = []; cancelled = unmarked o.shape; kept = 0; stopped = false; history = [] }) (due o.policy.cancels 0)).0 at)
 
-pub opened-none : {G C O : Type 0} (o : Opening) (n : ℕ) (p : Promise G O) → Stands (opened {G = G} {C = C} {O = O} o) n p → ⊥
-opened-none {G} {C} {O} o n p at = let old = before-cancel (record { opening = o; theories = waiting o.shape; promises = []; cancelled = unmarked o.shape; kept = 0; stopped = false; history = [] }) (due o.policy.cancels 0) n p at in none-some old.0 old.1
+pub opened-none : (G C O : Type 0) (o : Opening) (n : ℕ) (p : Promise G O) → Stands (opened {G = G} {C = C} {O = O} o) n p → ⊥
+opened-none G C O o n p at = let old = before-cancel (record { opening = o; theories = waiting o.shape; promises = []; cancelled = unmarked o.shape; kept = 0; stopped = false; history = [] }) (due o.policy.cancels 0) n p at in none-some old.0 old.1
 
 -- at the opening
 pub told-opened : {G C O : Type 0} (o : Opening) → IsTold (opened {G = G} {C = C} {O = O} o)
 told-opened {G} {C} {O} o = record {
-  ready = λ n p at. absurd (opened-none {G = G} {C = C} {O = O} o n p at);
-  taken = λ n p at. absurd (opened-none {G = G} {C = C} {O = O} o n p at);
-  settled = λ n p at. absurd (opened-none {G = G} {C = C} {O = O} o n p at);
+  ready = λ n p at. absurd (opened-none G C O o n p at);
+  taken = λ n p at. absurd (opened-none G C O o n p at);
+  settled = λ n p at. absurd (opened-none G C O o n p at);
   promised = λ n m. absurd (nothing (TakeProof n) m);
   waits = λ i at. (λ m. nothing (TakeTheory i) m, ap (forks_in i) (opened-history {G = G} {C = C} {O = O} o));
-  runs = λ i k at. absurd (let two = opened-waits {G = G} {C = C} {O = O} o i (Running k) at in cc);
-  closed = λ i k c at. absurd (let two = opened-waits {G = G} {C = C} {O = O} o i (Closed k c) at in cc);
+  runs = λ i k at. absurd (let two = opened-waits G C O o i (Running k) at in cc);
+  closed = λ i k c at. absurd (let two = opened-waits G C O o i (Closed k c) at in cc);
   begun = λ i m. absurd (nothing (TakeTheory i) m);
-  moved = λ i q at other. absurd (other (opened-waits {G = G} {C = C} {O = O} o i q at));
+  moved = λ i q at other. absurd (other (opened-waits G C O o i q at));
 }
   where
     nothing : (e : Event G C O) → IsIn e (opened {G = G} {C = C} {O = O} o).history → ⊥

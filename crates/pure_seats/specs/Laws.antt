@@ -1,11 +1,11 @@
 -- Laws of numbered legal runs.
-use Rattle.std.specs.Prelude.{◌≡◌, ◌⊎◌, ◌<◌, ◌≤◌, ℕ, List, [], ◌∷◌, ◌++◌, Bool, true, false, Some}
+use Rattle.std.specs.Prelude.{◌≡◌, ◌⊎◌, ◌<◌, ℕ, List, [], ◌∷◌, ◌++◌, Bool, true, false, Some}
 use Rattle.pure_text.specs.Lists.{IsIn}
 use Rattle.pure_machine.specs.Policy.{Opening}
-use Rattle.pure_machine.specs.State.{State, Progress, Running, Promise, Taken, Cancelled, Event, TakeTheory, TakeProof, Fork, CloseTheory, Deliver, Stop, theory_at}
+use Rattle.pure_machine.specs.State.{Progress, Running, Promise, Taken, Cancelled, Event, TakeTheory, TakeProof, Fork, CloseTheory, Deliver, Stop, theory_at}
 use Rattle.pure_machine.specs.Step.{Stands, IsOver, IsClosed, IsOut, IsFinished, stops}
 use Rattle.pure_core.specs.Legal.{IsLegal}
-use Rattle.pure_seats.specs.Seats.{events_of, own, state_of, IsNumberedRun, MayEnter, HasNothingOpen, IsTake, IsOrderlySeat, IsOrderly, HasTheory, forks_in, IsVain}
+use Rattle.pure_seats.specs.Seats.{events_of, own, state_of, IsNumberedRun, MayEnter, HasNothingOpen, IsTake, IsOrderlySeat, HasTheory, forks_in, IsVain}
 
 -- A front of a numbered legal run is one.
 abbrev pub FrontIsNumbered : {G C O : Type 0} → (ℕ → ℕ → G → Type 0) → (ℕ → ℕ → C → Type 0) → (G → O → Type 0) → (O → Bool) → Type 0
@@ -29,7 +29,7 @@ OwnIsJoined G C O = (seat : ℕ) (acts more : List (ℕ × Event G C O)) → own
 
 -- From Finished on each event stops the work or delivers an outcome of a cancelled promise.
 abbrev pub FinishedEnds : {G C O : Type 0} → (ℕ → ℕ → G → Type 0) → (ℕ → ℕ → C → Type 0) → (G → O → Type 0) → (O → Bool) → Type 0
-FinishedEnds {G} {C} {O} forks closes may is_fault = (o : Opening) (acts before after : List (ℕ × Event G C O)) (seat : ℕ) (e : Event G C O) → IsNumberedRun forks closes may is_fault o (acts ++ before ++ (seat, e) ∷ after) → IsFinished (state_of o acts) → IsVain (state_of o (acts ++ before)) e
+FinishedEnds {G} {C} {O} forks closes may is_fault = (o : Opening) (acts before after : List (ℕ × Event G C O)) (seat : ℕ) (e : Event G C O) → IsNumberedRun forks closes may is_fault o ((acts ++ before) ++ (seat, e) ∷ after) → IsFinished (state_of o acts) → IsVain (state_of o (acts ++ before)) e
 
 -- Where none of the further events stops the work, Finished stays.
 abbrev pub FinishedStays : {G C O : Type 0} → (ℕ → ℕ → G → Type 0) → (ℕ → ℕ → C → Type 0) → (G → O → Type 0) → (O → Bool) → Type 0

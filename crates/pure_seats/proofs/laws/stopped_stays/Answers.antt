@@ -1,5 +1,5 @@
-use Rattle.std.proofs.Common.{ap, sym, ◌∙◌}
-use Rattle.pure_machine.specs.State.{State, opened}
+use Rattle.std.proofs.Common.{ap, ◌∙◌}
+use Rattle.pure_machine.specs.State.{opened}
 use Rattle.pure_seats.specs.Seats.{events_of, state_of}
 use Rattle.pure_seats.proofs.SplitLaws.{state-append}
 use Rattle.pure_seats.proofs.ToldLaws.{opened-goes_on}
@@ -10,5 +10,5 @@ pub returns : goal.returns
 returns g c = λ o acts more. (
   λ is. ap (λ s. s.stopped) (state-append o acts more) ∙ stopped-stays (state_of o acts) (events_of more) is,
   never-stopped (opened o) (events_of acts),
-  goes_on-stays (opened o) (events_of acts) (opened-goes_on o),
+  goes_on-stays (opened o) (events_of acts) (opened-goes_on _ _ _ o),
 )
