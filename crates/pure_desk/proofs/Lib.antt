@@ -1,0 +1,3 @@
+pub mod HistoryLaws
+pub mod ViewLaws
+pub mod RuleLaws

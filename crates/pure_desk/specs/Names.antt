@@ -1,0 +1,7 @@
+-- The name of a desk.
+use Rattle.atomic_table.specs.Seated.{TableId}
+use Rattle.pure_desk.specs.declared.desk.Desk.{Desk}
+
+-- the table that a desk is, which its seats name too
+abbrev pub desk_id : {C K O E P : _} → Desk C K O E P → TableId
+desk_id d = d.table.shared.table_id
