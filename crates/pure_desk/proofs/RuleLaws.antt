@@ -17,15 +17,22 @@ use Rattle.pure_desk.specs.Rule.{IsEntrant, IsHolder, Fits, IsSettled, unset, Is
 use Rattle.pure_desk.specs.Steps.{takes_place, lays, IsHeld, tries, looks, ticks, gives_back}
 use Rattle.pure_desk.specs.Seats.{IsAsKept, IsNext}
 use Rattle.pure_desk.proofs.HistoryLaws.{begins-itself, begins-longer, entered-more, entered-same, events-more}
-use Rattle.pure_desk.proofs.ViewLaws.{is_inside, each-changed, only-view, some-changed, set-only, set-same, false-true, same-some}
+use Rattle.pure_desk.proofs.ViewLaws.{is_inside, each-changed, only-view, some-changed, set-only, set-same, false-true, same-some, laid}
 
 same-last : {A : Type 0} (xs : List A) (x y : A) → xs ++ x ∷ [] ≡ xs ++ y ∷ [] → x ≡ y
 same-last [] x y e = cc e
 same-last (z ∷ xs) x y e = same-last xs x y (cc e)
 
-laid : {A : Type 0} → List (ℕ × Option A) → Option A
-laid [] = None
-laid (x ∷ xs) = x.1
+module _ {C K O E : Type 0} where
+  -- what a tick tells, of the object that lies there
+  pub ticked-is : (history : C → List E) (m w : Me (Option C) (View K O E)) (v : View K O E) (c : C) (e : E) → m ≡ (v, (0, Some c) ∷ [])
+      → ((c' : C) (e' : E) → m.1 ≡ (0, Some c') ∷ [] → history c' ≡ events m.0.kept ++ e' ∷ [] → w ≡ (entering m.0 e', m.1)) → history c ≡ events v.kept ++ e ∷ [] → w ≡ (entering v e, (0, Some c) ∷ [])
+  ticked-is history m w v c e is told event =
+      subst (λ (m' : Me (Option C) (View K O E)). ((c' : C) (e' : E) → m'.1 ≡ (0, Some c') ∷ [] → history c' ≡ events m'.0.kept ++ e' ∷ [] → w ≡ (entering m'.0 e', m'.1)) → w ≡ (entering v e, (0, Some c) ∷ [])) (sym is) (λ t. t c e refl event) told
+
+  -- and what giving it back tells
+  pub released-is : (m w : Me (Option C) (View K O E)) (v : View K O E) (xs : List (ℕ × Option C)) → w ≡ (releasing m.0, []) → m ≡ (v, xs) → w ≡ (releasing v, [])
+  released-is m w v xs told is = told ∙ ap (λ (m' : Me (Option C) (View K O E)). (releasing m'.0, [])) is
 
 module _ {C K O E : Type 0} (after : O → List (ℕ × E) → C) (legal : K → O → List (ℕ × E) → Type 0) (k : K) where
   abbrev V : Type 0

@@ -116,17 +116,17 @@ module _ {C K O E : Type 0} (after : O → List (ℕ × E) → C) (legal : K →
               has_turn = λ h. absurd (false-true false refl h);
             })
             (each-changed (λ j u. u.lives ≡ true → Fits k r.opening r.log (r.made + 1) owner r.turn r.holder j u) s.views id (splitting v)
-                (λ _. record {
-                  session_is = f.session_is;
-                  opening_is = f.opening_is;
-                  saw = f.saw;
-                  itself = entrant-kept here (v.number, v.own) f.itself;
-                  others = each_imply (IsEntrant r.log v.seen r.owner r.made id) (IsEntrant r.log v.seen owner (r.made + 1) id) v.joined (entrant-kept here) f.others;
-                  saw_earlier = f.saw_earlier;
-                  counted = λ _. (ap (λ n. n + 1) t.0, more-old r.owner r.made here 0 (let m = f.itself.is_made in omega (arith, m)) ∙ t.1);
-                  has_turn = f.has_turn;
-                })
-                (λ j u other there alive. let g = r.fits j u there alive in fits-kept here g (not-counting id j u t.1 other g)));
+            (λ _. record {
+              session_is = f.session_is;
+              opening_is = f.opening_is;
+              saw = f.saw;
+              itself = entrant-kept here (v.number, v.own) f.itself;
+              others = each_imply (IsEntrant r.log v.seen r.owner r.made id) (IsEntrant r.log v.seen owner (r.made + 1) id) v.joined (entrant-kept here) f.others;
+              saw_earlier = f.saw_earlier;
+              counted = λ _. (ap (λ n. n + 1) t.0, more-old r.owner r.made here 0 (let m = f.itself.is_made in omega (arith, m)) ∙ t.1);
+              has_turn = f.has_turn;
+            })
+            (λ j u other there alive. let g = r.fits j u there alive in fits-kept here g (not-counting id j u t.1 other g)));
       })
 
   -- a note binds nothing
@@ -170,7 +170,7 @@ module _ {C K O E : Type 0} (after : O → List (ℕ × E) → C) (legal : K →
         saw = l.0;
         itself = stay (v.number, v.own) f.itself;
         others = (come (w.number, w.own) g.itself, each-append (IsEntrant log both moved made id) v.joined w.joined (each_imply (IsEntrant log v.seen owner made id) (IsEntrant log both moved made id) v.joined stay f.others) (each_imply (IsEntrant log w.seen owner made other) (IsEntrant log both moved made id) w.joined come g.others));
-        saw_earlier = (f.saw, g.saw, each-append (λ seen. IsPrefix seen log) v.earlier w.earlier f.saw_earlier g.saw_earlier);
+        saw_earlier = (f.saw, (g.saw, each-append (λ seen. IsPrefix seen log) v.earlier w.earlier f.saw_earlier g.saw_earlier));
         counted = counted-both v.counts w.counts v.made w.made made owner id other apart' f.counted g.counted;
         has_turn = λ h. absurd (false-true v.holds free h);
       }
@@ -196,7 +196,7 @@ module _ {C K O E : Type 0} (after : O → List (ℕ × E) → C) (legal : K →
         unmade = r.unmade;
         fits = each-changed (λ j u. u.lives ≡ true → Fits k r.opening r.log r.made moved r.turn r.holder j u) (set s.views id (joining v w)) other spent (λ alive. absurd (false-true false refl alive))
             (λ j u not-other at-j. each-changed (λ i x. i ≢ other → x.lives ≡ true → Fits k r.opening r.log r.made moved r.turn r.holder i x) s.views id (joining v w)
-                (λ _ _. fits-both id other v w apart free f g)
-                (λ i x not-id at-i not-other' alive. fits-moved other id not-other' (r.fits i x at-i alive))
-                j u at-j not-other);
+            (λ _ _. fits-both id other v w apart free f g)
+            (λ i x not-id at-i not-other' alive. fits-moved other id not-other' (r.fits i x at-i alive))
+            j u at-j not-other);
       })

@@ -61,3 +61,8 @@ false-true false e f = absurd (cc f)
 
 pub same-some : {A : Type 0} (x y : A) (o : Option A) → o ≡ Some x → o ≡ Some y → x ≡ y
 same-some x y o e f = cc (e, f)
+
+-- what a seat has, if it has some slot
+abbrev pub laid : {A : Type 0} → List (ℕ × Option A) → Option A
+laid [] = None
+laid (x ∷ xs) = x.1
