@@ -1,19 +1,19 @@
 -- How a desk begins and how it ends.
-use Rattle.std.proofs.Common.{◌≡◌, ◌≢◌, ◌⊎◌, ◌∙◌, ℕ, zero, suc, ◌+◌, ◌<◌, ◌≤◌, List, [], ◌∷◌, ◌++◌, length, set, Bool, true, false, Option, Some, None, refl, sym, ap, subst, inl, inr, ⊎_elim, arith, lt_of_not-le}
-use mathlib.Core.Option.{some, none, some-injective, some-ne-none}
+use Rattle.std.proofs.Common.{◌≡◌, ◌≢◌, ◌∙◌, ℕ, ◌<◌, List, [], ◌∷◌, set, Bool, true, false, Option, Some, None, refl, sym, ap, subst, inl, inr, ⊎_elim, arith, lt_of_not-le}
+use mathlib.Core.Option.{some, none, some-injective}
 use mathlib.Core.List.{IsPrefix}
 use mathlib.Core.Logic.{dite}
 use native.Mathlib.Decide.{ℕ_discrete, dec_le}
 use lib.ListN.{get_elem?}
-use Rattle.atomic_table.specs.Table.{State, Me, keeps, takes, gives, step, Allows, Final, Seen, rest}
+use Rattle.atomic_table.specs.Table.{State, Me, takes, gives, step, Allows, Final, Seen, rest}
 use Rattle.pure_text.specs.Lists.{Each, AnyOf}
 use Rattle.pure_text.proofs.ListLaws.{each_imply}
 use Rattle.pure_desk.specs.History.{entered_by}
 use Rattle.pure_desk.specs.View.{View, first_seat, opened_seat, holding}
-use Rattle.pure_desk.specs.Rule.{IsEntrant, IsHolder, Fits, IsSettled, unset, IsKept}
+use Rattle.pure_desk.specs.Rule.{IsEntrant, Fits, IsSettled, unset, IsKept}
 use Rattle.pure_desk.specs.Steps.{takes_place, lays}
 use Rattle.pure_desk.specs.Seats.{HasAll, IsWhole}
-use Rattle.pure_desk.proofs.HistoryLaws.{begins-itself, begins-whole, entered-none, entered-numbers}
+use Rattle.pure_desk.proofs.HistoryLaws.{begins-whole, entered-none, entered-numbers}
 use Rattle.pure_desk.proofs.ViewLaws.{only-view, one-view, false-true, same-some, laid}
 use Rattle.pure_desk.proofs.RuleLaws.{is-settled}
 

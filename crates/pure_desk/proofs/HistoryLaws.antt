@@ -1,8 +1,6 @@
 -- Beginnings of histories, and what stands in them of each seat.
-use Rattle.std.proofs.Common.{◌≡◌, ◌≢◌, ◌⊎◌, ◌∙◌, ℕ, zero, suc, ◌+◌, ◌<◌, ◌≤◌, List, [], ◌∷◌, ◌++◌, map, length, Bool, true, false, if◌then◌else◌, nat_eq, nat_lt, refl, sym, ap, subst, inl, inr, arith, append_assoc, append-nil, length-append, eqb, eq-eqb, ne_eqb, ltb-true, ltb-false, le_of_lt}
+use Rattle.std.proofs.Common.{◌≡◌, ◌≢◌, ◌⊎◌, ◌∙◌, ℕ, ◌≤◌, List, [], ◌∷◌, ◌++◌, length, Bool, true, false, if◌then◌else◌, nat_eq, nat_lt, refl, sym, ap, inl, inr, arith, append_assoc, append-nil, length-append, eq-eqb, ne_eqb, ltb-true, ltb-false, le_of_lt}
 use mathlib.Core.List.{IsPrefix}
-use mathlib.Core.Logic.{dite}
-use native.Mathlib.Decide.{ℕ_discrete}
 use Rattle.pure_text.specs.Lists.{Each}
 use Rattle.pure_desk.specs.History.{entered_by, events, longer}
 

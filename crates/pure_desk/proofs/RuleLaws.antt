@@ -1,5 +1,5 @@
 -- Each step keeps the rule of a desk.
-use Rattle.std.proofs.Common.{◌≡◌, ◌≢◌, ◌⊎◌, ◌∙◌, ℕ, zero, suc, ◌+◌, ◌%◌, ◌^◌, ◌<◌, ◌≤◌, List, [], ◌∷◌, ◌++◌, length, get_or, set, Bool, true, false, Option, Some, None, refl, sym, ap, subst, inl, inr, ⊎_elim, arith, length-append, eqb, eq-eqb, ne_eqb}
+use Rattle.std.proofs.Common.{◌≡◌, ◌≢◌, ◌∙◌, ℕ, ◌+◌, ◌%◌, ◌^◌, List, [], ◌∷◌, ◌++◌, length, get_or, set, Bool, true, false, Option, Some, None, refl, sym, ap, subst, inl, inr, arith, length-append, eqb, eq-eqb, ne_eqb}
 use Rattle.std.proofs.Math.Nat.{add-mod}
 use mathlib.Core.Option.{some, none}
 use mathlib.Core.List.{IsPrefix}
@@ -7,16 +7,16 @@ use mathlib.Core.Logic.{dite}
 use native.Mathlib.Decide.{ℕ_discrete}
 use prog.Atomic.{either}
 use lib.ListN.{get_elem?}
-use Rattle.atomic_table.specs.Table.{State, Me, Act, keeps, takes, gives, step, stepped, Allows}
+use Rattle.atomic_table.specs.Table.{State, Me, keeps, takes, gives, step, stepped, Allows}
 use Rattle.atomic_table.proofs.Lists.{set_here, set_again}
 use Rattle.pure_text.specs.Lists.{Each}
 use Rattle.pure_text.proofs.ListLaws.{each_imply}
-use Rattle.pure_desk.specs.History.{entered_by, events}
-use Rattle.pure_desk.specs.View.{View, first_seat, opened_seat, holding, looking, entering, releasing}
+use Rattle.pure_desk.specs.History.{events}
+use Rattle.pure_desk.specs.View.{View, first_seat, holding, looking, entering, releasing}
 use Rattle.pure_desk.specs.Rule.{IsEntrant, IsHolder, Fits, IsSettled, unset, IsKept}
-use Rattle.pure_desk.specs.Steps.{takes_place, lays, IsHeld, tries, looks, ticks, gives_back}
+use Rattle.pure_desk.specs.Steps.{tries, looks, ticks, gives_back}
 use Rattle.pure_desk.specs.Seats.{IsAsKept, IsNext}
-use Rattle.pure_desk.proofs.HistoryLaws.{begins-itself, begins-longer, entered-more, entered-same, events-more}
+use Rattle.pure_desk.proofs.HistoryLaws.{begins-itself, begins-longer, entered-more, entered-same}
 use Rattle.pure_desk.proofs.ViewLaws.{is_inside, each-changed, only-view, some-changed, set-only, set-same, false-true, same-some, laid}
 
 same-last : {A : Type 0} (xs : List A) (x y : A) → xs ++ x ∷ [] ≡ xs ++ y ∷ [] → x ≡ y

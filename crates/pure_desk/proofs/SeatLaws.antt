@@ -1,19 +1,16 @@
 -- Making seats and taking them in keeps the rule of a desk.
-use Rattle.std.proofs.Common.{◌≡◌, ◌≢◌, ◌⊎◌, ◌∙◌, ℕ, zero, suc, ◌+◌, ◌<◌, ◌≤◌, List, [], ◌∷◌, ◌++◌, length, set, Bool, true, false, ◌||◌, if◌then◌else◌, Option, Some, None, nat_eq, refl, sym, ap, subst, inl, inr, ⊎_elim, arith, eq-eqb, ne_eqb, length-set}
-use mathlib.Core.Option.{some, none}
+use Rattle.std.proofs.Common.{◌≡◌, ◌≢◌, ◌∙◌, ℕ, ◌+◌, ◌<◌, List, [], ◌∷◌, ◌++◌, length, set, Bool, true, false, ◌||◌, if◌then◌else◌, Option, None, nat_eq, refl, sym, ap, subst, inr, ⊎_elim, arith, eq-eqb, ne_eqb}
+use mathlib.Core.Option.{some}
 use mathlib.Core.List.{IsPrefix}
-use mathlib.Core.Logic.{dite}
-use native.Mathlib.Decide.{ℕ_discrete}
 use lib.ListN.{get_elem?}
 use Rattle.atomic_table.specs.Table.{State, Splits, Joins}
-use Rattle.atomic_table.proofs.Lists.{at_set, set_else, set_again, at_longer}
-use Rattle.pure_text.specs.Lists.{Each}
+use Rattle.atomic_table.proofs.Lists.{set_else, set_again, at_longer}
 use Rattle.pure_text.proofs.ListLaws.{each_imply, each-append}
-use Rattle.pure_desk.specs.History.{entered_by, longer}
+use Rattle.pure_desk.specs.History.{longer}
 use Rattle.pure_desk.specs.View.{View, spent, splitting, newcomer, joining, noted}
-use Rattle.pure_desk.specs.Rule.{IsEntrant, IsHolder, Fits, IsSettled, IsKept}
+use Rattle.pure_desk.specs.Rule.{IsEntrant, IsHolder, Fits, IsKept}
 use Rattle.pure_desk.proofs.HistoryLaws.{shorter-begins, begins-itself, entered-between, entered-none, longer-either}
-use Rattle.pure_desk.proofs.ViewLaws.{is_inside, each-changed, each-behind, some-changed, one-view, false-true}
+use Rattle.pure_desk.proofs.ViewLaws.{each-changed, each-behind, some-changed, one-view, false-true}
 use Rattle.pure_desk.proofs.RuleLaws.{is-settled}
 
 -- the places of seats, with that of a new one

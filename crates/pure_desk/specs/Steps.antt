@@ -3,7 +3,7 @@ use Rattle.std.specs.Prelude.{◌≡◌, ◌≢◌, ℕ, List, [], ◌∷◌, �
 use mathlib.Core.List.{IsPrefix}
 use Rattle.atomic_table.specs.Table.{Me, Step}
 use Rattle.pure_desk.specs.History.{entered_by, events}
-use Rattle.pure_desk.specs.View.{View, first_seat, opened_seat, holding, looking, entering, releasing}
+use Rattle.pure_desk.specs.View.{View, opened_seat, holding, looking, entering, releasing}
 
 module _ {C K O E : Type 0} where
   -- The empty place was taken.

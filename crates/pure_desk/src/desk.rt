@@ -20,7 +20,7 @@ pub struct Desk<C: Drop, K, O, E, P: Course<C, K, O, E>> {
 pub type Seat<C, K, O, E> = atomic_table::Seat<Option<C>, Sight<K, O, E>>;
 
 impl<C: Drop, K, O, E, P: Course<C, K, O, E>> Desk<C, K, O, E, P> {
-    ghost use Rattle.pure_desk.specs.Names.{desk_id};
+    ghost use Rattle.pure_desk.specs.Names.{desk_id, desk_session};
 
     /// A desk on which the object lies, and its first seat, of number 0, which has seen and entered nothing.
     ///
@@ -35,6 +35,7 @@ impl<C: Drop, K, O, E, P: Course<C, K, O, E>> Desk<C, K, O, E, P> {
         requires object { object ≡ P.after (P.opened object) [] }
         requires legal { P.legal session.now (P.opened object) [] }
         ensures desk { IfOk result (λ r. r.1.table_id ≡ desk_id r.0) }
+        ensures session { IfOk result (λ r. desk_session r.0 ≡ session.now) }
         ensures seat { IfOk result (λ r. r.1.me ≡ (opened_seat (first_seat session.now) (P.opened object), [])) }
     {
         let (table, mut seat) = Table::vacant(alloc, &[0, 1], 1, session)?;

@@ -1,4 +1,4 @@
-use Rattle.std.proofs.Common.{rules, ◌∙◌, refl}
+use Rattle.std.proofs.Common.{rules, ◌∙◌}
 use Rattle.pure_desk.proofs.RuleLaws.{ticks-from, gives-from, ticked-is, released-is}
 use Rattle.pure_desk.proofs.desk.Desk.enter.Goals as goal
 

@@ -1,4 +1,4 @@
-use Rattle.std.proofs.Common.{rules, ◌∙◌, refl}
+use Rattle.std.proofs.Common.{rules, ◌∙◌}
 use Rattle.pure_desk.proofs.RuleLaws.{tries-from}
 use Rattle.pure_desk.proofs.desk.Desk.hold.Goals as goal
 
