@@ -1,5 +1,6 @@
 pub mod LogLaws
 pub mod PromiseLaws
+pub mod ValueLaws
 pub mod ReadyLaws
 pub mod FinishLaws
 pub mod DueLaws

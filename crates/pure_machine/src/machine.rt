@@ -1,8 +1,8 @@
 //! The state machine.
-ghost use Rattle.std.specs.Prelude.{◌≡◌, ◌<◌, ◌-◌, ◌^◌, ◌++◌, ℕ, List, length, vec_len, false, Some, None, IfOk, MatchResult, MatchOption, OnOk, slice_get, if◌then◌else◌};
+ghost use Rattle.std.specs.Prelude.{◌≡◌, ◌<◌, ◌-◌, ◌^◌, ◌++◌, ℕ, List, length, map, filter_map, vec_len, false, Some, None, IfOk, MatchResult, MatchOption, OnOk, slice_get, if◌then◌else◌};
 ghost use Rattle.pure_machine.specs.State.{Running, Fork, CloseTheory, Deliver, Stop, Marks, Cancelled, Ready, theory_at, opened, unmarked, with_cancelled};
 ghost use Rattle.pure_machine.specs.Policy.{due, due_one};
-ghost use Rattle.pure_machine.specs.Step.{stops, after, closed_value, cancelled_by, is_cancelled_promise, IsNextTheory, IsNothingReady, NoTheoryReady, IsShape};
+ghost use Rattle.pure_machine.specs.Step.{stops, after, value_of as closing_value, closed_value, cancelled_by, is_cancelled_promise, IsNextTheory, IsNothingReady, NoTheoryReady, IsShape};
 ghost use Rattle.pure_machine.specs.Seen.{seen_standing};
 ghost use Rattle.pure_machine.specs.Calls.{Takes, delivered_as, polled_as, is_in_cancelled};
 
@@ -147,6 +147,17 @@ impl<G: Drop, C: Drop, O: Drop> Machine<G, C, O> {
         ensures { MatchOption result (closed_value (theory_at self.now.theories theory) ≡ None) (λ v. closed_value (theory_at self.now.theories theory) ≡ Some v.now) }
     {
         self.theories.value(theory)
+    }
+
+    /// The values that closed theories, in load order, each shared with the machine.
+    ///
+    /// # Errors
+    ///
+    /// Want of memory alone.
+    pub fn values(&self) -> Result<Vec<Arc<C>>, AllocError>
+        ensures { IfOk result (λ values. map (λ p. p.value) values.items ≡ filter_map closing_value self.now.theories) }
+    {
+        self.theories.values()
     }
 
     /// The promise of this number.

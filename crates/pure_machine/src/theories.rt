@@ -1,5 +1,5 @@
 //! The theories of a machine: what became of each, and which are ready.
-ghost use Rattle.std.specs.Prelude.{◌≡◌, ◌≢◌, ◌<◌, ◌≤◌, ◌+◌, ◌^◌, ◌-◌, vec_len, ℕ, List, length, map, Option, Some, None, IfOk, MatchOption, MatchBool};
+ghost use Rattle.std.specs.Prelude.{◌≡◌, ◌≢◌, ◌<◌, ◌≤◌, ◌+◌, ◌++◌, ◌^◌, ◌-◌, vec_len, ℕ, List, length, map, filter_map, option_to_list, Option, Some, None, IfOk, OnOk, MatchOption, MatchBool};
 ghost use Rattle.pure_machine.specs.State.{Waiting, Running, Closed, theory_at, with_progress, waiting};
 ghost use Rattle.pure_machine.specs.Seen.{seen_progress};
 ghost use Rattle.pure_machine.specs.Step.{value_of as closing_value, closed_value, closed_values, IsReadyIn, NoneReadyBelow, IsShape, IsClosed};
@@ -85,6 +85,28 @@ fn values_of<C: Drop>(
                 values.push(value)?;
             }
         }
+    }
+    Ok(values)
+}
+
+/// Puts the value that closed the theory behind the others, if one did.
+fn put_value<C: Drop>(values: &mut Vec<Arc<C>>, theory: &Theory<C>) -> Result<(), AllocError>
+    ensures { OnOk result (map (λ p. p.value) values.new.items ≡ map (λ p. p.value) values.old.items ++ option_to_list (closing_value theory.now)) }
+{
+    if let Some(value) = value_of(theory) {
+        let value = Arc::try_clone(value)?;
+        values.push(value)?;
+    }
+    Ok(())
+}
+
+/// The values that closed theories, in their order.
+fn all_values<C: Drop>(alloc: Global, theories: &[Theory<C>]) -> Result<Vec<Arc<C>>, AllocError>
+    ensures { IfOk result (λ values. map (λ p. p.value) values.items ≡ filter_map closing_value theories.now) }
+{
+    let mut values = Vec::with_capacity(alloc, theories.len())?;
+    for theory in theories {
+        put_value(&mut values, theory)?;
     }
     Ok(values)
 }
@@ -254,6 +276,13 @@ impl<C: Drop> Theories<C> {
             None => None,
             Some(value) => Some(&**value),
         }
+    }
+
+    /// The values that closed theories, in their order.
+    pub fn values(&self) -> Result<Vec<Arc<C>>, AllocError>
+        ensures { IfOk result (λ values. map (λ p. p.value) values.items ≡ filter_map closing_value self.now.progress) }
+    {
+        all_values(self.alloc(), self.list.as_slice())
     }
 
     /// Whether some theory runs; where none does and none is ready, all are closed.
