@@ -1,0 +1,6 @@
+pub mod OriginLaws
+pub mod TheoryLaws
+pub mod ToldLaws
+pub mod OrderLaws
+pub mod JoinLaws
+pub mod BeforeLaws

@@ -1,0 +1,3 @@
+pub mod Promises
+pub mod Joined
+pub mod Places
