@@ -1,23 +1,17 @@
 -- The table of a session: its lemmas have fates, and what is printed as proved is derivable.
-use Rattle.std.proofs.Common.{◌≡◌, ◌⊎◌, ◌<◌, ℕ, List, [], ◌∷◌, inl, inr, refl, sym, ◌∙◌, ap, subst, map, Option, Some, None, Ok, Err}
-use Rattle.std.specs.declared.cmp.Ordering.{Ordering}
-use Rattle.std.specs.declared.cmp.Ordering.TheVariants.{Less, Equal}
-use Rattle.std.specs.Cmp.{nat_cmp_is}
-use Rattle.std.specs.Ordering.{nat_cmp, ordering_then}
-use Rattle.pure_text.specs.Lists.{IsIn, Each, EachTwo}
+use Rattle.std.proofs.Common.{◌≡◌, ℕ, List, [], ◌∷◌, inl, inr, refl, sym, ◌∙◌, subst, map, Ok}
+use Rattle.std.specs.declared.cmp.Ordering.TheVariants.{Less}
+use Rattle.pure_text.specs.Lists.{IsIn, EachTwo}
 use Rattle.pure_text.proofs.ListLaws.{each_of}
 use Rattle.pure_definitions.specs.Names.{Label}
 use Rattle.pure_definitions.specs.Terms.Term.{Term}
-use Rattle.pure_grammar.specs.Theories.TheoryText.{Command}
 use Rattle.pure_logic.specs.Derivable.{IsDerivable, IsDerivableAlone}
 use Rattle.pure_logic.specs.Laws.Maps as maps
 use Rattle.pure_logic.specs.Laws.Maps.{everything}
 use Rattle.pure_theorem.specs.Facts.{IsPromise}
-use Rattle.pure_theorem.specs.Sets.{label_cmp, IsLabelSet}
-use Rattle.pure_theory.specs.Refusals.{IsBefore, IsLabelAbove}
+use Rattle.pure_theorem.specs.Sets.{label_cmp}
 use Rattle.pure_unify_laws.specs.Condition.{IsUnifyContent}
 use Rattle.pure_graph.specs.Order.{Loaded}
-use Rattle.pure_graph.specs.Session.{Session}
 use Rattle.pure_fates.specs.Entries.{AreEntries}
 use Rattle.pure_fates.specs.Entries as fates
 use Rattle.pure_fates.specs.Entries.{IsFate}
@@ -26,16 +20,16 @@ use Rattle.pure_print.specs.declared.row.RowStatus.TheVariants as status
 use Rattle.pure_statement_laws.proofs.JoinLaws.{schematic-is_generalised}
 use Rattle.pure_declare.specs.Notes.{Fork, Note}
 use Rattle.pure_method.specs.Facts.{theorem}
-use Rattle.pure_method.specs.Proof.{ProofOutcome, IsProof}
+use Rattle.pure_method.specs.Proof.{IsProof}
 use Rattle.pure_method.specs.Outcome.{IsProvable}
 use Rattle.pure_method.proofs.ReadyLaws.{unify_content, no-schematic}
 use Rattle.pure_method.proofs.SoundLaws.{proved-derivable}
 use Rattle.pure_method.proofs.FaultLaws.{rests-promised}
 use Rattle.pure_promise.specs.Entries.{Entry, plain}
-use Rattle.pure_promise.specs.Rows.{IsRowOf, AreRowsOf}
+use Rattle.pure_promise.specs.Rows.{IsRowOf}
 use Rattle.pure_promise.proofs.FateLaws.{proved_row}
-use Rattle.pure_verdicts.specs.Loaded.{IsLoadedSession}
-use Rattle.pure_verdicts.specs.Statements.{forks_of, AreStatements, IsRun, IsFork}
+use Rattle.pure_loaded.specs.Loaded.{IsLoadedSession}
+use Rattle.pure_verdicts.specs.Statements.{forks_of, AreStatements}
 use Rattle.pure_verdicts.specs.Laws.{IsSomeFork, IsStanding, IsPromiseOf}
 use Rattle.pure_verdicts.proofs.OrderlyLaws.{runs_orderly}
 use Rattle.pure_verdicts.proofs.ForkLaws.{forks_stand}
@@ -43,21 +37,10 @@ use Rattle.pure_verdicts.proofs.ProvableLaws.{forks_provable}
 use Rattle.pure_verdicts.proofs.PromiseLaws.{promises_are_forks}
 use Rattle.pure_verdicts.proofs.LabelLaws.{labels_ascend}
 use Rattle.pure_verdicts.proofs.StatementLaws.{statements_bind_forks}
-use Rattle.pure_table.specs.Table.{Table, IsOwn, IsEntryOf, AreEntriesOf, IsTable, IsDerivedTable}
+use Rattle.pure_table.specs.Table.{IsOwn, IsEntryOf, AreEntriesOf}
 use Rattle.pure_table.specs.Laws.{LemmasProvable, TableHasFates, TableIsDerived}
-use Rattle.pure_table.proofs.ClaimLaws.{IsEarlier, AreBound, IsPromised, IsShownBy, IsOf, ordered, proved_are_derivable}
-
--- Labels in order are so as they are compared.
-less : (m n : ℕ) → m < n → nat_cmp m n ≡ Less
-less m n h = sym (nat_cmp_is m n Less h)
-
-same-then : (n : ℕ) (o : Ordering) → ordering_then (nat_cmp n n) o ≡ o
-same-then n o = ap (λ r. ordering_then r o) (sym (nat_cmp_is n n Equal refl))
-
-before-less : (l m : Label) → IsBefore l m → label_cmp l m ≡ Less
-before-less l m (inl h) = ap (λ r. ordering_then r (ordering_then (nat_cmp l.command m.command) (nat_cmp l.part m.part))) (less l.theory m.theory h)
-before-less l m (inr (e, inl h)) = rw (← e, same-then) (ap (λ r. ordering_then r (nat_cmp l.part m.part)) (less l.command m.command h))
-before-less l m (inr (e, inr (f, h))) = rw (← e, same-then, ← f, same-then) (less l.part m.part h)
+use Rattle.pure_table.proofs.ClaimLaws.{IsEarlier, AreBound, IsShownBy, IsOf, ordered, proved_are_derivable}
+use Rattle.pure_verdicts.proofs.LabelLaws.{before-less}
 
 -- Lists of which each two elements are related, one after the other.
 two_through : {A B C : Type 0} (R : A → B → Type 0) (S : B → C → Type 0) (T : A → C → Type 0) → ((a : A) (b : B) (c : C) → R a b → S b c → T a c)

@@ -1,35 +1,34 @@
 -- The entries of lemmas whose proofs are run.
-use Rattle.std.proofs.Common.{◌≡◌, ℕ, List, [], ◌∷◌, Some, refl, sym, subst, map}
-use Rattle.pure_text.specs.Lists.{IsIn, Each, EachTwo}
+use Rattle.std.proofs.Common.{◌≡◌, ◌∙◌, ℕ, List, [], refl, sym, ap, subst}
+use Rattle.pure_theory.specs.Certified.{Certified}
 use Rattle.pure_declare.specs.Notes.{Fork}
-use Rattle.pure_method.specs.Outcome.{seen_outcome, IsOutcomeOf}
+use Rattle.pure_method.specs.Outcome.{IsOutcomeOf}
 use Rattle.pure_method.specs.declared.outcome.Outcome.{Outcome}
-use Rattle.pure_method.specs.declared.outcome.Outcome.TheVariants.{Proved, Fault}
-use Rattle.pure_promise.specs.Seen.{seen_own, seen_entry, seen}
+use Rattle.pure_method.specs.declared.outcome.Outcome.TheVariants as shown
+use Rattle.pure_promise.specs.Seen.{seen_own, seen_entry}
 use Rattle.pure_promise.specs.declared.entry.Entry.{Entry}
 use Rattle.pure_promise.specs.declared.entry.Own.{Own}
+use Rattle.pure_promise.specs.declared.entry.Own.TheVariants.{Proved, Fault}
 use Rattle.pure_table.specs.Table.{IsOwn, IsEntryOf}
+use Rattle.pure_table.specs.Fulfilled.{IsResultOf, IsHeldFor, own_of}
 
--- what the call answers became of the lemma
-outcome-own : (texts : List (List ℕ)) (f : Fork) (o : Outcome) → IsOutcomeOf texts f o → IsOwn texts [] f (Some (seen_outcome o))
-outcome-own texts f (Proved c) h = (λ m. m, h.0)
-outcome-own texts f (Fault step fault) h = (λ m. m, h)
+-- What the call answers became of the lemma, and a theorem that it answers is the lemma's result.
+outcome-own : (texts : List (List ℕ)) (f : Fork) (o : Outcome) → IsOutcomeOf texts f o → IsOwn texts [] f (seen_own (own_of o))
+outcome-own texts f (shown.Proved c) h = (λ m. m, h.0)
+outcome-own texts f (shown.Fault step fault) h = (λ m. m, h)
 
-pub entry-proved : (texts : List (List ℕ)) (f : Fork) (o : Outcome) (own : Own) (e : Entry) → IsOutcomeOf texts f o → seen_own own ≡ Some (seen_outcome o)
-    → seen_entry e ≡ record { label = f.label; name = f.name; prop = f.prop; own = seen_own own } → IsEntryOf texts [] f (seen_entry e)
-entry-proved texts f o own e h same is =
-    subst (IsEntryOf texts [] f) (sym is) (record { label = refl; name = refl; prop = refl; own = subst (IsOwn texts [] f) (sym same) (outcome-own texts f o h) })
+same-theorem : (c d : Certified) → Proved c ≡ Proved d → c ≡ d
+same-theorem c d e = cc
 
--- the lemma and the entry that the program holds of it
-abbrev pub IsHeldAs : (texts : List (List ℕ)) → Fork → Entry → Type 0
-IsHeldAs texts f e = IsEntryOf texts [] f (seen_entry e)
+outcome-result : (texts : List (List ℕ)) (f : Fork) (o : Outcome) → IsOutcomeOf texts f o → (c : Certified) → own_of o ≡ Proved c → IsResultOf texts f c
+outcome-result texts f (shown.Proved d) h c e =
+    subst (IsResultOf texts f) (same-theorem d c e)
+    (record { labels = d.theorem.rests; content = ap (λ (r : Certified). r.content) h.1; states = ap (λ (r : Certified). r.theorem) h.1; proof = h.0 })
+outcome-result texts f (shown.Fault step fault) h c e = let no : Fault step fault ≡ Proved c = e in absurd (cc)
 
-pub seen-two : (texts : List (List ℕ)) (fs : List Fork) (es : List Entry) → EachTwo (IsHeldAs texts) fs es → EachTwo (IsEntryOf texts []) fs (seen es)
-seen-two texts [] [] h = tt
-seen-two texts [] (e ∷ es) h = absurd h
-seen-two texts (f ∷ fs) [] h = absurd h
-seen-two texts (f ∷ fs) (e ∷ es) h = (h.0, seen-two texts fs es h.1)
-
--- the first of those that are left, and the others
-pub first-left : {A : Type 0} (P : A → Type 0) (left rest : List A) (x : A) → left ≡ x ∷ rest → Each P left → P x × Each P rest
-first-left P left rest x is each = subst (Each P) is each
+pub entry-held : (texts : List (List ℕ)) (f : Fork) (o : Outcome) (own : Own) (e : Entry) → IsOutcomeOf texts f o → own ≡ own_of o → e.own ≡ own
+    → seen_entry e ≡ record { label = f.label; name = f.name; prop = f.prop; own = seen_own own } → IsHeldFor texts [] f e
+entry-held texts f o own e h is held seen = record {
+  entry = subst (IsEntryOf texts [] f) (sym seen) (record { label = refl; name = refl; prop = refl; own = subst (λ (w : Own). IsOwn texts [] f (seen_own w)) (sym is) (outcome-own texts f o h) });
+  result = λ c same. outcome-result texts f o h c (sym is ∙ sym held ∙ same);
+}

@@ -13,7 +13,7 @@ use Rattle.pure_graph.specs.Order.{Loaded}
 use Rattle.pure_promise.specs.Accepting.{IsForkedBefore}
 use Rattle.pure_declare.specs.Notes.{Fork, Note}
 use Rattle.pure_method.specs.Facts.{theorem}
-use Rattle.pure_verdicts.specs.Loaded.{IsLoadedSession}
+use Rattle.pure_loaded.specs.Loaded.{IsLoadedSession}
 use Rattle.pure_verdicts.specs.Statements.{forks_of, AreStatements}
 use Rattle.pure_table.specs.Fulfilled.{IsResultOf, ResultsFulfil}
 use Rattle.pure_table.proofs.ClaimLaws.{IsPromised}

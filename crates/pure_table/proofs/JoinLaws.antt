@@ -12,14 +12,14 @@ use Rattle.pure_promise.specs.declared.entry.Entry.{Entry}
 use Rattle.pure_promise.specs.Joining.{IsClosed, IsGrounded}
 use Rattle.pure_promise.specs.Seen.{seen}
 use Rattle.pure_declare.specs.Notes.{Fork, Note}
-use Rattle.pure_verdicts.specs.Loaded.{IsLoadedSession}
+use Rattle.pure_loaded.specs.Loaded.{IsLoadedSession}
 use Rattle.pure_verdicts.specs.Statements.{forks_of, AreStatements}
 use Rattle.pure_table.specs.Table.{IsEntryOf}
 use Rattle.pure_table.specs.Fulfilled.{IsHeldFor, EntriesMayJoin}
 use Rattle.pure_table.proofs.ClaimLaws.{IsEarlier, IsPromised, one_lemma}
 use Rattle.pure_table.proofs.DerivedLaws.{bound, some_fork, shown_by, has_fates}
 
-seen-of : (texts : List (List ℕ)) (cancelled : List Label) (fs : List Fork) (es : List Entry) → EachTwo (IsHeldFor texts cancelled) fs es → EachTwo (IsEntryOf texts cancelled) fs (seen es)
+pub seen-of : (texts : List (List ℕ)) (cancelled : List Label) (fs : List Fork) (es : List Entry) → EachTwo (IsHeldFor texts cancelled) fs es → EachTwo (IsEntryOf texts cancelled) fs (seen es)
 seen-of texts cancelled [] [] h = tt
 seen-of texts cancelled [] (e ∷ es) h = absurd h
 seen-of texts cancelled (f ∷ fs) [] h = absurd h

@@ -8,6 +8,4 @@ pub mod FulfilledLaws
 pub mod JoinLaws
 pub mod MeantLaws
 pub mod FatesLaws
-pub mod ParentLaws
-pub mod CloseLaws
 pub mod ThereLaws

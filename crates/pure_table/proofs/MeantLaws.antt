@@ -2,6 +2,7 @@
 use Rattle.std.proofs.Common.{◌≡◌, ◌≢◌, ◌⊎◌, ◌≤◌, ◌+◌, ℕ, zero, suc, List, [], ◌∷◌, Option, Some, None, Bool, true, false, slice_get, bytes_eq, inl, inr, refl, sym, ◌∙◌, ap, subst, arith}
 use Rattle.std.proofs.lemmas.Slice.Eq.{bytes_eq-Decides}
 use Rattle.std.proofs.lemmas.Bool.Decides.{leb_tells}
+use Rattle.std.proofs.lemmas.Option.{same_Some}
 use Rattle.pure_text.specs.Lists.{IsIn}
 use Rattle.pure_text.proofs.ListLaws.{in_or_not, in-append_right}
 use Rattle.pure_definitions.specs.Names.{protect_name}
@@ -20,12 +21,9 @@ texts_or_not s t = by (bytes_eq s t) refl
     by true e = inl ((bytes_eq-Decides s t).0 e)
     by false e = inr (λ same. let also = (bytes_eq-Decides s t).1 same in absurd (cc))
 
-some-same : (s t : List ℕ) → Some s ≡ Some t → s ≡ t
-some-same s t e = cc
-
 -- A text stands at some place, or at none; and at a place some text stands, or none.
 behind : (x : List ℕ) (xs : List (List ℕ)) (w : List ℕ) → ¬ (x ≡ w) → ((n : ℕ) → slice_get xs n ≡ Some w → ⊥) → (n : ℕ) → slice_get (x ∷ xs) n ≡ Some w → ⊥
-behind x xs w other missing zero e = other (some-same x w e)
+behind x xs w other missing zero e = other (same_Some x w e)
 behind x xs w other missing (suc n) e = missing n e
 
 abbrev IsPlaced : List (List ℕ) → List ℕ → Type 0
@@ -49,7 +47,7 @@ stands_or_not : (xs : List (List ℕ)) (n : ℕ) (w : List ℕ) → (slice_get x
 stands_or_not xs n w = by (get_or_not xs n)
   where
     by : ((v : List ℕ) × (slice_get xs n ≡ Some v)) ⊎ ((v : List ℕ) → slice_get xs n ≡ Some v → ⊥) → (slice_get xs n ≡ Some w) ⊎ ¬ (slice_get xs n ≡ Some w)
-    by (inl (v, e)) = elim (texts_or_not v w) [ inl same ↦ inl (e ∙ ap Some same) | inr other ↦ inr (λ h. other (some-same v w (sym e ∙ h))) ]
+    by (inl (v, e)) = elim (texts_or_not v w) [ inl same ↦ inl (e ∙ ap Some same) | inr other ↦ inr (λ h. other (same_Some v w (sym e ∙ h))) ]
     by (inr missing) = inr (missing w)
 
 -- The name is that of a fact, may be written, and has this text.
@@ -243,7 +241,7 @@ module _ (texts : List (List ℕ)) (Q : Content) where
       by (inr missing) = inr (λ p theory m h. missing theory h.text)
       by (inl (w, text)) = elim (theory_or_not (full_text w base)) [
         | inl h ↦ inl (record { theory = w; meaning = h.0; text = text; of = h.1 })
-        | inr never ↦ inr (λ p theory m h. never m (subst (λ x. IsOfTheory texts Q facts (full_text x base) m) (some-same theory w (sym h.text ∙ text)) h.of))
+        | inr never ↦ inr (λ p theory m h. never m (subst (λ x. IsOfTheory texts Q facts (full_text x base) m) (same_Some theory w (sym h.text ∙ text)) h.of))
       ]
 
   at-most : (m n : ℕ) → m ≡ n → m ≤ n

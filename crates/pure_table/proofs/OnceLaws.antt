@@ -1,11 +1,10 @@
 -- A session comes to one table at most.
-use Rattle.std.proofs.Common.{◌≡◌, ℕ, List, [], ◌∷◌, inl, inr, refl, sym, ◌∙◌, ap, subst, map, Option, Some, None, Ok, Err}
+use Rattle.std.proofs.Common.{◌≡◌, ℕ, List, [], ◌∷◌, inl, inr, refl, sym, ◌∙◌, ap, subst, map, Option, Some, None}
 use Rattle.pure_text.specs.Lists.{IsIn, EachTwo}
 use Rattle.pure_definitions.specs.Names.{Label}
 use Rattle.pure_definitions.specs.Terms.Term.{Term}
 use Rattle.pure_graph.specs.Order.{Loaded}
-use Rattle.pure_graph.specs.Session.{Session}
-use Rattle.pure_fates.specs.Entries.{AreEntries, Fate}
+use Rattle.pure_fates.specs.Entries.{AreEntries}
 use Rattle.pure_fates.proofs.FateLaws.{one_fate}
 use Rattle.pure_print.specs.declared.row.Row.{Row}
 use Rattle.pure_declare.specs.Notes.{Fork, Note}
@@ -14,12 +13,12 @@ use Rattle.pure_method.proofs.OnceLaws.{proof-once}
 use Rattle.pure_promise.specs.Entries.{Entry, plain}
 use Rattle.pure_promise.specs.Rows.{IsRowOf, AreRowsOf}
 use Rattle.pure_promise.specs.RowText.{fate_row}
-use Rattle.pure_verdicts.specs.Loaded.{IsLoadedSession}
-use Rattle.pure_verdicts.specs.Statements.{forks_of, AreStatements}
+use Rattle.pure_loaded.specs.Loaded.{IsLoadedSession}
+use Rattle.pure_verdicts.specs.Statements.{forks_of}
 use Rattle.pure_verdicts.specs.Laws.{IsSomeFork}
 use Rattle.pure_verdicts.proofs.OrderlyLaws.{runs_orderly}
 use Rattle.pure_verdicts.proofs.StatementLaws.{statements_once}
-use Rattle.pure_table.specs.Table.{Table, IsOwn, IsEntryOf, AreEntriesOf, IsTable}
+use Rattle.pure_table.specs.Table.{Table, IsOwn, IsEntryOf, AreEntriesOf}
 use Rattle.pure_table.specs.Laws.{TableOnce}
 use Rattle.pure_table.proofs.DerivedLaws.{standing, provable, some_fork, has_fates}
 

@@ -12,12 +12,12 @@ use Rattle.pure_promise.specs.RowText.{fate_row}
 use Rattle.pure_method.proofs.ReadyLaws.{ready, ready-fact, no-schematic}
 use Rattle.pure_method.proofs.ValueLaws.{proof_has_a_value}
 use Rattle.pure_verdicts.proofs.OrderlyLaws.{runs_orderly}
-use Rattle.pure_verdicts.specs.Loaded.{IsLoadedSession}
+use Rattle.pure_loaded.specs.Loaded.{IsLoadedSession}
 use Rattle.pure_verdicts.specs.Statements.{notes_of, forks_of}
 use Rattle.pure_verdicts.specs.Laws.{IsSomeFork}
 use Rattle.pure_table.specs.Table.{IsEntryOf}
 use Rattle.pure_table.specs.There.{ProofsHaveValues, TableIsThere}
-use Rattle.pure_table.proofs.CloseLaws.{statements_there}
+use Rattle.pure_verdicts.proofs.CloseLaws.{statements_there}
 use Rattle.pure_table.proofs.FatesLaws.{among_or_not, fates_are_there}
 use Rattle.pure_table.proofs.DerivedLaws.{standing, provable, some_fork, has_fates}
 use Rattle.pure_table.proofs.MeantLaws.{found_somehow}

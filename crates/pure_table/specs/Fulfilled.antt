@@ -6,15 +6,18 @@ use Rattle.pure_theory.specs.Certified.{Certified}
 use Rattle.pure_graph.specs.Session.{Session}
 use Rattle.pure_promise.specs.declared.promise.Promise.{Promise}
 use Rattle.pure_promise.specs.declared.entry.Entry.{Entry}
-use Rattle.pure_promise.specs.declared.entry.Own.TheVariants.{Proved}
+use Rattle.pure_promise.specs.declared.entry.Own.{Own}
+use Rattle.pure_promise.specs.declared.entry.Own.TheVariants.{Proved, Fault}
 use Rattle.pure_promise.specs.Accepting.{Fulfils}
 use Rattle.pure_promise.specs.Joining.{MayJoin}
 use Rattle.pure_promise.specs.Seen.{seen_entry}
 use Rattle.pure_declare.specs.Notes.{Fork, Note}
 use Rattle.pure_method.specs.Facts.{theorem}
 use Rattle.pure_method.specs.Proof.{IsProof}
+use Rattle.pure_method.specs.declared.outcome.Outcome.{Outcome}
+use Rattle.pure_method.specs.declared.outcome.Outcome.TheVariants as shown
 use Rattle.pure_verdicts.specs.Statements.{forks_of, AreStatements}
-use Rattle.pure_verdicts.specs.Loaded.{IsLoadedSession}
+use Rattle.pure_loaded.specs.Loaded.{IsLoadedSession}
 use Rattle.pure_table.specs.Table.{IsEntryOf}
 
 -- The theorem is the lemma's result: its statement over its content, resting on the promises to which its proof comes.
@@ -36,6 +39,11 @@ abbrev pub ResultsFulfil : Type 0
 ResultsFulfil = (S : Session) → IsLoadedSession S.names S.theories → (notes : List Note) → AreStatements S.names S.theories notes
     → (earlier later : List Fork) (f : Fork) → forks_of notes ≡ earlier ++ f ∷ later
     → (p : Promise) → IsPromiseFor (length earlier) f p → (c : Certified) → IsResultOf S.names f c → Fulfils (map Fork.label (forks_of notes)) p c
+
+-- what became of a lemma whose proof came to this, as the code holds it
+abbrev pub own_of : Outcome → Own
+own_of (shown.Proved c) = Proved c
+own_of (shown.Fault step fault) = Fault step fault
 
 -- The entry, as the code holds it, is that of the lemma; and the theorem that it holds is the lemma's result.
 pub record IsHeldFor (texts : List (List ℕ)) (cancelled : List Label) (f : Fork) (e : Entry) : Type 0 where

@@ -9,7 +9,7 @@ use Rattle.pure_promise.specs.Entries.{Entry, plain}
 use Rattle.pure_declare.specs.Notes.{Fork, Note}
 use Rattle.pure_method.specs.Outcome.{IsProvable}
 use Rattle.pure_verdicts.specs.Statements.{forks_of, AreStatements}
-use Rattle.pure_verdicts.specs.Loaded.{IsLoadedSession}
+use Rattle.pure_loaded.specs.Loaded.{IsLoadedSession}
 use Rattle.pure_work.specs.Outline.{Outline}
 use Rattle.pure_work.specs.Sessions.{AreSaid}
 use Rattle.pure_table.specs.Table.{Table, IsEntryOf, AreEntriesOf, IsTable, IsDerivedTable}

@@ -1,19 +1,14 @@
 -- Laws that a session comes to a table.
-use Rattle.std.specs.Prelude.{◌⊎◌, ℕ, List}
+use Rattle.std.specs.Prelude.{ℕ, List}
 use Rattle.pure_text.specs.Lists.{IsIn}
 use Rattle.pure_definitions.specs.Names.{Label}
-use Rattle.pure_definitions.specs.Declarations.Decl.{Decl}
-use Rattle.pure_logic.specs.Content.{Content}
-use Rattle.pure_logic.specs.Beginning.{IsMerge}
-use Rattle.pure_theory.specs.Begin.{IsFirstConflict}
 use Rattle.pure_graph.specs.Order.{Loaded}
 use Rattle.pure_graph.specs.Session.{Session}
 use Rattle.pure_fates.specs.Entries as fates
 use Rattle.pure_fates.specs.Entries.{AreEntries, Fate, IsFate}
 use Rattle.pure_declare.specs.Notes.{Fork}
 use Rattle.pure_method.specs.Proof.{ProofOutcome, IsProof}
-use Rattle.pure_verdicts.specs.Loaded.{IsLoadedSession}
-use Rattle.pure_verdicts.specs.Verdicts.{Verdict, IsTheoryAt, Closes, AllClose}
+use Rattle.pure_loaded.specs.Loaded.{IsLoadedSession}
 use Rattle.pure_verdicts.specs.Laws.{IsSomeFork}
 use Rattle.pure_table.specs.Table.{Table, IsTable}
 
@@ -21,20 +16,6 @@ use Rattle.pure_table.specs.Table.{Table, IsTable}
 abbrev pub ProofsHaveValues : Type 0
 ProofsHaveValues = (texts : List (List ℕ)) (theories : List Loaded) → IsLoadedSession texts theories → (f : Fork) → IsSomeFork texts theories f
     → (outcome : ProofOutcome) × IsProof texts f.content f.fixed f.script outcome
-
--- The parents merge, one after the other, or one of them is the first in conflict.
-abbrev pub MergesOrNot : List Content → Type 0
-MergesOrNot parents = ((merged : List Decl) × IsMerge parents merged) ⊎ ((con : ℕ) × (c1 : ℕ) × (c2 : ℕ) × IsFirstConflict parents con c1 c2)
-
--- Any contents do one or the other.
-abbrev pub ContentsMergeOrNot : Type 0
-ContentsMergeOrNot = (parents : List Content) → MergesOrNot parents
-
--- A theory whose parents have closed closes too.
-abbrev pub TheoryCloses : Type 0
-TheoryCloses = (texts : List (List ℕ)) (theories : List Loaded) → IsLoadedSession texts theories
-    → (index : ℕ) (theory : Loaded) → IsTheoryAt theories index theory → (parents : List Verdict) → AllClose texts theories theory.parents parents
-    → (v : Verdict) × Closes texts theories index v
 
 -- Each lemma has a fate, where their labels ascend and proofs rest on earlier ones alone.
 abbrev pub FatesAreThere : Type 0

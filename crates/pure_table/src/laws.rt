@@ -1,6 +1,6 @@
 //! What the definitions mean: laws, each carried by the contract of a function that does nothing.
 ghost use Rattle.pure_table.specs.Fulfilled.{EntriesMayJoin, ResultsFulfil};
-ghost use Rattle.pure_table.specs.There.{ContentsMergeOrNot, FatesAreThere, ProofsHaveValues, TableIsThere, TheoryCloses};
+ghost use Rattle.pure_table.specs.There.{FatesAreThere, ProofsHaveValues, TableIsThere};
 ghost use Rattle.pure_table.specs.Laws.{LemmasProvable, SaidAreParts, SaidAreStatements, TableHasFates, TableIsDerived, TableOnce};
 
 /// What the theories of a session left are its statements, and with the entries of its lemmas the parts of its table.
@@ -44,11 +44,6 @@ pub fn proofs_have_values()
     ensures { ProofsHaveValues }
 {}
 
-/// A theory whose parents have closed closes too.
-pub fn theory_closes()
-    ensures { TheoryCloses }
-{}
-
 /// A session comes to some table.
 pub fn table_is_there()
     ensures { TableIsThere }
@@ -57,9 +52,4 @@ pub fn table_is_there()
 /// Each lemma has a fate.
 pub fn fates_are_there()
     ensures { FatesAreThere }
-{}
-
-/// Contents merge, one after the other, or one of them is the first in conflict.
-pub fn contents_merge_or_not()
-    ensures { ContentsMergeOrNot }
 {}

@@ -11,14 +11,14 @@ use Rattle.pure_graph.specs.Session.{parent_refused_text}
 use Rattle.pure_statements.specs.ReasonText.{reason_text}
 use Rattle.pure_statements.specs.declared.reason.Reason.TheVariants.{NotCoregular}
 use Rattle.pure_loaded.specs.Well.{IsWellLoaded}
-use Rattle.pure_verdicts.specs.Loaded.{IsLoadedSession}
+use Rattle.pure_loaded.specs.Loaded.{IsLoadedSession}
 use Rattle.pure_verdicts.specs.Verdicts.{Verdict, Barred, Ran, IsTheoryAt, refused_theory, IsFirstBarred, AreLast, beginning_over, Begins, by_parent, not_coregular, Closes, barred, ran, AllClose, nothing, also}
 use Rattle.pure_verdicts.specs.Statements.{notes_of, AreStatements}
 use Rattle.pure_verdicts.proofs.StepLaws.{run_begins}
 use Rattle.pure_verdicts.proofs.EndLaws.{runs_close}
 use Rattle.pure_verdicts.proofs.OwnerLaws.{theories_may_begin}
-use Rattle.pure_table.specs.There.{TheoryCloses}
-use Rattle.pure_table.proofs.ParentLaws.{contents_merge_or_not}
+use Rattle.pure_verdicts.specs.Closing.{TheoryCloses}
+use Rattle.pure_verdicts.proofs.ParentLaws.{contents_merge_or_not}
 
 module _ (texts : List (List ℕ)) (theories : List Loaded) where
   -- What closes is a theory of the session.

@@ -64,7 +64,7 @@ least-once A B h k c d l e f first second =
     (not_after-at k c d q.0 q.1 l e f q.4 q.5 q.6 (first.least q.0 q.1 (h.back q.0 q.2) (conflict-alike B A (turned A B h) q.0 q.1 q.3)))
     (not_after-at l e f p.0 p.1 k c d p.4 p.5 p.6 (second.least p.0 p.1 (h.over p.0 p.2) (conflict-alike A B h p.0 p.1 p.3)))
 
-added-more : (before added after : List Decl) → IsAdded before added after → (x : Decl) → IsOneOf before added x → IsIn x after
+pub added-more : (before added after : List Decl) → IsAdded before added after → (x : Decl) → IsOneOf before added x → IsIn x after
 added-more before [] after h x m = subst (λ (ds : List Decl). IsIn x ds) (sym h) (elim m [ inl n ↦ n | inr none ↦ absurd none ])
 added-more before (d ∷ ds) after (inl h) x m = added-more before ds after h.1 x (elim m [
   | inl n ↦ inl n

@@ -9,7 +9,7 @@ use Rattle.pure_declare.specs.Notes.{Note, Fork, Forked}
 use Rattle.pure_declare.specs.Fold.{Declares, AreDeclared}
 use Rattle.pure_declare.specs.Bound.{IsBoundAs}
 use Rattle.pure_declare.proofs.BoundLaws.{forks_bound}
-use Rattle.pure_verdicts.specs.Loaded.{IsLoadedSession}
+use Rattle.pure_loaded.specs.Loaded.{IsLoadedSession}
 use Rattle.pure_verdicts.specs.Statements.{IsRun, IsFork}
 use Rattle.pure_verdicts.specs.Steps.{command_label}
 use Rattle.pure_verdicts.specs.Laws.{IsOrderly, ForksStand}

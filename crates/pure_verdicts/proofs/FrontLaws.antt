@@ -5,7 +5,7 @@ use Rattle.pure_logic.specs.Content.{Content}
 use Rattle.pure_graph.specs.Order.{Loaded}
 use Rattle.pure_declare.specs.Notes.{Note}
 use Rattle.pure_declare.specs.Fold.{AreDeclared}
-use Rattle.pure_verdicts.specs.Loaded.{IsLoadedSession}
+use Rattle.pure_loaded.specs.Loaded.{IsLoadedSession}
 use Rattle.pure_verdicts.specs.Verdicts.{Verdict, Ran, IsTheoryAt, Begins, Closes, barred, ran, AllClose}
 use Rattle.pure_verdicts.specs.Statements.{IsRun}
 use Rattle.pure_verdicts.proofs.FoldLaws.{declared-split}

@@ -18,7 +18,7 @@ use Rattle.pure_declare.specs.Notes.{Note, Fork, Said, Forked}
 use Rattle.pure_declare.specs.Fold.{Declares, AreDeclared}
 use Rattle.pure_declare.proofs.BoundLaws.{forks_bound}
 use Rattle.pure_theory.specs.Refusals.{IsBefore}
-use Rattle.pure_verdicts.specs.Loaded.{IsLoadedSession}
+use Rattle.pure_loaded.specs.Loaded.{IsLoadedSession}
 use Rattle.pure_verdicts.specs.Verdicts.{Verdict, Barred, Ran, IsTheoryAt, Closes}
 use Rattle.pure_verdicts.specs.Statements.{notes_of, forks_of, IsRun}
 use Rattle.pure_verdicts.specs.Steps.{command_label}

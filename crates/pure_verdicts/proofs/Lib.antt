@@ -16,3 +16,5 @@ pub mod LabelLaws
 pub mod OwnLaws
 pub mod OwnerLaws
 pub mod EndLaws
+pub mod ParentLaws
+pub mod CloseLaws

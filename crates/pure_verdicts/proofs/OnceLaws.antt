@@ -14,7 +14,7 @@ use Rattle.pure_graph.specs.Session.{parent_refused_text}
 use Rattle.pure_declare.specs.Notes.{Note}
 use Rattle.pure_declare.specs.Fold.{AreDeclared}
 use Rattle.pure_declare.proofs.OnceLaws.{declares_once}
-use Rattle.pure_verdicts.specs.Loaded.{IsLoadedSession}
+use Rattle.pure_loaded.specs.Loaded.{IsLoadedSession}
 use Rattle.pure_verdicts.specs.Verdicts.{Verdict, Barred, Ran, IsTheoryAt, refused_theory, IsFirstBarred, AreLast, beginning_over, Begins, IsBarred, by_parent, not_coregular, Closes, barred, ran, AllClose, nothing, also}
 use Rattle.pure_verdicts.specs.Statements.{IsRun}
 use Rattle.pure_verdicts.specs.Steps.{command_label}

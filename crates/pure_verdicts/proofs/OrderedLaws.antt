@@ -1,5 +1,5 @@
 -- The classes of a merge are declared in order, where those of the parents are.
-use Rattle.std.proofs.Common.{◌≡◌, ◌⊎◌, ℕ, List, [], ◌∷◌, ◌++◌, append-nil, refl, sym, ap, subst, inl, inr}
+use Rattle.std.proofs.Common.{◌≡◌, ◌⊎◌, ℕ, List, [], ◌∷◌, ◌++◌, append-nil, refl, sym, subst, inl, inr}
 use Rattle.pure_text.specs.Lists.{IsIn, Each, AnyOf}
 use Rattle.pure_text.proofs.ListLaws.{any_some, each_imply, in_split, in-append_left, in-append_right}
 use Rattle.pure_definitions.specs.Types.Order.{Class}
@@ -10,15 +10,7 @@ use Rattle.pure_order_tables.proofs.BelowLaws.{declared, follows-one_more}
 use Rattle.pure_logic.specs.Content.{Content, AreNamedAlike}
 use Rattle.pure_logic.specs.Beginning.{IsAdded, IsMergeAfter}
 use Rattle.pure_logic.specs.Laws.Contents.{AreAgreed}
-
-classes-append : (ds es : List Decl) → classes_of (ds ++ es) ≡ classes_of ds ++ classes_of es
-classes-append [] es = refl
-classes-append (ClassDecl k ∷ ds) es = ap (λ (cs : List Class). k ∷ cs) (classes-append ds es)
-classes-append (ConDecl k n ∷ ds) es = classes-append ds es
-classes-append (ArityDecl a ∷ ds) es = classes-append ds es
-classes-append (ConstDecl c T ∷ ds) es = classes-append ds es
-classes-append (AxiomDecl x A ∷ ds) es = classes-append ds es
-classes-append (PromiseDecl x l A ∷ ds) es = classes-append ds es
+use Rattle.pure_stage.proofs.AlgebraLaws.{classes-append}
 
 -- The declaration is one of the first list or one of the second.
 abbrev pub IsOneOf : List Decl → List Decl → Decl → Type 0

@@ -29,7 +29,7 @@ use Rattle.pure_declare.proofs.GrownLaws.{declares_grown}
 use Rattle.pure_declare.proofs.TidyDeclared.{pure_is_tidy, declares_tidy}
 use Rattle.pure_declare.proofs.GoodLaws.{pure_is_good, declares_good}
 use Rattle.pure_declare.proofs.PromisedLaws.{declares_in_session}
-use Rattle.pure_verdicts.specs.Loaded.{IsLoadedSession}
+use Rattle.pure_loaded.specs.Loaded.{IsLoadedSession}
 use Rattle.pure_verdicts.specs.Verdicts.{Verdict, IsTheoryAt, Begins, beginning_over}
 use Rattle.pure_verdicts.specs.Statements.{IsRun}
 use Rattle.pure_verdicts.specs.Steps.{command_label}

@@ -10,7 +10,7 @@ use Rattle.pure_graph.specs.Order.{Loaded}
 use Rattle.pure_declare.specs.Notes.{Note}
 use Rattle.pure_declare.specs.Fold.{Declares, AreDeclared}
 use Rattle.pure_declare.specs.Premises.{HasFullNames, HasRanges}
-use Rattle.pure_verdicts.specs.Loaded.{IsLoadedSession}
+use Rattle.pure_loaded.specs.Loaded.{IsLoadedSession}
 use Rattle.pure_verdicts.specs.Verdicts.{IsTheoryAt}
 use Rattle.pure_verdicts.specs.Statements.{IsRun}
 use Rattle.pure_verdicts.specs.Steps.{command_label}

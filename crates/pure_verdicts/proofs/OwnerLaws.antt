@@ -14,7 +14,7 @@ use Rattle.pure_owners.specs.Ended.{HasPlainName, AreEnded, IsNext, IsParent, Is
 use Rattle.pure_owners.specs.Kept.{NothingHasEnded, TheoryEnds}
 use Rattle.pure_owners.proofs.BeginLaws.{parents-may_begin}
 use Rattle.pure_owners.proofs.EndLaws.{nothing-has_ended, theory-ends}
-use Rattle.pure_verdicts.specs.Loaded.{IsLoadedSession}
+use Rattle.pure_loaded.specs.Loaded.{IsLoadedSession}
 use Rattle.pure_verdicts.specs.Verdicts.{Verdict, Ran, IsTheoryAt, AreLast, beginning_over, Begins, Closes, barred, ran, AllClose, nothing, also}
 use Rattle.pure_verdicts.specs.Given.{TheoriesMayBegin}
 use Rattle.pure_verdicts.proofs.TextLaws.{one_text, theory-well}

@@ -2,6 +2,7 @@
 use Rattle.std.proofs.Common.{◌≡◌, ◌⊎◌, ◌<◌, ◌≤◌, ℕ, List, [], ◌∷◌, ◌++◌, Some, Bool, true, false, append_assoc, append-nil, inl, inr, refl, sym, ◌∙◌, ap, subst, arith}
 use Rattle.std.proofs.lemmas.Bool.Decides.{eqb_tells, leb_tells}
 use Rattle.std.specs.List.{flat_map}
+use Rattle.std.proofs.lemmas.Option.{same_Some}
 use Rattle.pure_text.specs.Lists.{IsIn, Each, AnyOf}
 use Rattle.pure_text.proofs.ListLaws.{in-append_left, in-append_right, any_some, any_of, any_decided, each_decided, each_at, each_of}
 use Rattle.pure_definitions.specs.Types.Order.{Class, Arity, Algebra, IsClassBelow, itself, along, AreDomainsBelow, IsJoin, AreCompatible, IsCoregular}
@@ -16,17 +17,15 @@ use Rattle.pure_logic.specs.Content.{Content}
 use Rattle.pure_logic.specs.Beginning.{IsAdded, IsMergeAfter, IsMerge}
 use Rattle.pure_stage.specs.Same.{decl_eq}
 use Rattle.pure_stage.proofs.SameLaws.{told_at}
-use Rattle.pure_verdicts.proofs.OrderedLaws.{IsOneOf, added-from}
-use Rattle.pure_table.specs.There.{MergesOrNot, ContentsMergeOrNot}
-
-some-decl : (d e : Decl) → Some d ≡ Some e → d ≡ e
-some-decl d e h = cc
+use Rattle.pure_verdicts.proofs.OrderedLaws.{added-from}
+use Rattle.pure_verdicts.specs.Closing.{MergesOrNot, ContentsMergeOrNot}
+use Rattle.pure_verdicts.proofs.ConflictLaws.{added-more}
 
 decl_or_not : (d e : Decl) → (d ≡ e) ⊎ ¬ (d ≡ e)
 decl_or_not d e = by (decl_eq d e) refl
   where
     by : (b : Bool) → b ≡ decl_eq d e → (d ≡ e) ⊎ ¬ (d ≡ e)
-    by true t = inl (some-decl d e ((told_at (Some d) d e true refl t).0 refl))
+    by true t = inl (same_Some d e ((told_at (Some d) d e true refl t).0 refl))
     by false t = inr (λ same. let wrong : false ≡ true = (told_at (Some d) d e false refl t).1 (ap Some same) in absurd (cc))
 
 in_decls_or_not : (d : Decl) (ds : List Decl) → IsIn d ds ⊎ ¬ IsIn d ds
@@ -43,26 +42,15 @@ added_there before (d ∷ ds) = elim (in_decls_or_not d before) [
   | inr new ↦ (let w = added_there (before ++ d ∷ []) ds in (w.0, inr (new, w.1)))
 ]
 
-added_has : (before ds after : List Decl) → IsAdded before ds after → (x : Decl) → IsOneOf before ds x → IsIn x after
-added_has before [] after h x m = subst (IsIn x) (sym h) (elim m [ inl n ↦ n | inr none ↦ absurd none ])
-added_has before (d ∷ ds) after (inl h) x m = added_has before ds after h.1 x (elim m [
-  | inl n ↦ inl n
-  | inr n ↦ elim n [ inl same ↦ inl (subst (λ (y : Decl). IsIn y before) (sym same) h.0) | inr later ↦ inr later ]
-])
-added_has before (d ∷ ds) after (inr h) x m = added_has (before ++ d ∷ []) ds after h.1 x (elim m [
-  | inl n ↦ inl (in-append_left x before (d ∷ []) n)
-  | inr n ↦ elim n [ inl same ↦ inl (in-append_right x before (d ∷ []) (inl same)) | inr later ↦ inr later ]
-])
-
 added_union : (before ds after : List Decl) → IsAdded before ds after → IsUnion (algebra_of before) (algebra_of ds) (algebra_of after)
 added_union before ds after h = record {
   classes = λ k. (
     λ m. elim (added-from before ds after h (ClassDecl k) ((declared_classes after k).0 m)) [ inl a ↦ inl ((declared_classes before k).1 a) | inr b ↦ inr ((declared_classes ds k).1 b) ],
-    λ m. (declared_classes after k).1 (added_has before ds after h (ClassDecl k) (elim m [ inl a ↦ inl ((declared_classes before k).0 a) | inr b ↦ inr ((declared_classes ds k).0 b) ])),
+    λ m. (declared_classes after k).1 (added-more before ds after h (ClassDecl k) (elim m [ inl a ↦ inl ((declared_classes before k).0 a) | inr b ↦ inr ((declared_classes ds k).0 b) ])),
   );
   arities = λ k. (
     λ m. elim (added-from before ds after h (ArityDecl k) ((declared_arities after k).0 m)) [ inl a ↦ inl ((declared_arities before k).1 a) | inr b ↦ inr ((declared_arities ds k).1 b) ],
-    λ m. (declared_arities after k).1 (added_has before ds after h (ArityDecl k) (elim m [ inl a ↦ inl ((declared_arities before k).0 a) | inr b ↦ inr ((declared_arities ds k).0 b) ])),
+    λ m. (declared_arities after k).1 (added-more before ds after h (ArityDecl k) (elim m [ inl a ↦ inl ((declared_arities before k).0 a) | inr b ↦ inr ((declared_arities ds k).0 b) ])),
   );
 }
 

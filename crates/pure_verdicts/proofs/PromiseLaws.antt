@@ -13,7 +13,7 @@ use Rattle.pure_declare.specs.Notes.{Note, Fork, Forked}
 use Rattle.pure_declare.specs.Fold.{Declares}
 use Rattle.pure_declare.proofs.BoundLaws.{forks_bound}
 use Rattle.pure_declare.proofs.PromisedLaws.{declares_promises}
-use Rattle.pure_verdicts.specs.Loaded.{IsLoadedSession}
+use Rattle.pure_loaded.specs.Loaded.{IsLoadedSession}
 use Rattle.pure_verdicts.specs.Verdicts.{Verdict, Begins, beginning_over}
 use Rattle.pure_verdicts.specs.Statements.{forks_of, IsRun}
 use Rattle.pure_verdicts.specs.Steps.{command_label}

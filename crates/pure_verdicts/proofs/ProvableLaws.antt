@@ -15,7 +15,7 @@ use Rattle.pure_declare.proofs.TidyDeclared.{forks_tidy}
 use Rattle.pure_loaded.specs.Well.{IsProofScript, HasProofScript}
 use Rattle.pure_method.specs.Outcome as method
 use Rattle.pure_method.specs.Outcome.{IsProvable}
-use Rattle.pure_verdicts.specs.Loaded.{IsLoadedSession}
+use Rattle.pure_loaded.specs.Loaded.{IsLoadedSession}
 use Rattle.pure_verdicts.specs.Steps.{command_label}
 use Rattle.pure_verdicts.specs.Laws.{IsOrderly, ForksProvable}
 use Rattle.pure_verdicts.proofs.TextLaws.{theory-well}

@@ -8,7 +8,7 @@ use Rattle.pure_text.proofs.ListLaws.{in_split, in-append_left, in-append_right}
 use Rattle.pure_logic.specs.Content.{Content}
 use Rattle.pure_graph.specs.Order.{Loaded}
 use Rattle.pure_declare.specs.Notes.{Note, Fork, Forked}
-use Rattle.pure_verdicts.specs.Loaded.{IsLoadedSession}
+use Rattle.pure_loaded.specs.Loaded.{IsLoadedSession}
 use Rattle.pure_verdicts.specs.Verdicts.{Verdict, Barred, Ran, Closes}
 use Rattle.pure_verdicts.specs.Statements.{notes_of, forks_of, AreStatements, IsRun, IsFork}
 use Rattle.pure_verdicts.specs.Laws.{IsSomeFork, StatementsBindForks, StatementsOnce, ForkOnce}

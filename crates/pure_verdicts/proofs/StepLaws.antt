@@ -1,15 +1,13 @@
 -- The steps of a theory's run.
 use Rattle.std.proofs.Common.{◌≡◌, ℕ, suc, List, [], ◌∷◌, ◌++◌, length, append_assoc, append-nil, refl, sym, ap, ◌∙◌, subst, arith}
-use Rattle.std.specs.Prelude.{Some, slice_get}
+use Rattle.std.specs.Prelude.{slice_get}
+use Rattle.std.proofs.lemmas.Option.{same_Some}
 use Rattle.pure_grammar.specs.Theories.TheoryText.{Command}
 use Rattle.pure_graph.specs.Order.{Loaded}
 use Rattle.pure_declare.specs.Fold.{Declares, AreDeclared}
 use Rattle.pure_verdicts.specs.Verdicts.{IsTheoryAt, ran}
 use Rattle.pure_verdicts.specs.Steps.{command_label, RunBegins, RunGoesOn, RunCloses}
 use Rattle.pure_verdicts.proofs.FoldLaws.{declared-append, declared-one}
-
-some-once : (a b : Loaded) → Some a ≡ Some b → a ≡ b
-some-once a b e = cc
 
 place-once : (m n : ℕ) → suc m ≡ suc n → m ≡ n
 place-once m n e = omega (arith, e)
@@ -18,7 +16,7 @@ place-once m n e = omega (arith, e)
 pub theory-once : (theories : List Loaded) (index : ℕ) (a b : Loaded) → IsTheoryAt theories index a → IsTheoryAt theories index b → a ≡ b
 theory-once theories index a b h k =
     let same : h.0 ≡ k.0 = place-once h.0 k.0 (sym h.1 ∙ k.1) in
-    some-once a b (sym h.2 ∙ (ap (λ (p : ℕ). slice_get theories p) same ∙ k.2))
+    same_Some a b (sym h.2 ∙ (ap (λ (p : ℕ). slice_get theories p) same ∙ k.2))
 
 pub run_begins : RunBegins
 run_begins texts theories index theory is_at parents closed first begins = record {

@@ -1,24 +1,17 @@
 -- Texts and theories of a session.
-use Rattle.std.proofs.Common.{◌≡◌, ℕ, zero, suc, List, [], ◌∷◌, sym, ◌∙◌, inl, inr}
-use Rattle.std.specs.Prelude.{Some, slice_get}
-use Rattle.pure_text.specs.Lists.{IsIn}
+use Rattle.std.proofs.Common.{◌≡◌, ℕ, List, [], ◌∷◌, sym, ◌∙◌}
 use Rattle.pure_text.proofs.ListLaws.{each_at}
 use Rattle.pure_typ.specs.NameTexts.{HasText}
 use Rattle.pure_graph.specs.Order.{Loaded}
 use Rattle.pure_loaded.specs.Well.{IsWellLoaded}
-use Rattle.pure_verdicts.specs.Loaded.{IsLoadedSession}
+use Rattle.pure_loaded.specs.Loaded.{IsLoadedSession}
 use Rattle.pure_verdicts.specs.Verdicts.{IsTheoryAt}
+use Rattle.pure_loaded.proofs.FollowingLaws.{at-in}
 
 -- A name has one text at most.
 pub one_text : (texts : List (List ℕ)) (n : ℕ) (a b : List ℕ) → HasText texts n a → HasText texts n b → a ≡ b
 one_text texts n a b h k = let same = sym h ∙ k in cc
 
-pub got-in : {A : Type 0} (xs : List A) (n : ℕ) (x : A) → slice_get xs n ≡ Some x → IsIn x xs
-got-in [] zero x h = absurd (cc)
-got-in [] (suc n) x h = absurd (cc)
-got-in (y ∷ ys) zero x h = inl (cc)
-got-in (y ∷ ys) (suc n) x h = inr (got-in ys n x h)
-
 -- Each theory of the session is well loaded.
 pub theory-well : (texts : List (List ℕ)) (theories : List Loaded) → IsLoadedSession texts theories → (index : ℕ) (theory : Loaded) → IsTheoryAt theories index theory → IsWellLoaded texts theory
-theory-well texts theories session index theory is_at = each_at (IsWellLoaded texts) theories session.well theory (got-in theories is_at.0 theory is_at.2)
+theory-well texts theories session index theory is_at = each_at (IsWellLoaded texts) theories session.well theory (at-in theories is_at.0 theory is_at.2)

@@ -8,7 +8,7 @@ use Rattle.pure_theory.specs.Begin.{MayBegin}
 use Rattle.pure_graph.specs.Order.{Loaded}
 use Rattle.pure_declare.specs.Notes.{Note}
 use Rattle.pure_declare.specs.Premises.{HasNames, HasRanges, IsGiven}
-use Rattle.pure_verdicts.specs.Loaded.{IsLoadedSession}
+use Rattle.pure_loaded.specs.Loaded.{IsLoadedSession}
 use Rattle.pure_verdicts.specs.Verdicts.{Verdict, Ran, IsTheoryAt, AreLast, beginning_over, Closes, AllClose}
 use Rattle.pure_verdicts.specs.Statements.{IsRun}
 use Rattle.pure_verdicts.specs.Steps.{command_label}

@@ -14,7 +14,7 @@ use Rattle.pure_declare.specs.Notes.{Fork, Note}
 use Rattle.pure_declare.specs.Tidy.{IsTidy}
 use Rattle.pure_declare.specs.Good.{IsGood}
 use Rattle.pure_method.specs.Outcome.{IsProvable}
-use Rattle.pure_verdicts.specs.Loaded.{IsLoadedSession}
+use Rattle.pure_loaded.specs.Loaded.{IsLoadedSession}
 use Rattle.pure_verdicts.specs.Verdicts.{Verdict, Closes}
 use Rattle.pure_verdicts.specs.Statements.{forks_of, AreStatements, IsRun, IsFork}
 
@@ -45,6 +45,7 @@ pub record IsStanding (texts : List (List ℕ)) (theories : List Loaded) (f : Fo
   pub run : IsRun texts theories index notes f.content left
   pub above : IsLabelAbove f.content.declarations f.label
 
+-- Each lemma that is bound stands so.
 abbrev pub ForksStand : Type 0
 ForksStand = (texts : List (List ℕ)) (theories : List Loaded) → IsLoadedSession texts theories → (f : Fork) → IsSomeFork texts theories f → IsStanding texts theories f
 
@@ -59,20 +60,23 @@ abbrev pub PromisesAreForks : Type 0
 PromisesAreForks = (texts : List (List ℕ)) (theories : List Loaded) → IsLoadedSession texts theories → (index : ℕ) (notes : List Note) (now : Content) (left : List Command)
     → IsRun texts theories index notes now left → (x : ℕ) (l : Label) (A : Term) → IsIn (PromiseDecl x l A) now.declarations → (f : Fork) × IsSomeFork texts theories f × IsPromiseOf l A now f
 
--- All lemmas of the session are bound somewhere, and their labels ascend.
+-- The lemmas that a session's notes bind are just those that are bound somewhere in it.
 abbrev pub StatementsBindForks : Type 0
 StatementsBindForks = (texts : List (List ℕ)) (theories : List Loaded) → IsLoadedSession texts theories → (notes : List Note) → AreStatements texts theories notes
     → (f : Fork) → (IsIn f (forks_of notes) → IsSomeFork texts theories f) × (IsSomeFork texts theories f → IsIn f (forks_of notes))
 
+-- Their labels ascend.
 abbrev pub LabelsAscend : Type 0
 LabelsAscend = (texts : List (List ℕ)) (theories : List Loaded) → IsLoadedSession texts theories → (notes : List Note) → AreStatements texts theories notes → IsLabelSet (map Fork.label (forks_of notes))
 
--- One thing at most becomes of a theory; there is one list of notes at most; and a theory's lemma after so many others is one.
+-- One thing at most becomes of a theory.
 abbrev pub ClosesOnce : Type 0
 ClosesOnce = (texts : List (List ℕ)) (theories : List Loaded) → IsLoadedSession texts theories → (index : ℕ) (v w : Verdict) → Closes texts theories index v → Closes texts theories index w → v ≡ w
 
+-- There is one list of notes at most.
 abbrev pub StatementsOnce : Type 0
 StatementsOnce = (texts : List (List ℕ)) (theories : List Loaded) → IsLoadedSession texts theories → (notes others : List Note) → AreStatements texts theories notes → AreStatements texts theories others → notes ≡ others
 
+-- A theory's lemma after so many others is one.
 abbrev pub ForkOnce : Type 0
 ForkOnce = (texts : List (List ℕ)) (theories : List Loaded) → IsLoadedSession texts theories → (index before : ℕ) (f g : Fork) → IsFork texts theories index before f → IsFork texts theories index before g → f ≡ g

@@ -13,13 +13,13 @@ abbrev pub notes_of : Verdict → List Note
 notes_of (Barred row) = Said row ∷ []
 notes_of (Ran notes last) = notes
 
--- the lemmas that are bound, in order
+-- the lemmas that are bound by these notes, in order
 abbrev pub forks_of : List Note → List Fork
 forks_of [] = []
 forks_of (Said row ∷ notes) = forks_of notes
 forks_of (Forked fork ∷ notes) = fork ∷ forks_of notes
 
--- These became of the first theories of the session, in load order.
+-- These became of the first theories of the session, as many as there are, in load order.
 abbrev pub AreVerdicts : (texts : List (List ℕ)) → (theories : List Loaded) → List Verdict → Type 0
 AreVerdicts texts theories verdicts = (place : ℕ) (v : Verdict) → slice_get verdicts place ≡ Some v → Closes texts theories (suc place) v
 
@@ -42,7 +42,7 @@ pub record IsRun (texts : List (List ℕ)) (theories : List Loaded) (index : ℕ
   pub commands : theory.text.commands ≡ done ++ left
   pub declared : AreDeclared texts theory.source index 0 first done notes now
 
--- After some others the theory with this index binds this lemma.
+-- After so many others the theory with this index binds this lemma.
 pub record IsFork (texts : List (List ℕ)) (theories : List Loaded) (index others : ℕ) (fork : Fork) : Type 0 where
   pub notes : List Note
   pub now : Content

@@ -25,6 +25,7 @@ pub data Verdict : Type 0 where
 abbrev pub IsTheoryAt : (theories : List Loaded) → (index : ℕ) → Loaded → Type 0
 IsTheoryAt theories index theory = (place : ℕ) × (index ≡ suc place) × (slice_get theories place ≡ Some theory)
 
+-- the word before the name of a theory in a row
 unfoldable pub theory_word : List ℕ
 theory_word = codes "theory "
 
@@ -47,7 +48,7 @@ abbrev pub beginning_over : List Content → List Content
 beginning_over [] = pure_content ∷ []
 beginning_over (Q ∷ Qs) = Q ∷ Qs
 
--- With this content the theory of the session with this index begins, where this became of its parents: over their last contents, under the name that has its text.
+-- The theory of the session with this index begins with this content, where this became of its parents: all of them ran; over their last contents, or Pure's where it has no parents, it may begin under the name that has its text; and this is the content with which it then begins.
 pub record Begins (texts : List (List ℕ)) (index : ℕ) (theory : Loaded) (parents : List Verdict) (first : Content) : Type 0 where
   pub contents : List Content
   pub last : AreLast parents contents

@@ -1,5 +1,6 @@
 //! What the definitions mean: laws, each carried by the contract of a function that does nothing.
 ghost use Rattle.pure_verdicts.specs.Laws.{ClosesOnce, ForkOnce, ForksProvable, ForksStand, LabelsAscend, PromisesAreForks, RunsOrderly, StatementsBindForks, StatementsOnce};
+ghost use Rattle.pure_verdicts.specs.Closing.{ContentsMergeOrNot, TheoryCloses};
 ghost use Rattle.pure_verdicts.specs.Given.{RunsClose, RunsGive, TheoriesMayBegin};
 ghost use Rattle.pure_verdicts.specs.Steps.{RunBegins, RunCloses, RunGoesOn};
 
@@ -38,7 +39,7 @@ pub fn promises_are_forks()
     ensures { PromisesAreForks }
 {}
 
-/// All lemmas of the session are bound somewhere.
+/// The lemmas that a session's notes bind are just those that are bound somewhere in it.
 pub fn statements_bind_forks()
     ensures { StatementsBindForks }
 {}
@@ -76,4 +77,14 @@ pub fn runs_close()
 /// A theory of the session whose parents ran may begin over their last contents.
 pub fn theories_may_begin()
     ensures { TheoriesMayBegin }
+{}
+
+/// Contents merge, one after the other, or one of them is the first in conflict.
+pub fn contents_merge_or_not()
+    ensures { ContentsMergeOrNot }
+{}
+
+/// A theory whose parents have closed closes too.
+pub fn theory_closes()
+    ensures { TheoryCloses }
 {}

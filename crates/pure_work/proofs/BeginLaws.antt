@@ -14,7 +14,7 @@ use Rattle.pure_print.specs.declared.row.Row.{Row}
 use Rattle.pure_graph.specs.Order.{Loaded}
 use Rattle.pure_graph.specs.Session.{parent_refused_text}
 use Rattle.pure_verdicts.specs.Verdicts.{IsTheoryAt, AreLast, Begins, by_parent, not_coregular, beginning_over, refused_theory}
-use Rattle.pure_verdicts.specs.Loaded.{IsLoadedSession}
+use Rattle.pure_loaded.specs.Loaded.{IsLoadedSession}
 use Rattle.pure_verdicts.proofs.StepLaws.{run_begins}
 use Rattle.pure_verdicts.proofs.OwnerLaws.{theories_may_begin}
 use Rattle.pure_work.specs.Outline.{Outline, lasts}

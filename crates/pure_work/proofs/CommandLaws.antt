@@ -10,7 +10,7 @@ use Rattle.pure_print.specs.declared.row.Row.{Row}
 use Rattle.pure_graph.specs.Order.{Loaded}
 use Rattle.pure_declare.specs.Notes.{Note, Said, Forked}
 use Rattle.pure_declare.specs.Fold.{Declares}
-use Rattle.pure_verdicts.specs.Loaded.{IsLoadedSession}
+use Rattle.pure_loaded.specs.Loaded.{IsLoadedSession}
 use Rattle.pure_verdicts.specs.Given.{IsNextGiven}
 use Rattle.pure_verdicts.specs.Verdicts.{IsTheoryAt, barred}
 use Rattle.pure_verdicts.specs.Verdicts as verdicts
@@ -20,7 +20,7 @@ use Rattle.pure_verdicts.proofs.FoldLaws.{declared-count}
 use Rattle.pure_verdicts.proofs.StepLaws.{theory-once, run_goes_on, run_closes}
 use Rattle.pure_verdicts.proofs.OwnLaws.{runs_give}
 use Rattle.pure_work.specs.Outline.{Barred, Ran, row_of}
-use Rattle.pure_work.specs.Runs.{IsBarredBy, IsUnderWay, IsGoing, IsStandingOf, IsRunOf, turns_left}
+use Rattle.pure_work.specs.Runs.{IsBarredBy, IsUnderWay, IsGoing, IsStandingOf, IsRunOf, left_of}
 use Rattle.pure_work.specs.Turns.{ClosesWith, IsGoingTurn, IsTurn, turn_of}
 use Rattle.pure_work.specs.declared.run.Going.{Going}
 use Rattle.pure_work.specs.declared.run.Standing.{Standing}
@@ -107,12 +107,15 @@ module _ (texts : List (List ℕ)) (theories : List Loaded) (index : ℕ) (T : L
       → IsGoingTurn texts theories index notes old new turn
   turn-last notes old new going none turn e =
       let no_more : going.way.commands ≡ [] = none-is going.way.commands (sym (left-at texts theories index T notes old.now.value going.way.commands at going.way.run) ∙ held-notes notes old None going none) in
-      rw e (record {
-        verdict = verdicts.Ran notes old.now.value;
-        closes = run_closes texts theories index notes old.now.value (subst (λ (cs : List Command). IsRun texts theories index notes old.now.value cs) no_more going.way.run);
-        value_is = ap (λ (rs : List (Option Row)). Ran rs old.now.value) going.rows;
-        forks = refl;
-      })
+      rw e (
+        going.way.count ∙ ap length no_more,
+        record {
+          verdict = verdicts.Ran notes old.now.value;
+          closes = run_closes texts theories index notes old.now.value (subst (λ (cs : List Command). IsRun texts theories index notes old.now.value cs) no_more going.way.run);
+          value_is = ap (λ (rs : List (Option Row)). Ran rs old.now.value) going.rows;
+          forks = refl;
+        },
+      )
 
 -- A theory that was refused when it began closes.
 closes-barred : (texts : List (List ℕ)) (theories : List Loaded) (index : ℕ) (notes : List Note) (row : Row) → notes ≡ [] → IsBarredBy texts theories index row → ClosesWith texts theories index notes (Barred row)
@@ -127,21 +130,7 @@ module _ (texts : List (List ℕ)) (theories : List Loaded) (index : ℕ) (notes
   pub turn-barred : (row : Row) (turn : Turn) → old.standing ≡ code.Barred row → turn ≡ turns.Closed (Barred row) → IsRunOf texts theories index notes old → IsTurn texts theories index notes old new turn
   turn-barred row turn stands e run =
       let b : IsStandingOf texts theories index notes (code.Barred row) = subst (λ (s : Standing). IsStandingOf texts theories index notes s) stands run.standing in
-      rw e (closes-barred texts theories index notes row b.0 b.1)
-
-  pub run-going : (g : Going) → old.standing ≡ code.Going g → IsRunOf texts theories index notes old → IsGoing texts theories index notes g
-  run-going g stands run = subst (λ (s : Standing). IsStandingOf texts theories index notes s) stands run.standing
-
-  going-run : (more : List Note) (g : Going) → new.standing ≡ code.Going g → new.index ≡ index → IsGoing texts theories index more g → IsRunOf texts theories index more new
-  going-run more g stands same going = record { index_is = same; standing = subst (λ (s : Standing). IsStandingOf texts theories index more s) (sym stands) going }
-
-  fewer-left : (g g' : Going) → old.standing ≡ code.Going g → new.standing ≡ code.Going g' → g'.left < g.left → turns_left new < turns_left old
-  fewer-left g g' was is fewer = rw (was, is) fewer
-
-  pub turn-going : (g g' : Going) (turn : Turn) → old.standing ≡ code.Going g → new.standing ≡ code.Going g' → new.index ≡ index → IsGoingTurn texts theories index notes g g' turn → IsTurn texts theories index notes old new turn
-  turn-going g g' turns.Declared was is same h = (h.0, going-run (notes ++ Said h.0 ∷ []) g' is same h.1, fewer-left g g' was is h.2)
-  turn-going g g' (turns.Forked goal) was is same h = (going-run (notes ++ Forked goal ∷ []) g' is same h.0, fewer-left g g' was is h.1)
-  turn-going g g' (turns.Closed value) was is same h = h
+      rw e (ap left_of stands, closes-barred texts theories index notes row b.0 b.1)
 
 -- Turns as calls answer them.
 pub turn-made : (texts : List (List ℕ)) (theories : List Loaded) (index : ℕ) (T : Loaded) → IsTheoryAt theories index T → (old new : Going) (command : Command) (note : Note) (next : Content) (n : ℕ)
@@ -161,15 +150,3 @@ pub barred-made : (texts : List (List ℕ)) (theories : List Loaded) (old new : 
     → IfOk r (λ turn. (index : ℕ) (notes : List Note) → IsRunOf texts theories index notes old → IsTurn texts theories index notes old new turn)
 barred-made texts theories old new row stands (Ok turn) e = λ index notes run. turn-barred texts theories index notes old new row turn stands e run
 barred-made texts theories old new row stands (Err e) h = h
-
-pub going-made : (texts : List (List ℕ)) (theories : List Loaded) (old new : Run) (g g' : Going) → old.standing ≡ code.Going g → new.standing ≡ code.Going g' → new.index ≡ old.index → (r : Result Turn AllocError)
-    → IfOk r (λ turn. (notes : List Note) → IsGoing texts theories old.index notes g → IsGoingTurn texts theories old.index notes g g' turn)
-    → IfOk r (λ turn. (index : ℕ) (notes : List Note) → IsRunOf texts theories index notes old → IsTurn texts theories index notes old new turn)
-going-made texts theories old new g g' was is same (Ok turn) h = λ index notes run.
-    (let going = run-going texts theories index notes old new g was run in
-    let here : IsGoing texts theories old.index notes g = subst (λ (i : ℕ). IsGoing texts theories i notes g) (sym run.index_is) going in
-    turn-going texts theories index notes old new g g' turn was is (same ∙ run.index_is) (subst (λ (i : ℕ). IsGoingTurn texts theories i notes g g' turn) run.index_is (h notes here)))
-going-made texts theories old new g g' was is same (Err e) h = h
-
-pub going-some : (texts : List (List ℕ)) (theories : List Loaded) (old : Run) (g : Going) → old.standing ≡ code.Going g → ((index : ℕ) × (notes : List Note) × IsRunOf texts theories index notes old) → (notes : List Note) × IsGoing texts theories old.index notes g
-going-some texts theories old g was h = (h.1, subst (λ (i : ℕ). IsGoing texts theories i h.1 g) (sym h.2.index_is) (run-going texts theories h.0 h.1 old old g was h.2))

@@ -1,5 +1,5 @@
 pub mod PlaceLaws
-pub mod ConditionLaws
+pub mod ItemLaws
 pub mod OutlineLaws
 pub mod BeginLaws
 pub mod CommandLaws

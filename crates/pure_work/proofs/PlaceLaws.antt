@@ -10,7 +10,7 @@ use Rattle.pure_script.specs.Seen.{seen_command}
 use Rattle.pure_graph.specs.Order.{Loaded}
 use Rattle.pure_session.specs.declared.order.Loaded as code
 use Rattle.pure_session.specs.Waiting.{seen_loaded, all_loaded}
-use Rattle.pure_verdicts.specs.Loaded.{IsLoadedSession}
+use Rattle.pure_loaded.specs.Loaded.{IsLoadedSession}
 use Rattle.pure_verdicts.specs.Verdicts.{IsTheoryAt}
 use Rattle.pure_verdicts.proofs.TextLaws.{theory-well}
 

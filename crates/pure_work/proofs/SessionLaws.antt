@@ -25,11 +25,7 @@ use Rattle.pure_work.specs.Sessions.{IsTaken, RanOut, HaveClosed, AreSaid}
 use Rattle.pure_work.specs.declared.run.Run.{Run}
 use Rattle.pure_work.specs.declared.run.Turn.{Turn}
 use Rattle.pure_work.specs.declared.run.Turn.TheVariants as turns
-
-pub forks-append : (ns ms : List Note) → forks_of (ns ++ ms) ≡ forks_of ns ++ forks_of ms
-forks-append [] ms = refl
-forks-append (Said row ∷ ns) ms = forks-append ns ms
-forks-append (Forked f ∷ ns) ms = ap (λ (fs : List Fork). f ∷ fs) (forks-append ns ms)
+use Rattle.pure_verdicts.proofs.NoteLaws.{forks-append}
 
 -- Turns that are taken.
 module _ (texts : List (List ℕ)) (theories : List Loaded) (index : ℕ) (notes : List Note) (old new : Run) (before after : List Fork) where
@@ -44,7 +40,9 @@ module _ (texts : List (List ℕ)) (theories : List Loaded) (index : ℕ) (notes
       (Forked goal, record { run = t.0; fewer = t.1 }, more)
 
   pub taken-closed : (turn : Turn) (value : Outline) → turn ≡ turns.Closed value → after ≡ before → IsTurn texts theories index notes old new turn → IsTaken texts theories index notes old new before after (Some value)
-  taken-closed turn value e same h = (subst (λ (x : Turn). IsTurn texts theories index notes old new x) e h, same)
+  taken-closed turn value e same h =
+      let t : IsTurn texts theories index notes old new (turns.Closed value) = subst (λ (x : Turn). IsTurn texts theories index notes old new x) e h in
+      (t.1, same)
 
 -- A run from its first turn on, with the lemmas so far behind those that were there.
 pub record IsOnTheWay (texts : List (List ℕ)) (theories : List Loaded) (index : ℕ) (start now : List Fork) (run : Run) : Type 0 where
@@ -53,9 +51,6 @@ pub record IsOnTheWay (texts : List (List ℕ)) (theories : List Loaded) (index 
   pub forks : now ≡ start ++ forks_of notes
 
 module _ (texts : List (List ℕ)) (theories : List Loaded) (index : ℕ) (start : List Fork) where
-  pub way-first : (run : Run) → IsRunOf texts theories index [] run → IsOnTheWay texts theories index start start run
-  way-first run h = record { notes = []; is_run = h; forks = sym (append-nil start) }
-
   pub way-on : (old new : Run) (before after : List Fork) (w : IsOnTheWay texts theories index start before old) (o : Option Outline) → o ≡ None → IsTaken texts theories index w.notes old new before after o → IsOnTheWay texts theories index start after new
   way-on old new before after w o e h =
       let t : IsTaken texts theories index w.notes old new before after None = subst (λ (x : Option Outline). IsTaken texts theories index w.notes old new before after x) e h in
@@ -116,12 +111,6 @@ get-snoc (z ∷ zs) x zero y e = inl e
 get-snoc (z ∷ zs) x (suc place) y e = elim (get-snoc zs x place y e) [ inl h ↦ inl h | inr h ↦ inr (ap suc h.0, h.1) ]
 
 -- No theory has closed yet, and one more has.
-pub closed-none : (texts : List (List ℕ)) (theories : List Loaded) (values : List Outline) (forks : List Fork) → values ≡ [] → forks ≡ [] → HaveClosed texts theories values forks
-closed-none texts theories values forks v f = record { verdicts = []; are = λ place w e. absurd (nowhere place w e); values_are = v; forks_are = f }
-  where
-    nowhere : (place : ℕ) (w : Verdict) → slice_get [] place ≡ Some w → ⊥
-    nowhere place w e = cc
-
 pub closed-more : (texts : List (List ℕ)) (theories : List Loaded) (values more : List Outline) (forks forks' : List Fork) (value : Outline) → HaveClosed texts theories values forks → RanOut texts theories (suc (length values)) forks forks' value
     → more ≡ values ++ value ∷ [] → HaveClosed texts theories more forks'
 closed-more texts theories values more forks forks' value h r longer = record {

@@ -17,6 +17,7 @@ abbrev pub row_of : Note → Option Row
 row_of (Said row) = Some row
 row_of (Forked fork) = None
 
+-- the rows that notes are, in order
 abbrev pub rows_of : List Note → List (Option Row)
 rows_of = map row_of
 
@@ -29,6 +30,7 @@ outline (verdicts.Ran notes last) = Ran (rows_of notes) last
 abbrev pub outlines : List (Arc Outline Global) → List Outline
 outlines = map (λ p. p.value)
 
+-- whether the theory was refused when it began
 abbrev pub is_barred : Outline → Bool
 is_barred (Barred row) = true
 is_barred (Ran rows last) = false

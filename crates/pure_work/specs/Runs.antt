@@ -27,11 +27,12 @@ pub record IsUnderWay (texts : List (List ℕ)) (theories : List Loaded) (index 
   pub run : IsRun texts theories index notes now commands
   pub count : left ≡ length commands
 
--- and the program holds so
+-- The theory with this index has run up to here, and the program holds the content and the rows of its notes.
 pub record IsGoing (texts : List (List ℕ)) (theories : List Loaded) (index : ℕ) (notes : List Note) (going : Going) : Type 0 where
   pub way : IsUnderWay texts theories index notes going.now.value going.left
   pub rows : going.rows.items ≡ rows_of notes
 
+-- The theory with this index was refused when it began, without notes, or it has run up to here.
 abbrev pub IsStandingOf : (texts : List (List ℕ)) → (theories : List Loaded) → (index : ℕ) → (notes : List Note) → Standing → Type 0
 IsStandingOf texts theories index notes (code.Barred row) = (notes ≡ []) × IsBarredBy texts theories index row
 IsStandingOf texts theories index notes (code.Going going) = IsGoing texts theories index notes going
@@ -46,5 +47,6 @@ abbrev pub left_of : Standing → ℕ
 left_of (code.Barred row) = 0
 left_of (code.Going going) = going.left
 
+-- the same of a run as the program holds it
 abbrev pub turns_left : Run → ℕ
 turns_left run = left_of run.standing

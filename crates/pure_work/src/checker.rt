@@ -4,7 +4,7 @@ ghost use Rattle.pure_typ.specs.NameTexts.{AreSessionTexts};
 ghost use Rattle.pure_logic.specs.PureContent.{pure_content};
 ghost use Rattle.pure_graph.specs.Order as order;
 ghost use Rattle.pure_session.specs.Waiting.{seen_loaded, all_loaded};
-ghost use Rattle.pure_verdicts.specs.Loaded.{IsLoadedSession};
+ghost use Rattle.pure_loaded.specs.Loaded.{IsLoadedSession};
 ghost use Rattle.pure_verdicts.specs.Verdicts.{IsTheoryAt};
 
 use pure_session::Loaded;
@@ -30,7 +30,7 @@ impl Model for Checker {
     ghost use Rattle.pure_work.specs.CheckedCodes.{coded_checked};
     ghost use Rattle.pure_logic.specs.PureContent.{pure_content};
     ghost use Rattle.pure_session.specs.Waiting.{all_loaded};
-    ghost use Rattle.pure_verdicts.specs.Loaded.{IsLoadedSession};
+    ghost use Rattle.pure_loaded.specs.Loaded.{IsLoadedSession};
 
     ghost Value = { Checked };
 

@@ -5,7 +5,7 @@ mod begin;
 mod checker;
 mod closed;
 mod command;
-mod conditions;
+mod numbers;
 mod parents;
 mod refused;
 mod run;

@@ -8,7 +8,7 @@ ghost use Rattle.pure_work.specs.Sessions.{IsTaken, RanOut, HaveClosed, AreSaid}
 
 use crate::checker::Checker;
 use crate::closed::Closed;
-use crate::conditions::index_behind;
+use crate::numbers::index_behind;
 use crate::parents::all_left_by;
 use crate::run::{Run, Turn};
 use pure_declare::Duty;

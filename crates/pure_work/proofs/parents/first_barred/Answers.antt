@@ -1,7 +1,7 @@
 use Rattle.std.proofs.Common.{◌≡◌, ◌∙◌, false, ap, sym}
 use Rattle.pure_stage.proofs.GetLaws.{each_turn_at}
 use Rattle.pure_work.specs.Outline.{outlines, is_barred}
-use Rattle.pure_work.proofs.ConditionLaws.{outline-at}
+use Rattle.pure_work.proofs.ItemLaws.{outline-at}
 use Rattle.pure_work.proofs.parents.first_barred.Goals as goal
 
 pub loop-place-preserved : goal.loop-place-preserved

@@ -2,7 +2,7 @@ use Rattle.std.proofs.Common.{◌∙◌, ◌++◌, List, ap, sym}
 use Rattle.std.specs.Option.{option_to_list}
 use Rattle.pure_logic.specs.Content.{Content}
 use Rattle.pure_work.specs.Outline.{outlines, last_of}
-use Rattle.pure_work.proofs.ConditionLaws.{outline-at}
+use Rattle.pure_work.proofs.ItemLaws.{outline-at}
 use Rattle.pure_work.proofs.OutlineLaws.{lasts-turn}
 use Rattle.pure_work.proofs.parents.last_stages.Goals as goal
 

@@ -1,5 +1,5 @@
 use Rattle.std.proofs.Common.{arith, ◌-◌, ◌<◌, length}
-use Rattle.pure_work.proofs.ConditionLaws.{left-found}
+use Rattle.pure_work.proofs.ItemLaws.{left-found}
 use Rattle.pure_work.proofs.parents.left_by.Goals as goal
 
 pub returns : goal.returns

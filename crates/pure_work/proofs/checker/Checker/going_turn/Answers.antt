@@ -1,6 +1,6 @@
 use Rattle.std.proofs.Common.{◌≡◌, length, arith}
 use Rattle.pure_session.specs.Waiting.{seen_loaded}
-use Rattle.pure_work.proofs.ConditionLaws.{command-here, no-command}
+use Rattle.pure_work.proofs.ItemLaws.{command-here, no-command}
 use Rattle.pure_work.proofs.CommandLaws.{last-made}
 use Rattle.pure_work.proofs.checker.Checker.going_turn.Goals as goal
 
