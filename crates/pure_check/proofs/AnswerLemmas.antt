@@ -1,11 +1,9 @@
 -- From the table of a session to what the files and the words mean, and what was written of it.
-use Rattle.std.proofs.Common.{◌≡◌, ◌≤◌, inl, inr, ℕ, Bool, false, List, [], ◌∷◌, map, refl, sym, ◌∙◌, ap, subst, arith, Option, Some, None}
-use Rattle.std.specs.Option.{IfSome}
-use Rattle.std.specs.List.{list_all, filter_map}
-use Rattle.pure_text.specs.Lists.{IsIn, Each, EachTwo}
+use Rattle.std.proofs.Common.{◌≡◌, ℕ, false, List, [], ◌∷◌, map, refl, sym, subst, Option, Some, None}
+use Rattle.std.specs.List.{filter_map}
+use Rattle.pure_text.specs.Lists.{Each, EachTwo}
 use Rattle.pure_io.specs.declared.library.File as library
-use Rattle.pure_io.specs.Outside.{Appends, AppendsProperPrefix}
-use Rattle.pure_graph.specs.Session.{Session, Refusal, Shown, shown, IsSessionOf}
+use Rattle.pure_graph.specs.Session.{Session, Shown}
 use Rattle.pure_graph.specs.SessionNames.{AreNames}
 use Rattle.pure_graph.specs.Order.{Loaded}
 use Rattle.pure_session.specs.ToldTheories.{AreTheoriesOf}
@@ -13,38 +11,21 @@ use Rattle.pure_typ.specs.NameTexts.{AreSessionTexts}
 use Rattle.pure_declare.specs.Notes.{Fork}
 use Rattle.pure_method.specs.Proof.{ProofOutcome}
 use Rattle.pure_promise.specs.Entries.{Entry}
-use Rattle.pure_verdicts.specs.Loaded.{IsLoadedSession}
+use Rattle.pure_loaded.specs.Loaded.{IsLoadedSession}
 use Rattle.pure_verdicts.specs.Statements.{forks_of}
-use Rattle.pure_table.specs.Table.{Table, IsOwn, IsEntryOf, IsTable, table_rows, session_text}
+use Rattle.pure_table.specs.Table.{Table, IsOwn, IsEntryOf, IsTable}
 use Rattle.pure_check.specs.declared.status.Status.{Status}
 use Rattle.pure_check.specs.declared.status.Status.TheVariants.{Clean, Rows, Usage, ReadFault, WriteFault, Memory}
 use Rattle.pure_check.specs.Asked.{Asked, AreTaken}
 use Rattle.pure_check.specs.Policy.{Lot, is_gone, lot_of}
-use Rattle.pure_check.specs.Meaning.{IsToldSession, cancelled_of, label_if_gone, gone_label, IsMeant, is_good}
-use Rattle.pure_check.specs.Formed.{IsFormed, IsTableOf}
-use Rattle.pure_check.specs.Answer.{Printed, CutShort, Wrote}
+use Rattle.pure_check.specs.Meaning.{IsToldSession, label_if_gone, gone_label, IsMeant}
+use Rattle.pure_check.specs.Formed.{IsTableOf}
+use Rattle.pure_check.specs.Answer.{Wrote}
 use Rattle.pure_loaded.proofs.OrderLaws.{loaded-in-order}
 use Rattle.pure_loaded.proofs.WellLaws.{loaded-well}
 use Rattle.pure_table.proofs.DerivedLaws.{table_is_derived}
 use Rattle.pure_check.proofs.PolicyLaws.{nothing_heeded}
 use Rattle.pure_check.proofs.WordsLaws.{job_has_worker}
-
-pub printed_by : (S : Session) (text bytes : List ℕ) (clean told : Bool) (old new : Option (List ℕ)) → IsFormed S text clean → clean ≡ told → bytes ≡ text → Appends old new bytes → Printed (IsTableOf S) told old new
-printed_by S text bytes clean told old new formed is same appended = record {
-  session = S;
-  table = formed.table;
-  meaning = (refl, formed.is_table);
-  clean_is = formed.clean_is ∙ is;
-  written = subst (Appends old new) (same ∙ formed.text_is) appended;
-}
-
-pub cut_short_by : (S : Session) (text bytes : List ℕ) (clean : Bool) (old new : Option (List ℕ)) → IsFormed S text clean → bytes ≡ text → AppendsProperPrefix old new bytes → CutShort (IsTableOf S) old new
-cut_short_by S text bytes clean old new formed same appended = record {
-  session = S;
-  table = formed.table;
-  meaning = (refl, formed.is_table);
-  written = subst (AppendsProperPrefix old new) (same ∙ formed.text_is) appended;
-}
 
 pub Wrote-weaker : (status : Status) (P Q : Session → Table → Type 0) (old new : Option (List ℕ)) → ((S : Session) (t : Table) → P S t → Q S t) → Wrote status P old new → Wrote status Q old new
 Wrote-weaker Clean P Q old new weaker w = record { session = w.session; table = w.table; meaning = weaker w.session w.table w.meaning; clean_is = w.clean_is; written = w.written }
@@ -81,7 +62,7 @@ meant_by told words asked taken S session loaded t is =
       taken = taken;
       session = session;
       table = subst (λ K. IsTable S K t) (sym kept.1) is;
-      heeded = nothing_heeded S.theories asked (map lot_of t.entries) taken.slow taken.kept (job_has_worker words asked.workers asked.fail_fast asked.cancels taken.job) kept.0;
+      heeded = nothing_heeded S.theories asked (map lot_of t.entries) taken.no_fail_fast taken.no_cancels (job_has_worker words asked.workers asked.fail_fast asked.cancels taken.job) kept.0;
       derived = table_is_derived S loaded [] t is;
     }
 

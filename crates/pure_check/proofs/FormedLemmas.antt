@@ -11,11 +11,11 @@ use Rattle.pure_print.specs.RowText.{table_text}
 use Rattle.pure_declare.specs.Notes.{Fork}
 use Rattle.pure_method.specs.Outcome.{IsProvable}
 use Rattle.pure_promise.specs.Entries.{Entry, plain}
-use Rattle.pure_verdicts.specs.Loaded.{IsLoadedSession}
+use Rattle.pure_loaded.specs.Loaded.{IsLoadedSession}
 use Rattle.pure_work.specs.Checked.{Checked}
 use Rattle.pure_work.specs.Outline.{Outline}
 use Rattle.pure_work.specs.Sessions.{AreSaid}
-use Rattle.pure_table.specs.Table.{IsEntryOf, IsTable, table_rows, session_text}
+use Rattle.pure_table.specs.Table.{IsEntryOf}
 use Rattle.pure_table.specs.Printed.{Parts, ArePartsOf, AreTableRows}
 use Rattle.pure_table.proofs.PrintedLaws.{said_are_statements, said_are_parts}
 use Rattle.pure_table.proofs.DerivedLaws.{lemmas_provable, table_has_fates}

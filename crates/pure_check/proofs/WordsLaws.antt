@@ -1,5 +1,5 @@
 -- A check has one worker at least, and words that ask for one that is taken are read so.
-use Rattle.std.proofs.Common.{◌≡◌, ◌≤◌, ◌⊎◌, inl, inr, ℕ, Bool, true, false, List, [], ◌∷◌, Option, Some, None, refl, sym, ap, ◌∙◌, subst, true≢false, arith}
+use Rattle.std.proofs.Common.{◌≡◌, ◌≤◌, ℕ, Bool, true, false, List, [], ◌∷◌, Option, Some, None, refl, subst, arith}
 use Rattle.std.proofs.lemmas.Bool.Decides.{nat_tests}
 use Rattle.std.specs.Prelude.{nat_le, codes, ◌&&◌, if◌then◌else◌}
 use Rattle.pure_grammar.specs.Theories.Lexeme.{same}
@@ -7,7 +7,7 @@ use Rattle.pure_words.specs.Values.{number_of, within}
 use Rattle.pure_words.specs.Words.{IsJob, IsCommand, Item, no_given, given_by}
 use Rattle.pure_words.specs.Commands.{workers_of, fail_fast_of, cancels_of, checked, generated, check_of, generate_of, size_of, job_of, is_none}
 use Rattle.pure_words.proofs.Readings.{one_reading}
-use Rattle.pure_check.specs.Asked.{Asked, AreTaken, IsCheck}
+use Rattle.pure_check.specs.Asked.{AreTaken, IsCheck}
 use Rattle.pure_words.specs.declared.job.CancelWord.{CancelWord}
 use Rattle.pure_words.specs.declared.job.Job.{Job}
 use Rattle.pure_words.specs.declared.job.Job.TheVariants.{Check, Generate}
@@ -87,7 +87,7 @@ IsSlow (Generate workers start theories lemmas) = ⊥
 
 -- What words that ask for a check that is taken are read as.
 pub check_is_slow : (words : List (List ℕ)) → IsCheck words → (job : Job) → IsJob words job → IsSlow job
-check_is_slow words (asked, taken) job is = subst IsSlow (one_reading words (Check asked.workers asked.fail_fast asked.cancels) job taken.job is) (taken.slow, taken.kept)
+check_is_slow words (asked, taken) job is = subst IsSlow (one_reading words (Check asked.workers asked.fail_fast asked.cancels) job taken.job is) (taken.no_fail_fast, taken.no_cancels)
 
 pub no_job : (words : List (List ℕ)) → ((job : Job) → IsJob words job → ⊥) → IsCheck words → ⊥
 no_job words none_is (asked, taken) = none_is (Check asked.workers asked.fail_fast asked.cancels) taken.job
@@ -96,6 +96,6 @@ pub taken_by : (words : List (List ℕ)) (workers : ℕ) (fail_fast : Bool) (can
     → AreTaken words (record { workers = workers; fail_fast = false; cancels = [] })
 taken_by words workers fail_fast cancels is (slow, kept) = record {
   job = subst (λ f. IsJob words (Check workers f [])) slow (subst (λ cs. IsJob words (Check workers fail_fast cs)) kept is);
-  slow = refl;
-  kept = refl;
+  no_fail_fast = refl;
+  no_cancels = refl;
 }

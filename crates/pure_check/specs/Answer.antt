@@ -32,7 +32,7 @@ Wrote Usage IsMeaning old new = new ≡ old
 Wrote ReadFault IsMeaning old new = new ≡ old
 Wrote Memory IsMeaning old new = new ≡ old
 
--- the words asked for no check that is taken, or memory ran out before they were read
+-- the status says that the words ask for no check that is taken, or that memory ran out
 abbrev pub IsUntaken : Status → Type 0
 IsUntaken status = (status ≡ Usage) ⊎ (status ≡ Memory)
 

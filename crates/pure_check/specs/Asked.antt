@@ -13,8 +13,8 @@ pub record Asked : Type 0 where
 -- The words ask for a check, and are taken: until cancellation is built, those that ask for none.
 pub record AreTaken (words : List (List ℕ)) (asked : Asked) : Type 0 where
   pub job : IsJob words (Check asked.workers asked.fail_fast asked.cancels)
-  pub slow : asked.fail_fast ≡ false
-  pub kept : asked.cancels ≡ []
+  pub no_fail_fast : asked.fail_fast ≡ false
+  pub no_cancels : asked.cancels ≡ []
 
 -- Some check is asked for that is taken.
 abbrev pub IsCheck : List (List ℕ) → Type 0

@@ -26,11 +26,12 @@ pub record IsToldSession (told : Option (List library.File)) (S : Session) : Typ
   pub tells_answers : IfSome told (λ files. answers ≡ map (answer_in files) theories)
   pub session : IsSessionOf answers S
 
--- the label of a lemma that is cancelled
+-- the label, where the lemma is cancelled
 abbrev pub label_if_gone : Label → Option ProofOutcome → Option Label
 label_if_gone label None = Some label
 label_if_gone label (Some outcome) = None
 
+-- the label of an entry whose lemma is cancelled
 abbrev pub gone_label : Entry → Option Label
 gone_label e = label_if_gone e.label e.own
 
@@ -57,5 +58,6 @@ is_good_status Tainted = false
 is_good_status Cancelled = false
 is_good_status Unsettled = false
 
+-- whether the row is declared or proved
 abbrev pub is_good : Row → Bool
 is_good row = is_good_status row.status

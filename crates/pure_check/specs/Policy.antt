@@ -1,5 +1,5 @@
 -- Which lemmas may be cancelled: a condition on the words, the theories and the table, without any history.
-use Rattle.std.specs.Prelude.{◌≡◌, ℕ, ◌<◌, ◌≤◌, suc, zero, Bool, true, false, IsTrue, not, ◌&&◌, ◌||◌, List, [], ◌∷◌, ◌++◌, map, codes, Option, Some, None, Ok, Err, nat_le, nat_eq, slice_get}
+use Rattle.std.specs.Prelude.{◌≡◌, ℕ, ◌<◌, ◌≤◌, suc, zero, Bool, true, false, IsTrue, not, ◌&&◌, ◌||◌, List, [], ◌∷◌, ◌++◌, codes, Option, Some, None, Ok, Err, nat_le, nat_eq, slice_get}
 use Rattle.std.specs.List.{list_any, count_by}
 use Rattle.pure_text.specs.Lists.{Each}
 use Rattle.pure_grammar.specs.Theories.Lexeme.{same}
@@ -15,18 +15,22 @@ pub record Lot : Type 0 where
   pub gone : Bool
   pub fault : Bool
 
+-- whether the lemma is cancelled, by what became of it
 abbrev pub is_gone : Option ProofOutcome → Bool
 is_gone None = true
 is_gone (Some outcome) = false
 
+-- whether its proof is at fault
 abbrev pub is_fault : Option ProofOutcome → Bool
 is_fault None = false
 is_fault (Some (Ok labels)) = false
 is_fault (Some (Err fault)) = true
 
+-- the lemma of an entry, as a policy sees it
 abbrev pub lot_of : Entry → Lot
 lot_of e = record { theory = e.label.theory; gone = is_gone e.own; fault = is_fault e.own }
 
+-- the word for the group of all lemmas
 unfoldable pub session_word : List ℕ
 session_word = codes "session"
 
@@ -44,13 +48,15 @@ is_theory theories name (suc place) = is_named (slice_get theories place) name
 abbrev pub is_of : (theories : List Loaded) → (group : List ℕ) → Lot → Bool
 is_of theories group l = same group session_word || is_theory theories group l.theory
 
--- how many are kept, and how many of a group are
+-- whether the lemma is kept
 abbrev pub is_kept : Lot → Bool
 is_kept l = not l.gone
 
+-- how many are kept
 abbrev pub kept : List Lot → ℕ
 kept ls = count_by is_kept ls
 
+-- how many of a group are kept
 abbrev pub kept_of : (theories : List Loaded) → (group : List ℕ) → List Lot → ℕ
 kept_of theories group ls = count_by (λ l. is_kept l && is_of theories group l) ls
 

@@ -7,7 +7,7 @@ ghost use Rattle.pure_check.specs.Formed.{IsSeenSession, IsTableOf};
 ghost use Rattle.pure_check.specs.Meaning.{IsMeant};
 ghost use Rattle.pure_graph.specs.Session as graph;
 ghost use Rattle.pure_session.specs.Waiting.{all_loaded};
-ghost use Rattle.pure_verdicts.specs.Loaded.{IsLoadedSession};
+ghost use Rattle.pure_loaded.specs.Loaded.{IsLoadedSession};
 
 use crate::asked::asked;
 use crate::formed::form;

@@ -3,7 +3,7 @@ ghost use Rattle.std.specs.Prelude.{◌≡◌, IfOk};
 ghost use Rattle.std.specs.List.{list_all};
 ghost use Rattle.pure_graph.specs.Session as graph;
 ghost use Rattle.pure_session.specs.Waiting.{all_loaded};
-ghost use Rattle.pure_verdicts.specs.Loaded.{IsLoadedSession};
+ghost use Rattle.pure_loaded.specs.Loaded.{IsLoadedSession};
 ghost use Rattle.pure_check.specs.Formed.{IsSeenSession, IsFormed};
 ghost use Rattle.pure_check.specs.Meaning as spec;
 
