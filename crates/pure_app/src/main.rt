@@ -5,7 +5,7 @@ ghost use Rattle.std.specs.Prelude.{◌≡◌, ◌≢◌, ◌≤◌, IfOk, IfErr
 ghost use Rattle.std.specs.IoError.{error_kind};
 ghost use Rattle.std.specs.Process.{exit_status};
 ghost use Rattle.pure_io.specs.Outside.{Rose};
-ghost use Rattle.pure_check.specs.Asked.{IsCheck};
+ghost use Rattle.pure_check.specs.Asked.{IsCheck, IsTaken};
 ghost use Rattle.pure_check.specs.Answer.{Wrote, IsUntaken, IsComplete, OnSilent, exit_number};
 ghost use Rattle.pure_check.specs.Meaning.{IsMeant};
 ghost use Rattle.pure_app.specs.Message.{message_text};
@@ -56,16 +56,17 @@ fn run<R: Files + Print + AllocGlobal + Threads + Wait + Sync, L: Library, S: Si
     out: &mut S,
 ) -> Status
     ensures unread { IfErr args (λ error. result ≡ unread_status (error_kind error)) }
-    ensures usage { IfOk args (λ given. IsCheck (words_given given) → result ≢ Status.Usage) }
-    ensures untaken { IfOk args (λ given. ¬ IsCheck (words_given given) → IsUntaken result) }
+    ensures usage { IfOk args (λ given. IsTaken (words_given given) → result ≢ Status.Usage) }
+    ensures untaken { IfOk args (λ given. ¬ IsTaken (words_given given) → IsUntaken result) }
     ensures unlooked { result ≡ Status.Usage → library.new ≡ library.old }
+    ensures unread { IfOk args (λ given. ¬ IsCheck (words_given given) → (library.new ≡ library.old) × (result ≢ Status.ReadFault)) }
     ensures unwritten { OnSilent result (out.new ≡ out.old) }
     ensures wrote { IfOk args (λ given. Wrote result (IsMeant (L.files library.old) (words_given given)) (S.written out.old) (S.written out.new)) }
     ensures read_fault { result ≡ Status.ReadFault → Rose (L.faults library.old) (L.faults library.new) }
     ensures write_fault { result ≡ Status.WriteFault → Rose (S.faults out.old) (S.faults out.new) }
-    ensures complete { IfOk args (λ given. IsCheck (words_given given)
-        → ¬ Rose (L.faults library.old) (L.faults library.new) → ¬ Rose (S.faults out.old) (S.faults out.new)
-        → IsComplete result) }
+    ensures complete { IfOk args (λ given. IsTaken (words_given given)
+        → (IsCheck (words_given given) → ¬ Rose (L.faults library.old) (L.faults library.new))
+        → ¬ Rose (S.faults out.old) (S.faults out.new) → IsComplete result) }
 {
     let args = match args {
         Ok(args) => args,

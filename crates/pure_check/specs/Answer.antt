@@ -3,28 +3,30 @@ use Rattle.std.specs.Prelude.{◌≡◌, ◌⊎◌, ℕ, Bool, true, false, List
 use Rattle.std.specs.List.{list_all}
 use Rattle.pure_io.specs.Outside.{Appends, AppendsProperPrefix}
 use Rattle.pure_graph.specs.Session.{Session}
-use Rattle.pure_table.specs.Table.{Table, table_rows, session_text}
+use Rattle.pure_table.specs.Table.{Table, table_rows}
 use Rattle.pure_check.specs.Meaning.{is_good}
 use Rattle.pure_check.specs.declared.status.Status.{Status}
 use Rattle.pure_check.specs.declared.status.Status.TheVariants.{Clean, Rows, Usage, ReadFault, WriteFault, Memory}
 
--- The whole text of such a table was written, and every row is declared or proved, or some row is neither.
-pub record Printed (IsMeaning : Session → Table → Type 0) (clean : Bool) (old new : Option (List ℕ)) : Type 0 where
+-- The whole of such a text was written, and every row of its table is declared or proved, or some row is neither.
+pub record Printed (IsMeaning : Session → Table → List ℕ → Type 0) (clean : Bool) (old new : Option (List ℕ)) : Type 0 where
   pub session : Session
   pub table : Table
-  pub meaning : IsMeaning session table
+  pub text : List ℕ
+  pub meaning : IsMeaning session table text
   pub clean_is : list_all is_good (table_rows session table) ≡ clean
-  pub written : Appends old new (session_text session table)
+  pub written : Appends old new text
 
 -- A proper part of such a text was written, from its beginning.
-pub record CutShort (IsMeaning : Session → Table → Type 0) (old new : Option (List ℕ)) : Type 0 where
+pub record CutShort (IsMeaning : Session → Table → List ℕ → Type 0) (old new : Option (List ℕ)) : Type 0 where
   pub session : Session
   pub table : Table
-  pub meaning : IsMeaning session table
-  pub written : AppendsProperPrefix old new (session_text session table)
+  pub text : List ℕ
+  pub meaning : IsMeaning session table text
+  pub written : AppendsProperPrefix old new text
 
 -- what was written, by the status
-abbrev pub Wrote : Status → (Session → Table → Type 0) → Option (List ℕ) → Option (List ℕ) → Type 0
+abbrev pub Wrote : Status → (Session → Table → List ℕ → Type 0) → Option (List ℕ) → Option (List ℕ) → Type 0
 Wrote Clean IsMeaning old new = Printed IsMeaning true old new
 Wrote Rows IsMeaning old new = Printed IsMeaning false old new
 Wrote WriteFault IsMeaning old new = CutShort IsMeaning old new
@@ -32,7 +34,7 @@ Wrote Usage IsMeaning old new = new ≡ old
 Wrote ReadFault IsMeaning old new = new ≡ old
 Wrote Memory IsMeaning old new = new ≡ old
 
--- the status says that the words ask for no check that is taken, or that memory ran out
+-- the words asked for no job that is taken, or memory ran out before they were read
 abbrev pub IsUntaken : Status → Type 0
 IsUntaken status = (status ≡ Usage) ⊎ (status ≡ Memory)
 

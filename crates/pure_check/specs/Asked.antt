@@ -1,7 +1,8 @@
 -- What the words ask for.
 use Rattle.std.specs.Prelude.{◌≡◌, ℕ, Bool, false, List, []}
 use Rattle.pure_words.specs.declared.job.CancelWord.{CancelWord}
-use Rattle.pure_words.specs.declared.job.Job.TheVariants.{Check}
+use Rattle.pure_words.specs.declared.job.Job.{Job}
+use Rattle.pure_words.specs.declared.job.Job.TheVariants.{Check, Generate}
 use Rattle.pure_words.specs.Words.{IsJob}
 
 -- how the theories are to be checked: by how many workers, whether the first fault cancels all, and the cancellations
@@ -10,12 +11,24 @@ pub record Asked : Type 0 where
   pub fail_fast : Bool
   pub cancels : List CancelWord
 
--- The words ask for a check, and are taken: until cancellation is built, those that ask for none.
-pub record AreTaken (words : List (List ℕ)) (asked : Asked) : Type 0 where
-  pub job : IsJob words (Check asked.workers asked.fail_fast asked.cancels)
-  pub no_fail_fast : asked.fail_fast ≡ false
-  pub no_cancels : asked.cancels ≡ []
+-- how a job has its theories checked; a generated library is checked without cancellations
+abbrev pub asked_of : Job → Asked
+asked_of (Check workers fail_fast cancels) = record { workers = workers; fail_fast = fail_fast; cancels = cancels }
+asked_of (Generate workers start theories lemmas) = record { workers = workers; fail_fast = false; cancels = [] }
 
--- Some check is asked for that is taken.
+-- No cancellation is asked for.
+abbrev pub CancelsNothing : Asked → Type 0
+CancelsNothing asked = (asked.fail_fast ≡ false) × (asked.cancels ≡ [])
+
+-- The words ask for the job, and it is taken: until cancellation is built, where it asks for none.
+pub record AreTaken (words : List (List ℕ)) (job : Job) : Type 0 where
+  pub is_job : IsJob words job
+  pub kept : CancelsNothing (asked_of job)
+
+-- Some job is asked for that is taken.
+abbrev pub IsTaken : List (List ℕ) → Type 0
+IsTaken words = (job : Job) × AreTaken words job
+
+-- Some check is asked for that is taken; no other words have the library looked at.
 abbrev pub IsCheck : List (List ℕ) → Type 0
-IsCheck words = (asked : Asked) × AreTaken words asked
+IsCheck words = (asked : Asked) × AreTaken words (Check asked.workers asked.fail_fast asked.cancels)

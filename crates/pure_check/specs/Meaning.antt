@@ -1,4 +1,4 @@
--- What the files and the words mean: the session, the table that it comes to, and which of its lemmas are cancelled.
+-- What the files and the words mean: the session, the table that it comes to, which of its lemmas are cancelled, and the text that is written.
 use Rattle.std.specs.Prelude.{◌≡◌, ℕ, Bool, true, false, List, [], ◌∷◌, map, Option, Some, None, IfSome}
 use Rattle.std.specs.List.{filter_map}
 use Rattle.pure_definitions.specs.Names.{Label}
@@ -6,13 +6,17 @@ use Rattle.pure_io.specs.declared.library.File as library
 use Rattle.pure_graph.specs.Listing.{AreTheories}
 use Rattle.pure_graph.specs.Reading.{Answer}
 use Rattle.pure_graph.specs.Session.{answer_in, Session, IsSessionOf}
+use Rattle.pure_gen.specs.Generated.{files_of}
+use Rattle.pure_words.specs.declared.job.Job.{Job}
+use Rattle.pure_words.specs.declared.job.Job.TheVariants.{Check, Generate}
+use Rattle.pure_print.specs.RowText.{total_line}
 use Rattle.pure_print.specs.declared.row.Row.{Row}
 use Rattle.pure_print.specs.declared.row.RowStatus.{RowStatus}
 use Rattle.pure_print.specs.declared.row.RowStatus.TheVariants.{Declared, Refused, Proved, Failed, Tainted, Cancelled, Unsettled}
 use Rattle.pure_method.specs.Proof.{ProofOutcome}
 use Rattle.pure_promise.specs.Entries.{Entry}
-use Rattle.pure_table.specs.Table.{Table, IsTable, IsDerivedTable}
-use Rattle.pure_check.specs.Asked.{Asked, AreTaken}
+use Rattle.pure_table.specs.Table.{Table, IsTable, IsDerivedTable, table_rows, session_text}
+use Rattle.pure_check.specs.Asked.{AreTaken, asked_of}
 use Rattle.pure_check.specs.Policy.{lot_of, IsHeeded}
 
 -- The session of a library's files, where it tells them; of one that tells none, the session of some listed names and of some answers on their theories.
@@ -39,14 +43,25 @@ gone_label e = label_if_gone e.label e.own
 abbrev pub cancelled_of : Table → List Label
 cancelled_of t = filter_map gone_label t.entries
 
--- What the words and the files mean: a session, and the table that it comes to; the lemmas that are cancelled in it are so as the words ask, and each that is proved is derivable.
-pub record IsMeant (told : Option (List library.File)) (words : List (List ℕ)) (S : Session) (t : Table) : Type 0 where
-  pub asked : Asked
-  pub taken : AreTaken words asked
-  pub session : IsToldSession told S
+-- The files whose theories the job checks, where they are told: those of the library, or those that are generated.
+abbrev pub files_for : Job → Option (List library.File) → Option (List library.File)
+files_for (Check workers fail_fast cancels) told = told
+files_for (Generate workers start theories lemmas) told = Some (files_of start theories lemmas)
+
+-- the text that the job has written of a session's table: all of it, or, of a generated library, the last line alone
+abbrev pub text_for : Job → Session → Table → List ℕ
+text_for (Check workers fail_fast cancels) S t = session_text S t
+text_for (Generate workers start theories lemmas) S t = total_line S.files (table_rows S t)
+
+-- What the words and the files mean: a job that is taken, the session of its files, the table that this comes to, and the text to be written of it; the lemmas that are cancelled in it are so as the words ask, and each that is proved is derivable.
+pub record IsMeant (told : Option (List library.File)) (words : List (List ℕ)) (S : Session) (t : Table) (text : List ℕ) : Type 0 where
+  pub job : Job
+  pub taken : AreTaken words job
+  pub session : IsToldSession (files_for job told) S
   pub table : IsTable S (cancelled_of t) t
-  pub heeded : IsHeeded S.theories asked (map lot_of t.entries)
+  pub heeded : IsHeeded S.theories (asked_of job) (map lot_of t.entries)
   pub derived : IsDerivedTable t
+  pub text_is : text ≡ text_for job S t
 
 -- whether the status is declared or proved
 abbrev pub is_good_status : RowStatus → Bool

@@ -1,22 +1,19 @@
-//! What the words ask for, done with the library's files and written to the sink.
+//! What the words ask for, done with the library's files or with generated ones, and written to the sink.
 ghost use Rattle.std.specs.Prelude.{◌≡◌, ◌≢◌, ◌≤◌};
 ghost use Rattle.pure_io.specs.Outside.{Rose};
-ghost use Rattle.pure_check.specs.Asked.{IsCheck};
-ghost use Rattle.pure_check.specs.Answer.{Wrote, IsUntaken, IsComplete, IsPrinted, OnSilent};
-ghost use Rattle.pure_check.specs.Formed.{IsSeenSession, IsTableOf};
+ghost use Rattle.pure_check.specs.Asked.{IsCheck, IsTaken};
+ghost use Rattle.pure_check.specs.Answer.{Wrote, IsUntaken, IsComplete, OnSilent};
 ghost use Rattle.pure_check.specs.Meaning.{IsMeant};
-ghost use Rattle.pure_graph.specs.Session as graph;
-ghost use Rattle.pure_session.specs.Waiting.{all_loaded};
-ghost use Rattle.pure_loaded.specs.Loaded.{IsLoadedSession};
 
 use crate::asked::asked;
-use crate::formed::form;
+use crate::checked::check;
+use crate::formed::Extent;
+use crate::generated::check_generated;
 use crate::status::Status;
-use pure_graph::LoadFault;
-use pure_io::{Gate, Library, Sink, write_all};
-use pure_session::{Session, load};
+use pure_gen::generate;
+use pure_io::{Gate, Library, Sink};
 use pure_text::Text;
-use pure_words::WordsFault;
+use pure_words::{Job, WordsFault};
 use std::alloc::Global;
 use std::rt::Files;
 use std::sync::Wait;
@@ -28,44 +25,18 @@ pub struct Ended {
     pub status: Status,
 }
 
-/// Forms the whole text of the session's table, and then writes it.
-fn print<R: Files + Print + AllocGlobal, S: Sink>(
-    rt: &R,
-    alloc: Global,
-    session: Session,
-    out: &mut S,
-) -> Status
-    requires { IsLoadedSession session.names (all_loaded session.theories.items) }
-    ensures wrote { (T : graph.Session) → IsSeenSession T session → Wrote result (IsTableOf T) (S.written out.old) (S.written out.new) }
-    ensures printed { IsPrinted result }
-    ensures unwritten { OnSilent result (out.new ≡ out.old) }
-    ensures fault { result ≡ Status.WriteFault → Rose (S.faults out.old) (S.faults out.new) }
-    ensures later { S.faults out.old ≤ S.faults out.new }
-{
-    let Ok(formed) = form(alloc, session) else {
-        return Status::Memory;
-    };
-    let Ok(()) = write_all(rt, out, formed.text.bytes()) else {
-        return Status::WriteFault;
-    };
-    if formed.clean {
-        Status::Clean
-    } else {
-        Status::Rows
-    }
-}
-
 /// All the work of `pure`. It waits for nobody, and so it is proved to return.
-fn answer<R: Files + Print + AllocGlobal, L: Library, S: Sink>(
+fn answer<R: Files + Print + AllocGlobal + Threads + Sync, L: Library, S: Sink>(
     rt: &R,
     alloc: Global,
     words: &[Text],
     library: &mut L,
     out: &mut S,
 ) -> Status
-    ensures usage { IsCheck words.now → result ≢ Status.Usage }
-    ensures untaken { ¬ IsCheck words.now → IsUntaken result }
+    ensures usage { IsTaken words.now → result ≢ Status.Usage }
+    ensures untaken { ¬ IsTaken words.now → IsUntaken result }
     ensures unlooked { ¬ IsCheck words.now → library.new ≡ library.old }
+    ensures unread { ¬ IsCheck words.now → result ≢ Status.ReadFault }
     ensures unwritten { OnSilent result (out.new ≡ out.old) }
     ensures wrote { Wrote result (IsMeant (L.files library.old) words.now) (S.written out.old) (S.written out.new) }
     ensures read_fault { result ≡ Status.ReadFault → Rose (L.faults library.old) (L.faults library.new) }
@@ -75,21 +46,25 @@ fn answer<R: Files + Print + AllocGlobal, L: Library, S: Sink>(
     ensures later_out { S.faults out.old ≤ S.faults out.new }
 {
     match asked(alloc, words) {
-        Ok(_workers) => {}
-        Err(WordsFault::Usage) => return Status::Usage,
-        Err(WordsFault::Memory) => return Status::Memory,
-    }
-    match load(rt, alloc, library) {
-        Ok(session) => {
-            session.names.are_session_texts();
-            print(rt, alloc, session, out)
-        }
-        Err(LoadFault::ReadFault) => Status::ReadFault,
-        Err(LoadFault::Memory) => Status::Memory,
+        Ok(Job::Check { workers, .. }) => check(rt, alloc, library, workers, Extent::Whole, out),
+        Ok(
+            Job::Generate {
+                workers,
+                start,
+                theories,
+                lemmas,
+            },
+        ) => match generate(alloc, start, theories, lemmas) {
+            Ok(files) => check_generated(rt, alloc, files, workers, out),
+            Err(_) => Status::Memory,
+        },
+        Err(WordsFault::Usage) => Status::Usage,
+        Err(WordsFault::Memory) => Status::Memory,
     }
 }
 
-/// Reads the words, loads the library's theories, checks them, and writes the table.
+/// Reads the words; loads the library's theories, or those of a generated library; checks them, and writes the table, or of
+/// a generated library its last line.
 ///
 /// Which status comes when, and what was written with it, the clauses say; want of memory alone is free.
 /// The text is whole before its first byte is written, and writing it takes no memory.
@@ -101,14 +76,17 @@ pub fn pure<R: Files + Print + AllocGlobal + Threads + Wait + Sync, L: Library, 
     out: &mut S,
     _gate: &G,
 ) -> Ended
-    // Usage never comes where the words ask for a check that is taken; where they don't, it comes unless memory ran out, and the library isn't looked at.
-    ensures usage { IsCheck words.now → result.status ≢ Status.Usage }
-    ensures untaken { ¬ IsCheck words.now → IsUntaken result.status }
-    ensures unlooked { ¬ IsCheck words.now → library.new ≡ library.old }
+    // Usage never comes where the words ask for a job that is taken; where they don't, it comes unless memory ran out.
+    ensures usage { IsTaken words.now → result.status ≢ Status.Usage }
+    ensures untaken { ¬ IsTaken words.now → IsUntaken result.status }
 
-    // With Clean and Rows the whole table of the files was written, each proved row of it a theorem, and Clean says that
-    // every row is declared or proved; with WriteFault a proper part of a table from its beginning; else nothing, and
-    // the sink wasn't touched.
+    // Where they ask for no check, the library isn't looked at, and no fault of reading comes.
+    ensures unlooked { ¬ IsCheck words.now → library.new ≡ library.old }
+    ensures unread { ¬ IsCheck words.now → result.status ≢ Status.ReadFault }
+
+    // With Clean and Rows the whole text was written that the files or the generated ones have, each proved row of the
+    // table a theorem, and Clean says that every row is declared or proved; with WriteFault a proper part of such a text
+    // from its beginning; else nothing, and the sink wasn't touched.
     ensures unwritten { OnSilent result.status (out.new ≡ out.old) }
     ensures wrote { Wrote result.status (IsMeant (L.files library.old) words.now) (S.written out.old) (S.written out.new) }
 
@@ -116,8 +94,9 @@ pub fn pure<R: Files + Print + AllocGlobal + Threads + Wait + Sync, L: Library, 
     ensures read_fault { result.status ≡ Status.ReadFault → Rose (L.faults library.old) (L.faults library.new) }
     ensures write_fault { result.status ≡ Status.WriteFault → Rose (S.faults out.old) (S.faults out.new) }
 
-    // Where such a check is asked for and no count rose, the work was done to its end, or memory ran out.
-    ensures complete { IsCheck words.now → ¬ Rose (L.faults library.old) (L.faults library.new)
+    // Where a job that is taken is asked for and no count rose, the work was done to its end, or memory ran out; of the
+    // library a check alone asks that.
+    ensures complete { IsTaken words.now → (IsCheck words.now → ¬ Rose (L.faults library.old) (L.faults library.new))
         → ¬ Rose (S.faults out.old) (S.faults out.new) → IsComplete result.status }
 
     ensures files { L.files library.new ≡ L.files library.old }

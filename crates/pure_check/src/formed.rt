@@ -1,20 +1,31 @@
-//! The text of the table that a session comes to.
-ghost use Rattle.std.specs.Prelude.{◌≡◌, IfOk};
-ghost use Rattle.std.specs.List.{list_all};
+//! The text of the table that a session comes to, or its last line.
+ghost use Rattle.std.specs.Prelude.{◌≡◌, IfOk, length};
+ghost use Rattle.std.specs.List.{flat_map, list_all};
 ghost use Rattle.pure_graph.specs.Session as graph;
 ghost use Rattle.pure_session.specs.Waiting.{all_loaded};
-ghost use Rattle.pure_loaded.specs.Loaded.{IsLoadedSession};
-ghost use Rattle.pure_check.specs.Formed.{IsSeenSession, IsFormed};
+ghost use Rattle.pure_verdicts.specs.Loaded.{IsLoadedSession};
+ghost use Rattle.pure_print.specs.RowText.{row_text, total_line};
+ghost use Rattle.pure_check.specs.Formed.{IsSeenSession, IsFormed, rows_text};
 ghost use Rattle.pure_check.specs.Meaning as spec;
 
-use pure_print::{Row, RowStatus, print_table};
+use pure_print::{Row, RowStatus, print_row, print_table};
 use pure_session::Session;
-use pure_table::{proofs, table};
+use pure_table::{proofs_by, table};
 use pure_text::Text;
 use pure_work::{Checker, Statements};
 use std::alloc::{AllocError, Global};
+use std::thread::Threads;
 
-/// The text of a table, and whether each of its rows is declared or proved.
+/// How much of a table's text is formed.
+#[derive(Clone, Copy, Debug, PartialEq, Eq)]
+pub(crate) enum Extent {
+    /// All of it.
+    Whole,
+    /// The last line alone.
+    LastLine,
+}
+
+/// The text of a table, all of it or its last line, and whether each row of the table is declared or proved.
 #[derive(Drop)]
 pub(crate) struct Formed {
     pub(crate) text: Text,
@@ -43,10 +54,48 @@ fn are_good(rows: &[Row]) -> bool
     rows.iter().all(|row| is_good(row))
 }
 
-/// The text of the table that the session comes to, where all its lemmas are proved one after the other.
-pub(crate) fn form(alloc: Global, session: Session) -> Result<Formed, AllocError>
+/// How many bytes the rows are in a table's text.
+fn rows_len(alloc: Global, rows: &[Row]) -> Result<usize, AllocError>
+    ensures { IfOk result (λ len. len ≡ length (flat_map row_text rows.now)) }
+{
+    let mut len = 0_usize;
+    for row in rows {
+        let text = print_row(alloc, row)?;
+        len = len.checked_add(text.bytes().len()).ok_or(AllocError)?;
+    }
+    Ok(len)
+}
+
+/// The last line of a table's text.
+fn last_line(alloc: Global, files: u32, rows: &[Row]) -> Result<Text, AllocError>
+    ensures { IfOk result (λ text. text ≡ total_line files rows.now) }
+{
+    let text = print_table(alloc, files, rows)?;
+    let len = rows_len(alloc, rows)?;
+    Text::make(alloc, &text.bytes()[len..])
+}
+
+/// As much of a table's text as is asked for.
+fn text_of(alloc: Global, extent: Extent, files: u32, rows: &[Row]) -> Result<Text, AllocError>
+    ensures { IfOk result (λ text. text ≡ rows_text extent files rows.now) }
+{
+    match extent {
+        Extent::Whole => print_table(alloc, files, rows),
+        Extent::LastLine => last_line(alloc, files, rows),
+    }
+}
+
+/// As much as is asked for of the text of the table that the session comes to, where all its lemmas are proved by so many
+/// workers.
+pub(crate) fn form<R: Threads + Sync>(
+    rt: &R,
+    alloc: Global,
+    session: Session,
+    workers: u32,
+    extent: Extent,
+) -> Result<Formed, AllocError>
     requires { IsLoadedSession session.names (all_loaded session.theories.items) }
-    ensures { IfOk result (λ f. (S : graph.Session) → IsSeenSession S session → IsFormed S f.text f.clean) }
+    ensures { IfOk result (λ f. (S : graph.Session) → IsSeenSession S session → IsFormed S extent f.text f.clean) }
 {
     let Session {
         names,
@@ -57,7 +106,7 @@ pub(crate) fn form(alloc: Global, session: Session) -> Result<Formed, AllocError
     let checker = Checker::make(alloc, names, theories)?;
     let Statements { closed, duties } = checker.statements()?;
     let names = checker.names();
-    let entries = proofs(alloc, names, duties)?;
+    let entries = proofs_by(rt, alloc, names, workers as usize, duties)?;
     let rows = table(
         alloc,
         names.names(),
@@ -66,6 +115,6 @@ pub(crate) fn form(alloc: Global, session: Session) -> Result<Formed, AllocError
         refused.as_slice(),
     )?;
     let clean = are_good(rows.as_slice());
-    let text = print_table(alloc, files, rows.as_slice())?;
+    let text = text_of(alloc, extent, files, rows.as_slice())?;
     Ok(Formed { text, clean })
 }

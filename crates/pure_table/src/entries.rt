@@ -53,7 +53,7 @@ fn proved(alloc: Global, names: &NamesByBase, duty: Duty) -> Result<Entry, Alloc
 /// # Errors
 ///
 /// Want of memory alone.
-pub fn proofs(
+pub(crate) fn proofs(
     alloc: Global,
     names: &NamesByBase,
     duties: Vec<Duty>,

@@ -4,8 +4,9 @@
 mod entries;
 mod filling;
 pub mod laws;
+mod parts;
 mod printing;
 mod refused;
 
-pub use entries::proofs;
+pub use parts::proofs_by;
 pub use printing::table;
