@@ -16,21 +16,48 @@ use Rattle.pure_verdicts.specs.Statements.{forks_of}
 use Rattle.pure_table.specs.Table.{Table, IsOwn, IsEntryOf, IsTable}
 use Rattle.pure_check.specs.declared.status.Status.{Status}
 use Rattle.pure_check.specs.declared.status.Status.TheVariants.{Clean, Rows, Usage, ReadFault, WriteFault, Memory}
-use Rattle.pure_check.specs.Asked.{Asked, AreTaken}
+use Rattle.pure_words.specs.declared.job.Job.{Job}
+use Rattle.pure_words.specs.declared.job.Job.TheVariants.{Check, Generate}
+use Rattle.pure_check.specs.declared.formed.Extent.{Extent}
+use Rattle.pure_check.specs.Asked.{AreTaken, asked_of}
 use Rattle.pure_check.specs.Policy.{Lot, is_gone, lot_of}
-use Rattle.pure_check.specs.Meaning.{IsToldSession, label_if_gone, gone_label, IsMeant}
-use Rattle.pure_check.specs.Formed.{IsTableOf}
-use Rattle.pure_check.specs.Answer.{Wrote}
+use Rattle.pure_check.specs.Meaning.{IsToldSession, label_if_gone, gone_label, files_for, text_for, IsMeant}
+use Rattle.pure_check.specs.Formed.{IsFormed, IsTextOf, IsChecked, extent_text, extent_for}
+use Rattle.pure_check.specs.Answer.{Printed, CutShort, Wrote}
 use Rattle.pure_loaded.proofs.OrderLaws.{loaded-in-order}
 use Rattle.pure_loaded.proofs.WellLaws.{loaded-well}
 use Rattle.pure_table.proofs.DerivedLaws.{table_is_derived}
 use Rattle.pure_check.proofs.PolicyLaws.{nothing_heeded}
-use Rattle.pure_check.proofs.WordsLaws.{job_has_worker}
+use Rattle.pure_check.proofs.WordsLaws.{job_in_range, has_worker}
 
-pub Wrote-weaker : (status : Status) (P Q : Session → Table → Type 0) (old new : Option (List ℕ)) → ((S : Session) (t : Table) → P S t → Q S t) → Wrote status P old new → Wrote status Q old new
-Wrote-weaker Clean P Q old new weaker w = record { session = w.session; table = w.table; meaning = weaker w.session w.table w.meaning; clean_is = w.clean_is; written = w.written }
-Wrote-weaker Rows P Q old new weaker w = record { session = w.session; table = w.table; meaning = weaker w.session w.table w.meaning; clean_is = w.clean_is; written = w.written }
-Wrote-weaker WriteFault P Q old new weaker w = record { session = w.session; table = w.table; meaning = weaker w.session w.table w.meaning; written = w.written }
+pub printed_by : (S : Session) (extent : Extent) (text bytes : List ℕ) (clean told : Bool) (old new : Option (List ℕ)) → IsFormed S extent text clean → clean ≡ told → bytes ≡ text → Appends old new bytes
+    → Printed (IsTextOf S extent) told old new
+printed_by S extent text bytes clean told old new formed is same appended = record {
+  session = S;
+  table = formed.table;
+  text = text;
+  meaning = (refl, formed.is_table, formed.text_is);
+  clean_is = formed.clean_is ∙ is;
+  written = subst (Appends old new) same appended;
+}
+
+pub cut_short_by : (S : Session) (extent : Extent) (text bytes : List ℕ) (clean : Bool) (old new : Option (List ℕ)) → IsFormed S extent text clean → bytes ≡ text → AppendsProperPrefix old new bytes → CutShort (IsTextOf S extent) old new
+cut_short_by S extent text bytes clean old new formed same appended = record {
+  session = S;
+  table = formed.table;
+  text = text;
+  meaning = (refl, formed.is_table, formed.text_is);
+  written = subst (AppendsProperPrefix old new) same appended;
+}
+
+-- a meaning of a session, its table and the text that is written
+abbrev Means : Type 1
+Means = Session → Table → List ℕ → Type 0
+
+pub Wrote-weaker : (status : Status) (P Q : Means) (old new : Option (List ℕ)) → ((S : Session) (t : Table) (text : List ℕ) → P S t text → Q S t text) → Wrote status P old new → Wrote status Q old new
+Wrote-weaker Clean P Q old new weaker w = record { session = w.session; table = w.table; text = w.text; meaning = weaker w.session w.table w.text w.meaning; clean_is = w.clean_is; written = w.written }
+Wrote-weaker Rows P Q old new weaker w = record { session = w.session; table = w.table; text = w.text; meaning = weaker w.session w.table w.text w.meaning; clean_is = w.clean_is; written = w.written }
+Wrote-weaker WriteFault P Q old new weaker w = record { session = w.session; table = w.table; text = w.text; meaning = weaker w.session w.table w.text w.meaning; written = w.written }
 Wrote-weaker Usage P Q old new weaker w = w
 Wrote-weaker ReadFault P Q old new weaker w = w
 Wrote-weaker Memory P Q old new weaker w = w
@@ -52,24 +79,33 @@ all_kept texts (f ∷ fs) (e ∷ es) (is, are) =
     let rest = all_kept texts fs es are in
     ((own.0, rest.0), rw own.1 rest.1)
 
+-- The job's extent of a text is the text that it has written.
+text_same : (job : Job) (S : Session) (t : Table) → extent_text (extent_for job) S t ≡ text_for job S t
+text_same (Check workers fail_fast cancels) S t = refl
+text_same (Generate workers start theories lemmas) S t = refl
+
 -- A table of whose lemmas none is cancelled is what the words and the files mean.
-meant_by : (told : Option (List library.File)) (words : List (List ℕ)) (asked : Asked) → AreTaken words asked → (S : Session) → IsToldSession told S → IsLoadedSession S.names S.theories
-    → (t : Table) → IsTable S [] t → IsMeant told words S t
-meant_by told words asked taken S session loaded t is =
-    let kept = all_kept S.names (forks_of t.notes) t.entries is.entries in
+pub meant : (told : Option (List library.File)) (words : List (List ℕ)) (job : Job) → AreTaken words job → (S : Session) (t : Table) (text : List ℕ) → IsChecked (files_for job told) (extent_for job) S t text → IsMeant told words S t text
+meant told words job taken S t text checked =
+    let kept = all_kept S.names (forks_of t.notes) t.entries checked.table.entries in
     record {
-      asked = asked;
+      job = job;
       taken = taken;
-      session = session;
-      table = subst (λ K. IsTable S K t) (sym kept.1) is;
-      heeded = nothing_heeded S.theories asked (map lot_of t.entries) taken.no_fail_fast taken.no_cancels (job_has_worker words asked.workers asked.fail_fast asked.cancels taken.job) kept.0;
-      derived = table_is_derived S loaded [] t is;
+      session = checked.session;
+      table = subst (λ K. IsTable S K t) (sym kept.1) checked.table;
+      heeded = nothing_heeded S.theories (asked_of job) (map lot_of t.entries) taken.kept.0 taken.kept.1 (has_worker job (job_in_range words job taken.is_job)) kept.0;
+      derived = table_is_derived S checked.loaded [] t checked.table;
+      text_is = checked.text_is ∙ text_same job S t;
     }
 
-pub meant : (told : Option (List library.File)) (words : List (List ℕ)) (asked : Asked) → AreTaken words asked → (S : Session) → IsToldSession told S → IsLoadedSession S.names S.theories
-    → (R : Session) (t : Table) → IsTableOf S R t → IsMeant told words R t
-meant told words asked taken S session loaded R t (same, is) =
-    subst (λ Q. IsMeant told words Q t) (sym same) (meant_by told words asked taken S session loaded t (subst (λ Q. IsTable Q [] t) same is))
+-- What was printed of a session that was loaded of a library is what comes of a check of it.
+pub checked_by : (told : Option (List library.File)) (extent : Extent) (S : Session) → IsToldSession told S → IsLoadedSession S.names S.theories → (R : Session) (t : Table) (text : List ℕ) → IsTextOf S extent R t text → IsChecked told extent R t text
+checked_by told extent S session loaded R t text is = record {
+  session = subst (IsToldSession told) (sym is.0) session;
+  loaded = subst (λ (Q : Session). IsLoadedSession Q.names Q.theories) (sym is.0) loaded;
+  table = is.1;
+  text_is = is.2;
+}
 
 -- what was loaded of a library, as a session
 abbrev pub session_of : {told : Option (List library.File)} {theories : List Loaded} {refused : List Shown} {files : ℕ} → (texts : List (List ℕ)) → AreTheoriesOf told theories refused files → Session

@@ -1,67 +1,89 @@
--- A check has one worker at least, and words that ask for one that is taken are read so.
-use Rattle.std.proofs.Common.{◌≡◌, ◌≤◌, ℕ, Bool, true, false, List, [], ◌∷◌, Option, Some, None, refl, subst, arith}
+-- The numbers of jobs are in range, and words that ask for one that is taken are read so.
+use Rattle.std.proofs.Common.{◌≡◌, ◌≤◌, ◌⊎◌, inl, inr, ℕ, Bool, true, false, List, [], ◌∷◌, Option, Some, None, refl, sym, ap, ◌∙◌, subst, true≢false, arith}
 use Rattle.std.proofs.lemmas.Bool.Decides.{nat_tests}
-use Rattle.std.specs.Prelude.{nat_le, codes, ◌&&◌, if◌then◌else◌}
+use Rattle.std.specs.Prelude.{nat_le, codes, ◌*◌, ◌&&◌, if◌then◌else◌}
 use Rattle.pure_grammar.specs.Theories.Lexeme.{same}
 use Rattle.pure_words.specs.Values.{number_of, within}
 use Rattle.pure_words.specs.Words.{IsJob, IsCommand, Item, no_given, given_by}
-use Rattle.pure_words.specs.Commands.{workers_of, fail_fast_of, cancels_of, checked, generated, check_of, generate_of, size_of, job_of, is_none}
+use Rattle.pure_words.specs.Commands.{workers_of, fail_fast_of, cancels_of, checked, generated, check_of, generate_of, size_of, sized, job_of, is_none}
 use Rattle.pure_words.proofs.Readings.{one_reading}
-use Rattle.pure_check.specs.Asked.{AreTaken, IsCheck}
+use Rattle.pure_check.specs.Asked.{Asked, asked_of, IsInRange, IsGenerate, CancelsNothing, AreTaken, IsTaken, IsCheck}
 use Rattle.pure_words.specs.declared.job.CancelWord.{CancelWord}
+use Rattle.pure_words.specs.declared.command.Size.{Size}
 use Rattle.pure_words.specs.declared.job.Job.{Job}
 use Rattle.pure_words.specs.declared.job.Job.TheVariants.{Check, Generate}
 
--- the number of workers of a job of checking, at least 1
-abbrev HasWorker : Job → Type 0
-HasWorker (Check workers fail_fast cancels) = 1 ≤ workers
-HasWorker (Generate workers start theories lemmas) = Unit {0}
-
 abbrev IfJob : Option Job → Type 0
 IfJob None = Unit {0}
-IfJob (Some job) = HasWorker job
+IfJob (Some job) = IsInRange job
 
-abbrev IfNumber : Option ℕ → Type 0
-IfNumber None = Unit {0}
-IfNumber (Some n) = 1 ≤ n
+-- a number that was found lies between these
+abbrev IsBetween : (low high : ℕ) → Option ℕ → Type 0
+IsBetween low high None = Unit {0}
+IsBetween low high (Some n) = (low ≤ n) × (n ≤ high)
 
-number-within : (found : Option ℕ) → IfNumber (within 1 64 found)
-number-within None = _
-number-within (Some n) = by (nat_le 1 n) (nat_le n 64) refl
+abbrev IfSize : Option Size → Type 0
+IfSize None = Unit {0}
+IfSize (Some size) = (size.start ≤ 65536) × (size.theories ≤ 64) × (size.lemmas ≤ 512)
+
+number-within : (low high : ℕ) (found : Option ℕ) → IsBetween low high (within low high found)
+number-within low high None = _
+number-within low high (Some n) = by (nat_le low n) (nat_le n high) refl refl
   where
-    by : (b d : Bool) → nat_le 1 n ≡ b → IfNumber (if b && d then Some n else None)
-    by false d is = _
-    by true true is = grind (arith, nat_tests)
-    by true false is = _
+    by : (b d : Bool) → nat_le low n ≡ b → nat_le n high ≡ d → IsBetween low high (if b && d then Some n else None)
+    by false d least most = _
+    by true true least most = (grind (arith, nat_tests), grind (arith, nat_tests))
+    by true false least most = _
 
-workers-some : (values : List (List ℕ)) → IfNumber (workers_of values)
-workers-some [] = omega arith
-workers-some (value ∷ []) = number-within (number_of value)
-workers-some (value ∷ other ∷ values) = _
+workers-within : (values : List (List ℕ)) → IsBetween 1 64 (workers_of values)
+workers-within [] = (omega arith, omega arith)
+workers-within (value ∷ []) = number-within 1 64 (number_of value)
+workers-within (value ∷ other ∷ values) = _
 
-checked-some : (workers : Option ℕ) (fail_fast : Option Bool) (cancels : Option (List CancelWord)) → IfNumber workers → IfJob (checked workers fail_fast cancels)
+sized-within : (start theories lemmas : Option ℕ) → IsBetween 0 65536 start → IsBetween 1 64 theories → IsBetween 1 512 lemmas → IfSize (sized start theories lemmas)
+sized-within None theories lemmas s t l = _
+sized-within (Some start) None lemmas s t l = _
+sized-within (Some start) (Some theories) None s t l = _
+sized-within (Some start) (Some theories) (Some lemmas) s t l = by (nat_le (theories * lemmas) 4096)
+  where
+    by : (b : Bool) → IfSize (if b then Some (record { start = start; theories = theories; lemmas = lemmas }) else None)
+    by true = (s.1, t.1, l.1)
+    by false = _
+
+size-within : (values : List (List ℕ)) → IfSize (size_of values)
+size-within [] = _
+size-within (start ∷ []) = _
+size-within (start ∷ theories ∷ []) = _
+size-within (start ∷ theories ∷ lemmas ∷ []) =
+    sized-within (within 0 65536 (number_of start)) (within 1 64 (number_of theories)) (within 1 512 (number_of lemmas))
+    (number-within 0 65536 (number_of start)) (number-within 1 64 (number_of theories)) (number-within 1 512 (number_of lemmas))
+size-within (start ∷ theories ∷ lemmas ∷ other ∷ values) = _
+
+checked-some : (workers : Option ℕ) (fail_fast : Option Bool) (cancels : Option (List CancelWord)) → IsBetween 1 64 workers → IfJob (checked workers fail_fast cancels)
 checked-some None fail_fast cancels h = _
 checked-some (Some n) None cancels h = _
 checked-some (Some n) (Some b) None h = _
-checked-some (Some n) (Some b) (Some cs) h = h
+checked-some (Some n) (Some b) (Some cs) h = h.0
 
-generated-some : (workers : Option ℕ) (size : _) → IfJob (generated workers size)
-generated-some None size = _
-generated-some (Some n) None = _
-generated-some (Some n) (Some size) = _
+generated-some : (workers : Option ℕ) (size : Option Size) → IsBetween 1 64 workers → IfSize size → IfJob (generated workers size)
+generated-some None size h k = _
+generated-some (Some n) None h k = _
+generated-some (Some n) (Some size) h k = (h.0, k.0, k.1, k.2)
 
 check-some : (items : List Item) → IfJob (check_of (given_by no_given items))
 check-some items = let g = given_by no_given items in by (is_none g.arguments)
   where
     by : (b : Bool) → IfJob (if b then checked (workers_of (given_by no_given items).jobs) (fail_fast_of (given_by no_given items).fail_fast) (cancels_of (given_by no_given items).cancels) else None)
-    by true = let g = given_by no_given items in checked-some (workers_of g.jobs) (fail_fast_of g.fail_fast) (cancels_of g.cancels) (workers-some g.jobs)
+    by true = let g = given_by no_given items in checked-some (workers_of g.jobs) (fail_fast_of g.fail_fast) (cancels_of g.cancels) (workers-within g.jobs)
     by false = _
 
 generate-some : (items : List Item) → IfJob (generate_of (given_by no_given items))
 generate-some items = let g = given_by no_given items in by (is_none g.cancels && is_none g.fail_fast)
   where
     by : (b : Bool) → IfJob (if b then generated (workers_of (given_by no_given items).jobs) (size_of (given_by no_given items).arguments) else None)
-    by true = generated-some (workers_of (given_by no_given items).jobs) (size_of (given_by no_given items).arguments)
+    by true =
+        let g = given_by no_given items in
+        generated-some (workers_of g.jobs) (size_of g.arguments) (workers-within g.jobs) (size-within g.arguments)
     by false = _
 
 either : (b d : Bool) (one other : Option Job) → IfJob one → IfJob other → IfJob (if b then one else (if d then other else None))
@@ -73,29 +95,25 @@ job-some : (name : List ℕ) (items : List Item) → IfJob (job_of name (given_b
 unfolding job_of
 job-some name items = let g = given_by no_given items in either (same name (codes "check")) (same name (codes "generate")) (check_of g) (generate_of g) (check-some items) (generate-some items)
 
-command-some : (name : List ℕ) (words : List (List ℕ)) (job : Job) → IsCommand name words job → HasWorker job
+command-some : (name : List ℕ) (words : List (List ℕ)) (job : Job) → IsCommand name words job → IsInRange job
 command-some name words job is = subst IfJob is.job_is (job-some name is.items)
 
-pub job_has_worker : (words : List (List ℕ)) (workers : ℕ) (fail_fast : Bool) (cancels : List CancelWord) → IsJob words (Check workers fail_fast cancels) → 1 ≤ workers
-job_has_worker [] workers fail_fast cancels is = command-some _ [] (Check workers fail_fast cancels) is
-job_has_worker (name ∷ words) workers fail_fast cancels is = command-some name words (Check workers fail_fast cancels) is
+pub job_in_range : (words : List (List ℕ)) (job : Job) → IsJob words job → IsInRange job
+job_in_range [] job is = command-some _ [] job is
+job_in_range (name ∷ words) job is = command-some name words job is
 
--- The job is a check that asks for no cancellation.
-abbrev pub IsSlow : Job → Type 0
-IsSlow (Check workers fail_fast cancels) = (fail_fast ≡ false) × (cancels ≡ [])
-IsSlow (Generate workers start theories lemmas) = ⊥
+pub has_worker : (job : Job) → IsInRange job → 1 ≤ (asked_of job).workers
+has_worker (Check workers fail_fast cancels) h = h
+has_worker (Generate workers start theories lemmas) h = h.0
 
--- What words that ask for a check that is taken are read as.
-pub check_is_slow : (words : List (List ℕ)) → IsCheck words → (job : Job) → IsJob words job → IsSlow job
-check_is_slow words (asked, taken) job is = subst IsSlow (one_reading words (Check asked.workers asked.fail_fast asked.cancels) job taken.job is) (taken.no_fail_fast, taken.no_cancels)
+-- Where the words ask for some job that is taken, the one as which they are read asks for no cancellation.
+pub cancels_none : (words : List (List ℕ)) → IsTaken words → (job : Job) → IsJob words job → CancelsNothing (asked_of job)
+cancels_none words (other, taken) job is = subst (λ j. CancelsNothing (asked_of j)) (one_reading words other job taken.is_job is) taken.kept
 
-pub no_job : (words : List (List ℕ)) → ((job : Job) → IsJob words job → ⊥) → IsCheck words → ⊥
-no_job words none_is (asked, taken) = none_is (Check asked.workers asked.fail_fast asked.cancels) taken.job
+pub no_job : (words : List (List ℕ)) → ((job : Job) → IsJob words job → ⊥) → IsTaken words → ⊥
+no_job words none_is (job, taken) = none_is job taken.is_job
 
-pub taken_by : (words : List (List ℕ)) (workers : ℕ) (fail_fast : Bool) (cancels : List CancelWord) → IsJob words (Check workers fail_fast cancels) → (fail_fast ≡ false) × (cancels ≡ [])
-    → AreTaken words (record { workers = workers; fail_fast = false; cancels = [] })
-taken_by words workers fail_fast cancels is (slow, kept) = record {
-  job = subst (λ f. IsJob words (Check workers f [])) slow (subst (λ cs. IsJob words (Check workers fail_fast cs)) kept is);
-  no_fail_fast = refl;
-  no_cancels = refl;
-}
+-- A job that is taken, and is no check, is that of a generated library.
+pub generate_unless_check : (words : List (List ℕ)) (job : Job) → AreTaken words job → (IsCheck words → ⊥) → IsGenerate job
+generate_unless_check words (Check workers fail_fast cancels) taken denied = absurd (denied (record { workers = workers; fail_fast = fail_fast; cancels = cancels }, taken))
+generate_unless_check words (Generate workers start theories lemmas) taken denied = tt

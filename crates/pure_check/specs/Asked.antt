@@ -1,5 +1,5 @@
 -- What the words ask for.
-use Rattle.std.specs.Prelude.{◌≡◌, ℕ, Bool, false, List, []}
+use Rattle.std.specs.Prelude.{◌≡◌, ◌≤◌, ℕ, Bool, false, List, []}
 use Rattle.pure_words.specs.declared.job.CancelWord.{CancelWord}
 use Rattle.pure_words.specs.declared.job.Job.{Job}
 use Rattle.pure_words.specs.declared.job.Job.TheVariants.{Check, Generate}
@@ -15,6 +15,16 @@ pub record Asked : Type 0 where
 abbrev pub asked_of : Job → Asked
 asked_of (Check workers fail_fast cancels) = record { workers = workers; fail_fast = fail_fast; cancels = cancels }
 asked_of (Generate workers start theories lemmas) = record { workers = workers; fail_fast = false; cancels = [] }
+
+-- The job's numbers are in range: it has one worker at least, and a generated library has the number of its start, its theories and its lemmas.
+abbrev pub IsInRange : Job → Type 0
+IsInRange (Check workers fail_fast cancels) = 1 ≤ workers
+IsInRange (Generate workers start theories lemmas) = (1 ≤ workers) × (start ≤ 65536) × (theories ≤ 64) × (lemmas ≤ 512)
+
+-- It is the job of a generated library.
+abbrev pub IsGenerate : Job → Type 0
+IsGenerate (Check workers fail_fast cancels) = ⊥
+IsGenerate (Generate workers start theories lemmas) = Unit {0}
 
 -- No cancellation is asked for.
 abbrev pub CancelsNothing : Asked → Type 0

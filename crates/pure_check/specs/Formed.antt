@@ -10,6 +10,8 @@ use Rattle.pure_session.specs.Waiting.{all_loaded}
 use Rattle.pure_session.specs.declared.session.Session as code
 use Rattle.pure_verdicts.specs.Loaded.{IsLoadedSession}
 use Rattle.pure_table.specs.Table.{Table, IsTable, table_rows}
+use Rattle.pure_words.specs.declared.job.Job.{Job}
+use Rattle.pure_words.specs.declared.job.Job.TheVariants.{Check, Generate}
 use Rattle.pure_check.specs.declared.formed.Extent.{Extent}
 use Rattle.pure_check.specs.declared.formed.Extent.TheVariants.{Whole, LastLine}
 use Rattle.pure_check.specs.Meaning.{IsToldSession, is_good}
@@ -29,6 +31,11 @@ rows_text LastLine files rows = total_line files rows
 -- the extent of the text of a session's table
 abbrev pub extent_text : Extent → Session → Table → List ℕ
 extent_text extent S t = rows_text extent S.files (table_rows S t)
+
+-- a check has all of it written, a generated library the last line alone
+abbrev pub extent_for : Job → Extent
+extent_for (Check workers fail_fast cancels) = Whole
+extent_for (Generate workers start theories lemmas) = LastLine
 
 -- The session, of whose lemmas none is cancelled, comes to a table of whose text this is the extent, and this says whether each row is declared or proved.
 pub record IsFormed (S : Session) (extent : Extent) (text : List ℕ) (clean : Bool) : Type 0 where

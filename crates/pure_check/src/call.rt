@@ -1,9 +1,10 @@
 //! What the words ask for, done with the library's files or with generated ones, and written to the sink.
 ghost use Rattle.std.specs.Prelude.{◌≡◌, ◌≢◌, ◌≤◌};
 ghost use Rattle.pure_io.specs.Outside.{Rose};
-ghost use Rattle.pure_check.specs.Asked.{IsCheck, IsTaken};
+ghost use Rattle.pure_check.specs.Asked.{IsCheck, IsGenerate, IsInRange, IsTaken};
 ghost use Rattle.pure_check.specs.Answer.{Wrote, IsUntaken, IsComplete, OnSilent};
-ghost use Rattle.pure_check.specs.Meaning.{IsMeant};
+ghost use Rattle.pure_check.specs.Formed.{IsChecked, extent_for};
+ghost use Rattle.pure_check.specs.Meaning.{IsMeant, files_for};
 
 use crate::asked::asked;
 use crate::checked::check;
@@ -23,6 +24,40 @@ use std::thread::Threads;
 #[derive(Clone, Copy, Debug, PartialEq, Eq)]
 pub struct Ended {
     pub status: Status,
+}
+
+/// Does the job.
+fn done<R: Files + Print + AllocGlobal + Threads + Sync, L: Library, S: Sink>(
+    rt: &R,
+    alloc: Global,
+    job: Job,
+    library: &mut L,
+    out: &mut S,
+) -> Status
+    requires { IsInRange job }
+    ensures usage { result ≢ Status.Usage }
+    ensures unlooked { IsGenerate job → library.new ≡ library.old }
+    ensures unread { IsGenerate job → result ≢ Status.ReadFault }
+    ensures unwritten { OnSilent result (out.new ≡ out.old) }
+    ensures wrote { Wrote result (IsChecked (files_for job (L.files library.old)) (extent_for job)) (S.written out.old) (S.written out.new) }
+    ensures read_fault { result ≡ Status.ReadFault → Rose (L.faults library.old) (L.faults library.new) }
+    ensures write_fault { result ≡ Status.WriteFault → Rose (S.faults out.old) (S.faults out.new) }
+    ensures files { L.files library.new ≡ L.files library.old }
+    ensures later_library { L.faults library.old ≤ L.faults library.new }
+    ensures later_out { S.faults out.old ≤ S.faults out.new }
+{
+    match job {
+        Job::Check { workers, .. } => check(rt, alloc, library, workers, Extent::Whole, out),
+        Job::Generate {
+            workers,
+            start,
+            theories,
+            lemmas,
+        } => match generate(alloc, start, theories, lemmas) {
+            Ok(files) => check_generated(rt, alloc, files, workers, out),
+            Err(_) => Status::Memory,
+        },
+    }
 }
 
 /// All the work of `pure`. It waits for nobody, and so it is proved to return.
@@ -46,18 +81,7 @@ fn answer<R: Files + Print + AllocGlobal + Threads + Sync, L: Library, S: Sink>(
     ensures later_out { S.faults out.old ≤ S.faults out.new }
 {
     match asked(alloc, words) {
-        Ok(Job::Check { workers, .. }) => check(rt, alloc, library, workers, Extent::Whole, out),
-        Ok(
-            Job::Generate {
-                workers,
-                start,
-                theories,
-                lemmas,
-            },
-        ) => match generate(alloc, start, theories, lemmas) {
-            Ok(files) => check_generated(rt, alloc, files, workers, out),
-            Err(_) => Status::Memory,
-        },
+        Ok(job) => done(rt, alloc, job, library, out),
         Err(WordsFault::Usage) => Status::Usage,
         Err(WordsFault::Memory) => Status::Memory,
     }

@@ -1,5 +1,5 @@
 //! Laws of the definitions. Each function has no body: its contract is the law.
-ghost use Rattle.pure_check.specs.Laws.{NothingIsHeeded, NothingIsCancelled, JobHasWorker};
+ghost use Rattle.pure_check.specs.Laws.{NothingIsHeeded, NothingIsCancelled, JobInRange};
 
 /// Where no cancellation is asked for and no lemma is cancelled, that is as was asked.
 pub fn nothing_is_heeded()
@@ -11,7 +11,7 @@ pub fn nothing_is_cancelled()
     ensures { NothingIsCancelled }
 {}
 
-/// A job has one worker at least.
-pub fn job_has_worker()
-    ensures { JobHasWorker }
+/// The numbers of a job that words ask for are in range.
+pub fn job_in_range()
+    ensures { JobInRange }
 {}

@@ -4,6 +4,7 @@ pub mod OnceLaws
 pub mod FillingLaws
 pub mod PrintedLaws
 pub mod EntryLaws
+pub mod PartLaws
 pub mod FulfilledLaws
 pub mod JoinLaws
 pub mod MeantLaws

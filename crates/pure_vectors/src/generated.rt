@@ -1,9 +1,14 @@
-//! Generated libraries. Expected texts come from the rules, by hand.
+//! Generated libraries. Expected texts come from the rules, by hand; the counts of large libraries from the rules on kinds alone.
+use crate::world::{World, add_file, add_words, check, empty_world};
+use pure_check::Status;
 use pure_gen::generate;
 use pure_io::File;
-use std::alloc::Global;
+use std::alloc::{AllocError, Global};
 use std::process::Abort;
+use std::rt::Files;
+use std::sync::Wait;
 use std::test::Fail;
+use std::thread::Threads;
 
 /// A library's start, its counts of theories and of lemmas, and its files.
 struct Example {
@@ -104,5 +109,93 @@ fn check_last<R: Abort>(rt: &R, files: &[File]) {
 fn greatest_library(rt: HostRuntime) -> Result<(), Fail> {
     let files = generate(rt.alloc(), 65536, 64, 512)?;
     check_last(&rt, &files);
+    Ok(())
+}
+
+/// The words that ask for a generated library, the status, and the one line that is written.
+struct Run {
+    words: &'static [&'static [u8]],
+    status: Status,
+    written: &'static [u8],
+}
+
+const RUNS: [Run; 9] = [
+    // each kind in a library of two theories
+    Run {
+        words: &[b"generate", b"7", b"2", b"4"],
+        status: Status::Rows,
+        written: b"total: 2 theories, 0 declared, 0 refused, 3 proved, 2 failed, 3 tainted, 0 cancelled, 0 unsettled\n",
+    },
+    // more workers than there are lemmas
+    Run {
+        words: &[b"generate", b"-j", b"64", b"7", b"2", b"4"],
+        status: Status::Rows,
+        written: b"total: 2 theories, 0 declared, 0 refused, 3 proved, 2 failed, 3 tainted, 0 cancelled, 0 unsettled\n",
+    },
+    // the first lemma would cite the one before it
+    Run {
+        words: &[b"generate", b"0", b"1", b"4"],
+        status: Status::Clean,
+        written: b"total: 1 theories, 0 declared, 0 refused, 4 proved, 0 failed, 0 tainted, 0 cancelled, 0 unsettled\n",
+    },
+    // a cited equation, and lemmas that rest on a failed one of another theory
+    Run {
+        words: &[b"generate", b"11", b"2", b"2"],
+        status: Status::Rows,
+        written: b"total: 2 theories, 0 declared, 0 refused, 1 proved, 1 failed, 2 tainted, 0 cancelled, 0 unsettled\n",
+    },
+    Run {
+        words: &[b"generate", b"--jobs=3", b"11", b"2", b"2"],
+        status: Status::Rows,
+        written: b"total: 2 theories, 0 declared, 0 refused, 1 proved, 1 failed, 2 tainted, 0 cancelled, 0 unsettled\n",
+    },
+    Run {
+        words: &[b"generate", b"1", b"16", b"32"],
+        status: Status::Rows,
+        written: b"total: 16 theories, 0 declared, 0 refused, 299 proved, 163 failed, 50 tainted, 0 cancelled, 0 unsettled\n",
+    },
+    Run {
+        words: &[b"generate", b"1", b"16", b"32", b"-j8"],
+        status: Status::Rows,
+        written: b"total: 16 theories, 0 declared, 0 refused, 299 proved, 163 failed, 50 tainted, 0 cancelled, 0 unsettled\n",
+    },
+    Run {
+        words: &[b"generate", b"7", b"4", b"512"],
+        status: Status::Rows,
+        written: b"total: 4 theories, 0 declared, 0 refused, 1162 proved, 653 failed, 233 tainted, 0 cancelled, 0 unsettled\n",
+    },
+    Run {
+        words: &[b"generate", b"-j", b"8", b"7", b"4", b"512"],
+        status: Status::Rows,
+        written: b"total: 4 theories, 0 declared, 0 refused, 1162 proved, 653 failed, 233 tainted, 0 cancelled, 0 unsettled\n",
+    },
+];
+
+/// The calls of a library, each of which fails.
+const CALLS: [u32; 4] = [0, 1, 2, 3];
+
+/// Makes the world one of this run: its library has a theory, and fails at every call.
+fn fill(alloc: Global, world: &mut World, words: &[&[u8]]) -> Result<(), AllocError> {
+    add_file(alloc, world, b"G00.thy", b"theory G00 begin class c end")?;
+    add_words(alloc, world, words)?;
+    world.failing_reads.extend_from_slice(&CALLS)
+}
+
+fn check_run<R: Abort + Files + Print + AllocGlobal + Threads + Wait + Sync>(
+    rt: &R,
+    run: &Run,
+) -> Result<(), Fail> {
+    let mut world = empty_world(rt.alloc());
+    fill(rt.alloc(), &mut world, run.words)?;
+    check(rt, world, run.status, run.written)
+}
+
+/// Each run, twice, writes its one line, whatever the library that is handed in.
+#[test]
+fn writes_the_last_line_of_generated_libraries(rt: HostRuntime) -> Result<(), Fail> {
+    for run in RUNS.iter() {
+        check_run(&rt, run)?;
+        check_run(&rt, run)?;
+    }
     Ok(())
 }

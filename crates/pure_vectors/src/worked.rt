@@ -257,22 +257,43 @@ const THIRD: [Example; 6] = [
     },
 ];
 
-/// Makes the world one of this example.
-fn fill(alloc: Global, world: &mut World, example: &Example) -> Result<(), AllocError> {
-    add_words(alloc, world, example.words)?;
+/// The words that ask for a check by four workers.
+const FOUR: &[&[u8]] = &[b"check", b"-j", b"4"];
+
+/// Makes the world one of this example, with these words.
+fn fill(
+    alloc: Global,
+    world: &mut World,
+    words: &[&[u8]],
+    example: &Example,
+) -> Result<(), AllocError> {
+    add_words(alloc, world, words)?;
     for (name, text) in example.files {
         add_file(alloc, world, name, text)?;
     }
     Ok(())
 }
 
+fn check_words<R: Abort + Files + Print + AllocGlobal + Threads + Wait + Sync>(
+    rt: &R,
+    words: &[&[u8]],
+    example: &Example,
+) -> Result<(), Fail> {
+    let mut world = empty_world(rt.alloc());
+    fill(rt.alloc(), &mut world, words, example)?;
+    check(rt, world, example.status, example.written)
+}
+
+/// Runs the example, and where it has no words once more with several workers.
 fn check_example<R: Abort + Files + Print + AllocGlobal + Threads + Wait + Sync>(
     rt: &R,
     example: &Example,
 ) -> Result<(), Fail> {
-    let mut world = empty_world(rt.alloc());
-    fill(rt.alloc(), &mut world, example)?;
-    check(rt, world, example.status, example.written)
+    check_words(rt, example.words, example)?;
+    if example.words.is_empty() {
+        return check_words(rt, FOUR, example);
+    }
+    Ok(())
 }
 
 /// Runs the examples.

@@ -1,14 +1,9 @@
-use Rattle.std.proofs.Common.{sym, subst, ◌∙◌, true≢false}
-use Rattle.pure_words.specs.Words.{IsJob}
-use Rattle.pure_check.proofs.WordsLaws.{check_is_slow, no_job, taken_by}
+use Rattle.std.proofs.Common.{sym, ◌∙◌, true≢false}
+use Rattle.pure_check.proofs.WordsLaws.{cancels_none, no_job}
 use Rattle.pure_check.proofs.asked.asked.Goals as goal
 
-pub returns-then-is_taken-clause-ok : goal.returns-then-is_taken-clause-ok
-returns-then-is_taken-clause-ok c = taken_by _ _ _ _ (subst (IsJob c.args.words.now) c.in-Check.is c.in_ok-workers.ensures.ok) (c.is_taken.ensures.0 c.if-is_taken.true)
-
-pub returns-in-Check-clause-usage : goal.returns-in-Check-clause-usage
-returns-in-Check-clause-usage c usage check =
-    true≢false (sym (c.is_taken.ensures.1 (check_is_slow _ check _ (subst (IsJob c.args.words.now) c.in-Check.is c.in_ok-workers.ensures.ok))) ∙ c.if-is_taken.false)
+pub returns-then-cancels_nothing-clause-ok : goal.returns-then-cancels_nothing-clause-ok
+returns-then-cancels_nothing-clause-ok c = record { is_job = c.in_ok-job.ensures.ok; kept = c.cancels_nothing.ensures.0 c.if-cancels_nothing.true }
 
 pub returns-clause-usage : goal.returns-clause-usage
-returns-clause-usage c usage check = check_is_slow _ check _ (subst (IsJob c.args.words.now) c.in-Generate.is c.in_ok-workers.ensures.ok)
+returns-clause-usage c usage taken = true≢false (sym (c.cancels_nothing.ensures.1 (cancels_none _ taken _ c.in_ok-job.ensures.ok)) ∙ c.if-cancels_nothing.false)

@@ -6,14 +6,14 @@ use Rattle.pure_check.proofs.FormedLemmas.{checker_provable, checker_has_fates, 
 use Rattle.pure_check.proofs.formed.form.Goals as goal
 
 pub proofs-requires : goal.proofs-requires
-proofs-requires c = checker_provable _ _ _ c.in_ok-checker.ensures c.requires _ _ c.in_ok-closed.ensures _ c.names-names.ensures.value
+proofs-requires g c = checker_provable _ _ _ c.in_ok-checker.ensures c.requires _ _ c.in_ok-closed.ensures _ c.names-names.ensures.value
 
 pub table-requires : goal.table-requires
-table-requires c =
-    checker_has_fates _ _ _ c.in_ok-checker.ensures c.requires _ _ c.in_ok-closed.ensures _ c.names-names.ensures.value _ _ c.in_ok-entries.ensures.entries (ap seen c.as_slice-2.ensures.value)
+table-requires g c =
+    checker_has_fates _ _ _ c.in_ok-checker.ensures c.requires _ _ c.in_ok-closed.ensures _ c.names-names.ensures.value _ _ c.in_ok-entries.ensures (ap seen c.as_slice-2.ensures.value)
 
 pub returns : goal.returns
-returns c S is =
-    checker_formed _ _ _ c.in_ok-checker.ensures _ _ _ c.in_ok-closed.ensures (ap outlines c.as_slice.ensures.value) _ _ c.names-names.ensures.value c.names.ensures _ _ c.in_ok-entries.ensures.entries (ap seen c.as_slice-2.ensures.value)
-    _ _ (ap all_refused c.as_slice-3.ensures.value) _ _ _ c.in_ok-rows.ensures c.as_slice-4.ensures.value c.as_slice-5.ensures.value _ _ _ c.in_ok-text.ensures c.are_good-clean.ensures
+returns g c S is =
+    checker_formed _ _ _ c.in_ok-checker.ensures _ _ _ c.in_ok-closed.ensures (ap outlines c.as_slice.ensures.value) _ _ c.names-names.ensures.value c.names.ensures _ _ c.in_ok-entries.ensures (ap seen c.as_slice-2.ensures.value)
+    _ _ (ap all_refused c.as_slice-3.ensures.value) _ _ _ c.in_ok-rows.ensures c.as_slice-4.ensures.value c.as_slice-5.ensures.value _ _ _ _ c.in_ok-text.ensures c.are_good-clean.ensures
     S is.names is.theories is.refused is.files
