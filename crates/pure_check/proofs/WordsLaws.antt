@@ -9,7 +9,6 @@ use Rattle.pure_words.specs.Commands.{workers_of, fail_fast_of, cancels_of, chec
 use Rattle.pure_words.proofs.Readings.{one_reading}
 use Rattle.pure_check.specs.Asked.{Asked, asked_of, IsInRange, IsGenerate, CancelsNothing, AreTaken, IsTaken, IsCheck}
 use Rattle.pure_words.specs.declared.job.CancelWord.{CancelWord}
-use Rattle.pure_words.specs.declared.command.Size.{Size}
 use Rattle.pure_words.specs.declared.job.Job.{Job}
 use Rattle.pure_words.specs.declared.job.Job.TheVariants.{Check, Generate}
 
@@ -21,10 +20,6 @@ IfJob (Some job) = IsInRange job
 abbrev IsBetween : (low high : ℕ) → Option ℕ → Type 0
 IsBetween low high None = Unit {0}
 IsBetween low high (Some n) = (low ≤ n) × (n ≤ high)
-
-abbrev IfSize : Option Size → Type 0
-IfSize None = Unit {0}
-IfSize (Some size) = (size.start ≤ 65536) × (size.theories ≤ 64) × (size.lemmas ≤ 512)
 
 number-within : (low high : ℕ) (found : Option ℕ) → IsBetween low high (within low high found)
 number-within low high None = _
@@ -40,35 +35,35 @@ workers-within [] = (omega arith, omega arith)
 workers-within (value ∷ []) = number-within 1 64 (number_of value)
 workers-within (value ∷ other ∷ values) = _
 
-sized-within : (start theories lemmas : Option ℕ) → IsBetween 0 65536 start → IsBetween 1 64 theories → IsBetween 1 512 lemmas → IfSize (sized start theories lemmas)
-sized-within None theories lemmas s t l = _
-sized-within (Some start) None lemmas s t l = _
-sized-within (Some start) (Some theories) None s t l = _
-sized-within (Some start) (Some theories) (Some lemmas) s t l = by (nat_le (theories * lemmas) 4096)
+no-size : (workers : Option ℕ) → IfJob (generated workers None)
+no-size None = _
+no-size (Some n) = _
+
+sized-some : (workers start theories lemmas : Option ℕ) → IsBetween 1 64 workers → IsBetween 0 65536 start → IsBetween 1 64 theories → IsBetween 1 512 lemmas → IfJob (generated workers (sized start theories lemmas))
+sized-some None start theories lemmas w s t l = _
+sized-some (Some workers) None theories lemmas w s t l = _
+sized-some (Some workers) (Some start) None lemmas w s t l = _
+sized-some (Some workers) (Some start) (Some theories) None w s t l = _
+sized-some (Some workers) (Some start) (Some theories) (Some lemmas) w s t l = by (nat_le (theories * lemmas) 4096)
   where
-    by : (b : Bool) → IfSize (if b then Some (record { start = start; theories = theories; lemmas = lemmas }) else None)
-    by true = (s.1, t.1, l.1)
+    by : (b : Bool) → IfJob (generated (Some workers) (if b then Some (record { start = start; theories = theories; lemmas = lemmas }) else None))
+    by true = (w.0, s.1, t.1, l.1)
     by false = _
 
-size-within : (values : List (List ℕ)) → IfSize (size_of values)
-size-within [] = _
-size-within (start ∷ []) = _
-size-within (start ∷ theories ∷ []) = _
-size-within (start ∷ theories ∷ lemmas ∷ []) =
-    sized-within (within 0 65536 (number_of start)) (within 1 64 (number_of theories)) (within 1 512 (number_of lemmas))
-    (number-within 0 65536 (number_of start)) (number-within 1 64 (number_of theories)) (number-within 1 512 (number_of lemmas))
-size-within (start ∷ theories ∷ lemmas ∷ other ∷ values) = _
+generated-some : (workers : Option ℕ) (values : List (List ℕ)) → IsBetween 1 64 workers → IfJob (generated workers (size_of values))
+generated-some workers [] w = no-size workers
+generated-some workers (start ∷ []) w = no-size workers
+generated-some workers (start ∷ theories ∷ []) w = no-size workers
+generated-some workers (start ∷ theories ∷ lemmas ∷ []) w =
+    sized-some workers (within 0 65536 (number_of start)) (within 1 64 (number_of theories)) (within 1 512 (number_of lemmas))
+    w (number-within 0 65536 (number_of start)) (number-within 1 64 (number_of theories)) (number-within 1 512 (number_of lemmas))
+generated-some workers (start ∷ theories ∷ lemmas ∷ other ∷ values) w = no-size workers
 
 checked-some : (workers : Option ℕ) (fail_fast : Option Bool) (cancels : Option (List CancelWord)) → IsBetween 1 64 workers → IfJob (checked workers fail_fast cancels)
 checked-some None fail_fast cancels h = _
 checked-some (Some n) None cancels h = _
 checked-some (Some n) (Some b) None h = _
 checked-some (Some n) (Some b) (Some cs) h = h.0
-
-generated-some : (workers : Option ℕ) (size : Option Size) → IsBetween 1 64 workers → IfSize size → IfJob (generated workers size)
-generated-some None size h k = _
-generated-some (Some n) None h k = _
-generated-some (Some n) (Some size) h k = (h.0, k.0, k.1, k.2)
 
 check-some : (items : List Item) → IfJob (check_of (given_by no_given items))
 check-some items = let g = given_by no_given items in by (is_none g.arguments)
@@ -83,7 +78,7 @@ generate-some items = let g = given_by no_given items in by (is_none g.cancels &
     by : (b : Bool) → IfJob (if b then generated (workers_of (given_by no_given items).jobs) (size_of (given_by no_given items).arguments) else None)
     by true =
         let g = given_by no_given items in
-        generated-some (workers_of g.jobs) (size_of g.arguments) (workers-within g.jobs) (size-within g.arguments)
+        generated-some (workers_of g.jobs) g.arguments (workers-within g.jobs)
     by false = _
 
 either : (b d : Bool) (one other : Option Job) → IfJob one → IfJob other → IfJob (if b then one else (if d then other else None))

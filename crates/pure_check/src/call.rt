@@ -30,16 +30,16 @@ pub struct Ended {
 fn done<R: Files + Print + AllocGlobal + Threads + Sync, L: Library, S: Sink>(
     rt: &R,
     alloc: Global,
-    job: Job,
+    job: &Job,
     library: &mut L,
     out: &mut S,
 ) -> Status
-    requires { IsInRange job }
+    requires { IsInRange job.now }
     ensures usage { result ≢ Status.Usage }
-    ensures unlooked { IsGenerate job → library.new ≡ library.old }
-    ensures unread { IsGenerate job → result ≢ Status.ReadFault }
+    ensures unlooked { IsGenerate job.now → library.new ≡ library.old }
+    ensures unread { IsGenerate job.now → result ≢ Status.ReadFault }
     ensures unwritten { OnSilent result (out.new ≡ out.old) }
-    ensures wrote { Wrote result (IsChecked (files_for job (L.files library.old)) (extent_for job)) (S.written out.old) (S.written out.new) }
+    ensures wrote { Wrote result (IsChecked (files_for job.now (L.files library.old)) (extent_for job.now)) (S.written out.old) (S.written out.new) }
     ensures read_fault { result ≡ Status.ReadFault → Rose (L.faults library.old) (L.faults library.new) }
     ensures write_fault { result ≡ Status.WriteFault → Rose (S.faults out.old) (S.faults out.new) }
     ensures files { L.files library.new ≡ L.files library.old }
@@ -47,14 +47,14 @@ fn done<R: Files + Print + AllocGlobal + Threads + Sync, L: Library, S: Sink>(
     ensures later_out { S.faults out.old ≤ S.faults out.new }
 {
     match job {
-        Job::Check { workers, .. } => check(rt, alloc, library, workers, Extent::Whole, out),
+        Job::Check { workers, .. } => check(rt, alloc, library, *workers, Extent::Whole, out),
         Job::Generate {
             workers,
             start,
             theories,
             lemmas,
-        } => match generate(alloc, start, theories, lemmas) {
-            Ok(files) => check_generated(rt, alloc, files, workers, out),
+        } => match generate(alloc, *start, *theories, *lemmas) {
+            Ok(files) => check_generated(rt, alloc, files, *workers, out),
             Err(_) => Status::Memory,
         },
     }
@@ -81,7 +81,7 @@ fn answer<R: Files + Print + AllocGlobal + Threads + Sync, L: Library, S: Sink>(
     ensures later_out { S.faults out.old ≤ S.faults out.new }
 {
     match asked(alloc, words) {
-        Ok(job) => done(rt, alloc, job, library, out),
+        Ok(job) => done(rt, alloc, &job, library, out),
         Err(WordsFault::Usage) => Status::Usage,
         Err(WordsFault::Memory) => Status::Memory,
     }

@@ -17,11 +17,11 @@ use std::thread::Threads;
 
 /// Files in memory, of which each call succeeds. Contracts see the files.
 #[derive(Drop)]
-struct Generated {
+struct GeneratedFiles {
     library: MemLibrary,
 }
 
-impl Model for Generated {
+impl Model for GeneratedFiles {
     ghost use Rattle.std.specs.Prelude.{◌≡◌, List, []};
     ghost use Rattle.pure_io.specs.declared.library.File.{File};
 
@@ -32,18 +32,18 @@ impl Model for Generated {
     ghost invariant = { λ g. g.library.failing ≡ [] };
 }
 
-impl Generated {
+impl GeneratedFiles {
     /// The library of these files.
-    fn make(alloc: Global, files: Vec<File>) -> Generated
+    fn make(alloc: Global, files: Vec<File>) -> GeneratedFiles
         ensures { result ≡ files.items }
     {
-        Generated {
+        GeneratedFiles {
             library: MemLibrary::make(files, Vec::new(alloc)),
         }
     }
 }
 
-impl Library for Generated {
+impl Library for GeneratedFiles {
     ghost use Rattle.std.specs.Prelude.{Some};
 
     ghost files = { λ files. Some files };
@@ -84,6 +84,6 @@ pub(crate) fn check_generated<R: Files + Print + AllocGlobal + Threads + Sync, S
     ensures write_fault { result ≡ Status.WriteFault → Rose (S.faults out.old) (S.faults out.new) }
     ensures later { S.faults out.old ≤ S.faults out.new }
 {
-    let mut library = Generated::make(alloc, files);
+    let mut library = GeneratedFiles::make(alloc, files);
     check(rt, alloc, &mut library, workers, Extent::LastLine, out)
 }
