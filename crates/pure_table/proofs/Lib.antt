@@ -5,6 +5,7 @@ pub mod FillingLaws
 pub mod PrintedLaws
 pub mod EntryLaws
 pub mod PartLaws
+pub mod SendLaws
 pub mod FulfilledLaws
 pub mod JoinLaws
 pub mod MeantLaws
