@@ -8,7 +8,7 @@ use Rattle.pure_print.specs.declared.row.Row.{Row}
 use Rattle.pure_session.specs.Refused.{all_refused}
 use Rattle.pure_session.specs.Waiting.{all_loaded}
 use Rattle.pure_session.specs.declared.session.Session as code
-use Rattle.pure_verdicts.specs.Loaded.{IsLoadedSession}
+use Rattle.pure_loaded.specs.Loaded.{IsLoadedSession}
 use Rattle.pure_table.specs.Table.{Table, IsTable, table_rows}
 use Rattle.pure_words.specs.declared.job.Job.{Job}
 use Rattle.pure_words.specs.declared.job.Job.TheVariants.{Check, Generate}

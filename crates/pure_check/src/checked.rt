@@ -3,7 +3,7 @@ ghost use Rattle.std.specs.Prelude.{◌≡◌, ◌≢◌, ◌≤◌};
 ghost use Rattle.pure_io.specs.Outside.{Rose};
 ghost use Rattle.pure_graph.specs.Session as graph;
 ghost use Rattle.pure_session.specs.Waiting.{all_loaded};
-ghost use Rattle.pure_verdicts.specs.Loaded.{IsLoadedSession};
+ghost use Rattle.pure_loaded.specs.Loaded.{IsLoadedSession};
 ghost use Rattle.pure_check.specs.Answer.{Wrote, IsPrinted, OnSilent};
 ghost use Rattle.pure_check.specs.Formed.{IsSeenSession, IsTextOf, IsChecked};
 

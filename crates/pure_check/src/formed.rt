@@ -3,7 +3,7 @@ ghost use Rattle.std.specs.Prelude.{◌≡◌, IfOk, length};
 ghost use Rattle.std.specs.List.{flat_map, list_all};
 ghost use Rattle.pure_graph.specs.Session as graph;
 ghost use Rattle.pure_session.specs.Waiting.{all_loaded};
-ghost use Rattle.pure_verdicts.specs.Loaded.{IsLoadedSession};
+ghost use Rattle.pure_loaded.specs.Loaded.{IsLoadedSession};
 ghost use Rattle.pure_print.specs.RowText.{row_text, total_line};
 ghost use Rattle.pure_check.specs.Formed.{IsSeenSession, IsFormed, rows_text};
 ghost use Rattle.pure_check.specs.Meaning as spec;
