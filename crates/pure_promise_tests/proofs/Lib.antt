@@ -1,3 +1,4 @@
 pub mod OrderLemmas
 pub mod EarlierLemmas
 pub mod GroundLemmas
+pub mod PairLemmas

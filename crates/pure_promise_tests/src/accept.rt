@@ -1,28 +1,37 @@
 //! Which theorems fulfil promises, and why others don't.
 ghost use Rattle.std.specs.Prelude.{IfOk};
+ghost use Rattle.pure_logic.specs.Derivable.{IsDerivable};
 ghost use Rattle.pure_promise_tests.specs.Earlier.{AreEarlier};
 
 use crate::lemmas::made;
 use crate::names::{label_at, name_at};
+use crate::paired::paired;
 use crate::session::{promised, pure_theory, statement};
-use crate::theorems::{assumed, resting, resting_on_both, trivial};
+use crate::theorems::{assumed, assumed_resting, resting, resting_on_both, trivial};
 use pure_promise::{AcceptFault, Promise};
 use pure_stage::shared;
 use pure_term::Label;
+use pure_theorem::Thm;
 use pure_theory::{Cthm, Decl, Stage, Theory};
 use std::alloc::{AllocError, Global};
 use std::process::Abort;
 use std::sync::Arc;
 use std::test::Fail;
 
-/// The number of a promise, its statement by a letter, a theorem by a letter, and the answer by one. Theorems are `t`, `?A ==> ?A`; `a`, `?A` from itself; `0` and `1`, what these promises state; and `2`, `?A` resting on both. Answers are `.` where the theorem is taken, `P` for another statement, `H` for hypotheses, and `0` or `1` for a promise that may not be rested on. Of the two promises the second was forked first.
-static ROWS: [(u32, u8, u8, u8); 13] = [
+/// The number of a promise, its statement by a letter, a theorem by a letter, and the answer by one. Theorems are `t`, `?A ==> ?A`; `a`, `?A` from itself; `0` and `1`, what these promises state; `2`, `?A` resting on both; `d`, `?A` from itself, resting on the first; and, under a pair of two variables, `f`, `?A ==> ?A`, `h`, `?A` from itself, and `p`, what the first promise states. Answers are `.` where the theorem is taken, `P` for another statement, `H` for hypotheses, `F` for pairs, and `0` or `1` for a promise that may not be rested on. Of the two promises the second was forked first.
+static ROWS: [(u32, u8, u8, u8); 19] = [
     (0, b'o', b't', b'.'),
     (0, b'r', b't', b'P'),
     (0, b'r', b'a', b'H'),
-    // The statement comes before the hypotheses, and before what it rests on.
+    (0, b'o', b'f', b'F'),
+    // The statement comes before the hypotheses, before the pairs, and before what it rests on.
     (0, b'o', b'a', b'P'),
+    (0, b'r', b'f', b'P'),
     (0, b'o', b'0', b'P'),
+    // The hypotheses come before the pairs and before what it rests on, and the pairs before that too.
+    (0, b'r', b'h', b'H'),
+    (0, b'r', b'd', b'H'),
+    (0, b'r', b'p', b'F'),
     (3, b'r', b'0', b'.'),
     (3, b'r', b'2', b'.'),
     (2, b'r', b'2', b'.'),
@@ -32,7 +41,11 @@ static ROWS: [(u32, u8, u8, u8); 13] = [
     (0, b'r', b'1', b'1'),
     (0, b'r', b'2', b'0'),
     (1, b'r', b'2', b'0'),
+    (3, b'r', b'p', b'F'),
 ];
+
+/// The statement of a promise in Pure and a theorem, by their letters, of which each has something else amiss beside its theory: the statement, hypotheses, a pair, or what it rests on.
+static OF_PURE: [(u8, u8); 4] = [(b'o', b'a'), (b'r', b'a'), (b'o', b'f'), (b'r', b'0')];
 
 /// The labels of promises in the order of their numbers.
 fn forked(alloc: Global) -> Result<Vec<Label>, AllocError> {
@@ -48,21 +61,50 @@ fn answer(letter: u8) -> Result<(), AcceptFault> {
     match letter {
         b'P' => Err(AcceptFault::BadProp),
         b'H' => Err(AcceptFault::OpenHyps),
+        b'F' => Err(AcceptFault::OpenPairs),
         b'0' => Err(AcceptFault::BadDependency { label: label_at(0) }),
         b'1' => Err(AcceptFault::BadDependency { label: label_at(1) }),
         _ => Ok(()),
     }
 }
 
+/// The theorem that the letter says, without pairs.
+fn plain(alloc: Global, theory: &Theory, letter: u8) -> Result<Thm, Fail>
+    ensures { IfOk result (IsDerivable theory.now) }
+{
+    match letter {
+        b't' => trivial(alloc, theory),
+        b'a' => assumed(alloc, theory),
+        b'd' => assumed_resting(alloc, theory, 0),
+        b'0' => resting(alloc, theory, 0),
+        b'1' => resting(alloc, theory, 1),
+        _ => resting_on_both(alloc, theory, 0, 1),
+    }
+}
+
+/// The theorem that the letter says, under a pair.
+fn under_pair(alloc: Global, theory: &Theory, letter: u8) -> Result<Thm, Fail>
+    ensures { IfOk result (IsDerivable theory.now) }
+{
+    let th = plain(alloc, theory, letter)?;
+    paired(alloc, theory, &th)
+}
+
+/// The theorem that the letter says.
+fn drawn(alloc: Global, theory: &Theory, letter: u8) -> Result<Thm, Fail>
+    ensures { IfOk result (IsDerivable theory.now) }
+{
+    match letter {
+        b'f' => under_pair(alloc, theory, b't'),
+        b'h' => under_pair(alloc, theory, b'a'),
+        b'p' => under_pair(alloc, theory, b'0'),
+        _ => plain(alloc, theory, letter),
+    }
+}
+
 /// The theorem that the letter says, in the theory.
 fn theorem(alloc: Global, stage: &Stage, letter: u8) -> Result<Cthm, Fail> {
-    let th = match letter {
-        b't' => trivial(alloc, &**stage)?,
-        b'a' => assumed(alloc, &**stage)?,
-        b'0' => resting(alloc, &**stage, 0)?,
-        b'1' => resting(alloc, &**stage, 1)?,
-        _ => resting_on_both(alloc, &**stage, 0, 1)?,
-    };
+    let th = drawn(alloc, &**stage, letter)?;
     made(stage, th)
 }
 
@@ -135,9 +177,9 @@ fn is_refused_by(promise: &Promise, theorem: &Cthm) -> bool {
     promise.accept(&[], theorem) == Err(AcceptFault::BadTheory { declaration })
 }
 
-/// Whether a theorem of the theory is refused so.
-fn is_refused(alloc: Global, stage: &Stage, promise: &Promise) -> Result<bool, Fail> {
-    let theorem = theorem(alloc, stage, b'a')?;
+/// Whether the theorem of the theory that the letter says is refused so.
+fn is_refused(alloc: Global, stage: &Stage, promise: &Promise, letter: u8) -> Result<bool, Fail> {
+    let theorem = theorem(alloc, stage, letter)?;
     Ok(is_refused_by(promise, &theorem))
 }
 
@@ -147,16 +189,16 @@ fn shared_pure(alloc: Global) -> Result<Stage, Fail> {
     Ok(shared(alloc, pure)?)
 }
 
-/// A promise in Pure of `?A ==> ?A`.
-fn pure_promise(alloc: Global) -> Result<Promise, Fail> {
+/// A promise in Pure that states what the letter says.
+fn pure_promise(alloc: Global, letter: u8) -> Result<Promise, Fail> {
     let pure = shared_pure(alloc)?;
-    promise(alloc, &pure, 0, b'o')
+    promise(alloc, &pure, 0, letter)
 }
 
 /// Whether a theorem of a theory that has more is refused by its first declaration more, whatever else is amiss.
-fn is_refused_theory(alloc: Global, stage: &Stage) -> Result<bool, Fail> {
-    let promise = pure_promise(alloc)?;
-    is_refused(alloc, stage, &promise)
+fn is_refused_theory(alloc: Global, stage: &Stage, row: &(u8, u8)) -> Result<bool, Fail> {
+    let promise = pure_promise(alloc, row.0)?;
+    is_refused(alloc, stage, &promise, row.1)
 }
 
 #[test]
@@ -165,6 +207,8 @@ fn accept(rt: HostRuntime) -> Result<(), Fail> {
     for row in &ROWS {
         assert!(rt; is_answer(rt.alloc(), &stage, row)?);
     }
-    assert!(rt; is_refused_theory(rt.alloc(), &stage)?);
+    for row in &OF_PURE {
+        assert!(rt; is_refused_theory(rt.alloc(), &stage, row)?);
+    }
     Ok(())
 }

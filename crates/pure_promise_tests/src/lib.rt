@@ -9,6 +9,8 @@ mod grounds;
 mod lemmas;
 mod names;
 mod order;
+#[cfg(test)]
+mod paired;
 mod session;
 #[cfg(test)]
 mod table;

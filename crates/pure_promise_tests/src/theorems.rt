@@ -93,6 +93,23 @@ pub(crate) fn resting_on_both(
     eliminated_by(alloc, theory, &implication, second)
 }
 
+/// What the theorem shows of `?A` from itself.
+fn eliminated_by_itself(alloc: Global, theory: &Theory, first: &Thm) -> Result<Thm, Fail>
+    requires { IsDerivable theory.now first.now }
+    ensures { IfOk result (IsDerivable theory.now) }
+{
+    let premise = assumed(alloc, theory)?;
+    eliminated(alloc, theory, first, &premise)
+}
+
+/// `?A` from itself, resting on the promise at the place.
+pub(crate) fn assumed_resting(alloc: Global, theory: &Theory, place: u32) -> Result<Thm, Fail>
+    ensures { IfOk result (IsDerivable theory.now) }
+{
+    let implication = implied(alloc, theory, place)?;
+    eliminated_by_itself(alloc, theory, &implication)
+}
+
 /// `?A ==> ?A`
 pub(crate) fn trivial(alloc: Global, theory: &Theory) -> Result<Thm, Fail>
     ensures { IfOk result (IsDerivable theory.now) }
