@@ -1,9 +1,9 @@
 -- Counts over lists, one element after the other.
-use Rattle.std.proofs.Common.{◌≡◌, ◌≢◌, ◌∙◌, ◌≤◌, ◌<◌, ℕ, zero, suc, ◌+◌, List, [], ◌∷◌, ◌++◌, map, length, set, refl, sym, ap, subst, arith, Bool, true, false, ◌&&◌, Option, Some, None, slice_get, inl, inr, ◌⊎◌}
+use Rattle.std.proofs.Common.{◌≡◌, ◌∙◌, ◌≤◌, ℕ, zero, suc, ◌+◌, List, [], ◌∷◌, ◌++◌, map, set, refl, ap, arith, Bool, true, false, cond, Some, slice_get, inl, inr}
 use Rattle.std.specs.List.{count_by}
 use Rattle.std.proofs.lemmas.List.Sums.{sum_by-cons}
 use Rattle.std.proofs.lemmas.Option.{same_Some, none-some}
-use Rattle.pure_text.specs.Lists.{IsIn, Each}
+use Rattle.pure_text.specs.Lists.{IsIn}
 
 -- one where it is so, and else none
 abbrev pub one_if : Bool → ℕ
@@ -37,7 +37,7 @@ counted-agree f g [] same = refl
 counted-agree f g (x ∷ xs) same = ap (λ b. one_if b + counted f xs) (same x (inl refl)) ∙ ap (λ k. one_if (g x) + k) (counted-agree f g xs (λ y m. same y (inr m)))
 
 -- a test that passes wherever another does counts no less
-one_if-le : (b c : Bool) → (b ≡ true → c ≡ true) → one_if b ≤ one_if c
+pub one_if-le : (b c : Bool) → (b ≡ true → c ≡ true) → one_if b ≤ one_if c
 one_if-le true true h = omega arith
 one_if-le true false h = absurd (let e = h refl in cc)
 one_if-le false true h = omega arith

@@ -1,16 +1,16 @@
 -- Which groups are cancelled in each state of a legal run: those that the policy asks for by the deliveries that were kept.
-use Rattle.std.proofs.Common.{◌≡◌, ◌≢◌, ◌∙◌, ◌≤◌, ◌<◌, ℕ, zero, suc, ◌+◌, List, [], ◌∷◌, ◌++◌, map, length, refl, sym, ap, subst, arith, nat_eq, nat_le, Bool, true, false, not, ◌&&◌, ◌||◌, if◌then◌else◌, Option, Some, None, slice_get, inl, inr, ◌⊎◌}
+use Rattle.std.proofs.Common.{◌≡◌, ◌∙◌, ◌≤◌, ℕ, zero, suc, ◌+◌, List, [], ◌∷◌, ◌++◌, map, length, refl, sym, ap, subst, arith, nat_eq, nat_le, Bool, true, false, ◌&&◌, ◌||◌, if◌then◌else◌, Some, slice_get}
 use Rattle.std.specs.List.{list_any}
-use Rattle.std.proofs.lemmas.Option.{same_Some, none-some, slice_get_within}
+use Rattle.std.proofs.lemmas.Option.{none-some, slice_get_within}
 use Rattle.std.proofs.lemmas.List.{length-map}
-use Rattle.std.proofs.lemmas.Bool.{eqb-true, eq-eqb, leb-true, leb-false, le-leb, lt-leb}
-use Rattle.pure_text.specs.Lists.{IsIn, Each}
+use Rattle.std.proofs.lemmas.Bool.{eqb-true, eq-eqb, leb-true, leb-false, le-leb}
+use Rattle.pure_text.specs.Lists.{Each}
 use Rattle.pure_machine.specs.declared.policy.Group.{Group}
-use Rattle.pure_machine.specs.declared.policy.Group.TheVariants.{Session, Theory}
+use Rattle.pure_machine.specs.declared.policy.Group.TheVariants.{Session}
 use Rattle.pure_machine.specs.declared.policy.Cancel.{Cancel}
-use Rattle.pure_machine.specs.Policy.{Policy, Opening, due, due_one}
-use Rattle.pure_machine.specs.State.{Progress, Running, Promise, Standing, Ready, Taken, Settled, Cancelled, Event, TakeTheory, TakeProof, Fork, CloseTheory, Deliver, Stop, Marks, State, theory_at, waiting, unmarked, is_theory_cancelled, is_true_there, with_cancelled, opened}
-use Rattle.pure_machine.specs.Step.{Stands, IsOver, Allows, IsRunFrom, new_promise, cancelled_by, after, after_all}
+use Rattle.pure_machine.specs.Policy.{Policy, Opening, due}
+use Rattle.pure_machine.specs.State.{Running, Promise, Standing, Ready, Taken, Settled, Cancelled, Event, State, theory_at, waiting, unmarked, is_theory_cancelled, is_true_there, with_cancelled, opened}
+use Rattle.pure_machine.specs.Step.{Stands, IsOver, Allows, IsRunFrom, cancelled_by, after, after_all}
 use Rattle.pure_core.proofs.KeptLaws.{IsKept, kept-after, kept-opened, cancel-keeps}
 use Rattle.pure_core.proofs.RunLaws.{opening-after_all}
 use Rattle.pure_seats.proofs.ChangeLaws.{Became, stayed, was_forked, was_taken, was_settled, was_cancelled, became, allowed_there, theories-as_many}
@@ -19,17 +19,9 @@ use Rattle.pure_seats.proofs.GroupLaws.{AreGone, gone-after, gone-opened}
 use Rattle.pure_heed.specs.Heeded.{has_theory, has_come, is_due}
 use Rattle.pure_heed.proofs.CountLaws.{one_if, counted-le}
 use Rattle.pure_heed.proofs.OrderLaws.{IsAmong}
-use Rattle.pure_heed.proofs.TallyLaws.{passes, tally, HasPlace, IsQuiet, HasScored, Scores, quiet, scored, scores, tally-with, cancelled-is, cancelled-length}
+use Rattle.pure_heed.proofs.TallyLaws.{or-assoc, or-true, passes, tally, HasPlace, Scores, quiet, scored, scores, tally-with, cancelled-is, cancelled-length}
 
 -- truth values
-or-assoc : (a b c : Bool) → ((a || b) || c) ≡ (a || (b || c))
-or-assoc true b c = refl
-or-assoc false b c = refl
-
-or-true : (a : Bool) → (a || true) ≡ true
-or-true true = refl
-or-true false = refl
-
 and-true : (a : Bool) → (a && true) ≡ a
 and-true true = refl
 and-true false = refl
@@ -71,6 +63,24 @@ le-zero x = by_flags (nat_eq x 0) (nat_le x 0) refl refl
     by_flags true false ea eb = absurd (let low = leb-false x 0 eb in let same = eqb-true x 0 ea in omega arith)
     by_flags false true ea eb = absurd (let low = leb-true x 0 eb in let same : x ≡ 0 = omega arith in let found = eq-eqb x 0 same in cc)
     by_flags false false ea eb = refl
+
+-- what was due stays due
+come-grows : (i : ℕ) (cs : List Cancel) (k l : ℕ) → k ≤ l → list_any (has_come k i) cs ≡ true → list_any (has_come l i) cs ≡ true
+come-grows i [] k l le is = is
+come-grows i (c ∷ cs) k l le is = by_flags (has_theory c.group i) (nat_le c.after k) refl (come-grows i cs k l le) is
+  where
+    by_flags : (a b : Bool) → nat_le c.after k ≡ b → (list_any (has_come k i) cs ≡ true → list_any (has_come l i) cs ≡ true) → ((a && b) || list_any (has_come k i) cs) ≡ true → ((a && nat_le c.after l) || list_any (has_come l i) cs) ≡ true
+    by_flags true true e rest here = ap (λ x. x || list_any (has_come l i) cs) (le-leb c.after l (let low = leb-true c.after k e in omega arith))
+    by_flags true false e rest here = ap (λ x. nat_le c.after l || x) (rest here) ∙ or-true (nat_le c.after l)
+    by_flags false b e rest here = rest here
+
+pub due-grows : (p : Policy) (k l f g i : ℕ) → k ≤ l → f ≤ g → is_due p k f i ≡ true → is_due p l g i ≡ true
+due-grows p k l f g i more worse is = by_flags p.fail_fast (nat_le 1 f) refl is
+  where
+    by_flags : (a b : Bool) → nat_le 1 f ≡ b → ((a && b) || list_any (has_come k i) p.cancels) ≡ true → ((a && nat_le 1 g) || list_any (has_come l i) p.cancels) ≡ true
+    by_flags true true e here = ap (λ x. x || list_any (has_come l i) p.cancels) (le-leb 1 g (let low = leb-true 1 f e in omega arith))
+    by_flags true false e here = ap (λ x. nat_le 1 g || x) (come-grows i p.cancels k l more here) ∙ or-true (nat_le 1 g)
+    by_flags false b e here = come-grows i p.cancels k l more here
 
 -- whether a group that is cancelled by just so many deliveries has the theory
 abbrev comes_now : (k i : ℕ) → Cancel → Bool
@@ -136,29 +146,17 @@ obeyed-more (c ∷ cs) k i old new none grows most each =
     one true false ea eb e = let late = leb-false c.after k eb in let next = grows c.group in let least = most c.group in let bit = ap one_if ea in omega arith
     one false b ea eb e = let next = grows c.group in let before = each.0 in let bit = ap one_if ea in omega arith
 
-module _ {G C O : Type 0} (is_fault : O → Bool) where
-  -- how many settled promises are at fault, how many there are, and how many of a group
-  abbrev pub faulty : List (Promise G O) → ℕ
-  faulty ps = tally (λ i o. is_fault o) ps
+-- how many settled promises are at fault, how many there are, and how many of a group
+abbrev pub faulty : {G O : Type 0} → (is_fault : O → Bool) → List (Promise G O) → ℕ
+faulty is_fault ps = tally (λ i o. is_fault o) ps
 
-  abbrev pub settled_ones : List (Promise G O) → ℕ
-  settled_ones ps = tally (λ i o. true) ps
+abbrev pub settled_ones : {G O : Type 0} → List (Promise G O) → ℕ
+settled_ones ps = tally (λ i o. true) ps
 
-  abbrev pub settled_of : Group → List (Promise G O) → ℕ
-  settled_of g ps = tally (λ i o. has_theory g i) ps
+abbrev pub settled_of : {G O : Type 0} → Group → List (Promise G O) → ℕ
+settled_of g ps = tally (λ i o. has_theory g i) ps
 
-  -- In the state the groups of a theory are cancelled just where the policy asks for it by the deliveries that were kept.
-  pub record IsPolicied (o : Opening) (s : State G C O) : Type 0 where
-    pub opening_is : s.opening ≡ o
-    pub places : length s.cancelled.theories ≡ length o.shape
-    pub stages : length s.theories ≡ length o.shape
-    pub kept_is : s.kept ≡ settled_ones s.promises
-    pub due_is : (i : ℕ) → IsAmong (length o.shape) i → is_theory_cancelled s.cancelled i ≡ is_due o.policy s.kept (faulty s.promises) i
-    pub among : (n : ℕ) (p : Promise G O) → Stands s n p → IsAmong (length o.shape) p.theory
-    pub gone : (n : ℕ) (p : Promise G O) → Stands s n p → p.standing ≡ Cancelled → is_theory_cancelled s.cancelled p.theory ≡ true
-    pub one_fault : o.policy.fail_fast ≡ true → faulty s.promises ≤ 1
-    pub obeyed : Each (λ c. settled_of c.group s.promises ≤ c.after) o.policy.cancels
-
+module _ {G O : Type 0} where
   at-most-settled : (g : Group) (ps : List (Promise G O)) → settled_of g ps ≤ settled_ones ps
   at-most-settled g ps = counted-le (λ (p : Promise G O). passes (λ i o. has_theory g i) p.theory p.standing) (λ (p : Promise G O). passes (λ i o. true) p.theory p.standing) ps (λ p m is. settled_any p.theory p.standing is)
     where
@@ -167,6 +165,19 @@ module _ {G C O : Type 0} (is_fault : O → Bool) where
       settled_any i Taken is = absurd (cc)
       settled_any i (Settled o) is = refl
       settled_any i Cancelled is = absurd (cc)
+
+module _ {G C O : Type 0} (is_fault : O → Bool) where
+  -- In the state the groups of a theory are cancelled just where the policy asks for it by the deliveries that were kept.
+  pub record IsPolicied (o : Opening) (s : State G C O) : Type 0 where
+    pub opening_is : s.opening ≡ o
+    pub places : length s.cancelled.theories ≡ length o.shape
+    pub stages : length s.theories ≡ length o.shape
+    pub kept_is : s.kept ≡ settled_ones s.promises
+    pub due_is : (i : ℕ) → IsAmong (length o.shape) i → is_theory_cancelled s.cancelled i ≡ is_due o.policy s.kept (faulty is_fault s.promises) i
+    pub among : (n : ℕ) (p : Promise G O) → Stands s n p → IsAmong (length o.shape) p.theory
+    pub gone : (n : ℕ) (p : Promise G O) → Stands s n p → p.standing ≡ Cancelled → is_theory_cancelled s.cancelled p.theory ≡ true
+    pub one_fault : o.policy.fail_fast ≡ true → faulty is_fault s.promises ≤ 1
+    pub obeyed : Each (λ c. settled_of c.group s.promises ≤ c.after) o.policy.cancels
 
   -- at the opening
   pub policied-opened : (o : Opening) → IsPolicied o (opened o)
@@ -182,7 +193,7 @@ module _ {G C O : Type 0} (is_fault : O → Bool) where
         ∙ come-first i o.policy.cancels
         ∙ sym (ap (λ b. b || list_any (has_come 0 i) o.policy.cancels) (and-false o.policy.fail_fast))
         ∙ ap (λ f. is_due o.policy 0 f i) (sym (tally-with (λ j x. is_fault x) begun groups))
-        ∙ ap (λ k. is_due o.policy k (faulty (opened {G = G} {C = C} {O = O} o).promises) i) (sym (started-kept groups));
+        ∙ ap (λ k. is_due o.policy k (faulty is_fault (opened {G = G} {C = C} {O = O} o).promises) i) (sym (started-kept groups));
     among = λ n p at. absurd (opened-none G C O o n p at);
     gone = λ n p at. absurd (opened-none G C O o n p at);
     one_fault = λ fast. (let none = tally-with (λ i x. is_fault x) begun groups in omega arith);
@@ -208,15 +219,15 @@ module _ {G C O : Type 0} (is_fault : O → Bool) where
     place-of i among = (among.0, (let same = h.places in let high = among.1 in omega arith))
 
     -- the marks after the event
-    marks-after : Scores is_fault s e → (i : ℕ) → IsAmong (length o.shape) i → is_theory_cancelled (after s e).cancelled i ≡ is_due o.policy (after s e).kept (faulty (after s e).promises) i
-    marks-after (quiet q) i among = ap (λ m. is_theory_cancelled m i) q.marks_are ∙ h.due_is i among ∙ ap (λ k. is_due o.policy k (faulty s.promises) i) (sym q.kept_is) ∙ ap (λ f. is_due o.policy (after s e).kept f i) (sym (q.tally_is (λ j x. is_fault x)))
+    marks-after : Scores is_fault s e → (i : ℕ) → IsAmong (length o.shape) i → is_theory_cancelled (after s e).cancelled i ≡ is_due o.policy (after s e).kept (faulty is_fault (after s e).promises) i
+    marks-after (quiet q) i among = ap (λ m. is_theory_cancelled m i) q.marks_are ∙ h.due_is i among ∙ ap (λ k. is_due o.policy k (faulty is_fault s.promises) i) (sym q.kept_is) ∙ ap (λ f. is_due o.policy (after s e).kept f i) (sym (q.tally_is (λ j x. is_fault x)))
     marks-after (scored n p x what q) i among =
         q.marks_are i (place-of i among)
         ∙ ap (λ b. b || list_any (λ g. has_theory g i) (cancelled_by s.opening.policy (s.kept + 1) (is_fault x))) (h.due_is i among)
-        ∙ ap (λ y. is_due o.policy s.kept (faulty s.promises) i || list_any (λ g. has_theory g i) (cancelled_by y.policy (s.kept + 1) (is_fault x))) h.opening_is
-        ∙ due-next o.policy s.kept (faulty s.promises) i (is_fault x)
+        ∙ ap (λ y. is_due o.policy s.kept (faulty is_fault s.promises) i || list_any (λ g. has_theory g i) (cancelled_by y.policy (s.kept + 1) (is_fault x))) h.opening_is
+        ∙ due-next o.policy s.kept (faulty is_fault s.promises) i (is_fault x)
         ∙ ap (λ f. is_due o.policy (s.kept + 1) f i) (sym (q.tally_is (λ j y. is_fault y)))
-        ∙ ap (λ k. is_due o.policy k (faulty (after s e).promises) i) (sym q.kept_is)
+        ∙ ap (λ k. is_due o.policy k (faulty is_fault (after s e).promises) i) (sym q.kept_is)
 
     -- what is cancelled stays so
     marks-stay : Scores is_fault s e → (i : ℕ) → IsAmong (length o.shape) i → is_theory_cancelled s.cancelled i ≡ true → is_theory_cancelled (after s e).cancelled i ≡ true
@@ -224,7 +235,7 @@ module _ {G C O : Type 0} (is_fault : O → Bool) where
     marks-stay (scored n p x what q) i among is = q.marks_are i (place-of i among) ∙ ap (λ b. b || list_any (λ g. has_theory g i) (cancelled_by s.opening.policy (s.kept + 1) (is_fault x))) is
 
     -- a promise that is taken is in no group that is due
-    not_due : (n : ℕ) (p : Promise G O) → Stands s n p → p.standing ≡ Taken → is_due o.policy s.kept (faulty s.promises) p.theory ≡ false
+    pub not_due : (n : ℕ) (p : Promise G O) → Stands s n p → p.standing ≡ Taken → is_due o.policy s.kept (faulty is_fault s.promises) p.theory ≡ false
     not_due n p at taken = sym (h.due_is p.theory (h.among n p at)) ∙ by_flag (is_theory_cancelled s.cancelled p.theory) refl
       where
         by_flag : (b : Bool) → is_theory_cancelled s.cancelled p.theory ≡ b → is_theory_cancelled s.cancelled p.theory ≡ false
@@ -253,12 +264,12 @@ module _ {G C O : Type 0} (is_fault : O → Bool) where
     gone-so score n q (was_settled p x fault what at lives new) is = absurd (let two : ◌≡◌ {A = Standing O} (Settled x) Cancelled = ap (λ y. y.standing) new ∙ is in cc)
     gone-so score n q (was_cancelled p other m x fault what apart there lives at unsettled marked new) is = subst (λ i. is_theory_cancelled (after s e).cancelled i ≡ true) (ap (λ y. y.theory) new) marked
 
-    one_fault-so : Scores is_fault s e → o.policy.fail_fast ≡ true → faulty (after s e).promises ≤ 1
+    one_fault-so : Scores is_fault s e → o.policy.fail_fast ≡ true → faulty is_fault (after s e).promises ≤ 1
     one_fault-so (quiet q) fast = let same = q.tally_is (λ j x. is_fault x) in let most = h.one_fault fast in omega arith
     one_fault-so (scored n p x what q) fast =
-        let parts = neither (o.policy.fail_fast && nat_le 1 (faulty s.promises)) (list_any (has_come s.kept p.theory) o.policy.cancels) (not_due n p q.stood q.was_taken) in
-        let none : nat_le 1 (faulty s.promises) ≡ false = ap (λ b. b && nat_le 1 (faulty s.promises)) (sym fast) ∙ parts.0 in
-        let low = leb-false 1 (faulty s.promises) none in
+        let parts = neither (o.policy.fail_fast && nat_le 1 (faulty is_fault s.promises)) (list_any (has_come s.kept p.theory) o.policy.cancels) (not_due n p q.stood q.was_taken) in
+        let none : nat_le 1 (faulty is_fault s.promises) ≡ false = ap (λ b. b && nat_le 1 (faulty is_fault s.promises)) (sym fast) ∙ parts.0 in
+        let low = leb-false 1 (faulty is_fault s.promises) none in
         let next = q.tally_is (λ j y. is_fault y) in
         let bit = at-most-one (is_fault x) in
         omega arith
@@ -274,7 +285,7 @@ module _ {G C O : Type 0} (is_fault : O → Bool) where
     obeyed-so : Scores is_fault s e → Each (λ (c : Cancel). settled_of c.group (after s e).promises ≤ c.after) o.policy.cancels
     obeyed-so (quiet q) = same-obeyed o.policy.cancels (λ g. q.tally_is (λ i x. has_theory g i)) h.obeyed
     obeyed-so (scored n p x what q) =
-        let parts = neither (o.policy.fail_fast && nat_le 1 (faulty s.promises)) (list_any (has_come s.kept p.theory) o.policy.cancels) (not_due n p q.stood q.was_taken) in
+        let parts = neither (o.policy.fail_fast && nat_le 1 (faulty is_fault s.promises)) (list_any (has_come s.kept p.theory) o.policy.cancels) (not_due n p q.stood q.was_taken) in
         obeyed-more o.policy.cancels s.kept p.theory (λ g. settled_of g s.promises) (λ g. settled_of g (after s e).promises) parts.1 (λ g. q.tally_is (λ i y. has_theory g i)) (λ g. (let most = at-most-settled g s.promises in let same = h.kept_is in omega arith)) h.obeyed
 
     kept-so : Scores is_fault s e → (after s e).kept ≡ settled_ones (after s e).promises

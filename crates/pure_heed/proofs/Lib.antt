@@ -1,0 +1,9 @@
+pub mod CountLaws
+pub mod OrderLaws
+pub mod TallyLaws
+pub mod DueLaws
+pub mod FinishLaws
+pub mod SeatsOutLaws
+pub mod SerialLaws
+pub mod HeedLaws
+pub mod ExampleLaws

@@ -1,11 +1,11 @@
 -- Promises in load order are one list, and what is counted and cut there is counted and cut in all promises.
-use Rattle.std.proofs.Common.{◌≡◌, ◌≢◌, ◌∙◌, ◌≤◌, ◌<◌, ℕ, zero, suc, ◌+◌, List, [], ◌∷◌, ◌++◌, map, length, refl, sym, ap, subst, arith, nat_eq, Bool, true, false, ◌&&◌, inl, inr, ◌⊎◌, append_assoc}
-use Rattle.std.specs.Prelude.{slice_index_or, filter}
+use Rattle.std.proofs.Common.{◌≡◌, ◌≢◌, ◌∙◌, ◌≤◌, ◌<◌, ℕ, zero, suc, ◌+◌, List, [], ◌∷◌, ◌++◌, length, refl, sym, ap, subst, arith, nat_eq, Bool, true, false, cond, inl, inr}
+use Rattle.std.specs.Prelude.{slice_index_or}
 use Rattle.std.specs.List.Sorted.{IsNonDecreasingBy}
 use Rattle.std.proofs.lemmas.Bool.{eqb-true, eq-eqb}
 use Rattle.std.proofs.lemmas.List.Elements.{filter-append}
 use Rattle.pure_text.specs.Lists.{IsIn, Each}
-use Rattle.pure_text.proofs.ListLaws.{each_at}
+use Rattle.pure_text.proofs.ListLaws.{each_at, in_split}
 use Rattle.pure_machine.specs.State.{Promise}
 use Rattle.pure_joined.specs.Promises.{promises_of, AreInOrder}
 use Rattle.pure_seats.proofs.SeatLaws.{cut_append}
@@ -64,19 +64,19 @@ module _ {G O : Type 0} where
   -- the first of rising promises is the first in load order
   front-by_theory : (n : ℕ) (p : Promise G O) (ps : List (Promise G O)) → IsAmong n p.theory → Each (λ q. p.theory ≤ q.theory) ps → by_theory n (p ∷ ps) ≡ p ∷ by_theory n ps
   front-by_theory zero p ps among above = absurd (let low = among.0 in let high = among.1 in omega arith)
-  front-by_theory (suc i) p ps among above = by_flag (nat_eq p.theory (suc i)) refl
+  front-by_theory (suc i) p ps among above = by_flag (nat_eq p.theory (suc i)) refl (λ lower. front-by_theory i p ps lower above)
     where
-      by_flag : (b : Bool) → nat_eq p.theory (suc i) ≡ b → by_theory (suc i) (p ∷ ps) ≡ p ∷ by_theory (suc i) ps
-      by_flag true is =
+      by_flag : (b : Bool) → nat_eq p.theory (suc i) ≡ b → (IsAmong i p.theory → by_theory i (p ∷ ps) ≡ p ∷ by_theory i ps) → by_theory (suc i) (p ∷ ps) ≡ p ∷ by_theory (suc i) ps
+      by_flag true is before =
           let same : p.theory ≡ suc i = eqb-true p.theory (suc i) is in
           ap (λ l. l ++ promises_of (suc i) (p ∷ ps)) (skip-by_theory i p ps (omega arith) ∙ none) ∙ take-of (suc i) p ps same ∙ ap (λ l. p ∷ (l ++ promises_of (suc i) ps)) (sym none)
         where
           none : by_theory i ps ≡ []
           none = none-by_theory i ps (λ q m. let low = each_at (λ q. p.theory ≤ q.theory) ps above q m in let same = eqb-true p.theory (suc i) is in omega arith)
-      by_flag false is =
+      by_flag false is before =
           let other : p.theory ≢ suc i = (λ same. absurd (let found = eq-eqb p.theory (suc i) same in cc)) in
           let low = among.0 in let high = among.1 in
-          ap (λ l. l ++ promises_of (suc i) (p ∷ ps)) (front-by_theory i p ps (omega arith, omega arith) above) ∙ ap (λ l. (p ∷ by_theory i ps) ++ l) (skip-of (suc i) p ps other)
+          ap (λ l. l ++ promises_of (suc i) (p ∷ ps)) (before (omega arith, omega arith)) ∙ ap (λ l. (p ∷ by_theory i ps) ++ l) (skip-of (suc i) p ps other)
 
   nothing-by_theory : (n : ℕ) → by_theory n [] ≡ []
   nothing-by_theory zero = refl
@@ -93,14 +93,14 @@ module _ {G O : Type 0} where
 
   in-of : (i : ℕ) (q : Promise G O) (ps : List (Promise G O)) → IsIn q (promises_of i ps) → IsIn q ps × (q.theory ≡ i)
   in-of i q [] m = absurd m
-  in-of i q (p ∷ ps) m = by_flag (nat_eq p.theory i) refl m
+  in-of i q (p ∷ ps) m = by_flag (nat_eq p.theory i) refl (in-of i q ps) m
     where
-      by_flag : (b : Bool) → nat_eq p.theory i ≡ b → IsIn q (cond b (p ∷ promises_of i ps) (promises_of i ps)) → IsIn q (p ∷ ps) × (q.theory ≡ i)
-      by_flag true is n = elim n [
+      by_flag : (b : Bool) → nat_eq p.theory i ≡ b → (IsIn q (promises_of i ps) → IsIn q ps × (q.theory ≡ i)) → IsIn q (cond b (p ∷ promises_of i ps) (promises_of i ps)) → IsIn q (p ∷ ps) × (q.theory ≡ i)
+      by_flag true is before n = elim n [
         | inl same ↦ (inl same, ap (λ x. x.theory) same ∙ eqb-true p.theory i is)
-        | inr old ↦ (let rest = in-of i q ps old in (inr rest.0, rest.1))
+        | inr old ↦ (let rest = before old in (inr rest.0, rest.1))
       ]
-      by_flag false is n = let rest = in-of i q ps n in (inr rest.0, rest.1)
+      by_flag false is before n = let rest = before n in (inr rest.0, rest.1)
 
   of-in : (q : Promise G O) (ps : List (Promise G O)) → IsIn q ps → IsIn q (promises_of q.theory ps)
   of-in q [] m = absurd m
@@ -120,20 +120,20 @@ module _ {G O : Type 0} where
   -- what is counted in load order is counted in all promises
   count-one : (f : Promise G O → Bool) (n : ℕ) (p : Promise G O) (ps : List (Promise G O)) → IsAmong n p.theory → counted f (by_theory n (p ∷ ps)) ≡ one_if (f p) + counted f (by_theory n ps)
   count-one f zero p ps among = absurd (let low = among.0 in let high = among.1 in omega arith)
-  count-one f (suc i) p ps among = by_flag (nat_eq p.theory (suc i)) refl
+  count-one f (suc i) p ps among = by_flag (nat_eq p.theory (suc i)) refl (count-one f i p ps)
     where
-      by_flag : (b : Bool) → nat_eq p.theory (suc i) ≡ b → counted f (by_theory (suc i) (p ∷ ps)) ≡ one_if (f p) + counted f (by_theory (suc i) ps)
-      by_flag true is =
+      by_flag : (b : Bool) → nat_eq p.theory (suc i) ≡ b → (IsAmong i p.theory → counted f (by_theory i (p ∷ ps)) ≡ one_if (f p) + counted f (by_theory i ps)) → counted f (by_theory (suc i) (p ∷ ps)) ≡ one_if (f p) + counted f (by_theory (suc i) ps)
+      by_flag true is before =
           let same : p.theory ≡ suc i = eqb-true p.theory (suc i) is in
           let front = ap (counted f) (skip-by_theory i p ps (omega arith)) in
           let back = ap (counted f) (take-of (suc i) p ps same) in
           let one = counted-append f (by_theory i (p ∷ ps)) (promises_of (suc i) (p ∷ ps)) in
           let two = counted-append f (by_theory i ps) (promises_of (suc i) ps) in
           omega arith
-      by_flag false is =
+      by_flag false is before =
           let other : p.theory ≢ suc i = (λ same. absurd (let found = eq-eqb p.theory (suc i) same in cc)) in
           let low = among.0 in let high = among.1 in
-          let front = count-one f i p ps (omega arith, omega arith) in
+          let front = before (omega arith, omega arith) in
           let back = ap (counted f) (skip-of (suc i) p ps other) in
           let one = counted-append f (by_theory i (p ∷ ps)) (promises_of (suc i) (p ∷ ps)) in
           let two = counted-append f (by_theory i ps) (promises_of (suc i) ps) in
@@ -143,14 +143,10 @@ module _ {G O : Type 0} where
   count-by_theory f n [] among = ap (counted f) (nothing-by_theory n)
   count-by_theory f n (p ∷ ps) among = count-one f n p ps (among p (inl refl)) ∙ ap (λ k. one_if (f p) + k) (count-by_theory f n ps (λ q m. among q (inr m)))
 
-  in-split : (q : Promise G O) (xs ys : List (Promise G O)) → IsIn q (xs ++ ys) → IsIn q xs ⊎ IsIn q ys
-  in-split q [] ys m = inr m
-  in-split q (x ∷ xs) ys m = elim m [ inl e ↦ inl (inl e) | inr n ↦ elim (in-split q xs ys n) [ inl a ↦ inl (inr a) | inr b ↦ inr b ] ]
-
   -- and what stands there is one of them
   pub in-by_theory : (n : ℕ) (q : Promise G O) (ps : List (Promise G O)) → IsIn q (by_theory n ps) → IsIn q ps × (q.theory ≤ n)
   in-by_theory zero q ps m = absurd m
-  in-by_theory (suc i) q ps m = elim (in-split q (by_theory i ps) (promises_of (suc i) ps) m) [
+  in-by_theory (suc i) q ps m = elim (in_split q (by_theory i ps) (promises_of (suc i) ps) m) [
     | inl old ↦ (let rest = in-by_theory i q ps old in let high = rest.1 in (rest.0, omega arith))
     | inr new ↦ (let rest = in-of (suc i) q ps new in let same = rest.1 in (rest.0, omega arith))
   ]
@@ -159,22 +155,22 @@ module _ {G O : Type 0} where
   cut-of : (i : ℕ) (ps before after : List (Promise G O)) (p : Promise G O) → promises_of i ps ≡ before ++ p ∷ after → (b : List (Promise G O)) × (a : List (Promise G O)) × (ps ≡ b ++ p ∷ a) × (before ≡ promises_of i b)
   cut-of i [] [] after p e = absurd (cc)
   cut-of i [] (b ∷ before) after p e = absurd (cc)
-  cut-of i (q ∷ ps) before after p e = by_flag (nat_eq q.theory i) refl e
+  cut-of i (q ∷ ps) before after p e = by_flag (nat_eq q.theory i) refl (λ bs. cut-of i ps bs after p) e
     where
-      passed : q.theory ≢ i → promises_of i ps ≡ before ++ p ∷ after → (b : List (Promise G O)) × (a : List (Promise G O)) × (q ∷ ps ≡ b ++ p ∷ a) × (before ≡ promises_of i b)
-      passed other same = let rest = cut-of i ps before after p same in (q ∷ rest.0, rest.1, ap (λ l. q ∷ l) rest.2, rest.3 ∙ sym (skip-of i q rest.0 other))
+      passed : q.theory ≢ i → ((bs : List (Promise G O)) → promises_of i ps ≡ bs ++ p ∷ after → (b : List (Promise G O)) × (a : List (Promise G O)) × (ps ≡ b ++ p ∷ a) × (bs ≡ promises_of i b)) → promises_of i ps ≡ before ++ p ∷ after → (b : List (Promise G O)) × (a : List (Promise G O)) × (q ∷ ps ≡ b ++ p ∷ a) × (before ≡ promises_of i b)
+      passed other found same = let rest = found before same in (q ∷ rest.0, rest.1, ap (λ l. q ∷ l) rest.2, rest.3 ∙ sym (skip-of i q rest.0 other))
 
-      met : q.theory ≡ i → (front : List (Promise G O)) → before ≡ front → q ∷ promises_of i ps ≡ front ++ p ∷ after → (b : List (Promise G O)) × (a : List (Promise G O)) × (q ∷ ps ≡ b ++ p ∷ a) × (before ≡ promises_of i b)
-      met same [] is cut = let head : q ≡ p = cc in ([], ps, ap (λ x. x ∷ ps) head, is)
-      met same (f ∷ front) is cut =
+      met : q.theory ≡ i → ((bs : List (Promise G O)) → promises_of i ps ≡ bs ++ p ∷ after → (b : List (Promise G O)) × (a : List (Promise G O)) × (ps ≡ b ++ p ∷ a) × (bs ≡ promises_of i b)) → (front : List (Promise G O)) → before ≡ front → q ∷ promises_of i ps ≡ front ++ p ∷ after → (b : List (Promise G O)) × (a : List (Promise G O)) × (q ∷ ps ≡ b ++ p ∷ a) × (before ≡ promises_of i b)
+      met same found [] is cut = let head : q ≡ p = cc in ([], ps, ap (λ x. x ∷ ps) head, is)
+      met same found (f ∷ front) is cut =
           let head : q ≡ f = cc in
           let tail : promises_of i ps ≡ front ++ p ∷ after = cc in
-          let rest = cut-of i ps front after p tail in
+          let rest = found front tail in
           (q ∷ rest.0, rest.1, ap (λ l. q ∷ l) rest.2, is ∙ ap (λ x. x ∷ front) (sym head) ∙ ap (λ l. q ∷ l) rest.3 ∙ sym (take-of i q rest.0 same))
 
-      by_flag : (b : Bool) → nat_eq q.theory i ≡ b → cond b (q ∷ promises_of i ps) (promises_of i ps) ≡ before ++ p ∷ after → (b : List (Promise G O)) × (a : List (Promise G O)) × (q ∷ ps ≡ b ++ p ∷ a) × (before ≡ promises_of i b)
-      by_flag true is cut = met (eqb-true q.theory i is) before refl cut
-      by_flag false is cut = passed (λ same. absurd (let found = eq-eqb q.theory i same in cc)) cut
+      by_flag : (b : Bool) → nat_eq q.theory i ≡ b → ((bs : List (Promise G O)) → promises_of i ps ≡ bs ++ p ∷ after → (b : List (Promise G O)) × (a : List (Promise G O)) × (ps ≡ b ++ p ∷ a) × (bs ≡ promises_of i b)) → cond b (q ∷ promises_of i ps) (promises_of i ps) ≡ before ++ p ∷ after → (b : List (Promise G O)) × (a : List (Promise G O)) × (q ∷ ps ≡ b ++ p ∷ a) × (before ≡ promises_of i b)
+      by_flag true is found cut = met (eqb-true q.theory i is) found before refl cut
+      by_flag false is found cut = passed (λ same. absurd (let equal = eq-eqb q.theory i same in cc)) found cut
 
   twice-of : (i : ℕ) (ps : List (Promise G O)) → promises_of i (promises_of i ps) ≡ promises_of i ps
   twice-of i [] = refl

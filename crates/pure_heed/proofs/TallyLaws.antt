@@ -1,21 +1,17 @@
 -- What each event does to the count of kept deliveries, to the settled promises and to the cancelled groups.
-use Rattle.std.proofs.Common.{◌≡◌, ◌≢◌, ◌∙◌, ◌≤◌, ◌<◌, ℕ, zero, suc, ◌+◌, List, [], ◌∷◌, ◌++◌, map, length, set, refl, sym, ap, subst, arith, nat_eq, Bool, true, false, not, ◌&&◌, ◌||◌, if◌then◌else◌, Option, Some, None, slice_get, inl, inr, ◌⊎◌}
+use Rattle.std.proofs.Common.{◌≡◌, ◌≢◌, ◌∙◌, ◌≤◌, ◌<◌, ℕ, zero, suc, ◌+◌, List, [], ◌∷◌, map, length, set, refl, sym, ap, subst, arith, nat_eq, Bool, true, false, not, ◌&&◌, ◌||◌, if◌then◌else◌, Some, slice_get}
 use Rattle.std.specs.List.{list_any}
-use Rattle.std.proofs.lemmas.Option.{same_Some, none-some}
 use Rattle.std.proofs.lemmas.Bool.{eqb-true, eq-eqb}
-use Rattle.pure_text.specs.Lists.{IsIn}
 use Rattle.pure_machine.specs.declared.policy.Group.{Group}
 use Rattle.pure_machine.specs.declared.policy.Group.TheVariants.{Session, Theory}
 use Rattle.pure_machine.specs.State.{Promise, Standing, Ready, Taken, Settled, Cancelled, Event, TakeTheory, TakeProof, Fork, CloseTheory, Deliver, Stop, Marks, State, with_standing, restood, is_theory_cancelled, is_marked, is_true_there, with_mark, marked, all_marked, is_settled, cancelled_promise, with_cancelled}
-use Rattle.pure_machine.specs.Step.{Stands, IsOut, new_promise, is_cancelled_standing, is_cancelled_promise, cancelled_by, settled, after, Allows}
+use Rattle.pure_machine.specs.Step.{Stands, IsOut, new_promise, is_cancelled_standing, is_cancelled_promise, cancelled_by, after, Allows}
 use Rattle.pure_core.proofs.PlaceLaws.{standing_so}
 use Rattle.pure_core.proofs.KeptLaws.{delivered_state}
 use Rattle.pure_seats.proofs.ChangeLaws.{kept_state}
 use Rattle.pure_seats.proofs.ToldLaws.{IsTold}
-use Rattle.pure_core.proofs.KeptLaws.{IsKept}
 use Rattle.pure_heed.specs.Heeded.{has_theory}
 use Rattle.pure_heed.proofs.CountLaws.{one_if, counted, counted-append, counted-set}
-use Rattle.pure_heed.proofs.OrderLaws.{IsAmong}
 
 -- whether a promise is settled by an outcome that passes a test on its theory and the outcome
 abbrev pub passes : {O : Type 0} → (h : ℕ → O → Bool) → (theory : ℕ) → Standing O → Bool
@@ -50,7 +46,7 @@ module _ {G O : Type 0} where
       let one : passes h (cancelled_promise m p).theory (cancelled_promise m p).standing ≡ passes h p.theory p.standing = ap (λ i. passes h i (cancelled_promise m p).standing) (theory-cancelled m p) ∙ passes-cancelled h m p.theory p.goal p.standing (is_theory_cancelled m p.theory) in
       ap (λ b. one_if b + tally h (map (cancelled_promise m) ps)) one ∙ ap (λ k. one_if (passes h p.theory p.standing) + k) (tally-recancelled h m ps)
 
-  tally-with : {C : Type 0} (h : ℕ → O → Bool) (s : State G C O) (gs : List Group) → tally h (with_cancelled s gs).promises ≡ tally h s.promises
+  pub tally-with : {C : Type 0} (h : ℕ → O → Bool) (s : State G C O) (gs : List Group) → tally h (with_cancelled s gs).promises ≡ tally h s.promises
   tally-with h s [] = refl
   tally-with h s (g ∷ gs) = tally-recancelled h (all_marked s.cancelled (g ∷ gs)) s.promises
 
@@ -59,7 +55,7 @@ module _ {G O : Type 0} where
   tally-restood h ps n p t at = subst (λ found. tally h (restood ps n found t) + one_if (passes h p.theory p.standing) ≡ tally h ps + one_if (passes h p.theory t)) (sym at) (counted-set (λ (q : Promise G O). passes h q.theory q.standing) ps n p (standing_so p t) at)
 
 -- the test on marks, group by group
-or-assoc : (a b c : Bool) → ((a || b) || c) ≡ (a || (b || c))
+pub or-assoc : (a b c : Bool) → ((a || b) || c) ≡ (a || (b || c))
 or-assoc true b c = refl
 or-assoc false b c = refl
 
@@ -67,32 +63,45 @@ or-false : (a : Bool) → (a || false) ≡ a
 or-false true = refl
 or-false false = refl
 
+pub or-true : (a : Bool) → (a || true) ≡ true
+or-true true = refl
+or-true false = refl
+
 -- the marks have a place for the theory
 abbrev pub HasPlace : List Bool → ℕ → Type 0
 HasPlace bs i = (1 ≤ i) × (i ≤ length bs)
 
+eq-differ : (a b : ℕ) → a ≢ b → nat_eq a b ≡ false
+eq-differ a b other = by_flag (nat_eq a b) refl
+  where
+    by_flag : (c : Bool) → nat_eq a b ≡ c → nat_eq a b ≡ false
+    by_flag true e = absurd (other (eqb-true a b e))
+    by_flag false e = e
+
+eq-suc : (a b : ℕ) → nat_eq (suc a) (suc b) ≡ nat_eq a b
+eq-suc a b = by_flag (nat_eq a b) refl
+  where
+    by_flag : (c : Bool) → nat_eq a b ≡ c → nat_eq (suc a) (suc b) ≡ nat_eq a b
+    by_flag true e = eq-eqb (suc a) (suc b) (ap suc (eqb-true a b e)) ∙ sym e
+    by_flag false e = eq-differ (suc a) (suc b) (λ same. absurd (let lower : a ≡ b = omega arith in let found = eq-eqb a b lower in cc)) ∙ sym e
+
+or-not_one : (a : Bool) (i : ℕ) → a ≡ (a || nat_eq zero (suc i))
+or-not_one a i = sym (or-false a) ∙ ap (λ x. a || x) (sym (eq-differ zero (suc i) (λ same. absurd (omega arith))))
+
 true-there : (bs : List Bool) (j i : ℕ) → i < length bs → is_true_there (slice_get (set bs j true) i) ≡ (is_true_there (slice_get bs i) || nat_eq j i)
 true-there [] j i within = absurd (omega (arith, within))
 true-there (b ∷ bs) zero zero within = sym (or-true b)
-  where
-    or-true : (a : Bool) → (a || true) ≡ true
-    or-true true = refl
-    or-true false = refl
-true-there (b ∷ bs) zero (suc i) within = sym (or-false (is_true_there (slice_get bs i)))
-true-there (b ∷ bs) (suc j) zero within = sym (or-false b)
-true-there (b ∷ bs) (suc j) (suc i) within = true-there bs j i (omega (arith, within))
+true-there (b ∷ bs) zero (suc i) within = or-not_one (is_true_there (slice_get bs i)) i
+true-there (b ∷ bs) (suc j) zero within = sym (or-false b) ∙ ap (λ x. b || x) (sym (eq-differ (suc j) zero (λ same. absurd (omega arith))))
+true-there (b ∷ bs) (suc j) (suc i) within = true-there bs j i (omega (arith, within)) ∙ ap (λ x. is_true_there (slice_get bs i) || x) (sym (eq-suc j i))
 
 marked-there : (bs : List Bool) (j i : ℕ) → HasPlace bs i → is_marked (with_mark bs j) i ≡ (is_marked bs i || nat_eq j i)
 marked-there bs j zero place = absurd (let low = place.0 in omega arith)
-marked-there bs zero (suc i) place = sym (or-false (is_true_there (slice_get bs i)))
-marked-there bs (suc j) (suc i) place = true-there bs j i (let high = place.1 in omega arith)
+marked-there bs zero (suc i) place = or-not_one (is_true_there (slice_get bs i)) i
+marked-there bs (suc j) (suc i) place = true-there bs j i (let high = place.1 in omega arith) ∙ ap (λ x. is_true_there (slice_get bs i) || x) (sym (eq-suc j i))
 
 pub marked-is : (m : Marks) (g : Group) (i : ℕ) → HasPlace m.theories i → is_theory_cancelled (marked m g) i ≡ (is_theory_cancelled m i || has_theory g i)
 marked-is m Session i place = sym (or-true (is_theory_cancelled m i))
-  where
-    or-true : (a : Bool) → (a || true) ≡ true
-    or-true true = refl
-    or-true false = refl
 marked-is m (Theory j) i place = ap (λ b. m.session || b) (marked-there m.theories j i place) ∙ sym (or-assoc m.session (is_marked m.theories i) (nat_eq j i))
 
 length-mark : (bs : List Bool) (j : ℕ) → length (with_mark bs j) ≡ length bs
@@ -157,7 +166,7 @@ passes-new h i true = refl
 passes-new h i false = refl
 
 module _ {G C O : Type 0} (forks : ℕ → ℕ → G → Type 0) (closes : ℕ → ℕ → C → Type 0) (may : G → O → Type 0) (is_fault : O → Bool) where
-  taken-now : (s : State G C O) (n : ℕ) (p : Promise G O) → IsTold s → Stands s n p → IsOut s.history n → is_cancelled_standing p.standing ≡ false → p.standing ≡ Taken
+  pub taken-now : (s : State G C O) (n : ℕ) (p : Promise G O) → IsTold s → Stands s n p → IsOut s.history n → is_cancelled_standing p.standing ≡ false → p.standing ≡ Taken
   taken-now s n p told at out lives = by_standing p.standing refl
     where
       by_standing : (t : Standing O) → p.standing ≡ t → p.standing ≡ Taken
@@ -173,18 +182,18 @@ module _ {G C O : Type 0} (forks : ℕ → ℕ → G → Type 0) (closes : ℕ �
     kept_is = refl;
     marks_are = refl;
     tally_is = λ h. (
-      let p : Promise G O = a.2.0 in
-      let none : one_if (passes h p.theory p.standing) ≡ 0 = ap (λ t. one_if (passes h p.theory t)) a.2.1.1 in
-      let both = tally-restood h s.promises n p Taken a.2.1.0 in
-      omega arith);
+        let p : Promise G O = a.2.0 in
+        let none : one_if (passes h p.theory p.standing) ≡ 0 = ap (λ t. one_if (passes h p.theory t)) a.2.1.1 in
+        let both = tally-restood h s.promises n p Taken a.2.1.0 in
+        omega arith);
   })
   scores s (Fork i g) a told = quiet (record {
     kept_is = refl;
     marks_are = refl;
     tally_is = λ h. (
-      let sum = counted-append (λ (p : Promise G O). passes h p.theory p.standing) s.promises (new_promise s i g ∷ []) in
-      let none = ap one_if (passes-new h i (is_theory_cancelled s.cancelled i)) in
-      omega arith);
+        let sum = counted-append (λ (p : Promise G O). passes h p.theory p.standing) s.promises (new_promise s i g ∷ []) in
+        let none = ap one_if (passes-new h i (is_theory_cancelled s.cancelled i)) in
+        omega arith);
   })
   scores s (CloseTheory i c) a told = quiet (record { kept_is = refl; marks_are = refl; tally_is = λ h. refl })
   scores s (Deliver n o fault) a told = by_flag (is_cancelled_standing old.standing) refl
@@ -206,10 +215,10 @@ module _ {G C O : Type 0} (forks : ℕ → ℕ → G → Type 0) (closes : ℕ �
         length_is = cancelled-length between (cancelled_by s.opening.policy (s.kept + 1) (is_fault o));
         marks_are = λ i place. cancelled-is between (cancelled_by s.opening.policy (s.kept + 1) (is_fault o)) i place;
         tally_is = λ h. (
-          let same = tally-with h between (cancelled_by s.opening.policy (s.kept + 1) (is_fault o)) in
-          let none : one_if (passes h old.theory old.standing) ≡ 0 = ap (λ t. one_if (passes h old.theory t)) taken in
-          let both = tally-restood h s.promises n old (Settled o) a.1 in
-          omega arith);
+            let same = tally-with h between (cancelled_by s.opening.policy (s.kept + 1) (is_fault o)) in
+            let none : one_if (passes h old.theory old.standing) ≡ 0 = ap (λ t. one_if (passes h old.theory t)) taken in
+            let both = tally-restood h s.promises n old (Settled o) a.1 in
+            omega arith);
       }
 
       kept_one : is_cancelled_promise (slice_get s.promises n) ≡ false → old.standing ≡ Taken → Scores is_fault s (Deliver n o fault)

@@ -1,7 +1,6 @@
 -- Promises that are cancelled as a policy asks for, and promises that aren't, one for each part of the condition.
-use Rattle.std.specs.Prelude.{ℕ, Bool, true, false, List, [], ◌∷◌}
-use Rattle.pure_machine.specs.declared.policy.Group.TheVariants.{Session, Theory}
-use Rattle.pure_machine.specs.declared.policy.Cancel.{Cancel}
+use Rattle.std.specs.Prelude.{ℕ, true, false, [], ◌∷◌}
+use Rattle.pure_machine.specs.declared.policy.Group.TheVariants.{Theory}
 use Rattle.pure_machine.specs.Policy.{Policy}
 use Rattle.pure_heed.specs.Heeded.{Lot, IsHeeded}
 

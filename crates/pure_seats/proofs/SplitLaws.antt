@@ -3,9 +3,9 @@ use Rattle.std.proofs.Common.{◌≡◌, ◌∙◌, ◌<◌, ℕ, zero, suc, ◌
 use Rattle.std.proofs.lemmas.List.{map-append}
 use Rattle.std.proofs.lemmas.Bool.{eqb-true, eq-eqb}
 use Rattle.pure_text.specs.Lists.{IsIn}
-use Rattle.pure_text.proofs.ListLaws.{in_split, in-append_right}
+use Rattle.pure_text.proofs.ListLaws.{in_split}
 use Rattle.pure_machine.specs.State.{State, Event, TakeTheory, TakeProof, Fork, CloseTheory, Deliver, Stop}
-use Rattle.pure_machine.specs.Step.{Allows, IsRunFrom, after, after_all, stops}
+use Rattle.pure_machine.specs.Step.{IsRunFrom, after, after_all, stops}
 use Rattle.pure_core.proofs.RunLaws.{after_all-append}
 use Rattle.pure_seats.specs.Seats.{events_of, own, state_of, forks_in}
 
@@ -16,9 +16,6 @@ split_in x (y ∷ ys) m = elim m [
   | inl e ↦ ([], ys, ap (λ z. z ∷ ys) (sym e))
   | inr n ↦ (let r = split_in x ys n in (y ∷ r.0, r.1, ap (λ zs. y ∷ zs) r.2))
 ]
-
-pub in_here : {A : Type 0} (x : A) (before after : List A) → IsIn x (before ++ x ∷ after)
-in_here x before after = in-append_right x before (x ∷ after) (inl refl)
 
 -- the element behind others is one of them or itself
 pub in_last : {A : Type 0} (x y : A) (xs : List A) → IsIn x (xs ++ y ∷ []) → IsIn x xs ⊎ (x ≡ y)
@@ -53,10 +50,6 @@ module _ {G C O : Type 0} (forks : ℕ → ℕ → G → Type 0) (closes : ℕ �
   pub run-rest : (s : State G C O) (es fs : List (Event G C O)) → IsRunFrom forks closes may is_fault s (es ++ fs) → IsRunFrom forks closes may is_fault (after_all s es) fs
   run-rest s [] fs run = run
   run-rest s (e ∷ es) fs run = run-rest (after s e) es fs run.1
-
-  -- each event of a legal run may happen where it stands
-  pub allowed_at : (s : State G C O) (es fs : List (Event G C O)) (e : Event G C O) → IsRunFrom forks closes may is_fault s (es ++ e ∷ fs) → Allows forks closes may is_fault (after_all s es) e
-  allowed_at s es fs e run = (run-rest s es (e ∷ fs) run).0
 
 pub events-append : {E : Type 0} (acts more : List (ℕ × E)) → events_of (acts ++ more) ≡ events_of acts ++ events_of more
 events-append acts more = map-append (λ a. a.1) acts more
