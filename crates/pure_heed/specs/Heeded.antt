@@ -52,7 +52,7 @@ is_licensed p ls l = is_due p (kept ls) (faults ls) l.theory
 abbrev pub gone_in : (theory : ℕ) → List Lot → ℕ
 gone_in i ls = count_by (λ l. l.gone && nat_eq l.theory i) ls
 
--- Of the promises, in order of their theories and of their numbers, those are cancelled that the policy asks for: each that is cancelled might be; where the first fault cancels all, one kept promise at most is at fault; of a group that is cancelled after some number no more are kept;
+-- Of the promises, in order of their theories and of their numbers, those are cancelled that the policy asks for: each that is cancelled might be, as all became; where the first fault cancels all, one kept promise at most is at fault; of a group that is cancelled after some number no more are kept;
 -- in each theory fewer cancelled promises than there are workers stand before a kept one; and with one worker a promise is cancelled exactly where it might be by those before it.
 pub record IsHeeded (p : Policy) (workers : ℕ) (ls : List Lot) : Type 0 where
   pub licensed : Each (λ l. IsTrue l.gone → IsTrue (is_licensed p ls l)) ls

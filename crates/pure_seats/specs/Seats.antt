@@ -25,14 +25,14 @@ IsOfTaken events (CloseTheory i c) = IsIn (TakeTheory i) events
 IsOfTaken events (Deliver n o fault) = IsIn (TakeProof n) events
 IsOfTaken events _ = Unit {0}
 
--- The events with the numbers of their seats are a numbered legal run from the opening: the events are a legal run, there are no more seats than workers, each fork, close and delivery is of a theory or a promise that its own seat took, and no seat stops the work twice.
+-- The events with the numbers of their seats are a numbered legal run from the opening: the events are a legal run, each seat's number is below the number of workers, each fork, close and delivery is of a theory or a promise that its own seat took before, and no seat stops the work twice.
 pub record IsNumberedRun {G C O : Type 0} (forks : ℕ → ℕ → G → Type 0) (closes : ℕ → ℕ → C → Type 0) (may : G → O → Type 0) (is_fault : O → Bool) (o : Opening) (acts : List (ℕ × Event G C O)) : Type 0 where
   pub run : IsRunFrom forks closes may is_fault (opened o) (events_of acts)
   pub few : Each (λ a. a.0 < o.workers) acts
   pub takers : (before after : List (ℕ × Event G C O)) (seat : ℕ) (e : Event G C O) → acts ≡ before ++ (seat, e) ∷ after → IsOfTaken (own seat before) e
   pub stops_once : (seat : ℕ) → stops (own seat acts) ≤ 1
 
--- The seat may enter the event behind a numbered run: the event may happen there, the seat is one of the workers', took what the event is of, and doesn't stop the work twice.
+-- The seat may enter the event behind a numbered run: the event may happen there, the seat's number is below the number of workers, the seat took what the event is of, and by the event it doesn't stop the work twice.
 pub record MayEnter {G C O : Type 0} (forks : ℕ → ℕ → G → Type 0) (closes : ℕ → ℕ → C → Type 0) (may : G → O → Type 0) (is_fault : O → Bool) (o : Opening) (acts : List (ℕ × Event G C O)) (seat : ℕ) (e : Event G C O) : Type 0 where
   pub allowed : Allows forks closes may is_fault (state_of o acts) e
   pub few : seat < o.workers
