@@ -1,1 +1,2 @@
 mod DeclaredLaws
+pub mod EquationLemmas

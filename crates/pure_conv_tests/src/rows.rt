@@ -10,6 +10,7 @@ pub(crate) enum Call {
     Comb,
     Abs,
     Unfold,
+    Bottom,
 }
 
 /// A call, the term and the theorems that it is given, and its answer.
@@ -336,5 +337,117 @@ pub(crate) static AFTER: [Row; 4] = [
         B_DEF,
         T,
         Wanted::Fault(ConvFault::NothingToUnfold),
+    ),
+];
+
+/// The constants of the term replaced by what the definition says of them; a theorem that is no equation is a fault at each constant.
+pub(crate) static CONSTANTS: [Row; 9] = [
+    (
+        Call::Bottom,
+        P_B,
+        B_DEF,
+        T,
+        Wanted::Thm((
+            b"",
+            b"",
+            b"@ @ =Pure.eq: > Pure.prop > Pure.prop Pure.prop @ =A.P: > i Pure.prop =b @ =A.P: > i Pure.prop =a",
+            b"1",
+        )),
+    ),
+    // Each occurrence, under a binder too.
+    (
+        Call::Bottom,
+        b"% @ @ =p =b @ =f =b",
+        B_DEF,
+        T,
+        Wanted::Thm((
+            b"",
+            b"",
+            b"@ @ =Pure.eq: > > i i > > i i Pure.prop % @ @ =p =b @ =f =b % @ @ =p =a @ =f =a",
+            b"1",
+        )),
+    ),
+    // No occurrence: the term stays as it is, and the promise isn't rested on.
+    (
+        Call::Bottom,
+        b"@ =f =a",
+        B_DEF,
+        T,
+        Wanted::Thm((
+            b"",
+            b"",
+            b"@ @ =Pure.eq: > i > i Pure.prop @ =f =a @ =f =a",
+            b"",
+        )),
+    ),
+    // Variables aren't asked of, whatever would be answered.
+    (
+        Call::Bottom,
+        b"-x",
+        T,
+        T,
+        Wanted::Thm((b"", b"", b"@ @ =Pure.eq: > i > i Pure.prop -x -x", b"")),
+    ),
+    (
+        Call::Bottom,
+        b"@ =f -x",
+        T,
+        T,
+        Wanted::Fault(ConvFault::NotEquality),
+    ),
+    (
+        Call::Bottom,
+        b"% @ =f _0",
+        T,
+        T,
+        Wanted::Fault(ConvFault::NotEquality),
+    ),
+    // A right side of more than 199,880 nodes is put once, and twice.
+    (
+        Call::Bottom,
+        b"=b",
+        (
+            b"",
+            b"",
+            b"@ @ =Pure.eq: > i > i Pure.prop =b @ =c: > k//99940 i i =d: k//99940 i",
+            b"2",
+        ),
+        T,
+        Wanted::Thm((
+            b"",
+            b"",
+            b"@ @ =Pure.eq: > i > i Pure.prop =b @ =c: > k//99940 i i =d: k//99940 i",
+            b"2",
+        )),
+    ),
+    (
+        Call::Bottom,
+        b"@ @ =p =b =b",
+        (
+            b"",
+            b"",
+            b"@ @ =Pure.eq: > i > i Pure.prop =b @ =c: > k//99940 i i =d: k//99940 i",
+            b"2",
+        ),
+        T,
+        Wanted::Fault(ConvFault::Big),
+    ),
+    // An equation from another constant, or from this one at another type, isn't answered.
+    (
+        Call::Bottom,
+        b"@ =c: > i i =b: i",
+        (
+            b"",
+            b"",
+            b"@ @ =Pure.eq: > j > j Pure.prop =b: j =a: j",
+            b"1",
+        ),
+        T,
+        Wanted::Thm((
+            b"",
+            b"",
+            b"@ @ =Pure.eq: > i > i Pure.prop @ =c: > i i =b: i @ =c: > i i =b: i",
+            b"",
+        )),
     ),
 ];
