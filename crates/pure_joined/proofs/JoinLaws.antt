@@ -20,7 +20,7 @@ each-at P [] h n x e = absurd (none-some x e)
 each-at P (y ∷ ys) h zero x e = subst P (same_Some y x e) h.0
 each-at P (y ∷ ys) h (suc n) x e = each-at P ys h.1 n x e
 
-from-each : {A : Type 0} (P : A → Type 0) (xs : List A) → ((n : ℕ) (x : A) → slice_get xs n ≡ Some x → P x) → Each P xs
+pub from-each : {A : Type 0} (P : A → Type 0) (xs : List A) → ((n : ℕ) (x : A) → slice_get xs n ≡ Some x → P x) → Each P xs
 from-each P [] h = tt
 from-each P (x ∷ xs) h = (h 0 x refl, from-each P xs (λ n y e. h (suc n) y e))
 
@@ -32,7 +32,7 @@ each-filter {A} P t (x ∷ xs) h = by_test (t x) (each-filter P t xs h.1)
     by_test true rest = (h.0, rest)
     by_test false rest = rest
 
-in-filter : {A : Type 0} (t : A → Bool) (x : A) (xs : List A) → IsIn x xs → t x ≡ true → IsIn x (filter t xs)
+pub in-filter : {A : Type 0} (t : A → Bool) (x : A) (xs : List A) → IsIn x xs → t x ≡ true → IsIn x (filter t xs)
 in-filter t x [] at e = absurd at
 in-filter {A} t x (y ∷ ys) (inl same) e = subst (λ b. IsIn x (cond b (y ∷ filter t ys) (filter t ys))) (sym (ap t (sym same) ∙ e)) (inl same)
 in-filter {A} t x (y ∷ ys) (inr there) e = by_test (t y) (in-filter t x ys there e)
@@ -41,7 +41,7 @@ in-filter {A} t x (y ∷ ys) (inr there) e = by_test (t y) (in-filter t x ys the
     by_test true rest = inr rest
     by_test false rest = rest
 
-filter-in : {A : Type 0} (t : A → Bool) (x : A) (xs : List A) → IsIn x (filter t xs) → IsIn x xs
+pub filter-in : {A : Type 0} (t : A → Bool) (x : A) (xs : List A) → IsIn x (filter t xs) → IsIn x xs
 filter-in t x [] at = absurd at
 filter-in {A} t x (y ∷ ys) at = by_test (t y) (filter-in t x ys) at
   where
@@ -54,6 +54,12 @@ place-of : {A : Type 0} (x : A) (xs : List A) → IsIn x xs → (n : ℕ) × (sl
 place-of x [] at = absurd at
 place-of x (y ∷ ys) (inl same) = (0, ap Some (sym same))
 place-of x (y ∷ ys) (inr there) = let rest = place-of x ys there in (suc rest.0, rest.1)
+
+-- a promise in load order is one of them
+pub in-ordered : {G O : Type 0} (promises ordered : List (Promise G O)) → AreInOrder promises ordered → (p : Promise G O) → IsIn p ordered → IsIn p promises
+in-ordered promises ordered in_order p at =
+    let among : IsIn p (promises_of p.theory ordered) = in-filter (λ q. nat_eq q.theory p.theory) p ordered at (eq-eqb p.theory p.theory refl) in
+    filter-in (λ q. nat_eq q.theory p.theory) p promises (subst (IsIn p) (in_order.same p.theory) among)
 
 -- how a promise ends
 ends-so : {G O : Type 0} (may : G → O → Type 0) (g : G) (s : Standing O) → IsOver s → ((o : O) → s ≡ Settled o → may g o) → EndsSo may g s
@@ -146,8 +152,7 @@ core-joined {G} {C} {O} shape forks closes may is_fault s legal finished values 
 
     bound : (p : Promise G O) → IsIn p ordered → (0 < p.theory) × (p.theory ≤ length s.theories)
     bound p at =
-        let among : IsIn p (promises_of p.theory ordered) = in-filter (λ q. nat_eq q.theory p.theory) p ordered at (eq-eqb p.theory p.theory refl) in
-        let old = place-of p s.promises (filter-in (λ q. nat_eq q.theory p.theory) p s.promises (subst (IsIn p) (in_order.same p.theory) among)) in
+        let old = place-of p s.promises (in-ordered s.promises ordered in_order p at) in
         let there = told.theirs old.0 (p.theory, p.goal) (origin-at s.promises old.0 p old.1) in
         theory_at-number s.theories p.theory there.0 there.1
 

@@ -4,3 +4,4 @@ pub mod ToldLaws
 pub mod OrderLaws
 pub mod JoinLaws
 pub mod BeforeLaws
+pub mod WholeLaws

@@ -1,3 +1,4 @@
 pub mod Promises
 pub mod Joined
 pub mod Places
+pub mod Uncancelled

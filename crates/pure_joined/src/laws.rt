@@ -6,6 +6,7 @@ ghost use Rattle.pure_core.specs.Legal.{IsLegal};
 ghost use Rattle.pure_joined.specs.Promises.{promises_of};
 ghost use Rattle.pure_joined.specs.Joined.{IsJoined};
 ghost use Rattle.pure_joined.specs.Places.{AreForked, HaveSmallerNumbers};
+ghost use Rattle.pure_joined.specs.Uncancelled.{no_policy, NoneCancelled};
 
 use pure_core::Work;
 
@@ -33,6 +34,15 @@ pub fn earlier_numbers_are_smaller<W: Work>(work: &W)
     ensures { (s : State W.Goal W.Closed W.Outcome)
         → IsLegal (W.shape work.now) (W.forks work.now) (W.closes work.now) (W.may work.now) (W.faults work.now) s
         → HaveSmallerNumbers (W.shape work.now) s }
+{
+    let _ = work;
+}
+
+/// Where no policy cancels, no promise is cancelled in any state of a legal run.
+pub fn nothing_is_cancelled<W: Work>(work: &W)
+    ensures { (s : State W.Goal W.Closed W.Outcome)
+        → IsLegal (W.shape work.now) (W.forks work.now) (W.closes work.now) (W.may work.now) (W.faults work.now) s
+        → s.opening.policy ≡ no_policy → NoneCancelled s.promises }
 {
     let _ = work;
 }

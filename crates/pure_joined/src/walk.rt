@@ -84,7 +84,8 @@ pub fn join_core<W: Work>(
 ) -> Result<Joined<W::Goal, W::Closed, W::Outcome>, AllocError>
     requires legal { IsLegal (W.shape work.now) (W.forks work.now) (W.closes work.now) (W.may work.now) (W.faults work.now) core.now }
     requires finished { IsFinished core.now }
-    ensures { IfOk result (λ left. AreJoined (W.shape work.now) (W.forks work.now) (W.closes work.now) (W.may work.now) (map (λ p. p.value) left.values.items) left.promises.items) }
+    ensures ordered { IfOk result (λ left. AreInOrder core.now.promises left.promises.items) }
+    ensures joined { IfOk result (λ left. AreJoined (W.shape work.now) (W.forks work.now) (W.closes work.now) (W.may work.now) (map (λ p. p.value) left.values.items) left.promises.items) }
 {
     let _ = work;
     let values = core.values()?;
