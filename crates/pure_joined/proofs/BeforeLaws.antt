@@ -9,10 +9,10 @@ use Rattle.pure_machine.specs.Step.{IsReady, forked_once, closed_by, closed_valu
 use Rattle.pure_core.specs.Legal.{IsLegal}
 use Rattle.pure_core.proofs.PlaceLaws.{theory-changed, theory-there, pushed-at}
 use Rattle.pure_core.proofs.KeptLaws.{cancel-keeps, waiting-at, delivered_state}
-use Rattle.pure_core.proofs.RunLaws.{opening-after_all}
+use Rattle.pure_core.proofs.RunLaws.{opening-after_all, kept-legal}
 use Rattle.pure_joined.specs.Promises.{promises_of}
-use Rattle.pure_joined.specs.Places.{IsAncestor, parent, above, HaveSmallerNumbers, AreForked}
-use Rattle.pure_joined.proofs.OriginLaws.{origins, same_or_not, goal-at, origin-at, origins-push, origins-standing, origins-cancel}
+use Rattle.pure_joined.specs.Places.{IsPlaced, IsAncestor, parent, above, HaveSmallerNumbers, AreForked}
+use Rattle.pure_joined.proofs.OriginLaws.{origins, same_or_not, length-goals_at, goal-at, origin-at, origins-push, origins-standing, origins-cancel}
 use Rattle.pure_joined.proofs.TheoryLaws.{theory-elsewhere}
 use Rattle.pure_joined.proofs.ToldLaws.{told-legal}
 
@@ -238,3 +238,44 @@ placed-at {G} {O} i (q ∷ qs) (suc n) p e at = by_test (nat_eq q.theory i) (pla
 pub goals-forked : {G C O : Type 0} (shape : List (List ℕ)) (forks : ℕ → ℕ → G → Type 0) (closes : ℕ → ℕ → C → Type 0) (may : G → O → Type 0) (is_fault : O → Bool) (s : State G C O) → IsLegal shape forks closes may is_fault s → AreForked forks s
 goals-forked shape forks closes may is_fault s legal n i k placed =
     (told-legal shape forks closes may is_fault s legal).goals i k (placed.promise).goal (goal-at i s.promises k placed.promise (subst (λ m. slice_get (promises_of i s.promises) m ≡ Some placed.promise) placed.count (placed-at i s.promises n placed.promise placed.stands placed.theory_is)))
+
+-- at most as many stand before a place as there are
+pub count-within : {G O : Type 0} (i : ℕ) (ps : List (Promise G O)) (n : ℕ) → length (promises_of i (take n ps)) ≤ length (promises_of i ps)
+count-within i [] zero = omega arith
+count-within i [] (suc n) = omega arith
+count-within i (p ∷ ps) zero = omega arith
+count-within {G} {O} i (p ∷ ps) (suc n) = by_test (nat_eq p.theory i) (count-within i ps n)
+  where
+    by_test : (b : Bool) → length (promises_of i (take n ps)) ≤ length (promises_of i ps) → length (cond b (p ∷ promises_of i (take n ps)) (promises_of i (take n ps))) ≤ length (cond b (p ∷ promises_of i ps) (promises_of i ps))
+    by_test true rest = omega (arith, rest)
+    by_test false rest = rest
+
+-- each promise of a theory has a place
+pub placed-there : {G O : Type 0} (i : ℕ) (ps : List (Promise G O)) (k : ℕ) → k < length (promises_of i ps) → (m : ℕ) × IsPlaced ps m i k
+placed-there i [] k within = absurd (omega (arith, within))
+placed-there {G} {O} i (p ∷ ps) k within = elim (same_or_not p.theory i) [
+  | inl same ↦ here same.0 same.1 k (subst (λ b. k < length (cond b (p ∷ promises_of i ps) (promises_of i ps))) same.0 within) (placed-there i ps)
+  | inr apart ↦ (let rest = placed-there i ps k (subst (λ b. k < length (cond b (p ∷ promises_of i ps) (promises_of i ps))) apart.0 within) in (
+      suc rest.0,
+      record { promise = (rest.1).promise; stands = (rest.1).stands; theory_is = (rest.1).theory_is; count = ap (λ b. length (cond b (p ∷ promises_of i (take rest.0 ps)) (promises_of i (take rest.0 ps)))) apart.0 ∙ (rest.1).count },
+    ))
+]
+  where
+    here : nat_eq p.theory i ≡ true → p.theory ≡ i → (j : ℕ) → j < suc (length (promises_of i ps)) → ((l : ℕ) → l < length (promises_of i ps) → (m : ℕ) × IsPlaced ps m i l) → (m : ℕ) × IsPlaced (p ∷ ps) m i j
+    here test at zero less others = (0, record { promise = p; stands = refl; theory_is = at; count = refl })
+    here test at (suc j) less others = let rest = others j (omega (arith, less)) in (
+      suc rest.0,
+      record { promise = (rest.1).promise; stands = (rest.1).stands; theory_is = (rest.1).theory_is; count = ap (λ b. length (cond b (p ∷ promises_of i (take rest.0 ps)) (promises_of i (take rest.0 ps)))) test ∙ ap suc (rest.1).count },
+    )
+
+-- an ancestor of a promise's theory is closed, after as many forks as it has promises
+pub ancestor-whole : {G C O : Type 0} (shape : List (List ℕ)) (forks : ℕ → ℕ → G → Type 0) (closes : ℕ → ℕ → C → Type 0) (may : G → O → Type 0) (is_fault : O → Bool) (s : State G C O) → IsLegal shape forks closes may is_fault s
+    → (n : ℕ) (p : Promise G O) → slice_get s.promises n ≡ Some p → (j : ℕ) → IsAncestor shape j p.theory → (k : ℕ) × (c : C) × closes j k c × (length (promises_of j s.promises) ≡ k)
+ancestor-whole {G} {C} {O} shape forks closes may is_fault s legal n p at j older =
+    let governed = governed-legal shape forks closes may is_fault s legal in
+    let closed = ancestor-closed shape s.theories governed.begun j p.theory older (governed.theirs n (p.theory, p.goal) (origin-at s.promises n p at)) in (
+      closed.0,
+      closed.1,
+      (kept-legal shape forks closes may is_fault s legal).closed j closed.0 closed.1 closed.2,
+      sym ((told-legal shape forks closes may is_fault s legal).count j (Closed closed.0 closed.1) closed.2 ∙ length-goals_at j s.promises),
+    )
