@@ -2,8 +2,8 @@ use Rattle.pure_check.proofs.AnswerLemmas.{Wrote-weaker, meant}
 use Rattle.pure_check.proofs.WordsLaws.{job_in_range, generate_unless_check}
 use Rattle.pure_check.proofs.call.answer.Goals as goal
 
-pub done-requires : goal.done-requires
-done-requires g c = job_in_range _ _ c.in-Ok.ensures.ok.is_job
+pub done-requires-after_bounds : goal.done-requires-after_bounds
+done-requires-after_bounds g c κs within = job_in_range _ _ c.in-Ok.ensures.ok.is_job
 
 pub returns-in-Ok-clause-unlooked : goal.returns-in-Ok-clause-unlooked
 returns-in-Ok-clause-unlooked g c denied = c.done.ensures.unlooked (generate_unless_check _ _ c.in-Ok.ensures.ok denied)

@@ -5,8 +5,8 @@ use Rattle.pure_work.specs.Outline.{outlines}
 use Rattle.pure_check.proofs.FormedLemmas.{checker_provable, checker_has_fates, checker_formed}
 use Rattle.pure_check.proofs.formed.form.Goals as goal
 
-pub proofs-requires : goal.proofs-requires
-proofs-requires g c = checker_provable _ _ _ c.in_ok-checker.ensures c.requires _ _ c.in_ok-closed.ensures _ c.names-names.ensures.value
+pub proofs_by-requires-after_bounds : goal.proofs_by-requires-after_bounds
+proofs_by-requires-after_bounds g c κs within = checker_provable _ _ _ c.in_ok-checker.ensures c.requires _ _ c.in_ok-closed.ensures _ c.names-names.ensures.value
 
 pub table-requires : goal.table-requires
 table-requires g c =
