@@ -59,7 +59,7 @@ fn run<R: Files + Print + AllocGlobal + Threads + Wait + Sync, L: Library, S: Si
     ensures usage { IfOk args (λ given. IsTaken (words_given given) → result ≢ Status.Usage) }
     ensures untaken { IfOk args (λ given. ¬ IsTaken (words_given given) → IsUntaken result) }
     ensures unlooked { result ≡ Status.Usage → library.new ≡ library.old }
-    ensures unread { IfOk args (λ given. ¬ IsCheck (words_given given) → (library.new ≡ library.old) × (result ≢ Status.ReadFault)) }
+    ensures unchecked { IfOk args (λ given. ¬ IsCheck (words_given given) → (library.new ≡ library.old) × (result ≢ Status.ReadFault)) }
     ensures unwritten { OnSilent result (out.new ≡ out.old) }
     ensures wrote { IfOk args (λ given. Wrote result (IsMeant (L.files library.old) (words_given given)) (S.written out.old) (S.written out.new)) }
     ensures read_fault { result ≡ Status.ReadFault → Rose (L.faults library.old) (L.faults library.new) }

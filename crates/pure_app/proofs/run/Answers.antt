@@ -5,8 +5,8 @@ use Rattle.pure_app.proofs.run.Goals as goal
 pub returns-clause-untaken : goal.returns-clause-untaken
 returns-clause-untaken g c = rw c.in-Ok.is (λ denied. c.pure.ensures.untaken (λ taken. denied (subst IsTaken (c.deref.ensures.value ∙ c.in-Ok-words_of.ensures) taken)))
 
-pub returns-clause-unread : goal.returns-clause-unread
-returns-clause-unread g c = rw c.in-Ok.is (λ denied.
+pub returns-clause-unchecked : goal.returns-clause-unchecked
+returns-clause-unchecked g c = rw c.in-Ok.is (λ denied.
     let unchecked = λ check. denied (subst IsCheck (c.deref.ensures.value ∙ c.in-Ok-words_of.ensures) check) in
     (c.pure.ensures.unlooked unchecked, c.pure.ensures.unread unchecked))
 
