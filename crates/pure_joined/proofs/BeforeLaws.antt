@@ -256,9 +256,9 @@ placed-there i [] k within = absurd (omega (arith, within))
 placed-there {G} {O} i (p ∷ ps) k within = elim (same_or_not p.theory i) [
   | inl same ↦ here same.0 same.1 k (subst (λ b. k < length (cond b (p ∷ promises_of i ps) (promises_of i ps))) same.0 within) (placed-there i ps)
   | inr apart ↦ (let rest = placed-there i ps k (subst (λ b. k < length (cond b (p ∷ promises_of i ps) (promises_of i ps))) apart.0 within) in (
-      suc rest.0,
-      record { promise = (rest.1).promise; stands = (rest.1).stands; theory_is = (rest.1).theory_is; count = ap (λ b. length (cond b (p ∷ promises_of i (take rest.0 ps)) (promises_of i (take rest.0 ps)))) apart.0 ∙ (rest.1).count },
-    ))
+    suc rest.0,
+    record { promise = (rest.1).promise; stands = (rest.1).stands; theory_is = (rest.1).theory_is; count = ap (λ b. length (cond b (p ∷ promises_of i (take rest.0 ps)) (promises_of i (take rest.0 ps)))) apart.0 ∙ (rest.1).count },
+  ))
 ]
   where
     here : nat_eq p.theory i ≡ true → p.theory ≡ i → (j : ℕ) → j < suc (length (promises_of i ps)) → ((l : ℕ) → l < length (promises_of i ps) → (m : ℕ) × IsPlaced ps m i l) → (m : ℕ) × IsPlaced (p ∷ ps) m i j
