@@ -1,1 +1,2 @@
 mod ShapeLaws
+mod OpeningLaws

@@ -1,4 +1,5 @@
 //! Sessions drained under policies, and what becomes of each lemma; and calls one by one.
+use crate::cores::stopped;
 use crate::session::Session;
 use crate::shape::{copied, is_shape};
 use pure_core::{Cancel, Core, Group, Node, Policy, Standing, Task, drain, open};
@@ -112,6 +113,7 @@ const WITHOUT_POLICY: &[Row] = &[
     (&[b":"], false, &[], b""),
     (&[b":ox", b"1:oo"], false, &[], b"oxoo"),
     (&[b":o", b"1:x", b"1:o", b"23:o"], false, &[], b"oxoo"),
+    (&[b":xooo"], false, &[], b"xooo"),
 ];
 
 const WITH_POLICY: &[Row] = &[
@@ -125,6 +127,8 @@ const WITH_POLICY: &[Row] = &[
     (&[b":oo", b":oo"], false, &[(1, 1), (2, 2)], b"ococ"),
     (&[b":o"], false, &[(9, 0)], b"o"),
     (&[b":oo", b":xo"], true, &[(1, 1)], b"ocxc"),
+    (&[b":xooo"], true, &[], b"xccc"),
+    (&[b":xooo", b"1:o"], false, &[(1, 0)], b"cccco"),
 ];
 
 #[test]
@@ -155,6 +159,17 @@ fn taken(core: &mut Core<Session>) -> Result<u8, AllocError> {
     Ok(letter)
 }
 
+/// Closes the theory that is taken next; whether one was.
+fn close_taken(core: &mut Core<Session>) -> Result<bool, AllocError> {
+    match core.take()? {
+        Task::Theory { index, .. } => {
+            core.close_theory(index, 7)?;
+            Ok(true)
+        }
+        _ => Ok(false),
+    }
+}
+
 /// The core at the opening of the session, without a policy.
 fn opened(alloc: Global, session: &Session) -> Result<Core<Session>, AllocError> {
     let shape = copied(alloc, session.shape.as_slice())?;
@@ -177,6 +192,27 @@ fn a_theory_is_taken_once(rt: HostRuntime) -> Result<(), AllocError> {
     assert!(&rt; taken(&mut core)? == b'I');
     assert!(&rt; !core.stopped());
     assert!(&rt; core.closed(1).is_none());
+    Ok(())
+}
+
+#[test]
+fn a_theory_that_is_closed_leaves_nothing(rt: HostRuntime) -> Result<(), AllocError> {
+    let alloc = rt.alloc();
+    let session = read_session(alloc, &[b":"])?;
+    let mut core = opened(alloc, &session)?;
+    assert!(&rt; close_taken(&mut core)?);
+    assert!(&rt; core.closed(1).is_some());
+    assert!(&rt; taken(&mut core)? == b'F');
+    Ok(())
+}
+
+#[test]
+fn nothing_is_taken_once_stopped(rt: HostRuntime) -> Result<(), AllocError> {
+    let alloc = rt.alloc();
+    let session = read_session(alloc, &[b":"])?;
+    let mut core = stopped(alloc, &session)?;
+    assert!(&rt; core.stopped());
+    assert!(&rt; taken(&mut core)? == b'S');
     Ok(())
 }
 
