@@ -1,0 +1,4 @@
+pub mod HoldLaws
+pub mod TakeLaws
+pub mod SeatLaws
+pub mod OpenLaws
