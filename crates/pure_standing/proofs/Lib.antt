@@ -1,0 +1,3 @@
+pub mod JoinedLaws
+pub mod RowLaws
+pub mod StandingLaws
