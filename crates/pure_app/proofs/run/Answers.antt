@@ -6,9 +6,10 @@ pub returns-clause-untaken : goal.returns-clause-untaken
 returns-clause-untaken g c = rw c.in-Ok.is (λ denied. c.pure.ensures.untaken (λ taken. denied (subst IsTaken (c.deref.ensures.value ∙ c.in-Ok-words_of.ensures) taken)))
 
 pub returns-clause-unchecked : goal.returns-clause-unchecked
-returns-clause-unchecked g c = rw c.in-Ok.is (λ denied.
-    let unchecked = λ check. denied (subst IsCheck (c.deref.ensures.value ∙ c.in-Ok-words_of.ensures) check) in
-    (c.pure.ensures.unlooked unchecked, c.pure.ensures.unread unchecked))
+returns-clause-unchecked g c = rw c.in-Ok.is (λ denied. (
+  c.pure.ensures.unlooked (λ check. denied (subst IsCheck (c.deref.ensures.value ∙ c.in-Ok-words_of.ensures) check)),
+  c.pure.ensures.unread (λ check. denied (subst IsCheck (c.deref.ensures.value ∙ c.in-Ok-words_of.ensures) check)),
+))
 
 pub returns-clause-complete : goal.returns-clause-complete
 returns-clause-complete g c =
