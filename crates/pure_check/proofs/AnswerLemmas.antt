@@ -1,5 +1,5 @@
 -- From the table of a session to what the files and the words mean, and what was written of it.
-use Rattle.std.proofs.Common.{◌≡◌, ℕ, false, List, [], ◌∷◌, map, refl, sym, subst, Option, Some, None}
+use Rattle.std.proofs.Common.{◌≡◌, ◌∙◌, ℕ, Bool, false, List, [], ◌∷◌, map, refl, sym, subst, Option, Some, None}
 use Rattle.std.specs.List.{filter_map}
 use Rattle.pure_text.specs.Lists.{Each, EachTwo}
 use Rattle.pure_io.specs.declared.library.File as library
