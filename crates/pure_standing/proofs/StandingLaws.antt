@@ -11,7 +11,7 @@ use Rattle.pure_declare.specs.Notes.{Fork, Note, Said, Forked}
 use Rattle.pure_method.specs.Proof.{ProofOutcome, IsProof}
 use Rattle.pure_method.proofs.OnceLaws.{proof-once}
 use Rattle.pure_promise.specs.Entries.{Entry}
-use Rattle.pure_verdicts.specs.Loaded.{IsLoadedSession}
+use Rattle.pure_loaded.specs.Loaded.{IsLoadedSession}
 use Rattle.pure_verdicts.specs.Statements.{forks_of}
 use Rattle.pure_verdicts.specs.Laws.{IsSomeFork}
 use Rattle.pure_verdicts.proofs.OrderlyLaws.{runs_orderly}

@@ -4,7 +4,7 @@ use Rattle.pure_text.specs.Lists.{IsIn, EachTwo}
 use Rattle.pure_definitions.specs.Names.{Label}
 use Rattle.pure_graph.specs.Session.{Session}
 use Rattle.pure_print.specs.declared.row.Row.{Row}
-use Rattle.pure_verdicts.specs.Loaded.{IsLoadedSession}
+use Rattle.pure_loaded.specs.Loaded.{IsLoadedSession}
 use Rattle.pure_table.specs.Table.{Table, IsTable, table_rows}
 use Rattle.pure_standing.specs.Standing.{IsStanding, StandsAs}
 
