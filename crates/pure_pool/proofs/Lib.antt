@@ -1,0 +1,5 @@
+mod EntryLaws
+mod HeldLaws
+mod SeatedLaws
+mod TakenLaws
+mod TurnLaws

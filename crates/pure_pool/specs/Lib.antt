@@ -1,0 +1,4 @@
+pub mod Held
+pub mod Served
+pub mod Seated
+pub mod Ends

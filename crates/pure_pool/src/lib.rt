@@ -1,0 +1,9 @@
+//! The workers of a board: one for each seat, in threads of their own.
+#![tactic(auto)]
+
+mod proof_runs;
+mod rest;
+mod theory_runs;
+mod workers;
+
+pub use workers::run;
