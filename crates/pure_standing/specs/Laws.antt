@@ -13,7 +13,7 @@ abbrev pub RowsStand : Type 0
 RowsStand = (S : Session) → IsLoadedSession S.names S.theories → (cancelled : List Label) (t u : Table) → IsTable S cancelled t → IsTable S [] u
     → (row : Row) → IsIn row (table_rows S t) → IsStanding row.status → IsIn row (table_rows S u)
 
--- Where only lemmas of the cancelled ones are still cancelled, the table has as many rows, and each that was declared, refused, proved or failed stands at its place.
+-- Where a part of the cancelled lemmas alone is cancelled, the table has as many rows, and each row that was declared, refused, proved or failed is the same at its place.
 abbrev pub RowsStayInPlace : Type 0
 RowsStayInPlace = (S : Session) → IsLoadedSession S.names S.theories → (cancelled fewer : List Label) → ((l : Label) → IsIn l fewer → IsIn l cancelled)
     → (t u : Table) → IsTable S cancelled t → IsTable S fewer u → EachTwo StandsAs (table_rows S t) (table_rows S u)
