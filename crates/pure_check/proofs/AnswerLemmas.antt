@@ -1,9 +1,11 @@
 -- From the table of a session to what the files and the words mean, and what was written of it.
-use Rattle.std.proofs.Common.{◌≡◌, ◌∙◌, ℕ, Bool, false, List, [], ◌∷◌, map, refl, sym, subst, Option, Some, None}
-use Rattle.std.specs.List.{filter_map}
-use Rattle.pure_text.specs.Lists.{Each, EachTwo}
+use Rattle.std.proofs.Common.{◌≡◌, ◌≤◌, inl, inr, ℕ, Bool, false, List, [], ◌∷◌, map, refl, sym, ◌∙◌, ap, subst, arith, Option, Some, None}
+use Rattle.std.specs.Option.{IfSome}
+use Rattle.std.specs.List.{list_all, filter_map}
+use Rattle.pure_text.specs.Lists.{IsIn, Each, EachTwo}
 use Rattle.pure_io.specs.declared.library.File as library
-use Rattle.pure_graph.specs.Session.{Session, Shown}
+use Rattle.pure_io.specs.Outside.{Appends, AppendsProperPrefix}
+use Rattle.pure_graph.specs.Session.{Session, Refusal, Shown, shown, IsSessionOf}
 use Rattle.pure_graph.specs.SessionNames.{AreNames}
 use Rattle.pure_graph.specs.Order.{Loaded}
 use Rattle.pure_session.specs.ToldTheories.{AreTheoriesOf}
