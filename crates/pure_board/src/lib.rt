@@ -2,6 +2,7 @@
 #![tactic(auto)]
 
 mod board;
+mod closing;
 mod course;
 mod entering;
 mod opening;
@@ -9,4 +10,5 @@ mod taking;
 mod tokens;
 
 pub use board::{Board, Seat};
+pub use closing::Closed;
 pub use opening::Opened;
