@@ -1,6 +1,7 @@
 -- What a seat has in hand, call by call.
 use Rattle.std.proofs.Common.{◌≡◌, ◌∙◌, ℕ, ◌+◌, List, [], ◌∷◌, ◌++◌, map, refl, sym, ap, subst, Bool, true, false, Some, slice_get, inl, inr}
 use Rattle.pure_text.specs.Lists.{IsIn, EachTwo}
+use Rattle.pure_text.proofs.ListLaws.{in-append_right}
 use Rattle.pure_machine.specs.Policy.{Opening, due}
 use Rattle.pure_machine.specs.State.{Promise, Cancelled, Event, TakeTheory, TakeProof, Fork, CloseTheory, Deliver, Stop, is_theory_cancelled, parents_at, opened, waiting, unmarked}
 use Rattle.pure_machine.specs.Step.{Stands, IsOver, IsReady, IsFinished, stops}
@@ -10,7 +11,7 @@ use Rattle.pure_machine.specs.declared.answers.Polled.TheVariants as polled_code
 use Rattle.pure_core.proofs.KeptLaws.{cancel-keeps}
 use Rattle.pure_core.proofs.AloneLaws.{parents-may}
 use Rattle.pure_seats.specs.Seats.{events_of, own, state_of, IsNumberedRun, IsOrderlySeat, forks_in}
-use Rattle.pure_seats.proofs.SplitLaws.{own-append, in-own, in_here}
+use Rattle.pure_seats.proofs.SplitLaws.{own-append, in-own}
 use Rattle.pure_seats.proofs.StayLaws.{goes_on-stays}
 use Rattle.pure_seats.proofs.GroupLaws.{gone-opened, gone-after_all, over-delivered}
 use Rattle.pure_seats.proofs.SeatLaws.{run-begins, run-allows, run-kept, promise-keeps, out-known, state-opening, orderly-own}
@@ -252,7 +253,7 @@ module _ {W G C O : Type 0} (shape : W → List (List ℕ)) (forks : W → ℕ �
     holds = record {
       run = true_v.lawful;
       goes_on = ap stops nothing;
-      orderly = λ before after e same take. absurd (subst (IsIn e) nothing (in-own v.number e v.seen (subst (IsIn (v.number, e)) (sym same) (in_here (v.number, e) before after))));
+      orderly = λ before after e same take. absurd (subst (IsIn e) nothing (in-own v.number e v.seen (subst (IsIn (v.number, e)) (sym same) (in-append_right (v.number, e) before ((v.number, e) ∷ after) (inl refl)))));
       in_hand = tt;
       theories = λ i t other. absurd (subst (IsIn (TakeTheory i)) nothing t);
       promises = λ n t other. absurd (subst (IsIn (TakeProof n)) nothing t);
