@@ -1,12 +1,11 @@
 -- The seats of a board that is closed.
 use Rattle.std.specs.Prelude.{option_to_list, IsSome}
-use Rattle.std.proofs.Common.{◌≡◌, ◌≢◌, ◌⊎◌, ◌∙◌, ℕ, ◌+◌, ◌<◌, ◌≤◌, List, [], ◌∷◌, ◌++◌, length, Bool, true, false, ◌||◌, if◌then◌else◌, Option, Some, None, is_some, refl, sym, ap, subst, inl, inr, ⊎_elim, arith, append_assoc, append-nil}
+use Rattle.std.proofs.Common.{◌≡◌, ◌⊎◌, ◌∙◌, ℕ, ◌<◌, List, [], ◌∷◌, ◌++◌, length, Bool, true, false, ◌||◌, if◌then◌else◌, Option, Some, None, is_some, refl, sym, ap, subst, inl, inr, ⊎_elim, arith, append_assoc}
 use mathlib.Core.List.{IsPrefix}
 use Rattle.atomic_table.specs.Seated.{TableId}
-use Rattle.atomic_table.specs.Table.{Me}
 use Rattle.atomic_table.specs.declared.shared.Seat.{Seat}
 use Rattle.pure_text.specs.Lists.{IsIn, Each, AnyOf}
-use Rattle.pure_text.proofs.ListLaws.{each_imply, each_at, each-left, each-right, any_imply, in-append_left, in-append_right}
+use Rattle.pure_text.proofs.ListLaws.{each_imply, each_at, each-left, each-right, in-append_left, in-append_right}
 use Rattle.pure_machine.specs.Policy.{Opening}
 use Rattle.pure_machine.specs.State.{State, Event}
 use Rattle.pure_desk.specs.History.{entered_by}
@@ -36,13 +35,6 @@ either-counts false false (inr e) = absurd (cc e)
 counted-both : (b c : Bool) (m n workers : ℕ) → (b ≡ true → m ≡ workers) → (c ≡ true → n ≡ workers) → b || c ≡ true → (if b then m else n) ≡ workers
 counted-both true c m n workers f g e = f refl
 counted-both false c m n workers f g e = g e
-
--- what was popped stood last
-pub popped : {A : Type 0} (old new : List A) (r : Option A) (x : A) → old ≡ new ++ option_to_list r → r ≡ Some x → old ≡ new ++ x ∷ []
-popped old new r x e is = e ∙ ap (λ (o : Option _). new ++ option_to_list o) is
-
-pub none-popped : {A : Type 0} (old new : List A) (r : Option A) → old ≡ new ++ option_to_list r → r ≡ None → new ≡ [] → old ≡ []
-none-popped old new r e is empty = e ∙ (λ i. empty i ++ option_to_list (is i))
 
 pub each-popped : {A : Type 0} (P : A → Type 0) (old new : List A) (x : A) → old ≡ new ++ x ∷ [] → Each P old → Each P new × P x
 each-popped P old new x e each = let both = subst (Each P) e each in (each-left P new (x ∷ []) both, (each-right P new (x ∷ []) both).0)
@@ -136,14 +128,6 @@ module _ {W G C O : Type 0} where
   -- the last turn of the loop leaves none
   pub none-left : (old new : List (Sight W G C O)) (more all : List (Sight W G C O)) → old ≡ [] → old ++ more ≡ all → more ≡ all
   none-left old new more all empty same = ap (λ l. l ++ more) (sym empty) ∙ same
-
-  -- taking in one more of those that are left
-  pub gathers-more : (k : W) (o : Opening) (v : (View W Opening (Event G C O))) (old new : List (Sight W G C O)) (x : (Sight W G C O)) (more all seats : List (Sight W G C O)) → old ≡ new ++ x ∷ [] → old ++ more ≡ all → HasTaken k o v (x ∷ (more ++ seats)) → (new ++ x ∷ more ≡ all) × HasTaken k o v ((x ∷ more) ++ seats)
-  gathers-more k o v old new x more all seats e same h = (sym (append_assoc new (x ∷ []) more) ∙ (ap (λ l. l ++ more) (sym e) ∙ same), h)
-
-  -- the last of all has all
-  pub gathered : (k : W) (o : Opening) (v : (View W Opening (Event G C O))) (all rest : List (Sight W G C O)) (x : (Sight W G C O)) → all ≡ rest ++ x ∷ [] → HasTaken k o v (rest ++ x ∷ []) → HasTaken k o v all
-  gathered k o v all rest x e h = subst (HasTaken k o v) (sym e) h
 
   -- there is a seat among them, where there are workers
   pub some-seat : (workers : ℕ) (seats : List (Sight W G C O)) → AreAll workers seats → 0 < workers → length seats ≡ 0 → ⊥

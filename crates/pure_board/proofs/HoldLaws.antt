@@ -1,6 +1,5 @@
 -- What a seat may do while it holds the core, and what it knows when it has given the core back.
-use Rattle.std.proofs.Common.{◌≡◌, ◌≢◌, ◌∙◌, ℕ, zero, suc, ◌+◌, ◌<◌, ◌≤◌, List, [], ◌∷◌, ◌++◌, length, Bool, true, false, if◌then◌else◌, nat_eq, Option, Some, None, slice_get, refl, sym, ap, subst, arith, append-nil}
-use mathlib.Core.List.{IsPrefix}
+use Rattle.std.proofs.Common.{◌≡◌, ◌≢◌, ◌∙◌, ℕ, zero, suc, ◌<◌, ◌≤◌, List, [], ◌∷◌, ◌++◌, length, Bool, true, if◌then◌else◌, nat_eq, Option, Some, None, slice_get, refl, sym, ap, subst, arith, append-nil}
 use Rattle.atomic_table.specs.Seated.{TableId}
 use Rattle.atomic_table.specs.Table.{Me}
 use Rattle.atomic_table.specs.declared.shared.Seat.{Seat}
@@ -15,11 +14,11 @@ use Rattle.pure_desk.specs.Seats.{view_of, IsFree, HasTurn, IsAsKept, IsNext}
 use Rattle.pure_desk.proofs.HistoryLaws.{entered-more}
 use Rattle.pure_seats.specs.Seats.{own, state_of, IsNumberedRun, MayEnter, HasTheory, forks_in}
 use Rattle.pure_seats.proofs.SplitLaws.{state-append, stops-append}
-use Rattle.pure_seats.proofs.SeatLaws.{state-history, run-grows, run-begins, promise-keeps, taken-there, running-known, enter-fork, enter-close, enter-deliver, enter-stop}
+use Rattle.pure_seats.proofs.SeatLaws.{state-history, run-grows, promise-keeps, taken-there, running-known, enter-fork, enter-close, enter-deliver, enter-stop}
 use Rattle.pure_board.specs.Course.{IsLawful}
 use Rattle.pure_board.specs.Sight.{Sight, Sees, Enters}
 use Rattle.pure_board.specs.Taken.{IsGoalOf}
-use Rattle.pure_board.specs.Tokens.{sight, IsSeated, Tells, IsDone}
+use Rattle.pure_board.specs.Tokens.{sight, IsSeated, IsDone}
 
 -- the entries of a seat, by either name
 pub own-is : {E : Type 0} (n : ℕ) (log : List (ℕ × E)) → entered_by n log ≡ own n log

@@ -1,7 +1,7 @@
 -- The seats of a board that is opened.
-use Rattle.std.proofs.Common.{◌≡◌, ◌∙◌, ℕ, zero, suc, ◌+◌, ◌<◌, ◌≤◌, List, [], ◌∷◌, ◌++◌, length, Bool, true, false, Option, Some, None, refl, sym, ap, subst, inl, inr, arith, length-append, lt_of_not-le}
+use Rattle.std.proofs.Common.{◌≡◌, ◌∙◌, ℕ, ◌+◌, ◌<◌, ◌≤◌, List, [], ◌∷◌, ◌++◌, length, Bool, true, Option, refl, sym, ap, subst, inl, inr, arith, length-append}
 use mathlib.Core.Logic.{dite}
-use native.Mathlib.Decide.{ℕ_discrete, dec_le}
+use native.Mathlib.Decide.{ℕ_discrete}
 use Rattle.atomic_table.specs.Seated.{TableId}
 use Rattle.atomic_table.specs.Table.{Me}
 use Rattle.pure_text.specs.Lists.{Each, AnyOf}
@@ -17,7 +17,7 @@ use Rattle.pure_seats.proofs.SeatLaws.{run-nothing}
 use Rattle.pure_board.specs.Course.{IsLawful}
 use Rattle.pure_board.specs.Sight.{Plan, Sight}
 use Rattle.pure_board.specs.Tokens.{sight, counting, IsSeated}
-use Rattle.pure_board.specs.Boards.{IsFresh, AreAll, AreOpened, IsNumberedFresh}
+use Rattle.pure_board.specs.Boards.{IsFresh, AreOpened, IsNumberedFresh}
 
 pub opened-itself : {G C O : Type 0} (o : Opening) (s : State G C O) → s ≡ opened o → s ≡ state_of s.opening []
 opened-itself {G} {C} {O} o s is = is ∙ ap opened (sym (ap (λ (x : State G C O). x.opening) is ∙ opened-opening G C O o))

@@ -1,12 +1,12 @@
 -- Seats as tokens, and back.
-use Rattle.std.proofs.Common.{◌≡◌, ◌∙◌, ℕ, List, [], Bool, true, false, Option, Some, None, is_some, refl, sym, ap, subst}
+use Rattle.std.proofs.Common.{◌≡◌, ◌∙◌, ℕ, List, [], Bool, true, Option, Some, None, is_some, refl, sym, ap, subst}
 use Rattle.atomic_table.specs.Seated.{TableId}
 use Rattle.atomic_table.specs.Table.{Me}
 use Rattle.pure_machine.specs.Policy.{Opening}
 use Rattle.pure_machine.specs.State.{State, Event}
 use Rattle.pure_desk.specs.View.{View}
-use Rattle.pure_board.specs.Sight.{Plan, Sight, IsTrueSight}
-use Rattle.pure_board.specs.Tokens.{value_there, sight, IsSeated, Tells, IsDone}
+use Rattle.pure_board.specs.Sight.{Sight}
+use Rattle.pure_board.specs.Tokens.{value_there, sight, IsDone}
 use Rattle.pure_board.proofs.HoldLaws.{some-same}
 
 pub some-there : {A : Type 0} (o : Option A) (is : is_some o ≡ true) → o ≡ Some (value_there o is)
@@ -15,9 +15,6 @@ some-there None is = absurd (cc is)
 
 same-there : {A : Type 0} (o p : Option A) (e : is_some o ≡ true) (f : is_some p ≡ true) → p ≡ o → value_there p f ≡ value_there o e
 same-there o p e f same = some-same (value_there p f) (value_there o e) p (some-there p f) (same ∙ some-there o e)
-
-pub there-is : {A : Type 0} (o : Option A) (x : A) → o ≡ Some x → is_some o ≡ true
-there-is o x is = ap is_some is
 
 -- a token as a seat
 pub token-value : {W G C O : Type 0} (name name' : TableId) (m : Me (Option (State G C O)) (View W Opening (Event G C O))) (v : View W Opening (Event G C O)) (e : is_some m.0.session ≡ true) (f : is_some m.0.opening ≡ true) (k : W) (o : Opening)
@@ -43,13 +40,6 @@ module _ {W G C O : Type 0} (shape : W → List (List ℕ)) (forks : W → ℕ �
 
   abbrev Done : (S → S → Type 0) → V → Me (Option (State G C O)) V → Type 0
   Done = IsDone shape forks closes may is_fault
-
-  -- what a token knows is true
-  pub token-true : (name : TableId) (v : V) (e : is_some v.session ≡ true) (f : is_some v.opening ≡ true) → IsSeated shape forks closes may is_fault v
-      → IsTrueSight shape forks closes may is_fault (sight name (value_there v.session e) (value_there v.opening f) v)
-  token-true name v e f s = subst (λ (x : W × Opening). IsTrueSight shape forks closes may is_fault (sight name x.0 x.1 v))
-      (λ i. (some-same s.session (value_there v.session e) v.session s.session_is (some-there v.session e) i, some-same s.opening (value_there v.opening f) v.opening s.opening_is (some-there v.opening f) i))
-      (record { shaped = s.shaped; few = s.few; lawful = s.lawful; entries = s.entries })
 
   -- what a call tells of tokens, it tells of seats
   pub tells-seats : (P : S → S → Type 0) (name name' : TableId) (v : V) (m : Me (Option (State G C O)) V) (e : is_some v.session ≡ true) (f : is_some v.opening ≡ true) (e' : is_some m.0.session ≡ true) (f' : is_some m.0.opening ≡ true) (old : S)

@@ -1,12 +1,10 @@
 -- What is taken, as the seat that took it knows.
-use Rattle.std.proofs.Common.{◌≡◌, ◌∙◌, ℕ, List, [], ◌∷◌, ◌++◌, map, length, Bool, true, false, Option, Some, None, Ok, slice_get, refl, sym, ap, subst, MatchResult, Result}
-use Rattle.atomic_table.specs.Seated.{TableId}
+use Rattle.std.proofs.Common.{◌≡◌, ◌∙◌, ℕ, List, [], ◌∷◌, ◌++◌, map, length, Bool, Option, slice_get, sym, ap, subst}
 use Rattle.atomic_table.specs.Table.{Me}
 use Rattle.pure_machine.specs.Policy.{Opening}
-use Rattle.pure_machine.specs.State.{State, Promise, Event, TakeTheory, TakeProof, Fork, CloseTheory, Deliver, Stop}
-use Rattle.pure_machine.specs.Step.{IsReady, IsNextTheory, IsNextPromise, NoTheoryReady, IsIdle, IsFinished, Stands, after, is_cancelled_promise}
+use Rattle.pure_machine.specs.State.{State, Event, TakeTheory, TakeProof, Fork, Deliver}
+use Rattle.pure_machine.specs.Step.{IsReady, after, is_cancelled_promise}
 use Rattle.pure_machine.specs.Calls.{Takes, delivered_as, polled_as, is_in_cancelled}
-use Rattle.pure_machine.specs.declared.answers.Task as task
 use Rattle.pure_machine.specs.declared.answers.Task.TheVariants as task_code
 use Rattle.pure_machine.specs.declared.answers.Delivered as delivered
 use Rattle.pure_machine.specs.declared.answers.Polled as polled
@@ -15,10 +13,10 @@ use Rattle.pure_desk.specs.View.{View, looking, entering, releasing}
 use Rattle.pure_desk.specs.Steps.{IsHeld}
 use Rattle.pure_seats.specs.Seats.{state_of, MayEnter}
 use Rattle.pure_board.specs.Course.{IsLawful}
-use Rattle.pure_board.specs.Sight.{Sight, Sees, Enters}
+use Rattle.pure_board.specs.Sight.{Sight, Sees}
 use Rattle.pure_board.specs.Taken.{state_seen, IsGoalOf, IsTaken, IsForked, IsEntered, IsDelivered}
-use Rattle.pure_board.specs.Tokens.{sight, IsSeated, IsDone}
-use Rattle.pure_board.proofs.HoldLaws.{done-entering, done-looking, done-missing, may-take-theory, may-take-proof, may-fork, may-close, may-deliver, may-stop}
+use Rattle.pure_board.specs.Tokens.{IsSeated, IsDone}
+use Rattle.pure_board.proofs.HoldLaws.{done-entering, done-looking, done-missing, may-take-theory, may-take-proof}
 
 module _ {W G C O : Type 0} (shape : W → List (List ℕ)) (forks : W → ℕ → ℕ → G → Type 0) (closes : W → ℕ → ℕ → C → Type 0) (may : W → G → O → Type 0) (is_fault : W → O → Bool) where
   abbrev V : Type 0
@@ -55,15 +53,6 @@ module _ {W G C O : Type 0} (shape : W → List (List ℕ)) (forks : W → ℕ �
         (λ name k o new k-is there entered. (h.log, entered, subst (λ (x : St). IsGoalOf x n goal.value) (sym there) (t.2.0, t.2.1.0, sym t.2.2)))
 
     module _ (m1 : Me (Option St) V) (looked : m1.0 ≡ looking u) (told : m ≡ (releasing m1.0, [])) where
-      pub done-idle : IsIdle c → Done (λ old new. IsTaken old new (task_code.Idle)) v m
-      done-idle is = done-looking shape forks closes may is_fault v u c s h (λ old new. IsTaken old new (task_code.Idle)) m1 m looked told (λ name k o new sees there. (sees, subst IsIdle (sym there) is))
-
-      pub done-finished : IsFinished c → Done (λ old new. IsTaken old new (task_code.Finished)) v m
-      done-finished is = done-looking shape forks closes may is_fault v u c s h (λ old new. IsTaken old new (task_code.Finished)) m1 m looked told (λ name k o new sees there. (sees, subst IsFinished (sym there) is))
-
-      pub done-stopped : c.stopped ≡ true → Done (λ old new. IsTaken old new (task_code.Stopped)) v m
-      done-stopped is = done-looking shape forks closes may is_fault v u c s h (λ old new. IsTaken old new (task_code.Stopped)) m1 m looked told (λ name k o new sees there. (sees, ap (λ (x : St). x.stopped) there ∙ is))
-
       pub done-polled : (n : ℕ) (p : polled.Polled) → p ≡ polled_as c.stopped (is_in_cancelled c (slice_get c.promises n))
           → Done (λ old new. Sees old new × (p ≡ polled_as (state_seen new).stopped (is_in_cancelled (state_seen new) (slice_get (state_seen new).promises n)))) v m
       done-polled n p is = done-looking shape forks closes may is_fault v u c s h (λ old new. Sees old new × (p ≡ polled_as (state_seen new).stopped (is_in_cancelled (state_seen new) (slice_get (state_seen new).promises n)))) m1 m looked told

@@ -1,5 +1,5 @@
 -- What the calls of a board tell a seat.
-use Rattle.std.specs.Prelude.{◌≡◌, ℕ, List, [], ◌∷◌, map, length, Bool, true, slice_get}
+use Rattle.std.specs.Prelude.{◌≡◌, ℕ, List, map, length, Bool, true, slice_get}
 use Rattle.pure_machine.specs.State.{State, Promise, Event, TakeTheory, TakeProof, Fork, Deliver}
 use Rattle.pure_machine.specs.Step.{IsReady, Stands, IsIdle, IsFinished, is_cancelled_promise}
 use Rattle.pure_machine.specs.Calls.{delivered_as}

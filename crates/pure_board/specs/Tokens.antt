@@ -7,7 +7,7 @@ use Rattle.pure_machine.specs.Policy.{Opening}
 use Rattle.pure_machine.specs.State.{Event, State}
 use Rattle.pure_desk.specs.View.{View, first_seat, opened_seat}
 use Rattle.pure_seats.specs.Seats.{own, IsNumberedRun}
-use Rattle.pure_board.specs.Sight.{Plan, Sight}
+use Rattle.pure_board.specs.Sight.{Sight}
 
 -- what is there
 abbrev pub value_there : {A : Type 0} → (o : Option A) → is_some o ≡ true → A

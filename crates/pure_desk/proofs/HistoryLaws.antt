@@ -2,7 +2,7 @@
 use Rattle.std.proofs.Common.{◌≡◌, ◌≢◌, ◌⊎◌, ◌∙◌, ℕ, ◌≤◌, List, [], ◌∷◌, ◌++◌, length, Bool, true, false, if◌then◌else◌, nat_eq, nat_lt, refl, sym, ap, inl, inr, arith, append_assoc, append-nil, length-append, eq-eqb, ne_eqb, ltb-true, ltb-false, le_of_lt}
 use mathlib.Core.List.{IsPrefix}
 use Rattle.pure_text.specs.Lists.{Each}
-use Rattle.pure_desk.specs.History.{entered_by, events, longer}
+use Rattle.pure_desk.specs.History.{entered_by, longer}
 
 -- each list begins with itself
 pub begins-itself : {A : Type 0} (xs : List A) → IsPrefix xs xs
@@ -86,10 +86,6 @@ module _ {E : Type 0} where
     all x.0 (λ e. let here : entered_by x.0 (x ∷ log) ≡ x.1 ∷ entered_by x.0 log = ap (λ b. if b then (x.1 ∷ entered_by x.0 log) else entered_by x.0 log) (eq-eqb x.0 x.0 refl) in absurd (cc (e, here))),
     entered-numbers log P (λ n some'. all n (λ e. some' (rest-empty (nat_eq x.0 n) x.1 (entered_by n log) e))),
   )
-
-  pub events-more : (log : List (ℕ × E)) (n : ℕ) (e : E) → events (log ++ (n, e) ∷ []) ≡ events log ++ e ∷ []
-  events-more [] n e = refl
-  events-more (x ∷ log) n e = λ i. x.1 ∷ events-more log n e i
 
 -- one of the two longer lists is it
 pub longer-either : {A : Type 0} (xs ys : List A) → ((longer xs ys ≡ xs) × (length ys ≤ length xs)) ⊎ ((longer xs ys ≡ ys) × (length xs ≤ length ys))

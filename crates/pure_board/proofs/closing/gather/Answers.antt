@@ -1,4 +1,4 @@
-use Rattle.std.proofs.Common.{rules, ◌∙◌, ◌++◌, ◌∷◌, [], refl, append-nil}
+use Rattle.std.proofs.Common.{◌∙◌, ◌++◌, ◌∷◌, [], refl, append-nil}
 use Rattle.pure_board.proofs.CloseLaws.{each-popped, popped-same, taken-last}
 use Rattle.pure_board.proofs.closing.gather.Goals as goal
 

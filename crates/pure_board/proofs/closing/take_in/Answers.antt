@@ -1,4 +1,4 @@
-use Rattle.std.proofs.Common.{rules, ◌∙◌, ap}
+use Rattle.std.proofs.Common.{ap}
 use Rattle.pure_board.proofs.CloseLaws.{has-both, taken-free}
 use Rattle.pure_board.proofs.closing.take_in.Goals as goal
 

@@ -1,4 +1,3 @@
-use Rattle.std.proofs.Common.{rules, refl}
 use Rattle.pure_board.proofs.CloseLaws.{has-itself}
 use Rattle.pure_board.proofs.closing.token_of.Goals as goal
 

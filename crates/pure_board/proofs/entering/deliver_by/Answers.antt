@@ -1,7 +1,6 @@
-use Rattle.std.proofs.Common.{rules, ◌∙◌}
-use Rattle.pure_machine.specs.State.{Fork, CloseTheory, Deliver}
-use Rattle.pure_board.proofs.HoldLaws.{token-free, as-kept, is-alone, next-of, theory-runs, promise-there, may-fork, may-close, may-deliver}
-use Rattle.pure_board.proofs.TakeLaws.{done-fork, done-event, done-delivery, done-missed}
+use Rattle.pure_machine.specs.State.{Deliver}
+use Rattle.pure_board.proofs.HoldLaws.{token-free, as-kept, is-alone, next-of, promise-there, may-deliver}
+use Rattle.pure_board.proofs.TakeLaws.{done-delivery, done-missed}
 use Rattle.pure_board.proofs.entering.deliver_by.Goals as goal
 
 pub hold-core-requires-clause-free : goal.hold-core-requires-clause-free

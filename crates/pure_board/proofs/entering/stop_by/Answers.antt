@@ -1,4 +1,3 @@
-use Rattle.std.proofs.Common.{rules, ◌∙◌}
 use Rattle.pure_machine.specs.State.{Stop}
 use Rattle.pure_board.proofs.HoldLaws.{token-free, is-alone, next-of, may-stop, stop-fits}
 use Rattle.pure_board.proofs.TakeLaws.{done-event}

@@ -1,4 +1,3 @@
-use Rattle.std.proofs.Common.{rules, ◌∙◌, sym, ap, subst}
 use Rattle.pure_board.proofs.OpenLaws.{opened-with}
 use Rattle.pure_board.proofs.opening.all_opened.Goals as goal
 

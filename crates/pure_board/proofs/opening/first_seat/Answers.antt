@@ -1,4 +1,4 @@
-use Rattle.std.proofs.Common.{rules, refl}
+use Rattle.std.proofs.Common.{refl}
 use Rattle.pure_board.proofs.SeatLaws.{token-value}
 use Rattle.pure_board.proofs.OpenLaws.{counts-seated}
 use Rattle.pure_board.proofs.opening.first_seat.Goals as goal

@@ -1,4 +1,4 @@
-use Rattle.std.proofs.Common.{rules, ◌∙◌, ap, []}
+use Rattle.std.proofs.Common.{◌∙◌, ap, []}
 use Rattle.pure_board.specs.Tokens.{counting}
 use Rattle.pure_board.proofs.OpenLaws.{opened-itself, opened-lawful, opening-of}
 use Rattle.pure_board.proofs.opening.first_token.Goals as goal

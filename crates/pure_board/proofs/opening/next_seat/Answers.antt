@@ -1,4 +1,4 @@
-use Rattle.std.proofs.Common.{rules, ◌∙◌, refl}
+use Rattle.std.proofs.Common.{refl}
 use Rattle.pure_board.proofs.SeatLaws.{token-value}
 use Rattle.pure_board.proofs.OpenLaws.{first-free, first-counts, first-splits, first-makes, makes-seated}
 use Rattle.pure_board.proofs.opening.next_seat.Goals as goal

@@ -1,4 +1,4 @@
-use Rattle.std.proofs.Common.{rules, ◌∙◌, ◌≡◌, ◌+◌, ℕ, ap, arith, subst, length, length-append, []}
+use Rattle.std.proofs.Common.{rules, ◌∙◌, ◌≡◌, ℕ, arith, subst, []}
 use Rattle.pure_board.specs.Tokens.{counting}
 use Rattle.pure_board.proofs.OpenLaws.{seat-more, one-longer}
 use Rattle.pure_board.proofs.opening.other_seats.Goals as goal

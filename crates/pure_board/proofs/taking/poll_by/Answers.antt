@@ -1,4 +1,4 @@
-use Rattle.std.proofs.Common.{rules, ◌∙◌, refl, ap}
+use Rattle.std.proofs.Common.{refl, ap}
 use Rattle.pure_board.proofs.HoldLaws.{token-free, still-turn, looked-kept, promise-there}
 use Rattle.pure_board.proofs.TakeLaws.{done-polled}
 use Rattle.pure_board.proofs.taking.poll_by.Goals as goal

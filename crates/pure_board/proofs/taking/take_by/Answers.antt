@@ -1,6 +1,5 @@
-use Rattle.std.proofs.Common.{rules, ◌∙◌}
 use Rattle.pure_machine.specs.State.{TakeTheory, TakeProof}
-use Rattle.pure_board.proofs.HoldLaws.{token-free, is-alone, next-of}
+use Rattle.pure_board.proofs.HoldLaws.{token-free, next-of}
 use Rattle.pure_board.proofs.TakeLaws.{theory-taken, proof-taken, done-theory, done-proof, done-missed}
 use Rattle.pure_board.proofs.taking.take_by.Goals as goal
 

@@ -1,4 +1,4 @@
-use Rattle.std.proofs.Common.{rules, ◌∙◌, sym, ap}
+use Rattle.std.proofs.Common.{◌∙◌, sym, ap}
 use Rattle.pure_board.specs.Sight.{Plan}
 use Rattle.pure_board.proofs.CloseLaws.{each-popped, names-of, some-seat, closing-taken, closing-all, taken-free, taken-all, ended-session, ended-seats}
 use Rattle.pure_board.proofs.board.Board.close.Goals as goal

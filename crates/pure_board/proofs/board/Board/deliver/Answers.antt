@@ -1,4 +1,3 @@
-use Rattle.std.proofs.Common.{rules}
 use Rattle.pure_seats.specs.Seats.{state_of}
 use Rattle.pure_board.specs.Taken.{IsGoalOf}
 use Rattle.pure_board.proofs.SeatLaws.{tells-seats, may-tokens}

@@ -1,4 +1,4 @@
-use Rattle.std.proofs.Common.{rules, ◌∙◌, refl}
+use Rattle.std.proofs.Common.{◌∙◌, refl}
 use Rattle.pure_machine.specs.Policy.{Opening}
 use Rattle.pure_board.proofs.OpenLaws.{renamed-fresh}
 use Rattle.pure_board.proofs.board.Board.open.Goals as goal

@@ -1,4 +1,3 @@
-use Rattle.std.proofs.Common.{rules}
 use Rattle.pure_board.proofs.SeatLaws.{tells-seats}
 use Rattle.pure_board.proofs.board.Board.take.Goals as goal
 
