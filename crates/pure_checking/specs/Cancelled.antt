@@ -1,0 +1,30 @@
+-- The lemmas of promises: which are cancelled, and their entries.
+use Rattle.std.specs.Prelude.{List, map, filter, Option, Some, None}
+use Rattle.pure_definitions.specs.Names.{Label}
+use Rattle.pure_declare.specs.Notes.{Fork}
+use Rattle.pure_method.specs.Proof.{ProofOutcome}
+use Rattle.pure_method.specs.Outcome.{seen_outcome}
+use Rattle.pure_method.specs.declared.outcome.Outcome.{Outcome}
+use Rattle.pure_promise.specs.Entries.{Entry}
+use Rattle.pure_machine.specs.State.{Promise, Standing, Settled}
+use Rattle.pure_machine.specs.Step.{is_cancelled_standing}
+
+-- the lemmas that were promised
+abbrev pub lemmas_of : List (Promise Fork Outcome) → List Fork
+lemmas_of = map (λ (p : Promise Fork Outcome). p.goal)
+
+-- the labels of those that are cancelled
+abbrev pub cancelled_labels : List (Promise Fork Outcome) → List Label
+cancelled_labels promises = map (λ (p : Promise Fork Outcome). (p.goal).label) (filter (λ (p : Promise Fork Outcome). is_cancelled_standing p.standing) promises)
+
+-- what became of a lemma: what its proof came to where its promise is settled, and else nothing
+abbrev pub own_of : Standing Outcome → Option ProofOutcome
+own_of (Settled outcome) = Some (seen_outcome outcome)
+own_of _ = None
+
+-- the lemma's entry
+abbrev pub entry_of : Promise Fork Outcome → Entry
+entry_of p = record { label = (p.goal).label; name = (p.goal).name; prop = (p.goal).prop; own = own_of p.standing }
+
+abbrev pub entries_of : List (Promise Fork Outcome) → List Entry
+entries_of = map entry_of
