@@ -10,7 +10,7 @@ use Rattle.pure_theorem.specs.Sets.{IsLabelSet}
 use Rattle.pure_fates.proofs.LabelSets.{not_itself, first_below, rest_is_set}
 use Rattle.pure_declare.specs.Notes.{Fork}
 use Rattle.pure_method.specs.Proof.{IsProof}
-use Rattle.pure_method.specs.Outcome.{seen_outcome, IsOutcomeOf}
+use Rattle.pure_method.specs.Outcome.{IsOutcomeOf}
 use Rattle.pure_method.specs.declared.outcome.Outcome.{Outcome}
 use Rattle.pure_method.specs.declared.outcome.Outcome.TheVariants.{Proved, Fault}
 use Rattle.pure_table.specs.Table.{IsOwn, IsEntryOf}
@@ -19,7 +19,7 @@ use Rattle.pure_machine.specs.Step.{is_cancelled_standing}
 use Rattle.pure_joined.specs.Joined.{EndsSo}
 use Rattle.pure_joined.specs.Uncancelled.{NoneCancelled}
 use Rattle.pure_joined.proofs.JoinLaws.{in-filter, filter-in}
-use Rattle.pure_checking.specs.Cancelled.{lemmas_of, cancelled_labels, own_of, entry_of, entries_of}
+use Rattle.pure_checking.specs.Cancelled.{lemmas_of, cancelled_labels, seen_outcome, own_of, entry_of, entries_of}
 
 abbrev label_of : Promise Fork Outcome → Label
 label_of p = (p.goal).label

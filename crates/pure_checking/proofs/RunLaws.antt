@@ -96,7 +96,7 @@ turn-of texts theories i n notes old new turn.Declared count h = ((notes ++ Said
 turn-of texts theories i n notes old new (turn.Forked goal) count h =
     let run = runs-under texts theories i notes (Forked goal) new.standing h.0.standing in
     (record { notes = notes; now = run.0; left = run.1; run = run.2; count = count }, (notes ++ Forked goal ∷ [], h.0, one-more notes goal n count), h.1)
-turn-of texts theories i n notes old new (turn.Closed value) count h = (h.verdict, h.closes, h.value_is, ap length h.forks ∙ count)
+turn-of texts theories i n notes old new (turn.Closed value) count h = (h.1.verdict, h.1.closes, h.1.value_is, ap length h.1.forks ∙ count)
 
 -- at the beginning
 pub runs-first : (texts : List (List ℕ)) (theories : List Loaded) (i : ℕ) (run : Run) → IsRunOf texts theories i [] run → RunsAfter texts theories i 0 run

@@ -1,10 +1,10 @@
 -- The lemmas of promises: which are cancelled, and their entries.
-use Rattle.std.specs.Prelude.{List, map, filter, Option, Some, None}
+use Rattle.std.specs.Prelude.{List, map, filter, Option, Some, None, Ok, Err}
 use Rattle.pure_definitions.specs.Names.{Label}
 use Rattle.pure_declare.specs.Notes.{Fork}
 use Rattle.pure_method.specs.Proof.{ProofOutcome}
-use Rattle.pure_method.specs.Outcome.{seen_outcome}
 use Rattle.pure_method.specs.declared.outcome.Outcome.{Outcome}
+use Rattle.pure_method.specs.declared.outcome.Outcome.TheVariants.{Proved, Fault}
 use Rattle.pure_promise.specs.Entries.{Entry}
 use Rattle.pure_machine.specs.State.{Promise, Standing, Settled}
 use Rattle.pure_machine.specs.Step.{is_cancelled_standing}
@@ -16,6 +16,11 @@ lemmas_of = map (λ (p : Promise Fork Outcome). p.goal)
 -- the labels of those that are cancelled
 abbrev pub cancelled_labels : List (Promise Fork Outcome) → List Label
 cancelled_labels promises = map (λ (p : Promise Fork Outcome). (p.goal).label) (filter (λ (p : Promise Fork Outcome). is_cancelled_standing p.standing) promises)
+
+-- what a proof came to: of a theorem the promises on which it rests, or the step that failed
+abbrev pub seen_outcome : Outcome → ProofOutcome
+seen_outcome (Proved c) = Ok c.theorem.rests
+seen_outcome (Fault step fault) = Err (record { step = step; fault = fault })
 
 -- what became of a lemma: what its proof came to where its promise is settled, and else nothing
 abbrev pub own_of : Standing Outcome → Option ProofOutcome

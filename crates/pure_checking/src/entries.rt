@@ -1,9 +1,8 @@
 //! The entries of lemmas, from their promises.
 ghost use Rattle.std.specs.Prelude.{◌≡◌, Some, IfOk};
-ghost use Rattle.pure_method.specs.Outcome.{seen_outcome};
 ghost use Rattle.pure_promise.specs.Seen.{seen_own, seen_entry, seen};
 ghost use Rattle.pure_machine.specs.Seen.{seen_standing};
-ghost use Rattle.pure_checking.specs.Cancelled.{own_of, entry_of, entries_of};
+ghost use Rattle.pure_checking.specs.Cancelled.{seen_outcome, own_of, entry_of, entries_of};
 
 use pure_core::{Promise, Standing};
 use pure_declare::Duty;
