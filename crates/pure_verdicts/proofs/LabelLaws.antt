@@ -103,7 +103,7 @@ module _ (texts : List (List ℕ)) (theories : List Loaded) (session : IsLoadedS
           from = (record { at_place = place; behind = omega arith; label = is }, each_imply (IsFrom index (place + 1)) (IsFrom index place) (forks_of more) (later-from index place) h.from);
         }
 
-    commands-from : (todo left : List Command) (notes : List Note) (now : Content) → IsRun texts theories index notes now (todo ++ left) → (more : List Note) (last : Content) → AreDeclared texts theory.source index (length notes) now todo more last
+    pub commands-from : (todo left : List Command) (notes : List Note) (now : Content) → IsRun texts theories index notes now (todo ++ left) → (more : List Note) (last : Content) → AreDeclared texts theory.source index (length notes) now todo more last
         → AreFrom index (length notes) (forks_of more)
     commands-from [] left notes now run more last d = subst (λ (ns : List Note). AreFrom index (length notes) (forks_of ns)) (sym d.0) (record { ascend = none-set; from = tt })
     commands-from (c ∷ todo) left notes now run more last d =
