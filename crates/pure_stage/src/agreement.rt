@@ -100,7 +100,7 @@ impl Declarations {
     }
 
     /// Whether the entry's declaration stands in the list, which is told at once where it stands at this place.
-    fn holds(&self, place: u32, entry: &Entry) -> bool
+    pub(crate) fn holds(&self, place: u32, entry: &Entry) -> bool
         ensures { IsTrue result ↔ IsIn (decl_of entry.now) self.now }
     {
         self.is_at(place, entry) || self.has(entry)

@@ -47,12 +47,12 @@ impl Declarations {
         }
     }
 
-    /// The list with the entry's declaration more, if it hasn't it yet.
-    fn with_new(&self, entry: &Entry) -> Result<Declarations, AllocError>
+    /// The list with the entry's declaration more, if it hasn't it yet, which is told at once where it stands at this place.
+    fn with_new(&self, place: u32, entry: &Entry) -> Result<Declarations, AllocError>
         requires { (e : Decl) → IsIn e self.now → AreNamedAlike (decl_of entry.now) e → decl_of entry.now ≡ e }
         ensures { IfOk result (λ more. (IsIn (decl_of entry.now) self.now × (more ≡ self.now)) ⊎ ((¬ IsIn (decl_of entry.now) self.now) × (more ≡ self.now ++ decl_of entry.now ∷ []))) }
     {
-        if self.has(entry) {
+        if self.holds(place, entry) {
             let same = self.share()?;
             Ok(same)
         } else {
@@ -72,7 +72,7 @@ impl Declarations {
             let Some(entry) = other.entry_at(place) else {
                 return Ok(more);
             };
-            more = more.with_new(entry)?;
+            more = more.with_new(place, entry)?;
         }
         Ok(more)
     }
