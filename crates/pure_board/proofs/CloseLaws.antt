@@ -58,7 +58,7 @@ module _ {W G C O : Type 0} where
     lives = seated.lives;
     is_free = seated.is_free;
     counted = λ counting. seated.counted counting ∙ ap (λ (o : Opening). o.workers) (some-same seated.opening (value_there v.opening f) v.opening seated.opening_is (some-there v.opening f));
-    has = (record { opening = some-there v.opening f; entries = inl (refl, refl); saw = inl refl; counts = seated.counts }, tt);
+    has = (record { opening = some-there v.opening f; entries = inl (refl, refl); knew = seated.entries; saw = inl refl; counts = seated.counts }, tt);
   })
 
   -- of a token that takes in another
@@ -66,6 +66,7 @@ module _ {W G C O : Type 0} where
   has-kept v w s h = record {
     opening = h.opening;
     entries = ⊎_elim (λ same. inl same) (λ there. inr (inr (in-append_left (s.number, s.own) v.joined w.joined there))) h.entries;
+    knew = h.knew;
     saw = inr (⊎_elim (λ same. inl same) (λ there. inr (inr (in-append_left s.seen v.earlier w.earlier there))) h.saw);
     counts = λ first. either-counts v.counts w.counts (inl (h.counts first));
   }
@@ -74,6 +75,7 @@ module _ {W G C O : Type 0} where
   has-come v w s same h = record {
     opening = same ∙ h.opening;
     entries = inr (⊎_elim (λ t. inl (λ i. (t.0 i, t.1 i))) (λ there. inr (in-append_right (s.number, s.own) v.joined w.joined there)) h.entries);
+    knew = h.knew;
     saw = inr (inr (⊎_elim (λ t. inl t) (λ there. inr (in-append_right s.seen v.earlier w.earlier there)) h.saw));
     counts = λ first. either-counts v.counts w.counts (inr (h.counts first));
   }
@@ -120,6 +122,7 @@ module _ {W G C O : Type 0} where
         record {
           openings = each_imply (HasOne v) (λ s. s.opening ≡ o) seats (λ s one. some-same s.opening o v.opening one.opening h.opening_is) h.has;
           begins = each_imply (HasOne v) (λ s. IsPrefix s.seen v.seen) seats (λ s one. ⊎_elim (λ same. subst (λ l. IsPrefix l v.seen) (sym same) (begins-itself v.seen)) (λ there. each_at (λ seen. IsPrefix seen v.seen) v.earlier whole.saw_earlier s.seen there) one.saw) h.has;
+          knew = each_imply (HasOne v) (λ s. s.own ≡ own s.number s.seen) seats (λ s one. one.knew) h.has;
           entries = each_imply (HasOne v) (λ s. own s.number v.seen ≡ s.own) seats (λ s one. sym (own-is s.number v.seen) ∙ ⊎_elim (λ t. ap (λ n. entered_by n v.seen) t.0 ∙ (whole.own_entries ∙ sym t.1)) (λ there. each_at (λ x. entered_by x.0 v.seen ≡ x.1) v.joined whole.entries (s.number, s.own) there) one.entries) h.has;
           no_others = each_imply (λ e. e.0 < v.made) (λ a. AnyOf (λ s. s.number ≡ a.0) seats) v.seen (λ a below. all a.0 (omega (arith, below, made))) whole.no_others;
         },

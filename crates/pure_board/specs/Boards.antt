@@ -44,17 +44,19 @@ pub record IsEnded {W G C O : Type 0} (shape : W → List (List ℕ)) (forks : W
   pub run : IsNumberedRun (forks end.session) (closes end.session) (may end.session) (is_fault end.session) end.opening end.history
   pub state : end.core ≡ state_of end.opening end.history
 
--- The board of these seats was closed so: it is of their opening, its history begins with what each of them had seen, has of each of them what it entered, by its number, and has no other entries.
+-- The board of these seats was closed so: it is of their opening, its history begins with what each of them had seen, in which stood all that it entered, has of each of them what it entered, by its number, and has no other entries.
 pub record IsOfSeats {W G C O : Type 0} (seats : List (Sight W G C O)) (end : Ending W G C O) : Type 0 where
   pub openings : Each (λ s. s.opening ≡ end.opening) seats
   pub begins : Each (λ s. IsPrefix s.seen end.history) seats
+  pub knew : Each (λ s. s.own ≡ own s.number s.seen) seats
   pub entries : Each (λ s. own s.number end.history ≡ s.own) seats
   pub no_others : Each (λ a. AnyOf (λ s. s.number ≡ a.0) seats) end.history
 
--- The token has this seat's entries and has seen what it saw: they are its own, or it has taken them in.
+-- The token has this seat's entries, which stand in what the seat saw, and has seen that: they are its own, or it has taken them in.
 pub record HasOne {W G C O : Type 0} (v : View W Opening (Event G C O)) (s : Sight W G C O) : Type 0 where
   pub opening : v.opening ≡ Some s.opening
   pub entries : ((s.number ≡ v.number) × (s.own ≡ v.own)) ⊎ IsIn (s.number, s.own) v.joined
+  pub knew : s.own ≡ own s.number s.seen
   pub saw : (s.seen ≡ v.seen) ⊎ IsIn s.seen v.earlier
   pub counts : s.number ≡ 0 → v.counts ≡ true
 
