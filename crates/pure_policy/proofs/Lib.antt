@@ -1,0 +1,2 @@
+pub mod NothingLaws
+pub mod PolicyLaws

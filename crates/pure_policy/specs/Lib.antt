@@ -1,0 +1,4 @@
+pub mod Asked
+pub mod Heeded
+pub mod Policy
+pub mod Laws
