@@ -1,56 +1,40 @@
 -- From the table of a session to what the files and the words mean, and what was written of it.
-use Rattle.std.proofs.Common.{◌≡◌, ◌≤◌, inl, inr, ℕ, Bool, false, List, [], ◌∷◌, map, refl, sym, ◌∙◌, ap, subst, arith, Option, Some, None}
+use Rattle.std.proofs.Common.{◌≡◌, ℕ, Bool, List, map, refl, sym, ◌∙◌, ap, subst, Option, Some}
 use Rattle.std.specs.Option.{IfSome}
-use Rattle.std.specs.List.{list_all, filter_map}
-use Rattle.pure_text.specs.Lists.{IsIn, Each, EachTwo}
 use Rattle.pure_io.specs.declared.library.File as library
 use Rattle.pure_io.specs.Outside.{Appends, AppendsProperPrefix}
-use Rattle.pure_graph.specs.Session.{Session, Refusal, Shown, shown, IsSessionOf}
+use Rattle.pure_graph.specs.Session.{Session, Shown, shown}
 use Rattle.pure_graph.specs.SessionNames.{AreNames}
 use Rattle.pure_graph.specs.Order.{Loaded}
 use Rattle.pure_session.specs.ToldTheories.{AreTheoriesOf}
 use Rattle.pure_typ.specs.NameTexts.{AreSessionTexts}
 use Rattle.pure_declare.specs.Notes.{Fork}
-use Rattle.pure_method.specs.Proof.{ProofOutcome}
-use Rattle.pure_promise.specs.Entries.{Entry}
+use Rattle.pure_method.specs.declared.outcome.Outcome.{Outcome}
 use Rattle.pure_loaded.specs.Loaded.{IsLoadedSession}
-use Rattle.pure_verdicts.specs.Statements.{forks_of}
-use Rattle.pure_table.specs.Table.{Table, IsOwn, IsEntryOf, IsTable}
-use Rattle.pure_check.specs.declared.status.Status.{Status}
-use Rattle.pure_check.specs.declared.status.Status.TheVariants.{Clean, Rows, Usage, ReadFault, WriteFault, Memory}
-use Rattle.pure_words.specs.declared.job.Job.{Job}
-use Rattle.pure_words.specs.declared.job.Job.TheVariants.{Check, Generate}
-use Rattle.pure_check.specs.declared.formed.Extent.{Extent}
-use Rattle.pure_check.specs.Asked.{AreTaken, asked_of}
-use Rattle.pure_check.specs.Policy.{Lot, is_gone, lot_of}
-use Rattle.pure_check.specs.Meaning.{IsToldSession, label_if_gone, gone_label, files_for, text_for, IsMeant}
-use Rattle.pure_check.specs.Formed.{IsFormed, IsTextOf, IsChecked, extent_text, extent_for}
-use Rattle.pure_check.specs.Answer.{Printed, CutShort, Wrote}
 use Rattle.pure_loaded.proofs.OrderLaws.{loaded-in-order}
 use Rattle.pure_loaded.proofs.WellLaws.{loaded-well}
+use Rattle.pure_work.specs.Checked.{Checked}
+use Rattle.pure_work.specs.Outline.{Outline}
+use Rattle.pure_table.specs.Table.{Table, IsTable}
 use Rattle.pure_table.proofs.DerivedLaws.{table_is_derived}
-use Rattle.pure_check.proofs.PolicyLaws.{nothing_heeded}
-use Rattle.pure_check.proofs.WordsLaws.{job_in_range, has_worker}
-
-pub printed_by : (S : Session) (extent : Extent) (text bytes : List ℕ) (clean told : Bool) (old new : Option (List ℕ)) → IsFormed S extent text clean → clean ≡ told → bytes ≡ text → Appends old new bytes
-    → Printed (IsTextOf S extent) told old new
-printed_by S extent text bytes clean told old new formed is same appended = record {
-  session = S;
-  table = formed.table;
-  text = text;
-  meaning = (refl, formed.is_table, formed.text_is);
-  clean_is = formed.clean_is ∙ is;
-  written = subst (Appends old new) same appended;
-}
-
-pub cut_short_by : (S : Session) (extent : Extent) (text bytes : List ℕ) (clean : Bool) (old new : Option (List ℕ)) → IsFormed S extent text clean → bytes ≡ text → AppendsProperPrefix old new bytes → CutShort (IsTextOf S extent) old new
-cut_short_by S extent text bytes clean old new formed same appended = record {
-  session = S;
-  table = formed.table;
-  text = text;
-  meaning = (refl, formed.is_table, formed.text_is);
-  written = subst (AppendsProperPrefix old new) same appended;
-}
+use Rattle.pure_machine.specs.Policy.{Policy}
+use Rattle.pure_board.specs.Boards.{Ending}
+use Rattle.pure_heed.specs.Heeded as heed
+use Rattle.pure_policy.specs.Policy.{policy_of}
+use Rattle.pure_policy.proofs.PolicyLaws.{words_heeded}
+use Rattle.pure_checking.specs.Boards.{IsBoardOf}
+use Rattle.pure_checking.specs.Heeded.{lot_of, gone_labels}
+use Rattle.pure_checking.proofs.HeedLaws.{session_is_heeded}
+use Rattle.pure_words.specs.Words.{IsJob}
+use Rattle.pure_words.specs.declared.job.Job.{Job}
+use Rattle.pure_words.specs.declared.job.Job.TheVariants.{Check, Generate}
+use Rattle.pure_check.specs.declared.status.Status.{Status}
+use Rattle.pure_check.specs.declared.status.Status.TheVariants.{Clean, Rows, Usage, ReadFault, WriteFault, Memory}
+use Rattle.pure_check.specs.declared.formed.Extent.{Extent}
+use Rattle.pure_check.specs.Asked.{asked_of}
+use Rattle.pure_check.specs.Meaning.{IsToldSession, files_for, text_for, IsMeant}
+use Rattle.pure_check.specs.Formed.{IsFormed, IsTextOf, IsPrintedOf, IsDone, extent_text, extent_for}
+use Rattle.pure_check.specs.Answer.{Printed, CutShort, Wrote}
 
 -- a meaning of a session, its table and the text that is written
 abbrev Means : Type 1
@@ -64,49 +48,89 @@ Wrote-weaker Usage P Q old new weaker w = w
 Wrote-weaker ReadFault P Q old new weaker w = w
 Wrote-weaker Memory P Q old new weaker w = w
 
--- Where no label is cancelled, each lemma has what its proof comes to.
-kept_own : (texts : List (List ℕ)) (f : Fork) (e : Entry) → IsEntryOf texts [] f e → ((lot_of e).gone ≡ false) × (gone_label e ≡ None)
-kept_own texts f e is = of e.own is.own
-  where
-    of : (own : Option ProofOutcome) → IsOwn texts [] f own → (is_gone own ≡ false) × (label_if_gone e.label own ≡ None)
-    of None within = absurd within
-    of (Some outcome) is = (refl, refl)
-
-all_kept : (texts : List (List ℕ)) (fs : List Fork) (es : List Entry) → EachTwo (IsEntryOf texts []) fs es → Each (λ (l : Lot). l.gone ≡ false) (map lot_of es) × (filter_map gone_label es ≡ [])
-all_kept texts [] [] are = (_, refl)
-all_kept texts [] (e ∷ es) are = absurd are
-all_kept texts (f ∷ fs) [] are = absurd are
-all_kept texts (f ∷ fs) (e ∷ es) (is, are) =
-    let own = kept_own texts f e is in
-    let rest = all_kept texts fs es are in
-    ((own.0, rest.0), rw own.1 rest.1)
-
 -- The job's extent of a text is the text that it has written.
 text_same : (job : Job) (S : Session) (t : Table) → extent_text (extent_for job) S t ≡ text_for job S t
 text_same (Check workers fail_fast cancels) S t = refl
 text_same (Generate workers start theories lemmas) S t = refl
 
--- A table of whose lemmas none is cancelled is what the words and the files mean.
-pub meant : (told : Option (List library.File)) (words : List (List ℕ)) (job : Job) → AreTaken words job → (S : Session) (t : Table) (text : List ℕ) → IsChecked (files_for job told) (extent_for job) S t text → IsMeant told words S t text
-meant told words job taken S t text checked =
-    let kept = all_kept S.names (forks_of t.notes) t.entries checked.table.entries in
+-- What comes of a session on a board is what the job asks of it.
+text-of : (job : Job) (S : Session) → IsLoadedSession S.names S.theories → (board : Ending Checked Fork Outline Outcome) → IsBoardOf S.names S.theories (policy_of S.theories (asked_of job)) (asked_of job).workers board
+    → (text : List ℕ) (clean : Bool) → IsFormed S board.core.promises (extent_for job) text clean → IsTextOf S job board text clean
+text-of job S loaded board is text clean formed =
+    let asked = asked_of job in
+    let law = session_is_heeded S.names S.theories loaded (policy_of S.theories asked) asked.workers board is formed.ordered formed.in_order in
     record {
-      job = job;
-      taken = taken;
-      session = checked.session;
-      table = subst (λ K. IsTable S K t) (sym kept.1) checked.table;
-      heeded = nothing_heeded S.theories (asked_of job) (map lot_of t.entries) taken.kept.0 taken.kept.1 (has_worker job (job_in_range words job taken.is_job)) kept.0;
-      derived = table_is_derived S checked.loaded [] t checked.table;
-      text_is = checked.text_is ∙ text_same job S t;
+      table = formed.table;
+      checked = record {
+        table = subst (λ K. IsTable S K formed.table) (sym (ap gone_labels formed.entries ∙ law.1)) formed.is_table;
+        heeded = words_heeded S.theories loaded.distinct asked (map lot_of formed.table.entries) (subst (λ es. heed.IsHeeded (policy_of S.theories asked) asked.workers (map lot_of es)) (sym formed.entries) law.0);
+        run_of = record { is_board = is; ordered = formed.ordered; in_order = formed.in_order; entries = formed.entries };
+        text_is = formed.text_is ∙ text_same job S formed.table;
+      };
+      clean_is = formed.clean_is;
     }
 
--- What was printed of a session that was loaded of a library is what comes of a check of it.
-pub checked_by : (told : Option (List library.File)) (extent : Extent) (S : Session) → IsToldSession told S → IsLoadedSession S.names S.theories → (R : Session) (t : Table) (text : List ℕ) → IsTextOf S extent R t text → IsChecked told extent R t text
-checked_by told extent S session loaded R t text is = record {
-  session = subst (IsToldSession told) (sym is.0) session;
-  loaded = subst (λ (Q : Session). IsLoadedSession Q.names Q.theories) (sym is.0) loaded;
-  table = is.1;
-  text_is = is.2;
+-- What the checker's calls gave one after the other is what the job asks of the session.
+pub ran-text : (job : Job) (names : List (List ℕ)) (theories lent : List Loaded) → lent ≡ theories → IsLoadedSession names theories → (work : Checked) → work ≡ record { texts = names; theories = theories }
+    → (policy : Policy) → policy ≡ policy_of lent (asked_of job) → (workers : ℕ) → workers ≡ (asked_of job).workers → (board : Ending Checked Fork Outline Outcome) → IsBoardOf work.texts work.theories policy workers board
+    → (extent : Extent) → extent ≡ extent_for job → (seen : List Shown) (files : ℕ) (text : List ℕ) (clean : Bool)
+    → ((S : Session) → S.names ≡ work.texts → S.theories ≡ work.theories → seen ≡ map shown S.refused → S.files ≡ files → IsFormed S board.core.promises extent text clean)
+    → (S : Session) → S.names ≡ names → S.theories ≡ theories → seen ≡ map shown S.refused → S.files ≡ files → IsTextOf S job board text clean
+ran-text job names theories lent lent_is loaded work work_is policy policy_is workers workers_is board is extent extent_is seen files text clean formed S of_names of_theories of_refused of_files =
+    let texts : S.names ≡ work.texts = of_names ∙ sym (ap (λ (C : Checked). C.texts) work_is) in
+    let same : S.theories ≡ work.theories = of_theories ∙ sym (ap (λ (C : Checked). C.theories) work_is) in
+    let here : IsLoadedSession S.names S.theories = subst (λ ns. IsLoadedSession ns S.theories) (sym of_names) (subst (IsLoadedSession names) (sym of_theories) loaded) in
+    let meant : policy ≡ policy_of S.theories (asked_of job) = policy_is ∙ ap (λ ts. policy_of ts (asked_of job)) (lent_is ∙ sym of_theories) in
+    let board_of : IsBoardOf S.names S.theories (policy_of S.theories (asked_of job)) (asked_of job).workers board =
+    subst (λ p. IsBoardOf S.names S.theories p (asked_of job).workers board) meant (subst (λ n. IsBoardOf S.names S.theories policy n board) workers_is
+    (subst (λ ts. IsBoardOf S.names ts policy workers board) (sym same) (subst (λ ns. IsBoardOf ns work.theories policy workers board) (sym texts) is))) in
+    text-of job S here board board_of text clean (subst (λ e. IsFormed S board.core.promises e text clean) extent_is (formed S texts same of_refused of_files))
+
+-- The whole text was written, or a part of it.
+pub printed_by : (S : Session) (job : Job) (board : Ending Checked Fork Outline Outcome) (run : Option (Ending Checked Fork Outline Outcome)) (text bytes : List ℕ) (clean told : Bool) (old new : Option (List ℕ)) → IsTextOf S job board text clean → run ≡ Some board → clean ≡ told → bytes ≡ text → Appends old new bytes
+    → Printed (IsPrintedOf S job run) told old new
+printed_by S job board run text bytes clean told old new of is_run is same appended = record {
+  session = S;
+  table = of.table;
+  text = text;
+  meaning = record { same = refl; board = board; is_run = is_run; checked = of.checked };
+  clean_is = of.clean_is ∙ is;
+  written = subst (Appends old new) same appended;
+}
+
+pub cut_short_by : (S : Session) (job : Job) (board : Ending Checked Fork Outline Outcome) (run : Option (Ending Checked Fork Outline Outcome)) (text bytes : List ℕ) (clean : Bool) (old new : Option (List ℕ)) → IsTextOf S job board text clean → run ≡ Some board → bytes ≡ text → AppendsProperPrefix old new bytes
+    → CutShort (IsPrintedOf S job run) old new
+cut_short_by S job board run text bytes clean old new of is_run same appended = record {
+  session = S;
+  table = of.table;
+  text = text;
+  meaning = record { same = refl; board = board; is_run = is_run; checked = of.checked };
+  written = subst (AppendsProperPrefix old new) same appended;
+}
+
+-- What was printed of a session that was loaded of a library is what comes of the job.
+pub done_by : (told : Option (List library.File)) (job : Job) (run : Option (Ending Checked Fork Outline Outcome)) (S : Session) → IsToldSession told S → IsLoadedSession S.names S.theories → (R : Session) (t : Table) (text : List ℕ) → IsPrintedOf S job run R t text → IsDone told job run R t text
+done_by told job run S session loaded R t text is = record {
+  session = subst (IsToldSession told) (sym is.same) session;
+  loaded = subst (λ (Q : Session). IsLoadedSession Q.names Q.theories) (sym is.same) loaded;
+  board = is.board;
+  is_run = is.is_run;
+  checked = is.checked;
+}
+
+-- What came of the job is what the words and the files mean.
+pub meant : (told : Option (List library.File)) (words : List (List ℕ)) (job : Job) → IsJob words job → (run : Option (Ending Checked Fork Outline Outcome)) (S : Session) (t : Table) (text : List ℕ) → IsDone (files_for job told) job run S t text → IsMeant told words run S t text
+meant told words job is run S t text done = record {
+  job = job;
+  is_job = is;
+  session = done.session;
+  table = done.checked.table;
+  heeded = done.checked.heeded;
+  derived = table_is_derived S done.loaded (gone_labels t.entries) t done.checked.table;
+  board = done.board;
+  is_run = done.is_run;
+  run_of = done.checked.run_of;
+  text_is = done.checked.text_is;
 }
 
 -- what was loaded of a library, as a session

@@ -1,4 +1,3 @@
 pub mod AnswerLemmas
 pub mod FormedLemmas
-pub mod PolicyLaws
 pub mod WordsLaws

@@ -1,4 +1,4 @@
--- The numbers of jobs are in range, and words that ask for one that is taken are read so.
+-- The numbers of jobs are in range.
 use Rattle.std.proofs.Common.{◌≡◌, ◌≤◌, ◌⊎◌, inl, inr, ℕ, Bool, true, false, List, [], ◌∷◌, Option, Some, None, refl, sym, ap, ◌∙◌, subst, true≢false, arith}
 use Rattle.std.proofs.lemmas.Bool.Decides.{nat_tests}
 use Rattle.std.specs.Prelude.{nat_le, codes, ◌*◌, ◌&&◌, if◌then◌else◌}
@@ -6,8 +6,7 @@ use Rattle.pure_grammar.specs.Theories.Lexeme.{same}
 use Rattle.pure_words.specs.Values.{number_of, within}
 use Rattle.pure_words.specs.Words.{IsJob, IsCommand, Item, no_given, given_by}
 use Rattle.pure_words.specs.Commands.{workers_of, fail_fast_of, cancels_of, checked, generated, check_of, generate_of, size_of, sized, job_of, is_none}
-use Rattle.pure_words.proofs.Readings.{one_reading}
-use Rattle.pure_check.specs.Asked.{Asked, asked_of, IsInRange, IsGenerate, CancelsNothing, AreTaken, IsTaken, IsCheck}
+use Rattle.pure_check.specs.Asked.{asked_of, IsInRange, IsGenerate, IsTaken, IsCheck}
 use Rattle.pure_words.specs.declared.job.CancelWord.{CancelWord}
 use Rattle.pure_words.specs.declared.job.Job.{Job}
 use Rattle.pure_words.specs.declared.job.Job.TheVariants.{Check, Generate}
@@ -101,14 +100,10 @@ pub has_worker : (job : Job) → IsInRange job → 1 ≤ (asked_of job).workers
 has_worker (Check workers fail_fast cancels) h = h
 has_worker (Generate workers start theories lemmas) h = h.0
 
--- Where the words ask for some job that is taken, the one as which they are read asks for no cancellation.
-pub cancels_none : (words : List (List ℕ)) → IsTaken words → (job : Job) → IsJob words job → CancelsNothing (asked_of job)
-cancels_none words (other, taken) job is = subst (λ j. CancelsNothing (asked_of j)) (one_reading words other job taken.is_job is) taken.kept
-
 pub no_job : (words : List (List ℕ)) → ((job : Job) → IsJob words job → ⊥) → IsTaken words → ⊥
-no_job words none_is (job, taken) = none_is job taken.is_job
+no_job words none_is (job, is) = none_is job is
 
--- A job that is taken, and is no check, is that of a generated library.
-pub generate_unless_check : (words : List (List ℕ)) (job : Job) → AreTaken words job → (IsCheck words → ⊥) → IsGenerate job
-generate_unless_check words (Check workers fail_fast cancels) taken denied = absurd (denied (record { workers = workers; fail_fast = fail_fast; cancels = cancels }, taken))
-generate_unless_check words (Generate workers start theories lemmas) taken denied = tt
+-- A job that is no check is that of a generated library.
+pub generate_unless_check : (words : List (List ℕ)) (job : Job) → IsJob words job → (IsCheck words → ⊥) → IsGenerate job
+generate_unless_check words (Check workers fail_fast cancels) is denied = absurd (denied (record { workers = workers; fail_fast = fail_fast; cancels = cancels }, is))
+generate_unless_check words (Generate workers start theories lemmas) is denied = tt

@@ -34,7 +34,7 @@ Wrote Usage IsMeaning old new = new ≡ old
 Wrote ReadFault IsMeaning old new = new ≡ old
 Wrote Memory IsMeaning old new = new ≡ old
 
--- the words asked for no job that is taken, or memory ran out before they were read
+-- the words asked for no job, or memory ran out before they were read
 abbrev pub IsUntaken : Status → Type 0
 IsUntaken status = (status ≡ Usage) ⊎ (status ≡ Memory)
 
@@ -64,6 +64,15 @@ OnSilent WriteFault P = Unit {0}
 OnSilent Usage P = P
 OnSilent ReadFault P = P
 OnSilent Memory P = P
+
+-- whether a board is handed out: where a table was printed, or some of it
+abbrev pub has_run : Status → Bool
+has_run Clean = true
+has_run Rows = true
+has_run WriteFault = true
+has_run Usage = false
+has_run ReadFault = false
+has_run Memory = false
 
 -- the status as the program's exit status
 abbrev pub exit_number : Status → ℕ

@@ -1,15 +1,9 @@
 -- What the words ask for.
-use Rattle.std.specs.Prelude.{◌≡◌, ◌≤◌, ℕ, Bool, false, List, []}
-use Rattle.pure_words.specs.declared.job.CancelWord.{CancelWord}
+use Rattle.std.specs.Prelude.{◌≤◌, ℕ, List, [], false}
 use Rattle.pure_words.specs.declared.job.Job.{Job}
 use Rattle.pure_words.specs.declared.job.Job.TheVariants.{Check, Generate}
 use Rattle.pure_words.specs.Words.{IsJob}
-
--- how the theories are to be checked: by how many workers, whether the first fault cancels all, and the cancellations
-pub record Asked : Type 0 where
-  pub workers : ℕ
-  pub fail_fast : Bool
-  pub cancels : List CancelWord
+use Rattle.pure_policy.specs.Asked.{Asked}
 
 -- how a job has its theories checked; a generated library is checked without cancellations
 abbrev pub asked_of : Job → Asked
@@ -26,19 +20,10 @@ abbrev pub IsGenerate : Job → Type 0
 IsGenerate (Check workers fail_fast cancels) = ⊥
 IsGenerate (Generate workers start theories lemmas) = Unit {0}
 
--- No cancellation is asked for.
-abbrev pub CancelsNothing : Asked → Type 0
-CancelsNothing asked = (asked.fail_fast ≡ false) × (asked.cancels ≡ [])
-
--- The words ask for the job, and it is taken: until cancellation is built, where it asks for none.
-pub record AreTaken (words : List (List ℕ)) (job : Job) : Type 0 where
-  pub is_job : IsJob words job
-  pub kept : CancelsNothing (asked_of job)
-
--- Some job is asked for that is taken.
+-- Some job is asked for.
 abbrev pub IsTaken : List (List ℕ) → Type 0
-IsTaken words = (job : Job) × AreTaken words job
+IsTaken words = (job : Job) × IsJob words job
 
--- Some check is asked for that is taken; no other words have the library looked at.
+-- Some check is asked for; no other words have the library looked at.
 abbrev pub IsCheck : List (List ℕ) → Type 0
-IsCheck words = (asked : Asked) × AreTaken words (Check asked.workers asked.fail_fast asked.cancels)
+IsCheck words = (asked : Asked) × IsJob words (Check asked.workers asked.fail_fast asked.cancels)

@@ -1,5 +1,5 @@
 -- What a session that was loaded comes to.
-use Rattle.std.specs.Prelude.{◌≡◌, ℕ, Bool, List, [], map, Option}
+use Rattle.std.specs.Prelude.{◌≡◌, ℕ, Bool, List, map, Option, Some}
 use Rattle.std.specs.List.{list_all}
 use Rattle.pure_io.specs.declared.library.File as library
 use Rattle.pure_graph.specs.Session.{Session, shown}
@@ -14,7 +14,18 @@ use Rattle.pure_words.specs.declared.job.Job.{Job}
 use Rattle.pure_words.specs.declared.job.Job.TheVariants.{Check, Generate}
 use Rattle.pure_check.specs.declared.formed.Extent.{Extent}
 use Rattle.pure_check.specs.declared.formed.Extent.TheVariants.{Whole, LastLine}
-use Rattle.pure_check.specs.Meaning.{IsToldSession, is_good}
+use Rattle.pure_declare.specs.Notes.{Fork}
+use Rattle.pure_method.specs.declared.outcome.Outcome.{Outcome}
+use Rattle.pure_work.specs.Checked.{Checked}
+use Rattle.pure_work.specs.Outline.{Outline}
+use Rattle.pure_machine.specs.State.{Promise}
+use Rattle.pure_joined.specs.Promises.{AreInOrder}
+use Rattle.pure_board.specs.Boards.{Ending}
+use Rattle.pure_policy.specs.Heeded.{IsHeeded}
+use Rattle.pure_checking.specs.Cancelled.{cancelled_labels, entries_of}
+use Rattle.pure_checking.specs.Heeded.{lot_of, gone_labels}
+use Rattle.pure_check.specs.Asked.{asked_of}
+use Rattle.pure_check.specs.Meaning.{IsToldSession, IsRunOf, is_good, text_for}
 
 -- The program's session is this one; of a refused file it holds the reason's text.
 pub record IsSeenSession (S : Session) (s : code.Session) : Type 0 where
@@ -37,20 +48,40 @@ abbrev pub extent_for : Job → Extent
 extent_for (Check workers fail_fast cancels) = Whole
 extent_for (Generate workers start theories lemmas) = LastLine
 
--- The session, of whose lemmas none is cancelled, comes to a table of whose text this is the extent, and this says whether each row is declared or proved.
-pub record IsFormed (S : Session) (extent : Extent) (text : List ℕ) (clean : Bool) : Type 0 where
+-- By these promises of a finished core the session comes to a table, of whose text this is the extent, and this says whether each row is declared or proved.
+pub record IsFormed (S : Session) (promises : List (Promise Fork Outcome)) (extent : Extent) (text : List ℕ) (clean : Bool) : Type 0 where
   pub table : Table
-  pub is_table : IsTable S [] table
+  pub ordered : List (Promise Fork Outcome)
+  pub in_order : AreInOrder promises ordered
+  pub entries : table.entries ≡ entries_of ordered
+  pub is_table : IsTable S (cancelled_labels ordered) table
   pub text_is : text ≡ extent_text extent S table
   pub clean_is : list_all is_good (table_rows S table) ≡ clean
 
--- It is the session's table, none of its lemmas is cancelled, and this is the extent of its text.
-abbrev pub IsTextOf : Session → Extent → Session → Table → List ℕ → Type 0
-IsTextOf S extent R t text = (R ≡ S) × IsTable R [] t × (text ≡ extent_text extent R t)
+-- The session was checked as the job asks: this is its table, the lemmas that are cancelled in it are so as the job asks, this is the board on which that came about, and this is what the job has written of the table's text.
+pub record IsChecked (job : Job) (board : Ending Checked Fork Outline Outcome) (S : Session) (t : Table) (text : List ℕ) : Type 0 where
+  pub table : IsTable S (gone_labels t.entries) t
+  pub heeded : IsHeeded S.theories (asked_of job) (map lot_of t.entries)
+  pub run_of : IsRunOf S (asked_of job) t board
+  pub text_is : text ≡ text_for job S t
 
--- It is the session of the files, where they are told, and its table; none of its lemmas is cancelled, and this is the extent of the table's text.
-pub record IsChecked (told : Option (List library.File)) (extent : Extent) (S : Session) (t : Table) (text : List ℕ) : Type 0 where
+-- The session was checked so, and this is its table's text; and whether each row is declared or proved.
+pub record IsTextOf (S : Session) (job : Job) (board : Ending Checked Fork Outline Outcome) (text : List ℕ) (clean : Bool) : Type 0 where
+  pub table : Table
+  pub checked : IsChecked job board S table text
+  pub clean_is : list_all is_good (table_rows S table) ≡ clean
+
+-- This session was checked so on the board that ran.
+pub record IsPrintedOf (S : Session) (job : Job) (run : Option (Ending Checked Fork Outline Outcome)) (R : Session) (t : Table) (text : List ℕ) : Type 0 where
+  pub same : R ≡ S
+  pub board : Ending Checked Fork Outline Outcome
+  pub is_run : run ≡ Some board
+  pub checked : IsChecked job board R t text
+
+-- It is the session of the job's files, where they are told, and was checked as the job asks on the board that ran.
+pub record IsDone (told : Option (List library.File)) (job : Job) (run : Option (Ending Checked Fork Outline Outcome)) (S : Session) (t : Table) (text : List ℕ) : Type 0 where
   pub session : IsToldSession told S
   pub loaded : IsLoadedSession S.names S.theories
-  pub table : IsTable S [] t
-  pub text_is : text ≡ extent_text extent S t
+  pub board : Ending Checked Fork Outline Outcome
+  pub is_run : run ≡ Some board
+  pub checked : IsChecked job board S t text

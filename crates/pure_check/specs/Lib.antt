@@ -3,4 +3,3 @@ pub mod Asked
 pub mod Formed
 pub mod Laws
 pub mod Meaning
-pub mod Policy

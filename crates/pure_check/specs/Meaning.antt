@@ -1,7 +1,5 @@
--- What the files and the words mean: the session, the table that it comes to, which of its lemmas are cancelled, and the text that is written.
-use Rattle.std.specs.Prelude.{◌≡◌, ℕ, Bool, true, false, List, [], ◌∷◌, map, Option, Some, None, IfSome}
-use Rattle.std.specs.List.{filter_map}
-use Rattle.pure_definitions.specs.Names.{Label}
+-- What the files and the words mean: the session, the table that it comes to, which of its lemmas are cancelled, the text that is written, and the board on which this came about.
+use Rattle.std.specs.Prelude.{◌≡◌, ℕ, Bool, true, false, List, map, Option, Some, IfSome}
 use Rattle.pure_io.specs.declared.library.File as library
 use Rattle.pure_graph.specs.Listing.{AreTheories}
 use Rattle.pure_graph.specs.Reading.{Answer}
@@ -9,15 +7,26 @@ use Rattle.pure_graph.specs.Session.{answer_in, Session, IsSessionOf}
 use Rattle.pure_gen.specs.Generated.{files_of}
 use Rattle.pure_words.specs.declared.job.Job.{Job}
 use Rattle.pure_words.specs.declared.job.Job.TheVariants.{Check, Generate}
+use Rattle.pure_words.specs.Words.{IsJob}
 use Rattle.pure_print.specs.RowText.{total_line}
 use Rattle.pure_print.specs.declared.row.Row.{Row}
 use Rattle.pure_print.specs.declared.row.RowStatus.{RowStatus}
 use Rattle.pure_print.specs.declared.row.RowStatus.TheVariants.{Declared, Refused, Proved, Failed, Tainted, Cancelled, Unsettled}
-use Rattle.pure_method.specs.Proof.{ProofOutcome}
-use Rattle.pure_promise.specs.Entries.{Entry}
+use Rattle.pure_declare.specs.Notes.{Fork}
+use Rattle.pure_method.specs.declared.outcome.Outcome.{Outcome}
+use Rattle.pure_work.specs.Checked.{Checked}
+use Rattle.pure_work.specs.Outline.{Outline}
 use Rattle.pure_table.specs.Table.{Table, IsTable, IsDerivedTable, table_rows, session_text}
-use Rattle.pure_check.specs.Asked.{AreTaken, asked_of}
-use Rattle.pure_check.specs.Policy.{lot_of, IsHeeded}
+use Rattle.pure_machine.specs.State.{Promise}
+use Rattle.pure_joined.specs.Promises.{AreInOrder}
+use Rattle.pure_board.specs.Boards.{Ending}
+use Rattle.pure_policy.specs.Asked.{Asked}
+use Rattle.pure_policy.specs.Heeded.{IsHeeded}
+use Rattle.pure_policy.specs.Policy.{policy_of}
+use Rattle.pure_checking.specs.Boards.{IsBoardOf}
+use Rattle.pure_checking.specs.Cancelled.{entries_of}
+use Rattle.pure_checking.specs.Heeded.{lot_of, gone_labels}
+use Rattle.pure_check.specs.Asked.{asked_of}
 
 -- The session of a library's files, where it tells them; of one that tells none, the session of some listed names and of some answers on their theories.
 pub record IsToldSession (told : Option (List library.File)) (S : Session) : Type 0 where
@@ -30,18 +39,12 @@ pub record IsToldSession (told : Option (List library.File)) (S : Session) : Typ
   pub tells_answers : IfSome told (λ files. answers ≡ map (answer_in files) theories)
   pub session : IsSessionOf answers S
 
--- the label, where the lemma is cancelled
-abbrev pub label_if_gone : Label → Option ProofOutcome → Option Label
-label_if_gone label None = Some label
-label_if_gone label (Some outcome) = None
-
--- the label of an entry whose lemma is cancelled
-abbrev pub gone_label : Entry → Option Label
-gone_label e = label_if_gone e.label e.own
-
--- the labels of the lemmas that are cancelled
-abbrev pub cancelled_of : Table → List Label
-cancelled_of t = filter_map gone_label t.entries
+-- The board on which the session was checked as was asked: it was opened with the policy that the words mean for the session's theories, and with as many workers; and the table's entries are those of its promises, in load order.
+pub record IsRunOf (S : Session) (asked : Asked) (t : Table) (board : Ending Checked Fork Outline Outcome) : Type 0 where
+  pub is_board : IsBoardOf S.names S.theories (policy_of S.theories asked) asked.workers board
+  pub ordered : List (Promise Fork Outcome)
+  pub in_order : AreInOrder board.core.promises ordered
+  pub entries : t.entries ≡ entries_of ordered
 
 -- The files whose theories the job checks, where they are told: those of the library, or those that are generated.
 abbrev pub files_for : Job → Option (List library.File) → Option (List library.File)
@@ -53,14 +56,17 @@ abbrev pub text_for : Job → Session → Table → List ℕ
 text_for (Check workers fail_fast cancels) S t = session_text S t
 text_for (Generate workers start theories lemmas) S t = total_line S.files (table_rows S t)
 
--- What the words and the files mean: a job that is taken, the session of its files, the table that this comes to, and the text to be written of it; the lemmas that are cancelled in it are so as the words ask, and each that is proved is derivable.
-pub record IsMeant (told : Option (List library.File)) (words : List (List ℕ)) (S : Session) (t : Table) (text : List ℕ) : Type 0 where
+-- What the words and the files mean: a job, the session of its files, the table that this comes to, the text to be written of it, and the board on which it was checked; the lemmas that are cancelled in it are so as the words ask, and each that is proved is derivable.
+pub record IsMeant (told : Option (List library.File)) (words : List (List ℕ)) (run : Option (Ending Checked Fork Outline Outcome)) (S : Session) (t : Table) (text : List ℕ) : Type 0 where
   pub job : Job
-  pub taken : AreTaken words job
+  pub is_job : IsJob words job
   pub session : IsToldSession (files_for job told) S
-  pub table : IsTable S (cancelled_of t) t
+  pub table : IsTable S (gone_labels t.entries) t
   pub heeded : IsHeeded S.theories (asked_of job) (map lot_of t.entries)
   pub derived : IsDerivedTable t
+  pub board : Ending Checked Fork Outline Outcome
+  pub is_run : run ≡ Some board
+  pub run_of : IsRunOf S (asked_of job) t board
   pub text_is : text ≡ text_for job S t
 
 -- whether the status is declared or proved

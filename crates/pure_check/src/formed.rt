@@ -1,20 +1,21 @@
 //! The text of the table that a session comes to, or its last line.
-ghost use Rattle.std.specs.Prelude.{◌≡◌, IfOk, length};
+ghost use Rattle.std.specs.Prelude.{◌≡◌, IfOk, length, map};
 ghost use Rattle.std.specs.List.{flat_map, list_all};
 ghost use Rattle.pure_graph.specs.Session as graph;
-ghost use Rattle.pure_session.specs.Waiting.{all_loaded};
-ghost use Rattle.pure_loaded.specs.Loaded.{IsLoadedSession};
+ghost use Rattle.pure_graph.specs.Session.{shown};
+ghost use Rattle.pure_session.specs.Refused.{all_refused};
+ghost use Rattle.pure_machine.specs.Step.{IsFinished};
 ghost use Rattle.pure_print.specs.RowText.{row_text, total_line};
-ghost use Rattle.pure_check.specs.Formed.{IsSeenSession, IsFormed, rows_text};
+ghost use Rattle.pure_check.specs.Formed.{IsFormed, rows_text};
 ghost use Rattle.pure_check.specs.Meaning as spec;
 
+use pure_board::Closed;
+use pure_checking::{Checking, Said, said_by};
 use pure_print::{Row, RowStatus, print_row, print_table};
-use pure_session::Session;
-use pure_table::{proofs_by, table};
+use pure_session::RefusedFile;
+use pure_table::table;
 use pure_text::Text;
-use pure_work::{Checker, Statements};
 use std::alloc::{AllocError, Global};
-use std::thread::Threads;
 
 /// How much of a table's text is formed.
 #[derive(Clone, Copy, Debug, PartialEq, Eq)]
@@ -85,34 +86,27 @@ fn text_of(alloc: Global, extent: Extent, files: u32, rows: &[Row]) -> Result<Te
     }
 }
 
-/// As much as is asked for of the text of the table that the session comes to, where all its lemmas are proved by so many
-/// workers.
-pub(crate) fn form<R: Threads + Sync>(
-    rt: &R,
+/// As much as is asked for of the text of the table that the session comes to on this board.
+pub(crate) fn form(
     alloc: Global,
-    session: Session,
-    workers: u32,
+    work: &Checking,
+    board: &Closed<Checking>,
+    refused: &[RefusedFile],
+    files: u32,
     extent: Extent,
 ) -> Result<Formed, AllocError>
-    requires { IsLoadedSession session.names (all_loaded session.theories.items) }
-    ensures { IfOk result (λ f. (S : graph.Session) → IsSeenSession S session → IsFormed S extent f.text f.clean) }
+    requires session { board.now.session ≡ work.now }
+    requires finished { IsFinished board.now.core }
+    ensures { IfOk result (λ f. (S : graph.Session) → S.names ≡ work.now.texts → S.theories ≡ work.now.theories → all_refused refused.now ≡ map shown S.refused → S.files ≡ files → IsFormed S (board.now.core).promises extent f.text f.clean) }
 {
-    let Session {
-        names,
-        theories,
-        refused,
-        files,
-    } = session;
-    let checker = Checker::make(alloc, names, theories)?;
-    let Statements { closed, duties } = checker.statements()?;
-    let names = checker.names();
-    let entries = proofs_by(rt, alloc, names, workers as usize, duties)?;
+    work.is_loaded_session();
+    let Said { closed, entries } = said_by(work, board)?;
     let rows = table(
         alloc,
-        names.names(),
+        work.names().names(),
         closed.as_slice(),
         entries.as_slice(),
-        refused.as_slice(),
+        refused,
     )?;
     let clean = are_good(rows.as_slice());
     let text = text_of(alloc, extent, files, rows.as_slice())?;

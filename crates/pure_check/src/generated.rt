@@ -1,18 +1,20 @@
 //! Generated libraries, checked: their files stand in memory, so that reading them never fails.
-ghost use Rattle.std.specs.Prelude.{◌≡◌, ◌≢◌, ◌≤◌, Some};
+ghost use Rattle.std.specs.Prelude.{◌≡◌, ◌≢◌, ◌≤◌, Some, is_some};
 ghost use Rattle.pure_io.specs.Outside.{Rose};
-ghost use Rattle.pure_check.specs.Answer.{Wrote, OnSilent};
-ghost use Rattle.pure_check.specs.Formed.{IsChecked};
-ghost use Rattle.pure_check.specs.declared.formed.Extent.TheVariants.{LastLine};
+ghost use Rattle.pure_check.specs.Asked.{IsInRange};
+ghost use Rattle.pure_check.specs.Answer.{Wrote, OnSilent, has_run};
+ghost use Rattle.pure_check.specs.Formed.{IsDone};
 
 use crate::checked::check;
-use crate::formed::Extent;
+use crate::ended::Ended;
 use crate::status::Status;
-use pure_io::{File, LibFault, Library, MemLibrary, ReadFault, Sink};
+use pure_io::{File, Gate, LibFault, Library, MemLibrary, ReadFault, Sink};
 use pure_text::Text;
+use pure_words::Job;
 use std::alloc::Global;
 use std::marker::Model;
 use std::rt::Files;
+use std::sync::Wait;
 use std::thread::Threads;
 
 /// Files in memory, of which each call succeeds. Contracts see the files.
@@ -69,21 +71,21 @@ impl Library for GeneratedFiles {
     }
 }
 
-/// Checks these files of a generated library by so many workers, and writes the last line of the table alone.
-pub(crate) fn check_generated<R: Files + Print + AllocGlobal + Threads + Sync, S: Sink>(
-    rt: &R,
-    alloc: Global,
-    files: Vec<File>,
-    workers: u32,
-    out: &mut S,
-) -> Status
-    ensures usage { result ≢ Status.Usage }
-    ensures read { result ≢ Status.ReadFault }
-    ensures unwritten { OnSilent result (out.new ≡ out.old) }
-    ensures wrote { Wrote result (IsChecked (Some files.items) LastLine) (S.written out.old) (S.written out.new) }
-    ensures write_fault { result ≡ Status.WriteFault → Rose (S.faults out.old) (S.faults out.new) }
+/// Has these files of a generated library checked as the job asks, and writes what the job writes of the table's text.
+pub(crate) fn check_generated<
+    R: Files + Print + AllocGlobal + Threads + Wait + Sync,
+    S: Sink,
+    G: Gate,
+>(rt: &R, alloc: Global, files: Vec<File>, job: &Job, gate: &G, out: &mut S) -> Ended
+    requires { IsInRange job.now }
+    ensures usage { result.status ≢ Status.Usage }
+    ensures read { result.status ≢ Status.ReadFault }
+    ensures ran { is_some result.run ≡ has_run result.status }
+    ensures unwritten { OnSilent result.status (out.new ≡ out.old) }
+    ensures wrote { Wrote result.status (IsDone (Some files.items) job.now result.run) (S.written out.old) (S.written out.new) }
+    ensures write_fault { result.status ≡ Status.WriteFault → Rose (S.faults out.old) (S.faults out.new) }
     ensures later { S.faults out.old ≤ S.faults out.new }
 {
     let mut library = GeneratedFiles::make(alloc, files);
-    check(rt, alloc, &mut library, workers, Extent::LastLine, out)
+    check(rt, alloc, &mut library, job, gate, out)
 }

@@ -1,13 +1,15 @@
-//! The top call: what the words ask for is done, with the library's files or with generated ones, and written to the sink.
+//! The top call: what the words ask for is done with the library's files or with generated ones, and written to the sink.
 #![tactic(auto)]
 
-mod asked;
 mod call;
 mod checked;
+mod ended;
 mod formed;
 mod generated;
+mod job;
 pub mod laws;
 mod status;
 
-pub use call::{Ended, pure};
+pub use call::pure;
+pub use ended::Ended;
 pub use status::Status;

@@ -1,10 +1,7 @@
 -- The entries of promises are those of their lemmas.
-use Rattle.std.proofs.Common.{◌≡◌, ◌∙◌, ◌<◌, ℕ, zero, suc, ◌+◌, List, [], ◌∷◌, ◌++◌, length, map, filter, cond, append_assoc, refl, sym, ap, subst, arith, Bool, true, false, Option, Some, None, inl, inr, ◌⊎◌}
-use Rattle.std.proofs.lemmas.List.{map-append, append-nil}
+use Rattle.std.proofs.Common.{◌≡◌, ◌∙◌, ℕ, List, [], ◌∷◌, map, filter, cond, refl, sym, ap, subst, Bool, true, false, inl, inr}
 use Rattle.pure_text.specs.Lists.{IsIn, Each, EachTwo}
-use Rattle.pure_promise.specs.declared.entry.Entry.{Entry as Held}
-use Rattle.pure_promise.specs.Seen.{seen, seen_entry}
-use Rattle.pure_text.proofs.ListLaws.{in-map, each_at}
+use Rattle.pure_text.proofs.ListLaws.{in-map}
 use Rattle.pure_definitions.specs.Names.{Label}
 use Rattle.pure_theorem.specs.Sets.{IsLabelSet}
 use Rattle.pure_fates.proofs.LabelSets.{not_itself, first_below, rest_is_set}
@@ -17,7 +14,6 @@ use Rattle.pure_table.specs.Table.{IsOwn, IsEntryOf}
 use Rattle.pure_machine.specs.State.{Promise, Standing, Ready, Taken, Settled, Cancelled}
 use Rattle.pure_machine.specs.Step.{is_cancelled_standing}
 use Rattle.pure_joined.specs.Joined.{EndsSo}
-use Rattle.pure_joined.specs.Uncancelled.{NoneCancelled}
 use Rattle.pure_joined.proofs.JoinLaws.{in-filter, filter-in}
 use Rattle.pure_checking.specs.Cancelled.{lemmas_of, cancelled_labels, seen_outcome, own_of, entry_of, entries_of}
 
@@ -87,24 +83,3 @@ module _ (texts : List (List ℕ)) (all : List (Promise Fork Outcome)) (set : Is
 pub labels-of : (ps : List (Promise Fork Outcome)) → map Fork.label (lemmas_of ps) ≡ map label_of ps
 labels-of [] = refl
 labels-of (p ∷ ps) = ap (λ ls. label_of p ∷ ls) (labels-of ps)
-
--- where nothing is cancelled
-pub no-labels : (ps : List (Promise Fork Outcome)) → NoneCancelled ps → cancelled_labels ps ≡ []
-no-labels ps none = ap (map label_of) (no-filter ps none)
-  where
-    no-filter : (qs : List (Promise Fork Outcome)) → NoneCancelled qs → filter is_gone qs ≡ []
-    no-filter [] h = refl
-    no-filter (q ∷ qs) h = ap (λ b. cond b (q ∷ filter is_gone qs) (filter is_gone qs)) h.0 ∙ no-filter qs h.1
-
--- a loop that takes the promises one after the other
-pub entries-first : (all left : List (Promise Fork Outcome)) (done : List Held) → done ≡ [] → left ≡ all → seen done ++ entries_of left ≡ entries_of all
-entries-first all left done empty same = (λ k. seen (empty k) ++ entries_of (same k))
-
-pub entries-turn : (all left rest : List (Promise Fork Outcome)) (p : Promise Fork Outcome) (done longer : List Held) (e : Held) → left ≡ p ∷ rest → seen_entry e ≡ entry_of p → longer ≡ done ++ e ∷ [] → seen done ++ entries_of left ≡ entries_of all → seen longer ++ entries_of rest ≡ entries_of all
-entries-turn all left rest p done longer e first one is before =
-    ap (λ xs. seen xs ++ entries_of rest) is ∙ ap (λ xs. xs ++ entries_of rest) (map-append seen_entry done (e ∷ [])) ∙ append_assoc (seen done) (seen_entry e ∷ []) (entries_of rest)
-    ∙ ap (λ x. seen done ++ x ∷ entries_of rest) one ∙ ap (λ xs. seen done ++ entries_of xs) (sym first) ∙ before
-
-pub entries-end : (all left : List (Promise Fork Outcome)) (done : List Held) → length left ≡ 0 → seen done ++ entries_of left ≡ entries_of all → seen done ≡ entries_of all
-entries-end all [] done none before = sym (append-nil (seen done)) ∙ before
-entries-end all (p ∷ left) done none before = absurd (omega (arith, none))

@@ -6,3 +6,6 @@ pub mod TableLaws
 pub mod StandLaws
 pub mod EarlierLaws
 pub mod SendLaws
+pub mod HeldLaws
+pub mod HeedLaws
+pub mod BoardLaws

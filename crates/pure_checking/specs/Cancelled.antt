@@ -1,11 +1,16 @@
 -- The lemmas of promises: which are cancelled, and their entries.
-use Rattle.std.specs.Prelude.{List, map, filter, Option, Some, None, Ok, Err}
+use Rattle.std.specs.Prelude.{◌≡◌, List, map, filter, Option, Some, None, Ok, Err}
 use Rattle.pure_definitions.specs.Names.{Label}
 use Rattle.pure_declare.specs.Notes.{Fork}
 use Rattle.pure_method.specs.Proof.{ProofOutcome}
 use Rattle.pure_method.specs.declared.outcome.Outcome.{Outcome}
 use Rattle.pure_method.specs.declared.outcome.Outcome.TheVariants.{Proved, Fault}
 use Rattle.pure_promise.specs.Entries.{Entry}
+use Rattle.pure_promise.specs.Seen.{seen_entry}
+use Rattle.pure_promise.specs.declared.entry.Entry as code
+use Rattle.pure_promise.specs.declared.entry.Own.{Own}
+use Rattle.pure_promise.specs.declared.entry.Own.TheVariants as own
+use Rattle.pure_table.specs.Fulfilled as fulfilled
 use Rattle.pure_machine.specs.State.{Promise, Standing, Settled}
 use Rattle.pure_machine.specs.Step.{is_cancelled_standing}
 
@@ -33,3 +38,13 @@ entry_of p = record { label = (p.goal).label; name = (p.goal).name; prop = (p.go
 
 abbrev pub entries_of : List (Promise Fork Outcome) → List Entry
 entries_of = map entry_of
+
+-- what became of a lemma, as the program holds it: what its proof came to where its promise is settled, and else it is cancelled
+abbrev pub held_own : Standing Outcome → Own
+held_own (Settled outcome) = fulfilled.own_of outcome
+held_own _ = own.Cancelled
+
+-- The entry, as the program holds it, is that of the promise's lemma.
+pub record IsHeldOf (p : Promise Fork Outcome) (e : code.Entry) : Type 0 where
+  pub seen : seen_entry e ≡ entry_of p
+  pub own : e.own ≡ held_own p.standing

@@ -5,3 +5,5 @@ pub mod Cancelled
 pub mod Said
 pub mod Laws
 pub mod Earlier
+pub mod Boards
+pub mod Heeded

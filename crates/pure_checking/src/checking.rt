@@ -57,7 +57,7 @@ impl Checking {
     }
 
     /// The session is one that was loaded.
-    pub(crate) fn is_loaded_session(&self)
+    pub fn is_loaded_session(&self)
         ensures { IsLoadedSession self.now.texts self.now.theories }
     {
         let _ = &self.checker;

@@ -1,6 +1,7 @@
 //! Laws of sessions as works, each carried by the contract of a function that does nothing.
 ghost use Rattle.pure_checking.specs.Laws.{JoinedAreLeft, TableHasPremises};
 ghost use Rattle.pure_checking.specs.Earlier.{PromisesComeBefore};
+ghost use Rattle.pure_checking.specs.Heeded.{SessionIsHeeded};
 
 /// What a finished core of the session hands out is what its theories left, and the entries of their lemmas.
 pub fn joined_are_left()
@@ -15,4 +16,9 @@ pub fn table_has_premises()
 /// In every state of every legal run of the session each promise of a goal's content is that of a lemma with a smaller number.
 pub fn promises_come_before()
     ensures { PromisesComeBefore }
+{}
+
+/// The lemmas of a session that was checked on a board are cancelled as its policy asks for.
+pub fn session_is_heeded()
+    ensures { SessionIsHeeded }
 {}

@@ -2,13 +2,15 @@
 #![tactic(auto)]
 
 mod attempt;
+mod board;
 mod checking;
-mod drain;
 mod entries;
 pub mod laws;
+mod said;
 mod shape;
 mod work;
 
 pub use attempt::Attempt;
+pub use board::checked;
 pub use checking::Checking;
-pub use drain::{Said, drained, said_by};
+pub use said::{Said, said_by};

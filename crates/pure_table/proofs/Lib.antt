@@ -3,9 +3,6 @@ pub mod DerivedLaws
 pub mod OnceLaws
 pub mod FillingLaws
 pub mod PrintedLaws
-pub mod EntryLaws
-pub mod PartLaws
-pub mod SendLaws
 pub mod FulfilledLaws
 pub mod JoinLaws
 pub mod MeantLaws

@@ -38,7 +38,7 @@ places-outlines (v ∷ vs) =
 
 -- Rows that are made of the parts are those of the session's table.
 pub table-rows : (p : Parts) (lemmas rows : List Row) → AreRowsOf p.texts p.entries lemmas → rows ≡ filled (flat_map places_of p.values) lemmas ++ map refusal_row p.refused
-    → (S : Session) (cancelled : List Label) → ArePartsOf S cancelled p → AreTableRows S cancelled rows
+    → (S : Session) (cancelled : List Label) → ArePartsOf S cancelled p → AreTableRows S cancelled p.entries rows
 table-rows p lemmas rows each is S cancelled of =
     let notes = flat_map notes_of of.verdicts in
     let places : filled (flat_map places_of p.values) lemmas ≡ with_rows notes lemmas =
@@ -49,6 +49,7 @@ table-rows p lemmas rows each is S cancelled of =
         entries = of.entries;
         rows = subst (λ texts. AreRowsOf texts p.entries lemmas) (sym of.texts) each;
       },
+      refl,
       is ∙ (λ i. places i ++ map refusal_row (of.refused i)),
     )
 

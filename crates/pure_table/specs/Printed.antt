@@ -27,6 +27,6 @@ pub record ArePartsOf (S : Session) (cancelled : List Label) (p : Parts) : Type 
   pub entries : AreEntriesOf S.names cancelled (flat_map notes_of verdicts) p.entries
   pub refused : p.refused ≡ map shown S.refused
 
--- They are the rows of the table to which the session comes.
-abbrev pub AreTableRows : Session → (cancelled : List Label) → List Row → Type 0
-AreTableRows S cancelled rows = (t : Table) × IsTable S cancelled t × (rows ≡ table_rows S t)
+-- They are the rows of the table to which the session comes, with these entries of its lemmas.
+abbrev pub AreTableRows : Session → (cancelled : List Label) → List Entry → List Row → Type 0
+AreTableRows S cancelled entries rows = (t : Table) × IsTable S cancelled t × (t.entries ≡ entries) × (rows ≡ table_rows S t)

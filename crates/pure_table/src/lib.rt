@@ -1,12 +1,9 @@
-//! The table of a session: the entries of its lemmas, and the rows that are printed.
+//! The table of a session: the rows that are printed, and what holds of them.
 #![tactic(auto)]
 
-mod entries;
 mod filling;
 pub mod laws;
-mod parts;
 mod printing;
 mod refused;
 
-pub use parts::proofs_by;
 pub use printing::table;

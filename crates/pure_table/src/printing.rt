@@ -50,7 +50,7 @@ pub fn table(
     refused: &[RefusedFile],
 ) -> Result<Vec<Row>, AllocError>
     requires { AreEntries (map plain (seen entries.now)) }
-    ensures { IfOk result (λ table. (S : graph.Session) (cancelled : List Label) → ArePartsOf S cancelled (record { texts = names.now; values = outlines closed.now; entries = seen entries.now; refused = all_refused refused.now }) → AreTableRows S cancelled table.items) }
+    ensures { IfOk result (λ table. (S : graph.Session) (cancelled : List Label) → ArePartsOf S cancelled (record { texts = names.now; values = outlines closed.now; entries = seen entries.now; refused = all_refused refused.now }) → AreTableRows S cancelled (seen entries.now) table.items) }
 {
     let lemmas = rows(alloc, names, entries)?;
     let all = placed(alloc, closed, lemmas.as_slice(), refused)?;

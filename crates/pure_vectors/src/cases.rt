@@ -1,6 +1,6 @@
 //! Theories written one behind another, and the rows that are printed of them.
 use crate::texts::push_number;
-use crate::world::{Answer, World, add_file, empty_world, expect, run};
+use crate::world::{Answer, World, add_file, add_words, empty_world, expect, run};
 use pure_check::Status;
 use std::alloc::{AllocError, Global};
 use std::process::Abort;
@@ -14,6 +14,13 @@ use std::thread::Threads;
 pub(crate) struct Case {
     pub(crate) theories: &'static [u8],
     pub(crate) rows: &'static [u8],
+}
+
+/// A case with the words of its run.
+#[derive(Drop)]
+pub(crate) struct WordedCase {
+    pub(crate) words: &'static [&'static [u8]],
+    pub(crate) case: Case,
 }
 
 /// How each theory begins.
@@ -147,12 +154,14 @@ fn check_rows<R: AllocGlobal + Abort>(
     Ok(())
 }
 
-/// Runs a case.
+/// Runs a case with these words.
 fn run_case<R: Files + Print + AllocGlobal + Threads + Wait + Sync + Abort>(
     rt: &R,
+    words: &[&[u8]],
     case: &Case,
 ) -> Result<(), Fail> {
     let mut world = empty_world(rt.alloc());
+    add_words(rt.alloc(), &mut world, words)?;
     add_theories(rt.alloc(), &mut world, case.theories)?;
     let theories = world.files.len();
     let answer = run(rt, rt.alloc(), world)?;
@@ -165,7 +174,18 @@ pub(crate) fn run_cases<R: Files + Print + AllocGlobal + Threads + Wait + Sync +
     cases: &[Case],
 ) -> Result<(), Fail> {
     for case in cases {
-        run_case(rt, case)?;
+        run_case(rt, &[], case)?;
+    }
+    Ok(())
+}
+
+/// Runs the cases, each with its words.
+pub(crate) fn run_worded<R: Files + Print + AllocGlobal + Threads + Wait + Sync + Abort>(
+    rt: &R,
+    cases: &[WordedCase],
+) -> Result<(), Fail> {
+    for worded in cases {
+        run_case(rt, worded.words, &worded.case)?;
     }
     Ok(())
 }

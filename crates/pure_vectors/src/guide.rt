@@ -1,5 +1,5 @@
 //! The theories of docs/GUIDE.md and the rows that stand below them there: copies, to the byte.
-use crate::cases::{Case, run_cases};
+use crate::cases::{Case, WordedCase, run_cases, run_worded};
 use std::test::Fail;
 
 /// A folder, imports, types and constants, quoted texts.
@@ -267,6 +267,61 @@ proved Zero.last: ?A ==> ?A",
     },
 ];
 
+/// What cancels proofs.
+const CANCELLING: [WordedCase; 3] = [
+    WordedCase {
+        words: &[b"check", b"--fail-fast"],
+        case: Case {
+            theories: br#"theory Start begin
+lemma identity: "A ==> A" by assumption
+lemma weaken: "A ==> B ==> A" by assumption
+lemma unsound: "A ==> B" by assumption
+lemma lost: "A ==> B" by (rule unsound)
+end"#,
+            rows: b"proved Start.identity: ?A ==> ?A
+proved Start.weaken: ?A ==> ?B ==> ?A
+failed Start.unsound: step 1: no hypothesis
+cancelled Start.lost",
+        },
+    },
+    WordedCase {
+        words: &[b"check", b"--cancel", b"session:1"],
+        case: Case {
+            theories: br#"theory Start begin
+lemma identity: "A ==> A" by assumption
+lemma weaken: "A ==> B ==> A" by assumption
+lemma unsound: "A ==> B" by assumption
+lemma lost: "A ==> B" by (rule unsound)
+end"#,
+            rows: b"proved Start.identity: ?A ==> ?A
+cancelled Start.weaken
+cancelled Start.unsound
+cancelled Start.lost",
+        },
+    },
+    WordedCase {
+        words: &[b"check", b"--cancel", b"Start:0"],
+        case: Case {
+            theories: br#"theory Start begin
+lemma identity: "A ==> A" by assumption
+lemma weaken: "A ==> B ==> A" by assumption
+lemma unsound: "A ==> B" by assumption
+lemma lost: "A ==> B" by (rule unsound)
+end
+theory More imports Start begin
+lemma again: "A ==> A" by (rule identity)
+lemma own: "A ==> A" by assumption
+end"#,
+            rows: b"cancelled Start.identity
+cancelled Start.weaken
+cancelled Start.unsound
+cancelled Start.lost
+unsettled More.again
+proved More.own: ?A ==> ?A",
+        },
+    },
+];
+
 #[test]
 fn shows_folders_and_texts(rt: HostRuntime) -> Result<(), Fail> {
     run_cases(&rt, &DECLARING)
@@ -280,4 +335,9 @@ fn shows_classes_and_definitions(rt: HostRuntime) -> Result<(), Fail> {
 #[test]
 fn shows_proofs_and_names(rt: HostRuntime) -> Result<(), Fail> {
     run_cases(&rt, &PROVING)
+}
+
+#[test]
+fn shows_what_cancels_proofs(rt: HostRuntime) -> Result<(), Fail> {
+    run_worded(&rt, &CANCELLING)
 }

@@ -1,0 +1,15 @@
+-- What the program writes, whatever board it checked on.
+use Rattle.std.specs.Prelude.{ℕ, List, Option}
+use Rattle.pure_io.specs.declared.library.File as library
+use Rattle.pure_declare.specs.Notes.{Fork}
+use Rattle.pure_method.specs.declared.outcome.Outcome.{Outcome}
+use Rattle.pure_work.specs.Checked.{Checked}
+use Rattle.pure_work.specs.Outline.{Outline}
+use Rattle.pure_board.specs.Boards.{Ending}
+use Rattle.pure_check.specs.Answer.{Wrote}
+use Rattle.pure_check.specs.Meaning.{IsMeant}
+use Rattle.pure_check.specs.declared.status.Status.{Status}
+
+-- With this status was written what the words and the files mean, or a part of it, or nothing, as the top call says, on some board or none.
+abbrev pub IsWritten : Status → (told : Option (List library.File)) → (words : List (List ℕ)) → (old new : Option (List ℕ)) → Type 0
+IsWritten status told words old new = (run : Option (Ending Checked Fork Outline Outcome)) × Wrote status (IsMeant told words run) old new
