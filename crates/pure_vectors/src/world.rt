@@ -1,6 +1,6 @@
 //! Libraries in memory, and what the top call answers on them.
 use pure_check::{Status, pure};
-use pure_io::{File, MemLibrary, MemSink, OpenGate};
+use pure_io::{File, Gate, MemLibrary, MemSink, OpenGate};
 use pure_text::Text;
 use std::alloc::{AllocError, Global};
 use std::process::Abort;
@@ -9,11 +9,12 @@ use std::sync::Wait;
 use std::test::Fail;
 use std::thread::Threads;
 
-/// What a call answered and wrote.
+/// What a call answered and wrote, and whether it handed out the board on which it checked.
 #[derive(Debug, Drop)]
 pub(crate) struct Answer {
     pub(crate) status: Status,
     pub(crate) bytes: Vec<u8>,
+    pub(crate) has_board: bool,
 }
 
 /// The world of a call: its words, its files, and which calls fail.
@@ -62,11 +63,22 @@ pub(crate) fn add_words(
     Ok(())
 }
 
-/// Calls in the world, and lets go of it.
-pub(crate) fn run<R: Files + Print + AllocGlobal + Threads + Wait + Sync>(
+/// Adds the words that stand in the line, parted by blanks.
+pub(crate) fn add_line(alloc: Global, world: &mut World, line: &[u8]) -> Result<(), AllocError> {
+    for word in line.split(|byte| *byte == b' ') {
+        if !word.is_empty() {
+            world.words.push(Text::make(alloc, word)?)?;
+        }
+    }
+    Ok(())
+}
+
+/// Calls in the world through this gate, and lets go of the world.
+pub(crate) fn run_through<R: Files + Print + AllocGlobal + Threads + Wait + Sync, G: Gate>(
     rt: &R,
     alloc: Global,
     world: World,
+    gate: &G,
 ) -> Result<Answer, AllocError> {
     let World {
         words,
@@ -78,21 +90,32 @@ pub(crate) fn run<R: Files + Print + AllocGlobal + Threads + Wait + Sync>(
     } = world;
     let mut library = MemLibrary::make(files, failing_reads);
     let mut out = MemSink::make(alloc, capacity, width.max(1), failing_writes)?;
-    call(rt, alloc, &words, &mut library, &mut out)
+    call(rt, alloc, &words, &mut library, &mut out, gate)
 }
 
-fn call<R: Files + Print + AllocGlobal + Threads + Wait + Sync>(
+fn call<R: Files + Print + AllocGlobal + Threads + Wait + Sync, G: Gate>(
     rt: &R,
     alloc: Global,
     words: &[Text],
     library: &mut MemLibrary,
     out: &mut MemSink,
+    gate: &G,
 ) -> Result<Answer, AllocError> {
-    let ended = pure(rt, alloc, words, library, out, &OpenGate::make());
+    let ended = pure(rt, alloc, words, library, out, gate);
     Ok(Answer {
         status: ended.status,
         bytes: Vec::from_slice(alloc, out.bytes())?,
+        has_board: ended.run.is_some(),
     })
+}
+
+/// Calls in the world, and lets go of it.
+pub(crate) fn run<R: Files + Print + AllocGlobal + Threads + Wait + Sync>(
+    rt: &R,
+    alloc: Global,
+    world: World,
+) -> Result<Answer, AllocError> {
+    run_through(rt, alloc, world, &OpenGate::make())
 }
 
 /// The answer for one file.
@@ -108,19 +131,28 @@ pub(crate) fn run_file<R: Files + Print + AllocGlobal + Threads + Wait + Sync>(
 }
 
 /// Bytes as a text, to show them where a test fails.
-fn shown(bytes: &[u8]) -> &str {
+pub(crate) fn shown(bytes: &[u8]) -> &str {
     match std::str::from_utf8(bytes) {
         Ok(text) => text,
         Err(_) => "no text\n",
     }
 }
 
-/// Stops the test where the status is another or the bytes aren't right, and shows them beside these.
+/// Whether a call that answers this hands out the board on which it checked.
+fn has_board(status: Status) -> bool {
+    match status {
+        Status::Clean | Status::Rows | Status::WriteFault => true,
+        Status::Usage | Status::ReadFault | Status::Memory => false,
+    }
+}
+
+/// Stops the test where the status is another, the bytes aren't right, and shows them beside these, or the board isn't handed out as it is to be.
 fn look<R: Abort>(rt: &R, got: &Answer, status: Status, is_right: bool, wanted: &[u8]) {
     let bytes = shown(&got.bytes);
     let asked = shown(wanted);
     assert!(rt; is_right, "{bytes}where this was wanted:\n{asked}");
     assert_eq!(rt; got.status, status);
+    assert_eq!(rt; got.has_board, has_board(status));
 }
 
 /// Looks that a call answered this and wrote this.
