@@ -1,7 +1,7 @@
 //! Proofs that pass a limit. Expected rows come from the rules, by hand.
 use crate::cases::{Case, run_cases};
 use crate::texts::text_of;
-use crate::world::{expect_end, run_file};
+use crate::world::{expect, expect_end, run_file};
 use pure_check::Status;
 use std::process::Abort;
 use std::rt::Files;
@@ -104,6 +104,56 @@ const UNFOLDINGS: [Large; 4] = [
         end: b"proved A.n: ?A ==> ?A\nfailed A.l: step 1: too large\ntotal: 1 theories, 4 declared, 0 refused, 1 proved, 1 failed, 0 tainted, 0 cancelled, 0 unsettled\n",
     },
 ];
+
+/// Propositions that double at each of so many beta steps: one within the limit of statements, one beyond it, and one of too many steps; and a variable in 501 and in 499 pairs of parentheses. The whole table.
+const DOUBLED: [Large; 2] = [
+    Large {
+        text: b"theory A begin
+lemma e8: \"@8@((%x. (x ==> x)) @((%x. x) A)@8@)@\" done
+lemma e9: \"@9@((%x. (x ==> x)) @((%x. x) A)@9@)@\" done
+lemma e13: \"@13@((%x. (x ==> x)) @((%x. x) A)@13@)@\" done
+lemma p: \"@501@(@A@501@)@\" by assumption
+end",
+        end: b"failed A.e8: step 1: subgoals left
+refused lemma A.e9: too large
+refused lemma A.e13: too many beta steps
+refused lemma A.p: too long
+total: 1 theories, 0 declared, 3 refused, 0 proved, 1 failed, 0 tainted, 0 cancelled, 0 unsettled
+",
+    },
+    Large {
+        text: b"theory A begin
+lemma e8: \"@8@((%x. (x ==> x)) @((%x. x) A)@8@)@\" done
+lemma e9: \"@9@((%x. (x ==> x)) @((%x. x) A)@9@)@\" done
+lemma e13: \"@13@((%x. (x ==> x)) @((%x. x) A)@13@)@\" done
+lemma p: \"@499@(@A@499@)@\" by assumption
+end",
+        end: b"failed A.e8: step 1: subgoals left
+refused lemma A.e9: too large
+refused lemma A.e13: too many beta steps
+failed A.p: step 1: no hypothesis
+total: 1 theories, 0 declared, 2 refused, 0 proved, 2 failed, 0 tainted, 0 cancelled, 0 unsettled
+",
+    },
+];
+
+fn check_whole<R: Abort + Files + Print + AllocGlobal + Threads + Wait + Sync>(
+    rt: &R,
+    large: &Large,
+) -> Result<(), Fail> {
+    let text = text_of(rt.alloc(), large.text)?;
+    let answer = run_file(rt, rt.alloc(), b"A.thy", &text)?;
+    expect(rt, &answer, Status::Rows, large.end);
+    Ok(())
+}
+
+#[test]
+fn refuses_propositions_that_double(rt: HostRuntime) -> Result<(), Fail> {
+    for large in DOUBLED.iter() {
+        check_whole(&rt, large)?;
+    }
+    Ok(())
+}
 
 fn check_large<R: Abort + Files + Print + AllocGlobal + Threads + Wait + Sync>(
     rt: &R,

@@ -196,3 +196,77 @@ fn answers_each_fault_by_its_cause(rt: HostRuntime) -> Result<(), Fail> {
     }
     Ok(())
 }
+
+/// A theory that cites a fact of one that it doesn't import.
+const CITING: &[u8] = b"theory B begin lemma x: \"A ==> A\" by (rule A.id) end";
+
+/// What is written of both.
+const BOTH: &[u8] = b"proved A.id: ?A ==> ?A
+failed B.x: step 1: unknown fact
+total: 2 theories, 0 declared, 0 refused, 1 proved, 1 failed, 0 tainted, 0 cancelled, 0 unsettled
+";
+
+/// Makes the world one with both theories, whose reading fails at this call alone.
+fn fill_two(alloc: Global, world: &mut World, call: u32) -> Result<(), AllocError> {
+    add_file(alloc, world, b"A.thy", PROVED)?;
+    add_file(alloc, world, b"B.thy", CITING)?;
+    world.failing_reads.push(call)?;
+    Ok(())
+}
+
+/// Checks both theories where the reading fails at this call alone: they are listed, and each is read.
+fn check_reading<R: Abort + Files + Print + AllocGlobal + Threads + Wait + Sync>(
+    rt: &R,
+    call: u32,
+) -> Result<(), Fail> {
+    let mut world = empty_world(rt.alloc());
+    fill_two(rt.alloc(), &mut world, call)?;
+    if call < 3 {
+        check(rt, world, Status::ReadFault, b"")
+    } else {
+        check(rt, world, Status::Rows, BOTH)
+    }
+}
+
+#[test]
+fn answers_a_fault_of_each_reading(rt: HostRuntime) -> Result<(), Fail> {
+    for call in 0..4 {
+        check_reading(&rt, call)?;
+    }
+    Ok(())
+}
+
+/// What is written of the first theory, in thirteen pieces of ten bytes at most.
+const WRITTEN: &[u8] = b"proved A.id: ?A ==> ?A
+total: 1 theories, 0 declared, 0 refused, 1 proved, 0 failed, 0 tainted, 0 cancelled, 0 unsettled
+";
+
+/// Makes the world one with the first theory and a sink that takes ten bytes at once and fails at this call alone.
+fn fill_narrow(alloc: Global, world: &mut World, call: u32) -> Result<(), AllocError> {
+    add_file(alloc, world, b"A.thy", PROVED)?;
+    world.width = 10;
+    world.failing_writes.push(call)?;
+    Ok(())
+}
+
+fn check_writing<R: Abort + Files + Print + AllocGlobal + Threads + Wait + Sync>(
+    rt: &R,
+    call: u32,
+) -> Result<(), Fail> {
+    let mut world = empty_world(rt.alloc());
+    fill_narrow(rt.alloc(), &mut world, call)?;
+    let end = usize::try_from(call).unwrap_or(0).saturating_mul(10);
+    match WRITTEN.get(..end) {
+        Some(front) => check(rt, world, Status::WriteFault, front),
+        None => check(rt, world, Status::Clean, WRITTEN),
+    }
+}
+
+#[test]
+fn answers_a_fault_of_each_writing(rt: HostRuntime) -> Result<(), Fail> {
+    assert_eq!(rt; WRITTEN.len(), 121);
+    for call in 0..14 {
+        check_writing(&rt, call)?;
+    }
+    Ok(())
+}

@@ -143,6 +143,35 @@ fn refuses_each_cut_text(rt: HostRuntime) -> Result<(), Fail> {
     Ok(())
 }
 
+/// A conjunction as an object logic.
+const CONJUNCTION: &[u8] =
+    b"theory Min imports Pure begin typedecl o consts T :: \"o => prop\" conj :: \"o => o => o\" axiomatization where conjI: \"T P ==> T Q ==> T (conj P Q)\" and conj1: \"T (conj P Q) ==> T P\" and conj2: \"T (conj P Q) ==> T Q\" lemma comm: \"T (conj A B) ==> T (conj B A)\" apply (rule conjI) apply (erule conj2) apply (erule conj1) done end";
+
+/// The end of a table whose one row is refused.
+const ONE_REFUSED: &[u8] =
+    b"\ntotal: 1 theories, 0 declared, 1 refused, 0 proved, 0 failed, 0 tainted, 0 cancelled, 0 unsettled\n";
+
+/// Looks that the table of this text has one row, which begins so.
+fn check_cut<R: Abort + Files + Print + AllocGlobal + Threads + Wait + Sync>(
+    rt: &R,
+    text: &[u8],
+    front: &[u8],
+) -> Result<(), Fail> {
+    let answer = run_file(rt, rt.alloc(), b"Min.thy", text)?;
+    expect_front(rt, &answer, Status::Rows, front);
+    expect_end(rt, &answer, Status::Rows, ONE_REFUSED);
+    Ok(())
+}
+
+#[test]
+fn refuses_each_cut_of_a_logic(rt: HostRuntime) -> Result<(), Fail> {
+    check_cut(&rt, b"", b"refused theory Min: syntax at 1:1\ntotal: ")?;
+    for len in 0..CONJUNCTION.len() {
+        check_cut(&rt, &CONJUNCTION[..len], b"refused theory Min: syntax at ")?;
+    }
+    Ok(())
+}
+
 /// A theory of so many lemmas, named `a0`, `a1`, ...
 fn many_lemmas(alloc: Global, count: usize) -> Result<Vec<u8>, AllocError> {
     let behind = b":\"A==>A\"by assumption";
