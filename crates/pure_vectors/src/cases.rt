@@ -76,7 +76,11 @@ fn push_line(
 }
 
 /// Adds the files of theories.
-fn add_theories(alloc: Global, world: &mut World, theories: &[u8]) -> Result<(), AllocError> {
+pub(crate) fn add_theories(
+    alloc: Global,
+    world: &mut World,
+    theories: &[u8],
+) -> Result<(), AllocError> {
     let mut text = Vec::new(alloc);
     for line in theories.split(|byte| *byte == b'\n') {
         push_line(alloc, world, &mut text, line)?;
@@ -124,7 +128,7 @@ fn push_totals(
 }
 
 /// The rows and the line of totals.
-fn table_of(alloc: Global, theories: usize, rows: &[u8]) -> Result<Vec<u8>, AllocError> {
+pub(crate) fn table_of(alloc: Global, theories: usize, rows: &[u8]) -> Result<Vec<u8>, AllocError> {
     let mut text = Vec::from_slice(alloc, rows)?;
     text.extend_from_slice(b"\ntotal: ")?;
     push_totals(alloc, &mut text, theories, rows)?;

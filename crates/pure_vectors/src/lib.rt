@@ -22,6 +22,8 @@ mod guide;
 #[cfg(test)]
 mod limits;
 #[cfg(test)]
+mod policies;
+#[cfg(test)]
 mod proofs;
 #[cfg(test)]
 mod statements;
