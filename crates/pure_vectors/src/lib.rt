@@ -20,6 +20,8 @@ mod generated;
 #[cfg(test)]
 mod guide;
 #[cfg(test)]
+mod holding;
+#[cfg(test)]
 mod limits;
 #[cfg(test)]
 mod policies;
