@@ -12,6 +12,8 @@ mod examples;
 #[cfg(test)]
 mod failing;
 #[cfg(test)]
+mod fates;
+#[cfg(test)]
 mod faults;
 #[cfg(test)]
 mod folder;
@@ -19,6 +21,8 @@ mod folder;
 mod generated;
 #[cfg(test)]
 mod guide;
+#[cfg(test)]
+mod heeded;
 #[cfg(test)]
 mod holding;
 #[cfg(test)]

@@ -10,7 +10,7 @@ fn push_times(text: &mut Vec<u8>, piece: &[u8], times: usize) -> Result<(), Allo
 }
 
 /// The number of these digits.
-fn number_of(digits: &[u8]) -> usize {
+pub(crate) fn number_of(digits: &[u8]) -> usize {
     let mut number = 0_usize;
     for digit in digits {
         let next = usize::from(digit.wrapping_sub(b'0'));
