@@ -6,3 +6,6 @@ pub mod FinishLaws
 pub mod DueLaws
 pub mod TakeLaws
 pub mod RunsLaws
+pub mod BucketLaws
+pub mod MarkLaws
+pub mod GroupLaws

@@ -2,7 +2,7 @@
 use Rattle.std.proofs.Common.{◌≡◌, ◌≢◌, ◌∙◌, ◌<◌, ◌≤◌, ℕ, zero, suc, ◌+◌, List, [], ◌∷◌, ◌++◌, map, length, get_or, set, refl, sym, ap, subst, take, drop, arith, Bool, true, false, not, ◌&&◌, if◌then◌else◌, Option, Some, None, slice_get, slice_set, below_more, inl, inr, ◌⊎◌, eq-or-lt_of_le}
 use Rattle.std.proofs.lemmas.Option.{slice_get_read, slice_get_within, same_Some, none-some}
 use Rattle.std.proofs.lemmas.List.{length-map, take-append-le, take_all}
-use Rattle.std.specs.Prelude.{MatchBool}
+use Rattle.std.specs.Prelude.{MatchBool, MatchOption}
 use Rattle.pure_machine.specs.Parts.{NoneTaken}
 use Rattle.pure_machine.specs.State.{Promise, Standing, Ready, Taken, Settled, Cancelled, Marks, with_standing, restood, cancelled_promise, is_theory_cancelled, is_settled}
 use Rattle.pure_machine.specs.Step.{NoPromiseReadyBelow, IsOver}
@@ -26,6 +26,10 @@ found_ready {G} {O} xs ys n same within at below = subst (λ zs. (p : Promise G 
 -- whether a proof runs, of a list that is another
 pub runs_same : {G O : Type 0} (b : Bool) (xs ys : List (Promise G O)) → ys ≡ xs → MatchBool b ((n : ℕ) × (p : Promise G O) × (slice_get ys n ≡ Some p) × (p.standing ≡ Taken)) (NoneTaken ys) → MatchBool b ((n : ℕ) × (p : Promise G O) × (slice_get xs n ≡ Some p) × (p.standing ≡ Taken)) (NoneTaken xs)
 runs_same {G} {O} b xs ys same h = subst (λ zs. MatchBool b ((n : ℕ) × (p : Promise G O) × (slice_get zs n ≡ Some p) × (p.standing ≡ Taken)) (NoneTaken zs)) same h
+
+-- the next that is ready, of a list that is another
+pub next_same : {G O : Type 0} (r : Option ℕ) (xs ys : List (Promise G O)) → ys ≡ xs → MatchOption r (NoPromiseReadyBelow ys (length ys)) (λ n. (p : Promise G O) × (slice_get ys n ≡ Some p) × (p.standing ≡ Ready) × NoPromiseReadyBelow ys n) → MatchOption r (NoPromiseReadyBelow xs (length xs)) (λ n. (p : Promise G O) × (slice_get xs n ≡ Some p) × (p.standing ≡ Ready) × NoPromiseReadyBelow xs n)
+next_same {G} {O} r xs ys same h = subst (λ zs. MatchOption r (NoPromiseReadyBelow zs (length zs)) (λ n. (p : Promise G O) × (slice_get zs n ≡ Some p) × (p.standing ≡ Ready) × NoPromiseReadyBelow zs n)) same h
 
 -- the promises with one of them standing otherwise, as the code writes them
 pub restood-is : {G O : Type 0} (ps : List (Promise G O)) (k : ℕ) (p : Promise G O) (s : Standing O) → k < length ps → p ≡ get_or ps k p → set ps k (record { theory = p.theory; goal = p.goal; standing = s }) ≡ with_standing ps k s

@@ -1,6 +1,7 @@
 //! Which groups of promises are cancelled.
 ghost use Rattle.std.specs.Prelude.{◌≡◌, false};
-ghost use Rattle.pure_machine.specs.State.{is_theory_cancelled, marked, all_marked};
+ghost use Rattle.pure_machine.specs.State.{is_theory_cancelled, marked};
+ghost use Rattle.pure_machine.specs.Parts.{is_unmarked, is_new};
 
 use crate::policy::Group;
 use std::marker::Model;
@@ -47,8 +48,18 @@ impl Groups {
         }
     }
 
+    /// Whether to cancel the group changes which groups are cancelled.
+    pub fn is_new(&self, group: Group) -> bool
+        ensures { result ≡ is_new self.now group }
+    {
+        match group {
+            Group::Session => !self.session,
+            Group::Theory { index } => is_unmarked(self.theories.as_slice(), index),
+        }
+    }
+
     /// Cancels a group.
-    fn cancel_one(&mut self, group: Group)
+    pub fn cancel_one(&mut self, group: Group)
         ensures { self.new ≡ marked self.old group }
     {
         match group {
@@ -60,13 +71,17 @@ impl Groups {
             }
         }
     }
+}
 
-    /// Cancels groups.
-    pub fn cancel(&mut self, groups: &[Group])
-        ensures { self.new ≡ all_marked self.old groups.now }
-    {
-        for group in groups {
-            self.cancel_one(*group);
-        }
+/// Whether there is such a theory and its own group isn't cancelled.
+fn is_unmarked(marks: &[bool], theory: u32) -> bool
+    ensures { result ≡ is_unmarked marks.now theory }
+{
+    if theory == 0 {
+        return false;
+    }
+    match marks.get(theory as usize - 1) {
+        None => false,
+        Some(mark) => !*mark,
     }
 }

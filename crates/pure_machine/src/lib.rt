@@ -2,12 +2,15 @@
 #![tactic(auto)]
 
 mod answers;
+mod buckets;
+mod grouped;
 mod groups;
 mod log;
 mod machine;
 mod parts;
 mod policy;
 mod promises;
+mod schedule;
 mod theories;
 
 pub use answers::{Delivered, Polled, Task};

@@ -7,11 +7,11 @@ ghost use Rattle.pure_machine.specs.Seen.{seen_standing};
 ghost use Rattle.pure_machine.specs.Calls.{Takes, delivered_as, polled_as, is_in_cancelled};
 
 use crate::answers::{Delivered, Polled, Task};
-use crate::groups::Groups;
+use crate::grouped::Grouped;
 use crate::log::Log;
 use crate::parts::{Event, Promise, Standing};
 use crate::policy::{Cancel, Group, Node, Policy};
-use crate::promises::Promises;
+use crate::schedule::Schedule;
 use crate::theories::Theories;
 use std::alloc::{AllocError, Global};
 use std::marker::Model;
@@ -21,9 +21,8 @@ use std::sync::Arc;
 #[derive(Drop)]
 pub struct Machine<G, C, O> {
     theories: Theories<C>,
-    promises: Promises<G, O>,
-    groups: Groups,
-    policy: Policy,
+    promises: Grouped<G, O>,
+    policy: Schedule,
     kept: usize,
     stopped: bool,
     log: Log<G, C, O>,
@@ -35,7 +34,7 @@ impl<G, C, O> Model for Machine<G, C, O> {
 
     ghost Value = { State G C O };
 
-    ghost view = { λ m. whole m.theories m.promises m.groups m.policy m.kept m.stopped m.log };
+    ghost view = { λ m. whole m.theories m.promises.list m.promises.marks m.policy m.kept m.stopped m.log };
 }
 
 /// How a new promise stands.
@@ -71,17 +70,17 @@ fn add_due(groups: &mut Vec<Group>, cancels: &[Cancel], kept: usize) -> Result<(
 /// The groups that are cancelled when a delivery is kept, which makes so many.
 fn cancelled_groups(
     alloc: Global,
-    policy: &Policy,
+    policy: &Schedule,
     kept: usize,
     fault: bool,
 ) -> Result<Vec<Group>, AllocError>
     ensures { IfOk result (λ groups. groups.items ≡ cancelled_by policy.now kept fault) }
 {
     let mut groups = Vec::new(alloc);
-    if policy.fail_fast && fault {
+    if policy.fail_fast() && fault {
         groups.push(Group::Session)?;
     }
-    add_due(&mut groups, policy.cancels.as_slice(), kept)?;
+    add_due(&mut groups, policy.at(kept), kept)?;
     Ok(groups)
 }
 
@@ -110,16 +109,15 @@ impl<G: Drop, C: Drop, O: Drop> Machine<G, C, O> {
         ensures { IfOk result (λ m. m ≡ opened (record { shape = shape.items; policy = policy; workers = workers })) }
     {
         let mut due = Vec::new(alloc);
-        add_due(&mut due, policy.cancels.as_slice(), 0)?;
-        let groups = Groups::new(all_unmarked(alloc, shape.as_slice())?);
+        let schedule = Schedule::new(alloc, policy)?;
+        add_due(&mut due, schedule.at(0), 0)?;
+        let promises = Grouped::open(alloc, all_unmarked(alloc, shape.as_slice())?)?;
         let log = Log::open(alloc, workers)?;
         let theories = Theories::open(shape)?;
-        let promises = Promises::new(Vec::new(alloc));
         let mut machine = Machine {
             theories,
             promises,
-            groups,
-            policy,
+            policy: schedule,
             kept: 0,
             stopped: false,
             log,
@@ -177,7 +175,7 @@ impl<G: Drop, C: Drop, O: Drop> Machine<G, C, O> {
             return Polled::Stopped;
         }
         let promise = self.promises.at(number);
-        if self.groups.is_cancelled(promise.theory) {
+        if self.promises.is_theory_cancelled(promise.theory) {
             return Polled::Cancelled;
         }
         Polled::Go
@@ -203,7 +201,7 @@ impl<G: Drop, C: Drop, O: Drop> Machine<G, C, O> {
         }
         let goal = Arc::new(self.theories.alloc(), goal)?;
         let told = Arc::try_clone(&goal)?;
-        let standing = standing_of(self.groups.is_cancelled(theory));
+        let standing = standing_of(self.promises.is_theory_cancelled(theory));
         let promise = Promise {
             theory,
             goal,
@@ -274,11 +272,7 @@ impl<G: Drop, C: Drop, O: Drop> Machine<G, C, O> {
     fn cancel(&mut self, groups: &[Group])
         ensures { self.new ≡ with_cancelled self.old groups.now }
     {
-        if groups.is_empty() {
-            return;
-        }
-        self.groups.cancel(groups);
-        self.promises.cancel(&self.groups);
+        self.promises.cancel(groups);
     }
 
     /// What is there to do.

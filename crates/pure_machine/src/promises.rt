@@ -3,7 +3,7 @@ ghost use Rattle.std.specs.Prelude.{◌≡◌, ◌≢◌, ◌<◌, ◌≤◌, �
 ghost use Rattle.pure_machine.specs.State.{Ready, Taken, Cancelled, with_standing, cancelled_promise};
 ghost use Rattle.pure_machine.specs.Step.{NoPromiseReadyBelow, is_cancelled_promise};
 ghost use Rattle.pure_machine.specs.Seen.{seen_standing, seen_event};
-ghost use Rattle.pure_machine.specs.Parts.{entered, is_stop, NoneTaken};
+ghost use Rattle.pure_machine.specs.Parts.{entered, is_stop, NoneTaken, changed_at, all_changed};
 
 use crate::groups::Groups;
 use crate::log::Log;
@@ -182,6 +182,25 @@ impl<G: Drop, O: Drop> Promises<G, O> {
         ensures { self.new ≡ map (cancelled_promise groups.now) self.old }
     {
         cancel_all(self.list.as_mut_slice(), groups);
+    }
+
+    /// Cancels the promise of this number, if there is one, where its group or the one above is cancelled, unless it is settled.
+    fn cancel_at(&mut self, number: u32, groups: &Groups)
+        ensures { self.new ≡ changed_at (cancelled_promise groups.now) self.old number }
+    {
+        if number as usize >= self.list.len() {
+            return;
+        }
+        cancel_one(&mut self.list[number as usize], groups);
+    }
+
+    /// Cancels those promises of these numbers in cancelled groups that aren't settled.
+    pub fn cancel_listed(&mut self, numbers: &[u32], groups: &Groups)
+        ensures { self.new ≡ all_changed (cancelled_promise groups.now) self.old numbers.now }
+    {
+        for number in numbers {
+            self.cancel_at(*number, groups);
+        }
     }
 
     /// One promise more, with the event that makes it, and its number; an error where the numbers are used up, too.

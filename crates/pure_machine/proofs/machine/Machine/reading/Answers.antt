@@ -12,4 +12,4 @@ returns-then-runs-2 g c = (record { goes_on = c.requires.going; nothing = c.requ
 pub returns : goal.returns
 returns g c =
     let m = c.self.inside in
-    (finished-whole c.args.self.now m.theories m.promises m.groups m.policy m.kept m.stopped m.log c.self.view_is c.requires.going c.requires.nothing c.if-runs.ensures c.if-runs-2.ensures, refl)
+    (finished-whole c.args.self.now m.theories m.promises.list m.promises.marks m.policy m.kept m.stopped m.log c.self.view_is c.requires.going c.requires.nothing c.if-runs.ensures c.if-runs-2.ensures, refl)

@@ -15,9 +15,9 @@ take_theory-requires-clause-next g c =
 pub returns-in-None : goal.returns-in-None
 returns-in-None g c =
     let m = c.self.inside in
-    takes-same _ _ _ _ (ap (λ t. whole t m.promises m.groups m.policy m.kept m.stopped m.log) c.next_ready.ensures.same ∙ c.self.view_is) c.take_proof.ensures
+    takes-same _ _ _ _ (ap (λ t. whole t m.promises.list m.promises.marks m.policy m.kept m.stopped m.log) c.next_ready.ensures.same ∙ c.self.view_is) c.take_proof.ensures
 
 pub returns-in-Some : goal.returns-in-Some
 returns-in-Some g c =
     let m = c.self.inside in
-    takes-same _ _ _ _ (ap (λ t. whole t m.promises m.groups m.policy m.kept m.stopped m.log) c.next_ready.ensures.same ∙ c.self.view_is) c.take_theory.ensures
+    takes-same _ _ _ _ (ap (λ t. whole t m.promises.list m.promises.marks m.policy m.kept m.stopped m.log) c.next_ready.ensures.same ∙ c.self.view_is) c.take_theory.ensures
