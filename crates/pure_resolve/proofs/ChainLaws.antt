@@ -46,7 +46,7 @@ cut_at (x ∷ xs) (suc place) l =
     let rest = cut_at xs place (omega arith) in
     record { before = x ∷ rest.before; at = rest.at; after = rest.after; stands = ap (λ (ys : List Term). x ∷ ys) rest.stands; count = omega (arith, rest.count) }
 
-marks-same : (C D : Term) → protect C ≡ protect D → C ≡ D
+pub marks-same : (C D : Term) → protect C ≡ protect D → C ≡ D
 marks-same C D e = cc
 
 -- A goal's proposition has one list of premises and one statement.

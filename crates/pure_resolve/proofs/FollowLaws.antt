@@ -1,7 +1,7 @@
 -- What follows from an attempt to make a step.
 use Rattle.std.proofs.Common.{◌≡◌, ◌≤◌, ℕ, List, [], ◌∷◌, ◌++◌, map, Result, Err, refl, ap, sym, subst, ◌∙◌, arith}
 use Rattle.pure_text.specs.Lists.{Each}
-use Rattle.pure_text.proofs.ListLaws.{each-append, each_imply}
+use Rattle.pure_text.proofs.ListLaws.{each_imply}
 use Rattle.pure_definitions.specs.Names.{Label}
 use Rattle.pure_definitions.specs.Types.Order.{Algebra}
 use Rattle.pure_definitions.specs.Terms.Term.{Term, term_size, term_depth, max_size, max_depth, IsWithin}
@@ -10,7 +10,7 @@ use Rattle.pure_definitions.specs.Reduction.Eta.{IsLongForm}
 use Rattle.pure_logic.specs.Connectives.{imp, eq, protect, chain}
 use Rattle.pure_logic.specs.Derivable.{Pair, Theorem, IsUnderPairs}
 use Rattle.pure_logic.specs.Laws.Maps.{instantiated}
-use Rattle.pure_theorem.specs.Shapes.{IsTyped, IsNoImplication}
+use Rattle.pure_theorem.specs.Shapes.{IsNoImplication}
 use Rattle.pure_unify_definitions.specs.LongSides as sides
 use Rattle.pure_unify_definitions.specs.LongSides.{Stop}
 use Rattle.pure_unify_definitions.specs.Search as search
@@ -34,7 +34,7 @@ use Rattle.pure_resolve.proofs.StepLaws.{concluded-at, come-long}
 pub left_typed : (ps : List Pair) → Each IsLeftOver ps → Each IsLeftTyped ps
 left_typed ps h = each_imply IsLeftOver IsLeftTyped ps (λ p l. (l.typ, l.left_typed)) h
 
-left-pairs : (ps : List Pair) → Each IsLeftOver ps → Each IsLeftPair ps
+pub left-pairs : (ps : List Pair) → Each IsLeftOver ps → Each IsLeftPair ps
 left-pairs ps h = each_imply IsLeftOver IsLeftPair ps (λ p l. record { flexible = l.flexible; left_long = l.left_long; right_long = l.right_long; typ = l.typ; left_typed = l.left_typed; right_typed = l.right_typed }) h
 
 -- A statement that isn't within the limits makes the whole large.
@@ -88,24 +88,25 @@ behind_first goal h A rest e =
 pub is_implication : (goal : Theorem) (h : HasFirst goal) → goal.prop ≡ imp h.first (chain h.others (protect h.state.statement))
 is_implication goal h = h.is.prop ∙ ap (λ (As : List Term). chain As (protect h.state.statement)) h.stand
 
-pub all_typed : (premises all others : List Term) → all ≡ premises ++ others → Each IsTyped premises → Each IsTyped others → Each IsTyped all
-all_typed premises all others e h k = subst (λ (As : List Term). Each IsTyped As) (sym e) (each-append IsTyped premises others h k)
+pub opened_others : (goal : Theorem) (h : HasFirst goal) (A rest : Term) → goal.prop ≡ imp A rest → (old new : List Term) (marked : Term) → old ≡ []
+    → ((As : List Term) (C : Term) → rest ≡ chain As (protect C) → (new ≡ old ++ As) × (marked ≡ protect C)) → (new ≡ h.others) × (marked ≡ protect h.state.statement)
+opened_others goal h A rest e old new marked n o = let parts = o h.others h.state.statement (behind_first goal h A rest e) in (parts.0 ∙ ap (λ (Bs : List Term). Bs ++ h.others) n, parts.1)
 
-all-long : (As Ss : List Term) → Come As (AllLong Ss) → Each (λ A. IsLongForm A A) Ss
+pub all-long : (As Ss : List Term) → Come As (AllLong Ss) → Each (λ A. IsLongForm A A) Ss
 all-long [] [] no_more = tt
 all-long [] (S ∷ Ss) f = elim f [ ]
 all-long (A ∷ As) [] f = elim f [ ]
 all-long (A ∷ As) (S ∷ Ss) (all_long f g) = (come-long A S f, all-long As Ss g)
 
 -- The same state, and the same others.
-record Same (s t : State) (others rest : List Term) : Type 0 where
-  statement : s.statement ≡ t.statement
-  others_same : others ≡ rest
+pub record Same (s t : State) (others rest : List Term) : Type 0 where
+  pub statement : s.statement ≡ t.statement
+  pub others_same : others ≡ rest
 
 tails : (A B : Term) (As Bs : List Term) → A ∷ As ≡ B ∷ Bs → As ≡ Bs
 tails A B As Bs e = cc
 
-same-state : (goal : Theorem) (h : HasFirst goal) (s : State) (first : Term) (others : List Term) → IsTheoremOf s goal → s.subgoals ≡ first ∷ others → Same h.state s h.others others
+pub same-state : (goal : Theorem) (h : HasFirst goal) (s : State) (first : Term) (others : List Term) → IsTheoremOf s goal → s.subgoals ≡ first ∷ others → Same h.state s h.others others
 same-state goal h s first others is stand =
     let parts = chain_once h.state.subgoals s.subgoals h.state.statement s.statement (sym h.is.prop ∙ is.prop) in
     record { statement = parts.1; others_same = tails h.first first h.others others (sym h.stand ∙ (parts.0 ∙ stand)) }
@@ -123,6 +124,20 @@ unifier_outcome goal h u left premises all marked e m Ss comes rests result c s 
     made_outcome made made.subgoals Ss [] (nothing-more made.subgoals) (subst (λ (As : List Term). Come (map f As) (AllLong Ss)) terms comes) (all-long (map f all) Ss comes) tt (left-pairs u.flexflex.items left) rests result
     (concluded-at u.flexflex.items made.pairs (chain Ss (f marked)) (chain (Ss ++ []) (protect made.statement)) rests rests result refl (λ i. chain (nothing-more Ss i) (marks i)) refl c)
 
+pub come_stopped : (made : State) (fault : StepFault) → IsComeAnswer made.subgoals (Err fault) → (R : List Label → Type 0) → IsOutcome (Becomes made) R (Err fault)
+come_stopped made Steps c R = halted {s = sides.Steps} c
+come_stopped made Big c R = halted {s = sides.Big} c
+come_stopped made Memory c R = tt
+come_stopped made UnknownFact c R = absurd c
+come_stopped made NoSubgoal c R = absurd c
+come_stopped made NoPremise c R = absurd c
+come_stopped made NotDefinition c R = absurd c
+come_stopped made NothingToUnfold c R = absurd c
+come_stopped made NoUnifier c R = absurd c
+come_stopped made SearchBound c R = absurd c
+come_stopped made NoHypothesis c R = absurd c
+come_stopped made SubgoalsLeft c R = absurd c
+
 pub unifier_stopped : (goal : Theorem) (h : HasFirst goal) (u : Unifier) (premises all : List Term) → all ≡ premises ++ h.others → (fault : StepFault) → IsComeAnswer (map (instantiated u.typs u.terms) all) (Err fault)
     → (s : State) (first : Term) (others : List Term) (a : Attempt) → IsTheoremOf s goal → s.subgoals ≡ first ∷ others → a.premises ≡ premises → (R : List Label → Type 0) → IsOutcome (Becomes (with_unifier s others a (seen u))) R (Err fault)
 unifier_stopped goal h u premises all e fault c s first others a is stand p R =
@@ -130,21 +145,7 @@ unifier_stopped goal h u premises all e fault c s first others a is stand p R =
     let same = same-state goal h s first others is stand in
     let made : State = with_unifier s others a (seen u) in
     let terms : all ≡ a.premises ++ others = e ∙ (λ i. sym p i ++ same.others_same i) in
-    by made fault (subst (λ (As : List Term). IsComeAnswer (map f As) (Err fault)) terms c) R
-  where
-    by : (made : State) (fault : StepFault) → IsComeAnswer made.subgoals (Err fault) → (R : List Label → Type 0) → IsOutcome (Becomes made) R (Err fault)
-    by made Steps c R = halted {s = sides.Steps} c
-    by made Big c R = halted {s = sides.Big} c
-    by made Memory c R = tt
-    by made UnknownFact c R = absurd c
-    by made NoSubgoal c R = absurd c
-    by made NoPremise c R = absurd c
-    by made NotDefinition c R = absurd c
-    by made NothingToUnfold c R = absurd c
-    by made NoUnifier c R = absurd c
-    by made SearchBound c R = absurd c
-    by made NoHypothesis c R = absurd c
-    by made SubgoalsLeft c R = absurd c
+    come_stopped made fault (subst (λ (As : List Term). IsComeAnswer (map f As) (Err fault)) terms c) R
 
 -- What follows from the unifier's answer.
 pub followed_unified : (A : Algebra) (maxidx : ℕ) (s : State) (others : List Term) (a : Attempt) (u : Unifier) → IsUnifyAnswer A maxidx (unified_pairs s a) (search.Unified (seen u)) → (R : List Label → Type 0) (result : Result Goal StepFault)

@@ -5,5 +5,7 @@ pub mod EndLaws
 pub mod CallLaws
 pub mod SettleLaws
 pub mod FollowLaws
+pub mod RestLaws
+pub mod StayLaws
 pub mod TypedLaws
 pub mod UseLaws

@@ -1,5 +1,7 @@
 -- Terms under a unifier, in long form.
-use Rattle.std.proofs.Common.{◌≡◌, ℕ, ◌+◌, ◌<◌, List, [], ◌∷◌, ◌++◌, map, length, take, get_or, zero, suc, Result, Ok, Err, inl, refl, ap, sym, subst, ◌∙◌, arith}
+use Rattle.std.proofs.Common.{◌≡◌, ℕ, ◌+◌, ◌<◌, List, [], ◌∷◌, ◌++◌, map, length, take, get_or, zero, suc, Result, Ok, Err, IfOk, IfErr, inl, refl, ap, sym, subst, ◌∙◌, arith, append_assoc}
+use Rattle.std.proofs.lemmas.List.{map-append}
+use Rattle.std.specs.Global.{Vec}
 use Rattle.pure_text.specs.Lists.{Each}
 use Rattle.pure_definitions.specs.Types.Typ.{Typ}
 use Rattle.pure_definitions.specs.Types.Order.{Algebra}
@@ -9,6 +11,7 @@ use Rattle.pure_definitions.specs.Terms.Subst.{TypBind, TermBind, typ_image, typ
 use Rattle.pure_definitions.specs.Models.Comparison.{term_cmp}
 use Rattle.pure_term_laws.proofs.SubstLaws.{inst_term-alone, entries-respect_types}
 use Rattle.pure_term_laws.proofs.TypingBoundLaws.{typing-instance}
+use Rattle.pure_definitions.specs.Reduction.Eta.{IsLongForm}
 use Rattle.pure_logic.specs.Derivable.{Pair, Theorem}
 use Rattle.pure_logic.specs.Laws.Maps.{instantiated}
 use Rattle.pure_theorem.specs.Sets.{IsSetOf}
@@ -16,12 +19,13 @@ use Rattle.pure_theorem.specs.Within.{IsPairWithin, AreWithin}
 use Rattle.pure_theorem.specs.Shapes.{IsTyped}
 use Rattle.pure_inst.specs.Instance.{GivesInstance}
 use Rattle.pure_unify_definitions.specs.LongSides as sides
-use Rattle.pure_unify_definitions.specs.LongSides.{Stop, Long, Ends, ComesTo, is_large}
+use Rattle.pure_unify_definitions.specs.LongSides.{Stop, Long, Ends, ComesTo, is_long, is_large}
 use Rattle.pure_goal_steps.specs.Follows.{AllLong, Halted, Come, no_more, first_stops, later_stops, all_long}
 use Rattle.pure_goal_steps.specs.declared.fault.StepFault.{StepFault}
 use Rattle.pure_goal_steps.specs.declared.fault.StepFault.TheVariants.{UnknownFact, NoSubgoal, NoPremise, NotDefinition, NothingToUnfold, NoUnifier, SearchBound, Steps, Big, NoHypothesis, SubgoalsLeft, Memory}
 use Rattle.pure_resolve.specs.Goals.{IsLongSubgoal}
-use Rattle.pure_resolve.specs.Settled.{IsInstanceAnswer, IsComeAnswer}
+use Rattle.pure_resolve.specs.Settled.{IsInstanceAnswer, IsComeAnswer, IsComeBehind}
+use Rattle.pure_resolve.proofs.ChainLaws.{nothing-more}
 
 -- The instance.
 pub instance_made : (A : Algebra) (typs : List TypBind) (terms : List TermBind) (th image : Theorem) (t u : Term) → th.prop ≡ t → u ≡ image.prop → GivesInstance A typs terms th image → IsInstanceAnswer typs terms t (Ok u)
@@ -56,9 +60,6 @@ pub instance_typed : (typs : List TypBind) (terms : List TermBind) (t u : Term) 
 instance_typed typs terms t u h (e, r) = subst IsTyped (sym e) (replaced-typed terms (inst_typ (typ_image typs) t) r (retyped-typed typs t h))
 
 -- In long form.
-pub settled_along : (t u : Term) (result : Result Term StepFault) → u ≡ t → IsLongSubgoal u result → IsLongSubgoal t result
-settled_along t u result e h = subst (λ (v : Term). IsLongSubgoal v result) e h
-
 beyond-large : (t : Term) → ¬ IsWithin t → ComesTo t (Ends sides.Big)
 beyond-large t h = is_large (record { before = []; last = t; sequence = refl; undecided = tt; in_time = omega arith; decided = h })
 
@@ -130,3 +131,100 @@ settled_fault f ts made i t NoUnifier l e h c = absurd c
 settled_fault f ts made i t SearchBound l e h c = absurd c
 settled_fault f ts made i t NoHypothesis l e h c = absurd c
 settled_fault f ts made i t SubgoalsLeft l e h c = absurd c
+
+-- Terms in long form that the maps leave as they are.
+pub kept_comes : (typs : List TypBind) (terms : List TermBind) (t : Term) → IsLongForm t t → instantiated typs terms t ≡ t → IsWithin t → ComesTo (instantiated typs terms t) (Long t)
+kept_comes typs terms t f e w = subst (λ (u : Term). ComesTo u (Long t)) (sym e) (is_long (record { before = []; last = t; sequence = refl; undecided = tt; in_time = omega arith; decided = (w, f.normal, refl) }) f w)
+
+-- Terms whose instances are followed by others.
+come-both : (front Fs others Os : List Term) → Come front (AllLong Fs) → Come others (AllLong Os) → Come (front ++ others) (AllLong (Fs ++ Os))
+come-both [] [] others Os f g = g
+come-both [] (F ∷ Fs) others Os f g = elim f [ ]
+come-both (A ∷ As) [] others Os f g = elim f [ ]
+come-both (A ∷ As) (F ∷ Fs) others Os (all_long c f) g = all_long c (come-both As Fs others Os f g)
+
+come-behind : (front Fs others : List Term) (s : Stop) → Come front (AllLong Fs) → Come others (Halted s) → Come (front ++ others) (Halted s)
+come-behind [] [] others s f g = g
+come-behind [] (F ∷ Fs) others s f g = elim f [ ]
+come-behind (A ∷ As) [] others s f g = elim f [ ]
+come-behind (A ∷ As) (F ∷ Fs) others s (all_long c f) g = later_stops c (come-behind As Fs others s f g)
+
+come-before : (front others : List Term) (s : Stop) → Come front (Halted s) → Come (front ++ others) (Halted s)
+come-before [] others s f = elim f [ ]
+come-before (A ∷ As) others s (first_stops c) = first_stops c
+come-before (A ∷ As) others s (later_stops c f) = later_stops c (come-before As others s f)
+
+pub stopped_before : (front others : List Term) (fault : StepFault) → IsComeAnswer front (Err fault) → IsComeAnswer (front ++ others) (Err fault)
+stopped_before front others Steps c = come-before front others sides.Steps c
+stopped_before front others Big c = come-before front others sides.Big c
+stopped_before front others Memory c = tt
+stopped_before front others UnknownFact c = absurd c
+stopped_before front others NoSubgoal c = absurd c
+stopped_before front others NoPremise c = absurd c
+stopped_before front others NotDefinition c = absurd c
+stopped_before front others NothingToUnfold c = absurd c
+stopped_before front others NoUnifier c = absurd c
+stopped_before front others SearchBound c = absurd c
+stopped_before front others NoHypothesis c = absurd c
+stopped_before front others SubgoalsLeft c = absurd c
+
+-- However those that are left come, so do all, behind what is done. Those that are left are in long form.
+pub record ComesOn (f : Term → Term) (front others left done : List Term) : Type 0 where
+  pub on : (As Ss : List Term) → Come (map f As) (AllLong front) → Come (map f left) (AllLong Ss) → Come (map f (As ++ others)) (AllLong (done ++ Ss))
+  pub halts : (As : List Term) (s : Stop) → Come (map f As) (AllLong front) → Come (map f left) (Halted s) → Come (map f (As ++ others)) (Halted s)
+  pub long : Each (λ A. IsLongForm A A) left
+
+pub others_none : (f : Term → Term) (front others left : List Term) → left ≡ others → Each (λ A. IsLongForm A A) others → ComesOn f front others left front
+others_none f front others left e h = record {
+  on = λ As Ss c g. subst (λ (ts : List Term). Come ts (AllLong (front ++ Ss))) (λ i. whole As i) (come-both (map f As) front (map f left) Ss c g);
+  halts = λ As s c g. subst (λ (ts : List Term). Come ts (Halted s)) (λ i. whole As i) (come-behind (map f As) front (map f left) s c g);
+  long = subst (λ (As : List Term). Each (λ A. IsLongForm A A) As) (sym e) h;
+}
+  where
+    whole : (As : List Term) → map f As ++ map f left ≡ map f (As ++ others)
+    whole As = sym (map-append f As left) ∙ ap (λ (Bs : List Term). map f (As ++ Bs)) e
+
+pub next_long : (f : Term → Term) (front others left rest done : List Term) (t : Term) → left ≡ t ∷ rest → ComesOn f front others left done → IsLongForm t t
+next_long f front others left rest done t e o = (subst (λ (As : List Term). Each (λ A. IsLongForm A A) As) e o.long).0
+
+pub others_turn : (f : Term → Term) (front others left rest done longer : List Term) (t S : Term) → left ≡ t ∷ rest → longer ≡ done ++ S ∷ [] → IsLongSubgoal (f t) (Ok S) → ComesOn f front others left done → ComesOn f front others rest longer
+others_turn f front others left rest done longer t S e l d o = record {
+  on = λ As Ss c g.
+      subst (λ (Ts : List Term). Come (map f (As ++ others)) (AllLong Ts)) (sym (append_assoc done (S ∷ []) Ss) ∙ ap (λ (Ts : List Term). Ts ++ Ss) (sym l))
+      (o.on As (S ∷ Ss) c (subst (λ (ts : List Term). Come (map f ts) (AllLong (S ∷ Ss))) (sym e) (all_long d g)));
+  halts = λ As s c g. o.halts As s c (subst (λ (ts : List Term). Come (map f ts) (Halted s)) (sym e) (later_stops d g));
+  long = (subst (λ (As : List Term). Each (λ A. IsLongForm A A) As) e o.long).1;
+}
+
+pub others_end : (f : Term → Term) (front others left done : List Term) → length left ≡ 0 → ComesOn f front others left done → IsComeBehind f front others (Ok done)
+others_end f front others [] done n o = λ As c. subst (λ (Ts : List Term). Come (map f (As ++ others)) (AllLong Ts)) (sym (nothing-more done)) (o.on As [] c no_more)
+others_end f front others (t ∷ ts) done n o = absurd (omega arith)
+
+halts-at : (f : Term → Term) (front others left rest done : List Term) (t : Term) (s : Stop) → left ≡ t ∷ rest → ComesTo (f t) (Ends s) → ComesOn f front others left done → (As : List Term) → Come (map f As) (AllLong front) → Come (map f (As ++ others)) (Halted s)
+halts-at f front others left rest done t s e d o As c = o.halts As s c (subst (λ (ts : List Term). Come (map f ts) (Halted s)) (sym e) (first_stops d))
+
+pub others_fault : (f : Term → Term) (front others left rest done : List Term) (t : Term) (fault : StepFault) → left ≡ t ∷ rest → IsLongSubgoal (f t) (Err fault) → ComesOn f front others left done → IsComeBehind f front others (Err fault)
+others_fault f front others left rest done t Steps e d o = halts-at f front others left rest done t sides.Steps e d o
+others_fault f front others left rest done t Big e d o = halts-at f front others left rest done t sides.Big e d o
+others_fault f front others left rest done t Memory e d o = λ As c. tt
+others_fault f front others left rest done t UnknownFact e d o = absurd d
+others_fault f front others left rest done t NoSubgoal e d o = absurd d
+others_fault f front others left rest done t NoPremise e d o = absurd d
+others_fault f front others left rest done t NotDefinition e d o = absurd d
+others_fault f front others left rest done t NothingToUnfold e d o = absurd d
+others_fault f front others left rest done t NoUnifier e d o = absurd d
+others_fault f front others left rest done t SearchBound e d o = absurd d
+others_fault f front others left rest done t NoHypothesis e d o = absurd d
+others_fault f front others left rest done t SubgoalsLeft e d o = absurd d
+
+-- Those before are given.
+pub behind_long : (f : Term → Term) (As front others : List Term) (r : Result (Vec Term) StepFault) → Come (map f As) (AllLong front) → IfOk r (λ made. IsComeBehind f front others (Ok made.items)) → IfOk r (λ made. IsComeAnswer (map f (As ++ others)) (Ok made.items))
+behind_long f As front others (Ok made) c h = h As c
+behind_long f As front others (Err fault) c h = tt
+
+pub behind_fault : (f : Term → Term) (As front others : List Term) (r : Result (Vec Term) StepFault) → Come (map f As) (AllLong front) → IfErr r (λ fault. IsComeBehind f front others (Err fault)) → IfErr r (λ fault. IsComeAnswer (map f (As ++ others)) (Err fault))
+behind_fault f As front others (Ok made) c h = tt
+behind_fault f As front others (Err fault) c h = h As c
+
+pub stopped_both : (f : Term → Term) (As others : List Term) (fault : StepFault) → IsComeAnswer (map f As) (Err fault) → IsComeAnswer (map f (As ++ others)) (Err fault)
+stopped_both f As others fault c = subst (λ (ts : List Term). IsComeAnswer ts (Err fault)) (sym (map-append f As others)) (stopped_before (map f As) (map f others) fault c)

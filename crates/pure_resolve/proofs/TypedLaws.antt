@@ -5,6 +5,7 @@ use Rattle.pure_text.proofs.ListLaws.{each-append, each_imply}
 use Rattle.pure_definitions.specs.Types.Typ.{prop}
 use Rattle.pure_definitions.specs.Terms.Term.{Term}
 use Rattle.pure_definitions.specs.Terms.Bounds.{lift_term}
+use Rattle.pure_definitions.specs.Reduction.Eta.{IsLongForm}
 use Rattle.pure_logic.specs.Connectives.{protect, chain}
 use Rattle.pure_logic.specs.Content.{Content, IsProposition}
 use Rattle.pure_logic.specs.Derivable.{Pair, Theorem}
@@ -61,7 +62,7 @@ has_first Q goal m first others stand = record {
   first = first;
   others = others;
   stand = stand;
-  typed = all-typed Q others (first-of Q goal m first others stand).1;
+  long = (subst (λ (As : List Term). Each (λ A. IsLongForm A A) As) stand m.is.goal.long_subgoals).1;
 }
 
 pairs-typed : (Q : Content) (goal : Theorem) (m : MayStep Q goal) (matched : List Pair) → Each AreSidesTyped matched → Each AreSidesTyped (matched ++ goal.pairs)

@@ -1,13 +1,16 @@
 -- Terms under a unifier: their instances, and these in long form.
-use Rattle.std.specs.Prelude.{◌≡◌, List, ◌∷◌, ◌++◌, Result, Ok, Err}
+use Rattle.std.specs.Prelude.{◌≡◌, List, ◌∷◌, ◌++◌, map, Result, Ok, Err}
 use Rattle.pure_text.specs.Lists.{Each}
 use Rattle.pure_definitions.specs.Terms.Term.{Term, IsWithin}
 use Rattle.pure_definitions.specs.Terms.Subst.{TypBind, TermBind, AreTypeRespecting}
+use Rattle.pure_definitions.specs.Reduction.Eta.{IsLongForm}
+use Rattle.pure_logic.specs.Connectives.{protect, chain}
 use Rattle.pure_logic.specs.Derivable.{Theorem}
 use Rattle.pure_logic.specs.Laws.Maps.{instantiated}
 use Rattle.pure_theorem.specs.Shapes.{IsTyped}
 use Rattle.pure_unify_definitions.specs.LongSides as sides
 use Rattle.pure_unify_nodes.specs.SideAnswer.{AreSidesTyped}
+use Rattle.pure_unify.specs.declared.unifier.Unifier.{Unifier}
 use Rattle.pure_unify.specs.declared.fault.UnifyFault.{UnifyFault}
 use Rattle.pure_unify.specs.declared.fault.UnifyFault.TheVariants as unify
 use Rattle.pure_goal_steps.specs.State.{State, IsTheoremOf}
@@ -30,6 +33,10 @@ IsComeAnswer As (Err Big) = Come As (Halted sides.Big)
 IsComeAnswer As (Err Memory) = Unit {0}
 IsComeAnswer As (Err fault) = ⊥
 
+-- The same for terms behind others whose instances by a map come to these long forms.
+abbrev pub IsComeBehind : (f : Term → Term) → (front others : List Term) → Result (List Term) StepFault → Type 0
+IsComeBehind f front others result = (As : List Term) → Come (map f As) (AllLong front) → IsComeAnswer (map f (As ++ others)) result
+
 -- the fault of a step that the unifier's is
 abbrev pub step_fault : UnifyFault → StepFault
 step_fault unify.NoUnifier = NoUnifier
@@ -38,14 +45,22 @@ step_fault unify.Steps = Steps
 step_fault unify.Big = Big
 step_fault unify.Memory = Memory
 
--- The goal's theorem has a first subgoal, and each of the others is typed.
+-- The goal's theorem has a first subgoal, and each of the others is in long form.
 pub record HasFirst (goal : Theorem) : Type 0 where
   pub state : State
   pub is : IsTheoremOf state goal
   pub first : Term
   pub others : List Term
   pub stand : state.subgoals ≡ first ∷ others
-  pub typed : Each IsTyped others
+  pub long : Each (λ A. IsLongForm A A) others
+
+-- The state's subgoals are the instances of the new ones by the unifier, and before the statement others in long form, which are the rest of a goal; its pairs are those that the unifier left.
+pub record IsBefore (u : Unifier) (premises : List Term) (rest : Term) (made : State) : Type 0 where
+  pub others : List Term
+  pub subgoals : made.subgoals ≡ map (instantiated u.typs u.terms) premises ++ others
+  pub long : Each (λ A. IsLongForm A A) others
+  pub stand : rest ≡ chain others (protect made.statement)
+  pub pairs : made.pairs ≡ u.flexflex.items
 
 -- The attempt may be made on the goal: what is unified is typed, and so are the new subgoals.
 pub record MayAttempt (goal : Theorem) (a : Attempt) : Type 0 where

@@ -14,12 +14,13 @@ ghost use Rattle.pure_goal_steps.specs.Follows as follows;
 ghost use Rattle.pure_goal_rules.specs.Attempts.{seen_attempt};
 ghost use Rattle.pure_resolve.specs.Goals.{IsConcluded, IsOutcome};
 ghost use Rattle.pure_resolve.specs.Settled as settling;
-ghost use Rattle.pure_resolve.specs.Settled.{HasFirst, MayAttempt};
+ghost use Rattle.pure_resolve.specs.Settled.{HasFirst, MayAttempt, IsBefore};
 
 use crate::close::concluded;
 use crate::open::put_premises;
-use crate::settle::{all_settled, instance_of};
+use crate::settle::{all_settled, both_settled, instance_of};
 use crate::state::Goal;
+use crate::stay::stays;
 use pure_goal_rules::Attempt;
 use pure_goal_steps::StepFault;
 use pure_inst::Ordered;
@@ -86,6 +87,69 @@ fn with_statement<B: Ordered>(
 }
 
 /// The goal with the new subgoals in place of the first, and the unifier put into all.
+fn with_instances<B: Ordered>(
+    alloc: Global,
+    thy: &B,
+    goal: &Thm,
+    premises: Vec<Term>,
+    unifier: Unifier,
+    rests: Vec<Label>,
+) -> Result<Goal, StepFault>
+    requires goal { HasFirst goal.now }
+    requires typed { Each IsTyped premises.items }
+    requires left { Each IsLeftOver unifier.flexflex.items }
+    requires set { IsLabelSet rests.items }
+    ensures { (s : State) → (first : tree.Term) → (others : List tree.Term) → (a : follows.Attempt) → IsTheoremOf s goal.now → s.subgoals ≡ first ∷ others → a.premises ≡ premises.items → IsOutcome (follows.Becomes (follows.with_unifier s others a (seen unifier))) (λ all. all ≡ rests.items) result }
+{
+    let Some((_, rest)) = as_implication(&goal.prop) else {
+        unreachable!();
+    };
+    let mut others = Vec::new(alloc);
+    let marked = put_premises(alloc, rest, &mut others)?;
+    match both_settled(alloc, thy, &unifier.typs, &unifier.terms, &premises, others) {
+        Ok(subgoals) => with_statement(alloc, thy, unifier, subgoals, &marked, rests),
+        Err(fault) => Err(fault),
+    }
+}
+
+/// The goal of these subgoals before the rest of the old goal as it stands, with the pairs that the unifier left.
+fn with_rest(
+    alloc: Global,
+    unifier: Unifier,
+    subgoals: Vec<Term>,
+    rest: &Term,
+    rests: Vec<Label>,
+) -> Result<Goal, StepFault>
+    requires left { Each IsLeftOver unifier.flexflex.items }
+    requires set { IsLabelSet rests.items }
+    ensures { IsConcluded unifier.flexflex.items (chain subgoals.items rest.now) rests.items result }
+{
+    let Unifier { flexflex, .. } = unifier;
+    let rest = rest.copy(alloc)?;
+    concluded(alloc, subgoals, rest, flexflex, rests)
+}
+
+/// The goal with the new subgoals, and the unifier put into them, before the rest of the old goal as it stands.
+fn before_rest<B: Ordered>(
+    alloc: Global,
+    thy: &B,
+    premises: Vec<Term>,
+    rest: &Term,
+    unifier: Unifier,
+    rests: Vec<Label>,
+) -> Result<Goal, StepFault>
+    requires typed { Each IsTyped premises.items }
+    requires left { Each IsLeftOver unifier.flexflex.items }
+    requires set { IsLabelSet rests.items }
+    ensures { (made : State) → IsBefore unifier premises.items rest.now made → IsOutcome (follows.Becomes made) (λ all. all ≡ rests.items) result }
+{
+    match all_settled(alloc, thy, &unifier.typs, &unifier.terms, &premises) {
+        Ok(subgoals) => with_rest(alloc, unifier, subgoals, rest, rests),
+        Err(fault) => Err(fault),
+    }
+}
+
+/// The goal with the new subgoals in place of the first, and the unifier put into all. What it leaves as it is behind the first subgoal is in long form and stays as it stands.
 fn with_unifier<B: Ordered>(
     alloc: Global,
     thy: &B,
@@ -103,12 +167,10 @@ fn with_unifier<B: Ordered>(
     let Some((_, rest)) = as_implication(&goal.prop) else {
         unreachable!();
     };
-    let mut subgoals = premises;
-    let marked = put_premises(alloc, rest, &mut subgoals)?;
-    match all_settled(alloc, thy, &unifier.typs, &unifier.terms, &subgoals) {
-        Ok(subgoals) => with_statement(alloc, thy, unifier, subgoals, &marked, rests),
-        Err(fault) => Err(fault),
+    if stays(&unifier.typs, &unifier.terms, rest) {
+        return before_rest(alloc, thy, premises, rest, unifier, rests);
     }
+    with_instances(alloc, thy, goal, premises, unifier, rests)
 }
 
 /// What follows from the attempt on the goal.

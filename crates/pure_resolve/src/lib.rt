@@ -14,6 +14,7 @@ mod reorder;
 mod resolve;
 mod settle;
 mod state;
+mod stay;
 mod trial;
 
 pub use begin::start;

@@ -1,18 +1,21 @@
 //! Terms under a unifier, in long form.
-ghost use Rattle.std.specs.Prelude.{◌≡◌, [], ◌∷◌, ◌++◌, map, OnOk, IfOk, IfErr, Ok, Err};
+ghost use Rattle.std.specs.Prelude.{◌≡◌, [], ◌∷◌, ◌++◌, map, OnOk, IfOk, IfErr, IsTrue, Ok, Err};
 ghost use Rattle.pure_text.specs.Lists.{Each};
 ghost use Rattle.pure_definitions.specs.Declarations.Decl.{algebra_of};
+ghost use Rattle.pure_definitions.specs.Reduction.Eta.{IsLongForm};
 ghost use Rattle.pure_logic.specs.Laws.Maps.{instantiated};
 ghost use Rattle.pure_inst.specs.Image.{IsMapAnswer};
 ghost use Rattle.pure_inst.specs.Instance.{GivesInstance, RefusesInstance};
 ghost use Rattle.pure_theorem.specs.Shapes.{IsTyped};
+ghost use Rattle.pure_unify_definitions.specs.LongSides.{Long, ComesTo};
 ghost use Rattle.pure_resolve.specs.Goals.{IsLongSubgoal};
-ghost use Rattle.pure_resolve.specs.Settled.{IsInstanceAnswer, IsComeAnswer};
+ghost use Rattle.pure_resolve.specs.Settled.{IsInstanceAnswer, IsComeAnswer, IsComeBehind};
 
 use crate::begin::long_subgoal;
+use crate::stay::stays;
 use pure_goal_steps::StepFault;
 use pure_inst::{InstFault, Ordered, instantiate};
-use pure_term::{Term, TermMap, TypMap};
+use pure_term::{Term, TermMap, TypMap, is_within};
 use pure_theorem::Thm;
 use std::alloc::{AllocError, Global};
 
@@ -121,4 +124,76 @@ pub fn all_settled<B: Ordered>(
         }
     }
     Ok(made)
+}
+
+/// Whether the maps leave the term, which is in long form, as it is, so that it is the long form of its instance.
+fn is_kept(typs: &TypMap, terms: &TermMap, t: &Term) -> bool
+    requires { IsLongForm t.now t.now }
+    ensures { IsTrue result → ComesTo (instantiated typs.now terms.now t.now) (Long t.now) }
+{
+    if !stays(typs, terms, t) {
+        return false;
+    }
+    is_within(t)
+}
+
+/// The instance of the term, which is in long form, by the unifier's maps, in long form. It is made anew only where a variable in it is set.
+fn kept_or_settled<B: Ordered>(
+    alloc: Global,
+    thy: &B,
+    typs: &TypMap,
+    terms: &TermMap,
+    t: Term,
+) -> Result<Term, StepFault>
+    requires { IsLongForm t t }
+    ensures { IsLongSubgoal (instantiated typs.now terms.now t) result }
+{
+    if is_kept(typs, terms, &t) {
+        return Ok(t);
+    }
+    let answer = settled(alloc, thy, typs, terms, &t);
+    answer
+}
+
+/// Behind terms in long form, those of the instances of the others by the unifier's maps, in order. The others are in long form.
+fn others_settled<B: Ordered>(
+    alloc: Global,
+    thy: &B,
+    typs: &TypMap,
+    terms: &TermMap,
+    front: Vec<Term>,
+    others: Vec<Term>,
+) -> Result<Vec<Term>, StepFault>
+    requires { Each (λ A. IsLongForm A A) others.items }
+    ensures long { IfOk result (λ made. IsComeBehind (instantiated typs.now terms.now) front.items others.items (Ok made.items)) }
+    ensures fault { IfErr result (λ fault. IsComeBehind (instantiated typs.now terms.now) front.items others.items (Err fault)) }
+{
+    let mut made = front;
+    for other in others {
+        match kept_or_settled(alloc, thy, typs, terms, other) {
+            Ok(long) => put(&mut made, long)?,
+            Err(fault) => return Err(fault),
+        }
+    }
+    Ok(made)
+}
+
+/// The instances of the new subgoals and of the others, which are in long form, by the unifier's maps, each in long form, in order.
+pub fn both_settled<B: Ordered>(
+    alloc: Global,
+    thy: &B,
+    typs: &TypMap,
+    terms: &TermMap,
+    premises: &[Term],
+    others: Vec<Term>,
+) -> Result<Vec<Term>, StepFault>
+    requires typed { Each IsTyped premises.now }
+    requires long { Each (λ A. IsLongForm A A) others.items }
+    ensures long { IfOk result (λ made. IsComeAnswer (map (instantiated typs.now terms.now) (premises.now ++ others.items)) (Ok made.items)) }
+    ensures fault { IfErr result (λ fault. IsComeAnswer (map (instantiated typs.now terms.now) (premises.now ++ others.items)) (Err fault)) }
+{
+    match all_settled(alloc, thy, typs, terms, premises) {
+        Ok(front) => others_settled(alloc, thy, typs, terms, front, others),
+        Err(fault) => Err(fault),
+    }
 }
