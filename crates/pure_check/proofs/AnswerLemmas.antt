@@ -1,5 +1,5 @@
 -- From the table of a session to what the files and the words mean, and what was written of it.
-use Rattle.std.proofs.Common.{◌≡◌, ℕ, Bool, List, map, refl, sym, ◌∙◌, ap, subst, Option, Some}
+use Rattle.std.proofs.Common.{◌≡◌, ◌≢◌, ℕ, Bool, List, map, refl, sym, ◌∙◌, ap, subst, Option, Some}
 use Rattle.std.specs.Option.{IfSome}
 use Rattle.pure_io.specs.declared.library.File as library
 use Rattle.pure_io.specs.Outside.{Appends, AppendsProperPrefix}
@@ -34,7 +34,7 @@ use Rattle.pure_check.specs.declared.formed.Extent.{Extent}
 use Rattle.pure_check.specs.Asked.{asked_of}
 use Rattle.pure_check.specs.Meaning.{IsToldSession, files_for, text_for, IsMeant}
 use Rattle.pure_check.specs.Formed.{IsFormed, IsTextOf, IsPrintedOf, IsDone, extent_text, extent_for}
-use Rattle.pure_check.specs.Answer.{Printed, CutShort, Wrote}
+use Rattle.pure_check.specs.Answer.{Printed, CutShort, Wrote, IsComplete}
 
 -- a meaning of a session, its table and the text that is written
 abbrev Means : Type 1
@@ -132,6 +132,15 @@ meant told words job is run S t text done = record {
   run_of = done.checked.run_of;
   text_is = done.checked.text_is;
 }
+
+-- Where no fault is to blame, the work was done to its end, or memory ran out.
+pub complete-by : (status : Status) (IsAsked ReadRose WriteRose : Type 0) → status ≢ Usage → (status ≡ ReadFault → ReadRose) → (status ≡ WriteFault → WriteRose) → (¬ IsAsked → status ≢ ReadFault) → (IsAsked → ¬ ReadRose) → ¬ WriteRose → IsComplete status
+complete-by Clean IsAsked ReadRose WriteRose usage read_fault write_fault unread read written = tt
+complete-by Rows IsAsked ReadRose WriteRose usage read_fault write_fault unread read written = tt
+complete-by Usage IsAsked ReadRose WriteRose usage read_fault write_fault unread read written = usage refl
+complete-by ReadFault IsAsked ReadRose WriteRose usage read_fault write_fault unread read written = unread (λ asked. read asked (read_fault refl)) refl
+complete-by WriteFault IsAsked ReadRose WriteRose usage read_fault write_fault unread read written = written (write_fault refl)
+complete-by Memory IsAsked ReadRose WriteRose usage read_fault write_fault unread read written = tt
 
 -- what was loaded of a library, as a session
 abbrev pub session_of : {told : Option (List library.File)} {theories : List Loaded} {refused : List Shown} {files : ℕ} → (texts : List (List ℕ)) → AreTheoriesOf told theories refused files → Session

@@ -1,3 +1,4 @@
 pub mod AnswerLemmas
 pub mod FormedLemmas
+pub mod JobLaws
 pub mod WordsLaws

@@ -2,8 +2,8 @@ use Rattle.std.proofs.Common.{refl}
 use Rattle.pure_check.proofs.AnswerLemmas.{Wrote-weaker, done_by, told_session, loaded_session, session_of}
 use Rattle.pure_check.proofs.checked.check.Goals as goal
 
-pub print-requires-after_bounds-clause-loaded : goal.print-requires-after_bounds-clause-loaded
-print-requires-after_bounds-clause-loaded g c κs within = loaded_session _ _ _ _ _ c.in-Ok.ensures.told c.in-Ok.ensures.named c.are_session_texts.ensures
+pub print-requires-clause-loaded : goal.print-requires-clause-loaded
+print-requires-clause-loaded g c κs within = loaded_session _ _ _ _ _ c.in-Ok.ensures.told c.in-Ok.ensures.named c.are_session_texts.ensures
 
 pub returns-in-Ok-clause-wrote : goal.returns-in-Ok-clause-wrote
 returns-in-Ok-clause-wrote g c =
