@@ -1,5 +1,5 @@
 mod EntryLaws
 mod HeldLaws
-mod SeatedLaws
-mod TakenLaws
-mod TurnLaws
+pub mod SeatedLaws
+pub mod TakenLaws
+pub mod TurnLaws

@@ -1,0 +1,2 @@
+mod SeatsLaws
+mod HandLaws
