@@ -1,6 +1,6 @@
 -- What is in hand, before and after a call.
 use Rattle.std.proofs.Common.{◌≡◌, ◌∙◌, ℕ, List, map, refl, sym, ap, subst, Bool}
-use Rattle.pure_machine.specs.State.{Fork, CloseTheory, Deliver}
+use Rattle.pure_machine.specs.State.{CloseTheory}
 use Rattle.pure_machine.specs.Step.{IsOut, stops}
 use Rattle.pure_machine.specs.declared.answers.Task.TheVariants as task_code
 use Rattle.pure_seats.specs.Seats.{HasTheory}
