@@ -1,4 +1,4 @@
-(* Each reason for which a command is refused, but for a quoted text that is too long. *)
+(* Each reason for which a command is refused, but for that of Long. *)
 theory Commands begin
 
 class c

@@ -2,7 +2,7 @@
 use crate::examples::Folder;
 use pure_check::Status;
 
-/// Each reason of refusal and each fault of a proof that a short text can show.
+/// Each reason of refusal and each fault of a proof that a folder of a few files can show.
 pub(crate) const FAILING: Folder = Folder {
     files: &[
         (
@@ -33,7 +33,7 @@ end
         ),
         (
             b"Commands.thy",
-            br#"(* Each reason for which a command is refused, but for a quoted text that is too long. *)
+            br#"(* Each reason for which a command is refused, but for that of Long. *)
 theory Commands begin
 
 class c
@@ -76,6 +76,40 @@ end
 ",
         ),
         (
+            b"Large.thy",
+            b"(* More than 512 commands. *)
+theory Large begin
+class c class c class c class c class c class c class c class c class c class c class c class c class c class c class c class c class c class c class c
+class c class c class c class c class c class c class c class c class c class c class c class c class c class c class c class c class c class c class c
+class c class c class c class c class c class c class c class c class c class c class c class c class c class c class c class c class c class c class c
+class c class c class c class c class c class c class c class c class c class c class c class c class c class c class c class c class c class c class c
+class c class c class c class c class c class c class c class c class c class c class c class c class c class c class c class c class c class c class c
+class c class c class c class c class c class c class c class c class c class c class c class c class c class c class c class c class c class c class c
+class c class c class c class c class c class c class c class c class c class c class c class c class c class c class c class c class c class c class c
+class c class c class c class c class c class c class c class c class c class c class c class c class c class c class c class c class c class c class c
+class c class c class c class c class c class c class c class c class c class c class c class c class c class c class c class c class c class c class c
+class c class c class c class c class c class c class c class c class c class c class c class c class c class c class c class c class c class c class c
+class c class c class c class c class c class c class c class c class c class c class c class c class c class c class c class c class c class c class c
+class c class c class c class c class c class c class c class c class c class c class c class c class c class c class c class c class c class c class c
+class c class c class c class c class c class c class c class c class c class c class c class c class c class c class c class c class c class c class c
+class c class c class c class c class c class c class c class c class c class c class c class c class c class c class c class c class c class c class c
+class c class c class c class c class c class c class c class c class c class c class c class c class c class c class c class c class c class c class c
+class c class c class c class c class c class c class c class c class c class c class c class c class c class c class c class c class c class c class c
+class c class c class c class c class c class c class c class c class c class c class c class c class c class c class c class c class c class c class c
+class c class c class c class c class c class c class c class c class c class c class c class c class c class c class c class c class c class c class c
+class c class c class c class c class c class c class c class c class c class c class c class c class c class c class c class c class c class c class c
+class c class c class c class c class c class c class c class c class c class c class c class c class c class c class c class c class c class c class c
+class c class c class c class c class c class c class c class c class c class c class c class c class c class c class c class c class c class c class c
+class c class c class c class c class c class c class c class c class c class c class c class c class c class c class c class c class c class c class c
+class c class c class c class c class c class c class c class c class c class c class c class c class c class c class c class c class c class c class c
+class c class c class c class c class c class c class c class c class c class c class c class c class c class c class c class c class c class c class c
+class c class c class c class c class c class c class c class c class c class c class c class c class c class c class c class c class c class c class c
+class c class c class c class c class c class c class c class c class c class c class c class c class c class c class c class c class c class c class c
+class c class c class c class c class c class c class c class c class c class c class c class c class c class c class c class c class c class c class c
+end
+",
+        ),
+        (
             b"Later.thy",
             br#"(* What rests on the failed lemma of another theory. *)
 theory Later imports Start begin
@@ -84,6 +118,40 @@ lemma so_cold: "Cold" by (rule is_cold)
 lemma in_both: "Cold" by (rule if_rain, rule rains)
 lemma unread: "Wet ==> Cold" by (rule chill)
 
+end
+"#,
+        ),
+        (
+            b"Long.thy",
+            br#"(* A quoted text of more than 1,000 tokens. *)
+theory Long begin
+lemma long: "
+  A ==> A ==> A ==> A ==> A ==> A ==> A ==> A ==> A ==> A ==> A ==> A ==> A ==> A ==> A ==> A ==> A ==> A ==> A ==> A ==>
+  A ==> A ==> A ==> A ==> A ==> A ==> A ==> A ==> A ==> A ==> A ==> A ==> A ==> A ==> A ==> A ==> A ==> A ==> A ==> A ==>
+  A ==> A ==> A ==> A ==> A ==> A ==> A ==> A ==> A ==> A ==> A ==> A ==> A ==> A ==> A ==> A ==> A ==> A ==> A ==> A ==>
+  A ==> A ==> A ==> A ==> A ==> A ==> A ==> A ==> A ==> A ==> A ==> A ==> A ==> A ==> A ==> A ==> A ==> A ==> A ==> A ==>
+  A ==> A ==> A ==> A ==> A ==> A ==> A ==> A ==> A ==> A ==> A ==> A ==> A ==> A ==> A ==> A ==> A ==> A ==> A ==> A ==>
+  A ==> A ==> A ==> A ==> A ==> A ==> A ==> A ==> A ==> A ==> A ==> A ==> A ==> A ==> A ==> A ==> A ==> A ==> A ==> A ==>
+  A ==> A ==> A ==> A ==> A ==> A ==> A ==> A ==> A ==> A ==> A ==> A ==> A ==> A ==> A ==> A ==> A ==> A ==> A ==> A ==>
+  A ==> A ==> A ==> A ==> A ==> A ==> A ==> A ==> A ==> A ==> A ==> A ==> A ==> A ==> A ==> A ==> A ==> A ==> A ==> A ==>
+  A ==> A ==> A ==> A ==> A ==> A ==> A ==> A ==> A ==> A ==> A ==> A ==> A ==> A ==> A ==> A ==> A ==> A ==> A ==> A ==>
+  A ==> A ==> A ==> A ==> A ==> A ==> A ==> A ==> A ==> A ==> A ==> A ==> A ==> A ==> A ==> A ==> A ==> A ==> A ==> A ==>
+  A ==> A ==> A ==> A ==> A ==> A ==> A ==> A ==> A ==> A ==> A ==> A ==> A ==> A ==> A ==> A ==> A ==> A ==> A ==> A ==>
+  A ==> A ==> A ==> A ==> A ==> A ==> A ==> A ==> A ==> A ==> A ==> A ==> A ==> A ==> A ==> A ==> A ==> A ==> A ==> A ==>
+  A ==> A ==> A ==> A ==> A ==> A ==> A ==> A ==> A ==> A ==> A ==> A ==> A ==> A ==> A ==> A ==> A ==> A ==> A ==> A ==>
+  A ==> A ==> A ==> A ==> A ==> A ==> A ==> A ==> A ==> A ==> A ==> A ==> A ==> A ==> A ==> A ==> A ==> A ==> A ==> A ==>
+  A ==> A ==> A ==> A ==> A ==> A ==> A ==> A ==> A ==> A ==> A ==> A ==> A ==> A ==> A ==> A ==> A ==> A ==> A ==> A ==>
+  A ==> A ==> A ==> A ==> A ==> A ==> A ==> A ==> A ==> A ==> A ==> A ==> A ==> A ==> A ==> A ==> A ==> A ==> A ==> A ==>
+  A ==> A ==> A ==> A ==> A ==> A ==> A ==> A ==> A ==> A ==> A ==> A ==> A ==> A ==> A ==> A ==> A ==> A ==> A ==> A ==>
+  A ==> A ==> A ==> A ==> A ==> A ==> A ==> A ==> A ==> A ==> A ==> A ==> A ==> A ==> A ==> A ==> A ==> A ==> A ==> A ==>
+  A ==> A ==> A ==> A ==> A ==> A ==> A ==> A ==> A ==> A ==> A ==> A ==> A ==> A ==> A ==> A ==> A ==> A ==> A ==> A ==>
+  A ==> A ==> A ==> A ==> A ==> A ==> A ==> A ==> A ==> A ==> A ==> A ==> A ==> A ==> A ==> A ==> A ==> A ==> A ==> A ==>
+  A ==> A ==> A ==> A ==> A ==> A ==> A ==> A ==> A ==> A ==> A ==> A ==> A ==> A ==> A ==> A ==> A ==> A ==> A ==> A ==>
+  A ==> A ==> A ==> A ==> A ==> A ==> A ==> A ==> A ==> A ==> A ==> A ==> A ==> A ==> A ==> A ==> A ==> A ==> A ==> A ==>
+  A ==> A ==> A ==> A ==> A ==> A ==> A ==> A ==> A ==> A ==> A ==> A ==> A ==> A ==> A ==> A ==> A ==> A ==> A ==> A ==>
+  A ==> A ==> A ==> A ==> A ==> A ==> A ==> A ==> A ==> A ==> A ==> A ==> A ==> A ==> A ==> A ==> A ==> A ==> A ==> A ==>
+  A ==> A ==> A ==> A ==> A ==> A ==> A ==> A ==> A ==> A ==> A ==> A ==> A ==> A ==> A ==> A ==> A ==> A ==> A ==> A ==>
+  A" by assumption
 end
 "#,
         ),
@@ -222,6 +290,7 @@ refused axiom Commands.n: too large
 refused definition Commands.b: not a definition
 refused definition Commands.b: not closed
 refused definition Commands.b: extra type variable
+refused lemma Long.long: too long
 declared class Points.c
 declared class Points.d
 declared class Points.e
@@ -274,10 +343,11 @@ refused theory Both: not coregular Points.k Points.e Points.e
 refused theory Beyond: parent refused Both
 refused theory About: cyclic imports
 refused theory Broken: syntax at 4:1
+refused theory Large: too large
 refused theory Lost: no file Nowhere
 refused theory Misnamed: header name
 refused theory Orphan: parent refused Lost
 refused theory Round: cyclic imports
-total: 15 theories, 34 declared, 26 refused, 1 proved, 14 failed, 4 tainted, 0 cancelled, 0 unsettled
+total: 17 theories, 34 declared, 28 refused, 1 proved, 14 failed, 4 tainted, 0 cancelled, 0 unsettled
 ",
 };

@@ -161,3 +161,33 @@ fn gives_each_file_its_row(rt: HostRuntime) -> Result<(), Fail> {
     expect(&rt, &answer, Status::Rows, &wanted);
     Ok(())
 }
+
+/// Adds the file with the number of the folder examples/crowded: a theory without commands.
+fn add_empty(alloc: Global, world: &mut World, number: usize) -> Result<(), AllocError> {
+    let mut name = Vec::new(alloc);
+    push_name(alloc, &mut name, number)?;
+    let mut text = Vec::from_slice(alloc, b"theory ")?;
+    text.extend_from_slice(&name)?;
+    text.extend_from_slice(b" begin end\n")?;
+    name.extend_from_slice(b".thy")?;
+    add_file(alloc, world, &name, &text)
+}
+
+/// Adds all files of that folder.
+fn fill_crowded(alloc: Global, world: &mut World) -> Result<(), AllocError> {
+    for number in 0..257 {
+        add_empty(alloc, world, number)?;
+    }
+    Ok(())
+}
+
+#[test]
+fn refuses_one_file_too_many(rt: HostRuntime) -> Result<(), Fail> {
+    let mut world = empty_world(rt.alloc());
+    fill_crowded(rt.alloc(), &mut world)?;
+    let answer = run(&rt, rt.alloc(), world)?;
+    let wanted =
+        b"refused theory T256: too many files\ntotal: 257 theories, 0 declared, 1 refused, 0 proved, 0 failed, 0 tainted, 0 cancelled, 0 unsettled\n";
+    expect(&rt, &answer, Status::Rows, wanted);
+    Ok(())
+}

@@ -1,0 +1,1 @@
+theory T000 begin end

@@ -1,0 +1,1 @@
+theory T001 begin end

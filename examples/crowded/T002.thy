@@ -1,0 +1,1 @@
+theory T002 begin end

@@ -1,0 +1,1 @@
+theory T003 begin end

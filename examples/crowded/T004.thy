@@ -1,0 +1,1 @@
+theory T004 begin end

@@ -1,0 +1,1 @@
+theory T005 begin end

@@ -1,0 +1,1 @@
+theory T006 begin end

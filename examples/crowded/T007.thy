@@ -1,0 +1,1 @@
+theory T007 begin end

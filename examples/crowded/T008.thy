@@ -1,0 +1,1 @@
+theory T008 begin end

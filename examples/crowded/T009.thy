@@ -1,0 +1,1 @@
+theory T009 begin end

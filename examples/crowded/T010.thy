@@ -1,0 +1,1 @@
+theory T010 begin end

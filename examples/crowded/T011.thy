@@ -1,0 +1,1 @@
+theory T011 begin end

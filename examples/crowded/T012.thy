@@ -1,0 +1,1 @@
+theory T012 begin end

@@ -1,0 +1,1 @@
+theory T013 begin end

@@ -1,0 +1,1 @@
+theory T014 begin end

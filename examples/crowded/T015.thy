@@ -1,0 +1,1 @@
+theory T015 begin end

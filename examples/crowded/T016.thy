@@ -1,0 +1,1 @@
+theory T016 begin end

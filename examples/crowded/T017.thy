@@ -1,0 +1,1 @@
+theory T017 begin end

@@ -1,0 +1,1 @@
+theory T018 begin end

@@ -1,0 +1,1 @@
+theory T019 begin end

@@ -1,0 +1,1 @@
+theory T020 begin end

@@ -1,0 +1,1 @@
+theory T021 begin end

@@ -1,0 +1,1 @@
+theory T022 begin end

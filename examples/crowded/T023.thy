@@ -1,0 +1,1 @@
+theory T023 begin end

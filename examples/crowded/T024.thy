@@ -1,0 +1,1 @@
+theory T024 begin end

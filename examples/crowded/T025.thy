@@ -1,0 +1,1 @@
+theory T025 begin end

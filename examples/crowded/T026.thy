@@ -1,0 +1,1 @@
+theory T026 begin end

@@ -1,0 +1,1 @@
+theory T027 begin end

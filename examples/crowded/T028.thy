@@ -1,0 +1,1 @@
+theory T028 begin end

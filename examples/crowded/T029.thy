@@ -1,0 +1,1 @@
+theory T029 begin end

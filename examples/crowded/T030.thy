@@ -1,0 +1,1 @@
+theory T030 begin end

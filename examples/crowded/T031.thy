@@ -1,0 +1,1 @@
+theory T031 begin end

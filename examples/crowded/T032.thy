@@ -1,0 +1,1 @@
+theory T032 begin end

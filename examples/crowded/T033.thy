@@ -1,0 +1,1 @@
+theory T033 begin end

@@ -1,0 +1,1 @@
+theory T034 begin end

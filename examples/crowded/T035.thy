@@ -1,0 +1,1 @@
+theory T035 begin end

@@ -1,0 +1,1 @@
+theory T036 begin end

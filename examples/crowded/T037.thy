@@ -1,0 +1,1 @@
+theory T037 begin end

@@ -1,0 +1,1 @@
+theory T038 begin end

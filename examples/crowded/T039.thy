@@ -1,0 +1,1 @@
+theory T039 begin end

@@ -1,0 +1,1 @@
+theory T040 begin end

@@ -1,0 +1,1 @@
+theory T041 begin end

@@ -1,0 +1,1 @@
+theory T042 begin end

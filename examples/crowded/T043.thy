@@ -1,0 +1,1 @@
+theory T043 begin end

@@ -1,0 +1,1 @@
+theory T044 begin end

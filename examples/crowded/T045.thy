@@ -1,0 +1,1 @@
+theory T045 begin end

@@ -1,0 +1,1 @@
+theory T046 begin end

@@ -1,0 +1,1 @@
+theory T047 begin end

@@ -1,0 +1,1 @@
+theory T048 begin end

@@ -1,0 +1,1 @@
+theory T049 begin end

@@ -1,0 +1,1 @@
+theory T050 begin end

@@ -1,0 +1,1 @@
+theory T051 begin end

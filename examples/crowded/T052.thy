@@ -1,0 +1,1 @@
+theory T052 begin end

@@ -1,0 +1,1 @@
+theory T053 begin end

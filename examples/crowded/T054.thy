@@ -1,0 +1,1 @@
+theory T054 begin end

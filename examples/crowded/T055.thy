@@ -1,0 +1,1 @@
+theory T055 begin end

@@ -1,0 +1,1 @@
+theory T056 begin end

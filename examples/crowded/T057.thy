@@ -1,0 +1,1 @@
+theory T057 begin end

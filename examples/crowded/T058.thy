@@ -1,0 +1,1 @@
+theory T058 begin end

@@ -1,0 +1,1 @@
+theory T059 begin end

@@ -1,0 +1,1 @@
+theory T060 begin end

@@ -1,0 +1,1 @@
+theory T061 begin end

@@ -1,0 +1,1 @@
+theory T062 begin end

@@ -1,0 +1,1 @@
+theory T063 begin end

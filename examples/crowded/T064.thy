@@ -1,0 +1,1 @@
+theory T064 begin end

@@ -1,0 +1,1 @@
+theory T065 begin end

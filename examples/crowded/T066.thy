@@ -1,0 +1,1 @@
+theory T066 begin end

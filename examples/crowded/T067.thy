@@ -1,0 +1,1 @@
+theory T067 begin end

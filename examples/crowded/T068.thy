@@ -1,0 +1,1 @@
+theory T068 begin end

@@ -1,0 +1,1 @@
+theory T069 begin end

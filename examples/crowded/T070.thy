@@ -1,0 +1,1 @@
+theory T070 begin end

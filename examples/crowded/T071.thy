@@ -1,0 +1,1 @@
+theory T071 begin end

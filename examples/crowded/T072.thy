@@ -1,0 +1,1 @@
+theory T072 begin end

@@ -1,0 +1,1 @@
+theory T073 begin end

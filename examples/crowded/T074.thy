@@ -1,0 +1,1 @@
+theory T074 begin end

@@ -1,0 +1,1 @@
+theory T075 begin end

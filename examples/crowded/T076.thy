@@ -1,0 +1,1 @@
+theory T076 begin end

@@ -1,0 +1,1 @@
+theory T077 begin end

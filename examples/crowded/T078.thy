@@ -1,0 +1,1 @@
+theory T078 begin end

@@ -1,0 +1,1 @@
+theory T079 begin end

@@ -1,0 +1,1 @@
+theory T080 begin end

@@ -1,0 +1,1 @@
+theory T081 begin end

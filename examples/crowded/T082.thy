@@ -1,0 +1,1 @@
+theory T082 begin end

@@ -1,0 +1,1 @@
+theory T083 begin end

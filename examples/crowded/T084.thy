@@ -1,0 +1,1 @@
+theory T084 begin end

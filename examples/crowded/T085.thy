@@ -1,0 +1,1 @@
+theory T085 begin end

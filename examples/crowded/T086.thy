@@ -1,0 +1,1 @@
+theory T086 begin end

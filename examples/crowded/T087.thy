@@ -1,0 +1,1 @@
+theory T087 begin end

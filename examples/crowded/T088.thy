@@ -1,0 +1,1 @@
+theory T088 begin end

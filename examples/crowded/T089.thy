@@ -1,0 +1,1 @@
+theory T089 begin end

@@ -1,0 +1,1 @@
+theory T090 begin end

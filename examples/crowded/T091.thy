@@ -1,0 +1,1 @@
+theory T091 begin end

@@ -1,0 +1,1 @@
+theory T092 begin end

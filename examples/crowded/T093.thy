@@ -1,0 +1,1 @@
+theory T093 begin end

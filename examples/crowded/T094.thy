@@ -1,0 +1,1 @@
+theory T094 begin end

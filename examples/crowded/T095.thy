@@ -1,0 +1,1 @@
+theory T095 begin end

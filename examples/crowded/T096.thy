@@ -1,0 +1,1 @@
+theory T096 begin end

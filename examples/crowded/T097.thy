@@ -1,0 +1,1 @@
+theory T097 begin end

@@ -1,0 +1,1 @@
+theory T098 begin end

@@ -1,0 +1,1 @@
+theory T099 begin end

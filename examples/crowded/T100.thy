@@ -1,0 +1,1 @@
+theory T100 begin end

@@ -1,0 +1,1 @@
+theory T101 begin end

@@ -1,0 +1,1 @@
+theory T102 begin end

@@ -1,0 +1,1 @@
+theory T103 begin end

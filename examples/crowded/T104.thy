@@ -1,0 +1,1 @@
+theory T104 begin end

@@ -1,0 +1,1 @@
+theory T105 begin end

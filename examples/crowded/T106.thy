@@ -1,0 +1,1 @@
+theory T106 begin end

@@ -1,0 +1,1 @@
+theory T107 begin end

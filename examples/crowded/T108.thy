@@ -1,0 +1,1 @@
+theory T108 begin end

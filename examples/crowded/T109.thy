@@ -1,0 +1,1 @@
+theory T109 begin end

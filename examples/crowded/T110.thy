@@ -1,0 +1,1 @@
+theory T110 begin end

@@ -1,0 +1,1 @@
+theory T111 begin end

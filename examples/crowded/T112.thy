@@ -1,0 +1,1 @@
+theory T112 begin end

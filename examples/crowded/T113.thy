@@ -1,0 +1,1 @@
+theory T113 begin end

@@ -1,0 +1,1 @@
+theory T114 begin end

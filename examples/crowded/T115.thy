@@ -1,0 +1,1 @@
+theory T115 begin end

@@ -1,0 +1,1 @@
+theory T116 begin end

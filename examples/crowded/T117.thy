@@ -1,0 +1,1 @@
+theory T117 begin end

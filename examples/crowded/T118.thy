@@ -1,0 +1,1 @@
+theory T118 begin end

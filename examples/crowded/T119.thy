@@ -1,0 +1,1 @@
+theory T119 begin end

@@ -1,0 +1,1 @@
+theory T120 begin end

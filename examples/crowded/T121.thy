@@ -1,0 +1,1 @@
+theory T121 begin end

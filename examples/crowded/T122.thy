@@ -1,0 +1,1 @@
+theory T122 begin end

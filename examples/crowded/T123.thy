@@ -1,0 +1,1 @@
+theory T123 begin end

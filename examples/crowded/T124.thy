@@ -1,0 +1,1 @@
+theory T124 begin end

@@ -1,0 +1,1 @@
+theory T125 begin end

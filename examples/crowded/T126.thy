@@ -1,0 +1,1 @@
+theory T126 begin end

@@ -1,0 +1,1 @@
+theory T127 begin end

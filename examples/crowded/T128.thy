@@ -1,0 +1,1 @@
+theory T128 begin end

@@ -1,0 +1,1 @@
+theory T129 begin end

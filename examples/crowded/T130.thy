@@ -1,0 +1,1 @@
+theory T130 begin end

@@ -1,0 +1,1 @@
+theory T131 begin end

@@ -1,0 +1,1 @@
+theory T132 begin end

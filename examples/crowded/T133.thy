@@ -1,0 +1,1 @@
+theory T133 begin end

@@ -1,0 +1,1 @@
+theory T134 begin end

@@ -1,0 +1,1 @@
+theory T135 begin end

@@ -1,0 +1,1 @@
+theory T136 begin end

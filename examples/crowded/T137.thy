@@ -1,0 +1,1 @@
+theory T137 begin end

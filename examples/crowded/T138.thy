@@ -1,0 +1,1 @@
+theory T138 begin end

@@ -1,0 +1,1 @@
+theory T139 begin end

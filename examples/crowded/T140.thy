@@ -1,0 +1,1 @@
+theory T140 begin end

@@ -1,0 +1,1 @@
+theory T141 begin end

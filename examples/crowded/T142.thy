@@ -1,0 +1,1 @@
+theory T142 begin end

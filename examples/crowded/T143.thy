@@ -1,0 +1,1 @@
+theory T143 begin end

@@ -1,0 +1,1 @@
+theory T144 begin end

@@ -1,0 +1,1 @@
+theory T145 begin end

@@ -1,0 +1,1 @@
+theory T146 begin end

@@ -1,0 +1,1 @@
+theory T147 begin end

@@ -1,0 +1,1 @@
+theory T148 begin end

@@ -1,0 +1,1 @@
+theory T149 begin end

@@ -1,0 +1,1 @@
+theory T150 begin end

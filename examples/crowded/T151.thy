@@ -1,0 +1,1 @@
+theory T151 begin end

@@ -1,0 +1,1 @@
+theory T152 begin end

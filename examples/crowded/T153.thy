@@ -1,0 +1,1 @@
+theory T153 begin end

@@ -1,0 +1,1 @@
+theory T154 begin end

@@ -1,0 +1,1 @@
+theory T155 begin end

@@ -1,0 +1,1 @@
+theory T156 begin end

@@ -1,0 +1,1 @@
+theory T157 begin end

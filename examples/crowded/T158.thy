@@ -1,0 +1,1 @@
+theory T158 begin end

@@ -1,0 +1,1 @@
+theory T159 begin end

@@ -1,0 +1,1 @@
+theory T160 begin end

@@ -1,0 +1,1 @@
+theory T161 begin end

@@ -1,0 +1,1 @@
+theory T162 begin end

@@ -1,0 +1,1 @@
+theory T163 begin end

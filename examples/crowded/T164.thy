@@ -1,0 +1,1 @@
+theory T164 begin end

@@ -1,0 +1,1 @@
+theory T165 begin end

@@ -1,0 +1,1 @@
+theory T166 begin end

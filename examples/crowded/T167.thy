@@ -1,0 +1,1 @@
+theory T167 begin end

@@ -1,0 +1,1 @@
+theory T168 begin end

@@ -1,0 +1,1 @@
+theory T169 begin end

@@ -1,0 +1,1 @@
+theory T170 begin end

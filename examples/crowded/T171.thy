@@ -1,0 +1,1 @@
+theory T171 begin end

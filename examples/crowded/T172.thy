@@ -1,0 +1,1 @@
+theory T172 begin end

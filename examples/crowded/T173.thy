@@ -1,0 +1,1 @@
+theory T173 begin end

@@ -1,0 +1,1 @@
+theory T174 begin end

@@ -1,0 +1,1 @@
+theory T175 begin end

@@ -1,0 +1,1 @@
+theory T176 begin end

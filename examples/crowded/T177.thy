@@ -1,0 +1,1 @@
+theory T177 begin end

@@ -1,0 +1,1 @@
+theory T178 begin end

@@ -1,0 +1,1 @@
+theory T179 begin end

@@ -1,0 +1,1 @@
+theory T180 begin end

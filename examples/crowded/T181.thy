@@ -1,0 +1,1 @@
+theory T181 begin end

@@ -1,0 +1,1 @@
+theory T182 begin end

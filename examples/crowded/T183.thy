@@ -1,0 +1,1 @@
+theory T183 begin end

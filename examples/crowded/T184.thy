@@ -1,0 +1,1 @@
+theory T184 begin end

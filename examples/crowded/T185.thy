@@ -1,0 +1,1 @@
+theory T185 begin end

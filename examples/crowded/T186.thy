@@ -1,0 +1,1 @@
+theory T186 begin end

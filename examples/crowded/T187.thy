@@ -1,0 +1,1 @@
+theory T187 begin end

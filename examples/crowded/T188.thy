@@ -1,0 +1,1 @@
+theory T188 begin end

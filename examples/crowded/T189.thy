@@ -1,0 +1,1 @@
+theory T189 begin end

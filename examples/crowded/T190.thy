@@ -1,0 +1,1 @@
+theory T190 begin end

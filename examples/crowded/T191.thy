@@ -1,0 +1,1 @@
+theory T191 begin end

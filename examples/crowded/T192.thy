@@ -1,0 +1,1 @@
+theory T192 begin end

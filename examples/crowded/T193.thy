@@ -1,0 +1,1 @@
+theory T193 begin end

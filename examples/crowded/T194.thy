@@ -1,0 +1,1 @@
+theory T194 begin end

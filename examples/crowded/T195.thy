@@ -1,0 +1,1 @@
+theory T195 begin end

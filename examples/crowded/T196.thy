@@ -1,0 +1,1 @@
+theory T196 begin end

@@ -1,0 +1,1 @@
+theory T197 begin end

@@ -1,0 +1,1 @@
+theory T198 begin end

@@ -1,0 +1,1 @@
+theory T199 begin end

@@ -1,0 +1,1 @@
+theory T200 begin end

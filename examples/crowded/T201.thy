@@ -1,0 +1,1 @@
+theory T201 begin end

@@ -1,0 +1,1 @@
+theory T202 begin end

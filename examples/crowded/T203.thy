@@ -1,0 +1,1 @@
+theory T203 begin end

@@ -1,0 +1,1 @@
+theory T204 begin end

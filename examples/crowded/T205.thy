@@ -1,0 +1,1 @@
+theory T205 begin end

@@ -1,0 +1,1 @@
+theory T206 begin end

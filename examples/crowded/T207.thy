@@ -1,0 +1,1 @@
+theory T207 begin end

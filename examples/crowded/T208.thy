@@ -1,0 +1,1 @@
+theory T208 begin end

@@ -1,0 +1,1 @@
+theory T209 begin end

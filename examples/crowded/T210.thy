@@ -1,0 +1,1 @@
+theory T210 begin end

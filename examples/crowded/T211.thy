@@ -1,0 +1,1 @@
+theory T211 begin end

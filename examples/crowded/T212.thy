@@ -1,0 +1,1 @@
+theory T212 begin end

@@ -1,0 +1,1 @@
+theory T213 begin end

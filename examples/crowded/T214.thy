@@ -1,0 +1,1 @@
+theory T214 begin end

@@ -1,0 +1,1 @@
+theory T215 begin end

@@ -1,0 +1,1 @@
+theory T216 begin end

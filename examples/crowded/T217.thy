@@ -1,0 +1,1 @@
+theory T217 begin end

@@ -1,0 +1,1 @@
+theory T218 begin end

@@ -1,0 +1,1 @@
+theory T219 begin end

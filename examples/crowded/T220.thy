@@ -1,0 +1,1 @@
+theory T220 begin end

@@ -1,0 +1,1 @@
+theory T221 begin end

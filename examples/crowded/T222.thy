@@ -1,0 +1,1 @@
+theory T222 begin end

@@ -1,0 +1,1 @@
+theory T223 begin end

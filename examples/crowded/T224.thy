@@ -1,0 +1,1 @@
+theory T224 begin end

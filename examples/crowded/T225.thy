@@ -1,0 +1,1 @@
+theory T225 begin end

@@ -1,0 +1,1 @@
+theory T226 begin end

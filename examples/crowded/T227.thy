@@ -1,0 +1,1 @@
+theory T227 begin end

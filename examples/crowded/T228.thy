@@ -1,0 +1,1 @@
+theory T228 begin end

@@ -1,0 +1,1 @@
+theory T229 begin end

@@ -1,0 +1,1 @@
+theory T230 begin end

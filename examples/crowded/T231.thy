@@ -1,0 +1,1 @@
+theory T231 begin end

@@ -1,0 +1,1 @@
+theory T232 begin end

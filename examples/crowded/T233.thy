@@ -1,0 +1,1 @@
+theory T233 begin end

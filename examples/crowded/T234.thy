@@ -1,0 +1,1 @@
+theory T234 begin end

@@ -1,0 +1,1 @@
+theory T235 begin end

@@ -1,0 +1,1 @@
+theory T236 begin end

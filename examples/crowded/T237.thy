@@ -1,0 +1,1 @@
+theory T237 begin end

@@ -1,0 +1,1 @@
+theory T238 begin end

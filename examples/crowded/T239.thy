@@ -1,0 +1,1 @@
+theory T239 begin end

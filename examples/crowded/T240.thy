@@ -1,0 +1,1 @@
+theory T240 begin end

@@ -1,0 +1,1 @@
+theory T241 begin end

@@ -1,0 +1,1 @@
+theory T242 begin end

@@ -1,0 +1,1 @@
+theory T243 begin end

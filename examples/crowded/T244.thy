@@ -1,0 +1,1 @@
+theory T244 begin end

@@ -1,0 +1,1 @@
+theory T245 begin end

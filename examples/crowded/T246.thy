@@ -1,0 +1,1 @@
+theory T246 begin end

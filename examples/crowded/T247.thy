@@ -1,0 +1,1 @@
+theory T247 begin end

@@ -1,0 +1,1 @@
+theory T248 begin end

@@ -1,0 +1,1 @@
+theory T249 begin end

@@ -1,0 +1,1 @@
+theory T250 begin end

@@ -1,0 +1,1 @@
+theory T251 begin end

@@ -1,0 +1,1 @@
+theory T252 begin end

@@ -1,0 +1,1 @@
+theory T253 begin end

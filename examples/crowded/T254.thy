@@ -1,0 +1,1 @@
+theory T254 begin end

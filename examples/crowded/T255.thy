@@ -1,0 +1,1 @@
+theory T255 begin end

@@ -1,0 +1,1 @@
+theory T256 begin end

@@ -1,0 +1,30 @@
+(* More than 512 commands. *)
+theory Large begin
+class c class c class c class c class c class c class c class c class c class c class c class c class c class c class c class c class c class c class c
+class c class c class c class c class c class c class c class c class c class c class c class c class c class c class c class c class c class c class c
+class c class c class c class c class c class c class c class c class c class c class c class c class c class c class c class c class c class c class c
+class c class c class c class c class c class c class c class c class c class c class c class c class c class c class c class c class c class c class c
+class c class c class c class c class c class c class c class c class c class c class c class c class c class c class c class c class c class c class c
+class c class c class c class c class c class c class c class c class c class c class c class c class c class c class c class c class c class c class c
+class c class c class c class c class c class c class c class c class c class c class c class c class c class c class c class c class c class c class c
+class c class c class c class c class c class c class c class c class c class c class c class c class c class c class c class c class c class c class c
+class c class c class c class c class c class c class c class c class c class c class c class c class c class c class c class c class c class c class c
+class c class c class c class c class c class c class c class c class c class c class c class c class c class c class c class c class c class c class c
+class c class c class c class c class c class c class c class c class c class c class c class c class c class c class c class c class c class c class c
+class c class c class c class c class c class c class c class c class c class c class c class c class c class c class c class c class c class c class c
+class c class c class c class c class c class c class c class c class c class c class c class c class c class c class c class c class c class c class c
+class c class c class c class c class c class c class c class c class c class c class c class c class c class c class c class c class c class c class c
+class c class c class c class c class c class c class c class c class c class c class c class c class c class c class c class c class c class c class c
+class c class c class c class c class c class c class c class c class c class c class c class c class c class c class c class c class c class c class c
+class c class c class c class c class c class c class c class c class c class c class c class c class c class c class c class c class c class c class c
+class c class c class c class c class c class c class c class c class c class c class c class c class c class c class c class c class c class c class c
+class c class c class c class c class c class c class c class c class c class c class c class c class c class c class c class c class c class c class c
+class c class c class c class c class c class c class c class c class c class c class c class c class c class c class c class c class c class c class c
+class c class c class c class c class c class c class c class c class c class c class c class c class c class c class c class c class c class c class c
+class c class c class c class c class c class c class c class c class c class c class c class c class c class c class c class c class c class c class c
+class c class c class c class c class c class c class c class c class c class c class c class c class c class c class c class c class c class c class c
+class c class c class c class c class c class c class c class c class c class c class c class c class c class c class c class c class c class c class c
+class c class c class c class c class c class c class c class c class c class c class c class c class c class c class c class c class c class c class c
+class c class c class c class c class c class c class c class c class c class c class c class c class c class c class c class c class c class c class c
+class c class c class c class c class c class c class c class c class c class c class c class c class c class c class c class c class c class c class c
+end
