@@ -8,23 +8,35 @@ use Rattle.pure_graph.specs.SessionNames.{AreNames}
 use Rattle.pure_graph.specs.Order.{Loaded}
 use Rattle.pure_session.specs.ToldTheories.{AreTheoriesOf}
 use Rattle.pure_typ.specs.NameTexts.{AreSessionTexts}
-use Rattle.pure_declare.specs.Notes.{Fork}
+use Rattle.std.specs.List.{filter_map}
+use Rattle.pure_declare.specs.Notes.{Fork, Note}
+use Rattle.pure_method.specs.Outcome.{IsOutcomeOf}
 use Rattle.pure_method.specs.declared.outcome.Outcome.{Outcome}
 use Rattle.pure_loaded.specs.Loaded.{IsLoadedSession}
 use Rattle.pure_loaded.proofs.OrderLaws.{loaded-in-order}
 use Rattle.pure_loaded.proofs.WellLaws.{loaded-well}
+use Rattle.pure_verdicts.specs.Statements.{forks_of, IsFork, AreStatements}
+use Rattle.pure_verdicts.proofs.StatementLaws.{statements_once}
 use Rattle.pure_work.specs.Checked.{Checked}
 use Rattle.pure_work.specs.Outline.{Outline}
 use Rattle.pure_table.specs.Table.{Table, IsTable}
 use Rattle.pure_table.proofs.DerivedLaws.{table_is_derived}
+use Rattle.pure_table.proofs.PrintedLaws.{said_are_statements}
 use Rattle.pure_machine.specs.Policy.{Policy}
+use Rattle.pure_machine.specs.State.{Promise}
+use Rattle.pure_machine.specs.Step.{value_of}
+use Rattle.pure_joined.specs.Promises.{AreInOrder}
+use Rattle.pure_joined.proofs.JoinLaws.{core-joined}
 use Rattle.pure_board.specs.Boards.{Ending}
 use Rattle.pure_heed.specs.Heeded as heed
 use Rattle.pure_policy.specs.Policy.{policy_of}
 use Rattle.pure_policy.proofs.PolicyLaws.{words_heeded}
+use Rattle.pure_checking.specs.Relations.{shape_of, ClosesAfter, is_fault}
 use Rattle.pure_checking.specs.Boards.{IsBoardOf}
+use Rattle.pure_checking.specs.Cancelled.{lemmas_of}
+use Rattle.pure_checking.proofs.LeftLaws.{said-joined}
 use Rattle.pure_checking.specs.Heeded.{lot_of, gone_labels}
-use Rattle.pure_checking.proofs.HeedLaws.{session_is_heeded}
+use Rattle.pure_checking.proofs.HeedLaws.{board-legal, session_is_heeded}
 use Rattle.pure_words.specs.Words.{IsJob}
 use Rattle.pure_words.specs.declared.job.Job.{Job}
 use Rattle.pure_words.specs.declared.job.Job.TheVariants.{Check, Generate}
@@ -53,6 +65,16 @@ text_same : (job : Job) (S : Session) (t : Table) → extent_text (extent_for jo
 text_same (Check workers fail_fast cancels) S t = refl
 text_same (Generate workers start theories lemmas) S t = refl
 
+-- The promises of the board, in load order, are of the lemmas that the session binds.
+board-goals : (S : Session) → IsLoadedSession S.names S.theories → (policy : Policy) (workers : ℕ) (board : Ending Checked Fork Outline Outcome) → IsBoardOf S.names S.theories policy workers board → (ordered : List (Promise Fork Outcome)) → AreInOrder board.core.promises ordered
+    → (notes : List Note) → AreStatements S.names S.theories notes → lemmas_of ordered ≡ forks_of notes
+board-goals S loaded policy workers board is ordered in_order notes statements =
+    let values = filter_map value_of board.core.theories in
+    let legal = board-legal S.names S.theories loaded policy workers board is in
+    let joined = core-joined (shape_of S.theories) (IsFork S.names S.theories) (ClosesAfter S.names S.theories) (IsOutcomeOf S.names) is_fault board.core legal is.executed.finished values ordered refl in_order in
+    let said = said_are_statements S.names S.theories values (lemmas_of ordered) (said-joined S.names S.theories loaded values ordered joined) in
+    said.2 ∙ ap forks_of (statements_once S.names S.theories loaded said.0 notes said.1 statements)
+
 -- What comes of a session on a board is what the job asks of it.
 text-of : (job : Job) (S : Session) → IsLoadedSession S.names S.theories → (board : Ending Checked Fork Outline Outcome) → IsBoardOf S.names S.theories (policy_of S.theories (asked_of job)) (asked_of job).workers board
     → (text : List ℕ) (clean : Bool) → IsFormed S board.core.promises (extent_for job) text clean → IsTextOf S job board text clean
@@ -64,7 +86,7 @@ text-of job S loaded board is text clean formed =
       checked = record {
         table = subst (λ K. IsTable S K formed.table) (sym (ap gone_labels formed.entries ∙ law.1)) formed.is_table;
         heeded = words_heeded S.theories loaded.distinct asked (map lot_of formed.table.entries) (subst (λ es. heed.IsHeeded (policy_of S.theories asked) asked.workers (map lot_of es)) (sym formed.entries) law.0);
-        run_of = record { is_board = is; ordered = formed.ordered; in_order = formed.in_order; entries = formed.entries };
+        run_of = record { is_board = is; ordered = formed.ordered; in_order = formed.in_order; goals = board-goals S loaded (policy_of S.theories asked) asked.workers board is formed.ordered formed.in_order formed.table.notes formed.is_table.statements; entries = formed.entries };
         text_is = formed.text_is ∙ text_same job S formed.table;
       };
       clean_is = formed.clean_is;
@@ -124,6 +146,7 @@ meant told words job is run S t text done = record {
   job = job;
   is_job = is;
   session = done.session;
+  loaded = done.loaded;
   table = done.checked.table;
   heeded = done.checked.heeded;
   derived = table_is_derived S done.loaded (gone_labels t.entries) t done.checked.table;

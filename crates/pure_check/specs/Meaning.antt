@@ -14,6 +14,8 @@ use Rattle.pure_print.specs.declared.row.RowStatus.{RowStatus}
 use Rattle.pure_print.specs.declared.row.RowStatus.TheVariants.{Declared, Refused, Proved, Failed, Tainted, Cancelled, Unsettled}
 use Rattle.pure_declare.specs.Notes.{Fork}
 use Rattle.pure_method.specs.declared.outcome.Outcome.{Outcome}
+use Rattle.pure_loaded.specs.Loaded.{IsLoadedSession}
+use Rattle.pure_verdicts.specs.Statements.{forks_of}
 use Rattle.pure_work.specs.Checked.{Checked}
 use Rattle.pure_work.specs.Outline.{Outline}
 use Rattle.pure_table.specs.Table.{Table, IsTable, IsDerivedTable, table_rows, session_text}
@@ -24,7 +26,7 @@ use Rattle.pure_policy.specs.Asked.{Asked}
 use Rattle.pure_policy.specs.Heeded.{IsHeeded}
 use Rattle.pure_policy.specs.Policy.{policy_of}
 use Rattle.pure_checking.specs.Boards.{IsBoardOf}
-use Rattle.pure_checking.specs.Cancelled.{entries_of}
+use Rattle.pure_checking.specs.Cancelled.{lemmas_of, entries_of}
 use Rattle.pure_checking.specs.Heeded.{lot_of, gone_labels}
 use Rattle.pure_check.specs.Asked.{asked_of}
 
@@ -39,11 +41,12 @@ pub record IsToldSession (told : Option (List library.File)) (S : Session) : Typ
   pub tells_answers : IfSome told (λ files. answers ≡ map (answer_in files) theories)
   pub session : IsSessionOf answers S
 
--- The board on which the session was checked as was asked: it was opened with the policy that the words mean for the session's theories, and with as many workers; and the table's entries are those of its promises, in load order.
+-- The board on which the session was checked as was asked: it was opened with the policy that the words mean for the session's theories, and with as many workers; its promises, in load order, are of the lemmas that the session binds; and the table's entries are theirs.
 pub record IsRunOf (S : Session) (asked : Asked) (t : Table) (board : Ending Checked Fork Outline Outcome) : Type 0 where
   pub is_board : IsBoardOf S.names S.theories (policy_of S.theories asked) asked.workers board
   pub ordered : List (Promise Fork Outcome)
   pub in_order : AreInOrder board.core.promises ordered
+  pub goals : lemmas_of ordered ≡ forks_of t.notes
   pub entries : t.entries ≡ entries_of ordered
 
 -- The files whose theories the job checks, where they are told: those of the library, or those that are generated.
@@ -61,6 +64,7 @@ pub record IsMeant (told : Option (List library.File)) (words : List (List ℕ))
   pub job : Job
   pub is_job : IsJob words job
   pub session : IsToldSession (files_for job told) S
+  pub loaded : IsLoadedSession S.names S.theories
   pub table : IsTable S (gone_labels t.entries) t
   pub heeded : IsHeeded S.theories (asked_of job) (map lot_of t.entries)
   pub derived : IsDerivedTable t

@@ -4,15 +4,15 @@ ghost use Rattle.std.specs.Prelude.{◌≡◌};
 /// How a run ended.
 #[derive(Clone, Copy, Debug, PartialEq, Eq)]
 pub enum Status {
-    /// The whole table was written, and every row is declared or proved.
+    /// All that the job writes of the table was written, and every row is declared or proved.
     Clean,
-    /// The whole table was written, and some row is neither.
+    /// All that the job writes of the table was written, and some row is neither.
     Rows,
-    /// The words ask for no check that is taken; nothing was written.
+    /// The words ask for no job; nothing was written.
     Usage,
     /// Reading the library failed; nothing was written.
     ReadFault,
-    /// Writing failed; a proper part of the table was written, from its beginning.
+    /// Writing failed; a proper part of that was written, from its beginning.
     WriteFault,
     /// Memory ran out; nothing was written.
     Memory,
