@@ -1,5 +1,6 @@
 //! The folders of examples/ and their tables, but for failing, which has its own module: the texts here are copies of the files there, to the byte.
 use crate::failing::FAILING;
+use crate::texts::text_of;
 use crate::world::{add_file, empty_world, run};
 use pure_check::Status;
 use std::process::Abort;
@@ -592,7 +593,7 @@ total: 3 theories, 18 declared, 0 refused, 28 proved, 0 failed, 0 tainted, 0 can
 ",
 };
 
-/// Runs a folder and compares what is written.
+/// Runs a folder, whose texts may be written short, and compares what is written.
 fn run_folder<R: Abort + Files + Print + AllocGlobal + Threads + Wait + Sync>(
     rt: &R,
     folder: &Folder,
@@ -600,7 +601,7 @@ fn run_folder<R: Abort + Files + Print + AllocGlobal + Threads + Wait + Sync>(
     let alloc = rt.alloc();
     let mut world = empty_world(alloc);
     for (name, text) in folder.files {
-        add_file(alloc, &mut world, name, text)?;
+        add_file(alloc, &mut world, name, &text_of(alloc, text)?)?;
     }
     let answer = run(rt, alloc, world)?;
     if answer.bytes.as_slice() != folder.expected {

@@ -1,4 +1,4 @@
-//! The folder examples/failing and its table: the texts here are copies of the files there, to the byte.
+//! The folder examples/failing and its table: the texts here are copies of the files there, to the byte, but that a piece between `@`, with a number before it, stands so many times there.
 use crate::examples::Folder;
 use pure_check::Status;
 
@@ -79,34 +79,8 @@ end
             b"Large.thy",
             b"(* More than 512 commands. *)
 theory Large begin
-class c class c class c class c class c class c class c class c class c class c class c class c class c class c class c class c class c class c class c
-class c class c class c class c class c class c class c class c class c class c class c class c class c class c class c class c class c class c class c
-class c class c class c class c class c class c class c class c class c class c class c class c class c class c class c class c class c class c class c
-class c class c class c class c class c class c class c class c class c class c class c class c class c class c class c class c class c class c class c
-class c class c class c class c class c class c class c class c class c class c class c class c class c class c class c class c class c class c class c
-class c class c class c class c class c class c class c class c class c class c class c class c class c class c class c class c class c class c class c
-class c class c class c class c class c class c class c class c class c class c class c class c class c class c class c class c class c class c class c
-class c class c class c class c class c class c class c class c class c class c class c class c class c class c class c class c class c class c class c
-class c class c class c class c class c class c class c class c class c class c class c class c class c class c class c class c class c class c class c
-class c class c class c class c class c class c class c class c class c class c class c class c class c class c class c class c class c class c class c
-class c class c class c class c class c class c class c class c class c class c class c class c class c class c class c class c class c class c class c
-class c class c class c class c class c class c class c class c class c class c class c class c class c class c class c class c class c class c class c
-class c class c class c class c class c class c class c class c class c class c class c class c class c class c class c class c class c class c class c
-class c class c class c class c class c class c class c class c class c class c class c class c class c class c class c class c class c class c class c
-class c class c class c class c class c class c class c class c class c class c class c class c class c class c class c class c class c class c class c
-class c class c class c class c class c class c class c class c class c class c class c class c class c class c class c class c class c class c class c
-class c class c class c class c class c class c class c class c class c class c class c class c class c class c class c class c class c class c class c
-class c class c class c class c class c class c class c class c class c class c class c class c class c class c class c class c class c class c class c
-class c class c class c class c class c class c class c class c class c class c class c class c class c class c class c class c class c class c class c
-class c class c class c class c class c class c class c class c class c class c class c class c class c class c class c class c class c class c class c
-class c class c class c class c class c class c class c class c class c class c class c class c class c class c class c class c class c class c class c
-class c class c class c class c class c class c class c class c class c class c class c class c class c class c class c class c class c class c class c
-class c class c class c class c class c class c class c class c class c class c class c class c class c class c class c class c class c class c class c
-class c class c class c class c class c class c class c class c class c class c class c class c class c class c class c class c class c class c class c
-class c class c class c class c class c class c class c class c class c class c class c class c class c class c class c class c class c class c class c
-class c class c class c class c class c class c class c class c class c class c class c class c class c class c class c class c class c class c class c
-class c class c class c class c class c class c class c class c class c class c class c class c class c class c class c class c class c class c class c
-end
+@27@class c class c class c class c class c class c class c class c class c class c class c class c class c class c class c class c class c class c class c
+@end
 ",
         ),
         (
@@ -126,32 +100,8 @@ end
             br#"(* A quoted text of more than 1,000 tokens. *)
 theory Long begin
 lemma long: "
-  A ==> A ==> A ==> A ==> A ==> A ==> A ==> A ==> A ==> A ==> A ==> A ==> A ==> A ==> A ==> A ==> A ==> A ==> A ==> A ==>
-  A ==> A ==> A ==> A ==> A ==> A ==> A ==> A ==> A ==> A ==> A ==> A ==> A ==> A ==> A ==> A ==> A ==> A ==> A ==> A ==>
-  A ==> A ==> A ==> A ==> A ==> A ==> A ==> A ==> A ==> A ==> A ==> A ==> A ==> A ==> A ==> A ==> A ==> A ==> A ==> A ==>
-  A ==> A ==> A ==> A ==> A ==> A ==> A ==> A ==> A ==> A ==> A ==> A ==> A ==> A ==> A ==> A ==> A ==> A ==> A ==> A ==>
-  A ==> A ==> A ==> A ==> A ==> A ==> A ==> A ==> A ==> A ==> A ==> A ==> A ==> A ==> A ==> A ==> A ==> A ==> A ==> A ==>
-  A ==> A ==> A ==> A ==> A ==> A ==> A ==> A ==> A ==> A ==> A ==> A ==> A ==> A ==> A ==> A ==> A ==> A ==> A ==> A ==>
-  A ==> A ==> A ==> A ==> A ==> A ==> A ==> A ==> A ==> A ==> A ==> A ==> A ==> A ==> A ==> A ==> A ==> A ==> A ==> A ==>
-  A ==> A ==> A ==> A ==> A ==> A ==> A ==> A ==> A ==> A ==> A ==> A ==> A ==> A ==> A ==> A ==> A ==> A ==> A ==> A ==>
-  A ==> A ==> A ==> A ==> A ==> A ==> A ==> A ==> A ==> A ==> A ==> A ==> A ==> A ==> A ==> A ==> A ==> A ==> A ==> A ==>
-  A ==> A ==> A ==> A ==> A ==> A ==> A ==> A ==> A ==> A ==> A ==> A ==> A ==> A ==> A ==> A ==> A ==> A ==> A ==> A ==>
-  A ==> A ==> A ==> A ==> A ==> A ==> A ==> A ==> A ==> A ==> A ==> A ==> A ==> A ==> A ==> A ==> A ==> A ==> A ==> A ==>
-  A ==> A ==> A ==> A ==> A ==> A ==> A ==> A ==> A ==> A ==> A ==> A ==> A ==> A ==> A ==> A ==> A ==> A ==> A ==> A ==>
-  A ==> A ==> A ==> A ==> A ==> A ==> A ==> A ==> A ==> A ==> A ==> A ==> A ==> A ==> A ==> A ==> A ==> A ==> A ==> A ==>
-  A ==> A ==> A ==> A ==> A ==> A ==> A ==> A ==> A ==> A ==> A ==> A ==> A ==> A ==> A ==> A ==> A ==> A ==> A ==> A ==>
-  A ==> A ==> A ==> A ==> A ==> A ==> A ==> A ==> A ==> A ==> A ==> A ==> A ==> A ==> A ==> A ==> A ==> A ==> A ==> A ==>
-  A ==> A ==> A ==> A ==> A ==> A ==> A ==> A ==> A ==> A ==> A ==> A ==> A ==> A ==> A ==> A ==> A ==> A ==> A ==> A ==>
-  A ==> A ==> A ==> A ==> A ==> A ==> A ==> A ==> A ==> A ==> A ==> A ==> A ==> A ==> A ==> A ==> A ==> A ==> A ==> A ==>
-  A ==> A ==> A ==> A ==> A ==> A ==> A ==> A ==> A ==> A ==> A ==> A ==> A ==> A ==> A ==> A ==> A ==> A ==> A ==> A ==>
-  A ==> A ==> A ==> A ==> A ==> A ==> A ==> A ==> A ==> A ==> A ==> A ==> A ==> A ==> A ==> A ==> A ==> A ==> A ==> A ==>
-  A ==> A ==> A ==> A ==> A ==> A ==> A ==> A ==> A ==> A ==> A ==> A ==> A ==> A ==> A ==> A ==> A ==> A ==> A ==> A ==>
-  A ==> A ==> A ==> A ==> A ==> A ==> A ==> A ==> A ==> A ==> A ==> A ==> A ==> A ==> A ==> A ==> A ==> A ==> A ==> A ==>
-  A ==> A ==> A ==> A ==> A ==> A ==> A ==> A ==> A ==> A ==> A ==> A ==> A ==> A ==> A ==> A ==> A ==> A ==> A ==> A ==>
-  A ==> A ==> A ==> A ==> A ==> A ==> A ==> A ==> A ==> A ==> A ==> A ==> A ==> A ==> A ==> A ==> A ==> A ==> A ==> A ==>
-  A ==> A ==> A ==> A ==> A ==> A ==> A ==> A ==> A ==> A ==> A ==> A ==> A ==> A ==> A ==> A ==> A ==> A ==> A ==> A ==>
-  A ==> A ==> A ==> A ==> A ==> A ==> A ==> A ==> A ==> A ==> A ==> A ==> A ==> A ==> A ==> A ==> A ==> A ==> A ==> A ==>
-  A" by assumption
+@25@  A ==> A ==> A ==> A ==> A ==> A ==> A ==> A ==> A ==> A ==> A ==> A ==> A ==> A ==> A ==> A ==> A ==> A ==> A ==> A ==>
+@  A" by assumption
 end
 "#,
         ),
