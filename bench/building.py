@@ -34,6 +34,7 @@ def build(folder, name, crates, files, words):
         shutil.copytree(os.path.join(TOP, "crates", crate), os.path.join(folder, "crates", crate), symlinks=True)
     with open(os.path.join(folder, "crates.txt"), "w") as out:
         out.write("\n".join([lines[crate] for crate in needed] + [f"{name}: {' '.join(sorted(needed))}"]) + "\n")
+    shutil.copy(os.path.join(TOP, "HANDLES"), folder)
     home = os.path.join(folder, "crates", name)
     for path, text in files.items():
         path = os.path.join(home, path)
