@@ -13,13 +13,13 @@ ghost use Rattle.std.specs.Prelude.{◌≡◌, IfOk};
 ghost use Rattle.pure_text.specs.Lists.{Each};
 ghost use Rattle.pure_method.specs.Outcome.{IsProvable};
 ghost use Rattle.pure_session.specs.Waiting.{all_loaded};
-ghost use Rattle.pure_verdicts.specs.Loaded.{IsLoadedSession};
+ghost use Rattle.pure_loaded.specs.Loaded.{IsLoadedSession};
 
 use pure_declare::Duty;
 use pure_io::DirLibrary;
-use pure_promise::{Entry, Own};
+use pure_method::{Outcome, prove};
 use pure_session::{Session, load};
-use pure_table::proofs;
+use pure_typ::NamesByBase;
 use pure_work::{Checker, Statements};
 use std::alloc::Global;
 use std::rt::{Clock, Files};
@@ -54,21 +54,23 @@ fn declared(checker: &Checker) -> Result<Statements, Fail>
     Ok(checker.statements()?)
 }
 
-fn proved(alloc: Global, checker: &Checker, duties: Vec<Duty>) -> Result<Vec<Entry>, Fail>
-    requires { Each (IsProvable checker.now.texts) duties.items }
+fn counted(alloc: Global, names: &NamesByBase, duties: Vec<Duty>) -> Result<u32, Fail>
+    requires { Each (IsProvable names.now) duties.items }
 {
-    let names = checker.names();
-    Ok(proofs(alloc, names, duties)?)
-}
-
-fn count(entries: &[Entry]) -> u32 {
     let mut count: u32 = 0;
-    for entry in entries {
-        if let Own::Proved { .. } = &entry.own {
+    for duty in duties {
+        if let Outcome::Proved { .. } = prove(alloc, names, &duty)? {
             count = count.wrapping_add(1);
         }
     }
-    count
+    Ok(count)
+}
+
+fn proved(alloc: Global, checker: &Checker, duties: Vec<Duty>) -> Result<u32, Fail>
+    requires { Each (IsProvable checker.now.texts) duties.items }
+{
+    let names = checker.names();
+    counted(alloc, names, duties)
 }
 
 fn prove_all<R: Print + Clock + AllocGlobal>(
@@ -79,10 +81,9 @@ fn prove_all<R: Print + Clock + AllocGlobal>(
     requires { Each (IsProvable checker.now.texts) duties.items }
 {
     let start = Instant::now(rt)?;
-    let entries = proved(rt.alloc(), checker, duties)?;
+    let all = duties.len();
+    let proved = proved(rt.alloc(), checker, duties)?;
     let spent = start.elapsed(rt)?.as_micros();
-    let proved = count(entries.as_slice());
-    let all = entries.len();
     println!(rt; "{spent} {all} {proved}")?;
     Ok(())
 }
@@ -114,27 +115,43 @@ returns-in-Ok g c = loaded_session _ _ _ _ _ c.in-Ok.ensures.told c.in-Ok.ensure
 """
 CHECKER = """use Rattle.std.proofs.Common.{subst, sym}
 use Rattle.pure_work.specs.Checked.{Checked}
-use Rattle.pure_verdicts.specs.Loaded.{IsLoadedSession}
+use Rattle.pure_loaded.specs.Loaded.{IsLoadedSession}
 use Rattle.bench_phases.proofs.checker.Goals as goal
 
 pub returns : goal.returns
 returns c = subst (λ (C : Checked). IsLoadedSession C.texts C.theories) (sym c.in_ok-make.ensures) c.requires
 """
-DECLARED = """use Rattle.pure_check.proofs.FormedLemmas.{said_provable}
+DECLARED = """use Rattle.std.proofs.Common.{[], subst, sym}
+use Rattle.pure_text.specs.Lists.{Each}
+use Rattle.pure_method.specs.Outcome.{IsProvable}
+use Rattle.pure_table.proofs.PrintedLaws.{said_are_statements}
+use Rattle.pure_table.proofs.DerivedLaws.{lemmas_provable}
 use Rattle.bench_phases.proofs.declared.Goals as goal
 
 pub returns : goal.returns
-returns c = said_provable _ _ _ _ c.requires c.in_ok-statements.ensures
+returns c =
+    let texts = c.args.checker.now.texts in
+    let theories = c.args.checker.now.theories in
+    let notes = said_are_statements texts theories _ _ c.in_ok-statements.ensures in
+    subst (Each (IsProvable texts)) (sym notes.2) (lemmas_provable (record { names = texts; theories = theories; refused = []; files = 0 }) c.requires notes.0 notes.1)
+"""
+COUNTED = """use Rattle.std.specs.Vec.Iter.{into_iter_items}
+use Rattle.pure_text.specs.Lists.{Each}
+use Rattle.pure_method.specs.Outcome.{IsProvable}
+use Rattle.bench_phases.proofs.counted.Given as goal
+
+abbrev pub invariant-loop-duty : goal.invariant-loop-duty
+invariant-loop-duty l = Each (IsProvable l.names) (into_iter_items l.duty-iterator)
 """
 PROVED = """use Rattle.std.proofs.Common.{ℕ, List, subst, sym}
 use Rattle.pure_text.specs.Lists.{Each}
 use Rattle.pure_method.specs.Outcome.{IsProvable}
 use Rattle.bench_phases.proofs.proved.Goals as goal
 
-pub proofs-requires : goal.proofs-requires
-proofs-requires c = subst (λ (texts : List (List ℕ)). Each (IsProvable texts) c.args.duties.items) (sym c.names-names.ensures.value) c.requires
+pub counted-requires : goal.counted-requires
+counted-requires c = subst (λ (texts : List (List ℕ)). Each (IsProvable texts) c.args.duties.items) (sym c.names-names.ensures.value) c.requires
 """
-CRATES = ["pure_check", "pure_declare", "pure_io", "pure_method", "pure_promise", "pure_session", "pure_table", "pure_text", "pure_verdicts", "pure_work"]
+CRATES = ["pure_check", "pure_declare", "pure_io", "pure_method", "pure_loaded", "pure_session", "pure_table", "pure_text", "pure_typ", "pure_work"]
 
 
 def theory(front, commands):
@@ -147,6 +164,7 @@ def program(folder):
     answers = {"loaded": LOADED, "checker": CHECKER, "declared": DECLARED, "proved": PROVED}
     files = {"src/main.rt": PROGRAM, "specs/Lib.antt": "", "proofs/Lib.antt": "", "stdin": ""}
     files.update({f"proofs/{name}/Answers.antt": text for name, text in answers.items()})
+    files["proofs/counted/Invariants.antt"] = COUNTED
     return build(folder, "bench_phases", CRATES, files, [])
 
 
