@@ -21,7 +21,7 @@ use Rattle.pure_tunify.specs.Working.{IsWritten, IsWrittenInOrder, Pursues}
 use Rattle.pure_tunify.specs.declared.fault.TypFault.{TypFault}
 use Rattle.pure_tunify.specs.declared.fault.TypFault.TheVariants.{NoTyping, Big, Memory}
 use Rattle.pure_tunify.specs.Passes.{HasCome, IsJudged}
-use Rattle.pure_tunify.specs.Answers.{IsEqualised, IsPassed, AreUnified, IsDecided, IsReason}
+use Rattle.pure_tunify.specs.Answers.{IsEqualised, IsPassed, AreSettled, AreUnified, IsIdempotentMap, IsDecided, IsReason}
 use Rattle.pure_tunify.proofs.SizeLaws.{shrinks}
 use Rattle.pure_tunify.proofs.SettingLaws.{instance-append, instance-free, composed-absent, composed-fixed}
 use Rattle.pure_tunify.proofs.PursueLaws.{pursuit_ends}
@@ -63,6 +63,18 @@ pub written_idempotent : (sets written : List TypBind) → AreTriangular sets �
 written_idempotent sets written tri h x i s =
     typ_instances-agree (typ_image written) (composed sets) (typ_image written (TVar x i s)) (λ v is o. written_agrees sets written h v is)
     ∙ (ap (typ_instance (composed sets)) (h x i s) ∙ (settled sets tri (TVar x i s) ∙ sym (h x i s)))
+
+pub settled_idempotent : (sets : List TypBind) → AreTriangular sets → IsIdempotentMap (composed sets)
+settled_idempotent sets tri x i s = settled sets tri (TVar x i s)
+
+-- What is written out of settings that were found.
+pub settled_unified : (A : Algebra) (index from : ℕ) (pairs : List TypPair) (p : Progress) (written : List TypBind) (m : ℕ) → AreSettled A index from pairs p → IsWrittenInOrder p.sets written → m ≡ p.next → AreUnified A index from pairs written m
+settled_unified A index from pairs p written m h w same = record {
+  sets = p.sets;
+  unifies = subst (λ (n : ℕ). Unifies A index 0 from [] pairs (Unified p.sets n)) (sym same) h.unifies;
+  written = w.0;
+  ordered = w.1;
+}
 
 -- Settings that are within the limits after further ones were so before.
 pub within_before : (sets more : List TypBind) (n m : ℕ) → n ≤ m → AreWithinLimits (sets ++ more) m → AreWithinLimits sets n
@@ -112,16 +124,11 @@ abbrev pub at_start : (index from : ℕ) → Progress
 at_start index from = record { sets = []; index = index; next = from }
 
 module _ (A : Algebra) (index from : ℕ) (pairs : List TypPair) (first now : Progress) (start : first ≡ at_start index from) where
-  -- What is written out of the settings, where all pairs have come to them.
-  pub come_unified : (found : List TypBind × ℕ) → HasCome A first.index first.next pairs (length pairs) now → AreWithinLimits now.sets now.next × IsWrittenInOrder now.sets found.0 × (found.1 ≡ now.next) × AreTriangular now.sets → AreUnified A index from pairs found.0 found.1
-  come_unified found h w =
+  -- All pairs have come to settings within the limits.
+  pub come_settled : HasCome A first.index first.next pairs (length pairs) now → AreWithinLimits now.sets now.next → AreTriangular now.sets → AreSettled A index from pairs now
+  come_settled h within triangular =
       let come = subst (λ (q : Progress). HasCome A q.index q.next pairs (length pairs) now) start h in
-      record {
-        sets = now.sets;
-        unifies = subst (λ (n : ℕ). Unifies A index 0 from [] pairs (Unified now.sets n)) (sym w.2) (come_end A index from pairs (length pairs) now come (omega arith) w.0);
-        written = w.1.0;
-        ordered = w.1.1;
-      }
+      record { unifies = come_end A index from pairs (length pairs) now come (omega arith) within; within = within; triangular = triangular }
 
   -- What is judged of a pair decides.
   pub judged_decided : {T : Type 0} (at : ℕ) (p : TypPair) → at < length pairs → p ≡ get_or pairs at p → HasCome A first.index first.next pairs at now → (r : Result T TypFault) → IfErr r (IsJudged A now p at) → IfErr r (IsDecided A index from pairs)
@@ -134,3 +141,7 @@ module _ (A : Algebra) (index from : ℕ) (pairs : List TypPair) (old : Each (Is
   a_reason (NoTyping k) h = procedure_is_meant A index from pairs (NotTyped k) old h
   a_reason (Big k) h = procedure_is_meant A index from pairs (TooBig k) old h
   a_reason Memory h = tt
+
+  -- Settings that were found are a most general unifier.
+  pub settled_general : (p : Progress) → AreSettled A index from pairs p → IsMostGeneral A index from pairs (composed p.sets)
+  settled_general p h = (procedure_is_meant A index from pairs (Unified p.sets p.next) old h.unifies).general

@@ -10,7 +10,7 @@ use Rattle.pure_tunify.specs.declared.meeting.Turned.TheVariants.{Further, Never
 use Rattle.pure_tunify.specs.Unifiers.{IsUnifier}
 use Rattle.pure_tunify.specs.declared.fault.TypFault.TheVariants.{NoTyping, Big, Memory}
 use Rattle.pure_tunify.specs.Steps.{instance_pair}
-use Rattle.pure_tunify.specs.Settings.{composed, AreWithinLimits, Progress}
+use Rattle.pure_tunify.specs.Settings.{composed, AreTriangular, AreWithinLimits, Progress}
 use Rattle.pure_tunify.specs.Procedure.{Equalises, Blocks, Unifies, Unified, NotTyped, TooBig}
 use Rattle.pure_tunify.specs.Working.{IsFurther, IsWritten}
 use Rattle.pure_tunify.specs.ProcedureLaws.{IsFirstWithout, IsBeyond}
@@ -49,6 +49,12 @@ IsSolvability A old new pairs Further = IsSolvable A old new pairs
 IsSolvability A old new pairs Never = (typs : Typ → Typ) → ¬ IsUnifier A (map (instance_pair (composed old.sets)) pairs) typs
 IsSolvability A old new pairs Large = Unit {0}
 
+-- The pairs come to these settings and this first name that isn't used, within the limits.
+pub record AreSettled (A : Algebra) (index from : ℕ) (pairs : List TypPair) (p : Progress) : Type 0 where
+  pub unifies : Unifies A index 0 from [] pairs (Unified p.sets p.next)
+  pub within : AreWithinLimits p.sets p.next
+  pub triangular : AreTriangular p.sets
+
 -- The pairs come to this map and this first name that isn't used: its entries are the procedure's settings, in the order in which the variables were set, each image written out under all later settings.
 pub record AreUnified (A : Algebra) (index from : ℕ) (pairs : List TypPair) (binds : List TypBind) (next : ℕ) : Type 0 where
   pub sets : List TypBind
@@ -62,7 +68,10 @@ IsDecided A index from pairs (NoTyping k) = Unifies A index 0 from [] pairs (Not
 IsDecided A index from pairs (Big k) = Unifies A index 0 from [] pairs (TooBig k)
 IsDecided A index from pairs Memory = Unit {0}
 
--- The map applied again changes nothing.
+-- The map applied again changes nothing; the same of a finite one.
+abbrev pub IsIdempotentMap : (Typ → Typ) → Type 0
+IsIdempotentMap typs = (x i : ℕ) (s : List ℕ) → typ_instance typs (typs (TVar x i s)) ≡ typs (TVar x i s)
+
 abbrev pub IsIdempotent : List TypBind → Type 0
 IsIdempotent binds = (x i : ℕ) (s : List ℕ) → typ_instance (typ_image binds) (typ_image binds (TVar x i s)) ≡ typ_image binds (TVar x i s)
 

@@ -31,8 +31,8 @@ IsJudged A old p index (NoTyping k) = (k ≡ index) × AreWithinLimits old.sets 
 IsJudged A old p index (Big k) = (k ≡ index) × AreWithinLimits old.sets old.next × ((more : List TypBind) × (next : ℕ) × Equalises A old.index old.next (instance_pair (composed old.sets) p) more next × ¬ AreWithinLimits (old.sets ++ more) next)
 IsJudged A old p index Memory = Unit {0}
 
--- what is said of a map that is found
-abbrev pub IfFound : (List TypBind × ℕ → Type 0) → Attempt → Type 0
+-- what is said of settings that are found
+abbrev pub IfFound : (Progress → Type 0) → Attempt → Type 0
 IfFound P (attempt.Found found) = P found
 IfFound P (attempt.Beyond at) = Unit {0}
 IfFound P (attempt.Stopped at) = Unit {0}

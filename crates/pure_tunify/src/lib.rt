@@ -22,4 +22,6 @@ pub use asks::{Asked, asked_of, asked_of_arguments};
 pub use fault::TypFault;
 pub use index::index_above_each as index_above;
 pub use pair::TypPair;
-pub use unifier::{unify, unify_from};
+pub use resolve::{resolved_leaves, settled_typ};
+pub use settings::Settings;
+pub use unifier::{settle, unify, unify_from};

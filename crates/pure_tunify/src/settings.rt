@@ -38,7 +38,7 @@ impl Model for Settings {
 
 impl Settings {
     /// No variable is set.
-    pub fn start(alloc: Global, index: u32, next: u32, most: u32) -> Settings
+    pub(crate) fn start(alloc: Global, index: u32, next: u32, most: u32) -> Settings
         ensures { result ≡ record { sets = []; index = index; next = next } }
     {
         Settings {
@@ -50,7 +50,7 @@ impl Settings {
     }
 
     /// The most nodes of a type that is looked at with all set variables replaced.
-    pub fn most(&self) -> u32
+    pub(crate) fn most(&self) -> u32
         ensures tidy { IsTidy self.now }
     {
         self.most
@@ -113,7 +113,7 @@ impl Settings {
 
     /// What is left of a room for so many nodes, on paths of so many, when the type is put in with the image of each set
     /// variable as it was set.
-    pub fn leaves(&self, t: &Typ, left: u32, room: u32) -> Option<u32>
+    pub(crate) fn leaves(&self, t: &Typ, left: u32, room: u32) -> Option<u32>
         ensures leaves { Leaves left room (typ_size (typ_instance (typ_image self.now.sets) t.now)) (typ_depth (typ_instance (typ_image self.now.sets) t.now)) result }
         ensures tidy { IsTidy self.now }
     {
@@ -121,7 +121,7 @@ impl Settings {
     }
 
     /// Sets one more variable.
-    pub fn put(&mut self, bind: TypBind, next: u32) -> Result<(), AllocError>
+    pub(crate) fn put(&mut self, bind: TypBind, next: u32) -> Result<(), AllocError>
         requires absent { ¬ IsIn (typ_variable bind) (map typ_variable self.old.sets) }
         requires tidy { IsTidy (record { sets = self.old.sets ++ bind ∷ []; index = self.old.index; next = next }) }
         ensures { OnOk result (self.new ≡ record { sets = self.old.sets ++ bind ∷ []; index = self.old.index; next = next }) }

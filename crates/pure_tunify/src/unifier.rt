@@ -1,13 +1,12 @@
 //! Unification of pairs of types.
-ghost use Rattle.std.specs.Prelude.{◌≡◌, ◌<◌, ◌≤◌, ◌^◌, ℕ, [], length, IfOk, IfErr, IfSome, OnOk, MatchBool};
+ghost use Rattle.std.specs.Prelude.{◌≡◌, ◌<◌, ◌≤◌, ◌^◌, ℕ, [], length, IfOk, IfErr, OnOk, MatchBool};
 ghost use Rattle.std.specs.Bool.{OnTrue};
 ghost use Rattle.pure_text.specs.Lists.{Each};
 ghost use Rattle.pure_definitions.specs.Terms.Subst.{typ_image};
 ghost use Rattle.pure_tunify.specs.Unifiers.{IsOldPair, IsMostGeneral};
-ghost use Rattle.pure_tunify.specs.Settings.{AreTriangular, AreWithinLimits};
+ghost use Rattle.pure_tunify.specs.Settings.{composed, AreWithinLimits};
 ghost use Rattle.pure_tunify.specs.Procedure.{Unifies, TooBig};
-ghost use Rattle.pure_tunify.specs.Working.{IsWrittenInOrder};
-ghost use Rattle.pure_tunify.specs.Answers.{AreUnified, IsIdempotent, IsDecided, IsReason, index_above_pairs};
+ghost use Rattle.pure_tunify.specs.Answers.{AreSettled, AreUnified, IsIdempotentMap, IsIdempotent, IsDecided, IsReason, index_above_pairs};
 ghost use Rattle.pure_tunify.specs.Passes.{HasCome, IsPass, IsJudged, IfFound, IfBeyond};
 
 use crate::fault::TypFault;
@@ -197,22 +196,6 @@ fn first_beyond(
     Ok(low)
 }
 
-/// The settings written out, and the first name that isn't used.
-fn answer(settings: &Settings, alloc: Global) -> Result<Option<(TypMap, u32)>, AllocError>
-    ensures { IfOk result (λ o. IfSome o (λ found. AreWithinLimits settings.now.sets settings.now.next × IsWrittenInOrder settings.now.sets found.0 × (found.1 ≡ settings.now.next) × AreTriangular settings.now.sets)) }
-{
-    let next = settings.next();
-    let _ = settings.binds();
-    if MOST_NAMES < next {
-        return Ok(None);
-    }
-    let map = written(settings, alloc)?;
-    match map {
-        Some(map) => Ok(Some((map, next))),
-        None => Ok(None),
-    }
-}
-
 /// How many pairs there are, or the greatest number that an index can be.
 fn count_of(pairs: &[TypPair]) -> u32 {
     match u32::try_from(pairs.len()) {
@@ -224,16 +207,16 @@ fn count_of(pairs: &[TypPair]) -> u32 {
 /// What a pass without a look at the limits before the end comes to.
 #[derive(Drop)]
 enum Attempt {
-    /// The map, and the first name that isn't used.
-    Found((TypMap, u32)),
+    /// These settings make them equal, and are within the limits.
+    Found(Settings),
     /// This pair passes the limits.
     Beyond(u32),
     /// This pair isn't made equal, or the limits are passed behind the last one.
     Stopped(u32),
 }
 
-/// The most general unifier, without a look at the limits before the end.
-fn unify_at_once(
+/// Makes the pairs equal, without a look at the limits before the end.
+fn settle_at_once(
     alloc: Global,
     order: &Order,
     pairs: &[TypPair],
@@ -241,8 +224,7 @@ fn unify_at_once(
     from: u32,
 ) -> Result<Attempt, AllocError>
     requires { Each (IsOldPair index from) pairs.now }
-    ensures ok { IfOk result (IfFound (λ found. AreUnified order.now index from pairs.now found.0 found.1)) }
-    ensures idempotent { IfOk result (IfFound (λ found. IsIdempotent found.0)) }
+    ensures ok { IfOk result (IfFound (λ found. AreSettled order.now index from pairs.now found)) }
     ensures beyond { IfOk result (IfBeyond (λ at. Unifies order.now index 0 from [] pairs.now (TooBig at))) }
 {
     let mut settings = Settings::start(alloc, index, from, MAX_SIZE);
@@ -256,11 +238,12 @@ fn unify_at_once(
             Ok(Attempt::Beyond(at))
         }
         Pass::Whole => {
-            let found = answer(&settings, alloc)?;
-            match found {
-                Some(found) => Ok(Attempt::Found(found)),
-                None => Ok(Attempt::Stopped(count_of(pairs))),
+            let within = is_within(&settings)?;
+            if !within {
+                return Ok(Attempt::Stopped(count_of(pairs)));
             }
+            let _ = settings.binds();
+            Ok(Attempt::Found(settings))
         }
     }
 }
@@ -305,6 +288,29 @@ fn reason(
     }
 }
 
+/// The settings that make the pairs equal, with fresh variables of the given index whose names are counted from the given
+/// one: one after the other they are the most general unifier. No image is written out.
+pub fn settle(
+    alloc: Global,
+    order: &Order,
+    pairs: &[TypPair],
+    index: u32,
+    from: u32,
+) -> Result<Settings, TypFault>
+    requires { Each (IsOldPair index from) pairs.now }
+    ensures ok { IfOk result (λ found. AreSettled order.now index from pairs.now found) }
+    ensures general { IfOk result (λ found. IsMostGeneral order.now index from pairs.now (composed found.sets)) }
+    ensures idempotent { IfOk result (λ found. IsIdempotentMap (composed found.sets)) }
+    ensures fault { IfErr result (IsDecided order.now index from pairs.now) }
+    ensures reason { IfErr result (IsReason order.now index from pairs.now) }
+{
+    match settle_at_once(alloc, order, pairs, index, from)? {
+        Attempt::Found(found) => Ok(found),
+        Attempt::Beyond(at) => Err(TypFault::Big { index: at }),
+        Attempt::Stopped(at) => Err(reason(alloc, order, pairs, index, from, at)),
+    }
+}
+
 /// The most general unifier of the pairs, with fresh variables of the given index whose names are counted from the given
 /// one, and the first name that isn't used.
 pub fn unify_from(
@@ -321,10 +327,12 @@ pub fn unify_from(
     ensures fault { IfErr result (IsDecided order.now index from pairs.now) }
     ensures reason { IfErr result (IsReason order.now index from pairs.now) }
 {
-    match unify_at_once(alloc, order, pairs, index, from)? {
-        Attempt::Found(found) => Ok(found),
-        Attempt::Beyond(at) => Err(TypFault::Big { index: at }),
-        Attempt::Stopped(at) => Err(reason(alloc, order, pairs, index, from, at)),
+    let settings = settle(alloc, order, pairs, index, from)?;
+    let next = settings.next();
+    let map = written(&settings, alloc)?;
+    match map {
+        Some(map) => Ok((map, next)),
+        None => Err(TypFault::Memory),
     }
 }
 

@@ -1,15 +1,17 @@
-use Rattle.pure_tunify.specs.declared.fault.TypFault.TheVariants.{Big}
 use Rattle.pure_tunify.specs.Answers.{AreUnified}
-use Rattle.pure_tunify.proofs.UnifyLaws.{written_general, a_reason}
+use Rattle.pure_tunify.specs.Working.{HasImagesWithin, IsWrittenInOrder}
+use Rattle.pure_tunify.proofs.UnifyLaws.{settled_unified, written_general, written_idempotent}
 use Rattle.pure_tunify.proofs.unifier.unify_from.Goals as goal
 
-pub returns-in-Stopped-clause-reason : goal.returns-in-Stopped-clause-reason
-returns-in-Stopped-clause-reason c = a_reason c.args.order.now c.args.index c.args.from c.args.pairs.now c.requires c.reason.result c.reason.ensures
+pub returns-in-Some-clause-ok : goal.returns-in-Some-clause-ok
+returns-in-Some-clause-ok c =
+    let found : HasImagesWithin c.in_ok-settings.settings.sets × IsWrittenInOrder c.in_ok-settings.settings.sets c.in-Some.map = rw c.in-Some.is at c.in_ok-map.ensures in
+    settled_unified c.args.order.now c.args.index c.args.from c.args.pairs.now c.in_ok-settings.settings c.in-Some.map c.next-next.result c.in_ok-settings.ensures.ok found.1 c.next-next.ensures.value
 
-pub returns-in-Found-clause-general : goal.returns-in-Found-clause-general
-returns-in-Found-clause-general c =
-    let unified : AreUnified c.args.order.now c.args.index c.args.from c.args.pairs.now c.in-Found.found.0 c.in-Found.found.1 = rw c.in-Found.is at c.in_ok-found.ensures.ok in
-    written_general c.args.order.now c.args.index c.args.from c.args.pairs.now c.in-Found.found.0 c.in-Found.found.1 c.requires unified
+pub returns-in-Some-clause-general : goal.returns-in-Some-clause-general
+returns-in-Some-clause-general c = written_general c.args.order.now c.args.index c.args.from c.args.pairs.now c.in-Some.map c.next-next.result c.requires (returns-in-Some-clause-ok c)
 
-pub returns-in-Beyond-clause-reason : goal.returns-in-Beyond-clause-reason
-returns-in-Beyond-clause-reason c = a_reason c.args.order.now c.args.index c.args.from c.args.pairs.now c.requires (Big c.in-Beyond.at) (rw c.in-Beyond.is at c.in_ok-found.ensures.beyond)
+pub returns-in-Some-clause-idempotent : goal.returns-in-Some-clause-idempotent
+returns-in-Some-clause-idempotent c =
+    let found : HasImagesWithin c.in_ok-settings.settings.sets × IsWrittenInOrder c.in_ok-settings.settings.sets c.in-Some.map = rw c.in-Some.is at c.in_ok-map.ensures in
+    written_idempotent c.in_ok-settings.settings.sets c.in-Some.map c.in_ok-settings.ensures.ok.triangular found.1.0
