@@ -3,18 +3,14 @@ use Rattle.std.proofs.Common.{◌≡◌, ℕ, zero, suc, List, [], ◌∷◌, ma
 use Rattle.pure_text.specs.Lists.{Each}
 use Rattle.pure_definitions.specs.Types.Typ.{Typ, TFree, TVar, Con, prop}
 use Rattle.pure_definitions.specs.Types.Order.{Algebra}
-use Rattle.pure_definitions.specs.Terms.Term.{Term, Const, Free, Var, Bound, Abs, App, IsWithin}
-use Rattle.pure_definitions.specs.Terms.Subst.{TypBind, typ_image, inst_typ}
-use Rattle.pure_term_laws.specs.LawsOccurs.{IsTypVariable}
-use Rattle.pure_term_laws.proofs.SubstLaws.{entries-keep_fixed_typs}
-use Rattle.pure_term_laws.proofs.OccursLaws.{typ_instances-agree}
+use Rattle.pure_definitions.specs.Terms.Term.{Term, IsWithin}
+use Rattle.pure_definitions.specs.Terms.Subst.{inst_typ}
 use Rattle.pure_tunify.specs.declared.pair.TypPair.{TypPair}
 use Rattle.pure_tunify.specs.declared.fault.TypFault.{TypFault}
 use Rattle.pure_tunify.specs.declared.fault.TypFault.TheVariants as typing
-use Rattle.pure_tunify.specs.Settings.{composed}
+use Rattle.pure_tunify.specs.Settings.{composed, Progress}
 use Rattle.pure_tunify.specs.Procedure.{Outcome, Unified, NotTyped, TooBig, Unifies}
-use Rattle.pure_tunify.specs.Working.{IsWritten}
-use Rattle.pure_tunify.specs.Answers.{AreUnified, IsDecided}
+use Rattle.pure_tunify.specs.Answers.{AreSettled, IsDecided}
 use Rattle.pure_tunify.specs.Unifiers.{IsOldPair}
 use Rattle.pure_grammar.specs.Terms.RawTree.{RawTree, RawTypTree}
 use Rattle.pure_elab.specs.declared.classes.WrittenClass.{WrittenClass}
@@ -77,51 +73,31 @@ refused_typ V t (IllTyped at) h = absurd h
 refused_typ V t Big h = absurd h
 refused_typ V t Memory h = h
 
-composed_keeps : (sets : List TypBind) (x : ℕ) (s : List ℕ) → composed sets (TFree x s) ≡ TFree x s
-composed_keeps [] x s = refl
-composed_keeps (b ∷ bs) x s = composed_keeps bs x s
-
-agree_written : (sets written : List TypBind) → IsWritten sets written → (v : Typ) → IsTypVariable v → typ_image written v ≡ composed sets v
-agree_written sets written h (TFree x s) is = entries-keep_fixed_typs written x s ∙ sym (composed_keeps sets x s)
-agree_written sets written h (TVar x i s) is = h x i s
-agree_written sets written h (Con k ts) is = absurd is
-
-inst_same : (f g : Typ → Typ) → ((v : Typ) → IsTypVariable v → f v ≡ g v) → (t : Term) → inst_typ f t ≡ inst_typ g t
-inst_same f g h (Const c T) = ap (Const c) (typ_instances-agree f g T (λ v is o. h v is))
-inst_same f g h (Free x T) = ap (Free x) (typ_instances-agree f g T (λ v is o. h v is))
-inst_same f g h (Var x i T) = ap (Var x i) (typ_instances-agree f g T (λ v is o. h v is))
-inst_same f g h (Bound n) = refl
-inst_same f g h (Abs T b) = λ l. Abs (typ_instances-agree f g T (λ v is o. h v is) l) (inst_same f g h b l)
-inst_same f g h (App a b) = λ l. App (inst_same f g h a l) (inst_same f g h b l)
-
 module _ (V : Vocabulary) (A : Algebra) (order : A ≡ V.algebra) (d : Draft) (t : Term) (all : Constraints) (has : HasConstraintsOf d t all) where
-  under_same : (sets written : List TypBind) → IsWritten sets written → inst_typ (typ_image written) t ≡ inst_typ (composed sets) d.term
-  under_same sets written h = inst_same (typ_image written) (composed sets) (agree_written sets written h) t ∙ ap (inst_typ (composed sets)) has.term
-
   comes : (o : Outcome) → Unifies A 2 0 0 [] all.pairs.items o → Unifies V.algebra 2 0 0 [] (map pair_of d.constraints) o
   comes o u = subst (λ (B : Algebra). Unifies B 2 0 0 [] (map pair_of d.constraints) o) order (subst (λ (ps : List TypPair). Unifies A 2 0 0 [] ps o) has.pairs u)
 
-  pub typed_ok : (written : List TypBind) (next : ℕ) (u : Term) → AreUnified A 2 0 all.pairs.items written next → IsFinished V (inst_typ (typ_image written) t) (Ok u) → IsTyped V d u
-  typed_ok written next u unified finished =
-      let same = under_same unified.sets written unified.written in
+  pub typed_ok : (p : Progress) (u : Term) → AreSettled A 2 0 all.pairs.items p → IsFinished V (inst_typ (composed p.sets) t) (Ok u) → IsTyped V d u
+  typed_ok p u found finished =
+      let same = ap (inst_typ (composed p.sets)) has.term in
       record {
-        sets = unified.sets;
-        next = next;
-        unifies = comes (Unified unified.sets next) unified.unifies;
+        sets = p.sets;
+        next = p.next;
+        unifies = comes (Unified p.sets p.next) found.unifies;
         within = subst IsWithin same finished.0;
         is = finished.1 ∙ ap (with_fixed V.fresh) same;
       }
 
-  pub typed_large : (written : List TypBind) (next : ℕ) (fault : ElabFault) → AreUnified A 2 0 all.pairs.items written next → IsFinished V (inst_typ (typ_image written) t) (Err fault) → IsTypingFault V d fault
-  typed_large written next Big unified beyond =
-      let same = under_same unified.sets written unified.written in
-      inl (record { sets = unified.sets; next = next; unifies = comes (Unified unified.sets next) unified.unifies; beyond = subst (λ (w : Term). ¬ IsWithin w) same beyond })
-  typed_large written next Memory unified h = h
-  typed_large written next (UnknownName at) unified h = absurd h
-  typed_large written next (UnknownSort at) unified h = absurd h
-  typed_large written next (WrongCount at) unified h = absurd h
-  typed_large written next (Schematic at) unified h = absurd h
-  typed_large written next (IllTyped at) unified h = absurd h
+  pub typed_large : (p : Progress) (fault : ElabFault) → AreSettled A 2 0 all.pairs.items p → IsFinished V (inst_typ (composed p.sets) t) (Err fault) → IsTypingFault V d fault
+  typed_large p Big found beyond =
+      let same = ap (inst_typ (composed p.sets)) has.term in
+      inl (record { sets = p.sets; next = p.next; unifies = comes (Unified p.sets p.next) found.unifies; beyond = subst (λ (w : Term). ¬ IsWithin w) same beyond })
+  typed_large p Memory found h = h
+  typed_large p (UnknownName at) found h = absurd h
+  typed_large p (UnknownSort at) found h = absurd h
+  typed_large p (WrongCount at) found h = absurd h
+  typed_large p (Schematic at) found h = absurd h
+  typed_large p (IllTyped at) found h = absurd h
 
   place_found : (cs : List Constraint) (k at : ℕ) → slice_get (map constraint_place cs) k ≡ Some at → (c : Constraint) × (slice_get cs k ≡ Some c) × (at ≡ c.at)
   place_found [] k at e = absurd (cc)
@@ -173,15 +149,15 @@ pub general_at : (V : Vocabulary) (t : RawTree) (T W : Typ) (r : Result Term Ela
 general_at V t T W r same fixed h = all_general V t W r fixed (subst (λ (U : Typ). IfOk r (IsElaborated V t U)) same h)
 
 -- What is finished, of each draft with these constraints.
-pub all_typed : (V : Vocabulary) (A : Algebra) → A ≡ V.algebra → (t : Term) (all : Constraints) (written : List TypBind) (next : ℕ) (r : Result Term ElabFault) → AreUnified A 2 0 all.pairs.items written next
-    → IsFinished V (inst_typ (typ_image written) t) r → IfOk r (λ u. (d : Draft) → HasConstraintsOf d t all → IsTyped V d u)
-all_typed V A order t all written next (Ok u) unified finished = λ d has. typed_ok V A order d t all has written next u unified finished
-all_typed V A order t all written next (Err f) unified finished = tt
+pub all_typed : (V : Vocabulary) (A : Algebra) → A ≡ V.algebra → (t : Term) (all : Constraints) (p : Progress) (r : Result Term ElabFault) → AreSettled A 2 0 all.pairs.items p
+    → IsFinished V (inst_typ (composed p.sets) t) r → IfOk r (λ u. (d : Draft) → HasConstraintsOf d t all → IsTyped V d u)
+all_typed V A order t all p (Ok u) found finished = λ d has. typed_ok V A order d t all has p u found finished
+all_typed V A order t all p (Err f) found finished = tt
 
-pub all_large : (V : Vocabulary) (A : Algebra) → A ≡ V.algebra → (t : Term) (all : Constraints) (written : List TypBind) (next : ℕ) (r : Result Term ElabFault) → AreUnified A 2 0 all.pairs.items written next
-    → IsFinished V (inst_typ (typ_image written) t) r → IfErr r (λ f. (d : Draft) → HasConstraintsOf d t all → IsTypingFault V d f)
-all_large V A order t all written next (Ok u) unified finished = tt
-all_large V A order t all written next (Err f) unified finished = λ d has. typed_large V A order d t all has written next f unified finished
+pub all_large : (V : Vocabulary) (A : Algebra) → A ≡ V.algebra → (t : Term) (all : Constraints) (p : Progress) (r : Result Term ElabFault) → AreSettled A 2 0 all.pairs.items p
+    → IsFinished V (inst_typ (composed p.sets) t) r → IfErr r (λ f. (d : Draft) → HasConstraintsOf d t all → IsTypingFault V d f)
+all_large V A order t all p (Ok u) found finished = tt
+all_large V A order t all p (Err f) found finished = λ d has. typed_large V A order d t all has p f found finished
 
 -- What the draft of a text comes to is what the text says.
 pub elaborated_ok : (V : Vocabulary) (t : RawTree) (T : Typ) (sorts : ℕ → List ℕ) (u : Term) (all : Constraints) (r : Result Term ElabFault) → term_faults V [] t ≡ [] → AreSorts V.algebra (term_classes V t) sorts

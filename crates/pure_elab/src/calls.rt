@@ -2,10 +2,11 @@
 ghost use Rattle.std.specs.Prelude.{◌≡◌, [], IfOk, IfErr, OnOk};
 ghost use Rattle.pure_text.specs.Lists.{Each};
 ghost use Rattle.pure_definitions.specs.Types.Typ as tree;
-ghost use Rattle.pure_definitions.specs.Terms.Subst.{typ_image, inst_typ};
+ghost use Rattle.pure_definitions.specs.Terms.Subst.{inst_typ};
 ghost use Rattle.pure_definitions.specs.Declarations.Certified.{IsCertifiedTyp};
 ghost use Rattle.pure_logic.specs.Content.{Content, IsCertifiedOf, IsProposition};
 ghost use Rattle.pure_tunify.specs.Unifiers.{IsOldPair};
+ghost use Rattle.pure_tunify.specs.Settings.{composed};
 ghost use Rattle.pure_elab.specs.Sound.{IsSoundVocabulary};
 ghost use Rattle.pure_elab.specs.Faults.{term_faults};
 ghost use Rattle.pure_elab.specs.Numbered.{with_fixed};
@@ -23,11 +24,12 @@ use crate::faults::{with_term, with_typ};
 use crate::language::Language;
 use crate::numbered::{Numbering, number_term};
 use crate::scope::Scope;
+use crate::settled::settled;
 use crate::sorts::{VariableSort, sorts_of_term, sorts_of_typ};
 use crate::written::written_typ;
 use pure_read::{Raw, RawTyp};
 use pure_term::{Grow, Term, inst_typ};
-use pure_tunify::{TypFault, unify_from};
+use pure_tunify::{Settings, TypFault, settle};
 use pure_typ::{Name, Typ, TypMap, TypNode};
 use std::alloc::{AllocError, Global};
 
@@ -80,22 +82,26 @@ fn fixed<L: Language>(alloc: Global, language: &L, term: Term) -> Result<Term, A
     let mut binds = TypMap::empty(alloc);
     let first = language.first_fresh();
     number_term(alloc, Numbering::Fixed, first, &mut binds, &term)?;
+    let entries = binds.binds();
+    if entries.len() == 0 {
+        return Ok(term);
+    }
     match inst_typ(alloc, &term, &binds) {
         Ok(term) => Ok(term),
         Err(_) => Err(AllocError),
     }
 }
 
-/// The draft's term under the map, with the unknowns that are left made fixed.
+/// The draft's term under the settings, with the unknowns that are left made fixed.
 fn finished<L: Language>(
     alloc: Global,
     language: &L,
-    term: &Term,
-    map: &TypMap,
+    term: Term,
+    settings: &Settings,
 ) -> Result<Term, ElabFault>
-    ensures { IsFinished (L.vocabulary language.now) (inst_typ (typ_image map.now) term.now) result }
+    ensures { IsFinished (L.vocabulary language.now) (inst_typ (composed settings.now.sets) term) result }
 {
-    match inst_typ(alloc, term, map) {
+    match settled(settings, alloc, &term) {
         Err(Grow::Big) => Err(ElabFault::Big),
         Err(Grow::Memory) => Err(ElabFault::Memory),
         Ok(term) => {
@@ -123,17 +129,17 @@ fn typing_fault(places: &[u32], fault: TypFault) -> ElabFault
 fn typed<L: Language>(
     alloc: Global,
     language: &L,
-    term: &Term,
+    term: Term,
     constraints: &Constraints,
 ) -> Result<Term, ElabFault>
     requires { Each (IsOldPair fresh_index 0) constraints.now.pairs.items }
-    ensures ok { IfOk result (λ t. (d : drafts.Draft) → HasConstraintsOf d term.now constraints.now → IsTyped (L.vocabulary language.now) d t) }
-    ensures fault { IfErr result (λ f. (d : drafts.Draft) → HasConstraintsOf d term.now constraints.now → IsTypingFault (L.vocabulary language.now) d f) }
+    ensures ok { IfOk result (λ t. (d : drafts.Draft) → HasConstraintsOf d term constraints.now → IsTyped (L.vocabulary language.now) d t) }
+    ensures fault { IfErr result (λ f. (d : drafts.Draft) → HasConstraintsOf d term constraints.now → IsTypingFault (L.vocabulary language.now) d f) }
 {
     let pairs = constraints.pairs.as_slice();
-    match unify_from(alloc, language.order(), pairs, FRESH_INDEX, 0) {
+    match settle(alloc, language.order(), pairs, FRESH_INDEX, 0) {
         Err(fault) => Err(typing_fault(constraints.places.as_slice(), fault)),
-        Ok((map, _)) => finished(alloc, language, term, &map),
+        Ok(settings) => finished(alloc, language, term, &settings),
     }
 }
 
@@ -173,7 +179,7 @@ fn elaborate_to<L: Language>(
     check_names(alloc, language, raw)?;
     let sorts = sorts_of_term(alloc, language, raw)?;
     let (term, constraints) = whole_draft(alloc, language, sorts.as_slice(), raw, typ)?;
-    typed(alloc, language, &term, &constraints)
+    typed(alloc, language, Box::into_inner(term), &constraints)
 }
 
 /// The proposition that the text says, under a most general typing; or the first fault of its names, before all typing, or

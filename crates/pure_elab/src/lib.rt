@@ -12,6 +12,7 @@ mod meaning;
 mod names;
 mod numbered;
 mod scope;
+mod settled;
 mod sorts;
 mod written;
 

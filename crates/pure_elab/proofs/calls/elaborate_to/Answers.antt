@@ -17,13 +17,13 @@ returns-clause-ok g c =
     let V = g.L.Language.vocabulary c.args.language.now in
     let sorts = sort_among c.as_slice.result.now in
     let are : AreSorts V.algebra (term_classes V c.args.raw.now) sorts = subst (λ (l : List VariableSort). AreSorts V.algebra (term_classes V c.args.raw.now) (sort_among l)) (sym c.as_slice.ensures.value) c.in_ok-sorts.ensures in
-    let has : HasConstraintsOf (whole_draft V sorts c.args.raw.now c.args.typ) c.deref.result.now c.in_ok-term.constraints = subst (λ (u : Term). HasConstraintsOf (whole_draft V sorts c.args.raw.now c.args.typ) u c.in_ok-term.constraints) (sym c.deref.ensures) c.in_ok-term.ensures in
-    elaborated_ok V c.args.raw.now c.args.typ sorts c.deref.result.now c.in_ok-term.constraints c.typed.result c.in_ok-check_names.ensures.ok are has c.typed.ensures.ok
+    let has : HasConstraintsOf (whole_draft V sorts c.args.raw.now c.args.typ) c.into_inner.result c.in_ok-term.constraints = subst (λ (u : Term). HasConstraintsOf (whole_draft V sorts c.args.raw.now c.args.typ) u c.in_ok-term.constraints) (sym c.into_inner.ensures) c.in_ok-term.ensures in
+    elaborated_ok V c.args.raw.now c.args.typ sorts c.into_inner.result c.in_ok-term.constraints c.typed.result c.in_ok-check_names.ensures.ok are has c.typed.ensures.ok
 
 pub returns-clause-fault : goal.returns-clause-fault
 returns-clause-fault g c =
     let V = g.L.Language.vocabulary c.args.language.now in
     let sorts = sort_among c.as_slice.result.now in
     let are : AreSorts V.algebra (term_classes V c.args.raw.now) sorts = subst (λ (l : List VariableSort). AreSorts V.algebra (term_classes V c.args.raw.now) (sort_among l)) (sym c.as_slice.ensures.value) c.in_ok-sorts.ensures in
-    let has : HasConstraintsOf (whole_draft V sorts c.args.raw.now c.args.typ) c.deref.result.now c.in_ok-term.constraints = subst (λ (u : Term). HasConstraintsOf (whole_draft V sorts c.args.raw.now c.args.typ) u c.in_ok-term.constraints) (sym c.deref.ensures) c.in_ok-term.ensures in
-    elaborated_err V c.args.raw.now c.args.typ sorts c.deref.result.now c.in_ok-term.constraints c.typed.result c.in_ok-check_names.ensures.ok are has c.typed.ensures.fault
+    let has : HasConstraintsOf (whole_draft V sorts c.args.raw.now c.args.typ) c.into_inner.result c.in_ok-term.constraints = subst (λ (u : Term). HasConstraintsOf (whole_draft V sorts c.args.raw.now c.args.typ) u c.in_ok-term.constraints) (sym c.into_inner.ensures) c.in_ok-term.ensures in
+    elaborated_err V c.args.raw.now c.args.typ sorts c.into_inner.result c.in_ok-term.constraints c.typed.result c.in_ok-check_names.ensures.ok are has c.typed.ensures.fault
