@@ -1,10 +1,10 @@
 //! The texts of reasons.
-ghost use Rattle.std.specs.Prelude.{◌≡◌, ◌<◌, ◌-◌, ◌^◌, ◌++◌, ◌∷◌, length, OnOk};
+ghost use Rattle.std.specs.Prelude.{◌≡◌, ◌<◌, ◌-◌, ◌^◌, ◌++◌, ◌∷◌, length, take, OnOk};
 ghost use Rattle.std.specs.Fmt.{decimal};
+ghost use Rattle.pure_lex.specs.Lines as lines;
 ghost use Rattle.pure_statements.specs.ReasonText as spec;
 
 use crate::reason::Reason;
-use pure_lex::line_col;
 use pure_typ::{Name, Names};
 use std::alloc::{AllocError, Global};
 
@@ -33,17 +33,41 @@ fn words(reason: Reason) -> &'static [u8]
     }
 }
 
-/// The line and the column of a place; of one behind the source those of its end.
-fn line_and_column(source: &[u8], at: u32) -> (u32, u32)
-    requires { length source.now < 2 ^ 32 - 1 }
-    ensures line { result.0 ≡ spec.line_of source.now at }
-    ensures column { result.1 ≡ spec.column_of source.now at }
+/// The bytes before this place: all of them where it lies behind the end.
+fn bytes_before(source: &[u8], at: u32) -> &[u8]
+    ensures { result.now ≡ take at source.now }
 {
     if at as usize <= source.len() {
-        line_col(source, at)
+        &source[..at as usize]
     } else {
-        line_col(source, source.len() as u32)
+        source
     }
+}
+
+/// The line of the place behind these bytes.
+fn line_behind(bytes: &[u8]) -> u32
+    requires { length bytes.now < 2 ^ 32 - 1 }
+    ensures { result ≡ lines.line_behind bytes.now }
+{
+    let mut feeds = 0;
+    for byte in bytes {
+        if *byte == b'\n' {
+            feeds += 1;
+        }
+    }
+    feeds + 1
+}
+
+/// The column of the place behind these bytes, which is counted from there back to its line's beginning.
+fn column_behind(bytes: &[u8]) -> u32
+    requires { length bytes.now < 2 ^ 32 - 1 }
+    ensures { result ≡ lines.column_behind bytes.now }
+{
+    let mut start = bytes.len();
+    while start > 0 && bytes[start - 1] != b'\n' {
+        start -= 1;
+    }
+    (bytes.len() - start) as u32 + 1
 }
 
 /// Appends the number in decimal digits.
@@ -59,10 +83,10 @@ fn push_place(alloc: Global, text: &mut Vec<u8>, source: &[u8], at: u32) -> Resu
     requires { length source.now < 2 ^ 32 - 1 }
     ensures { OnOk result (text.new.items ≡ text.old.items ++ spec.place_text source.now at) }
 {
-    let (line, column) = line_and_column(source, at);
-    push_number(alloc, text, line)?;
+    let bytes = bytes_before(source, at);
+    push_number(alloc, text, line_behind(bytes))?;
     text.push(b':')?;
-    push_number(alloc, text, column)?;
+    push_number(alloc, text, column_behind(bytes))?;
     Ok(())
 }
 
