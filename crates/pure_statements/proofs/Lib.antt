@@ -3,3 +3,4 @@ pub mod QuotedLaws
 pub mod SchematicLaws
 pub mod ElaboratedLaws
 pub mod StatedLaws
+pub mod NormalLaws

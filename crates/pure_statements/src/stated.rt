@@ -10,7 +10,7 @@ ghost use Rattle.pure_statements.specs.Chain.{Answers};
 ghost use Rattle.pure_statements.specs.Statement.{IsStatedNormal, IsStatedTerm, IsStatedTree, IsStated, IsStatedTyp};
 
 use crate::elaborated::{elaborated, elaborated_typ};
-use crate::normal::{is_large, normalised};
+use crate::normal::{is_large, normal_form_of};
 use crate::quoted::{read_term, read_typ};
 use crate::reason::{Failed, Reason};
 use crate::schematic::generalised;
@@ -43,12 +43,12 @@ fn stated_normal(alloc: Global, fixed: Term) -> Result<Stated, Failed>
 }
 
 /// What a proposition states.
-fn stated_term(alloc: Global, term: &Term) -> Result<Stated, Failed>
-    requires { IsClosed term.now }
-    ensures answer { Answers (IsStatedTerm term.now) result }
-    ensures statement { IfOk result (λ s. (Q : Content) → IsContent Q → IsProposition Q term.now → IsStatement Q s.prop) }
+fn stated_term(alloc: Global, term: Term) -> Result<Stated, Failed>
+    requires { IsClosed term }
+    ensures answer { Answers (IsStatedTerm term) result }
+    ensures statement { IfOk result (λ s. (Q : Content) → IsContent Q → IsProposition Q term → IsStatement Q s.prop) }
 {
-    let fixed = normalised(alloc, term)?;
+    let fixed = normal_form_of(alloc, term)?;
     stated_normal(alloc, fixed)
 }
 
@@ -58,7 +58,7 @@ fn stated_tree<L: Language>(alloc: Global, language: &L, raw: &Raw) -> Result<St
     ensures statement { IfOk result (λ s. (Q : Content) → IsContent Q → IsSoundVocabulary Q.declarations (L.vocabulary language.now) → IsStatement Q s.prop) }
 {
     let term = elaborated(alloc, language, raw)?;
-    stated_term(alloc, &term)
+    stated_term(alloc, term)
 }
 
 /// What a quoted text states: it is read, elaborated as a proposition, brought to normal form, and limited in size; or the first of these that refuses.
