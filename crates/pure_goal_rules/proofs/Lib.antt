@@ -1,3 +1,4 @@
 pub mod PrefixLaws
 pub mod RuleLaws
 pub mod AttemptLaws
+pub mod OwnLongLaws

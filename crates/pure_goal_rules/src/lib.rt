@@ -17,5 +17,6 @@ pub use attempt::{
     Attempt, Eliminator, assumption_attempt, destruction_attempt, elimination_attempt, rule_attempt,
 };
 pub use item::{Item, Spot};
+pub use long::is_long;
 pub use read::{Parts, read_proposition};
 pub use rule::{Rule, greatest_index, rule_index, rule_of};

@@ -1,15 +1,18 @@
-//! The long form of a fact, whatever its size.
-ghost use Rattle.std.specs.Prelude.{◌≡◌, [], IfOk, Some, None, MatchOption};
+//! The long form of a fact, whatever its size, and whether a term is in long form.
+ghost use Rattle.std.specs.Prelude.{◌≡◌, [], IfOk, IsTrue, Some, None, MatchOption};
 ghost use Rattle.pure_definitions.specs.Types.Typ as tree;
 ghost use Rattle.pure_definitions.specs.Terms.Term as term;
 ghost use Rattle.pure_definitions.specs.Terms.Bounds.{lift_term};
 ghost use Rattle.pure_definitions.specs.Terms.Typing.{HasType};
-ghost use Rattle.pure_definitions.specs.Reduction.Beta.{IsBetaNormal};
+ghost use Rattle.pure_definitions.specs.Reduction.Beta.{IsAbs, IsBetaNormal};
 ghost use Rattle.pure_definitions.specs.Reduction.Eta.{arrow_count, IsLongForm};
 ghost use Rattle.pure_term.specs.Scope.{scope_typs};
 ghost use Rattle.pure_eta.specs.LongTerm.{front_typ, expanded, wrapped, long_term};
+ghost use Rattle.pure_theorem.specs.Shapes.{IsTyped};
+ghost use Rattle.pure_unify_definitions.specs.LongSides.{Long, ComesTo};
+ghost use Rattle.pure_goal_rules.specs.Rules.{IsOwnLongTerm, StaysUnexpanded};
 
-use pure_term::{Scope, Term, TermNode, Typ, typ_at};
+use pure_term::{Scope, Term, TermNode, Typ, is_within, typ_at};
 use pure_theorem::application;
 use std::alloc::{AllocError, Global};
 
@@ -155,4 +158,86 @@ fn front_typ_of<'t>(t: &'t Term, scope: &Scope<'_, 't>) -> Option<&'t Typ>
             Some(range)
         }
     }
+}
+
+/// Whether the term isn't an abstraction.
+fn is_no_abstraction(t: &Term) -> bool
+    ensures { IsTrue result → ¬ IsAbs t.now }
+{
+    match &t.node {
+        TermNode::Const { .. } => true,
+        TermNode::Free { .. } => true,
+        TermNode::Var { .. } => true,
+        TermNode::Bound { .. } => true,
+        TermNode::Abs { .. } => false,
+        TermNode::App { .. } => true,
+    }
+}
+
+/// Whether the type isn't one of functions.
+fn is_no_function_typ(typ: &Typ) -> bool
+    ensures { IsTrue result → tree.IsNoArrow typ.now }
+{
+    match typ.as_arrow() {
+        Some(_) => false,
+        None => true,
+    }
+}
+
+/// Whether the term in its scope, which is no abstraction, isn't expanded: it is a function that is applied, or gives no function for its arguments.
+fn is_unexpanded(t: &Term, scope: &Scope, is_applied: bool) -> bool
+    ensures { IsTrue result → StaysUnexpanded is_applied (front_typ (scope_typs scope.now) t.now) }
+{
+    if is_applied {
+        return true;
+    }
+    match front_typ_of(&*t, &*scope) {
+        Some(typ) => is_no_function_typ(typ),
+        None => true,
+    }
+}
+
+/// Whether the term in its scope, as a function that is applied or not, is beta-normal and its own long form.
+fn is_long_in(t: &Term, scope: &Scope, is_applied: bool) -> bool
+    ensures { IsTrue result → IsOwnLongTerm is_applied (scope_typs scope.now) t.now }
+{
+    match &t.node {
+        TermNode::Const { .. } => is_unexpanded(t, scope, is_applied),
+        TermNode::Free { .. } => is_unexpanded(t, scope, is_applied),
+        TermNode::Var { .. } => is_unexpanded(t, scope, is_applied),
+        TermNode::Bound { .. } => is_unexpanded(t, scope, is_applied),
+        TermNode::Abs { typ, body } => is_long_in(body, &Scope::Under(typ, &*scope), false),
+        TermNode::App { fun, arg } => {
+            if !is_no_abstraction(fun) {
+                return false;
+            }
+            if !is_long_in(fun, scope, true) {
+                return false;
+            }
+            if !is_long_in(arg, scope, false) {
+                return false;
+            }
+            is_unexpanded(t, scope, is_applied)
+        }
+    }
+}
+
+/// Whether the term is beta-normal and its own long form.
+pub fn is_own_long_form(t: &Term) -> bool
+    requires { IsTyped t.now }
+    ensures { IsTrue result → IsLongForm t.now t.now }
+{
+    let scope = Scope::Empty;
+    is_long_in(t, &scope, false)
+}
+
+/// Whether the term is within the limits, beta-normal and its own long form.
+pub fn is_long(t: &Term) -> bool
+    requires { IsTyped t.now }
+    ensures { IsTrue result → ComesTo t.now (Long t.now) }
+{
+    if !is_within(t) {
+        return false;
+    }
+    is_own_long_form(t)
 }

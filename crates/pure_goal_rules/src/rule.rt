@@ -3,11 +3,11 @@ ghost use Rattle.std.specs.Prelude.{◌≡◌, ◌+◌, IfOk};
 ghost use Rattle.pure_logic.specs.Derivable.{Theorem};
 ghost use Rattle.pure_goal_steps.specs.State as state;
 ghost use Rattle.pure_goal_steps.specs.Reading.{IsRuleOf};
-ghost use Rattle.pure_goal_rules.specs.Rules.{IsFactProposition};
+ghost use Rattle.pure_goal_rules.specs.Rules.{IsFactProposition, IsRaisedForm};
 
 use crate::build::one_more;
 use crate::index::theorem_index_above;
-use crate::long::lengthened;
+use crate::long::{is_own_long_form, lengthened};
 use crate::raising::raised;
 use crate::stripping::strip;
 use pure_term::Term;
@@ -46,6 +46,19 @@ pub struct Rule {
     pub conclusion: Term,
 }
 
+/// The long form of the proposition, with its indexes raised.
+fn raised_form(alloc: Global, by: u32, t: &Term) -> Result<Term, AllocError>
+    requires { IsFactProposition t.now }
+    ensures { IfOk result (IsRaisedForm by t.now) }
+{
+    if is_own_long_form(t) {
+        return raised(alloc, by, t);
+    }
+    let form = lengthened(alloc, t)?;
+    let apart = raised(alloc, by, &form)?;
+    Ok(apart)
+}
+
 /// The fact as a rule on a goal with this greatest index; the fact has the other one.
 pub fn rule_of(alloc: Global, goal: u32, fact: &Thm, index: u32) -> Result<Rule, AllocError>
     requires fact { IsFactProposition fact.now.prop }
@@ -54,8 +67,7 @@ pub fn rule_of(alloc: Global, goal: u32, fact: &Thm, index: u32) -> Result<Rule,
 {
     let above = rule_index(goal, index)?;
     let by = one_more(goal)?;
-    let form = lengthened(alloc, &fact.prop)?;
-    let apart = raised(alloc, by, &form)?;
+    let apart = raised_form(alloc, by, &fact.prop)?;
     let mut premises = Vec::new(alloc);
     let conclusion = strip(alloc, above, 0, &apart, &mut premises)?;
     Ok(Rule {
