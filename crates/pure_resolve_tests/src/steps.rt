@@ -30,7 +30,7 @@ impl Base for Nothing {
 
 /// A call on a goal, or on a theorem.
 #[derive(Clone, Copy)]
-enum Call {
+pub(crate) enum Call {
     Start,
     Prefer(u32),
     Defer,
@@ -41,7 +41,7 @@ enum Call {
 }
 
 /// A call, the theorem that it is given, an equation, and its answer.
-type Row = (Call, Shown, Shown, Wanted);
+pub(crate) type Row = (Call, Shown, Shown, Wanted);
 
 /// The theorem of a goal.
 fn theorem_of(goal: Result<Goal, StepFault>) -> Result<Thm, StepFault> {
@@ -117,7 +117,7 @@ fn holds(alloc: Global, row: &Row) -> Result<bool, Fail> {
 }
 
 /// Each row holds.
-fn check(rt: &impl Abort, alloc: Global, rows: &[Row]) -> Result<(), Fail> {
+pub(crate) fn check(rt: &impl Abort, alloc: Global, rows: &[Row]) -> Result<(), Fail> {
     for (place, row) in rows.iter().enumerate() {
         assert!(rt; holds(alloc, row)?, "row {place}");
     }
