@@ -7,40 +7,59 @@ ghost use Rattle.pure_resolve.specs.Uses.{MayStep};
 use crate::spelling::term;
 use crate::steps::{Step, finished, started, stepped};
 use pure_resolve::{Goal, StepFault};
-use pure_theorem::{Built, Thm};
+use pure_theorem::{Built, Pair, Thm};
 use pure_theory::Theory;
 use std::alloc::Global;
 use std::process::Abort;
 use std::test::Fail;
 
-/// What a call answers: a goal or a theorem of this proposition, in letters, or a fault.
+/// What a call answers: a goal or a theorem of this proposition, in letters; a goal with one pair, by its proposition and the sides; or a fault.
 #[derive(Clone, Copy)]
-enum Wanted {
+pub(crate) enum Wanted {
     Prop(&'static [u8]),
+    Paired(&'static [u8], &'static [u8], &'static [u8]),
     Fault(StepFault),
 }
 
 /// A step, and its answer.
-type Line = (Step, Wanted);
+pub(crate) type Line = (Step, Wanted);
 
 /// A statement, its first goal, the steps, and what the end answers. A step that is refused leaves the goal.
-type Lemma = (&'static [u8], &'static [u8], &'static [Line], Wanted);
+pub(crate) type Lemma = (&'static [u8], &'static [u8], &'static [Line], Wanted);
 
-/// Whether the theorem is of this proposition alone.
-fn is_of(alloc: Global, th: &Thm, letters: &[u8]) -> Result<bool, Fail> {
+/// Whether the theorem is of this proposition, without hypotheses and promises, and with so many pairs.
+fn is_with(alloc: Global, th: &Thm, letters: &[u8], pairs: usize) -> Result<bool, Fail> {
     let prop = term(alloc, letters)?;
-    Ok(th.hyps.is_empty() && th.pairs.is_empty() && th.rests.is_empty() && th.prop == prop)
+    Ok(th.hyps.is_empty() && th.pairs.len() == pairs && th.rests.is_empty() && th.prop == prop)
+}
+
+/// Whether the first of the pairs has these sides.
+fn begins_with(alloc: Global, pairs: &[Pair], left: &[u8], right: &[u8]) -> Result<bool, Fail> {
+    let left = term(alloc, left)?;
+    let right = term(alloc, right)?;
+    match pairs.first() {
+        Some(pair) => Ok(pair.left == left && pair.right == right),
+        None => Ok(false),
+    }
+}
+
+/// Whether the theorem is what is wanted.
+fn is_wanted(alloc: Global, th: &Thm, wanted: &Wanted) -> Result<bool, Fail> {
+    match wanted {
+        Wanted::Prop(letters) => is_with(alloc, th, letters, 0),
+        Wanted::Paired(letters, left, right) => {
+            Ok(is_with(alloc, th, letters, 1)? && begins_with(alloc, &th.pairs, left, right)?)
+        }
+        Wanted::Fault(_) => Ok(false),
+    }
 }
 
 /// The goal, which is what is wanted.
 fn passed(alloc: Global, goal: Goal, wanted: &Wanted) -> Result<Goal, Fail>
     ensures { IfOk result (λ own. own ≡ goal) }
 {
-    let Wanted::Prop(letters) = wanted else {
-        return Err("a goal in place of a fault".into());
-    };
-    if !is_of(alloc, &goal.thm, letters)? {
-        return Err("another goal".into());
+    if !is_wanted(alloc, &goal.thm, wanted)? {
+        return Err("another goal, or no fault".into());
     }
     Ok(goal)
 }
@@ -57,7 +76,7 @@ fn refused(goal: Goal, fault: StepFault, wanted: &Wanted) -> Result<Goal, Fail>
                 Err("another fault".into())
             }
         }
-        Wanted::Prop(_) => Err("a fault in place of a goal".into()),
+        _ => Err("a fault in place of a goal".into()),
     }
 }
 
@@ -90,13 +109,10 @@ fn is_end(alloc: Global, theory: &Theory, goal: &Goal, wanted: &Wanted) -> Resul
     requires { MayStep theory.now goal.now.thm }
 {
     match finished(alloc, theory, goal) {
-        Ok(th) => match wanted {
-            Wanted::Prop(letters) => is_of(alloc, &th, letters),
-            Wanted::Fault(_) => Ok(false),
-        },
+        Ok(th) => is_wanted(alloc, &th, wanted),
         Err(fault) => match wanted {
-            Wanted::Prop(_) => Ok(false),
             Wanted::Fault(own) => Ok(*own == fault),
+            _ => Ok(false),
         },
     }
 }
@@ -113,7 +129,12 @@ fn holds(alloc: Global, theory: &Theory, lemma: &Lemma) -> Result<bool, Fail>
 }
 
 /// Each lemma's proof goes so.
-fn check(rt: &impl Abort, alloc: Global, theory: &Theory, lemmas: &[Lemma]) -> Result<(), Fail>
+pub(crate) fn check(
+    rt: &impl Abort,
+    alloc: Global,
+    theory: &Theory,
+    lemmas: &[Lemma],
+) -> Result<(), Fail>
     requires { theory.now ≡ pure_content }
 {
     for (place, lemma) in lemmas.iter().enumerate() {

@@ -4,6 +4,8 @@
 #[cfg(test)]
 mod lemmas;
 #[cfg(test)]
+mod prefixes;
+#[cfg(test)]
 mod spelling;
 #[cfg(test)]
 mod steps;
