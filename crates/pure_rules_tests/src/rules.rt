@@ -204,7 +204,7 @@ static IMPLICATIONS: [Row; 11] = [
     ),
 ];
 
-static QUANTIFICATIONS: [Row; 16] = [
+static QUANTIFICATIONS: [Row; 17] = [
     (
         Call::AllIntro,
         b"-x",
@@ -230,6 +230,19 @@ static QUANTIFICATIONS: [Row; 16] = [
         Call::AllIntro,
         b"-x",
         (b"-A: Pure.prop, @ =A.P: > i Pure.prop -x", X_PAIR, A, b""),
+        NONE,
+        Wanted::Fault(RuleFault::FreeInHyps { which: 1 }),
+    ),
+    // In a hypothesis and in a pair.
+    (
+        Call::AllIntro,
+        b"-x",
+        (
+            b"-A: Pure.prop, @ =A.P: > i Pure.prop -x",
+            BOTH_PAIRS,
+            A,
+            b"",
+        ),
         NONE,
         Wanted::Fault(RuleFault::FreeInHyps { which: 1 }),
     ),
