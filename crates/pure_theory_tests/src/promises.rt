@@ -1,5 +1,6 @@
 //! A promise, a theorem that rests on it, and theories to which that is handed on.
 use crate::notation::{declare, name, shared, variable};
+use crate::sessions::{Told, stage_over};
 use pure_rules::promise;
 use pure_term::{Label, Name};
 use pure_theory::{Cthm, Decl, DeclFault, Stage, Theory, TransferFault};
@@ -14,6 +15,11 @@ pub(crate) const LABEL: Label = Label {
     command: 2,
     part: 0,
 };
+
+/// Another theory, at its beginning, and with an axiom of the promise's name.
+static FIRST: Told = (b'B', 3, b"", b"");
+
+static LAST: Told = (b'B', 3, b"", b"c< p!");
 
 /// Pure with a promise of this name that states `?A`.
 pub(crate) fn promised(alloc: Global, name: Name) -> Result<Theory, DeclFault> {
@@ -56,6 +62,16 @@ fn fault_of(theorem: &Cthm, to: &Stage) -> Option<TransferFault> {
     theorem.transfer(to).err()
 }
 
+/// What a theory without the promise lacks.
+fn missing() -> TransferFault {
+    TransferFault::Missing {
+        declaration: Decl::Promise {
+            name: name(b'p'),
+            label: LABEL,
+        },
+    }
+}
+
 /// Whether the promise is found by its label, and its name is taken for facts.
 fn is_taken(alloc: Global, theory: &Theory) -> bool {
     let other = Label { part: 1, ..LABEL };
@@ -73,24 +89,34 @@ fn is_transferred(alloc: Global) -> Result<bool, DeclFault> {
     let Some(theorem) = resting(alloc, &stage)? else {
         return Ok(false);
     };
-    let missing = TransferFault::Missing {
-        declaration: Decl::Promise {
-            name: name(b'p'),
-            label: LABEL,
-        },
-    };
     Ok(
         taken
             && is_handed_on(&theorem, &stage)
             && is_handed_on(&theorem, &more)
             && is_copied(&theorem, &more)
-            && fault_of(&theorem, &pure) == Some(missing),
+            && fault_of(&theorem, &pure) == Some(missing()),
     )
+}
+
+/// Whether the theorem isn't handed on to the theory over Pure alone, since this lacks the promise.
+fn misses(alloc: Global, theorem: &Cthm, told: &Told) -> Result<bool, DeclFault> {
+    let stage = stage_over(alloc, &[], told)?;
+    Ok(fault_of(theorem, &stage) == Some(missing()))
+}
+
+/// Whether the theorem of the promise isn't handed on to the first stage of another theory, nor to its last, which has an axiom of that name.
+fn is_missed(alloc: Global) -> Result<bool, DeclFault> {
+    let stage = shared(alloc, promised(alloc, name(b'p'))?)?;
+    match resting(alloc, &stage)? {
+        Some(theorem) => Ok(misses(alloc, &theorem, &FIRST)? && misses(alloc, &theorem, &LAST)?),
+        None => Ok(false),
+    }
 }
 
 #[test]
 fn promises(rt: HostRuntime) -> Result<(), Fail> {
     assert!(rt; is_transferred(rt.alloc()) == Ok(true));
+    assert!(rt; is_missed(rt.alloc()) == Ok(true));
     // Pure has an axiom of this name.
     let taken = promised(rt.alloc(), Name::PROTECT).err();
     assert!(rt; taken == Some(DeclFault::Duplicate));

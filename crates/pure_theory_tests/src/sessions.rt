@@ -85,7 +85,7 @@ pub(crate) fn told_over(
 }
 
 /// The stage of the theory over the stages; refused as for want of memory where it may not begin so.
-fn stage_over(alloc: Global, stages: &[Stage], told: &Told) -> Result<Stage, DeclFault> {
+pub(crate) fn stage_over(alloc: Global, stages: &[Stage], told: &Told) -> Result<Stage, DeclFault> {
     match told_over(alloc, stages, told)? {
         Some(theory) => shared(alloc, theory),
         None => Err(DeclFault::Memory),
