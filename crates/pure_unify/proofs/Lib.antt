@@ -14,3 +14,6 @@ pub mod FrameLaws
 pub mod GoLaws
 pub mod CallLaws
 pub mod CountLaws
+pub mod OwnLaws
+pub mod OneTypLaws
+pub mod ClashLaws

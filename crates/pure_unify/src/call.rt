@@ -9,18 +9,21 @@ ghost use Rattle.pure_unify_nodes.specs.SideAnswer.{AreSidesTyped};
 ghost use Rattle.pure_unify_steps.specs.Held.{IsNode};
 ghost use Rattle.pure_unify_laws.specs.Condition.{IsUnifyContent, AreUnifiable};
 ghost use Rattle.pure_unify_answers.specs.Maps.{Solves, IsFiniteUnifier};
-ghost use Rattle.pure_unify_visits.specs.Visited.{IsVisitAnswer};
+ghost use Rattle.pure_unify_steps.specs.Long.{IsLongPair};
+ghost use Rattle.pure_unify_visits.specs.Visited.{IsVisitAnswer, IsLongVisit};
 ghost use Rattle.pure_unify.specs.Unified.{seen, IsToldAs, IsUnified, IsLeftOver};
 ghost use Rattle.pure_unify.specs.Frames.{HoldNodes, CanGoOn, IsSimpleVisit};
 
+use crate::clash::fails_at_once;
 use crate::fault::UnifyFault;
+use crate::own::are_own;
 use crate::search::{Search, after_visit, take_turn};
 use crate::unifier::Unifier;
 use pure_norm::NormFault;
 use pure_order::Order;
 use pure_theorem::{Pair, copied_pairs};
 use pure_unify_steps::{Node, Path};
-use pure_unify_visits::{Visited, visit};
+use pure_unify_visits::{Visited, visit, visit_long};
 use std::alloc::{AllocError, Global};
 
 /// The root: the given pairs.
@@ -37,6 +40,22 @@ fn root_of(alloc: Global, pairs: &[Pair]) -> Result<Node, AllocError>
     Ok(Node { pairs, path })
 }
 
+/// A root is visited whose sides are in long form.
+fn visit_long_root(
+    alloc: Global,
+    order: &Order,
+    maxidx: u32,
+    root: Node,
+) -> Result<Visited, NormFault>
+    requires long { Each IsLongPair root.pairs.items }
+    requires room { maxidx + 66 < 2 ^ 32 }
+    ensures answer { (n : nodes.Node) → IsNode root n → IsVisitAnswer order.now maxidx n result }
+    ensures long { IfOk result IsLongVisit }
+{
+    let Node { pairs, path } = root;
+    visit_long(alloc, order, maxidx, pairs, path)
+}
+
 /// The root is visited.
 fn visit_root(
     alloc: Global,
@@ -50,6 +69,9 @@ fn visit_root(
     ensures simple { IfOk result IsSimpleVisit }
 {
     let root = root_of(alloc, pairs)?;
+    if are_own(pairs) {
+        return visit_long_root(alloc, order, maxidx, root);
+    }
     visit(alloc, order, maxidx, root)
 }
 
@@ -88,6 +110,9 @@ pub fn unify(
     ensures solves { (Q : Content) → IsUnifyContent Q → order.now ≡ algebra_of Q.declarations → AreUnifiable Q maxidx pairs.now → IfOk result (λ u. Solves Q pairs.now (seen u)) }
     ensures finite { (Q : Content) → IsUnifyContent Q → order.now ≡ algebra_of Q.declarations → AreUnifiable Q maxidx pairs.now → IfOk result (λ u. IsFiniteUnifier Q (seen u)) }
 {
+    if fails_at_once(pairs) {
+        return Err(UnifyFault::NoUnifier);
+    }
     let outcome = visit_root(alloc, order, maxidx, pairs);
     let mut search = Search {
         frames: Vec::new(alloc),

@@ -5,12 +5,15 @@ mod branch;
 mod call;
 mod child;
 mod choice;
+mod clash;
 mod comes;
 mod fault;
 mod images;
 mod later;
+mod own;
 mod resolve;
 mod search;
+mod typs;
 mod unifier;
 
 pub use call::unify;

@@ -1,10 +1,18 @@
-use Rattle.std.proofs.Common.{[], refl, arith}
+use Rattle.std.proofs.Common.{ℕ, [], refl, arith}
 use Rattle.std.specs.Prelude.{Ok}
+use Rattle.pure_definitions.specs.Types.Order.{Algebra}
 use Rattle.pure_unify_definitions.specs.Node.{root}
+use Rattle.pure_unify_definitions.specs.Simplification.{Failed, Visits}
 use Rattle.pure_unify_definitions.specs.Search.{Searches, IsUnifyAnswer}
 use Rattle.pure_unify.proofs.FrameLaws.{told_of, found_at, onward_at, none_held}
 use Rattle.pure_unify.proofs.CallLaws.{solves_of, finite_of}
+use Rattle.pure_unify.proofs.ClashLaws.{root_fails}
 use Rattle.pure_unify.proofs.call.unify.Goals as goal
+
+pub returns-then-fails_at_once-clause-answer : goal.returns-then-fails_at_once-clause-answer
+returns-then-fails_at_once-clause-answer c =
+    let fails : (A : Algebra) (maxidx : ℕ) → Visits A maxidx (root c.args.pairs.now) Failed = rw c.if-fails_at_once.true at c.fails_at_once.ensures in
+    root_fails c.args.order.now c.args.maxidx c.args.pairs.now (fails c.args.order.now c.args.maxidx)
 
 pub returns-in-Ok-Some-clause-answer : goal.returns-in-Ok-Some-clause-answer
 returns-in-Ok-Some-clause-answer c =
