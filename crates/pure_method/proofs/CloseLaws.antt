@@ -24,6 +24,9 @@ pub record ClosesFrom (Q : Content) (goal now : Theorem) : Type 0 where
   pub rests : now.rests ≡ goal.rests
   pub may : MayStep Q now
 
+pub closes-start : (Q : Content) (goal : Theorem) → MayStep Q goal → ClosesFrom Q goal goal
+closes-start Q goal m = record { before = m.is.state; is_before = m.is.is; here = m.is.state; is_here = m.is.is; closes = λ last rest. rest; rests = refl; may = m }
+
 pub closes-turn : (Q : Content) (goal now next : Theorem) → ClosesFrom Q goal now → IsAssumed Q now next → ClosesFrom Q goal next
 closes-turn Q goal now next c a = record {
   before = c.before;

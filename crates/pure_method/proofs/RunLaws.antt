@@ -260,8 +260,9 @@ module _ (texts : List (List ℕ)) (f : Fork) (p : IsProvable texts f) where
         let found = step-fault (λ s. Gives texts f.content step s) (GainsNamed texts f.content (named_facts step) goal.rests) goal fault n h in
         come-failed texts f goal number step (drop (at + 1) f.script) here found.0 found.1 fault found.2
 
-    pub run-proved : step ≡ Done → (th : Theorem) → IsEnd goal (Ok th) → IsProof texts f.content f.fixed f.script (Ok th.rests)
-    run-proved e th (s, is, ends, rests) = come-proved texts f goal number step (drop (at + 1) f.script) here e s is (record th { rests = [] }) ends th.rests rests
+    -- It rests on what the goal rests on.
+    pub run-ends : step ≡ Done → (th : Theorem) → IsEnd goal (Ok th) → IsProof texts f.content f.fixed f.script (Ok goal.rests)
+    run-ends e th (s, is, ends, rests) = come-proved texts f goal number step (drop (at + 1) f.script) here e s is (record th { rests = [] }) ends goal.rests refl
 
     pub run-unfinished : step ≡ Done → (fault : StepFault) → (fault ≡ Memory → ⊥) → IsEnd goal (Err fault) → IsProof texts f.content f.fixed f.script (Err (record { step = number; fault = fault }))
     run-unfinished e fault n h =

@@ -1,5 +1,5 @@
 -- How far a proof has come, and what is known of it there.
-use Rattle.std.specs.Prelude.{◌≡◌, ◌↔◌, ◌⊎◌, ◌≤◌, ℕ, ◌+◌, List, length, drop, count_by, Ok, Err}
+use Rattle.std.specs.Prelude.{◌≡◌, ◌≢◌, MatchOption, ◌↔◌, ◌⊎◌, ◌≤◌, ℕ, ◌+◌, List, length, drop, count_by, Ok, Err, Some, None}
 use Rattle.pure_text.specs.Lists.{IsIn, AnyOf}
 use Rattle.pure_definitions.specs.Names.{Label}
 use Rattle.pure_grammar.specs.Theories.TheoryText.{Step}
@@ -22,6 +22,7 @@ use Rattle.pure_method.specs.declared.run.Run.{Run}
 use Rattle.pure_method.specs.declared.run.Next.{Next}
 use Rattle.pure_method.specs.declared.run.Next.TheVariants.{Goes, Ends as EndsWith}
 use Rattle.pure_method.specs.declared.proving.Place.{Place}
+use Rattle.pure_method.specs.declared.proving.Turn.{Turn}
 use Rattle.pure_method.specs.declared.proving.Place.TheVariants.{Runs, Refused, Broken}
 use Rattle.pure_method.specs.declared.proving.Proving.{Proving}
 
@@ -55,10 +56,10 @@ pub record HasCome (texts : List (List ℕ)) (f : Fork) (goal : Theorem) (number
 abbrev pub IsRun : (texts : List (List ℕ)) → Fork → Run → Type 0
 IsRun texts f run = HasCome texts f run.goal.thm run.number (drop run.at f.script)
 
--- What a step leaves of a run: a run that is one step further; or what comes of the proof.
+-- What a step leaves of a run: a run that is one step further; or the run, and what comes of the proof.
 abbrev pub IsNext : (texts : List (List ℕ)) → Fork → (at : ℕ) → Next → Type 0
 IsNext texts f at (Goes run) = IsRun texts f run × (run.at ≡ at + 1)
-IsNext texts f at (EndsWith outcome) = IsOutcomeOf texts f outcome
+IsNext texts f at (EndsWith run outcome) = IsRun texts f run × IsOutcomeOf texts f outcome
 
 -- What is known of where a proof stands: it runs; or no goal began with its statement; or it is broken by want of memory, and answers that from then on.
 abbrev pub IsPlace : (texts : List (List ℕ)) → Fork → Place → Type 0
@@ -84,7 +85,13 @@ steps_left f proving = place_left f proving.place
 abbrev pub IsBroken : Proving → Type 0
 IsBroken proving = proving.place ≡ Broken
 
--- What a step leaves of a place: a run that has one step less; or what comes of the proof.
-abbrev pub IsNextAt : (texts : List (List ℕ)) → Fork → Place → Next → Type 0
-IsNextAt texts f place (Goes run) = IsRun texts f run × (length (drop run.at f.script) + 1 ≡ place_left f place)
-IsNextAt texts f place (EndsWith outcome) = IsOutcomeOf texts f outcome
+-- What a step leaves of a place: one with one step less; or one, and what comes of the proof. It isn't broken.
+pub record IsTurn (texts : List (List ℕ)) (f : Fork) (place : Place) (turn : Turn) : Type 0 where
+  pub stands : IsPlace texts f turn.place
+  pub unbroken : turn.place ≢ Broken
+  pub outcome : MatchOption turn.outcome (place_left f turn.place + 1 ≡ place_left f place) (IsOutcomeOf texts f)
+
+-- the place behind a step that leaves this of a run, and what comes of the proof
+abbrev pub turn_shown : Next → Turn
+turn_shown (Goes run) = record { place = Runs run; outcome = None }
+turn_shown (EndsWith run outcome) = record { place = Runs run; outcome = Some outcome }

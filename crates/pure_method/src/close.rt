@@ -25,13 +25,12 @@ fn one_closed(alloc: Global, theory: &Theory, goal: &Goal) -> Result<Option<Goal
 }
 
 /// The goal without its first subgoals, as long as they are proved by assumption.
-pub fn closed(alloc: Global, theory: &Theory, goal: &Goal) -> Result<Goal, AllocError>
+pub fn closed(alloc: Global, theory: &Theory, goal: Goal) -> Result<Goal, AllocError>
     requires content { IsUnifyContent theory.now }
-    requires goal { MayStep theory.now goal.now.thm }
-    ensures { IfOk result (λ new. IsClosed theory.now goal.now.thm new.thm) }
+    requires goal { MayStep theory.now goal.thm }
+    ensures { IfOk result (λ new. IsClosed theory.now goal.thm new.thm) }
 {
-    let thm = goal.thm.copy(alloc)?;
-    let mut now = Goal { thm };
+    let mut now = goal;
     while let Some(next) = one_closed(alloc, theory, &now)? {
         now = next;
     }

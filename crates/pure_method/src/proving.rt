@@ -2,7 +2,7 @@
 ghost use Rattle.std.specs.Prelude.{◌≡◌, ◌+◌, IfOk, IfErr, OnErr, MatchOption, IsErr};
 ghost use Rattle.pure_method.specs.Outcome.{IsProvable, IsOutcomeOf};
 ghost use Rattle.pure_method.specs.declared.proving.Place.TheVariants as stands;
-ghost use Rattle.pure_method.specs.Running.{Proves, IsBroken, IsPlace, IsNextAt, steps_left};
+ghost use Rattle.pure_method.specs.Running.{Proves, IsBroken, IsRun, IsPlace, IsTurn, turn_shown, steps_left};
 
 use crate::duty::{statement_of, theory_of};
 use crate::fault::is_memory;
@@ -59,30 +59,64 @@ pub fn start(alloc: Global, _names: &NamesByBase, duty: &Duty) -> Result<Proving
     }
 }
 
+/// Where a proof stands behind a step, and what comes of it where it ends.
+#[derive(Drop)]
+pub struct Turn {
+    place: Place,
+    outcome: Option<Outcome>,
+}
+
 /// Lets the place go.
 fn discard(_place: Place) {}
+
+/// The same of what a step leaves of a run.
+fn turn_of(next: Next) -> Turn
+    ensures { result ≡ turn_shown next }
+{
+    match next {
+        Next::Goes { run } => Turn {
+            place: Place::Runs { run },
+            outcome: None,
+        },
+        Next::Ends { run, outcome } => Turn {
+            place: Place::Runs { run },
+            outcome: Some(outcome),
+        },
+    }
+}
+
+/// What the next step of a run leaves.
+fn turn_from(alloc: Global, names: &NamesByBase, duty: &Duty, run: Run) -> Result<Turn, AllocError>
+    requires provable { IsProvable names.now duty.now }
+    requires run { IsRun names.now duty.now run }
+    ensures { IfOk result (IsTurn names.now duty.now (stands.Runs run)) }
+{
+    let next = next_of(alloc, names, duty, run)?;
+    Ok(turn_of(next))
+}
 
 /// What the next step leaves.
 fn next_at(
     alloc: Global,
     names: &NamesByBase,
     duty: &Duty,
-    place: &Place,
-) -> Result<Next, AllocError>
+    place: Place,
+) -> Result<Turn, AllocError>
     requires provable { IsProvable names.now duty.now }
-    requires place { IsPlace names.now duty.now place.now }
-    ensures next { IfOk result (IsNextAt names.now duty.now place.now) }
-    ensures broken { place.now ≡ stands.Broken → IsErr result }
+    requires place { IsPlace names.now duty.now place }
+    ensures turn { IfOk result (IsTurn names.now duty.now place) }
+    ensures broken { place ≡ stands.Broken → IsErr result }
 {
     match place {
         Place::Broken => Err(AllocError),
-        Place::Refused => Ok(Next::Ends {
-            outcome: Outcome::Fault {
+        Place::Refused => Ok(Turn {
+            place: Place::Refused,
+            outcome: Some(Outcome::Fault {
                 step: 0,
                 fault: StepFault::Big,
-            },
+            }),
         }),
-        Place::Runs { run } => next_of(alloc, names, duty, run),
+        Place::Runs { run } => turn_from(alloc, names, duty, run),
     }
 }
 
@@ -92,6 +126,24 @@ impl Proving {
         ensures { self.new.place ≡ place }
     {
         discard(mem::replace(&mut self.place, place));
+    }
+
+    /// Stands at a broken place, and gives the one at which it stood.
+    fn leave(&mut self) -> Place
+        ensures gives { result ≡ self.old.place }
+        ensures broken { IsBroken self.new }
+    {
+        mem::replace(&mut self.place, Place::Broken)
+    }
+
+    /// Stands where a step has led, and gives what comes of the proof.
+    fn go_on(&mut self, turn: Turn) -> Option<Outcome>
+        ensures place { self.new.place ≡ turn.place }
+        ensures outcome { result ≡ turn.outcome }
+    {
+        let Turn { place, outcome } = turn;
+        self.enter(place);
+        outcome
     }
 
     /// Makes one step of the proof: none exactly where steps are left and none failed, else what comes of the proof.
@@ -113,16 +165,10 @@ impl Proving {
         ensures broken { OnErr result (IsBroken self.new) }
         ensures still { IsBroken self.old → IsErr result }
     {
-        match next_at(alloc, names, duty, &self.place) {
-            Ok(Next::Goes { run }) => {
-                self.enter(Place::Runs { run });
-                Ok(None)
-            }
-            Ok(Next::Ends { outcome }) => Ok(Some(outcome)),
-            Err(error) => {
-                self.enter(Place::Broken);
-                Err(error)
-            }
+        let place = self.leave();
+        match next_at(alloc, names, duty, place) {
+            Ok(turn) => Ok(self.go_on(turn)),
+            Err(error) => Err(error),
         }
     }
 }

@@ -3,6 +3,7 @@ ghost use Rattle.std.specs.Prelude.{◌≡◌, ◌≢◌, ◌+◌, ◌∷◌, dr
 ghost use Rattle.pure_grammar.specs.Theories.TheoryText as tree;
 ghost use Rattle.pure_logic.specs.Derivable.{IsDerivable};
 ghost use Rattle.pure_script.specs.Seen.{seen_step};
+ghost use Rattle.pure_theorem.specs.Sets.{IsLabelSet};
 ghost use Rattle.pure_method.specs.Facts as facts;
 ghost use Rattle.pure_method.specs.Outcome.{IsProvable, IsOutcomeOf};
 ghost use Rattle.pure_method.specs.Running.{IsRun, IsNext};
@@ -28,19 +29,20 @@ pub struct Run {
     pub number: u32,
 }
 
-/// What a step leaves: a run, or what comes of the proof.
+/// What a step leaves: a run further on; or the run as it was, and what comes of the proof.
 #[derive(Drop)]
 pub enum Next {
     Goes { run: Run },
-    Ends { outcome: Outcome },
+    Ends { run: Run, outcome: Outcome },
 }
 
 /// The outcome of a proof that rests on what the theorem rests on.
-fn proved(alloc: Global, duty: &Duty, th: Thm) -> Result<Outcome, AllocError>
-    requires { IsDerivable duty.now.content (facts.theorem duty.now.prop th.rests) }
-    ensures { IfOk result (λ made. made ≡ shown.Proved (record { content = duty.now.content; theorem = facts.theorem duty.now.prop th.rests })) }
+fn proved(alloc: Global, duty: &Duty, th: &Thm) -> Result<Outcome, AllocError>
+    requires set { IsLabelSet th.now.rests }
+    requires derivable { IsDerivable duty.now.content (facts.theorem duty.now.prop th.now.rests) }
+    ensures { IfOk result (λ made. made ≡ shown.Proved (record { content = duty.now.content; theorem = facts.theorem duty.now.prop th.now.rests })) }
 {
-    let Thm { rests, .. } = th;
+    let rests = Vec::from_slice(alloc, &th.rests)?;
     let result = certified(alloc, duty, rests)?;
     Ok(Outcome::Proved { result })
 }
@@ -52,8 +54,8 @@ fn ended(alloc: Global, _names: &NamesByBase, duty: &Duty, run: &Run) -> Result<
     requires end { drop run.now.at duty.now.script ≡ tree.Done ∷ drop (run.now.at + 1) duty.now.script }
     ensures { IfOk result (IsOutcomeOf _names.now duty.now) }
 {
-    match run.goal.finish(alloc, theory_of(duty)) {
-        Ok(th) => proved(alloc, duty, th),
+    match run.goal.check_end(alloc, theory_of(duty)) {
+        Ok(()) => proved(alloc, duty, &run.goal.thm),
         Err(fault) => {
             if is_memory(fault) {
                 return Err(AllocError);
@@ -67,24 +69,16 @@ fn ended(alloc: Global, _names: &NamesByBase, duty: &Duty, run: &Run) -> Result<
 }
 
 /// The run behind the closing of subgoals.
-fn closed_run(
-    alloc: Global,
-    _names: &NamesByBase,
-    duty: &Duty,
-    run: &Run,
-) -> Result<Run, AllocError>
+fn closed_run(alloc: Global, _names: &NamesByBase, duty: &Duty, run: Run) -> Result<Run, AllocError>
     requires provable { IsProvable _names.now duty.now }
-    requires run { IsRun _names.now duty.now run.now }
-    requires close { drop run.now.at duty.now.script ≡ tree.Close ∷ drop (run.now.at + 1) duty.now.script }
-    ensures { IfOk result (λ new. IsRun _names.now duty.now new × (new.at ≡ run.now.at + 1)) }
+    requires run { IsRun _names.now duty.now run }
+    requires close { drop run.at duty.now.script ≡ tree.Close ∷ drop (run.at + 1) duty.now.script }
+    ensures { IfOk result (λ new. IsRun _names.now duty.now new × (new.at ≡ run.at + 1)) }
 {
-    let at = place_behind(duty, run.at);
-    let goal = closed(alloc, theory_of(duty), &run.goal)?;
-    Ok(Run {
-        goal,
-        at,
-        number: run.number,
-    })
+    let Run { goal, at, number } = run;
+    let at = place_behind(duty, at);
+    let goal = closed(alloc, theory_of(duty), goal)?;
+    Ok(Run { goal, at, number })
 }
 
 /// What a step leaves that has a number and isn't the end.
@@ -92,15 +86,15 @@ fn further(
     alloc: Global,
     names: &NamesByBase,
     duty: &Duty,
-    run: &Run,
+    run: Run,
     step: &Step,
 ) -> Result<Next, AllocError>
     requires provable { IsProvable names.now duty.now }
-    requires run { IsRun names.now duty.now run.now }
-    requires step { drop run.now.at duty.now.script ≡ seen_step step.now ∷ drop (run.now.at + 1) duty.now.script }
+    requires run { IsRun names.now duty.now run }
+    requires step { drop run.at duty.now.script ≡ seen_step step.now ∷ drop (run.at + 1) duty.now.script }
     requires close { seen_step step.now ≢ tree.Close }
     requires end { seen_step step.now ≢ tree.Done }
-    ensures { IfOk result (IsNext names.now duty.now run.now.at) }
+    ensures { IfOk result (IsNext names.now duty.now run.at) }
 {
     let at = place_behind(duty, run.at);
     match stepped(alloc, names, theory_of(duty), &run.goal, step) {
@@ -115,12 +109,12 @@ fn further(
             if is_memory(fault) {
                 return Err(AllocError);
             }
-            Ok(Next::Ends {
-                outcome: Outcome::Fault {
-                    step: run.number,
-                    fault,
-                },
-            })
+            let number = run.number;
+            let outcome = Outcome::Fault {
+                step: number,
+                fault,
+            };
+            Ok(Next::Ends { run, outcome })
         }
     }
 }
@@ -130,17 +124,17 @@ pub fn next_of(
     alloc: Global,
     names: &NamesByBase,
     duty: &Duty,
-    run: &Run,
+    run: Run,
 ) -> Result<Next, AllocError>
     requires provable { IsProvable names.now duty.now }
-    requires run { IsRun names.now duty.now run.now }
-    ensures { IfOk result (IsNext names.now duty.now run.now.at) }
+    requires run { IsRun names.now duty.now run }
+    ensures { IfOk result (IsNext names.now duty.now run.at) }
 {
     let step = step_at(duty, run.at);
     match step {
         Step::Done => {
-            let outcome = ended(alloc, names, duty, run)?;
-            Ok(Next::Ends { outcome })
+            let outcome = ended(alloc, names, duty, &run)?;
+            Ok(Next::Ends { run, outcome })
         }
         Step::Close => {
             let run = closed_run(alloc, names, duty, run)?;

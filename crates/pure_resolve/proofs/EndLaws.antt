@@ -5,7 +5,7 @@ use Rattle.pure_text.specs.Lists.{Each}
 use Rattle.pure_text.proofs.ListLaws.{each_imply}
 use Rattle.pure_definitions.specs.Names.{Label, protect_name}
 use Rattle.pure_definitions.specs.Types.Typ.{Typ}
-use Rattle.pure_definitions.specs.Terms.Term.{Term, Const, Free, Var, Bound, Abs, App, term_eq}
+use Rattle.pure_definitions.specs.Terms.Term.{Term, Const, Free, Var, Bound, Abs, App, term_eq, IsWithin}
 use Rattle.pure_definitions.specs.Terms.Conditions.{variable_typ}
 use Rattle.pure_definitions.specs.Terms.Limits.{cut_off}
 use Rattle.pure_definitions.specs.Models.Comparison.{term_cmp}
@@ -15,7 +15,7 @@ use Rattle.pure_logic.specs.PureContent.{pure_content}
 use Rattle.pure_logic.specs.Derivable.{Pair, Theorem, IsDerivable}
 use Rattle.pure_theorem.specs.Facts.{IsTheoryContent}
 use Rattle.pure_theorem.specs.Sets.{IsSetOf}
-use Rattle.pure_theorem.specs.Within.{AreWithin}
+use Rattle.pure_theorem.specs.Within.{IsPairWithin, AreWithin}
 use Rattle.pure_unify_definitions.specs.Fronts.{front, head, arguments, below, domains, is_schematic, is_flexible}
 use Rattle.pure_unify_definitions.specs.Children.{IsFlexFlex}
 use Rattle.pure_pairs.specs.Smash.{with_constant, with_constants, pair_with, result_typ, fresh_variable, theorem_index_above, IsWithConstants, Smashes, no_pair, trivial, constants}
@@ -222,6 +222,20 @@ end_answer th g none smashed (f, w) new u =
 
 pub end_large : (th : Theorem) (g : IsGoalTheorem th) → g.state.subgoals ≡ [] → (smashed : Theorem) → Smashes th smashed → (¬ AreWithin smashed) → IsEnd th (Err fault.Big)
 end_large th g none smashed f w = (g.state, g.is, EndsAs.large none (at-state th g smashed f) (λ v. w (record { hyps = v.hyps; pairs = v.pairs; prop = v.prop })))
+
+-- A theorem without pairs is smashed to itself.
+pub no-pairs : (ps : List Pair) → length ps ≡ 0 → ps ≡ []
+no-pairs [] e = refl
+no-pairs (p ∷ ps) e = absurd (omega arith)
+
+pub end_at_once : (th : Theorem) (g : IsGoalTheorem th) → g.state.subgoals ≡ [] → th.pairs ≡ [] → IsWithin th.prop → (new : Theorem) × IsEnd th (Ok new)
+end_at_once th g none e w =
+    let m = goal-marked th g none in
+    let within : AreWithin th = record { hyps = subst (λ (hs : List Term). Each IsWithin hs) (sym g.is.hyps) tt; pairs = subst (λ (ps : List Pair). Each IsPairWithin ps) (sym e) tt; prop = w } in
+    (record th { prop = m.0 }, end_answer th g none th (no_pair e, within) (record th { prop = m.0 }) (record { statement = m.0; marked = m.1; is = refl }))
+
+pub end_large_at_once : (th : Theorem) (g : IsGoalTheorem th) → g.state.subgoals ≡ [] → th.pairs ≡ [] → (¬ IsWithin th.prop) → IsEnd th (Err fault.Big)
+end_large_at_once th g none e w = end_large th g none th (no_pair e) (λ v. w v.prop)
 
 none-left : (As : List Term) → cut_off (length As) ≡ 0 → As ≡ []
 none-left [] e = refl

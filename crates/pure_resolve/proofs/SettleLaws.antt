@@ -1,5 +1,5 @@
 -- Terms under a unifier, in long form.
-use Rattle.std.proofs.Common.{◌≡◌, ℕ, ◌+◌, ◌<◌, List, [], ◌∷◌, ◌++◌, map, length, take, get_or, zero, suc, Result, Ok, Err, IfOk, IfErr, inl, refl, ap, sym, subst, ◌∙◌, arith, append_assoc}
+use Rattle.std.proofs.Common.{◌≡◌, List, [], ◌∷◌, ◌++◌, map, length, Result, Ok, Err, IfOk, IfErr, inl, refl, ap, sym, subst, ◌∙◌, arith, append_assoc}
 use Rattle.std.proofs.lemmas.List.{map-append}
 use Rattle.std.specs.Global.{Vec}
 use Rattle.pure_text.specs.Lists.{Each}
@@ -77,61 +77,6 @@ settled_stopped typs terms t SearchBound h = absurd h
 settled_stopped typs terms t NoHypothesis h = absurd h
 settled_stopped typs terms t SubgoalsLeft h = absurd h
 
--- One subgoal after the other.
-come-more : (As Ss : List Term) (A S : Term) → Come As (AllLong Ss) → ComesTo A (Long S) → Come (As ++ A ∷ []) (AllLong (Ss ++ S ∷ []))
-come-more [] [] A S f c = all_long c no_more
-come-more [] (R ∷ Rs) A S f c = elim f [ ]
-come-more (B ∷ Bs) [] A S f c = elim f [ ]
-come-more (B ∷ Bs) (R ∷ Rs) A S (all_long d f) c = all_long d (come-more Bs Rs A S f c)
-
-come-stops : (As Ss : List Term) (A : Term) (others : List Term) (s : Stop) → Come As (AllLong Ss) → ComesTo A (Ends s) → Come (As ++ A ∷ others) (Halted s)
-come-stops [] [] A others s f c = first_stops c
-come-stops [] (R ∷ Rs) A others s f c = elim f [ ]
-come-stops (B ∷ Bs) [] A others s f c = elim f [ ]
-come-stops (B ∷ Bs) (R ∷ Rs) A others s (all_long d f) c = later_stops d (come-stops Bs Rs A others s f c)
-
--- A place in a mapped list.
-record At (f : Term → Term) (ts : List Term) (i : ℕ) (t : Term) : Type 0 where
-  rest : List Term
-  more : map f (take (i + 1) ts) ≡ map f (take i ts) ++ f t ∷ []
-  all : map f ts ≡ map f (take i ts) ++ f t ∷ rest
-
-at : (f : Term → Term) (ts : List Term) (i : ℕ) (t : Term) → i < length ts → t ≡ get_or ts i t → At f ts i t
-at f [] i t l e = absurd (omega arith)
-at f (u ∷ us) zero t l e = record { rest = map f us; more = ap (λ (v : Term). f v ∷ []) (sym e); all = ap (λ (v : Term). f v ∷ map f us) (sym e) }
-at f (u ∷ us) (suc i) t l e =
-    let inner = at f us i t (omega arith) e in
-    let next : suc i + 1 ≡ suc (i + 1) = omega arith in
-    record { rest = inner.rest; more = rw next (ap (λ (vs : List Term). f u ∷ vs) inner.more); all = ap (λ (vs : List Term). f u ∷ vs) inner.all }
-
-pub settled_none : (f : Term → Term) (ts made : List Term) → made ≡ [] → Come (map f (take 0 ts)) (AllLong made)
-settled_none f [] made e = subst (λ (Ss : List Term). Come [] (AllLong Ss)) (sym e) no_more
-settled_none f (t ∷ ts) made e = subst (λ (Ss : List Term). Come [] (AllLong Ss)) (sym e) no_more
-
-pub settled_more : (f : Term → Term) (ts made new : List Term) (i : ℕ) (t S : Term) → i < length ts → t ≡ get_or ts i t → Come (map f (take i ts)) (AllLong made) → new ≡ made ++ S ∷ [] → IsLongSubgoal (f t) (Ok S) → Come (map f (take (i + 1) ts)) (AllLong new)
-settled_more f ts made new i t S l e h n c =
-    let place = at f ts i t l e in
-    subst (λ (k : List Term × List Term). Come k.0 (AllLong k.1)) (λ j. (sym place.more j, sym n j)) (come-more (map f (take i ts)) made (f t) S h c)
-
-stops-at : (f : Term → Term) (ts made : List Term) (i : ℕ) (t : Term) (s : Stop) → i < length ts → t ≡ get_or ts i t → Come (map f (take i ts)) (AllLong made) → ComesTo (f t) (Ends s) → Come (map f ts) (Halted s)
-stops-at f ts made i t s l e h c =
-    let place = at f ts i t l e in
-    subst (λ (us : List Term). Come us (Halted s)) (sym place.all) (come-stops (map f (take i ts)) made (f t) place.rest s h c)
-
-pub settled_fault : (f : Term → Term) (ts made : List Term) (i : ℕ) (t : Term) (fault : StepFault) → i < length ts → t ≡ get_or ts i t → Come (map f (take i ts)) (AllLong made) → IsLongSubgoal (f t) (Err fault) → IsComeAnswer (map f ts) (Err fault)
-settled_fault f ts made i t Steps l e h c = stops-at f ts made i t sides.Steps l e h c
-settled_fault f ts made i t Big l e h c = stops-at f ts made i t sides.Big l e h c
-settled_fault f ts made i t Memory l e h c = tt
-settled_fault f ts made i t UnknownFact l e h c = absurd c
-settled_fault f ts made i t NoSubgoal l e h c = absurd c
-settled_fault f ts made i t NoPremise l e h c = absurd c
-settled_fault f ts made i t NotDefinition l e h c = absurd c
-settled_fault f ts made i t NothingToUnfold l e h c = absurd c
-settled_fault f ts made i t NoUnifier l e h c = absurd c
-settled_fault f ts made i t SearchBound l e h c = absurd c
-settled_fault f ts made i t NoHypothesis l e h c = absurd c
-settled_fault f ts made i t SubgoalsLeft l e h c = absurd c
-
 -- Terms in long form that the maps leave as they are.
 pub kept_comes : (typs : List TypBind) (terms : List TermBind) (t : Term) → IsLongForm t t → instantiated typs terms t ≡ t → IsWithin t → ComesTo (instantiated typs terms t) (Long t)
 kept_comes typs terms t f e w = subst (λ (u : Term). ComesTo u (Long t)) (sym e) (is_long (record { before = []; last = t; sequence = refl; undecided = tt; in_time = omega arith; decided = (w, f.normal, refl) }) f w)
@@ -168,54 +113,54 @@ stopped_before front others SearchBound c = absurd c
 stopped_before front others NoHypothesis c = absurd c
 stopped_before front others SubgoalsLeft c = absurd c
 
--- However those that are left come, so do all, behind what is done. Those that are left are in long form.
-pub record ComesOn (f : Term → Term) (front others left done : List Term) : Type 0 where
+-- However those that are left come, so do all, behind what is done. Of each that is left this holds.
+pub record ComesOn (P : Term → Type 0) (f : Term → Term) (front others left done : List Term) : Type 0 where
   pub on : (As Ss : List Term) → Come (map f As) (AllLong front) → Come (map f left) (AllLong Ss) → Come (map f (As ++ others)) (AllLong (done ++ Ss))
   pub halts : (As : List Term) (s : Stop) → Come (map f As) (AllLong front) → Come (map f left) (Halted s) → Come (map f (As ++ others)) (Halted s)
-  pub long : Each (λ A. IsLongForm A A) left
+  pub kept : Each P left
 
-pub others_none : (f : Term → Term) (front others left : List Term) → left ≡ others → Each (λ A. IsLongForm A A) others → ComesOn f front others left front
-others_none f front others left e h = record {
+pub others_none : (P : Term → Type 0) (f : Term → Term) (front others left : List Term) → left ≡ others → Each P others → ComesOn P f front others left front
+others_none P f front others left e h = record {
   on = λ As Ss c g. subst (λ (ts : List Term). Come ts (AllLong (front ++ Ss))) (λ i. whole As i) (come-both (map f As) front (map f left) Ss c g);
   halts = λ As s c g. subst (λ (ts : List Term). Come ts (Halted s)) (λ i. whole As i) (come-behind (map f As) front (map f left) s c g);
-  long = subst (λ (As : List Term). Each (λ A. IsLongForm A A) As) (sym e) h;
+  kept = subst (λ (As : List Term). Each P As) (sym e) h;
 }
   where
     whole : (As : List Term) → map f As ++ map f left ≡ map f (As ++ others)
     whole As = sym (map-append f As left) ∙ ap (λ (Bs : List Term). map f (As ++ Bs)) e
 
-pub next_long : (f : Term → Term) (front others left rest done : List Term) (t : Term) → left ≡ t ∷ rest → ComesOn f front others left done → IsLongForm t t
-next_long f front others left rest done t e o = (subst (λ (As : List Term). Each (λ A. IsLongForm A A) As) e o.long).0
+pub next_with : (P : Term → Type 0) (f : Term → Term) (front others left rest done : List Term) (t : Term) → left ≡ t ∷ rest → ComesOn P f front others left done → P t
+next_with P f front others left rest done t e o = (subst (λ (As : List Term). Each P As) e o.kept).0
 
-pub others_turn : (f : Term → Term) (front others left rest done longer : List Term) (t S : Term) → left ≡ t ∷ rest → longer ≡ done ++ S ∷ [] → IsLongSubgoal (f t) (Ok S) → ComesOn f front others left done → ComesOn f front others rest longer
-others_turn f front others left rest done longer t S e l d o = record {
+pub others_turn : (P : Term → Type 0) (f : Term → Term) (front others left rest done longer : List Term) (t S : Term) → left ≡ t ∷ rest → longer ≡ done ++ S ∷ [] → IsLongSubgoal (f t) (Ok S) → ComesOn P f front others left done → ComesOn P f front others rest longer
+others_turn P f front others left rest done longer t S e l d o = record {
   on = λ As Ss c g.
       subst (λ (Ts : List Term). Come (map f (As ++ others)) (AllLong Ts)) (sym (append_assoc done (S ∷ []) Ss) ∙ ap (λ (Ts : List Term). Ts ++ Ss) (sym l))
       (o.on As (S ∷ Ss) c (subst (λ (ts : List Term). Come (map f ts) (AllLong (S ∷ Ss))) (sym e) (all_long d g)));
   halts = λ As s c g. o.halts As s c (subst (λ (ts : List Term). Come (map f ts) (Halted s)) (sym e) (later_stops d g));
-  long = (subst (λ (As : List Term). Each (λ A. IsLongForm A A) As) e o.long).1;
+  kept = (subst (λ (As : List Term). Each P As) e o.kept).1;
 }
 
-pub others_end : (f : Term → Term) (front others left done : List Term) → length left ≡ 0 → ComesOn f front others left done → IsComeBehind f front others (Ok done)
-others_end f front others [] done n o = λ As c. subst (λ (Ts : List Term). Come (map f (As ++ others)) (AllLong Ts)) (sym (nothing-more done)) (o.on As [] c no_more)
-others_end f front others (t ∷ ts) done n o = absurd (omega arith)
+pub others_end : (P : Term → Type 0) (f : Term → Term) (front others left done : List Term) → length left ≡ 0 → ComesOn P f front others left done → IsComeBehind f front others (Ok done)
+others_end P f front others [] done n o = λ As c. subst (λ (Ts : List Term). Come (map f (As ++ others)) (AllLong Ts)) (sym (nothing-more done)) (o.on As [] c no_more)
+others_end P f front others (t ∷ ts) done n o = absurd (omega arith)
 
-halts-at : (f : Term → Term) (front others left rest done : List Term) (t : Term) (s : Stop) → left ≡ t ∷ rest → ComesTo (f t) (Ends s) → ComesOn f front others left done → (As : List Term) → Come (map f As) (AllLong front) → Come (map f (As ++ others)) (Halted s)
-halts-at f front others left rest done t s e d o As c = o.halts As s c (subst (λ (ts : List Term). Come (map f ts) (Halted s)) (sym e) (first_stops d))
+halts-at : (P : Term → Type 0) (f : Term → Term) (front others left rest done : List Term) (t : Term) (s : Stop) → left ≡ t ∷ rest → ComesTo (f t) (Ends s) → ComesOn P f front others left done → (As : List Term) → Come (map f As) (AllLong front) → Come (map f (As ++ others)) (Halted s)
+halts-at P f front others left rest done t s e d o As c = o.halts As s c (subst (λ (ts : List Term). Come (map f ts) (Halted s)) (sym e) (first_stops d))
 
-pub others_fault : (f : Term → Term) (front others left rest done : List Term) (t : Term) (fault : StepFault) → left ≡ t ∷ rest → IsLongSubgoal (f t) (Err fault) → ComesOn f front others left done → IsComeBehind f front others (Err fault)
-others_fault f front others left rest done t Steps e d o = halts-at f front others left rest done t sides.Steps e d o
-others_fault f front others left rest done t Big e d o = halts-at f front others left rest done t sides.Big e d o
-others_fault f front others left rest done t Memory e d o = λ As c. tt
-others_fault f front others left rest done t UnknownFact e d o = absurd d
-others_fault f front others left rest done t NoSubgoal e d o = absurd d
-others_fault f front others left rest done t NoPremise e d o = absurd d
-others_fault f front others left rest done t NotDefinition e d o = absurd d
-others_fault f front others left rest done t NothingToUnfold e d o = absurd d
-others_fault f front others left rest done t NoUnifier e d o = absurd d
-others_fault f front others left rest done t SearchBound e d o = absurd d
-others_fault f front others left rest done t NoHypothesis e d o = absurd d
-others_fault f front others left rest done t SubgoalsLeft e d o = absurd d
+pub others_fault : (P : Term → Type 0) (f : Term → Term) (front others left rest done : List Term) (t : Term) (fault : StepFault) → left ≡ t ∷ rest → IsLongSubgoal (f t) (Err fault) → ComesOn P f front others left done → IsComeBehind f front others (Err fault)
+others_fault P f front others left rest done t Steps e d o = halts-at P f front others left rest done t sides.Steps e d o
+others_fault P f front others left rest done t Big e d o = halts-at P f front others left rest done t sides.Big e d o
+others_fault P f front others left rest done t Memory e d o = λ As c. tt
+others_fault P f front others left rest done t UnknownFact e d o = absurd d
+others_fault P f front others left rest done t NoSubgoal e d o = absurd d
+others_fault P f front others left rest done t NoPremise e d o = absurd d
+others_fault P f front others left rest done t NotDefinition e d o = absurd d
+others_fault P f front others left rest done t NothingToUnfold e d o = absurd d
+others_fault P f front others left rest done t NoUnifier e d o = absurd d
+others_fault P f front others left rest done t SearchBound e d o = absurd d
+others_fault P f front others left rest done t NoHypothesis e d o = absurd d
+others_fault P f front others left rest done t SubgoalsLeft e d o = absurd d
 
 -- Those before are given.
 pub behind_long : (f : Term → Term) (As front others : List Term) (r : Result (Vec Term) StepFault) → Come (map f As) (AllLong front) → IfOk r (λ made. IsComeBehind f front others (Ok made.items)) → IfOk r (λ made. IsComeAnswer (map f (As ++ others)) (Ok made.items))

@@ -11,6 +11,7 @@ ghost use Rattle.pure_resolve.specs.Goals.{IsOutcome, IsLongSubgoal};
 
 use crate::close::concluded;
 use crate::state::Goal;
+use pure_goal_rules::is_long;
 use pure_goal_steps::StepFault;
 use pure_norm::NormFault;
 use pure_term::{Name, Term, TermNode, Typ};
@@ -30,8 +31,8 @@ fn marked(alloc: Global, t: &Term) -> Result<Term, AllocError>
     application(alloc, mark, t.copy(alloc)?)
 }
 
-/// A subgoal in long form, or why it has none.
-pub fn long_subgoal(alloc: Global, t: &Term) -> Result<Term, StepFault>
+/// The subgoal brought to long form, or why it has none.
+fn lengthened(alloc: Global, t: &Term) -> Result<Term, StepFault>
     requires { IsTyped t.now }
     ensures { IsLongSubgoal t.now result }
 {
@@ -41,6 +42,30 @@ pub fn long_subgoal(alloc: Global, t: &Term) -> Result<Term, StepFault>
         Err(NormFault::Big) => Err(StepFault::Big),
         Err(NormFault::Memory) => Err(StepFault::Memory),
     }
+}
+
+/// A subgoal in long form, or why it has none. One that is in long form is only copied.
+pub fn long_subgoal(alloc: Global, t: &Term) -> Result<Term, StepFault>
+    requires { IsTyped t.now }
+    ensures { IsLongSubgoal t.now result }
+{
+    if !is_long(t) {
+        return lengthened(alloc, t);
+    }
+    let copy = t.copy(alloc)?;
+    Ok(copy)
+}
+
+/// The same of a subgoal that is given: one that is in long form stays where it is.
+pub fn long_given(alloc: Global, t: Term) -> Result<Term, StepFault>
+    requires { IsTyped t }
+    ensures { IsLongSubgoal t result }
+{
+    if !is_long(&t) {
+        let answer = lengthened(alloc, &t);
+        return answer;
+    }
+    Ok(t)
 }
 
 /// The list of one term.

@@ -68,12 +68,12 @@ fn with_statement<B: Ordered>(
     thy: &B,
     unifier: Unifier,
     subgoals: Vec<Term>,
-    marked: &Term,
+    marked: Term,
     rests: Vec<Label>,
 ) -> Result<Goal, StepFault>
     requires left { Each IsLeftOver unifier.flexflex.items }
     requires set { IsLabelSet rests.items }
-    ensures { IsConcluded unifier.flexflex.items (chain subgoals.items (instantiated unifier.typs unifier.terms marked.now)) rests.items result }
+    ensures { IsConcluded unifier.flexflex.items (chain subgoals.items (instantiated unifier.typs unifier.terms marked)) rests.items result }
 {
     let Unifier {
         typs,
@@ -106,8 +106,8 @@ fn with_instances<B: Ordered>(
     };
     let mut others = Vec::new(alloc);
     let marked = put_premises(alloc, rest, &mut others)?;
-    match both_settled(alloc, thy, &unifier.typs, &unifier.terms, &premises, others) {
-        Ok(subgoals) => with_statement(alloc, thy, unifier, subgoals, &marked, rests),
+    match both_settled(alloc, thy, &unifier.typs, &unifier.terms, premises, others) {
+        Ok(subgoals) => with_statement(alloc, thy, unifier, subgoals, marked, rests),
         Err(fault) => Err(fault),
     }
 }
@@ -143,7 +143,7 @@ fn before_rest<B: Ordered>(
     requires set { IsLabelSet rests.items }
     ensures { (made : State) → IsBefore unifier premises.items rest.now made → IsOutcome (follows.Becomes made) (λ all. all ≡ rests.items) result }
 {
-    match all_settled(alloc, thy, &unifier.typs, &unifier.terms, &premises) {
+    match all_settled(alloc, thy, &unifier.typs, &unifier.terms, premises) {
         Ok(subgoals) => with_rest(alloc, unifier, subgoals, rest, rests),
         Err(fault) => Err(fault),
     }

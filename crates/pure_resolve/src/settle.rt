@@ -11,7 +11,7 @@ ghost use Rattle.pure_unify_definitions.specs.LongSides.{Long, ComesTo};
 ghost use Rattle.pure_resolve.specs.Goals.{IsLongSubgoal};
 ghost use Rattle.pure_resolve.specs.Settled.{IsInstanceAnswer, IsComeAnswer, IsComeBehind};
 
-use crate::begin::long_subgoal;
+use crate::begin::long_given;
 use crate::stay::stays;
 use pure_goal_steps::StepFault;
 use pure_inst::{InstFault, Ordered, instantiate};
@@ -61,18 +61,17 @@ fn image_of<B: Ordered>(
     image
 }
 
-/// The instance of the term by the unifier's maps. A map that isn't of its variables' sorts and types, as no unifier is, is want of memory.
+/// The instance of the term by the unifier's maps, in place of the term. A map that isn't of its variables' sorts and types, as no unifier is, is want of memory.
 pub fn instance_of<B: Ordered>(
     alloc: Global,
     thy: &B,
     typs: &TypMap,
     terms: &TermMap,
-    t: &Term,
+    t: Term,
 ) -> Result<Term, StepFault>
-    ensures { IsInstanceAnswer typs.now terms.now t.now result }
+    ensures { IsInstanceAnswer typs.now terms.now t result }
 {
-    let copy = t.copy(alloc)?;
-    match image_of(alloc, thy, typs, terms, copy) {
+    match image_of(alloc, thy, typs, terms, t) {
         Ok(image) => Ok(proposition_of(image)),
         Err(InstFault::Big) => Err(StepFault::Big),
         Err(_) => Err(StepFault::Memory),
@@ -85,13 +84,16 @@ fn settled<B: Ordered>(
     thy: &B,
     typs: &TypMap,
     terms: &TermMap,
-    t: &Term,
+    t: Term,
 ) -> Result<Term, StepFault>
-    requires { IsTyped t.now }
-    ensures { IsLongSubgoal (instantiated typs.now terms.now t.now) result }
+    requires { IsTyped t }
+    ensures { IsLongSubgoal (instantiated typs.now terms.now t) result }
 {
+    if stays(typs, terms, &t) {
+        return long_given(alloc, t);
+    }
     match instance_of(alloc, thy, typs, terms, t) {
-        Ok(image) => long_subgoal(alloc, &image),
+        Ok(image) => long_given(alloc, image),
         Err(fault) => Err(fault),
     }
 }
@@ -110,11 +112,11 @@ pub fn all_settled<B: Ordered>(
     thy: &B,
     typs: &TypMap,
     terms: &TermMap,
-    subgoals: &[Term],
+    subgoals: Vec<Term>,
 ) -> Result<Vec<Term>, StepFault>
-    requires { Each IsTyped subgoals.now }
-    ensures long { IfOk result (λ made. IsComeAnswer (map (instantiated typs.now terms.now) subgoals.now) (Ok made.items)) }
-    ensures fault { IfErr result (λ fault. IsComeAnswer (map (instantiated typs.now terms.now) subgoals.now) (Err fault)) }
+    requires { Each IsTyped subgoals.items }
+    ensures long { IfOk result (λ made. IsComeAnswer (map (instantiated typs.now terms.now) subgoals.items) (Ok made.items)) }
+    ensures fault { IfErr result (λ fault. IsComeAnswer (map (instantiated typs.now terms.now) subgoals.items) (Err fault)) }
 {
     let mut made = Vec::new(alloc);
     for subgoal in subgoals {
@@ -151,8 +153,7 @@ fn kept_or_settled<B: Ordered>(
     if is_kept(typs, terms, &t) {
         return Ok(t);
     }
-    let answer = settled(alloc, thy, typs, terms, &t);
-    answer
+    settled(alloc, thy, typs, terms, t)
 }
 
 /// Behind terms in long form, those of the instances of the others by the unifier's maps, in order. The others are in long form.
@@ -184,13 +185,13 @@ pub fn both_settled<B: Ordered>(
     thy: &B,
     typs: &TypMap,
     terms: &TermMap,
-    premises: &[Term],
+    premises: Vec<Term>,
     others: Vec<Term>,
 ) -> Result<Vec<Term>, StepFault>
-    requires typed { Each IsTyped premises.now }
+    requires typed { Each IsTyped premises.items }
     requires long { Each (λ A. IsLongForm A A) others.items }
-    ensures long { IfOk result (λ made. IsComeAnswer (map (instantiated typs.now terms.now) (premises.now ++ others.items)) (Ok made.items)) }
-    ensures fault { IfErr result (λ fault. IsComeAnswer (map (instantiated typs.now terms.now) (premises.now ++ others.items)) (Err fault)) }
+    ensures long { IfOk result (λ made. IsComeAnswer (map (instantiated typs.now terms.now) (premises.items ++ others.items)) (Ok made.items)) }
+    ensures fault { IfErr result (λ fault. IsComeAnswer (map (instantiated typs.now terms.now) (premises.items ++ others.items)) (Err fault)) }
 {
     match all_settled(alloc, thy, typs, terms, premises) {
         Ok(front) => others_settled(alloc, thy, typs, terms, front, others),

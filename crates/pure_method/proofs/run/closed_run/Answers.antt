@@ -11,11 +11,11 @@ pub closed-requires-clause-content : goal.closed-requires-clause-content
 closed-requires-clause-content c = subst IsUnifyContent (sym c.theory_of.ensures.value) (unify_content c.args.duty.now.content c.theory_of.ensures.sound)
 
 pub closed-requires-clause-goal : goal.closed-requires-clause-goal
-closed-requires-clause-goal c = subst (λ (Q : Content). MayStep Q c.args.run.now.goal.thm) (sym c.theory_of.ensures.value) c.requires.run.may
+closed-requires-clause-goal c = subst (λ (Q : Content). MayStep Q c.args.run.goal.thm) (sym c.theory_of.ensures.value) c.requires.run.may
 
 pub returns : goal.returns
 returns c = (
-  run-closed c.args._names.now c.args.duty.now c.requires.provable c.args.run.now.goal.thm c.args.run.now.number c.args.run.now.at c.requires.run Close c.requires.close refl c.in_ok-goal.goal.thm
-      (closed-over c.theory_of.result.now c.args.duty.now.content c.theory_of.ensures.value c.args.run.now.goal.thm c.in_ok-goal.goal.thm c.in_ok-goal.ensures) c.place_behind-at.result c.place_behind-at.ensures,
+  run-closed c.args._names.now c.args.duty.now c.requires.provable c.args.run.goal.thm c.args.run.number c.args.run.at c.requires.run Close c.requires.close refl c.in_ok-goal.goal.thm
+      (closed-over c.theory_of.result.now c.args.duty.now.content c.theory_of.ensures.value c.args.run.goal.thm c.in_ok-goal.goal.thm c.in_ok-goal.ensures) c.place_behind-at.result c.place_behind-at.ensures,
   c.place_behind-at.ensures,
 )

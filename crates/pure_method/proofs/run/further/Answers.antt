@@ -11,13 +11,15 @@ stepped-requires-clause-ready c = subst (IsReady c.args.names.now) (sym c.theory
 
 pub returns-in-Ok : goal.returns-in-Ok
 returns-in-Ok c = (
-  run-further c.args.names.now c.args.duty.now c.requires.provable c.args.run.now.goal.thm c.args.run.now.number c.args.run.now.at c.requires.run (seen_step c.args.step.now) c.requires.step c.requires.close c.requires.end
-      c.in-Ok.goal (step-over c.args.names.now c.theory_of.result.now c.args.duty.now.content c.theory_of.ensures.value (seen_step c.args.step.now) c.args.run.now.goal.thm (Ok c.in-Ok.goal) c.in-Ok.ensures.answer)
+  run-further c.args.names.now c.args.duty.now c.requires.provable c.args.run.goal.thm c.args.run.number c.args.run.at c.requires.run (seen_step c.args.step.now) c.requires.step c.requires.close c.requires.end
+      c.in-Ok.goal (step-over c.args.names.now c.theory_of.result.now c.args.duty.now.content c.theory_of.ensures.value (seen_step c.args.step.now) c.args.run.goal.thm (Ok c.in-Ok.goal) c.in-Ok.ensures.answer)
       (may-over c.theory_of.result.now c.args.duty.now.content c.theory_of.ensures.value c.in-Ok.goal c.in-Ok.ensures.may) c.place_behind-at.result c.place_behind-at.ensures,
   c.place_behind-at.ensures,
 )
 
 pub returns-else-is_memory : goal.returns-else-is_memory
-returns-else-is_memory c =
-    run-failed c.args.names.now c.args.duty.now c.requires.provable c.args.run.now.goal.thm c.args.run.now.number c.args.run.now.at c.requires.run (seen_step c.args.step.now) c.requires.step c.in-Err.fault c.if-is_memory.ensures
-    (step-over c.args.names.now c.theory_of.result.now c.args.duty.now.content c.theory_of.ensures.value (seen_step c.args.step.now) c.args.run.now.goal.thm (Err c.in-Err.fault) c.in-Err.ensures.answer)
+returns-else-is_memory c = (
+  c.requires.run,
+  run-failed c.args.names.now c.args.duty.now c.requires.provable c.args.run.goal.thm c.args.run.number c.args.run.at c.requires.run (seen_step c.args.step.now) c.requires.step c.in-Err.fault c.if-is_memory.ensures
+      (step-over c.args.names.now c.theory_of.result.now c.args.duty.now.content c.theory_of.ensures.value (seen_step c.args.step.now) c.args.run.goal.thm (Err c.in-Err.fault) c.in-Err.ensures.answer),
+)

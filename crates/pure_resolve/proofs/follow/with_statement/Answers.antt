@@ -6,4 +6,4 @@ concluded-requires-clause-typed g c = left_typed c.args.unifier.flexflex.items c
 
 pub returns-in-Err : goal.returns-in-Err
 returns-in-Err g c =
-    statement_stopped c.args.unifier.typs c.args.unifier.terms c.args.unifier.flexflex.items c.requires.left c.args.subgoals.items c.args.marked.now c.args.rests.items c.in-Err.fault c.in-Err.ensures
+    statement_stopped c.args.unifier.typs c.args.unifier.terms c.args.unifier.flexflex.items c.requires.left c.args.subgoals.items c.args.marked c.args.rests.items c.in-Err.fault c.in-Err.ensures

@@ -1,28 +1,32 @@
-use Rattle.std.proofs.Common.{List, map, subst, take_all}
-use Rattle.pure_text.proofs.ListLaws.{each_read}
+use Rattle.std.proofs.Common.{List, [], sym, subst, arith}
+use Rattle.std.specs.Vec.Iter.{into_iter_items}
 use Rattle.pure_definitions.specs.Terms.Term.{Term}
 use Rattle.pure_logic.specs.Laws.Maps.{instantiated}
 use Rattle.pure_theorem.specs.Shapes.{IsTyped}
-use Rattle.pure_goal_steps.specs.Follows.{AllLong, Come}
-use Rattle.pure_resolve.proofs.SettleLaws.{settled_none, settled_more, settled_fault}
+use Rattle.pure_goal_steps.specs.Follows.{no_more}
+use Rattle.pure_resolve.proofs.SettleLaws.{ComesOn, others_none, next_with, others_turn, others_end, others_fault}
 use Rattle.pure_resolve.proofs.settle.all_settled.Goals as goal
 
-pub settled-requires : goal.settled-requires
-settled-requires g c = each_read IsTyped c.args.subgoals.now c.loop-subgoal.subgoal-index c.subgoal-item.result c.loop-subgoal-test.true c.subgoal-item.is c.requires
-
 pub loop-subgoal-init : goal.loop-subgoal-init
-loop-subgoal-init g c = settled_none (instantiated c.args.typs.now c.args.terms.now) c.args.subgoals.now _ c.new-made.ensures.items
+loop-subgoal-init g c =
+    let f = instantiated c.args.typs.now c.args.terms.now in
+    let left = into_iter_items c.into_iter-subgoal-iterator.result in
+    subst (λ (done : List Term). ComesOn IsTyped f [] c.args.subgoals.items left done) (sym c.new-made.ensures.items)
+    (others_none IsTyped f [] c.args.subgoals.items left c.into_iter-subgoal-iterator.ensures.into_iter_gives.0 c.requires)
+
+pub settled-requires : goal.settled-requires
+settled-requires g c = next_with IsTyped (instantiated c.args.typs.now c.args.terms.now) [] c.args.subgoals.items (into_iter_items c.loop-subgoal.subgoal-iterator) (into_iter_items c.next.new.self) c.loop-subgoal.made.items c.in-Some.subgoal c.in-Some.ensures.steps.0 c.loop-subgoal.invariant
 
 pub loop-subgoal-preserved : goal.loop-subgoal-preserved
 loop-subgoal-preserved g c =
-    settled_more (instantiated c.args.typs.now c.args.terms.now) c.args.subgoals.now c.loop-subgoal.made.items c.put.new.list.items c.loop-subgoal.subgoal-index c.subgoal-item.result c.in-Ok.long
-    c.loop-subgoal-test.true c.subgoal-item.is c.loop-subgoal.invariant c.in_ok-put-in-Ok.ensures c.in-Ok.ensures
+    others_turn IsTyped (instantiated c.args.typs.now c.args.terms.now) [] c.args.subgoals.items (into_iter_items c.loop-subgoal.subgoal-iterator) (into_iter_items c.next.new.self) c.loop-subgoal.made.items c.put.new.list.items c.in-Some.subgoal c.in-Ok.long
+    c.in-Some.ensures.steps.0 c.in_ok-put-in-Ok.ensures c.in-Ok.ensures c.loop-subgoal.invariant
 
 pub returns-in-Err-clause-fault : goal.returns-in-Err-clause-fault
 returns-in-Err-clause-fault g c =
-    settled_fault (instantiated c.args.typs.now c.args.terms.now) c.args.subgoals.now c.loop-subgoal.made.items c.loop-subgoal.subgoal-index c.subgoal-item.result c.in-Err.fault
-    c.loop-subgoal-test.true c.subgoal-item.is c.loop-subgoal.invariant c.in-Err.ensures
+    others_fault IsTyped (instantiated c.args.typs.now c.args.terms.now) [] c.args.subgoals.items (into_iter_items c.loop-subgoal.subgoal-iterator) (into_iter_items c.next.new.self) c.loop-subgoal.made.items c.in-Some.subgoal c.in-Err.fault
+    c.in-Some.ensures.steps.0 c.in-Err.ensures c.loop-subgoal.invariant [] no_more
 
 pub returns-clause-long : goal.returns-clause-long
 returns-clause-long g c =
-    subst (λ (ts : List Term). Come (map (instantiated c.args.typs.now c.args.terms.now) ts) (AllLong c.loop-subgoal.made.items)) (take_all c.loop-subgoal.subgoal-index c.args.subgoals.now c.loop-subgoal-test.false) c.loop-subgoal.invariant
+    others_end IsTyped (instantiated c.args.typs.now c.args.terms.now) [] c.args.subgoals.items (into_iter_items c.loop-subgoal.subgoal-iterator) c.loop-subgoal.made.items (omega (arith, c.loop-subgoal.subgoal-iterator.rest.ok.0, c.in-None.ensures.steps.0)) c.loop-subgoal.invariant [] no_more

@@ -6,5 +6,5 @@ use Rattle.pure_resolve.proofs.settle.instance_of.Goals as goal
 pub returns-in-Err-Big : goal.returns-in-Err-Big
 returns-in-Err-Big g c =
     let large = rw c.in-Err-Big.field-0-is at c.in-Err-Big.ensures in
-    let th : Theorem = record { hyps = []; pairs = []; prop = c.in_ok-copy.copy; rests = [] } in
-    instance_large _ c.args.typs.now c.args.terms.now th large.0 c.args.t.now refl refl c.in_ok-copy.ensures large.1 large.2
+    let th : Theorem = record { hyps = []; pairs = []; prop = c.args.t; rests = [] } in
+    instance_large _ c.args.typs.now c.args.terms.now th large.0 c.args.t refl refl refl large.1 large.2

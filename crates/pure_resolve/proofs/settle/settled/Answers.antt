@@ -1,8 +1,14 @@
+use Rattle.std.proofs.Common.{sym, subst}
+use Rattle.pure_definitions.specs.Terms.Term.{Term}
+use Rattle.pure_resolve.specs.Goals.{IsLongSubgoal}
 use Rattle.pure_resolve.proofs.SettleLaws.{instance_typed, settled_stopped}
 use Rattle.pure_resolve.proofs.settle.settled.Goals as goal
 
-pub long_subgoal-requires : goal.long_subgoal-requires
-long_subgoal-requires g c = instance_typed c.args.typs.now c.args.terms.now c.args.t.now c.in-Ok.image c.requires c.in-Ok.ensures
+pub returns-then-stays : goal.returns-then-stays
+returns-then-stays g c = subst (λ (u : Term). IsLongSubgoal u c.long_given.result) (sym (c.stays.ensures c.if-stays.true)) c.long_given.ensures
+
+pub long_given-requires-in-Ok : goal.long_given-requires-in-Ok
+long_given-requires-in-Ok g c = instance_typed c.args.typs.now c.args.terms.now c.args.t c.in-Ok.image c.requires c.in-Ok.ensures
 
 pub returns-in-Err : goal.returns-in-Err
-returns-in-Err g c = settled_stopped c.args.typs.now c.args.terms.now c.args.t.now c.in-Err.fault c.in-Err.ensures
+returns-in-Err g c = settled_stopped c.args.typs.now c.args.terms.now c.args.t c.in-Err.fault c.in-Err.ensures
