@@ -154,26 +154,62 @@ static CLASHES: [(&[u8], Wanted); 29] = [
     (b"@ % =b =a, =b", Wanted::Is(b"", b"")),
     (b"@ % =b =a, =c", Wanted::None(UnifyFault::NoUnifier)),
     (b"=f, =g", Wanted::None(UnifyFault::NoUnifier)),
-    (b"=f, % @ =f _0, =a, =b", Wanted::None(UnifyFault::NoUnifier)),
+    (
+        b"=f, % @ =f _0, =a, =b",
+        Wanted::None(UnifyFault::NoUnifier),
+    ),
     (b"=f, % @ =f _0", Wanted::Is(b"", b"")),
     (b"?x, =a, ?x, =b", Wanted::None(UnifyFault::NoUnifier)),
     (b"?x, =a", Wanted::Is(b"", b"?x, =a")),
     // Types that differ come first: they have no unifier, or one that stops the search, or one behind which the heads differ.
     (b"=a, =k: j", Wanted::None(UnifyFault::NoUnifier)),
     (b"=a: ?'a, =b: j", Wanted::None(UnifyFault::NoUnifier)),
-    (b"=a: ?'a, =b: k//199998 i", Wanted::None(UnifyFault::NoUnifier)),
-    (b"=a: ?'a, =b: k//199998 i, @ =f: > ?'a i =c: ?'a, =d", Wanted::None(UnifyFault::Big)),
+    (
+        b"=a: ?'a, =b: k//199998 i",
+        Wanted::None(UnifyFault::NoUnifier),
+    ),
+    (
+        b"=a: ?'a, =b: k//199998 i, @ =f: > ?'a i =c: ?'a, =d",
+        Wanted::None(UnifyFault::Big),
+    ),
     // Heads of one name with different types.
-    (b"@ -x: > i i =a, @ -x: > j i =b: j", Wanted::None(UnifyFault::NoUnifier)),
-    (b"@ -x: > ?'a i =c: ?'a, @ -x: > j i =c: j", Wanted::None(UnifyFault::NoUnifier)),
-    (b"@ =f: > i i =a, @ =f: > j i =b: j", Wanted::None(UnifyFault::NoUnifier)),
-    (b"@ =f: > ?'a i =c: ?'a, @ =f: > j i =c: j", Wanted::Is(b"", b"?'a, j")),
-    (b"@ =f: > ?'a i =c: ?'a, @ =f: > j i =d: j", Wanted::None(UnifyFault::NoUnifier)),
+    (
+        b"@ -x: > i i =a, @ -x: > j i =b: j",
+        Wanted::None(UnifyFault::NoUnifier),
+    ),
+    (
+        b"@ -x: > ?'a i =c: ?'a, @ -x: > j i =c: j",
+        Wanted::None(UnifyFault::NoUnifier),
+    ),
+    (
+        b"@ =f: > i i =a, @ =f: > j i =b: j",
+        Wanted::None(UnifyFault::NoUnifier),
+    ),
+    (
+        b"@ =f: > ?'a i =c: ?'a, @ =f: > j i =c: j",
+        Wanted::Is(b"", b"?'a, j"),
+    ),
+    (
+        b"@ =f: > ?'a i =c: ?'a, @ =f: > j i =d: j",
+        Wanted::None(UnifyFault::NoUnifier),
+    ),
     // A stop at any side comes before the failure.
-    (b"=a, =b, =a, @*13 % @@ =p _0 @ % _0 =a", Wanted::None(UnifyFault::Steps)),
-    (b"@*13 % @@ =p _0 @ % _0 =a, =a, =a, =b", Wanted::None(UnifyFault::Steps)),
-    (b"=a, =b, =a: k//199999 i, =a: k//199999 i", Wanted::None(UnifyFault::Big)),
-    (b"=a: k//199999 i, =a: k//199999 i, =a, =b", Wanted::None(UnifyFault::Big)),
+    (
+        b"=a, =b, =a, @*13 % @@ =p _0 @ % _0 =a",
+        Wanted::None(UnifyFault::Steps),
+    ),
+    (
+        b"@*13 % @@ =p _0 @ % _0 =a, =a, =a, =b",
+        Wanted::None(UnifyFault::Steps),
+    ),
+    (
+        b"=a, =b, =a: k//199999 i, =a: k//199999 i",
+        Wanted::None(UnifyFault::Big),
+    ),
+    (
+        b"=a: k//199999 i, =a: k//199999 i, =a, =b",
+        Wanted::None(UnifyFault::Big),
+    ),
 ];
 
 /// The classes A.c and A.d.

@@ -19,7 +19,7 @@ returns-then-is_clash t c = first_clashes c.args.pairs.now c.in-Some.first.now c
 pub returns : goal.returns
 returns t c =
     let equal : c.in-Some.first.now.left ≡ c.in-Some.first.now.right =
-        ap (λ (p : Pair). p.left) (sym c.first.view_is) ∙ (c.are_same.ensures.0 c.if-not-are_same.false ∙ ap (λ (p : Pair). p.right) c.first.view_is)
+    ap (λ (p : Pair). p.left) (sym c.first.view_is) ∙ (c.are_same.ensures.0 c.if-not-are_same.false ∙ ap (λ (p : Pair). p.right) c.first.view_is)
     in
     on_true c.are_clashing.result (later_clashes c.args.pairs.now c.in-Some.first.now c.in-Some.rest.now c.in-Some.ensures.cases.0 equal)
     c.are_clashing.ensures
