@@ -41,4 +41,4 @@ all_provable texts theories values forks loaded said =
     let notes = flat_map notes_of said.closed.verdicts in
     let bound = statements_bind_forks texts theories loaded notes (statements-of texts theories values forks said) in
     subst (Each (IsProvable texts)) (sym said.closed.forks_are)
-    (each_of (IsProvable texts) (forks_of notes) (λ f m. let some = (bound f).0 m in forks_provable texts theories loaded some.0 some.1.0 f some.1.1))
+    (each_of (IsProvable texts) (forks_of notes) (λ f m. let some = (bound f).0 m in forks_provable texts theories loaded some.0 some.1 f some.2))

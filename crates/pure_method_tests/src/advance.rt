@@ -20,7 +20,7 @@ struct Advanced {
 }
 
 /// Runs the lemma's proof, one step after another.
-fn advanced(alloc: Global, names: &NamesByBase, duty: &Duty) -> Result<Advanced, AllocError>
+fn by_steps(alloc: Global, names: &NamesByBase, duty: &Duty) -> Result<Advanced, AllocError>
     requires { IsProvable names.now duty.now }
 {
     let mut proving = start(alloc, names, duty)?;
@@ -43,7 +43,7 @@ fn is_outcome(
 ) -> Result<bool, AllocError>
     requires { IsProvable names.now duty.now }
 {
-    let own = advanced(alloc, names, duty)?;
+    let own = by_steps(alloc, names, duty)?;
     let is_same = own.steps == row.0 && are_same(outcome, &own.outcome);
     mem::forget(own);
     Ok(is_same && is_wanted(outcome, &duty.prop, row.1))

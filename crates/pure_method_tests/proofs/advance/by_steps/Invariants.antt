@@ -1,5 +1,5 @@
 use Rattle.pure_method.specs.Running.{Proves, steps_left}
-use Rattle.pure_method_tests.proofs.advance.advanced.Given as goal
+use Rattle.pure_method_tests.proofs.advance.by_steps.Given as goal
 
 abbrev pub invariant-loop-proving : goal.invariant-loop-proving
 invariant-loop-proving l = Proves l.names l.duty l.proving
