@@ -3,7 +3,6 @@ use Rattle.std.proofs.Common.{◌≡◌, ◌∙◌, ◌<◌, ℕ, zero, suc, Lis
 use Rattle.std.proofs.lemmas.Option.{none-some, same_Some}
 use Rattle.pure_text.specs.Lists.{IsIn, Each}
 use Rattle.pure_text.proofs.ListLaws.{each_at, each_of}
-use Rattle.pure_logic.specs.Content.{Content, IsBelow}
 use Rattle.pure_logic.specs.Derivable.{Theorem}
 use Rattle.pure_theory.specs.Certified.{Certified}
 use Rattle.pure_graph.specs.Order.{Loaded}
@@ -17,6 +16,7 @@ use Rattle.pure_verdicts.specs.Statements.{IsFork}
 use Rattle.pure_work.specs.Outline.{Outline}
 use Rattle.pure_table.specs.Fulfilled.{IsResultOf}
 use Rattle.pure_table.proofs.ClaimLaws.{IsPromised}
+use Rattle.pure_table.proofs.FulfilledLaws.{same-below}
 use Rattle.pure_machine.specs.State.{State, Promise, Settled}
 use Rattle.pure_machine.specs.Step.{Stands}
 use Rattle.pure_joined.proofs.ToldLaws.{told-legal}
@@ -32,9 +32,6 @@ label-before [] m n p e less = absurd (none-some p e)
 label-before (q ∷ ps) m zero p e less = absurd (omega (arith, less))
 label-before (q ∷ ps) zero (suc n) p e less = inl (ap (λ (x : Promise Fork Outcome). (x.goal).label) (sym (same_Some q p e)))
 label-before (q ∷ ps) (suc m) (suc n) p e less = inr (label-before ps m n p e (omega (arith, less)))
-
-same-below : (Q R : Content) → Q ≡ R → IsBelow Q R
-same-below Q R same d m = subst (λ (P : Content). IsIn d P.declarations) same m
 
 module _ (texts : List (List ℕ)) (theories : List Loaded) (s : State Fork Outline Outcome) (legal : IsReached texts theories s) where
   -- the theorem is the result of the promise's lemma

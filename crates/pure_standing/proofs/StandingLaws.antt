@@ -3,21 +3,19 @@ use Rattle.std.proofs.Common.{◌≡◌, ℕ, List, [], ◌∷◌, ◌++◌, inl
 use Rattle.pure_text.specs.Lists.{IsIn, EachTwo}
 use Rattle.pure_text.proofs.ListLaws.{two-append}
 use Rattle.pure_definitions.specs.Names.{Label}
-use Rattle.pure_definitions.specs.Terms.Term.{Term}
 use Rattle.pure_graph.specs.Order.{Loaded}
 use Rattle.pure_graph.specs.Session.{shown}
 use Rattle.pure_print.specs.declared.row.Row.{Row}
 use Rattle.pure_declare.specs.Notes.{Fork, Note, Said, Forked}
-use Rattle.pure_method.specs.Proof.{ProofOutcome, IsProof}
-use Rattle.pure_method.proofs.OnceLaws.{proof-once}
+use Rattle.pure_method.specs.Proof.{ProofOutcome}
 use Rattle.pure_promise.specs.Entries.{Entry}
 use Rattle.pure_loaded.specs.Loaded.{IsLoadedSession}
 use Rattle.pure_verdicts.specs.Statements.{forks_of}
 use Rattle.pure_verdicts.specs.Laws.{IsSomeFork}
-use Rattle.pure_verdicts.proofs.OrderlyLaws.{runs_orderly}
 use Rattle.pure_verdicts.proofs.StatementLaws.{statements_once}
 use Rattle.pure_table.specs.Table.{IsOwn, IsEntryOf, AreEntriesOf, with_rows, refusal_row, table_rows}
-use Rattle.pure_table.proofs.DerivedLaws.{standing, provable, some_fork, has_fates}
+use Rattle.pure_table.proofs.DerivedLaws.{some_fork, has_fates}
+use Rattle.pure_table.proofs.OnceLaws.{same_entry, proof_once}
 use Rattle.pure_standing.specs.Standing.{IsStanding, StandsAs}
 use Rattle.pure_standing.specs.Laws.{RowsStand, RowsStayInPlace}
 use Rattle.pure_standing.proofs.RowLaws.{same_in, IsKept, rows_kept}
@@ -32,22 +30,12 @@ two_beside P R S T f (a ∷ xs) [] zs each h k = absurd h
 two_beside P R S T f (a ∷ xs) (b ∷ ys) [] each h k = absurd k
 two_beside P R S T f (a ∷ xs) (b ∷ ys) (c ∷ zs) each h k = (f a b c (each a (inl refl)) h.0 k.0, two_beside P R S T f xs ys zs (λ x m. each x (inr m)) h.1 k.1)
 
-same_entry : (l m : Label) (x y : ℕ) (A B : Term) (o p : Option ProofOutcome) → l ≡ m → x ≡ y → A ≡ B → o ≡ p
-    → ◌≡◌ {A = Entry} (record { label = l; name = x; prop = A; own = o }) (record { label = m; name = y; prop = B; own = p })
-same_entry l m x y A B o p a b c d = λ i. record { label = a i; name = b i; prop = c i; own = d i }
-
 module _ (texts : List (List ℕ)) (theories : List Loaded) (loaded : IsLoadedSession texts theories) where
-  proof_once : (f : Fork) → IsSomeFork texts theories f → (o p : ProofOutcome) → IsProof texts f.content f.fixed f.script o → IsProof texts f.content f.fixed f.script p → o ≡ p
-  proof_once f some o p h k =
-      let s = standing texts theories loaded f some in
-      let good = (runs_orderly texts theories loaded s.index s.notes f.content s.left s.run).good in
-      proof-once texts f.content (provable texts theories loaded f some).in_session good.sound.content good.antisymmetric f.fixed f.script o p h k
-
   module _ (cancelled fewer : List Label) (within : (l : Label) → IsIn l fewer → IsIn l cancelled) where
     own_kept : (f : Fork) → IsSomeFork texts theories f → (o p : Option ProofOutcome) → IsOwn texts cancelled f o → IsOwn texts fewer f p → ¬ (o ≡ None) → o ≡ p
     own_kept f some None p h k tried = absurd (tried refl)
     own_kept f some (Some o) None h k tried = absurd (h.0 (within f.label k))
-    own_kept f some (Some o) (Some p) h k tried = ap Some (proof_once f some o p h.1 k.1)
+    own_kept f some (Some o) (Some p) h k tried = ap Some (proof_once texts theories loaded f some o p h.1 k.1)
 
     entry_kept : (f : Fork) (e d : Entry) → IsSomeFork texts theories f → IsEntryOf texts cancelled f e → IsEntryOf texts fewer f d → IsKept e d
     entry_kept f e d some h k tried =

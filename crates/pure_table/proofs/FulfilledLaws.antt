@@ -42,7 +42,7 @@ forked-before fs earlier later f g is ascend m less =
     let found = before (map Fork.label earlier) (map Fork.label later) f.label g.label (subst IsLabelSet split ascend) (subst (IsIn g.label) split (in-map Fork.label g fs m)) less in
     subst (λ n. IsIn g.label (take n (map Fork.label fs))) (labels-long earlier) (subst (λ ls. IsIn g.label (take (length (map Fork.label earlier)) ls)) (sym split) found)
 
-same-below : (Q R : Content) → Q ≡ R → IsBelow Q R
+pub same-below : (Q R : Content) → Q ≡ R → IsBelow Q R
 same-below Q R same d m = subst (λ (P : Content). IsIn d P.declarations) same m
 
 in-at : (fs earlier later : List Fork) (f : Fork) → fs ≡ earlier ++ f ∷ later → IsIn f fs

@@ -35,7 +35,7 @@ same_lists P R once (a ∷ xs) (b ∷ ys) (c ∷ zs) each h k =
     let rest : ys ≡ zs = same_lists P R once xs ys zs (λ x m. each x (inr m)) h.1 k.1 in
     λ i. first i ∷ rest i
 
-same_entry : (l m : Label) (x y : ℕ) (A B : Term) (o p : Option ProofOutcome) → l ≡ m → x ≡ y → A ≡ B → o ≡ p
+pub same_entry : (l m : Label) (x y : ℕ) (A B : Term) (o p : Option ProofOutcome) → l ≡ m → x ≡ y → A ≡ B → o ≡ p
     → ◌≡◌ {A = Entry} (record { label = l; name = x; prop = A; own = o }) (record { label = m; name = y; prop = B; own = p })
 same_entry l m x y A B o p a b c d = λ i. record { label = a i; name = b i; prop = c i; own = d i }
 
@@ -44,7 +44,7 @@ same_table : (n m : List Note) (es ds : List Entry) (rs ss : List Row) → n ≡
 same_table n m es ds rs ss a b c = λ i. record { notes = a i; entries = b i; lemmas = c i }
 
 module _ (texts : List (List ℕ)) (theories : List Loaded) (loaded : IsLoadedSession texts theories) where
-  proof_once : (f : Fork) → IsSomeFork texts theories f → (o p : ProofOutcome) → IsProof texts f.content f.fixed f.script o → IsProof texts f.content f.fixed f.script p → o ≡ p
+  pub proof_once : (f : Fork) → IsSomeFork texts theories f → (o p : ProofOutcome) → IsProof texts f.content f.fixed f.script o → IsProof texts f.content f.fixed f.script p → o ≡ p
   proof_once f some o p h k =
       let s = standing texts theories loaded f some in
       let good = (runs_orderly texts theories loaded s.index s.notes f.content s.left s.run).good in
