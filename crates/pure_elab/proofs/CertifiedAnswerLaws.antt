@@ -25,7 +25,7 @@ use Rattle.pure_elab.specs.Drafts.{Constraint, Draft, draft, whole_draft, raw_pl
 use Rattle.pure_elab.specs.Laws.{AnswerIsCertified}
 use Rattle.pure_elab.proofs.Lists.{each_to_map}
 use Rattle.pure_elab.proofs.NumberedLaws.{numbered-each}
-use Rattle.pure_elab.proofs.CertifiedLaws.{IsCertifiedPair, IsCertifiedBind, HasCertifiedImages, instance_certified, composed_certified, unifies_certified}
+use Rattle.pure_tunify.proofs.CertifiedLaws.{IsCertifiedPair, IsCertifiedBind, HasCertifiedImages, instance_certified, composed_certified, unifies_certified}
 use Rattle.pure_elab.proofs.SoundLaws.{term_known, typ_known, written_certified, images_of, substitution_of, draft_sound}
 use Rattle.pure_elab.proofs.CallLaws.{prop_is_fixed}
 use Rattle.pure_elab.proofs.GeneralLaws.{inst_typ-after, outcome_is_meant, answer_is_most_general}

@@ -8,8 +8,6 @@ pub mod SortLaws
 pub mod DraftedLaws
 pub mod AnswerLaws
 pub mod GeneralLaws
-pub mod DeclaredLaws
-pub mod CertifiedLaws
 pub mod CallLaws
 pub mod SoundLaws
 pub mod CertifiedAnswerLaws

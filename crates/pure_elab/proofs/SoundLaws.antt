@@ -33,7 +33,7 @@ use Rattle.pure_elab.specs.Numbered.{unknown_of, unknowns}
 use Rattle.pure_elab.specs.Drafts.{Constraint, Draft, Binder, texts_of, bound_typ, typ_or_prop, raw_place, raw_typ_place, leaf_draft, constant_draft, binder_typ, behind_binder, unknown, draft}
 use Rattle.pure_elab.specs.Sound.{IsSoundVocabulary}
 use Rattle.pure_elab.proofs.NumberedLaws.{IsNumberEntry, numbered-each}
-use Rattle.pure_elab.proofs.CertifiedLaws.{HasCertifiedImages, instance_certified}
+use Rattle.pure_tunify.proofs.CertifiedLaws.{HasCertifiedImages, instance_certified}
 
 empty_left : {A : Type 0} (xs ys : List A) → xs ++ ys ≡ [] → xs ≡ []
 empty_left [] ys e = refl

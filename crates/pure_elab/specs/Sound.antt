@@ -1,20 +1,13 @@
 -- Vocabularies that are sound over declarations, so that what is elaborated is certified over them.
-use Rattle.std.specs.Prelude.{◌≡◌, ◌⊎◌, ℕ, List, Some}
+use Rattle.std.specs.Prelude.{◌≡◌, ℕ, List, Some}
 use Rattle.pure_text.specs.Lists.{IsIn, Each}
 use Rattle.pure_definitions.specs.Names.{fun_name, prop_name}
 use Rattle.pure_definitions.specs.Types.Typ.{Typ}
-use Rattle.pure_definitions.specs.Types.Order.{Class, Arity, Algebra, IsInclusion}
+use Rattle.pure_definitions.specs.Types.Order.{Class, Arity}
 use Rattle.pure_definitions.specs.Declarations.Decl.{Decl, ClassDecl, ConDecl, ArityDecl, ConstDecl, algebra_of, IsDeclaredClass}
 use Rattle.pure_definitions.specs.Declarations.Certified.{IsCertifiedTyp}
+use Rattle.pure_tunify.specs.Closed.{AreClosed}
 use Rattle.pure_elab.specs.Vocabulary.{Vocabulary}
-
--- Which classes are declared can be decided; inclusions and arities are of declared classes alone.
-pub record AreClosed (A : Algebra) (D : ℕ → Type 0) : Type 0 where
-  pub decided : (c : ℕ) → D c ⊎ (D c → ⊥)
-  pub above : (c d : ℕ) → IsInclusion A c d → D d
-  pub below : (c d : ℕ) → IsInclusion A c d → D c
-  pub class : (a : Arity) → IsIn a A.arities → D a.class
-  pub domains : (a : Arity) → IsIn a A.arities → Each (Each D) a.domains
 
 -- What the vocabulary finds is declared, constants with certified types; and the types of functions and of propositions are declared.
 pub record IsSoundVocabulary (ds : List Decl) (V : Vocabulary) : Type 0 where

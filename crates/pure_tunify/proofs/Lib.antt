@@ -28,3 +28,7 @@ pub mod LargeLaws
 pub mod WritingLaws
 pub mod SizeLaws
 pub mod RootLaws
+pub mod SortLaws
+pub mod DeclaredLaws
+pub mod ClosedLaws
+pub mod CertifiedLaws

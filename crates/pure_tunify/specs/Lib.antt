@@ -5,6 +5,7 @@ pub mod Steps
 pub mod Settings
 pub mod ProgressCode
 pub mod Procedure
+pub mod Closed
 pub mod Asking
 pub mod Working
 pub mod NarrowingStep

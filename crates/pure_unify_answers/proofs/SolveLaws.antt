@@ -39,14 +39,15 @@ use Rattle.pure_unify_definitions.specs.Simplification.{IsLeft}
 use Rattle.pure_unify_definitions.specs.Children.{IsFlexFlex}
 use Rattle.pure_unify_definitions.specs.Search.{unifier_of}
 use Rattle.pure_unify_laws.specs.Reached.{IsRespecting, pair_after, Leads, at_once, by_child, IsReached}
-use Rattle.pure_unify_laws.specs.Closed.{AreClosed}
+use Rattle.pure_tunify.specs.Closed.{AreClosed}
 use Rattle.pure_unify_laws.specs.Condition.{HasIndexesUpTo, AreIndexesUpTo, IsUnifyContent, AreUnifiable}
-use Rattle.pure_unify_laws.proofs.CertifiedLaws.{HasCertifiedImages, instance_certified}
+use Rattle.pure_tunify.proofs.CertifiedLaws.{HasCertifiedImages, instance_certified}
+use Rattle.pure_tunify.proofs.ClosedLaws.{declared_closed}
 use Rattle.pure_unify_laws.proofs.SettingLaws.{setting-instance}
 use Rattle.pure_unify_laws.proofs.SplitLaws.{IsLongIn, AreSidesLong}
 use Rattle.pure_unify_laws.proofs.SolvedLaws.{visit-solves}
 use Rattle.pure_unify_laws.proofs.ReachedLaws.{unifier_is_reached}
-use Rattle.pure_unify_laws.proofs.RespectLaws.{closed, leads-kept, all_settings_equate}
+use Rattle.pure_unify_laws.proofs.RespectLaws.{leads-kept, all_settings_equate}
 use Rattle.pure_unify_answers.specs.Maps.{unifier_typs, unifier_terms, IsLeftPair, Solves, IsFiniteUnifier}
 use Rattle.pure_unify_answers.specs.Laws.{UnifierSolves, UnifierIsFinite}
 use Rattle.pure_unify_answers.proofs.PartLaws.{HasParts}
@@ -158,7 +159,7 @@ module _ (Q : Content) (u : IsUnifyContent Q) (maxidx : ℕ) where
   left_pairs (p ∷ ps) h k f = (left_pair p h.0 k.0 f.0, left_pairs ps h.1 k.1 f.1)
 
   is_closed : AreClosed A (IsDeclaredClass Q.declarations)
-  is_closed = closed Q.declarations u.declared
+  is_closed = declared_closed Q.declarations u.declared
 
   -- The settings of types, one after the other, respect sorts, and their images are certified.
   settings_sorts : (ss : List Setting) → Each (IsRespecting Q) ss → IsSubstitution A (composed (typ_settings ss))

@@ -9,6 +9,4 @@ pub mod HeadLaws
 pub mod ImageLaws
 pub mod SolvedLaws
 pub mod SortLaws
-pub mod DeclaredLaws
-pub mod CertifiedLaws
 pub mod RespectLaws

@@ -1,14 +1,13 @@
 -- Over a content of declared classes alone, all settings on a path respect the content: those of type variables too.
-use Rattle.std.proofs.Common.{◌≡◌, ◌⊎◌, ℕ, ◌+◌, Bool, true, false, List, [], ◌∷◌, ◌++◌, nat_eq, inl, inr, ⊎_elim, refl, sym, subst, eqb-true, eq-eqb}
+use Rattle.std.proofs.Common.{◌≡◌, ℕ, ◌+◌, List, [], ◌∷◌, ◌++◌, refl, sym, subst}
 use Rattle.pure_text.specs.Lists.{IsIn, Each}
-use Rattle.pure_text.proofs.ListLaws.{each-append, each-right, each_imply, each_at}
+use Rattle.pure_text.proofs.ListLaws.{each-append, each-right, each_imply}
 use Rattle.pure_definitions.specs.Types.Typ.{Typ}
-use Rattle.pure_definitions.specs.Types.Order.{Class, Algebra}
+use Rattle.pure_definitions.specs.Types.Order.{Algebra}
 use Rattle.pure_definitions.specs.Terms.Term.{Term, Const}
 use Rattle.pure_definitions.specs.Terms.Subst.{TypBind}
-use Rattle.pure_definitions.specs.Declarations.Decl.{Decl, ClassDecl, ConDecl, ArityDecl, ConstDecl, AxiomDecl, PromiseDecl, algebra_of, IsDeclaredClass}
+use Rattle.pure_definitions.specs.Declarations.Decl.{algebra_of, IsDeclaredClass}
 use Rattle.pure_definitions.specs.Declarations.Certified.{IsCertifiedTyp, HasCertifiedParts}
-use Rattle.pure_term_laws.proofs.DeclLaws.{declared_classes, declared_arities}
 use Rattle.pure_logic.specs.Content.{Content, IsBelow}
 use Rattle.pure_logic.specs.PureContent.{pure_content}
 use Rattle.pure_logic.specs.Derivable.{Pair}
@@ -16,6 +15,10 @@ use Rattle.pure_logic.proofs.PartsLaws.{typ-certified}
 use Rattle.pure_equated.specs.Equated.{IsTypedUnder, IsPairEquated}
 use Rattle.pure_tunify.specs.Settings.{composed}
 use Rattle.pure_tunify.specs.Procedure.{Unified}
+use Rattle.pure_tunify.specs.Closed.{AreClosed}
+use Rattle.pure_tunify.proofs.SortLaws.{unified_substitution}
+use Rattle.pure_tunify.proofs.ClosedLaws.{declared_closed}
+use Rattle.pure_tunify.proofs.CertifiedLaws.{IsCertifiedBind, HasCertifiedImages, instance_certified, composed_certified, unifies_certified}
 use Rattle.pure_unify_definitions.specs.Fronts.{head}
 use Rattle.pure_unify_definitions.specs.Node.{Setting, Typs, Single, Node}
 use Rattle.pure_unify_definitions.specs.Treatment.{Differ, Unify, IsTreatment, differ, constants}
@@ -23,47 +26,11 @@ use Rattle.pure_unify_definitions.specs.Retyping.{Goes, Unifying, IsRetyped, all
 use Rattle.pure_unify_definitions.specs.Simplification.{IsLeft, Applies, drops, retypes, puts, splits, unifies, Simple, Simplifies, simple, step, Visits, visited}
 use Rattle.pure_unify_definitions.specs.Children.{IsChoice, children}
 use Rattle.pure_unify_laws.specs.Reached.{IsRespecting, IsTypRespecting, AreSidesCertified, pair_after, Leads, at_once, by_child, IsReached}
-use Rattle.pure_unify_laws.specs.Closed.{AreClosed, AreClassesDeclared}
 use Rattle.pure_unify_laws.specs.Condition.{IsUnifyContent}
-use Rattle.pure_unify_laws.proofs.CertifiedLaws.{IsCertifiedBind, HasCertifiedImages, instance_certified, composed_certified, unifies_certified}
-use Rattle.pure_unify_laws.proofs.SortLaws.{unified_substitution}
 use Rattle.pure_unify_laws.proofs.SettingLaws.{settings-typed}
 use Rattle.pure_unify_laws.proofs.ImageLaws.{single-respects, head-typed}
 use Rattle.pure_unify_laws.proofs.SplitLaws.{AreSidesLong}
 use Rattle.pure_unify_laws.proofs.SolvedLaws.{LeadsOn, IsChildOf, step-solves, at-pair, put-typed, sides-are-long, long-typed, child-is, visit-solves, settings_equate}
-
-later_class : (d : Decl) (ds : List Decl) (c : ℕ) → IsDeclaredClass ds c → IsDeclaredClass (d ∷ ds) c
-later_class d ds c h = (h.0, inr h.1, h.2)
-
-named_first : (k : Class) (ds : List Decl) (c : ℕ) → (k.name ≡ c → ⊥) → (IsDeclaredClass ds c → ⊥) → IsDeclaredClass (ClassDecl k ∷ ds) c → ⊥
-named_first k ds c other rest h = ⊎_elim (λ same. let first : h.0 ≡ k = cc in other (subst (λ (x : Class). x.name ≡ c) first h.2)) (λ n. rest (h.0, n, h.2)) h.1
-
-other_kind : (d : Decl) (ds : List Decl) (c : ℕ) → ((j : Class) → ClassDecl j ≡ d → ⊥) → IsDeclaredClass ds c ⊎ (IsDeclaredClass ds c → ⊥) → IsDeclaredClass (d ∷ ds) c ⊎ (IsDeclaredClass (d ∷ ds) c → ⊥)
-other_kind d ds c other (inl h) = inl (later_class d ds c h)
-other_kind d ds c other (inr gone) = inr (λ h. ⊎_elim (λ same. other h.0 same) (λ n. gone (h.0, n, h.2)) h.1)
-
-decided : (ds : List Decl) (c : ℕ) → IsDeclaredClass ds c ⊎ (IsDeclaredClass ds c → ⊥)
-decided [] c = inr (λ h. h.1)
-decided (ClassDecl k ∷ ds) c = by_name (nat_eq k.name c) refl (decided ds c)
-  where
-    by_name : (q : Bool) → nat_eq k.name c ≡ q → IsDeclaredClass ds c ⊎ (IsDeclaredClass ds c → ⊥) → IsDeclaredClass (ClassDecl k ∷ ds) c ⊎ (IsDeclaredClass (ClassDecl k ∷ ds) c → ⊥)
-    by_name true t rest = inl (k, inl refl, eqb-true k.name c t)
-    by_name false t (inl h) = inl (later_class (ClassDecl k) ds c h)
-    by_name false t (inr gone) = inr (named_first k ds c (λ e. let same = eq-eqb k.name c e in absurd (cc)) gone)
-decided (ConDecl k n ∷ ds) c = other_kind (ConDecl k n) ds c (λ j e. absurd (cc)) (decided ds c)
-decided (ArityDecl a ∷ ds) c = other_kind (ArityDecl a) ds c (λ j e. absurd (cc)) (decided ds c)
-decided (ConstDecl d T ∷ ds) c = other_kind (ConstDecl d T) ds c (λ j e. absurd (cc)) (decided ds c)
-decided (AxiomDecl x A ∷ ds) c = other_kind (AxiomDecl x A) ds c (λ j e. absurd (cc)) (decided ds c)
-decided (PromiseDecl x l A ∷ ds) c = other_kind (PromiseDecl x l A) ds c (λ j e. absurd (cc)) (decided ds c)
-
-pub closed : (ds : List Decl) → AreClassesDeclared ds → AreClosed (algebra_of ds) (IsDeclaredClass ds)
-closed ds certified = record {
-  decided = λ c. decided ds c;
-  above = λ c d i. each_at (IsDeclaredClass ds) i.0.above (certified.inclusions i.0 ((declared_classes ds i.0).0 i.1)) d i.3;
-  below = λ c d i. (i.0, (declared_classes ds i.0).0 i.1, i.2);
-  class = λ a m. certified.classes a ((declared_arities ds a).0 m);
-  domains = λ a m. certified.domains a ((declared_arities ds a).0 m);
-}
 
 -- A constant at the head of a typed term has a certified type.
 constant_certified : (Q : Content) (above : IsBelow pure_content Q) (t : Term) (X : Typ) (c : ℕ) (T : Typ) → IsTypedUnder Q.declarations [] t X → head t ≡ Const c T → IsCertifiedTyp Q.declarations T
@@ -93,7 +60,7 @@ module _ (Q : Content) (u : IsUnifyContent Q) (maxidx : ℕ) where
   }
     where
       are_closed : AreClosed A (IsDeclaredClass Q.declarations)
-      are_closed = closed Q.declarations u.declared
+      are_closed = declared_closed Q.declarations u.declared
 
       binds : Each (IsCertifiedBind Q.declarations are_closed) sets
       binds = unifies_certified Q.declarations are_closed (maxidx + 65) found tt ((c, d), tt)

@@ -12,7 +12,7 @@ use Rattle.pure_logic.specs.Content.{Content, IsContent, IsBelow}
 use Rattle.pure_logic.specs.PureContent.{pure_content}
 use Rattle.pure_logic.specs.Derivable.{Pair}
 use Rattle.pure_unify_laws.specs.Reached.{IsReached, IsRespecting, AreSidesCertified, pair_after}
-use Rattle.pure_unify_laws.specs.Closed.{AreClassesDeclared}
+use Rattle.pure_tunify.specs.Closed.{AreClassesDeclared}
 
 -- The indexes of the schematic type variables and of the schematic variables in the term are at most this number.
 pub record HasIndexesUpTo (maxidx : ℕ) (t : Term) : Type 0 where

@@ -1,4 +1,3 @@
 pub mod Laws
 pub mod Reached
-pub mod Closed
 pub mod Condition

@@ -13,8 +13,8 @@ use Rattle.pure_tunify.specs.Steps.{pair, setting, instance_pair}
 use Rattle.pure_tunify.specs.Settings.{composed, bind}
 use Rattle.pure_tunify.specs.Occurrences.{schematics, schematics_of}
 use Rattle.pure_tunify.specs.Procedure.{sooner, difference, differences, Shows, left_side, right_side, Narrows, fits, replace, IsTreated, Equalises, equal, treat, Outcome, Unified, NotTyped, TooBig, Unifies, over, no_typing, big, next}
-use Rattle.pure_unify_laws.specs.Closed.{AreClosed}
-use Rattle.pure_unify_laws.proofs.DeclaredLaws.{HasDeclared, HaveDeclared, narrowed_sort}
+use Rattle.pure_tunify.specs.Closed.{AreClosed}
+use Rattle.pure_tunify.proofs.DeclaredLaws.{HasDeclared, HaveDeclared, narrowed_sort}
 
 module _ (ds : List Decl) (closed : AreClosed (algebra_of ds) (IsDeclaredClass ds)) where
   -- The sides of the pair are certified; and an entry's variable and image.

@@ -7,7 +7,7 @@ use Rattle.pure_definitions.specs.Types.Order.{Algebra, IsClassBelow, itself, al
 use Rattle.pure_definitions.proofs.OrderLaws.{sort_below-itself}
 use Rattle.pure_definitions.specs.Terms.Subst.{TypBind, typ_instance, typs_instance}
 use Rattle.pure_term_laws.proofs.SubstLaws.{typ_instance-identity}
-use Rattle.pure_elab.specs.Sound.{AreClosed}
+use Rattle.pure_tunify.specs.Closed.{AreClosed}
 use Rattle.pure_term_laws.proofs.MapLaws.{typ_instance-again}
 use Rattle.pure_tunify.specs.Unifiers.{IsSubstitution}
 use Rattle.pure_tunify.specs.Asks.{HasNoInstance}
