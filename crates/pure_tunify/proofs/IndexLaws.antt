@@ -6,12 +6,7 @@ use Rattle.pure_definitions.specs.Types.Occurs.{OccursInTyp, OccursInTyps}
 use Rattle.pure_tunify.specs.declared.pair.TypPair.{TypPair}
 use Rattle.pure_tunify.specs.Unifiers.{IsOld, IsOldPair}
 use Rattle.pure_tunify.specs.Answers.{index_above, index_above_all, index_above_pairs}
-
-variable_fixed : (x i y : ℕ) (s r : List ℕ) → TVar x i s ≡ TFree y r → ⊥
-variable_fixed x i y s r e = cc
-
-variable_constructor : (x i k : ℕ) (s : List ℕ) (ts : Typs) → TVar x i s ≡ Con k ts → ⊥
-variable_constructor x i k s ts e = cc
+use Rattle.pure_tunify.proofs.NodeLaws.{variable_constructor, variable_fixed}
 
 same_index : (x i y j : ℕ) (s r : List ℕ) → TVar x i s ≡ TVar y j r → i ≡ j
 same_index x i y j s r e = cc

@@ -5,6 +5,8 @@ pub mod MeetLaws
 pub mod ExampleLaws
 pub mod PlaceLaws
 pub mod SettingLaws
+pub mod NodeLaws
+pub mod SchematicLaws
 pub mod AskingLaws
 pub mod NarrowLaws
 pub mod PursueLaws
@@ -23,6 +25,7 @@ pub mod ReducedLaws
 pub mod AskedLaws
 pub mod NarrowableLaws
 pub mod OutcomeLaws
+pub mod FallingLaws
 pub mod ReachLaws
 pub mod LargeLaws
 pub mod WritingLaws

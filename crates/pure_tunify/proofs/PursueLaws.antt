@@ -21,6 +21,8 @@ use Rattle.pure_tunify.specs.Working.{IsFurther, IsSetTo, CannotBeSetTo, place_a
 use Rattle.pure_tunify.specs.Meeting.{HaveArguments, HaveNoArguments, AreApart, GoesOn, Stops, IsTurn, HasLargeHead, IsTurned, IsTreating, IsPutBack}
 use Rattle.pure_tunify.specs.declared.meeting.Turned.{Turned}
 use Rattle.pure_tunify.specs.declared.meeting.Turned.TheVariants.{Further, Never, Large}
+use Rattle.pure_tunify.proofs.NodeLaws.{variable_constructor, variable_fixed}
+use Rattle.pure_tunify.proofs.SchematicLaws.{schematic_variable}
 use Rattle.pure_tunify.proofs.PlaceLaws.{difference-itself, difference-arguments, difference-constructors, difference-left_variable, difference-left_fixed}
 use Rattle.pure_tunify.proofs.SettingLaws.{instance-append, instance_pair-append, instance_pairs-identity, composed-fixed, composed-absent, old_pair-later}
 
@@ -174,20 +176,14 @@ not_schematic-instance sets (TFree x s) h k = subst IsSchematic (composed-fixed 
 not_schematic-instance sets (TVar x i s) h k = h tt
 not_schematic-instance sets (Con l ts) h k = k
 
-variable_of_constructor : (x i k : ℕ) (s : List ℕ) (ts : Typs) → TVar x i s ≡ Con k ts → ⊥
-variable_of_constructor x i k s ts e = cc
-
-variable_of_fixed : (x i y : ℕ) (s r : List ℕ) → TVar x i s ≡ TFree y r → ⊥
-variable_of_fixed x i y s r e = cc
-
 -- A variable that isn't another type isn't its instance, where no set variable is that type.
 pub other_instance : (sets : List TypBind) (x i : ℕ) (s : List ℕ) (t : Typ) → (TVar x i s ≢ t) → (IsTypVariable t → ¬ IsIn t (map typ_variable sets)) → TVar x i s ≢ typ_instance (composed sets) t
-other_instance sets x i s (TFree y r) other free e = variable_of_fixed x i y s r (e ∙ composed-fixed sets y r)
+other_instance sets x i s (TFree y r) other free e = variable_fixed x i y s r (e ∙ composed-fixed sets y r)
 other_instance sets x i s (TVar y j r) other free e = other (e ∙ composed-absent sets (TVar y j r) tt (free tt))
-other_instance sets x i s (Con k ts) other free e = variable_of_constructor x i k s (typs_instance (composed sets) ts) e
+other_instance sets x i s (Con k ts) other free e = variable_constructor x i k s (typs_instance (composed sets) ts) e
 
 difference-right_variable : (t : Typ) (x i : ℕ) (s : List ℕ) → ¬ IsSchematic t → difference t (TVar x i s) ≡ Some (pair t (TVar x i s))
-difference-right_variable (TFree y r) x i s h = difference-left_fixed y r (TVar x i s) (λ e. variable_of_fixed x i y s r (sym e))
+difference-right_variable (TFree y r) x i s h = difference-left_fixed y r (TVar x i s) (λ e. variable_fixed x i y s r (sym e))
 difference-right_variable (TVar y j r) x i s h = absurd (h tt)
 difference-right_variable (Con k ts) x i s h = refl
 
@@ -298,11 +294,6 @@ goes_then A a b c xs ys zs g h = record { pursued = λ p first w. h.pursued p fi
 pub goes_stops : (A : Algebra) (a b : Progress) (xs ys : List TypPair) → GoesOn A a b xs ys → Stops A b ys → Stops A a xs
 goes_stops A a b xs ys g h = λ p first w. h p first (g.pursued p first w)
 
-schematic_is_variable : (v : Typ) → IsSchematic v → IsTypVariable v
-schematic_is_variable (TVar x i s) is = tt
-schematic_is_variable (TFree x s) is = absurd is
-schematic_is_variable (Con k ts) is = absurd is
-
 module _ (A : Algebra) (now new : Progress) (before after : List TypPair) (left right : Typ) where
   put_large : (new ≡ now) → reverse after ≡ pair left right ∷ reverse before → HasLargeHead now (pair left right ∷ reverse before) → GoesOn A now new (pair left right ∷ reverse before) (reverse after) × HasLargeHead new (reverse after)
   put_large same put head = (
@@ -314,13 +305,13 @@ module _ (A : Algebra) (now new : Progress) (before after : List TypPair) (left 
       → IsTreating A now new left (typ_instance (composed now.sets) right) turned → IsPutBack (pair left right) before after turned → IsTurned A now new (pair left right ∷ reverse before) (reverse after) turned
   met_left Further is free free_right h put = subst (λ (xs : List TypPair). GoesOn A now new (pair left right ∷ reverse before) (reverse xs)) (sym put) (meet_left A now new (reverse before) left right true is free free_right h)
   met_left Never is free free_right h put = meet_left A now new (reverse before) left right false is free free_right h
-  met_left Large is free free_right h put = put_large h.0 put (inl (record { schematic = is.0; free = free (schematic_is_variable left is.0); beyond = h.1 }))
+  met_left Large is free free_right h put = put_large h.0 put (inl (record { schematic = is.0; free = free (schematic_variable left is.0); beyond = h.1 }))
 
   pub met_right : (turned : Turned) → (¬ IsSchematic left) × IsSchematic right → (IsTypVariable right → ¬ IsIn right (map typ_variable now.sets))
       → IsTreating A now new right (typ_instance (composed now.sets) left) turned → IsPutBack (pair left right) before after turned → IsTurned A now new (pair left right ∷ reverse before) (reverse after) turned
   met_right Further is free h put = subst (λ (xs : List TypPair). GoesOn A now new (pair left right ∷ reverse before) (reverse xs)) (sym put) (meet_right A now new (reverse before) left right true is free h)
   met_right Never is free h put = meet_right A now new (reverse before) left right false is free h
-  met_right Large is free h put = put_large h.0 put (inr (is.0, record { schematic = is.1; free = free (schematic_is_variable right is.1); beyond = h.1 }))
+  met_right Large is free h put = put_large h.0 put (inr (is.0, record { schematic = is.1; free = free (schematic_variable right is.1); beyond = h.1 }))
 
 pub turned_opened : (A : Algebra) (now new : Progress) (work after : List TypPair) (left right heads others : Typ) (turned : Turned) → typ_instance (composed now.sets) heads ≡ typ_instance (composed now.sets) left
     → typ_instance (composed now.sets) others ≡ typ_instance (composed now.sets) right → (IsOld now.index now.next left → IsOld now.index now.next heads) → (IsOld now.index now.next right → IsOld now.index now.next others)

@@ -2,7 +2,7 @@
 use Rattle.std.proofs.Common.{◌≡◌, ◌≢◌, ℕ, ◌+◌, List, [], ◌∷◌, ◌++◌, map, Some, inl, inr, refl, ap, sym, subst, ◌∙◌}
 use Rattle.pure_text.specs.Lists.{Each}
 use Rattle.pure_text.proofs.ListLaws.{each_of, each_at, any_of}
-use Rattle.pure_definitions.specs.Types.Typ.{Typ, TFree, TVar, Con, Typs, typs_count}
+use Rattle.pure_definitions.specs.Types.Typ.{Typ, TFree, TVar, Con, typs_count}
 use Rattle.pure_definitions.specs.Types.Occurs.{OccursInTyp}
 use Rattle.pure_definitions.specs.Types.Order.{Algebra, IsClassBelow, itself, HasClassBelow, IsOfClass, IsOfSort}
 use Rattle.pure_definitions.specs.Terms.Subst.{TypBind, typ_instance, typs_instance, KeepsFixedTyps}
@@ -16,6 +16,7 @@ use Rattle.pure_tunify.specs.Asks.{IsMeet}
 use Rattle.pure_tunify.specs.Steps.{pair, setting, instance_pair, Asks, narrow, eliminate, occurs, sort, sort_left, IsReduction}
 use Rattle.pure_tunify.specs.Settings.{composed, bind}
 use Rattle.pure_tunify.specs.Procedure.{place_of, IsSchematic, Shows, left_side, right_side, IsNeededSort, Narrows, fits, replace, IsTreated, IsBlocked, rigid, occurring, sortless, Equalises, equal, treat, Blocks, blocked, later}
+use Rattle.pure_tunify.proofs.NodeLaws.{fixed_constructor, same_arguments, same_constructor, variable_constructor, variable_fixed}
 use Rattle.pure_tunify.proofs.MapLaws.{after_is_substitution, setting-other, old-instance, together}
 use Rattle.pure_tunify.proofs.StepLaws.{nothing_set, step_is_reduction, failed_has_no_unifier}
 use Rattle.pure_tunify.proofs.PlaceLaws.{DifferAtRoot, IsPlaceOf, difference_is_place, no_difference}
@@ -144,21 +145,6 @@ equalised A index (treat {n = n} {k = k} {m = m} {p = p} {first = first} {more =
     subst (λ (qs : List TypPair). IsReduction A index n (p ∷ ps) (composed (first ++ more)) m qs) (instance_pairs-append first more ps)
     (reduction_along A index n k m (p ∷ ps) (map (instance_pair (composed first)) (p ∷ ps)) (map (instance_pair (composed more)) (map (instance_pair (composed first)) ps)) (composed first) (composed more) (composed (first ++ more)) (composed-append first more) one two)
 
-same_name : (k l : ℕ) (ts us : Typs) → Con k ts ≡ Con l us → k ≡ l
-same_name k l ts us e = cc
-
-same_types : (k l : ℕ) (ts us : Typs) → Con k ts ≡ Con l us → ts ≡ us
-same_types k l ts us e = cc
-
-fixed_constructor : (x l : ℕ) (s : List ℕ) (us : Typs) → TFree x s ≡ Con l us → ⊥
-fixed_constructor x l s us e = cc
-
-variable_fixed : (x i y : ℕ) (s r : List ℕ) → TVar x i s ≡ TFree y r → ⊥
-variable_fixed x i y s r e = cc
-
-variable_constructor : (x i k : ℕ) (s : List ℕ) (ts : Typs) → TVar x i s ≡ Con k ts → ⊥
-variable_constructor x i k s ts e = cc
-
 -- No map makes types equal whose nodes differ, where neither is a schematic variable.
 rigid_apart : (t u : Typ) → ¬ IsSchematic t → ¬ IsSchematic u → DifferAtRoot t u → (typs : Typ → Typ) → KeepsFixedTyps typs → typ_instance typs t ≡ typ_instance typs u → ⊥
 rigid_apart (TVar x i s) u h k roots typs keeps e = h tt
@@ -168,8 +154,8 @@ rigid_apart (TFree x s) (Con l us) h k roots typs keeps e = fixed_constructor x 
 rigid_apart (Con m ts) (TFree y r) h k roots typs keeps e = fixed_constructor y m r (typs_instance typs ts) (sym (keeps y r) ∙ sym e)
 rigid_apart (Con m ts) (TVar y j r) h k roots typs keeps e = k tt
 rigid_apart (Con m ts) (Con l us) h k roots typs keeps e =
-    roots (same_name m l (typs_instance typs ts) (typs_instance typs us) e)
-    (sym (typs_count-instance typs ts) ∙ (ap typs_count (same_types m l (typs_instance typs ts) (typs_instance typs us) e) ∙ typs_count-instance typs us))
+    roots (same_constructor m l (typs_instance typs ts) (typs_instance typs us) e)
+    (sym (typs_count-instance typs ts) ∙ (ap typs_count (same_arguments m l (typs_instance typs ts) (typs_instance typs us) e) ∙ typs_count-instance typs us))
 
 one_pair : (A : Algebra) (t u : Typ) (typs : Typ → Typ) → IsSubstitution A typs → typ_instance typs t ≡ typ_instance typs u → IsUnifier A (pair t u ∷ []) typs
 one_pair A t u typs sub e = record { substitution = sub; equates = (e, tt) }

@@ -13,6 +13,7 @@ use Rattle.pure_tunify.specs.declared.pair.TypPair.{TypPair}
 use Rattle.pure_tunify.specs.Unifiers.{IsSubstitution, Equates, IsUnifier, IsFresh, IsOld, IsOldPair, AreTogether, IsMostGeneral}
 use Rattle.pure_tunify.specs.Asks.{IsMeet}
 use Rattle.pure_tunify.specs.Steps.{pair, pairs_of, setting, instance_pair, Asks, Steps, drop, decompose, orient, narrow, eliminate, Fails, clash, fixed, fixed_left, fixed_right, occurs, occurs_left, sort, sort_left, Solves, solved, step, Refutes, failed, step_on, IsReduction}
+use Rattle.pure_tunify.proofs.NodeLaws.{fixed_constructor, same_arguments, same_constructor}
 use Rattle.pure_tunify.proofs.MapLaws.{identity_is_substitution, after_is_substitution, setting-cases, setting-itself, setting-other, setting_is_substitution, changed, changed-cases, changed-itself, changed_is_substitution, fresh-later, variable_is_old, old-instances, together, equates-forth, equates-back, equates-nothing_first}
 
 -- A step that sets nothing, whose pairs have the same unifiers.
@@ -198,15 +199,6 @@ never_below typs x i k s ts o e =
     let size = ap typ_size e in
     absurd (omega arith)
 
-same_constructor : (k l : ℕ) (ts us : Typs) → Con k ts ≡ Con l us → k ≡ l
-same_constructor k l ts us e = cc
-
-same_arguments : (k l : ℕ) (ts us : Typs) → Con k ts ≡ Con l us → ts ≡ us
-same_arguments k l ts us e = cc
-
-never_fixed : (x l : ℕ) (s : List ℕ) (us : Typs) → TFree x s ≡ Con l us → ⊥
-never_fixed x l s us e = cc
-
 never_clash : (typs : Typ → Typ) (k l : ℕ) (ts us : Typs) → (k ≢ l) ⊎ (typs_count ts ≢ typs_count us) → Con k (typs_instance typs ts) ≡ Con l (typs_instance typs us) → ⊥
 never_clash typs k l ts us (inl other) e = other (same_constructor k l (typs_instance typs ts) (typs_instance typs us) e)
 never_clash typs k l ts us (inr other) e =
@@ -215,8 +207,8 @@ never_clash typs k l ts us (inr other) e =
 pub failed_has_no_unifier : (A : Algebra) (ps : List TypPair) (typs : Typ → Typ) → Fails A ps → ¬ IsUnifier A ps typs
 failed_has_no_unifier A ps typs (clash k l ts us other) u = never_clash typs k l ts us other u.equates.0
 failed_has_no_unifier A ps typs (fixed x y s r other) u = other (sym (u.substitution.keeps x s) ∙ (u.equates.0 ∙ u.substitution.keeps y r))
-failed_has_no_unifier A ps typs (fixed_left x l s us) u = never_fixed x l s (typs_instance typs us) (sym (u.substitution.keeps x s) ∙ u.equates.0)
-failed_has_no_unifier A ps typs (fixed_right x k s ts) u = never_fixed x k s (typs_instance typs ts) (sym (u.substitution.keeps x s) ∙ sym u.equates.0)
+failed_has_no_unifier A ps typs (fixed_left x l s us) u = fixed_constructor x l s (typs_instance typs us) (sym (u.substitution.keeps x s) ∙ u.equates.0)
+failed_has_no_unifier A ps typs (fixed_right x k s ts) u = fixed_constructor x k s (typs_instance typs ts) (sym (u.substitution.keeps x s) ∙ sym u.equates.0)
 failed_has_no_unifier A ps typs (occurs x i k s ts o) u = never_below typs x i k s ts o u.equates.0
 failed_has_no_unifier A ps typs (occurs_left x i k s ts o) u = never_below typs x i k s ts o (sym u.equates.0)
 failed_has_no_unifier A ps typs (sort x i s t no_instance) u = no_instance typs u.substitution (rw (sym u.equates.0) (u.substitution.respects.schematic x i s))

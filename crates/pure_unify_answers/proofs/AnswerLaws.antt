@@ -3,10 +3,10 @@ use Rattle.std.proofs.Common.{◌≡◌, ◌⊎◌, ℕ, zero, suc, ◌+◌, ◌
 use Rattle.std.proofs.lemmas.Bool.{cases_lt}
 use Rattle.pure_text.specs.Lists.{IsIn, Each}
 use Rattle.pure_text.proofs.ListLaws.{each-append, each-right, each_of, each_decided}
-use Rattle.pure_definitions.specs.Types.Typ.{Typ, TFree, TVar, Con, typ_size, typ_depth}
+use Rattle.pure_definitions.specs.Types.Typ.{Typ, TFree, TVar, Con}
 use Rattle.pure_definitions.specs.Types.Occurs.{OccursInTyp}
 use Rattle.pure_definitions.specs.Types.Order.{Algebra}
-use Rattle.pure_definitions.specs.Terms.Term.{Term, Const, Free, Var, Bound, Abs, App, max_size, max_depth, IsWithin}
+use Rattle.pure_definitions.specs.Terms.Term.{Term, Const, Free, Var, Bound, Abs, App, IsWithin}
 use Rattle.pure_definitions.specs.Terms.Limits.{IsWithinTyp}
 use Rattle.pure_definitions.specs.Terms.Subst.{TypBind, TermBind}
 use Rattle.pure_definitions.specs.Declarations.Decl.{algebra_of}
@@ -14,6 +14,7 @@ use Rattle.pure_term_laws.specs.LawsOccurs.{TypOccurs}
 use Rattle.pure_logic.specs.Content.{Content}
 use Rattle.pure_logic.specs.Derivable.{Pair}
 use Rattle.pure_tunify.specs.Unifiers.{IsFresh, IsOld}
+use Rattle.pure_tunify.proofs.OutcomeLaws.{typ_within_or_not}
 use Rattle.pure_unify_definitions.specs.Fronts.{head, is_flexible, pair_variables}
 use Rattle.pure_unify_definitions.specs.Node.{Single, Node, root, bind}
 use Rattle.pure_unify_definitions.specs.LongSides.{Stop, Big, Sides, AllLong, Stopped, AreLong}
@@ -72,12 +73,6 @@ choice_or_flexible (p ∷ ps) lefts = by (is_flexible p.left) (is_flexible p.rig
     by false false e g rest = absurd (neither (is_flexible p.left) (is_flexible p.right) e g (flexible_pair p lefts.0))
 
 -- Images are within the limits or not.
-typ_within_or_not : (T : Typ) → IsWithinTyp T ⊎ ¬ IsWithinTyp T
-typ_within_or_not T = elim (cases_lt max_size (typ_size T)) [
-  | inl large ↦ inr (λ h. let size = h.size in omega arith)
-  | inr small ↦ elim (cases_lt max_depth (typ_depth T)) [ inl deep ↦ inr (λ h. let depth = h.depth in omega arith) | inr flat ↦ inl (record { size = small; depth = flat }) ]
-]
-
 images_within_or_not : (u : Unifier) → AreImagesWithin u ⊎ ¬ AreImagesWithin u
 images_within_or_not u = elim (each_decided (λ (b : TypBind). IsWithinTyp b.image) (λ b. typ_within_or_not b.image) u.typs) [
   | inr beyond ↦ inr (λ h. beyond h.typs)

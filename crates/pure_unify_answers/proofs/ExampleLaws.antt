@@ -1,6 +1,6 @@
 -- Answers of the search, step by step.
 use Rattle.std.proofs.Common.{◌≡◌, ℕ, ◌<◌, ◌≤◌, List, [], ◌∷◌, true, false, inl, inr, refl, sym, subst, arith}
-use Rattle.pure_definitions.specs.Types.Typ.{Typ, TVar, Con, Typs, none, prop}
+use Rattle.pure_definitions.specs.Types.Typ.{Typ, TVar, none, prop}
 use Rattle.pure_definitions.specs.Types.Occurs.{OccursInTyp}
 use Rattle.pure_definitions.specs.Declarations.Certified.{IsCertifiedTyp}
 use Rattle.pure_logic.specs.PureContent.{pure_content}
@@ -8,6 +8,7 @@ use Rattle.pure_logic.proofs.ConnectiveLaws.{pure-below_itself, prop-certified}
 use Rattle.pure_definitions.specs.Terms.Term.{Term, Const, Free, Var}
 use Rattle.pure_definitions.specs.Reduction.Eta.{EtaReduces}
 use Rattle.pure_term_laws.proofs.EtaNormalLaws.{one_eta_normal_form}
+use Rattle.pure_tunify.proofs.NodeLaws.{variable_constructor}
 use Rattle.pure_unify_definitions.specs.Fronts.{is_schematic, pair}
 use Rattle.pure_unify_definitions.specs.Node.{bind}
 use Rattle.pure_unify_laws.specs.Condition.{AreUnifiable}
@@ -47,10 +48,7 @@ set_example = success (omega arith)
     }) no_more) (simple tt)))
     tt (record { typs = tt; terms = (record { size = omega arith; depth = omega arith }, tt) })
 
-variable_constructor : (x i k : ℕ) (s : List ℕ) (ts : Typs) → TVar x i s ≡ Con k ts → ⊥
-variable_constructor x i k s ts e = cc
-
-no_typs : (x i : ℕ) (s : List ℕ) → ¬ OccursInTyp (TVar x i s) prop
+pub no_typs : (x i : ℕ) (s : List ℕ) → ¬ OccursInTyp (TVar x i s) prop
 no_typs x i s (inl e) = variable_constructor x i 1 s none e
 no_typs x i s (inr o) = o
 

@@ -17,7 +17,8 @@ use Rattle.pure_unify_definitions.specs.Fronts.{variables, pair_variables}
 use Rattle.pure_unify_definitions.specs.Node.{Setting, Typs, Single, bind, with_setting, with_setting_put}
 use Rattle.pure_unify_definitions.specs.LongSides.{Long, ComesTo, is_long, AllLong, AreLong, no_more, both_long}
 use Rattle.pure_unify_answers.proofs.PartLaws.{IsOfParts, HasParts, normal-parts, eta-parts, long-parts, replaced-parts, implied-parts}
-use Rattle.pure_unify_answers.proofs.FewerLaws.{IsAmong, IsOldAmong, occurs_schematics}
+use Rattle.pure_tunify.proofs.SchematicLaws.{occurs_schematics}
+use Rattle.pure_unify_answers.proofs.FewerLaws.{IsAmong, IsOldAmong}
 use Rattle.pure_unify_answers.proofs.SpineLaws.{HavePartsIn}
 
 module _ (P : Typ → Type 0) (V : Term → Type 0) (parts : IsOfParts P) where
