@@ -5,6 +5,4 @@ pub mod FillingLaws
 pub mod PrintedLaws
 pub mod FulfilledLaws
 pub mod JoinLaws
-pub mod MeantLaws
-pub mod FatesLaws
 pub mod ThereLaws

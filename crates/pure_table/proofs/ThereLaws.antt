@@ -6,6 +6,8 @@ use Rattle.pure_text.proofs.ListLaws.{in-map}
 use Rattle.pure_definitions.specs.Names.{Label}
 use Rattle.pure_graph.specs.Order.{Loaded}
 use Rattle.pure_declare.specs.Notes.{Fork}
+use Rattle.pure_lookup.proofs.MeantLaws.{found_somehow}
+use Rattle.pure_fates.proofs.ThereLaws.{among_or_not, some_fate}
 use Rattle.pure_promise.specs.Entries.{Entry, plain}
 use Rattle.pure_promise.specs.Rows.{IsRowOf}
 use Rattle.pure_promise.specs.RowText.{fate_row}
@@ -18,9 +20,7 @@ use Rattle.pure_verdicts.specs.Laws.{IsSomeFork}
 use Rattle.pure_table.specs.Table.{IsEntryOf}
 use Rattle.pure_table.specs.There.{ProofsHaveValues, TableIsThere}
 use Rattle.pure_verdicts.proofs.CloseLaws.{statements_there}
-use Rattle.pure_table.proofs.FatesLaws.{among_or_not, fates_are_there}
 use Rattle.pure_table.proofs.DerivedLaws.{standing, provable, some_fork, has_fates}
-use Rattle.pure_table.proofs.MeantLaws.{found_somehow}
 
 pub proofs_have_values : ProofsHaveValues
 proofs_have_values texts theories loaded f some =
@@ -51,6 +51,6 @@ table_is_there S loaded cancelled =
     let entries = beside (IsEntryOf S.names cancelled) (forks_of notes) (λ f m. entry_there S.names S.theories loaded cancelled f (some_fork S.names S.theories loaded notes s.1 f m)) in
     let ordered = has_fates S.names S.theories loaded notes s.1 cancelled entries.0 entries.1 in
     let rows = beside (IsRowOf S.names entries.0) entries.0 (λ e m.
-    let w = fates_are_there (map plain entries.0) ordered (plain e) (in-map plain e entries.0 m) in
+    let w = some_fate (map plain entries.0) ordered (plain e) (in-map plain e entries.0 m) in
     (fate_row S.names entries.0 e w.0, (w.0, w.1, refl))) in
     (record { notes = notes; entries = entries.0; lemmas = rows.0 }, record { statements = s.1; entries = entries.1; rows = rows.1 })

@@ -1,5 +1,5 @@
-use Rattle.pure_table.proofs.FatesLaws.{fates_are_there as law}
+use Rattle.pure_fates.proofs.ThereLaws.{some_fate}
 use Rattle.pure_table.proofs.laws.fates_are_there.Goals as goal
 
 pub returns : goal.returns
-returns c = law
+returns c = some_fate

@@ -4,7 +4,7 @@ use Rattle.std.proofs.lemmas.Bool.Decides.{eqb_tells}
 use Rattle.std.specs.declared.cmp.Ordering.TheVariants.{Less}
 use Rattle.std.specs.List.{AllByRecursion}
 use Rattle.std.specs.List.Sorted.{IsStrictlySortedBy}
-use Rattle.pure_text.specs.Lists.{IsIn, Each}
+use Rattle.pure_text.specs.Lists.{IsIn}
 use Rattle.pure_text.proofs.ListLaws.{in_split, in-append_left, in-append_right, in-map, each_at, any_some, any_of, any_decided}
 use Rattle.pure_definitions.specs.Names.{Label}
 use Rattle.pure_theorem.specs.Sets.{label_cmp, IsLabelSet}
@@ -12,7 +12,6 @@ use Rattle.pure_fates.specs.Entries.{Own, Shown, Fault, Cancelled, Entry, Became
 use Rattle.pure_fates.proofs.LabelSets.{not_both, not_itself, first_below, rest_is_set}
 use Rattle.pure_fates.proofs.FateLaws.{became_once}
 use Rattle.pure_fates.proofs.ProvedLaws.{in_mapped}
-use Rattle.pure_table.specs.There.{FatesAreThere}
 
 label_or_not : (l m : Label) → (l ≡ m) ⊎ ¬ (l ≡ m)
 label_or_not l m = elim (eqb_tells l.theory m.theory) [
@@ -103,7 +102,7 @@ both_or_not A B (inl a) (inl b) = inl (a, b)
 both_or_not A B (inl a) (inr n) = inr (λ h. n h.1)
 both_or_not A B (inr n) q = inr (λ h. n h.0)
 
-shown-same : (rs ks : List Label) → Shown rs ≡ Shown ks → rs ≡ ks
+pub shown-same : (rs ks : List Label) → Shown rs ≡ Shown ks → rs ≡ ks
 shown-same rs ks e = cc
 
 -- An entry that is before another stands in front of it.
@@ -260,13 +259,10 @@ module _ (es : List Entry) (entries : AreEntries es) where
         by ([], all) (inl c) = (Unsettled, unsettled rests (rests-shown e rests m own) all c)
         by ([], all) (inr c) = (Proved, proved rests (rests-shown e rests m own) all c)
 
-  fate : (e : Entry) → IsIn e es → (fate : Fate) × IsFate es e.label fate
-  fate e m = by e.own refl (split e es m)
+  pub some_fate : (e : Entry) → IsIn e es → (fate : Fate) × IsFate es e.label fate
+  some_fate e m = by e.own refl (split e es m)
     where
       by : (o : Own) → e.own ≡ o → IsSplit e es → (fate : Fate) × IsFate es e.label fate
       by Fault own s = (Failed, failed (record { entry = e; stands = m; of_label = refl; own_is = own }))
       by Cancelled own s = (Gone, gone (record { entry = e; stands = m; of_label = refl; own_is = own }))
       by (Shown rests) own s = shown_fate e m rests own (reached (suc (length s.front)) e s.front s.rest s.is (omega arith))
-
-pub fates_are_there : FatesAreThere
-fates_are_there es entries e m = fate es entries e m
