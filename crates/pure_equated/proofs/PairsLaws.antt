@@ -74,7 +74,7 @@ pairs_are_replaced Q q above th others certified equated h =
     })
 
 -- The equations of a theorem's pairs, among hypotheses, prove them.
-own-proved : (Q : Content) (hyps : List Term) (rests : List Label) (pairs : List Pair) (es : List Term) → EachTwo IsEquation pairs es → Each (IsProposition Q) es → ((A : Term) → IsIn A es → IsIn A hyps) → Each (IsPairProved Q hyps rests) pairs
+pub own-proved : (Q : Content) (hyps : List Term) (rests : List Label) (pairs : List Pair) (es : List Term) → EachTwo IsEquation pairs es → Each (IsProposition Q) es → ((A : Term) → IsIn A es → IsIn A hyps) → Each (IsPairProved Q hyps rests) pairs
 own-proved Q hyps rests [] [] are propositions among = tt
 own-proved Q hyps rests (p ∷ ps) (e ∷ es) are propositions among =
     ((are.0.0, rw are.0.2 at (assumed Q hyps rests e propositions.0 (among e (inl refl)))), own-proved Q hyps rests ps es are.1 propositions.1 (λ A m. among A (inr m)))

@@ -26,12 +26,12 @@ use Rattle.pure_goal_laws.proofs.StepLaws.{pairs-weaker}
 use Rattle.pure_goal_laws.proofs.MatchLaws.{matched_behind, matched_back}
 use Rattle.pure_goal_laws.proofs.JustificationLaws.{premises-propositions, chain-then, at_instance, chain_at_instance}
 
-hypothesis-there : (before : List Item) (H : Term) (after : List Item) → IsIn (lift_term (length (parameters after)) 0 H) (hypotheses (before ++ Hypothesis H ∷ after))
+pub hypothesis-there : (before : List Item) (H : Term) (after : List Item) → IsIn (lift_term (length (parameters after)) 0 H) (hypotheses (before ++ Hypothesis H ∷ after))
 hypothesis-there [] H after = inl refl
 hypothesis-there (Parameter T ∷ ps) H after = hypothesis-there ps H after
 hypothesis-there (Hypothesis A ∷ ps) H after = inr (hypothesis-there ps H after)
 
-chain-append : (As Bs : List Term) (C : Term) → chain (As ++ Bs) C ≡ chain As (chain Bs C)
+pub chain-append : (As Bs : List Term) (C : Term) → chain (As ++ Bs) C ≡ chain As (chain Bs C)
 chain-append [] Bs C = refl
 chain-append (A ∷ As) Bs C = ap (imp A) (chain-append As Bs C)
 

@@ -10,7 +10,7 @@ use Rattle.pure_logic.specs.Connectives.{imp, eq, chain}
 use Rattle.pure_logic.specs.Content.{Content, IsContent, IsBelow, IsProposition}
 use Rattle.pure_logic.specs.PureContent.{pure_content}
 use Rattle.pure_logic.specs.Derivable.{Pair, Theorem, IsDerivable}
-use Rattle.pure_logic.specs.Proves.{Proves, IsEquation}
+use Rattle.pure_logic.specs.Proves.{Proves}
 use Rattle.pure_logic.specs.Laws.Substitution.{theorem_instance}
 use Rattle.pure_logic.proofs.ConnectiveLaws.{certified_of}
 use Rattle.pure_logic.proofs.ProvesLaws.{assumed, weaker, chain_is_proved, end_of_chain_is_proved, derivable-proved, proved-derivable}
@@ -19,17 +19,8 @@ use Rattle.pure_equated.specs.Equated.{AreEquated, back}
 use Rattle.pure_equated.specs.Laws.Proved.{IsPairProved}
 use Rattle.pure_equated.proofs.SidesLaws.{equated_are_typed}
 use Rattle.pure_equated.proofs.EquatedLaws.{equated_proposition_is_proved}
-use Rattle.pure_equated.proofs.PairsLaws.{pairs_are_replaced}
+use Rattle.pure_equated.proofs.PairsLaws.{pairs_are_replaced, own-proved}
 use Rattle.pure_goal_laws.specs.GoalStep.{IsGoalStep, IsJustified}
-
--- The equations of pairs, where they are hypotheses, are proved.
-pairs-proved : (Q : Content) (hyps : List Term) (rests : List Label) (pairs : List Pair) (es : List Term) → EachTwo IsEquation pairs es → Each (IsProposition Q) es → ((A : Term) → IsIn A es → IsIn A hyps)
-    → Each (IsPairProved Q hyps rests) pairs
-pairs-proved Q hyps rests [] [] h k among = tt
-pairs-proved Q hyps rests (p ∷ ps) (e ∷ es) h k among =
-    ((h.0.0, rw h.0.2 at (assumed Q hyps rests e k.0 (among e (inl refl)))), pairs-proved Q hyps rests ps es h.1 k.1 (λ A m. among A (inr m)))
-pairs-proved Q hyps rests [] (e ∷ es) h k among = absurd h
-pairs-proved Q hyps rests (p ∷ ps) [] h k among = absurd h
 
 pub pairs-weaker : (Q : Content) (hyps more_hyps : List Term) (rests : List Label) (pairs : List Pair) → ((A : Term) → IsIn A hyps → IsIn A more_hyps) → Each (IsPairProved Q hyps rests) pairs → Each (IsPairProved Q more_hyps rests) pairs
 pairs-weaker Q hyps more_hyps rests pairs among h =
@@ -47,7 +38,7 @@ module _ (Q : Content) (q : IsContent Q) (above : IsBelow pure_content Q) where
         equations = p.equations;
         are_equations = p.are_equations;
         propositions = p.propositions;
-        proves = step H (pairs-proved Q H new.rests new.pairs p.equations p.are_equations p.propositions (λ B m. in-append_left B p.equations new.hyps m))
+        proves = step H (own-proved Q H new.rests new.pairs p.equations p.are_equations p.propositions (λ B m. in-append_left B p.equations new.hyps m))
             (weaker Q (p.equations ++ hyps) H rests new.rests A (λ B m. elim (in_split B p.equations hyps m) [ inl n ↦ in-append_left B p.equations new.hyps n | inr n ↦ in-append_right B p.equations new.hyps (hyps_among B n) ]) rests_among p.proves);
       })
 

@@ -1,5 +1,6 @@
 -- An attempt whose pairs are unified leads from a derivable goal to a derivable one.
 use Rattle.std.proofs.Common.{◌≡◌, List, [], ◌∷◌, ◌++◌, map, refl, ap, sym, subst}
+use Rattle.std.proofs.lemmas.List.{map-append}
 use Rattle.pure_text.specs.Lists.{IsIn, Each, EachTwo}
 use Rattle.pure_text.proofs.ListLaws.{each-append, each_imply}
 use Rattle.pure_definitions.specs.Names.{Label}
@@ -30,10 +31,6 @@ same-instance typs terms (Var x i T) = refl
 same-instance typs terms (Bound p) = refl
 same-instance typs terms (Abs T b) = λ i. Abs (typ_instance (typ_image typs) T) (same-instance typs terms b i)
 same-instance typs terms (App f a) = λ i. App (same-instance typs terms f i) (same-instance typs terms a i)
-
-pub map-append : (f : Term → Term) (xs ys : List Term) → map f (xs ++ ys) ≡ map f xs ++ map f ys
-map-append f [] ys = refl
-map-append f (x ∷ xs) ys = ap (λ (zs : List Term). f x ∷ zs) (map-append f xs ys)
 
 map-same : (f g : Term → Term) → ((t : Term) → f t ≡ g t) → (xs : List Term) → map f xs ≡ map g xs
 map-same f g e [] = refl

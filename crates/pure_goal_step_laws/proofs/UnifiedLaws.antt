@@ -1,12 +1,12 @@
 -- Steps by unification are sound where each unifier solves the pairs that it is asked for.
-use Rattle.std.proofs.Common.{◌≡◌, ℕ, ◌+◌, ◌≤◌, List, [], ◌∷◌, ◌++◌, map, length, Ok, inl, inr, refl, ap, sym, subst, ◌∙◌, arith, append_assoc}
+use Rattle.std.proofs.Common.{◌≡◌, ℕ, ◌+◌, ◌≤◌, List, [], ◌∷◌, ◌++◌, map, Ok, refl, ap, sym, subst, ◌∙◌, arith, append_assoc}
+use Rattle.std.proofs.lemmas.List.{map-append}
 use Rattle.pure_text.specs.Lists.{IsIn, Each}
 use Rattle.pure_text.proofs.ListLaws.{each-append, each_imply}
 use Rattle.pure_definitions.specs.Names.{Label}
 use Rattle.pure_definitions.specs.Types.Typ.{prop}
 use Rattle.pure_definitions.specs.Types.Order.{Algebra}
 use Rattle.pure_definitions.specs.Terms.Term.{Term}
-use Rattle.pure_definitions.specs.Terms.Bounds.{lift_term}
 use Rattle.pure_definitions.specs.Terms.Subst.{term_instance}
 use Rattle.pure_definitions.specs.Declarations.Decl.{algebra_of}
 use Rattle.pure_logic.specs.Connectives.{protect, chain}
@@ -23,12 +23,13 @@ use Rattle.pure_unify_laws.specs.Reached.{AreSidesCertified}
 use Rattle.pure_unify_laws.specs.Condition.{HasIndexesUpTo, AreIndexesUpTo, IsUnifyContent, AreUnifiable}
 use Rattle.pure_unify_answers.specs.Maps.{unifier_typs, unifier_terms, Solves}
 use Rattle.pure_unify_answers.specs.Laws.{UnifierSolves}
-use Rattle.pure_goal_laws.specs.Prefix.{Item, Parameter, Hypothesis, behind, parameters, hypotheses}
+use Rattle.pure_goal_laws.specs.Prefix.{Item, Parameter, Hypothesis, behind}
 use Rattle.pure_goal_laws.specs.Lifting.{IsStripped, lifted_behind}
 use Rattle.pure_goal_laws.specs.GoalStep.{IsGoalStep, IsRuleFor, closed_pair, destructed_premises}
 use Rattle.pure_goal_laws.proofs.PrefixLaws.{behind-append, implication_behind, hypothesis_is_proved}
 use Rattle.pure_goal_laws.proofs.StateLaws.{subgoals_are_propositions, pairs_are_certified}
 use Rattle.pure_goal_laws.proofs.FactLaws.{rule-proved, assumption_step, rule_step, elimination_step, destruction_step}
+use Rattle.pure_goal_laws.proofs.EliminationLaws.{hypothesis-there}
 use Rattle.pure_goal_steps.specs.State.{State, theorem_of, greatest_index}
 use Rattle.pure_goal_steps.specs.Reading.{Place, places, around, without, standing, Strips, bare, quantified, supposed, IsRuleOf, rule_maxidx}
 use Rattle.pure_goal_steps.specs.Follows.{Becomes, Attempt, unified_pairs, with_unifier, Follows, FollowsByFirst, passed, decided}
@@ -38,12 +39,12 @@ use Rattle.pure_goal_steps.proofs.SoundLaws.{becomes_sound}
 use Rattle.pure_goal_step_laws.specs.Laws.{IsUsed}
 use Rattle.pure_goal_step_laws.proofs.IndexLaws.{IsUpTo, term-more, typs_up_to, terms_up_to, parameters-up_to, up_to-below, up_to-lifted_behind, standing-up_to, goal_up_to, pairs_up_to, rule_up_to}
 use Rattle.pure_goal_step_laws.proofs.ClosedLaws.{closed_typed, lifted_propositions, without_hypothesis}
-use Rattle.pure_goal_step_laws.proofs.AttemptLaws.{map-append, left_pairs, attempt_step, matched_pairs}
+use Rattle.pure_goal_step_laws.proofs.AttemptLaws.{left_pairs, attempt_step, matched_pairs}
 
 pub has-indexes : (n : ℕ) (t : Term) → IsUpTo n t → HasIndexesUpTo n t
 has-indexes n t h = record { typs = λ x i s o. typs_up_to n x i s t h o; terms = λ x i T o. terms_up_to n x i T t h o }
 
-is-stripped : {index name : ℕ} {t C : Term} {As : List Term} → Strips index name t As C → IsStripped t As C
+pub is-stripped : {index name : ℕ} {t C : Term} {As : List Term} → Strips index name t As C → IsStripped t As C
 is-stripped {C = C} (bare c) = IsStripped.bare C
 is-stripped {index = index} {name = name} {C = C} {As = As} (quantified {T = T} {B = B} s) = IsStripped.quantified T B name index As C (is-stripped s)
 is-stripped (supposed {A = A} {B = B} {As = As} {C = C} s) = IsStripped.supposed A B As C (is-stripped s)
@@ -80,11 +81,6 @@ places-around before (Parameter T ∷ after) =
 places-around before (Hypothesis H ∷ after) =
     let same : (before ++ Hypothesis H ∷ []) ++ after ≡ before ++ Hypothesis H ∷ after = append_assoc before (Hypothesis H ∷ []) after in
     (refl, subst (λ (qs : List Item). Each (λ p. around p ≡ qs) (places (before ++ Hypothesis H ∷ []) after)) same (places-around (before ++ Hypothesis H ∷ []) after))
-
-pub standing-in : (before : List Item) (H : Term) (after : List Item) → IsIn (lift_term (length (parameters after)) 0 H) (hypotheses (before ++ Hypothesis H ∷ after))
-standing-in [] H after = inl refl
-standing-in (Parameter T ∷ before) H after = standing-in before H after
-standing-in (Hypothesis A ∷ before) H after = inr (standing-in before H after)
 
 module _ (Q : Content) (k : IsUnifyContent Q) (solver : UnifierSolves) where
   module _ (s : State) (rests all : List Label) (h : IsSound Q rests s) (kept : (l : Label) → IsIn l rests → IsIn l all) (first : Term) (others : List Term) (stand : s.subgoals ≡ first ∷ others) where
@@ -169,7 +165,7 @@ module _ (Q : Content) (k : IsUnifyContent Q) (solver : UnifierSolves) where
     pub hypothesis-proposition : IsProposition Q (behind (around place) (standing place))
     hypothesis-proposition =
         proved_is_proposition Q k.content k.above [] rests (behind (around place) (standing place))
-        (hypothesis_is_proved Q k.content k.above [] rests (around place) (standing place) C whole-proposition (standing-in place.before place.hypothesis place.after))
+        (hypothesis_is_proved Q k.content k.above [] rests (around place) (standing place) C whole-proposition (hypothesis-there place.before place.hypothesis place.after))
 
     assumption-sound : (new : State) → EndsWell (algebra_of Q.declarations) (greatest_index (indexed s)) s others (assumption_attempt C place) new → IsSound Q all new
     assumption-sound new e =
@@ -185,7 +181,7 @@ module _ (Q : Content) (k : IsUnifyContent Q) (solver : UnifierSolves) where
         (λ u solves.
         assumption_step Q k.content k.above (theorem_of s rests) (theorem_of (with_unifier s others a u) all) others (protect s.statement) (unifier_typs u) (unifier_terms u) ps (standing place) C
         (attempt_step Q k.content s (behind ps C) others a u rests all stands solves tt (subgoals s rests all h kept first others stand).1 kept)
-        (standing-in place.before place.hypothesis place.after) (matched_pairs Q k.content s (behind ps C) others a u rests all solves).0 h.derivable)
+        (hypothesis-there place.before place.hypothesis place.after) (matched_pairs Q k.content s (behind ps C) others a u rests all solves).0 h.derivable)
         e
 
     module _ (fact : Theorem) (used : IsUsed Q fact rests all) (P : Term) (As : List Term) (B : Term) (r : IsRuleOf (indexed s) fact (P ∷ As) B) where

@@ -2,33 +2,15 @@
 use Rattle.std.proofs.Common.{◌≡◌, ℕ, List, [], ◌∷◌, Ok, Err, refl, ap, sym, subst, ◌∙◌}
 use Rattle.pure_definitions.specs.Types.Order.{Algebra}
 use Rattle.pure_definitions.specs.Terms.Term.{Term, IsWithin}
-use Rattle.pure_term_laws.proofs.TypingLaws.{typed-once}
-use Rattle.pure_logic.specs.Connectives.{imp, eq}
-use Rattle.pure_logic.specs.Derivable.{Pair, IsUnderPairs}
+use Rattle.pure_logic.proofs.ConclusionLaws.{one_under_pairs}
 use Rattle.pure_order_tables.specs.Classes.{IsAntisymmetric}
-use Rattle.pure_unify_definitions.specs.LongSides.{Stop, Long, Ends, ComesTo}
+use Rattle.pure_unify_definitions.specs.LongSides.{Stop}
 use Rattle.pure_unify_definitions.specs.Search as search
-use Rattle.pure_unify_definitions.specs.Search.{Answer, Unified, Stopped, IsUnifyAnswer}
-use Rattle.pure_unify_laws.proofs.OneSides.{side-once}
+use Rattle.pure_unify_definitions.specs.Search.{Answer, Unified, Stopped}
+use Rattle.pure_unify_laws.proofs.OneSides.{stop-once, form-once, form-not-stop}
 use Rattle.pure_unify_laws.proofs.OneSearch.{search_has_one_answer}
 use Rattle.pure_goal_steps.specs.State.{State, IsSmall, IsLarge}
 use Rattle.pure_goal_steps.specs.Follows.{Outcome, stop_fault, Forms, AllLong, Halted, Come, no_more, first_stops, later_stops, all_long, Becomes, halted, large, small, Attempt, unified_pairs, Follows, FollowsBy, FollowsByFirst, none, passed, decided}
-
-pub under-once : (ps : List Pair) (A p q : Term) → IsUnderPairs ps A p → IsUnderPairs ps A q → p ≡ q
-under-once [] A p q f g = f ∙ sym g
-under-once (r ∷ ps) A p q (T, B, t, u, e) (U, C, s, v, d) =
-    let typs : T ≡ U = typed-once [] r.left T U t s in
-    let rest : B ≡ C = under-once ps A B C u v in
-    e ∙ ((λ i. imp (eq (typs i) r.left r.right) (rest i)) ∙ sym d)
-
-stop-once : (t : Term) (s r : Stop) → ComesTo t (Ends s) → ComesTo t (Ends r) → s ≡ r
-stop-once t s r f g = let same : Ends s ≡ Ends r = side-once t (Ends s) (Ends r) f g in cc
-
-long-once : (t u v : Term) → ComesTo t (Long u) → ComesTo t (Long v) → u ≡ v
-long-once t u v f g = let same : Long u ≡ Long v = side-once t (Long u) (Long v) f g in cc
-
-long-not-stop : (t u : Term) (s : Stop) → ComesTo t (Long u) → ComesTo t (Ends s) → ⊥
-long-not-stop t u s f g = let same : Long u ≡ Ends s = side-once t (Long u) (Ends s) f g in absurd (cc)
 
 halted-same : (s r : Stop) → Halted s ≡ Halted r → s ≡ r
 halted-same s r e = cc
@@ -42,18 +24,18 @@ halted-not-long s us e = absurd (cc)
 pub come-once : (As : List Term) (one other : Forms) → Come As one → Come As other → one ≡ other
 come-once [] one other no_more no_more = refl
 come-once (A ∷ As) one other (first_stops {s = s} f) (first_stops {s = r} g) = ap Halted (stop-once A s r f g)
-come-once (A ∷ As) one other (first_stops {s = s} f) (later_stops {S = S} g h) = absurd (long-not-stop A S s g f)
-come-once (A ∷ As) one other (first_stops {s = s} f) (all_long {S = S} g h) = absurd (long-not-stop A S s g f)
-come-once (A ∷ As) one other (later_stops {S = S} f k) (first_stops {s = r} g) = absurd (long-not-stop A S r f g)
+come-once (A ∷ As) one other (first_stops {s = s} f) (later_stops {S = S} g h) = absurd (form-not-stop A S s g f)
+come-once (A ∷ As) one other (first_stops {s = s} f) (all_long {S = S} g h) = absurd (form-not-stop A S s g f)
+come-once (A ∷ As) one other (later_stops {S = S} f k) (first_stops {s = r} g) = absurd (form-not-stop A S r f g)
 come-once (A ∷ As) one other (later_stops {s = s} f k) (later_stops {s = r} g h) = come-once As (Halted s) (Halted r) k h
 come-once (A ∷ As) one other (later_stops {s = s} f k) (all_long {Ss = Ss} g h) = absurd (halted-not-long s Ss (come-once As (Halted s) (AllLong Ss) k h))
-come-once (A ∷ As) one other (all_long {S = S} f k) (first_stops {s = r} g) = absurd (long-not-stop A S r f g)
+come-once (A ∷ As) one other (all_long {S = S} f k) (first_stops {s = r} g) = absurd (form-not-stop A S r f g)
 come-once (A ∷ As) one other (all_long {Ss = Ss} f k) (later_stops {s = r} g h) = absurd (halted-not-long r Ss (sym (come-once As (AllLong Ss) (Halted r) k h)))
 come-once (A ∷ As) one other (all_long {S = S} {Ss = Ss} f k) (all_long {S = T} {Ss = Ts} g h) =
-    λ i. AllLong (long-once A S T f g i ∷ all-long-same Ss Ts (come-once As (AllLong Ss) (AllLong Ts) k h) i)
+    λ i. AllLong (form-once A S T f g i ∷ all-long-same Ss Ts (come-once As (AllLong Ss) (AllLong Ts) k h) i)
 
 small-not-large : (s : State) → IsSmall s → IsLarge s → ⊥
-small-not-large s (p, f, w) (q, g, wide) = wide (subst IsWithin (under-once s.pairs _ p q f g) w)
+small-not-large s (p, f, w) (q, g, wide) = wide (subst IsWithin (one_under_pairs s.pairs _ p q f g) w)
 
 -- What a state becomes, by what its subgoals come to.
 data Turns (made : State) (outcome : Outcome) : Type 0 where

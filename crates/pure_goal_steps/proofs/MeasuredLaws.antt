@@ -12,7 +12,7 @@ use Rattle.pure_goal_steps.specs.Follows.{Forms, AllLong, Halted, Come, no_more,
 use Rattle.pure_goal_steps.specs.declared.fault.StepFault.TheVariants as fault
 
 -- A term in long form comes to itself within the limits, and else it is too large.
-long-comes : (A : Term) → IsLongForm A A → IsWithin A → ComesTo A (Long A)
+pub long-comes : (A : Term) → IsLongForm A A → IsWithin A → ComesTo A (Long A)
 long-comes A f w = is_long (record { before = []; last = A; sequence = refl; undecided = tt; in_time = omega arith; decided = (w, f.normal, refl) }) f w
 
 long-large : (A : Term) → ¬ IsWithin A → ComesTo A (Ends Big)
@@ -24,7 +24,7 @@ within-or-not t = elim (cases_lt max_size (term_size t)) [
   | inr short ↦ elim (cases_lt max_depth (term_depth t)) [ inl deep ↦ inr (λ h. let depth = h.depth in omega arith) | inr flat ↦ inl (record { size = short; depth = flat }) ]
 ]
 
-imp-within : (A B : Term) → IsWithin (imp A B) → IsWithin A × IsWithin B
+pub imp-within : (A B : Term) → IsWithin (imp A B) → IsWithin A × IsWithin B
 imp-within A B w = (record { size = smaller w.size; depth = lower w.depth }, record { size = smaller_too w.size; depth = lower_too w.depth })
   where
     smaller : term_size (imp A B) ≤ max_size → term_size A ≤ max_size
@@ -43,7 +43,7 @@ chain-within : (As : List Term) (G : Term) → IsWithin (chain As G) → Each Is
 chain-within [] G w = tt
 chain-within (A ∷ As) G w = let parts = imp-within A (chain As G) w in (parts.0, chain-within As G parts.1)
 
-under-within : (ps : List Pair) (A q : Term) → IsUnderPairs ps A q → IsWithin q → IsWithin A
+pub under-within : (ps : List Pair) (A q : Term) → IsUnderPairs ps A q → IsWithin q → IsWithin A
 under-within [] A q f w = subst IsWithin f w
 under-within (p ∷ ps) A q (T, B, h, f, e) w = under-within ps A B f (imp-within (eq T p.left p.right) B (subst IsWithin e w)).1
 
@@ -69,7 +69,7 @@ all-within-or-not (A ∷ As) = by (within-or-not A) (all-within-or-not As)
     by (inl w) (inr ws) = inr (λ h. ws h.1)
     by (inr w) ws = inr (λ h. w h.0)
 
-come-both : (front Fs others Os : List Term) → Come front (AllLong Fs) → Come others (AllLong Os) → Come (front ++ others) (AllLong (Fs ++ Os))
+pub come-both : (front Fs others Os : List Term) → Come front (AllLong Fs) → Come others (AllLong Os) → Come (front ++ others) (AllLong (Fs ++ Os))
 come-both [] [] others Os f g = g
 come-both [] (F ∷ Fs) others Os f g = elim f [ ]
 come-both (A ∷ As) [] others Os f g = elim f [ ]

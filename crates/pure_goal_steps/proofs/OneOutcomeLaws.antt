@@ -15,7 +15,7 @@ use Rattle.pure_goal_steps.specs.Steps.{IsFirst, indexed, rule_attempt, eliminat
 use Rattle.pure_goal_steps.proofs.ReadLaws.{read_once, one_rule}
 use Rattle.pure_goal_steps.proofs.FollowsLaws.{becomes-once, followed-once, first-once}
 
-no-first : (A : Term) (As Bs : List Term) → Bs ≡ [] → Bs ≡ A ∷ As → ⊥
+pub no-first : (A : Term) (As Bs : List Term) → Bs ≡ [] → Bs ≡ A ∷ As → ⊥
 no-first A As Bs e f = absurd (cc)
 
 record AreOne (ps qs : List Item) (C D : Term) (others rest : List Term) : Type 0 where
@@ -46,7 +46,7 @@ moved-made made new outcome e f = subst (λ (m : State). Becomes m outcome) (sym
 premises-same : (P Q : Term) (As Bs : List Term) → P ∷ As ≡ Q ∷ Bs → (P ≡ Q) × (As ≡ Bs)
 premises-same P Q As Bs e = (cc, cc)
 
-some-not-none : (P : Term) (As Bs : List Term) → Bs ≡ P ∷ As → Bs ≡ [] → ⊥
+pub some-not-none : (P : Term) (As Bs : List Term) → Bs ≡ P ∷ As → Bs ≡ [] → ⊥
 some-not-none P As Bs e f = absurd (cc)
 
 pub rule_once : (A : Algebra) → IsAntisymmetric A → (s : State) (fact : Theorem) (one other : Outcome) → RuleStep A s fact one → RuleStep A s fact other → one ≡ other

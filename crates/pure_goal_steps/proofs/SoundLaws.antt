@@ -29,10 +29,10 @@ use Rattle.pure_goal_steps.specs.Derivability.{IsSound}
 long-itself : (t u : Term) → IsLongForm t u → IsLongForm u u
 long-itself t u f = record { typ = f.typ; typed = f.long_typed; long_typed = f.long_typed; reduces = EtaReduces.done; normal = f.normal; saturated = f.saturated; parts = f.parts }
 
-come-long : (t u : Term) → ComesTo t (Long u) → IsLongForm u u
+pub come-long : (t u : Term) → ComesTo t (Long u) → IsLongForm u u
 come-long t u (is_long {n = n} b l w) = long-itself n u l
 
-all-long : (As Ss : List Term) → Come As (AllLong Ss) → Each (λ A. IsLongForm A A) Ss
+pub all-long : (As Ss : List Term) → Come As (AllLong Ss) → Each (λ A. IsLongForm A A) Ss
 all-long [] [] no_more = tt
 all-long [] (S ∷ Ss) f = elim f [ ]
 all-long (A ∷ As) [] f = elim f [ ]

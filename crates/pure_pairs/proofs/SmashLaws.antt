@@ -259,6 +259,19 @@ head-ends bs (Free z U) T x i F h e = sym (headed bs (Free z U) T x i F h e).res
 head-ends bs (Var z k U) T x i F h e = sym (headed bs (Var z k U) T x i F h e).result
 head-ends bs (Bound n) T x i F h e = sym (headed bs (Bound n) T x i F h e).result
 
+-- Flexible pairs stay flexible where the variables of one become a constant function.
+flexible-pair : (p q : Pair) (n : ℕ) → IsFlexFlex q → IsFlexFlex (pair_with p (Var 0 n (result_typ p)) q)
+flexible-pair p q n h =
+    let c_typ = result_typ p in
+    let twice : (t : Term) → is_flexible t ≡ true → is_flexible (with_constants p (Var 0 n c_typ) t) ≡ true =
+    λ t e. flexible-kept (head p.right) (domains (variable_typ (head p.right))) 0 n c_typ (with_constant (head p.left) (domains (variable_typ (head p.left))) (Var 0 n c_typ) t)
+    (flexible-kept (head p.left) (domains (variable_typ (head p.left))) 0 n c_typ t e) in
+    record { left = twice q.left h.left; right = twice q.right h.right }
+
+pub flexible-pairs : (p : Pair) (n : ℕ) (qs : List Pair) → Each IsFlexFlex qs → Each IsFlexFlex (map (pair_with p (Var 0 n (result_typ p))) qs)
+flexible-pairs p n [] h = tt
+flexible-pairs p n (q ∷ qs) h = (flexible-pair p q n h.0, flexible-pairs p n qs h.1)
+
 -- Lists under a map.
 each-map : {A B : Type 0} (f : A → B) (P : B → Type 0) (xs : List A) → Each (λ x. P (f x)) xs → Each P (map f xs)
 each-map f P [] h = tt
@@ -478,14 +491,6 @@ module _ (Q : Content) (q : IsContent Q) (above : IsBelow pure_content Q) where
       subst (IsDerivable Q) (λ i. record { hyps = new.hyps; pairs = pairs_are i; prop = prop_is i; rests = sym is.rests i }) more
 
   -- What is smashed is derivable.
-  flexible-with : (p q : Pair) (n : ℕ) → IsFlexFlex q → IsFlexFlex (pair_with p (Var 0 n (result_typ p)) q)
-  flexible-with p q n h =
-      let c_typ = result_typ p in
-      let twice : (t : Term) → is_flexible t ≡ true → is_flexible (with_constants p (Var 0 n c_typ) t) ≡ true =
-      λ t e. flexible-kept (head p.right) (domains (variable_typ (head p.right))) 0 n c_typ (with_constant (head p.left) (domains (variable_typ (head p.left))) (Var 0 n c_typ) t)
-      (flexible-kept (head p.left) (domains (variable_typ (head p.left))) 0 n c_typ t e) in
-      record { left = twice q.left h.left; right = twice q.right h.right }
-
   pub smashes-derivable : (th smashed : Theorem) → Smashes th smashed → Each IsFlexFlex th.pairs → IsDerivable Q th → IsDerivable Q smashed
   smashes-derivable th smashed (no_pair e) flexible h = h
   smashes-derivable th smashed (trivial {p = p} {ps = ps} e equal rest) flexible h =
@@ -497,7 +502,7 @@ module _ (Q : Content) (q : IsContent Q) (above : IsBelow pure_content Q) where
   smashes-derivable th smashed (constants {next = next} {p = p} {ps = ps} e differ is rest) flexible h =
       let each = subst (λ (qs : List Pair). Each IsFlexFlex qs) e flexible in
       let n = theorem_index_above th in
-      let moved = subst (λ (qs : List Pair). Each IsFlexFlex qs) (sym is.are_pairs) (each-map (pair_with p (fresh_variable th p)) IsFlexFlex ps (each_imply IsFlexFlex (λ r. IsFlexFlex (pair_with p (fresh_variable th p) r)) ps (λ r k. flexible-with p r n k) each.1)) in
+      let moved = subst (λ (qs : List Pair). Each IsFlexFlex qs) (sym is.are_pairs) (flexible-pairs p n ps each.1) in
       smashes-derivable next smashed rest moved (constants-derivable th next p ps n e each.0 h is)
 
 -- What is left of a variable's type behind one argument more, and the application that becomes the constant function.
@@ -552,7 +557,7 @@ pub constants-treated : {E : Type 0} (th : Theorem) (p : Pair) (ps : List Pair) 
 constants-treated th p ps c e differ fresh r h =
     ok_imply (IsWithConstants p c ps th) (IsOneFewer th) (λ next is. constants-one th next p ps e differ (subst (λ (v : Term). IsWithConstants p v ps th next) fresh is)) r h
 
-no-pairs : (ps : List Pair) → length ps ≡ 0 → ps ≡ []
+pub no-pairs : (ps : List Pair) → length ps ≡ 0 → ps ≡ []
 no-pairs [] e = refl
 no-pairs (p ∷ ps) e = absurd (omega arith)
 

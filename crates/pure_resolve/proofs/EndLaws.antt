@@ -1,6 +1,5 @@
 -- The last step of a goal: smashing goes on whatever a theorem rests on, keeps the mark and has one outcome.
-use Rattle.std.proofs.Common.{inl, ◌≡◌, ◌≢◌, ℕ, ◌+◌, Bool, true, false, List, [], ◌∷◌, map, length, drop, Result, Ok, Err, refl, ap, sym, subst, ◌∙◌, arith}
-use Rattle.std.specs.Prelude.{if◌then◌else◌}
+use Rattle.std.proofs.Common.{◌≡◌, ◌≢◌, ℕ, true, false, List, [], ◌∷◌, map, length, Result, Ok, Err, refl, ap, sym, subst, ◌∙◌, arith}
 use Rattle.pure_text.specs.Lists.{Each}
 use Rattle.pure_text.proofs.ListLaws.{each_imply}
 use Rattle.pure_definitions.specs.Names.{Label, protect_name}
@@ -16,57 +15,21 @@ use Rattle.pure_logic.specs.Derivable.{Pair, Theorem, IsDerivable}
 use Rattle.pure_theorem.specs.Facts.{IsTheoryContent}
 use Rattle.pure_theorem.specs.Sets.{IsSetOf}
 use Rattle.pure_theorem.specs.Within.{IsPairWithin, AreWithin}
-use Rattle.pure_unify_definitions.specs.Fronts.{front, head, arguments, below, domains, is_schematic, is_flexible}
+use Rattle.pure_unify_definitions.specs.Fronts.{head, domains, is_schematic}
 use Rattle.pure_unify_definitions.specs.Children.{IsFlexFlex}
-use Rattle.pure_pairs.specs.Smash.{with_constant, with_constants, pair_with, result_typ, fresh_variable, theorem_index_above, IsWithConstants, Smashes, no_pair, trivial, constants}
-use Rattle.pure_pairs.proofs.SmashLaws.{smashes-derivable}
+use Rattle.pure_pairs.specs.Smash.{with_constant, with_constants, fresh_variable, theorem_index_above, IsWithConstants, Smashes, no_pair, trivial, constants}
+use Rattle.pure_pairs.proofs.SmashLaws.{smashes-derivable, flexible-pairs}
 use Rattle.pure_goal_laws.proofs.StateLaws.{end_is_derivable}
 use Rattle.pure_goal_steps.specs.State.{State, theorem_of, IsTheoremOf, IsLeftPair}
 use Rattle.pure_goal_steps.specs.Steps.{EndsAs}
 use Rattle.pure_goal_steps.specs.Derivability.{IsSound}
 use Rattle.pure_goal_steps.specs.declared.fault.StepFault.{StepFault}
 use Rattle.pure_goal_steps.specs.declared.fault.StepFault.TheVariants as fault
+use Rattle.pure_goal_steps.proofs.OneOutcomeLaws.{some-not-none}
 use Rattle.pure_resolve.specs.Goals.{IsGoalTheorem}
 use Rattle.pure_resolve.specs.Ending.{IsMarked, IsUnmarked, IsEnd}
 use Rattle.pure_resolve.proofs.AnswerLaws.{theorem-same}
-
--- Flexible terms stay flexible where a variable becomes a constant function.
-front-kept : (v : Term) (Ts : List Typ) (c f : Term) → term_eq v (front f) ≡ false → is_schematic (front f) ≡ true → front (with_constant v Ts c f) ≡ front f
-front-kept v Ts c (Const d U) e is = refl
-front-kept v Ts c (Free z U) e is = refl
-front-kept v Ts c (Bound n) e is = refl
-front-kept v Ts c (Abs V b) e is = absurd (let no : false ≡ true = is in cc)
-front-kept v Ts c (Var z k U) e is = rw e refl
-front-kept v Ts c (App f a) e is = rw e (front-kept v Ts c f e is)
-
-below-head : (Ts : List Typ) (y j : ℕ) (R : Typ) → is_flexible (below Ts (Var y j R)) ≡ true
-below-head [] y j R = refl
-below-head (T ∷ Ts) y j R = below-head Ts y j R
-
-flexible-kept : (v : Term) (Ts : List Typ) (y j : ℕ) (R : Typ) (t : Term) → is_flexible t ≡ true → is_flexible (with_constant v Ts (Var y j R) t) ≡ true
-flexible-kept v Ts y j R (Const d U) is = absurd (let no : false ≡ true = is in cc)
-flexible-kept v Ts y j R (Free z U) is = absurd (let no : false ≡ true = is in cc)
-flexible-kept v Ts y j R (Bound n) is = absurd (let no : false ≡ true = is in cc)
-flexible-kept v Ts y j R (Abs V b) is = flexible-kept v Ts y j R b is
-flexible-kept v Ts y j R (Var z k U) is = by (term_eq v (Var z k U))
-  where
-    by : (b : Bool) → is_flexible (if b then below Ts (Var y j R) else Var z k U) ≡ true
-    by true = below-head Ts y j R
-    by false = refl
-flexible-kept v Ts y j R (App f a) is = by (term_eq v (front f)) refl
-  where
-    by : (b : Bool) → term_eq v (front f) ≡ b → is_flexible (if b then below (drop (length (arguments f) + 1) Ts) (Var y j R) else App (with_constant v Ts (Var y j R) f) (with_constant v Ts (Var y j R) a)) ≡ true
-    by true e = below-head (drop (length (arguments f) + 1) Ts) y j R
-    by false e = ap is_schematic (front-kept v Ts (Var y j R) f e is) ∙ is
-
-flexible-with : (p : Pair) (n : ℕ) (ps : List Pair) → Each IsFlexFlex ps → Each IsFlexFlex (map (pair_with p (Var 0 n (result_typ p))) ps)
-flexible-with p n [] h = tt
-flexible-with p n (q ∷ qs) h =
-    let R : Typ = result_typ p in
-    let twice : (t : Term) → is_flexible t ≡ true → is_flexible (with_constants p (Var 0 n R) t) ≡ true =
-    λ t e. flexible-kept (head p.right) (domains (variable_typ (head p.right))) 0 n R (with_constant (head p.left) (domains (variable_typ (head p.left))) (Var 0 n R) t)
-    (flexible-kept (head p.left) (domains (variable_typ (head p.left))) 0 n R t e) in
-    (record { left = twice q.left h.0.left; right = twice q.right h.0.right }, flexible-with p n qs h.1)
+use Rattle.pure_resolve.proofs.SettleLaws.{none-is}
 
 -- The mark stays, since no constant is a schematic variable.
 no-constant : (v : Term) (d : ℕ) (U : Typ) → is_schematic v ≡ true → term_eq v (Const d U) ≡ false
@@ -95,7 +58,7 @@ smashed-marked th smashed (no_pair e) flexible m = m
 smashed-marked th smashed (trivial {p = p} {ps = ps} e equal rest) flexible m = smashed-marked (record th { pairs = ps }) smashed rest (each-front p ps th.pairs e flexible).1 m
 smashed-marked th smashed (constants {next = next} {p = p} {ps = ps} e differ is rest) flexible (C, m) =
     let each = each-front p ps th.pairs e flexible in
-    let moved = subst (λ (qs : List Pair). Each IsFlexFlex qs) (sym is.are_pairs) (flexible-with p (theorem_index_above th) ps each.1) in
+    let moved = subst (λ (qs : List Pair). Each IsFlexFlex qs) (sym is.are_pairs) (flexible-pairs p (theorem_index_above th) ps each.1) in
     smashed-marked next smashed rest moved (with_constants p (fresh_variable th p) C, is.prop ∙ (ap (with_constants p (fresh_variable th p)) m ∙ marks-stay p (fresh_variable th p) C each.0))
 
 -- Smashing doesn't ask on what a theorem rests.
@@ -111,10 +74,6 @@ smashes-rests th smashed (trivial {ps = ps} e equal rest) = smashes-rests (recor
 smashes-rests th smashed (constants {next = next} e differ is rest) = smashes-rests next smashed rest ∙ is.rests
 
 -- Of a theorem without hypotheses one theorem is smashed.
-none-is : (all : List Term) → IsSetOf term_cmp [] all → all ≡ []
-none-is [] s = refl
-none-is (x ∷ xs) s = absurd ((s.members x).0 (inl refl))
-
 no-such : (p : Pair) (ps qs : List Pair) → qs ≡ [] → qs ≡ p ∷ ps → ⊥
 no-such p ps qs e d = absurd (cc)
 
@@ -155,9 +114,6 @@ smashes-once th one other n (constants {next = next} {p = p} {ps = ps} e differ 
     smashes-once next one other (with-none p (fresh_variable th p) ps th next n is) f (subst (λ (t : Theorem). Smashes t other) (sym same) g)
 
 -- The last step has one outcome.
-left-not-none : (A : Term) (As Bs : List Term) → Bs ≡ A ∷ As → Bs ≡ [] → ⊥
-left-not-none A As Bs e d = absurd (cc)
-
 marks-same : (C D : Term) → protect C ≡ protect D → C ≡ D
 marks-same C D e = cc
 
@@ -174,12 +130,12 @@ ended (EndsAs.proved {smashed = smashed} {C = C} e f w m) = over smashed C e f w
 
 ended-once : (s : State) (one other : Result Theorem StepFault) → Ended s one → Ended s other → one ≡ other
 ended-once s one other (left A others e d) (left B rest f g) = d ∙ sym g
-ended-once s one other (left A others e d) (wide smashed f h w g) = absurd (left-not-none A others s.subgoals e f)
-ended-once s one other (left A others e d) (over smashed C f h w m g) = absurd (left-not-none A others s.subgoals e f)
-ended-once s one other (wide smashed e h w d) (left B rest f g) = absurd (left-not-none B rest s.subgoals f e)
+ended-once s one other (left A others e d) (wide smashed f h w g) = absurd (some-not-none A others s.subgoals e f)
+ended-once s one other (left A others e d) (over smashed C f h w m g) = absurd (some-not-none A others s.subgoals e f)
+ended-once s one other (wide smashed e h w d) (left B rest f g) = absurd (some-not-none B rest s.subgoals f e)
 ended-once s one other (wide smashed e h w d) (wide second f k v g) = d ∙ sym g
 ended-once s one other (wide smashed e h w d) (over second C f k v m g) = absurd (w (subst AreWithin (smashes-once (theorem_of s []) second smashed refl k h) v))
-ended-once s one other (over smashed C e h w m d) (left B rest f g) = absurd (left-not-none B rest s.subgoals f e)
+ended-once s one other (over smashed C e h w m d) (left B rest f g) = absurd (some-not-none B rest s.subgoals f e)
 ended-once s one other (over smashed C e h w m d) (wide second f k v g) = absurd (v (subst AreWithin (smashes-once (theorem_of s []) smashed second refl h k) w))
 ended-once s one other (over smashed C e h w m d) (over second D f k v n g) =
     let same : smashed ≡ second = smashes-once (theorem_of s []) smashed second refl h k in
@@ -222,11 +178,6 @@ end_answer th g none smashed (f, w) new u =
 
 pub end_large : (th : Theorem) (g : IsGoalTheorem th) → g.state.subgoals ≡ [] → (smashed : Theorem) → Smashes th smashed → (¬ AreWithin smashed) → IsEnd th (Err fault.Big)
 end_large th g none smashed f w = (g.state, g.is, EndsAs.large none (at-state th g smashed f) (λ v. w (record { hyps = v.hyps; pairs = v.pairs; prop = v.prop })))
-
--- A theorem without pairs is smashed to itself.
-pub no-pairs : (ps : List Pair) → length ps ≡ 0 → ps ≡ []
-no-pairs [] e = refl
-no-pairs (p ∷ ps) e = absurd (omega arith)
 
 pub end_at_once : (th : Theorem) (g : IsGoalTheorem th) → g.state.subgoals ≡ [] → th.pairs ≡ [] → IsWithin th.prop → (new : Theorem) × IsEnd th (Ok new)
 end_at_once th g none e w =

@@ -1,18 +1,16 @@
 -- What follows from an attempt to make a step.
-use Rattle.std.proofs.Common.{◌≡◌, ◌≤◌, ℕ, List, [], ◌∷◌, ◌++◌, map, Result, Err, refl, ap, sym, subst, ◌∙◌, arith}
+use Rattle.std.proofs.Common.{◌≡◌, ℕ, List, [], ◌∷◌, ◌++◌, map, Result, Err, refl, ap, sym, subst, ◌∙◌}
 use Rattle.pure_text.specs.Lists.{Each}
 use Rattle.pure_text.proofs.ListLaws.{each_imply}
 use Rattle.pure_definitions.specs.Names.{Label}
 use Rattle.pure_definitions.specs.Types.Order.{Algebra}
-use Rattle.pure_definitions.specs.Terms.Term.{Term, term_size, term_depth, max_size, max_depth, IsWithin}
+use Rattle.pure_definitions.specs.Terms.Term.{Term, IsWithin}
 use Rattle.pure_definitions.specs.Terms.Subst.{TypBind, TermBind}
-use Rattle.pure_definitions.specs.Reduction.Eta.{IsLongForm}
 use Rattle.pure_logic.specs.Connectives.{imp, eq, protect, chain}
 use Rattle.pure_logic.specs.Derivable.{Pair, Theorem, IsUnderPairs}
 use Rattle.pure_logic.specs.Laws.Maps.{instantiated}
 use Rattle.pure_theorem.specs.Shapes.{IsNoImplication}
 use Rattle.pure_unify_definitions.specs.LongSides as sides
-use Rattle.pure_unify_definitions.specs.LongSides.{Stop}
 use Rattle.pure_unify_definitions.specs.Search as search
 use Rattle.pure_unify_definitions.specs.Search.{IsUnifyAnswer}
 use Rattle.pure_unify.specs.declared.unifier.Unifier.{Unifier}
@@ -20,15 +18,17 @@ use Rattle.pure_unify.specs.declared.fault.UnifyFault.{UnifyFault}
 use Rattle.pure_unify.specs.declared.fault.UnifyFault.TheVariants as unify
 use Rattle.pure_unify.specs.Unified.{seen, IsUnified, IsLeftOver}
 use Rattle.pure_goal_steps.specs.State.{State, IsTheoremOf, IsLeftPair}
-use Rattle.pure_goal_steps.specs.Follows.{AllLong, Come, no_more, all_long, Becomes, halted, Attempt, unified_pairs, with_unifier, FollowsBy}
+use Rattle.pure_goal_steps.specs.Follows.{AllLong, Come, Becomes, halted, Attempt, unified_pairs, with_unifier, FollowsBy}
 use Rattle.pure_goal_steps.specs.declared.fault.StepFault.{StepFault}
 use Rattle.pure_goal_steps.specs.declared.fault.StepFault.TheVariants.{UnknownFact, NoSubgoal, NoPremise, NotDefinition, NothingToUnfold, NoUnifier, SearchBound, Steps, Big, NoHypothesis, SubgoalsLeft, Memory}
+use Rattle.pure_goal_steps.proofs.MeasuredLaws.{under-within, imp-within}
+use Rattle.pure_goal_steps.proofs.SoundLaws.{all-long}
 use Rattle.pure_resolve.specs.Goals.{IsLeftTyped, IsConcluded, IsOutcome}
 use Rattle.pure_resolve.specs.Settled.{IsInstanceAnswer, IsComeAnswer, step_fault, HasFirst}
 use Rattle.pure_resolve.specs.declared.state.Goal.{Goal}
 use Rattle.pure_resolve.proofs.ChainLaws.{imp-premise, chain_once, nothing-more}
 use Rattle.pure_resolve.proofs.AnswerLaws.{made_outcome, outcome_map}
-use Rattle.pure_resolve.proofs.StepLaws.{concluded-at, come-long}
+use Rattle.pure_resolve.proofs.StepLaws.{concluded-at}
 
 -- Pairs that a unifier left.
 pub left_typed : (ps : List Pair) → Each IsLeftOver ps → Each IsLeftTyped ps
@@ -42,22 +42,9 @@ under-some : (ps : List Pair) → Each IsLeftTyped ps → (A : Term) → (q : Te
 under-some [] h A = (A, refl)
 under-some (p ∷ ps) ((T, t), h) A = let rest = under-some ps h A in (imp (eq T p.left p.right) rest.0, (T, rest.0, t, rest.1, refl))
 
-imp-within : (A B : Term) → IsWithin (imp A B) → IsWithin B
-imp-within A B w = record { size = smaller w.size; depth = lower w.depth }
-  where
-    smaller : term_size (imp A B) ≤ max_size → term_size B ≤ max_size
-    smaller h = omega arith
-
-    lower : term_depth (imp A B) ≤ max_depth → term_depth B ≤ max_depth
-    lower h = omega arith
-
-under-within : (ps : List Pair) (A q : Term) → IsUnderPairs ps A q → IsWithin q → IsWithin A
-under-within [] A q f w = subst IsWithin f w
-under-within (p ∷ ps) A q (T, B, h, f, e) w = under-within ps A B f (imp-within (eq T p.left p.right) B (subst IsWithin e w))
-
 end-within : (As : List Term) (G : Term) → IsWithin (chain As G) → IsWithin G
 end-within [] G w = w
-end-within (A ∷ As) G w = end-within As G (imp-within A (chain As G) w)
+end-within (A ∷ As) G w = end-within As G (imp-within A (chain As G) w).1
 
 large-whole : (ps : List Pair) → Each IsLeftTyped ps → (As : List Term) (G : Term) → (¬ IsWithin G) → (q : Term) × IsUnderPairs ps (chain As G) q × (¬ IsWithin q)
 large-whole ps h As G wide = let whole = under-some ps h (chain As G) in (whole.0, whole.1, λ w. wide (end-within As G (under-within ps (chain As G) whole.0 whole.1 w)))
@@ -91,12 +78,6 @@ is_implication goal h = h.is.prop ∙ ap (λ (As : List Term). chain As (protect
 pub opened_others : (goal : Theorem) (h : HasFirst goal) (A rest : Term) → goal.prop ≡ imp A rest → (old new : List Term) (marked : Term) → old ≡ []
     → ((As : List Term) (C : Term) → rest ≡ chain As (protect C) → (new ≡ old ++ As) × (marked ≡ protect C)) → (new ≡ h.others) × (marked ≡ protect h.state.statement)
 opened_others goal h A rest e old new marked n o = let parts = o h.others h.state.statement (behind_first goal h A rest e) in (parts.0 ∙ ap (λ (Bs : List Term). Bs ++ h.others) n, parts.1)
-
-pub all-long : (As Ss : List Term) → Come As (AllLong Ss) → Each (λ A. IsLongForm A A) Ss
-all-long [] [] no_more = tt
-all-long [] (S ∷ Ss) f = elim f [ ]
-all-long (A ∷ As) [] f = elim f [ ]
-all-long (A ∷ As) (S ∷ Ss) (all_long f g) = (come-long A S f, all-long As Ss g)
 
 -- The same state, and the same others.
 pub record Same (s t : State) (others rest : List Term) : Type 0 where

@@ -8,11 +8,13 @@ use Rattle.pure_definitions.specs.Terms.Subst.{TypBind, TermBind}
 use Rattle.pure_logic.specs.Connectives.{imp, protect, chain}
 use Rattle.pure_logic.specs.Derivable.{Pair, Theorem}
 use Rattle.pure_logic.specs.Laws.Maps.{instantiated}
+use Rattle.pure_goal_laws.proofs.EliminationLaws.{chain-append}
 use Rattle.pure_unify.specs.declared.unifier.Unifier.{Unifier}
 use Rattle.pure_unify.specs.Unified.{seen, IsLeftOver}
 use Rattle.pure_goal_steps.specs.State.{State, IsTheoremOf, IsLeftPair}
 use Rattle.pure_goal_steps.specs.Follows.{AllLong, Come, Becomes, Attempt, with_unifier}
 use Rattle.pure_goal_steps.specs.declared.fault.StepFault.{StepFault}
+use Rattle.pure_goal_steps.proofs.SoundLaws.{all-long}
 use Rattle.pure_resolve.specs.Goals.{IsConcluded, IsOutcome}
 use Rattle.pure_resolve.specs.Settled.{IsComeAnswer, HasFirst, IsBefore}
 use Rattle.pure_resolve.specs.declared.state.Goal.{Goal}
@@ -20,7 +22,7 @@ use Rattle.pure_resolve.proofs.ChainLaws.{imp-premise, marks-same}
 use Rattle.pure_resolve.proofs.AnswerLaws.{made_outcome}
 use Rattle.pure_resolve.proofs.StepLaws.{concluded-at}
 use Rattle.pure_resolve.proofs.SettleLaws.{stopped_before}
-use Rattle.pure_resolve.proofs.FollowLaws.{left-pairs, all-long, same-state, behind_first, come_stopped}
+use Rattle.pure_resolve.proofs.FollowLaws.{left-pairs, same-state, behind_first, come_stopped}
 
 -- Where a goal's proposition stays as it is, so does each of its parts.
 parts-stay : (typs : List TypBind) (terms : List TermBind) (As : List Term) (C : Term) → instantiated typs terms (chain As (protect C)) ≡ chain As (protect C) → (map (instantiated typs terms) As ≡ As) × (instantiated typs terms C ≡ C)
@@ -29,10 +31,6 @@ parts-stay typs terms (A ∷ As) C e =
     let parts = imp-premise (instantiated typs terms A) (instantiated typs terms (chain As (protect C))) A (chain As (protect C)) e in
     let rest = parts-stay typs terms As C parts.1 in
     (λ i. sym parts.0 i ∷ rest.0 i, rest.1)
-
-chain-append : (As Bs : List Term) (G : Term) → chain (As ++ Bs) G ≡ chain As (chain Bs G)
-chain-append [] Bs G = refl
-chain-append (A ∷ As) Bs G = ap (imp A) (chain-append As Bs G)
 
 pub before_others : (goal : Theorem) (h : HasFirst goal) (u : Unifier) (premises : List Term) (A rest : Term) → goal.prop ≡ imp A rest → instantiated u.typs u.terms rest ≡ rest
     → (s : State) (first : Term) (others : List Term) (a : Attempt) → IsTheoremOf s goal → s.subgoals ≡ first ∷ others → a.premises ≡ premises → IsBefore u premises rest (with_unifier s others a (seen u))

@@ -23,6 +23,7 @@ use Rattle.pure_unify_definitions.specs.LongSides.{Stop, Long, Ends, ComesTo, is
 use Rattle.pure_goal_steps.specs.Follows.{AllLong, Halted, Come, no_more, first_stops, later_stops, all_long}
 use Rattle.pure_goal_steps.specs.declared.fault.StepFault.{StepFault}
 use Rattle.pure_goal_steps.specs.declared.fault.StepFault.TheVariants.{UnknownFact, NoSubgoal, NoPremise, NotDefinition, NothingToUnfold, NoUnifier, SearchBound, Steps, Big, NoHypothesis, SubgoalsLeft, Memory}
+use Rattle.pure_goal_steps.proofs.MeasuredLaws.{come-both}
 use Rattle.pure_resolve.specs.Goals.{IsLongSubgoal}
 use Rattle.pure_resolve.specs.Settled.{IsInstanceAnswer, IsComeAnswer, IsComeBehind}
 use Rattle.pure_resolve.proofs.ChainLaws.{nothing-more}
@@ -31,7 +32,7 @@ use Rattle.pure_resolve.proofs.ChainLaws.{nothing-more}
 pub instance_made : (A : Algebra) (typs : List TypBind) (terms : List TermBind) (th image : Theorem) (t u : Term) → th.prop ≡ t → u ≡ image.prop → GivesInstance A typs terms th image → IsInstanceAnswer typs terms t (Ok u)
 instance_made A typs terms th image t u e d g = (d ∙ (g.image.prop ∙ ap (instantiated typs terms) e), g.types)
 
-none-is : (all : List Term) → IsSetOf term_cmp [] all → all ≡ []
+pub none-is : (all : List Term) → IsSetOf term_cmp [] all → all ≡ []
 none-is [] s = refl
 none-is (x ∷ xs) s = absurd ((s.members x).0 (inl refl))
 
@@ -82,12 +83,6 @@ pub kept_comes : (typs : List TypBind) (terms : List TermBind) (t : Term) → Is
 kept_comes typs terms t f e w = subst (λ (u : Term). ComesTo u (Long t)) (sym e) (is_long (record { before = []; last = t; sequence = refl; undecided = tt; in_time = omega arith; decided = (w, f.normal, refl) }) f w)
 
 -- Terms whose instances are followed by others.
-come-both : (front Fs others Os : List Term) → Come front (AllLong Fs) → Come others (AllLong Os) → Come (front ++ others) (AllLong (Fs ++ Os))
-come-both [] [] others Os f g = g
-come-both [] (F ∷ Fs) others Os f g = elim f [ ]
-come-both (A ∷ As) [] others Os f g = elim f [ ]
-come-both (A ∷ As) (F ∷ Fs) others Os (all_long c f) g = all_long c (come-both As Fs others Os f g)
-
 come-behind : (front Fs others : List Term) (s : Stop) → Come front (AllLong Fs) → Come others (Halted s) → Come (front ++ others) (Halted s)
 come-behind [] [] others s f g = g
 come-behind [] (F ∷ Fs) others s f g = elim f [ ]

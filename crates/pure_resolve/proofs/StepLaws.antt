@@ -5,16 +5,17 @@ use Rattle.pure_text.proofs.ListLaws.{each-append, each-left, each-right}
 use Rattle.pure_definitions.specs.Names.{Label}
 use Rattle.pure_definitions.specs.Types.Typ.{Typ, prop}
 use Rattle.pure_definitions.specs.Terms.Term.{Term}
-use Rattle.pure_definitions.specs.Reduction.Eta.{IsLongForm, EtaReduces}
+use Rattle.pure_definitions.specs.Reduction.Eta.{IsLongForm}
 use Rattle.pure_logic.specs.Connectives.{eq, protect, chain}
 use Rattle.pure_logic.specs.Derivable.{Pair, Theorem}
 use Rattle.pure_unify_definitions.specs.LongSides as sides
-use Rattle.pure_unify_definitions.specs.LongSides.{Stop, Long, Ends, ComesTo, is_long}
+use Rattle.pure_unify_definitions.specs.LongSides.{Stop, Long, Ends, ComesTo}
 use Rattle.pure_goal_steps.specs.State.{State, IsLeftPair}
 use Rattle.pure_goal_steps.specs.Follows.{Outcome, stop_fault, Halted, Come, no_more, first_stops, all_long, Becomes, halted}
 use Rattle.pure_goal_steps.specs.Steps.{BeginsAs, PreferStep, DeferStep, ConversionStep}
 use Rattle.pure_goal_steps.specs.declared.fault.StepFault.{StepFault}
 use Rattle.pure_goal_steps.specs.declared.fault.StepFault.TheVariants.{UnknownFact, NoSubgoal, NoPremise, NotDefinition, NothingToUnfold, NoUnifier, SearchBound, Steps, Big, NoHypothesis, SubgoalsLeft, Memory}
+use Rattle.pure_goal_steps.proofs.SoundLaws.{come-long}
 use Rattle.pure_resolve.specs.Goals.{IsGoalTheorem, IsOutcome, IsStep, IsConcluded, IsLongSubgoal, IsEquationFor}
 use Rattle.pure_resolve.specs.declared.state.Goal.{Goal}
 use Rattle.pure_resolve.proofs.ChainLaws.{cut_at, chain_once}
@@ -86,9 +87,6 @@ no-length (x ∷ xs) e = absurd (omega arith)
 pub defer_none : (th : Theorem) (g : IsGoalTheorem th) (subgoals : List Term) → subgoals ≡ g.state.subgoals → length subgoals ≡ 0 → IsStep DeferStep th (λ all. all ≡ th.rests) (Err NoSubgoal)
 defer_none th g subgoals same z = (g.state, g.is, g.goal, DeferStep.no_subgoal (sym same ∙ no-length subgoals z))
 
-pub come-long : (t u : Term) → ComesTo t (Long u) → IsLongForm u u
-come-long t u (is_long {n = n} b l w) = record { typ = l.typ; typed = l.long_typed; long_typed = l.long_typed; reduces = EtaReduces.done; normal = l.normal; saturated = l.saturated; parts = l.parts }
-
 -- A first subgoal that comes to its long form, before others that are so.
 first-outcome : (made : State) (t S : Term) (others : List Term) → made.subgoals ≡ t ∷ others → ComesTo t (Long S) → Each (λ A. IsLongForm A A) others → Each IsLeftPair made.pairs
     → (rests : List Label) (result : Result Goal StepFault) → IsConcluded made.pairs (chain (S ∷ others) (protect made.statement)) rests result → IsOutcome (Becomes made) (λ all. all ≡ rests) result
@@ -111,7 +109,7 @@ start_big C f = first-stops (record { statement = C; subgoals = C ∷ []; pairs 
 pub equated-first : (th equation : Theorem) (g : IsGoalTheorem th) (e : IsEquationFor th equation) → g.state.subgoals ≡ e.left ∷ e.others
 equated-first th equation g e = (chain_once g.state.subgoals e.state.subgoals g.state.statement e.state.statement (sym g.is.prop ∙ e.is.prop)).0 ∙ e.stand
 
-sides-same : (T U : Typ) (A B C D : Term) → eq T A B ≡ eq U C D → B ≡ D
+pub sides-same : (T U : Typ) (A B C D : Term) → eq T A B ≡ eq U C D → B ≡ D
 sides-same T U A B C D e = cc
 
 step-of : (th equation : Theorem) (g : IsGoalTheorem th) (e : IsEquationFor th equation) (outcome : Outcome) → Becomes (record g.state { subgoals = e.right ∷ e.others }) outcome → ConversionStep g.state equation outcome

@@ -1,10 +1,9 @@
 -- What a step on a derivable goal hands to the unifier is typed, and so are its new subgoals.
-use Rattle.std.proofs.Common.{◌≡◌, ℕ, ◌+◌, List, [], ◌∷◌, ◌++◌, length, inl, inr, refl, ap, sym, subst, ◌∙◌}
-use Rattle.pure_text.specs.Lists.{IsIn, Each}
+use Rattle.std.proofs.Common.{◌≡◌, ◌+◌, List, [], ◌∷◌, ◌++◌, ap, sym, subst, ◌∙◌}
+use Rattle.pure_text.specs.Lists.{Each}
 use Rattle.pure_text.proofs.ListLaws.{each-append, each_imply}
 use Rattle.pure_definitions.specs.Types.Typ.{prop}
 use Rattle.pure_definitions.specs.Terms.Term.{Term}
-use Rattle.pure_definitions.specs.Terms.Bounds.{lift_term}
 use Rattle.pure_definitions.specs.Reduction.Eta.{IsLongForm}
 use Rattle.pure_logic.specs.Connectives.{protect, chain}
 use Rattle.pure_logic.specs.Content.{Content, IsProposition}
@@ -15,16 +14,18 @@ use Rattle.pure_logic.proofs.ProvesLaws.{proved_is_proposition}
 use Rattle.pure_theorem.specs.Shapes.{IsTyped}
 use Rattle.pure_equated.proofs.ReductionLaws.{long_form_is_equated}
 use Rattle.pure_unify_nodes.specs.SideAnswer.{AreSidesTyped}
-use Rattle.pure_goal_laws.specs.Prefix.{Item, Parameter, Hypothesis, behind, parameters, hypotheses, below_parameters}
-use Rattle.pure_goal_laws.specs.Lifting.{IsStripped, lifted_behind}
+use Rattle.pure_goal_laws.specs.Prefix.{Item, Hypothesis, behind, below_parameters}
+use Rattle.pure_goal_laws.specs.Lifting.{lifted_behind}
 use Rattle.pure_goal_laws.specs.GoalStep.{IsRuleFor, closed_pair}
 use Rattle.pure_goal_laws.proofs.PrefixLaws.{behind-append, implication_behind, hypothesis_is_proved}
 use Rattle.pure_goal_laws.proofs.StateLaws.{subgoals_are_propositions}
 use Rattle.pure_goal_laws.proofs.FactLaws.{rule-proved}
+use Rattle.pure_goal_laws.proofs.EliminationLaws.{hypothesis-there}
 use Rattle.pure_goal_steps.specs.State.{IsLeftPair, greatest_index}
-use Rattle.pure_goal_steps.specs.Reading.{Place, around, without, standing, Strips, bare, quantified, supposed, IsRuleOf}
+use Rattle.pure_goal_steps.specs.Reading.{Place, around, without, standing, IsRuleOf}
 use Rattle.pure_goal_steps.specs.Steps.{premises_behind, rule_attempt, elimination_attempt, destruction_attempt, assumption_attempt}
 use Rattle.pure_goal_step_laws.proofs.ClosedLaws.{closed_typed, lifted_propositions, without_hypothesis}
+use Rattle.pure_goal_step_laws.proofs.UnifiedLaws.{is-stripped}
 use Rattle.pure_resolve.specs.Settled.{HasFirst, MayAttempt}
 use Rattle.pure_resolve.specs.Uses.{MayStep, MayUse}
 
@@ -39,16 +40,6 @@ closed-typed Q ps X h = let typed = closed_typed Q ps X h in (typed.0, typed.1.t
 
 own-pairs : (ps : List Pair) → Each IsLeftPair ps → Each AreSidesTyped ps
 own-pairs ps h = each_imply IsLeftPair AreSidesTyped ps (λ p l. ((l.typ, l.left_typed), (l.typ, l.right_typed))) h
-
-is-stripped : {index name : ℕ} {t C : Term} {As : List Term} → Strips index name t As C → IsStripped t As C
-is-stripped {C = C} (bare c) = IsStripped.bare C
-is-stripped {index = index} {name = name} {C = C} {As = As} (quantified {T = T} {B = B} s) = IsStripped.quantified T B name index As C (is-stripped s)
-is-stripped (supposed {A = A} {B = B} {As = As} {C = C} s) = IsStripped.supposed A B As C (is-stripped s)
-
-standing-in : (before : List Item) (H : Term) (after : List Item) → IsIn (lift_term (length (parameters after)) 0 H) (hypotheses (before ++ Hypothesis H ∷ after))
-standing-in [] H after = inl refl
-standing-in (Parameter T ∷ before) H after = standing-in before H after
-standing-in (Hypothesis A ∷ before) H after = inr (standing-in before H after)
 
 -- The goal's first subgoal stands before others that are typed.
 pub first-of : (Q : Content) (goal : Theorem) (m : MayStep Q goal) (first : Term) (others : List Term) → m.is.state.subgoals ≡ first ∷ others → Each (IsProposition Q) (first ∷ others)
@@ -73,7 +64,7 @@ module _ (Q : Content) (goal : Theorem) (m : MayStep Q goal) (C : Term) where
   hypothesis-proposition : (p : Place) → IsProposition Q (behind (around p) C) → IsProposition Q (behind (around p) (standing p))
   hypothesis-proposition p h =
       proved_is_proposition Q m.content.content m.content.above_pure [] [] (behind (around p) (standing p))
-      (hypothesis_is_proved Q m.content.content m.content.above_pure [] [] (around p) (standing p) C h (standing-in p.before p.hypothesis p.after))
+      (hypothesis_is_proved Q m.content.content m.content.above_pure [] [] (around p) (standing p) C h (hypothesis-there p.before p.hypothesis p.after))
 
   pub assumption_typed : (p : Place) → IsProposition Q (behind (around p) C) → MayAttempt goal (assumption_attempt C p)
   assumption_typed p h = record {

@@ -43,13 +43,13 @@ side-once t one other (is_wide {n = n} f h w) (has_steps g) = absurd (normal-not
 side-once t one other (is_wide f h w) (is_large g) = refl
 side-once t one other (is_wide f h w) (is_wide g k x) = refl
 
-stop-once : (t : Term) (s r : Stop) → ComesTo t (Ends s) → ComesTo t (Ends r) → s ≡ r
+pub stop-once : (t : Term) (s r : Stop) → ComesTo t (Ends s) → ComesTo t (Ends r) → s ≡ r
 stop-once t s r f g = let same : Ends s ≡ Ends r = side-once t (Ends s) (Ends r) f g in cc
 
-form-once : (t u v : Term) → ComesTo t (Long u) → ComesTo t (Long v) → u ≡ v
+pub form-once : (t u v : Term) → ComesTo t (Long u) → ComesTo t (Long v) → u ≡ v
 form-once t u v f g = let same : Long u ≡ Long v = side-once t (Long u) (Long v) f g in cc
 
-form-not-stop : (t u : Term) (s : Stop) → ComesTo t (Long u) → ComesTo t (Ends s) → ⊥
+pub form-not-stop : (t u : Term) (s : Stop) → ComesTo t (Long u) → ComesTo t (Ends s) → ⊥
 form-not-stop t u s f g = let same : Long u ≡ Ends s = side-once t (Long u) (Ends s) f g in absurd (cc)
 
 pub sides-once : (ps : List Pair) (one other : Sides) → AreLong ps one → AreLong ps other → one ≡ other
