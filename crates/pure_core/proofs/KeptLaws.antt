@@ -1,15 +1,15 @@
 -- What holds in each state of a legal run: who was closed may be closed so, who was forked may be forked, and no outcome of a ready promise was delivered.
-use Rattle.std.proofs.Common.{◌≡◌, ◌≢◌, ◌∙◌, ◌<◌, ℕ, zero, suc, ◌+◌, List, [], ◌∷◌, ◌++◌, map, length, set, refl, sym, ap, subst, arith, Bool, true, false, not, ◌&&◌, if◌then◌else◌, Option, Some, None, slice_get, inl, inr, ◌⊎◌}
+use Rattle.std.proofs.Common.{◌≡◌, ◌≢◌, ◌∙◌, ◌<◌, ℕ, zero, suc, ◌+◌, List, [], ◌∷◌, ◌++◌, map, length, refl, sym, ap, subst, arith, Bool, true, false, not, ◌&&◌, if◌then◌else◌, Some, slice_get, inl, inr, ◌⊎◌}
 use Rattle.std.proofs.lemmas.Option.{same_Some, none-some, slice_get_within}
 use Rattle.std.proofs.lemmas.List.{length-map}
 use Rattle.pure_text.specs.Lists.{IsIn}
 use Rattle.pure_text.proofs.ListLaws.{in_split}
 use Rattle.pure_machine.specs.declared.policy.Group.{Group}
 use Rattle.pure_machine.specs.Policy.{Opening, due}
-use Rattle.pure_machine.specs.State.{Progress, Waiting, Running, Closed, Promise, Standing, Ready, Taken, Settled, Cancelled, Event, TakeTheory, TakeProof, Fork, CloseTheory, Deliver, Stop, Marks, State, theory_at, waiting, unmarked, with_standing, restood, is_theory_cancelled, is_settled, cancelled_promise, with_cancelled, opened}
+use Rattle.pure_machine.specs.State.{Progress, Waiting, Running, Closed, Promise, Standing, Ready, Taken, Settled, Cancelled, Event, TakeTheory, TakeProof, Fork, CloseTheory, Deliver, Stop, Marks, State, theory_at, waiting, unmarked, with_standing, is_theory_cancelled, is_settled, cancelled_promise, with_cancelled, opened}
 use Rattle.pure_machine.specs.Step.{Stands, IsOver, IsClosed, forked_once, closed_by, new_promise, is_cancelled_standing, is_cancelled_promise, cancelled_by, settled, after, after_all, Allows, IsRunFrom}
 use Rattle.pure_machine.proofs.PromiseLaws.{slice_get-mapped, ready-cancelled}
-use Rattle.pure_core.proofs.PlaceLaws.{theory-changed, promise-changed, pushed-at, standing_so}
+use Rattle.pure_core.proofs.PlaceLaws.{theory-changed, promise-changed, pushed-at, length-standing}
 
 -- an outcome of the promise was delivered
 abbrev pub Delivered : {G C O : Type 0} → List (Event G C O) → ℕ → Type 0
@@ -130,19 +130,6 @@ kept-take_theory {G} {C} {O} forks closes s i h = record {
   fresh = λ n p e ready d. h.fresh n p e ready (delivered-before s.history (TakeTheory i) n (λ x. x) d);
   known = λ n d. h.known n (delivered-before s.history (TakeTheory i) n (λ x. x) d);
 }
-
-length-standing : {G O : Type 0} (ps : List (Promise G O)) (n : ℕ) (t : Standing O) → length (with_standing ps n t) ≡ length ps
-length-standing {G} {O} ps n t = restood_length (slice_get ps n)
-  where
-    restood_length : (o : Option (Promise G O)) → length (restood ps n o t) ≡ length ps
-    restood_length None = refl
-    restood_length (Some p) = set_length ps n
-      where
-        set_length : (xs : List (Promise G O)) (k : ℕ) → length (set xs k (standing_so p t)) ≡ length xs
-        set_length [] zero = refl
-        set_length [] (suc k) = refl
-        set_length (x ∷ xs) zero = refl
-        set_length (x ∷ xs) (suc k) = ap suc (set_length xs k)
 
 -- after a proof is taken
 kept-take_proof : {G C O : Type 0} (forks : ℕ → ℕ → G → Type 0) (closes : ℕ → ℕ → C → Type 0) (s : State G C O) (n : ℕ) → IsKept forks closes s → IsKept forks closes (after s (TakeProof n))

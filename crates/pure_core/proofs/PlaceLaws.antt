@@ -1,7 +1,10 @@
 -- What stands in a list that was changed at one place.
-use Rattle.std.proofs.Common.{◌≡◌, ◌≢◌, ℕ, zero, suc, List, [], ◌∷◌, ◌++◌, length, set, refl, sym, ap, ◌∙◌, arith, Option, Some, None, slice_get, inl, inr, ◌⊎◌}
+use Rattle.std.proofs.Common.{◌≡◌, ◌≢◌, ℕ, zero, suc, List, [], ◌∷◌, ◌++◌, length, set, refl, sym, ap, ◌∙◌, arith, Option, Some, None, slice_get, inl, inr, ◌⊎◌, subst}
 use Rattle.std.proofs.lemmas.Option.{same_Some, none-some}
+use Rattle.std.proofs.lemmas.List.{length-set}
+use Rattle.pure_text.specs.Lists.{Each}
 use Rattle.pure_machine.specs.State.{Progress, Promise, Standing, theory_at, with_progress, with_standing, restood}
+use Rattle.pure_machine.specs.Step.{IsClosed}
 
 -- the element put there, or what stood at another place
 pub changed-at : {A : Type 0} (xs : List A) (k : ℕ) (x : A) (m : ℕ) (y : A) → slice_get (set xs k x) m ≡ Some y → ((m ≡ k) × (x ≡ y)) ⊎ ((m ≢ k) × (slice_get xs m ≡ Some y))
@@ -70,3 +73,25 @@ restood-there ps n (Some q) s p e at = set-there ps n (standing_so q s) p at ∙
 
 pub promise-there : {G O : Type 0} (ps : List (Promise G O)) (n : ℕ) (s : Standing O) (p : Promise G O) → slice_get ps n ≡ Some p → slice_get (with_standing ps n s) n ≡ Some (standing_so p s)
 promise-there ps n s p at = restood-there ps n (slice_get ps n) s p at at
+
+-- As many stand in a list when one of them is changed.
+length-restood : {G O : Type 0} (ps : List (Promise G O)) (n : ℕ) (found : Option (Promise G O)) (t : Standing O) → length (restood ps n found t) ≡ length ps
+length-restood ps n None t = refl
+length-restood ps n (Some p) t = length-set ps n (standing_so p t)
+
+pub length-standing : {G O : Type 0} (ps : List (Promise G O)) (n : ℕ) (t : Standing O) → length (with_standing ps n t) ≡ length ps
+length-standing ps n t = length-restood ps n (slice_get ps n) t
+
+pub length-progress : {C : Type 0} (ts : List (Progress C)) (j : ℕ) (p : Progress C) → length (with_progress ts j p) ≡ length ts
+length-progress ts zero p = refl
+length-progress ts (suc j) p = length-set ts j p
+
+-- What all have, the one at a place has.
+pub each_there : {A : Type 0} (P : A → Type 0) (xs : List A) (n : ℕ) (x : A) → Each P xs → slice_get xs n ≡ Some x → P x
+each_there P [] n x each at = absurd (none-some x at)
+each_there P (y ∷ xs) zero x each at = subst P (same_Some y x at) each.0
+each_there P (y ∷ xs) (suc n) x each at = each_there P xs n x each.1 at
+
+pub closed_there : {C : Type 0} (ts : List (Progress C)) (i : ℕ) (q : Progress C) → Each IsClosed ts → theory_at ts i ≡ Some q → IsClosed q
+closed_there ts zero q each at = absurd (none-some q at)
+closed_there ts (suc i) q each at = each_there IsClosed ts i q each at

@@ -1,5 +1,5 @@
 -- Which groups are cancelled in each state of a legal run: those that the policy asks for by the deliveries that were kept.
-use Rattle.std.proofs.Common.{◌≡◌, ◌∙◌, ◌≤◌, ℕ, zero, suc, ◌+◌, List, [], ◌∷◌, ◌++◌, map, length, refl, sym, ap, subst, arith, nat_eq, nat_le, Bool, true, false, ◌&&◌, ◌||◌, if◌then◌else◌, Some, slice_get}
+use Rattle.std.proofs.Common.{◌≡◌, ◌∙◌, ◌≤◌, ℕ, zero, suc, ◌+◌, List, [], ◌∷◌, ◌++◌, length, refl, sym, ap, subst, arith, nat_eq, nat_le, Bool, true, false, ◌&&◌, ◌||◌, if◌then◌else◌, Some}
 use Rattle.std.specs.List.{list_any}
 use Rattle.std.proofs.lemmas.Option.{none-some, slice_get_within}
 use Rattle.std.proofs.lemmas.List.{length-map}
@@ -9,7 +9,7 @@ use Rattle.pure_machine.specs.declared.policy.Group.{Group}
 use Rattle.pure_machine.specs.declared.policy.Group.TheVariants.{Session}
 use Rattle.pure_machine.specs.declared.policy.Cancel.{Cancel}
 use Rattle.pure_machine.specs.Policy.{Policy, Opening, due}
-use Rattle.pure_machine.specs.State.{Running, Promise, Standing, Ready, Taken, Settled, Cancelled, Event, State, theory_at, waiting, unmarked, is_theory_cancelled, is_true_there, with_cancelled, opened}
+use Rattle.pure_machine.specs.State.{Running, Promise, Standing, Ready, Taken, Settled, Cancelled, Event, State, theory_at, waiting, unmarked, is_theory_cancelled, with_cancelled, opened}
 use Rattle.pure_machine.specs.Step.{Stands, IsOver, Allows, IsRunFrom, cancelled_by, after, after_all}
 use Rattle.pure_core.proofs.KeptLaws.{IsKept, kept-after, kept-opened, cancel-keeps}
 use Rattle.pure_core.proofs.RunLaws.{opening-after_all}
@@ -20,6 +20,7 @@ use Rattle.pure_heed.specs.Heeded.{has_theory, has_come, is_due}
 use Rattle.pure_heed.proofs.CountLaws.{one_if, counted-le}
 use Rattle.pure_heed.proofs.OrderLaws.{IsAmong}
 use Rattle.pure_heed.proofs.TallyLaws.{or-assoc, or-true, passes, tally, HasPlace, Scores, quiet, scored, scores, tally-with, cancelled-is, cancelled-length}
+use Rattle.pure_joined.proofs.WholeLaws.{unmarked-at}
 
 -- truth values
 and-true : (a : Bool) → (a && true) ≡ a
@@ -121,19 +122,6 @@ due-next p k f i fault = by_flags p.fail_fast fault
     by_flags false true = now
     by_flags false false = now
 
-unmarked-false : (shape : List (List ℕ)) (i : ℕ) → is_theory_cancelled (unmarked shape) i ≡ false
-unmarked-false shape zero = refl
-unmarked-false shape (suc i) = none shape i
-  where
-    none : (xs : List (List ℕ)) (k : ℕ) → is_true_there (slice_get (map (λ _. false) xs) k) ≡ false
-    none [] k = refl
-    none (x ∷ xs) zero = refl
-    none (x ∷ xs) (suc k) = none xs k
-
-all_least : (cs : List Cancel) → Each (λ (c : Cancel). 0 ≤ c.after) cs
-all_least [] = tt
-all_least (c ∷ cs) = (omega arith, all_least cs)
-
 -- the counts of a group stay within its number, where it wasn't due or isn't of the theory
 obeyed-more : (cs : List Cancel) (k i : ℕ) (old new : Group → ℕ) → list_any (has_come k i) cs ≡ false → ((g : Group) → new g ≡ old g + one_if (has_theory g i)) → ((g : Group) → old g ≤ k) → Each (λ (c : Cancel). old c.group ≤ c.after) cs → Each (λ (c : Cancel). new c.group ≤ c.after) cs
 obeyed-more [] k i old new none grows most each = tt
@@ -188,7 +176,7 @@ module _ {G C O : Type 0} (is_fault : O → Bool) where
     kept_is = started-kept groups ∙ sym (tally-with (λ i x. true) begun groups);
     due_is = λ i among.
         cancelled-is begun groups i (among.0, (let same = length-map o.shape (λ (_ : List ℕ). false) in let high = among.1 in omega arith))
-        ∙ ap (λ b. b || list_any (λ g. has_theory g i) groups) (unmarked-false o.shape i)
+        ∙ ap (λ b. b || list_any (λ g. has_theory g i) groups) (unmarked-at o.shape i)
         ∙ any-due i o.policy.cancels 0
         ∙ come-first i o.policy.cancels
         ∙ sym (ap (λ b. b || list_any (has_come 0 i) o.policy.cancels) (and-false o.policy.fail_fast))

@@ -7,8 +7,9 @@ use Rattle.pure_text.proofs.ListLaws.{each_at, in-append_left, in-append_right}
 use Rattle.pure_machine.specs.Policy.{Opening}
 use Rattle.pure_machine.specs.State.{Promise, Standing, Ready, Taken, Settled, Cancelled, Event, TakeProof, Deliver, State, is_theory_cancelled, is_settled, opened}
 use Rattle.pure_machine.specs.Step.{Stands, IsOut, IsOver, IsNextPromise, NoTheoryReady, is_cancelled_standing}
+use Rattle.pure_machine.proofs.FinishLaws.{element_there}
 use Rattle.pure_seats.specs.Seats.{events_of, own, state_of, IsNumberedRun, HasNothingOpen, IsOrderly}
-use Rattle.pure_seats.proofs.SplitLaws.{split_in, there_below, entered-by, in-own, either_first}
+use Rattle.pure_seats.proofs.SplitLaws.{split_in, entered-by, in-own, either_first}
 use Rattle.pure_seats.proofs.ToldLaws.{IsTold}
 use Rattle.pure_seats.proofs.StayLaws.{IsLater}
 use Rattle.pure_seats.proofs.SeatLaws.{run-begins, run-told, run-allows, promise-keeps, state-history}
@@ -135,7 +136,7 @@ module _ {G C O : Type 0} (forks : ℕ → ℕ → G → Type 0) (closes : ℕ �
         s = state_of o before
 
         there : (q' : Promise G O) × Stands s n q'
-        there = there_below s.promises n (let within = slice_get_within s.promises m next.0 next.1.0 in omega arith)
+        there = element_there s.promises n (let within = slice_get_within s.promises m next.0 next.1.0 in omega arith)
 
         old : Promise G O
         old = there.0

@@ -7,9 +7,10 @@ use Rattle.pure_text.proofs.ListLaws.{each_at}
 use Rattle.pure_machine.specs.Policy.{Opening}
 use Rattle.pure_machine.specs.State.{Progress, Waiting, Running, Closed, Promise, Standing, Ready, Taken, Settled, Cancelled, Event, TakeTheory, Fork, CloseTheory, State, theory_at, is_theory_cancelled, is_settled, opened}
 use Rattle.pure_machine.specs.Step.{Stands, IsOver, IsShape, IsNextTheory, NoneReadyBelow, closed_value, closed_values, joined_values, Allows, IsRunFrom, forked_once, closed_by, is_cancelled_standing, after, after_all}
+use Rattle.pure_machine.proofs.FinishLaws.{element_there}
+use Rattle.pure_machine.proofs.ReadyLaws.{no_wait}
 use Rattle.pure_core.proofs.KeptLaws.{IsKept, kept-after, kept-opened}
 use Rattle.pure_seats.specs.Seats.{IsTake}
-use Rattle.pure_seats.proofs.SplitLaws.{there_below}
 use Rattle.pure_seats.proofs.ChangeLaws.{Became, stayed, was_forked, was_taken, was_settled, was_cancelled, became, Came, left_so, began, went_on, ended, came, allowed_there}
 use Rattle.pure_seats.proofs.ToldLaws.{IsTold, told-after, told-opened, take-ready, take-waits, fork-runs, close-runs, deliver-out, opened-none, opened-waits}
 use Rattle.pure_seats.proofs.StayLaws.{IsLater, promise-later, over-cases}
@@ -51,9 +52,6 @@ new-not_begun O false h = h
 new-over : (O : Type 0) (b : Bool) → IsOver {O = O} (if b then Cancelled else Ready) → ◌≡◌ {A = Standing O} (if b then Cancelled else Ready) Cancelled
 new-over O true h = refl
 new-over O false h = absurd h
-
-never-waits : {C : Type 0} (k : ℕ) → ◌≡◌ {A = Progress C} (Running k) Waiting → ⊥
-never-waits k e = cc
 
 passes-not_settled : {O : Type 0} (h : ℕ → O → Bool) (i : ℕ) (t : Standing O) → (is_settled t ≡ true → ⊥) → passes h i t ≡ false
 passes-not_settled h i Ready none = refl
@@ -97,7 +95,7 @@ module _ {G C O : Type 0} (forks : ℕ → ℕ → G → Type 0) (closes : ℕ �
     -- what a promise was
     was : (n : ℕ) (q : Promise G O) → Stands (after s e) n q → n < length s.promises → (p : Promise G O) × Stands s n p × IsLater p q
     was n q at low =
-        let there = there_below s.promises n low in
+        let there = element_there s.promises n low in
         let later = promise-later forks closes may is_fault s e a kept told n there.0 there.1 in
         (there.0, there.1, subst (IsLater there.0) (same_Some later.0 q (sym later.1 ∙ at)) later.2)
 
@@ -133,7 +131,7 @@ module _ {G C O : Type 0} (forks : ℕ → ℕ → G → Type 0) (closes : ℕ �
 
     theory-there : (i : ℕ) → IsAmong (length o.shape) i → (q : Progress C) × (theory_at s.theories i ≡ Some q)
     theory-there zero among = absurd (let low = among.0 in omega arith)
-    theory-there (suc i) among = there_below s.theories i (let same = due.stages in let high = among.1 in omega arith)
+    theory-there (suc i) among = element_there s.theories i (let same = due.stages in let high = among.1 in omega arith)
 
     -- a promise that was there is of no later theory than one that runs
     not-later : (n i : ℕ) (g : G) (p : Promise G O) → e ≡ Fork i g → Stands s n p → p.theory ≤ i
@@ -180,7 +178,7 @@ module _ {G C O : Type 0} (forks : ℕ → ℕ → G → Type 0) (closes : ℕ �
         let before : theory_at s.theories q.theory ≡ Some Waiting = waits-before q.theory (came s e q.theory Waiting waits) in
         elim (old-or-new n q (became-by n q at)) [
           | inl within ↦ (let one = was n q at within in h.moved n one.0 one.1 (ap (theory_at s.theories) (sym one.2.theory_is) ∙ before))
-          | inr new ↦ (let run = fork-runs forks closes may is_fault s e a kept told new.0 new.1 new.2 in never-waits run.0 (same_Some (Running run.0) Waiting (sym run.1 ∙ ap (theory_at s.theories) (sym new.4) ∙ before)))
+          | inr new ↦ (let run = fork-runs forks closes may is_fault s e a kept told new.0 new.1 new.2 in no_wait run.0 (same_Some (Running run.0) Waiting (sym run.1 ∙ ap (theory_at s.theories) (sym new.4) ∙ before)))
         ]
 
     -- below the theory that is taken none waits
@@ -201,7 +199,7 @@ module _ {G C O : Type 0} (forks : ℕ → ℕ → G → Type 0) (closes : ℕ �
         not-ready : (x : ℕ) → theory_at s.theories x ≡ Some Waiting → x < j → ((k : ℕ) → k < x → theory_at s.theories k ≢ Some Waiting) → ⊥
         not-ready zero at less before = none-some Waiting at
         not-ready (suc x) at less before =
-            let numbers = there_below o.shape x (let within = slice_get_within s.theories x Waiting at in let same = due.stages in omega arith) in
+            let numbers = element_there o.shape x (let within = slice_get_within s.theories x Waiting at in let same = due.stages in omega arith) in
             let values = parents-closed numbers.0 (λ k m. closed-one k (each_at (λ (p : ℕ). (0 < p) × (p < suc x)) numbers.0 (shaped (suc x) numbers.0 numbers.1) k m)) in
             none (suc x) less values.0 (record { waits = at; numbers = numbers.0; parents_are = numbers.1; closed = values.1 })
           where
@@ -220,14 +218,14 @@ module _ {G C O : Type 0} (forks : ℕ → ℕ → G → Type 0) (closes : ℕ �
     fronts-so i j q low waits (began what new) = absurd (
         let next : (s.stopped ≡ false) × ((cs : List C) × IsNextTheory s j cs) = subst (Allows forks closes may is_fault s) what a in
         none-waits j (subst (λ x. NoneReadyBelow x.shape s.theories j) due.opening_is next.1.1.1) (rest (subst IsTake (sym what) tt)) j i low low (waits-before i (came s e i Waiting waits)))
-    fronts-so i j q low waits (went_on g what new) = absurd (let run = fork-runs forks closes may is_fault s e a kept told j g what in never-waits run.0 (h.fronts i j (Running run.0) low (waits-before i (came s e i Waiting waits)) run.1))
-    fronts-so i j q low waits (ended c what new) = absurd (let run = close-runs forks closes may is_fault s e a kept told j c what in never-waits run.0 (h.fronts i j (Running run.0) low (waits-before i (came s e i Waiting waits)) run.1))
+    fronts-so i j q low waits (went_on g what new) = absurd (let run = fork-runs forks closes may is_fault s e a kept told j g what in no_wait run.0 (h.fronts i j (Running run.0) low (waits-before i (came s e i Waiting waits)) run.1))
+    fronts-so i j q low waits (ended c what new) = absurd (let run = close-runs forks closes may is_fault s e a kept told j c what in no_wait run.0 (h.fronts i j (Running run.0) low (waits-before i (came s e i Waiting waits)) run.1))
 
     alone-by : (i j k : ℕ) (q : Progress C) → i < j → theory_at s.theories i ≡ Some (Running k) → Came s e j q → q ≡ Waiting
     alone-by i j k q low run_i (left_so at leaves) = h.alone i j k q low run_i at
     alone-by i j k q low run_i (began what new) = absurd ((rest (subst IsTake (sym what) tt)).theories i k run_i)
-    alone-by i j k q low run_i (went_on g what new) = absurd (let run = fork-runs forks closes may is_fault s e a kept told j g what in never-waits run.0 (h.alone i j k (Running run.0) low run_i run.1))
-    alone-by i j k q low run_i (ended c what new) = absurd (let run = close-runs forks closes may is_fault s e a kept told j c what in never-waits run.0 (h.alone i j k (Running run.0) low run_i run.1))
+    alone-by i j k q low run_i (went_on g what new) = absurd (let run = fork-runs forks closes may is_fault s e a kept told j g what in no_wait run.0 (h.alone i j k (Running run.0) low run_i run.1))
+    alone-by i j k q low run_i (ended c what new) = absurd (let run = close-runs forks closes may is_fault s e a kept told j c what in no_wait run.0 (h.alone i j k (Running run.0) low run_i run.1))
 
     alone-begun : (i j : ℕ) (q : Progress C) → i < j → e ≡ TakeTheory i → Came s e j q → q ≡ Waiting
     alone-begun i j q low what (left_so at leaves) = h.fronts i j q low (take-waits forks closes may is_fault s e a kept told i what) at

@@ -1,28 +1,20 @@
 -- What theories left where all is finished.
-use Rattle.std.proofs.Common.{◌≡◌, ◌∙◌, ◌<◌, ◌≤◌, ℕ, zero, suc, ◌+◌, List, [], ◌∷◌, length, filter, filter_map, cond, nat_eq, refl, sym, ap, subst, arith, Bool, true, false, Some, slice_get, inl, inr, eq-eqb}
+use Rattle.std.proofs.Common.{◌≡◌, ◌∙◌, ◌<◌, ◌≤◌, ℕ, suc, ◌+◌, List, [], ◌∷◌, length, filter, filter_map, cond, nat_eq, refl, sym, ap, subst, arith, Bool, true, false, Some, slice_get, inl, inr, eq-eqb}
 use Rattle.std.specs.List.{cons_option}
-use Rattle.std.proofs.lemmas.Option.{same_Some, none-some}
 use Rattle.pure_text.specs.Lists.{IsIn, Each}
 use Rattle.pure_text.proofs.ListLaws.{each_of, each_imply, each-right}
 use Rattle.pure_machine.specs.State.{Progress, Waiting, Running, Closed, Promise, Standing, Ready, Taken, Settled, Cancelled, State, theory_at}
 use Rattle.pure_machine.specs.Step.{IsClosed, IsOver, IsFinished, value_of, forks_of}
 use Rattle.pure_machine.proofs.ReadyLaws.{theory_at-number}
+use Rattle.pure_machine.proofs.FinishLaws.{each_element}
 use Rattle.pure_core.specs.Legal.{IsLegal}
 use Rattle.pure_core.proofs.RunLaws.{kept-legal}
+use Rattle.pure_core.proofs.PlaceLaws.{closed_there, each_there}
 use Rattle.pure_joined.specs.Promises.{promises_of, AreInOrder}
 use Rattle.pure_joined.specs.Joined.{EndsSo, IsJoined, AreJoinedFrom, AreJoined}
 use Rattle.pure_joined.proofs.OriginLaws.{length-goals_at, goal-at, origin-at}
 use Rattle.pure_joined.proofs.ToldLaws.{IsTold, told-legal}
 use Rattle.pure_joined.proofs.OrderLaws.{Rises, rises, cut}
-
-each-at : {A : Type 0} (P : A → Type 0) (xs : List A) → Each P xs → (n : ℕ) (x : A) → slice_get xs n ≡ Some x → P x
-each-at P [] h n x e = absurd (none-some x e)
-each-at P (y ∷ ys) h zero x e = subst P (same_Some y x e) h.0
-each-at P (y ∷ ys) h (suc n) x e = each-at P ys h.1 n x e
-
-pub from-each : {A : Type 0} (P : A → Type 0) (xs : List A) → ((n : ℕ) (x : A) → slice_get xs n ≡ Some x → P x) → Each P xs
-from-each P [] h = tt
-from-each P (x ∷ xs) h = (h 0 x refl, from-each P xs (λ n y e. h (suc n) y e))
 
 each-filter : {A : Type 0} (P : A → Type 0) (t : A → Bool) (xs : List A) → Each P xs → Each P (filter t xs)
 each-filter P t [] h = tt
@@ -50,7 +42,7 @@ filter-in {A} t x (y ∷ ys) at = by_test (t y) (filter-in t x ys) at
     by_test true rest (inr there) = inr (rest there)
     by_test false rest there = inr (rest there)
 
-place-of : {A : Type 0} (x : A) (xs : List A) → IsIn x xs → (n : ℕ) × (slice_get xs n ≡ Some x)
+pub place-of : {A : Type 0} (x : A) (xs : List A) → IsIn x xs → (n : ℕ) × (slice_get xs n ≡ Some x)
 place-of x [] at = absurd at
 place-of x (y ∷ ys) (inl same) = (0, ap Some (sym same))
 place-of x (y ∷ ys) (inr there) = let rest = place-of x ys there in (suc rest.0, rest.1)
@@ -74,10 +66,6 @@ value-so closes Waiting n over h = absurd over
 value-so closes (Running k) n over h = absurd over
 value-so closes (Closed k c) n over h = let so = h k c refl in (c, refl, subst (λ m. closes m c) so.1 so.0)
 
-closed-at : {C : Type 0} (ts : List (Progress C)) (i : ℕ) (t : Progress C) → Each IsClosed ts → theory_at ts i ≡ Some t → IsClosed t
-closed-at ts zero t h e = absurd (none-some t e)
-closed-at ts (suc i) t h e = each-at IsClosed ts h i t e
-
 count-of : {C : Type 0} (q : Progress C) (k : ℕ) (c : C) → q ≡ Closed k c → forks_of q ≡ k
 count-of q k c e = ap forks_of e
 
@@ -97,10 +85,10 @@ theory-joined {G} {C} {O} shape forks closes may is_fault s legal finished i t a
     told = told-legal shape forks closes may is_fault s legal
 
     ended-all : Each (λ p. EndsSo may p.goal p.standing) s.promises
-    ended-all = from-each (λ p. EndsSo may p.goal p.standing) s.promises (λ n p e. ends-so may p.goal p.standing (each-at (λ q. IsOver q.standing) s.promises finished.promises n p e) (λ o standing. told.outcomes n p o e standing))
+    ended-all = each_element (λ p. EndsSo may p.goal p.standing) s.promises (λ n p e. ends-so may p.goal p.standing (each_there (λ q. IsOver q.standing) s.promises n p finished.promises e) (λ o standing. told.outcomes n p o e standing))
 
     closed : (c : C) × (value_of t ≡ Some c) × closes i (length (promises_of i s.promises)) c
-    closed = value-so (closes i) t (length (promises_of i s.promises)) (closed-at s.theories i t finished.theories at) (λ k c e. (
+    closed = value-so (closes i) t (length (promises_of i s.promises)) (closed_there s.theories i t finished.theories at) (λ k c e. (
       (kept-legal shape forks closes may is_fault s legal).closed i k c (at ∙ ap Some e),
       sym (count-of t k c e) ∙ told.count i t at ∙ length-goals_at i s.promises,
     ))

@@ -1,5 +1,5 @@
 -- Theories of which one goes on.
-use Rattle.std.proofs.Common.{◌≡◌, ◌≢◌, ℕ, zero, suc, List, [], ◌∷◌, length, set, refl, ap, Some, slice_get}
+use Rattle.std.proofs.Common.{◌≡◌, ◌≢◌, ℕ, zero, suc, List, [], ◌∷◌, set, refl, ap, Some, slice_get}
 use Rattle.std.proofs.lemmas.Option.{none-some}
 use Rattle.pure_machine.specs.State.{Progress, theory_at, with_progress}
 
@@ -16,14 +16,3 @@ pub theory-elsewhere : {C : Type 0} (ts : List (Progress C)) (i : ℕ) (p : Prog
 theory-elsewhere ts i p zero q other e = absurd (none-some q e)
 theory-elsewhere ts zero p (suc j) q other e = e
 theory-elsewhere ts (suc i) p (suc j) q other e = set-elsewhere ts i p j q (λ same. other (ap suc same)) e
-
-length-set : {A : Type 0} (xs : List A) (k : ℕ) (x : A) → length (set xs k x) ≡ length xs
-length-set [] zero x = refl
-length-set [] (suc k) x = refl
-length-set (z ∷ xs) zero x = refl
-length-set (z ∷ xs) (suc k) x = ap suc (length-set xs k x)
-
--- and there are as many
-pub length-progress : {C : Type 0} (ts : List (Progress C)) (i : ℕ) (p : Progress C) → length (with_progress ts i p) ≡ length ts
-length-progress ts zero p = refl
-length-progress ts (suc i) p = length-set ts i p

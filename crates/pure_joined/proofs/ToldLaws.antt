@@ -8,10 +8,10 @@ use Rattle.pure_machine.specs.State.{Progress, Waiting, Running, Promise, Standi
 use Rattle.pure_machine.specs.Step.{Stands, forks_of, forked_once, closed_by, new_promise, is_cancelled_promise, cancelled_by, after, after_all, Allows, IsRunFrom}
 use Rattle.pure_machine.proofs.PromiseLaws.{slice_get-mapped}
 use Rattle.pure_core.specs.Legal.{IsLegal}
-use Rattle.pure_core.proofs.PlaceLaws.{theory-changed, theory-there, promise-changed, pushed-at}
+use Rattle.pure_core.proofs.PlaceLaws.{theory-changed, theory-there, promise-changed, pushed-at, length-progress}
 use Rattle.pure_core.proofs.KeptLaws.{before-cancel, cancel-keeps, waiting-at, delivered_state}
 use Rattle.pure_joined.proofs.OriginLaws.{origins, goals_at, same_or_not, goals_at-more, goals_at-other, origins-push, origins-standing, origins-cancel}
-use Rattle.pure_joined.proofs.TheoryLaws.{theory-elsewhere, length-progress}
+use Rattle.pure_joined.proofs.TheoryLaws.{theory-elsewhere}
 
 pub record IsTold {G C O : Type 0} (forks : ℕ → ℕ → G → Type 0) (may : G → O → Type 0) (s : State G C O) : Type 0 where
   pub count : (i : ℕ) (q : Progress C) → theory_at s.theories i ≡ Some q → forks_of q ≡ length (goals_at i (origins s.promises))

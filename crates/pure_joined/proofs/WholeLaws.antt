@@ -1,25 +1,24 @@
 -- Where no policy cancels, nothing is cancelled.
-use Rattle.std.proofs.Common.{◌≡◌, ◌∙◌, ℕ, zero, suc, ◌+◌, List, [], ◌∷◌, ◌++◌, map, refl, sym, ap, subst, Bool, true, false, ◌||◌, if◌then◌else◌, Option, Some, None, slice_get, inl, inr}
+use Rattle.std.proofs.Common.{◌≡◌, ◌∙◌, ℕ, zero, suc, ◌+◌, List, [], ◌∷◌, ◌++◌, map, refl, sym, ap, subst, Bool, true, false, if◌then◌else◌, slice_get, inl, inr}
 use Rattle.std.proofs.lemmas.Option.{none-some}
-use Rattle.pure_text.specs.Lists.{IsIn, Each}
 use Rattle.pure_text.proofs.ListLaws.{each_of, each_at}
-use Rattle.pure_machine.specs.declared.policy.Group.{Group}
 use Rattle.pure_machine.specs.Policy.{Opening, Policy, due}
-use Rattle.pure_machine.specs.State.{Promise, Standing, Ready, Taken, Settled, Cancelled, Event, TakeTheory, TakeProof, Fork, CloseTheory, Deliver, Stop, State, waiting, unmarked, is_true_there, is_theory_cancelled, with_standing, with_cancelled, opened}
-use Rattle.pure_machine.specs.Step.{Stands, new_promise, is_cancelled_standing, is_cancelled_promise, cancelled_by, after, after_all, Allows, IsRunFrom}
+use Rattle.pure_machine.specs.State.{Promise, Ready, Taken, Settled, Cancelled, Event, TakeTheory, TakeProof, Fork, CloseTheory, Deliver, Stop, State, waiting, unmarked, is_true_there, is_theory_cancelled, with_standing, with_cancelled, opened}
+use Rattle.pure_machine.specs.Step.{Stands, new_promise, is_cancelled_standing, is_cancelled_promise, cancelled_by, after, after_all}
+use Rattle.pure_machine.proofs.FinishLaws.{each_element}
 use Rattle.pure_core.specs.Legal.{IsLegal}
 use Rattle.pure_core.proofs.PlaceLaws.{promise-changed, pushed-at}
 use Rattle.pure_core.proofs.KeptLaws.{delivered_state}
 use Rattle.pure_joined.specs.Promises.{AreInOrder}
 use Rattle.pure_joined.specs.Uncancelled.{no_policy, NoneCancelled}
-use Rattle.pure_joined.proofs.JoinLaws.{from-each, in-ordered}
+use Rattle.pure_joined.proofs.JoinLaws.{in-ordered}
 
 record IsWhole {G C O : Type 0} (s : State G C O) : Type 0 where
   policy : s.opening.policy ≡ no_policy
   marks : (i : ℕ) → is_theory_cancelled s.cancelled i ≡ false
   promises : (n : ℕ) (p : Promise G O) → Stands s n p → is_cancelled_standing p.standing ≡ false
 
-unmarked-at : (shape : List (List ℕ)) (i : ℕ) → is_theory_cancelled (unmarked shape) i ≡ false
+pub unmarked-at : (shape : List (List ℕ)) (i : ℕ) → is_theory_cancelled (unmarked shape) i ≡ false
 unmarked-at shape zero = refl
 unmarked-at shape (suc i) = none shape i
   where
@@ -89,7 +88,7 @@ whole-after_all s (e ∷ es) h = whole-after_all (after s e) es (whole-after s e
 pub nothing-cancelled : {G C O : Type 0} (shape : List (List ℕ)) (forks : ℕ → ℕ → G → Type 0) (closes : ℕ → ℕ → C → Type 0) (may : G → O → Type 0) (is_fault : O → Bool) (s : State G C O) → IsLegal shape forks closes may is_fault s → s.opening.policy ≡ no_policy → NoneCancelled s.promises
 nothing-cancelled {G} {C} {O} shape forks closes may is_fault s legal none =
     let whole : IsWhole s = subst IsWhole (sym legal.state) (whole-after_all (opened s.opening) s.history (whole-opened s.opening none)) in
-    from-each (λ p. is_cancelled_standing p.standing ≡ false) s.promises whole.promises
+    each_element (λ p. is_cancelled_standing p.standing ≡ false) s.promises whole.promises
 
 -- the same of them in load order
 pub none-ordered : {G O : Type 0} (promises ordered : List (Promise G O)) → AreInOrder promises ordered → NoneCancelled promises → NoneCancelled ordered

@@ -1,17 +1,17 @@
 -- Where nothing is ready and nothing runs all is finished.
-use Rattle.std.proofs.Common.{◌≡◌, ◌≢◌, ◌∙◌, ◌<◌, ◌≤◌, ℕ, zero, suc, ◌+◌, List, [], ◌∷◌, length, refl, sym, ap, arith, Option, Some, None, slice_get, below_more}
+use Rattle.std.proofs.Common.{◌≡◌, ◌≢◌, ◌<◌, ◌≤◌, ℕ, zero, suc, ◌+◌, List, [], ◌∷◌, length, refl, arith, Some, slice_get, below_more}
 use Rattle.pure_text.specs.Lists.{Each}
 use Rattle.pure_machine.specs.State.{Progress, Waiting, Running, Closed, Promise, Standing, Ready, Taken, Settled, Cancelled, theory_at, parents_at}
-use Rattle.pure_machine.specs.Step.{IsShape, IsReadyIn, IsClosed, IsOver, value_of, closed_value, closed_values, joined_values, NoPromiseReadyBelow}
+use Rattle.pure_machine.specs.Step.{IsShape, IsReadyIn, IsClosed, IsOver, value_of, closed_values, NoPromiseReadyBelow}
 use Rattle.pure_machine.proofs.ReadyLaws.{theory_at-number}
 use Rattle.std.proofs.lemmas.Option.{slice_get_within}
 
-element_there : {A : Type 0} (xs : List A) (k : ℕ) → k < length xs → (x : A) × (slice_get xs k ≡ Some x)
+pub element_there : {A : Type 0} (xs : List A) (k : ℕ) → k < length xs → (x : A) × (slice_get xs k ≡ Some x)
 element_there [] k within = absurd (omega (arith, within))
 element_there (x ∷ xs) zero within = (x, refl)
 element_there (x ∷ xs) (suc k) within = element_there xs k (omega (arith, within))
 
-each_element : {A : Type 0} (P : A → Type 0) (xs : List A) → ((k : ℕ) (x : A) → slice_get xs k ≡ Some x → P x) → Each P xs
+pub each_element : {A : Type 0} (P : A → Type 0) (xs : List A) → ((k : ℕ) (x : A) → slice_get xs k ≡ Some x → P x) → Each P xs
 each_element P [] h = tt
 each_element P (x ∷ xs) h = (h 0 x refl, each_element P xs (λ k y e. h (suc k) y e))
 

@@ -1,10 +1,9 @@
 -- Which theories are ready, by the values that closed their parents.
-use Rattle.std.proofs.Common.{◌≡◌, ◌≢◌, ◌∙◌, ◌<◌, ◌≤◌, ℕ, zero, suc, ◌+◌, ◌-◌, List, [], ◌∷◌, ◌++◌, map, length, get_or, set, take, refl, sym, ap, subst, arith, Option, Some, None, slice_get, slice_set, below_more, inl, inr, ◌⊎◌}
+use Rattle.std.proofs.Common.{◌≡◌, ◌≢◌, ◌∙◌, ◌<◌, ◌≤◌, ℕ, zero, suc, ◌+◌, ◌-◌, List, [], ◌∷◌, ◌++◌, map, length, get_or, set, take, refl, sym, ap, subst, arith, Option, Some, None, slice_get, inl, inr, ◌⊎◌}
 use Rattle.std.proofs.lemmas.Option.{same_Some, none-some, slice_get_within}
 use Rattle.std.proofs.lemmas.List.{get_or_default, map-append}
-use Rattle.pure_text.specs.Lists.{Each}
 use Rattle.pure_text.proofs.LoopLaws.{longer_by}
-use Rattle.pure_machine.specs.State.{Progress, Waiting, Running, Closed, theory_at, parents_at, with_progress}
+use Rattle.pure_machine.specs.State.{Progress, Waiting, Running, theory_at, parents_at, with_progress}
 use Rattle.pure_machine.specs.Step.{value_of, closed_value, closed_values, joined_values, IsReadyIn, NoneReadyBelow}
 use Rattle.pure_machine.proofs.PromiseLaws.{slice_get-set}
 
@@ -67,7 +66,7 @@ abbrev HasBegun : {C : Type 0} → Progress C → Type 0
 HasBegun Waiting = ⊥
 HasBegun _ = Unit {0}
 
-no_wait : {C : Type 0} (n : ℕ) → ◌≡◌ {A = Progress C} (Running n) Waiting → ⊥
+pub no_wait : {C : Type 0} (n : ℕ) → ◌≡◌ {A = Progress C} (Running n) Waiting → ⊥
 no_wait n e = subst HasBegun e tt
 
 -- who is ready once a theory runs was ready before

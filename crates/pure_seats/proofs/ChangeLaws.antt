@@ -1,13 +1,14 @@
 -- What a promise or a theory of the state after an event was before it.
-use Rattle.std.proofs.Common.{◌≡◌, ◌≢◌, ◌∙◌, ◌≤◌, ℕ, zero, suc, ◌+◌, List, [], ◌∷◌, ◌++◌, length, set, refl, sym, ap, subst, arith, Bool, true, false, not, ◌&&◌, if◌then◌else◌, Option, Some, None, slice_get, inl, inr}
+use Rattle.std.proofs.Common.{◌≡◌, ◌≢◌, ◌∙◌, ◌≤◌, ℕ, zero, suc, ◌+◌, List, [], ◌∷◌, ◌++◌, length, set, refl, sym, ap, subst, arith, Bool, true, false, not, ◌&&◌, if◌then◌else◌, Some, slice_get, inl, inr}
 use Rattle.std.proofs.lemmas.Option.{same_Some, none-some, slice_get_within}
+use Rattle.std.proofs.lemmas.List.{length-set}
 use Rattle.pure_machine.specs.declared.policy.Group.{Group}
-use Rattle.pure_machine.specs.State.{Progress, Running, Promise, Standing, Taken, Settled, Cancelled, Event, TakeTheory, TakeProof, Fork, CloseTheory, Deliver, Stop, Marks, State, theory_at, with_progress, with_standing, restood, is_theory_cancelled, is_settled, cancelled_promise, with_cancelled}
+use Rattle.pure_machine.specs.State.{Progress, Running, Promise, Standing, Taken, Settled, Cancelled, Event, TakeTheory, TakeProof, Fork, CloseTheory, Deliver, Stop, Marks, State, theory_at, with_progress, with_standing, is_theory_cancelled, is_settled, cancelled_promise, with_cancelled}
 use Rattle.pure_machine.specs.Step.{Stands, Allows, forked_once, closed_by, new_promise, is_cancelled_standing, is_cancelled_promise, cancelled_by, after}
 use Rattle.pure_machine.proofs.PromiseLaws.{slice_get-mapped}
-use Rattle.pure_core.proofs.PlaceLaws.{theory-changed, promise-changed, pushed-at, standing_so}
+use Rattle.pure_machine.proofs.FinishLaws.{element_there}
+use Rattle.pure_core.proofs.PlaceLaws.{theory-changed, promise-changed, pushed-at, standing_so, length-standing, length-progress}
 use Rattle.pure_core.proofs.KeptLaws.{cancel-keeps, delivered_state}
-use Rattle.pure_seats.proofs.SplitLaws.{there_below}
 
 -- The promise of which an outcome is delivered is there.
 abbrev pub IsThere : {G C O : Type 0} → State G C O → Event G C O → Type 0
@@ -115,20 +116,6 @@ pub data Came {G C O : Type 0} (s : State G C O) (e : Event G C O) (i : ℕ) (q 
   went_on : (g : G) → e ≡ Fork i g → forked_once (theory_at s.theories i) ≡ q → Came s e i q
   ended : (c : C) → e ≡ CloseTheory i c → closed_by (theory_at s.theories i) c ≡ q → Came s e i q
 
--- a promise that stands otherwise is still one
-length-set_there : {A : Type 0} (xs : List A) (k : ℕ) (x : A) → length (set xs k x) ≡ length xs
-length-set_there [] zero x = refl
-length-set_there [] (suc k) x = refl
-length-set_there (y ∷ xs) zero x = refl
-length-set_there (y ∷ xs) (suc k) x = ap suc (length-set_there xs k x)
-
-length-restood : {G O : Type 0} (ps : List (Promise G O)) (n : ℕ) (found : Option (Promise G O)) (t : Standing O) → length (restood ps n found t) ≡ length ps
-length-restood ps n None t = refl
-length-restood ps n (Some p) t = length-set_there ps n (standing_so p t)
-
-pub length-standing : {G O : Type 0} (ps : List (Promise G O)) (n : ℕ) (t : Standing O) → length (with_standing ps n t) ≡ length ps
-length-standing ps n t = length-restood ps n (slice_get ps n) t
-
 -- a delivery leaves the theories, the opening and whether the work was stopped, and loses no promise
 pub delivered-keeps : {G C O : Type 0} (s : State G C O) (m : ℕ) (o : O) (fault : Bool) → ((after s (Deliver m o fault)).theories ≡ s.theories) × ((after s (Deliver m o fault)).stopped ≡ s.stopped) × (length (after s (Deliver m o fault)).promises ≡ length s.promises)
 delivered-keeps {G} {C} {O} s m o fault = by_flag (is_cancelled_promise (slice_get s.promises m))
@@ -155,7 +142,7 @@ promises-grow s Stop = omega arith
 
 -- a promise that was there is there
 pub promise-there_after : {G C O : Type 0} (s : State G C O) (e : Event G C O) (n : ℕ) (p : Promise G O) → Stands s n p → (q : Promise G O) × Stands (after s e) n q
-promise-there_after s e n p at = there_below (after s e).promises n (let within = slice_get_within s.promises n p at in let more = promises-grow s e in omega arith)
+promise-there_after s e n p at = element_there (after s e).promises n (let within = slice_get_within s.promises n p at in let more = promises-grow s e in omega arith)
 
 -- each theory of the state after an event came to be so by the event
 pub came : {G C O : Type 0} (s : State G C O) (e : Event G C O) (i : ℕ) (q : Progress C) → theory_at (after s e).theories i ≡ Some q → Came s e i q
@@ -175,10 +162,6 @@ came s (CloseTheory j c) i q at = elim (theory-changed s.theories j (closed_by (
 came s (Deliver n o fault) i q at = left_so (subst (λ ts. theory_at ts i ≡ Some q) (delivered-keeps s n o fault).0 at) tt
 came s Stop i q at = left_so at tt
 
-length-progress : {C : Type 0} (ts : List (Progress C)) (j : ℕ) (p : Progress C) → length (with_progress ts j p) ≡ length ts
-length-progress ts zero p = refl
-length-progress ts (suc j) p = length-set_there ts j p
-
 -- there are as many theories as before
 pub theories-as_many : {G C O : Type 0} (s : State G C O) (e : Event G C O) → length (after s e).theories ≡ length s.theories
 theories-as_many s (TakeTheory j) = length-progress s.theories j (Running 0)
@@ -191,7 +174,7 @@ theories-as_many s Stop = refl
 theory-there_set : {C : Type 0} (ts : List (Progress C)) (j : ℕ) (p : Progress C) (i : ℕ) (q : Progress C) → theory_at ts i ≡ Some q → (r : Progress C) × (theory_at (with_progress ts j p) i ≡ Some r)
 theory-there_set ts zero p i q at = (q, at)
 theory-there_set ts (suc j) p zero q at = absurd (none-some q at)
-theory-there_set ts (suc j) p (suc i) q at = there_below (set ts j p) i (let within = slice_get_within ts i q at in let same = length-set_there ts j p in omega arith)
+theory-there_set ts (suc j) p (suc i) q at = element_there (set ts j p) i (let within = slice_get_within ts i q at in let same = length-set ts j p in omega arith)
 
 -- a theory that was there is there
 pub theory-there_after : {G C O : Type 0} (s : State G C O) (e : Event G C O) (i : ℕ) (q : Progress C) → theory_at s.theories i ≡ Some q → (r : Progress C) × (theory_at (after s e).theories i ≡ Some r)

@@ -7,13 +7,15 @@ use Rattle.pure_text.proofs.ListLaws.{in-append_left, in-append_right, each-appe
 use Rattle.pure_machine.specs.Policy.{Opening}
 use Rattle.pure_machine.specs.State.{Progress, Waiting, Running, Closed, Promise, Standing, Ready, Taken, Settled, Cancelled, Event, TakeTheory, TakeProof, Fork, CloseTheory, Deliver, Stop, theory_at, is_settled, opened}
 use Rattle.pure_machine.specs.Step.{Stands, IsOut, IsOver, IsClosed, IsFinished, Allows, IsRunFrom, stops, after, after_all}
+use Rattle.pure_machine.proofs.FinishLaws.{element_there}
 use Rattle.pure_core.specs.Legal.{IsLegal}
 use Rattle.pure_core.proofs.KeptLaws.{IsKept, kept-opened, kept-after_all}
 use Rattle.pure_core.proofs.RunLaws.{run-append, history-after_all, opening-after_all}
+use Rattle.pure_core.proofs.PlaceLaws.{closed_there, each_there}
 use Rattle.pure_seats.specs.Seats.{events_of, own, state_of, IsOfTaken, IsNumberedRun, MayEnter, HasNothingOpen, IsTake, IsOrderlySeat, HasTheory, forks_in, IsVain}
-use Rattle.pure_seats.proofs.SplitLaws.{split_in, cut_last, either_first, there_below, run-front, run-rest, events-append, events-in, entered-by, own-append, own-in, in-own, state-append, stops-append, forks-append}
+use Rattle.pure_seats.proofs.SplitLaws.{split_in, cut_last, either_first, run-front, run-rest, events-append, events-in, entered-by, own-append, own-in, in-own, state-append, stops-append, forks-append}
 use Rattle.pure_seats.proofs.ToldLaws.{IsTold, told-legal, opened-history, opened-opening}
-use Rattle.pure_seats.proofs.StayLaws.{IsDone, IsLater, promise-stays, closed-stays, done-stays, vain-done, goes_on-stays, each_there, closed_there}
+use Rattle.pure_seats.proofs.StayLaws.{IsDone, IsLater, promise-stays, closed-stays, done-stays, vain-done, goes_on-stays}
 use Rattle.pure_seats.proofs.FewLaws.{few_stops}
 
 -- a cut of two lists, one after the other, is within the one or the other
@@ -196,7 +198,7 @@ module _ {G C O : Type 0} (forks : ℕ → ℕ → G → Type 0) (closes : ℕ �
   pub taken-there : (o : Opening) (acts : List (ℕ × Event G C O)) (seat : ℕ) → Run o acts → ((i : ℕ) → IsIn (TakeTheory i) (own seat acts) → (q : Progress C) × (theory_at (state_of o acts).theories i ≡ Some q)) × ((n : ℕ) → IsIn (TakeProof n) (own seat acts) → (p : Promise G O) × Stands (state_of o acts) n p)
   taken-there o acts seat r = (
     λ i m. (run-told o acts r).begun i (in_history (TakeTheory i) m),
-    λ n m. there_below (state_of o acts).promises n ((run-told o acts r).promised n (in_history (TakeProof n) m)),
+    λ n m. element_there (state_of o acts).promises n ((run-told o acts r).promised n (in_history (TakeProof n) m)),
   )
     where
       in_history : (e : Event G C O) → IsIn e (own seat acts) → IsIn e (state_of o acts).history

@@ -1,5 +1,5 @@
 -- Runs cut in two, where an element stands in a list, and the events of one seat.
-use Rattle.std.proofs.Common.{◌≡◌, ◌∙◌, ◌<◌, ℕ, zero, suc, ◌+◌, List, [], ◌∷◌, ◌++◌, length, refl, sym, ap, arith, nat_eq, Bool, true, false, if◌then◌else◌, Some, slice_get, inl, inr, ◌⊎◌}
+use Rattle.std.proofs.Common.{◌≡◌, ◌∙◌, ℕ, ◌+◌, List, [], ◌∷◌, ◌++◌, refl, sym, ap, arith, nat_eq, Bool, true, false, if◌then◌else◌, inl, inr, ◌⊎◌}
 use Rattle.std.proofs.lemmas.List.{map-append}
 use Rattle.std.proofs.lemmas.Bool.{eqb-true, eq-eqb}
 use Rattle.pure_text.specs.Lists.{IsIn}
@@ -35,12 +35,6 @@ cut_last (z ∷ xs) y (b ∷ bs) after x e = elim (cut_last xs y bs after x (cc)
 -- an element before another, both of which stand in a list, or behind it, or they are one
 pub either_first : {A : Type 0} (x y : A) (before after : List A) → IsIn y (before ++ x ∷ after) → IsIn y before ⊎ ((y ≡ x) ⊎ IsIn y after)
 either_first x y before after m = elim (in_split y before (x ∷ after) m) [ inl old ↦ inl old | inr new ↦ inr new ]
-
--- what stands within a list
-pub there_below : {A : Type 0} (xs : List A) (n : ℕ) → n < length xs → (x : A) × (slice_get xs n ≡ Some x)
-there_below [] n within = absurd (omega (arith, within))
-there_below (x ∷ xs) zero within = (x, refl)
-there_below (x ∷ xs) (suc n) within = there_below xs n (omega (arith, within))
 
 module _ {G C O : Type 0} (forks : ℕ → ℕ → G → Type 0) (closes : ℕ → ℕ → C → Type 0) (may : G → O → Type 0) (is_fault : O → Bool) where
   pub run-front : (s : State G C O) (es fs : List (Event G C O)) → IsRunFrom forks closes may is_fault s (es ++ fs) → IsRunFrom forks closes may is_fault s es

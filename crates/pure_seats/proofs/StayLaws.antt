@@ -1,10 +1,11 @@
 -- What stays in later states of a legal run.
-use Rattle.std.proofs.Common.{◌≡◌, ◌∙◌, ℕ, zero, suc, List, [], ◌∷◌, refl, sym, ap, subst, arith, Bool, true, false, Some, slice_get, inl, inr, ◌⊎◌}
-use Rattle.std.proofs.lemmas.Option.{same_Some, none-some, slice_get_within}
+use Rattle.std.proofs.Common.{◌≡◌, ◌∙◌, ℕ, List, [], ◌∷◌, refl, sym, ap, subst, arith, Bool, true, false, Some, inl, inr, ◌⊎◌}
+use Rattle.std.proofs.lemmas.Option.{same_Some, slice_get_within}
 use Rattle.pure_text.specs.Lists.{Each}
 use Rattle.pure_machine.specs.State.{Progress, Waiting, Running, Promise, Standing, Ready, Taken, Settled, Cancelled, Event, TakeTheory, TakeProof, Fork, CloseTheory, Deliver, Stop, State, theory_at, is_settled}
 use Rattle.pure_machine.specs.Step.{Stands, IsOver, IsClosed, Allows, IsRunFrom, stops, is_cancelled_standing, is_cancelled_promise, after, after_all}
 use Rattle.pure_core.proofs.KeptLaws.{IsKept, kept-after, delivered_state}
+use Rattle.pure_core.proofs.PlaceLaws.{closed_there, each_there}
 use Rattle.pure_seats.specs.Seats.{IsVain}
 use Rattle.pure_seats.proofs.ChangeLaws.{Became, stayed, was_forked, was_taken, was_settled, was_cancelled, became, Came, left_so, began, went_on, ended, came, allowed_there, promise-there_after, theory-there_after, delivered-keeps}
 use Rattle.pure_seats.proofs.ToldLaws.{IsTold, told-after, take-ready, take-waits, fork-runs, close-runs, deliver-out}
@@ -15,16 +16,6 @@ over-cases Ready over = absurd over
 over-cases Taken over = absurd over
 over-cases (Settled o) over = inl refl
 over-cases Cancelled over = inr refl
-
--- what each element of a list has, one at a place has
-pub each_there : {A : Type 0} (P : A → Type 0) (xs : List A) (n : ℕ) (x : A) → Each P xs → slice_get xs n ≡ Some x → P x
-each_there P [] n x each at = absurd (none-some x at)
-each_there P (y ∷ xs) zero x each at = subst P (same_Some y x at) each.0
-each_there P (y ∷ xs) (suc n) x each at = each_there P xs n x each.1 at
-
-pub closed_there : {C : Type 0} (ts : List (Progress C)) (i : ℕ) (q : Progress C) → Each IsClosed ts → theory_at ts i ≡ Some q → IsClosed q
-closed_there ts zero q each at = absurd (none-some q at)
-closed_there ts (suc i) q each at = each_there IsClosed ts i q each at
 
 -- what became of a promise in a later state
 pub record IsLater {G O : Type 0} (p q : Promise G O) : Type 0 where
