@@ -7,7 +7,7 @@ ghost use Rattle.pure_promise.specs.Seen.{seen, reported};
 ghost use Rattle.pure_promise.specs.RowText as spec;
 
 use crate::entry::Entry;
-use crate::find::place_of;
+use pure_fates::place_of;
 use pure_term::{Label, Name, Names};
 use std::alloc::AllocError;
 
