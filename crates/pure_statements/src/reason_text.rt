@@ -158,7 +158,7 @@ fn push_words(text: &mut Vec<u8>, reason: Reason) -> Result<(), AllocError>
 }
 
 /// Appends the text of the reason.
-pub(crate) fn push_reason(
+pub fn push_reason(
     alloc: Global,
     text: &mut Vec<u8>,
     names: &Names,
