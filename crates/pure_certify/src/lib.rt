@@ -11,6 +11,7 @@ mod typ;
 
 pub use constant::fault_of_const;
 pub use fault::CertFault;
+pub use matching::match_typ;
 pub use tables::Tables;
 pub use term::{certify, fault_of_term};
 pub use typ::fault_of_typ;

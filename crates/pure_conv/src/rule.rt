@@ -6,7 +6,7 @@ ghost use Rattle.pure_definitions.specs.Terms.Subst.{IsTypMap, AreSortRespecting
 ghost use Rattle.pure_unfold.specs.Unfold.{HasVariable, HasExtra, HasExtraTyp, IsDefinition, IsNoDefinition};
 ghost use Rattle.pure_conv.specs.Rules.{puts, IsNoConstant};
 
-use crate::matching::match_typ;
+use pure_certify::match_typ;
 use pure_order::Order;
 use pure_term::{Name, Term, TermNode, Typ, TypBind, TypMap, TypNode};
 use pure_theorem::as_equation;
