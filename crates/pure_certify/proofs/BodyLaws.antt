@@ -1,7 +1,7 @@
 -- Type variables of a type that another lacks, over a list of types; and what a denied test says.
 use Rattle.std.proofs.Common.{◌≡◌, ◌↔◌, ℕ, zero, suc, ◌+◌, ◌<◌, List, [], ◌∷◌, Bool, true, false, not, IsTrue, length, get_or, take, refl, sym, subst, inl, inr, true≢false, arith}
 use Rattle.pure_definitions.specs.Types.Typ.{Typ, typs_of}
-use Rattle.pure_unfold.specs.Unfold.{HasExtra, HaveExtra}
+use Rattle.pure_certify.specs.Bodies.{HasExtra, HaveExtra}
 
 pub extra-item : (T : Typ) (ts : List Typ) (i : ℕ) (t : Typ) → i < length ts → t ≡ get_or ts i t → HasExtra T t → HaveExtra T (typs_of ts)
 extra-item T [] i t h e o = absurd (omega arith)

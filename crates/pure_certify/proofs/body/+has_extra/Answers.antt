@@ -1,7 +1,7 @@
 use Rattle.std.proofs.lemmas.List.{take_all}
 use Rattle.pure_text.proofs.AnswerLaws.{yes_as, no_as, test_fails}
-use Rattle.pure_conv.proofs.ExtraLaws.{extra-item, extra-next, denied}
-use Rattle.pure_conv.proofs.rule.+has_extra.Goals as goal
+use Rattle.pure_certify.proofs.BodyLaws.{extra-item, extra-next, denied}
+use Rattle.pure_certify.proofs.body.+has_extra.Goals as goal
 
 pub returns-in-TFree : goal.returns-in-TFree
 returns-in-TFree t c = rw (← c.t.view_is, c.in-TFree.is) (denied _ c.occurs_in_typ.result (rw (← c.t.view_is, c.in-TFree.is) at c.occurs_in_typ.ensures))
