@@ -1,7 +1,7 @@
 use Rattle.std.proofs.Common.{sym, subst}
 use Rattle.pure_definitions.specs.Reduction.Eta.{IsLongForm}
 use Rattle.pure_eta.proofs.LongLaws.{long_form-is}
-use Rattle.pure_goal_rules.proofs.long.lengthened.Goals as goal
+use Rattle.pure_eta.proofs.long.lengthened.Goals as goal
 
 pub returns : goal.returns
 returns c =
