@@ -3,3 +3,4 @@ pub mod Matching
 pub mod Parts
 pub mod Answer
 pub mod Laws
+pub mod Bodies

@@ -1,5 +1,4 @@
 pub mod AnswerLaws
-pub mod ExtraLaws
 pub mod RuleLaws
 pub mod UnfoldingLaws
 pub mod GivenLaws

@@ -3,7 +3,6 @@
 
 mod constants;
 mod fault;
-mod matching;
 mod rule;
 mod simple;
 mod unfolding;

@@ -3,14 +3,13 @@ ghost use Rattle.std.specs.Prelude.{◌≡◌, ◌↔◌, IsTrue, IfOk, MatchOpt
 ghost use Rattle.pure_definitions.specs.Types.Order.{IsOfSort};
 ghost use Rattle.pure_definitions.specs.Terms.Term as tree;
 ghost use Rattle.pure_definitions.specs.Terms.Subst.{IsTypMap, AreSortRespecting, typ_image, inst_typ};
-ghost use Rattle.pure_unfold.specs.Unfold.{HasVariable, HasExtra, HasExtraTyp, IsDefinition, IsNoDefinition};
+ghost use Rattle.pure_unfold.specs.Unfold.{IsDefinition, IsNoDefinition};
 ghost use Rattle.pure_conv.specs.Rules.{puts, IsNoConstant};
 
-use crate::matching::match_typ;
+use pure_certify::{has_extra_typ, has_variable, match_typ};
 use pure_order::Order;
-use pure_term::{Name, Term, TermNode, Typ, TypBind, TypMap, TypNode};
+use pure_term::{Name, Term, TermNode, Typ, TypBind, TypMap};
 use pure_theorem::as_equation;
-use pure_typ::occurs_in_typ;
 use std::alloc::{AllocError, Global};
 
 /// A definition over classes and arities: the constant, its type, and what it is defined to be.
@@ -20,52 +19,6 @@ pub struct Rule<'r> {
     pub name: Name,
     pub typ: &'r Typ,
     pub body: &'r Term,
-}
-
-/// Whether the term has a fixed or a schematic variable.
-fn has_variable(t: &Term) -> bool
-    ensures { IsTrue result ↔ HasVariable t.now }
-{
-    match &t.node {
-        TermNode::Const { .. } => false,
-        TermNode::Free { .. } => true,
-        TermNode::Var { .. } => true,
-        TermNode::Bound { .. } => false,
-        TermNode::Abs { body, .. } => has_variable(body),
-        TermNode::App { fun, arg } => has_variable(fun) || has_variable(arg),
-    }
-}
-
-/// Whether the second type has a type variable that the first lacks.
-fn has_extra(typ: &Typ, t: &Typ) -> bool
-    ensures { IsTrue result ↔ HasExtra typ.now t.now }
-{
-    match &t.node {
-        TypNode::TFree { .. } => !occurs_in_typ(t, typ),
-        TypNode::TVar { .. } => !occurs_in_typ(t, typ),
-        TypNode::Con { args, .. } => {
-            for arg in args {
-                if has_extra(typ, arg) {
-                    return true;
-                }
-            }
-            false
-        }
-    }
-}
-
-/// Whether a type in the term has a type variable that the type lacks.
-fn has_extra_typ(typ: &Typ, t: &Term) -> bool
-    ensures { IsTrue result ↔ HasExtraTyp typ.now t.now }
-{
-    match &t.node {
-        TermNode::Const { typ: own, .. } => has_extra(typ, own),
-        TermNode::Free { typ: own, .. } => has_extra(typ, own),
-        TermNode::Var { typ: own, .. } => has_extra(typ, own),
-        TermNode::Bound { .. } => false,
-        TermNode::Abs { typ: own, body } => has_extra(typ, own) || has_extra_typ(typ, body),
-        TermNode::App { fun, arg } => has_extra_typ(typ, fun) || has_extra_typ(typ, arg),
-    }
 }
 
 /// The name and the type of a constant.

@@ -9,3 +9,4 @@ pub mod WrapLaws
 pub mod KeptLaws
 pub mod CertifiedLaws
 pub mod FormLaws
+pub mod OwnLaws

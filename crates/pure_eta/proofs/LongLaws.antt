@@ -29,7 +29,7 @@ pub record IsLong (bs : List Typ) (t u : Term) (T : Typ) : Type 0 where
   pub count : abstraction_count u ≡ arrow_count T
   pub parts : HasSaturatedParts bs u
 
-no_abstraction : (t : Term) → ¬ IsAbs t → abstraction_count t ≡ 0
+pub no_abstraction : (t : Term) → ¬ IsAbs t → abstraction_count t ≡ 0
 no_abstraction (Const c T) n = refl
 no_abstraction (Free x T) n = refl
 no_abstraction (Var x i T) n = refl

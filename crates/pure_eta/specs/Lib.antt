@@ -3,3 +3,4 @@ pub mod LongTerm
 pub mod Fits
 pub mod Answer
 pub mod LawsEta
+pub mod OwnForm

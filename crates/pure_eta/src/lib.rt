@@ -6,6 +6,8 @@ mod fits;
 mod front;
 pub mod laws;
 mod long;
+mod own;
 
 pub use eta::eta_norm;
-pub use long::long_form;
+pub use long::{lengthened, long_form};
+pub use own::is_own_long_form;

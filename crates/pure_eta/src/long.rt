@@ -4,7 +4,7 @@ ghost use Rattle.pure_definitions.specs.Terms.Term as term;
 ghost use Rattle.pure_definitions.specs.Terms.Bounds.{lift_term};
 ghost use Rattle.pure_definitions.specs.Terms.Typing.{HasType};
 ghost use Rattle.pure_definitions.specs.Reduction.Beta.{IsBetaNormal};
-ghost use Rattle.pure_definitions.specs.Reduction.Eta.{arrow_count};
+ghost use Rattle.pure_definitions.specs.Reduction.Eta.{arrow_count, IsLongForm};
 ghost use Rattle.pure_definitions.specs.Types.Typ as tree;
 ghost use Rattle.pure_term.specs.Scope.{scope_typs};
 ghost use Rattle.pure_eta.specs.LongTerm.{front_typ, expanded, wrapped, expanded_at, long_term};
@@ -27,6 +27,17 @@ pub fn long_form(alloc: Global, t: &Term) -> Result<Term, Grow>
         return Err(Grow::Big);
     };
     Ok(lengthen(alloc, t, &scope, false)?)
+}
+
+/// The long form of a beta-normal term that has a type under no binders. It isn't limited.
+pub fn lengthened(alloc: Global, t: &Term) -> Result<Term, AllocError>
+    requires typed { (T : tree.Typ) × HasType [] t.now T }
+    requires normal { IsBetaNormal t.now }
+    ensures { IfOk result (IsLongForm t.now) }
+{
+    let scope = Scope::Empty;
+    let long = lengthen(alloc, t, &scope, false)?;
+    Ok(long)
 }
 
 /// The long form of the term in its scope, as a function that is applied or not.

@@ -3,10 +3,12 @@
 
 mod entry;
 mod fate;
+mod find;
 pub mod laws;
 mod reach;
 mod rows;
 
 pub use entry::Reported;
 pub use fate::{Fate, fate_of, is_proved};
+pub use find::place_of;
 pub use reach::{Reach, reaches};

@@ -1,16 +1,15 @@
 //! What lemmas reach: one walk through the lemmas in order of their labels.
 ghost use Rattle.std.specs.Prelude.{◌≡◌, ◌<◌, [], ◌∷◌, ◌++◌, ℕ, List, length, map, IfOk};
-ghost use Rattle.pure_text.specs.Lists.{IsIn, Each};
+ghost use Rattle.pure_text.specs.Lists.{Each};
 ghost use Rattle.pure_definitions.specs.Names as tree;
-ghost use Rattle.pure_theorem.specs.Sets.{label_cmp, IsLabelSet};
 ghost use Rattle.pure_fates.specs.Entries.{Entry, AreEntries};
 ghost use Rattle.pure_fates.specs.Reach.{IsAt, IsReach, IsReachOf, IsWide, AreReaches, IsKnown};
 
 use crate::entry::Reported;
+use crate::find::place_of;
 use crate::rows::{put_place, put_row};
 use pure_typ::Label;
 use std::alloc::{AllocError, Global};
-use std::cmp::Ordering;
 use std::marker::Model;
 
 /// What a lemma reaches, or some labels: the places of failed lemmas as bits, and whether there is a cancelled one.
@@ -26,34 +25,6 @@ impl Model for Reach {
     ghost Value = { seen.Reach };
 
     ghost view = { λ r. record { row = r.faults.items; mark = r.cancelled } };
-}
-
-/// The order of two labels: by theory, then by command, then by part.
-fn compare_labels(left: &Label, right: &Label) -> Ordering
-    ensures { result ≡ label_cmp left.now right.now }
-{
-    left.theory.cmp(&right.theory).then(
-        left.command
-            .cmp(&right.command)
-            .then(left.part.cmp(&right.part)),
-    )
-}
-
-/// The place of the lemma of this label, among some whose labels ascend.
-fn place_of<E: Reported>(entries: &[E], label: Label) -> usize
-    requires ascend { IsLabelSet (map Entry.label (map E.entry entries.now)) }
-    requires stands { IsIn label (map Entry.label (map E.entry entries.now)) }
-    ensures { (e : Entry) × IsAt (map E.entry entries.now) result e × (e.label ≡ label) }
-{
-    let (mut low, mut high) = (0, entries.len());
-    while low < high {
-        let middle = low + (high - low) / 2;
-        match compare_labels(&entries[middle].label(), &label) {
-            Ordering::Less => low = middle + 1,
-            _ => high = middle,
-        }
-    }
-    low
 }
 
 impl Reach {

@@ -1,5 +1,5 @@
 -- Facts as rules, in the course of being made.
-use Rattle.std.specs.Prelude.{◌≡◌, ℕ, List, [], ◌++◌, Bool, Option}
+use Rattle.std.specs.Prelude.{◌≡◌, ℕ, List, [], ◌++◌}
 use Rattle.pure_definitions.specs.Types.Typ.{Typ}
 use Rattle.pure_definitions.specs.Terms.Term.{Term}
 use Rattle.pure_definitions.specs.Terms.Typing.{HasType}
@@ -7,7 +7,6 @@ use Rattle.pure_definitions.specs.Terms.Subst.{term_instance}
 use Rattle.pure_definitions.specs.Reduction.Beta.{IsBetaNormal}
 use Rattle.pure_definitions.specs.Reduction.Eta.{IsLongForm}
 use Rattle.pure_logic.specs.Laws.Maps.{raised_typs, raised_terms}
-use Rattle.pure_eta.specs.LongTerm.{expanded_at, long_term}
 use Rattle.pure_goal_steps.specs.Reading.{Strips}
 
 -- Behind the premises that were there the rule is stripped to further ones, so that these are all, and to this conclusion.
@@ -21,15 +20,6 @@ pub record IsFactProposition (A : Term) : Type 0 where
   pub typ : Typ
   pub typed : HasType [] A typ
   pub normal : IsBetaNormal A
-
--- What is expanded at this type, as a function that is applied or not, stays as it is.
-abbrev pub StaysUnexpanded : (applied : Bool) → Option Typ → Type 0
-StaysUnexpanded applied T = (t : Term) → expanded_at applied T t ≡ t
-
--- The term under these binders, as a function that is applied or not, is beta-normal, and nothing in it is expanded.
-pub record IsOwnLongTerm (applied : Bool) (bs : List Typ) (t : Term) : Type 0 where
-  pub long : long_term applied bs t ≡ t
-  pub normal : IsBetaNormal t
 
 -- The other term is the long form of the proposition, with its indexes raised.
 pub record IsRaisedForm (by : ℕ) (A u : Term) : Type 0 where

@@ -3,7 +3,6 @@
 
 mod attempt;
 mod build;
-mod index;
 mod item;
 mod lifting;
 mod long;

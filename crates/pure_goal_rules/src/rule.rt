@@ -6,10 +6,10 @@ ghost use Rattle.pure_goal_steps.specs.Reading.{IsRuleOf};
 ghost use Rattle.pure_goal_rules.specs.Rules.{IsFactProposition, IsRaisedForm};
 
 use crate::build::one_more;
-use crate::index::theorem_index_above;
-use crate::long::{is_own_long_form, lengthened};
 use crate::raising::raised;
 use crate::stripping::strip;
+use pure_eta::{is_own_long_form, lengthened};
+use pure_pairs::theorem_index_above;
 use pure_term::Term;
 use pure_theorem::Thm;
 use std::alloc::{AllocError, Global};

@@ -10,6 +10,7 @@ mod scope;
 mod theorem;
 mod trivial;
 
+pub use index::theorem_index_above;
 pub use modulo::{PairDiffers, equal_modulo};
 pub use theorem::smash;
 pub use trivial::drop_trivial;

@@ -9,6 +9,10 @@ use Rattle.pure_typ.specs.NameTexts.{name_texts}
 abbrev pub name_text : (mark : List ℕ) → (texts : List (List ℕ)) → (name : ℕ) → List ℕ
 name_text mark texts name = unwrap_or (slice_get (name_texts texts) name) (mark ++ decimal (name - length (name_texts texts)))
 
+-- The text of a name that has one, as that of a lemma or of what is declared; and nothing for one above the table.
+abbrev pub text_of_name : (texts : List (List ℕ)) → (name : ℕ) → List ℕ
+text_of_name texts name = unwrap_or (slice_get (name_texts texts) name) []
+
 -- The marks of fresh names: `_v` in terms, and `'_` in types, where the apostrophe of a type variable is that of the mark.
 abbrev pub fresh_term : List ℕ
 fresh_term = codes "_v"

@@ -1,7 +1,7 @@
 //! Names, indexes and sorts as they are printed.
 ghost use Rattle.std.specs.Prelude.{◌≡◌, ◌-◌, ◌++◌, length, slice_get, OnOk, None};
 ghost use Rattle.pure_typ.specs.NameTexts.{name_texts};
-ghost use Rattle.pure_print.specs.NameText.{name_text, term_name_text, typ_name_text, typ_variable_text, index_text, more_classes_text, sort_text};
+ghost use Rattle.pure_print.specs.NameText.{name_text, text_of_name, term_name_text, typ_name_text, typ_variable_text, index_text, more_classes_text, sort_text};
 
 use crate::number::push_number;
 use pure_term::{Name, Names};
@@ -38,6 +38,19 @@ fn push_name(text: &mut Vec<u8>, names: &Names, mark: &[u8], name: Name) -> Resu
             push_number(text, number_above(names, name.0) as usize)?;
             Ok(())
         }
+    }
+}
+
+/// Appends the text of the name, if it has one.
+pub fn push_text_of_name(text: &mut Vec<u8>, names: &Names, name: Name) -> Result<(), AllocError>
+    ensures { OnOk result (text.new.items ≡ text.old.items ++ text_of_name names.now name) }
+{
+    match names.text(name) {
+        Some(found) => {
+            text.extend_from_slice(found)?;
+            Ok(())
+        }
+        None => Ok(()),
     }
 }
 

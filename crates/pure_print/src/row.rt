@@ -27,6 +27,21 @@ pub struct Row {
     pub tail: Text,
 }
 
+impl Row {
+    /// An equal row.
+    pub fn copy(&self, alloc: Global) -> Result<Row, AllocError>
+        ensures { IfOk result (λ copy. copy ≡ self.now) }
+    {
+        let head = self.head.copy(alloc)?;
+        let tail = self.tail.copy(alloc)?;
+        Ok(Row {
+            status: self.status,
+            head,
+            tail,
+        })
+    }
+}
+
 /// The statuses in the order of the last line.
 const STATUSES: [RowStatus; 7] = [
     RowStatus::Declared,

@@ -16,7 +16,8 @@ use Rattle.pure_fates.proofs.PlaceLaws.{at-in, at-once, at-read}
 use Rattle.pure_fates.proofs.CodeLaws.{at-seen}
 use Rattle.pure_promise.specs.declared.entry.Entry.{Entry}
 use Rattle.pure_promise.specs.Seen.{seen, reported}
-use Rattle.pure_promise.specs.RowText.{text_of_name, label_text}
+use Rattle.pure_print.specs.NameText.{text_of_name}
+use Rattle.pure_promise.specs.RowText.{label_text}
 
 -- a turn of a search for a label, and its end
 pub told_same : (labels : List Label) (i : ℕ) (r l : Label) → i < length labels → r ≡ get_or labels i r → (b : Bool) → b ≡ label_eq r l → b ≡ true → IsIn l labels

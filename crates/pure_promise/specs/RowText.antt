@@ -1,8 +1,7 @@
 -- The rows of lemmas.
-use Rattle.std.specs.Prelude.{ℕ, List, [], ◌∷◌, ◌++◌, Option, Some, None, Ok, Err, codes, slice_get, unwrap_or, if◌then◌else◌}
+use Rattle.std.specs.Prelude.{ℕ, List, [], ◌∷◌, ◌++◌, Option, Some, None, Ok, Err, codes, if◌then◌else◌}
 use Rattle.std.specs.Fmt.{decimal}
 use Rattle.pure_definitions.specs.Names.{Label}
-use Rattle.pure_typ.specs.NameTexts.{name_texts}
 use Rattle.pure_stage.specs.Same.{label_eq}
 use Rattle.pure_goal_steps.specs.declared.fault.StepFault.{StepFault}
 use Rattle.pure_goal_steps.specs.declared.fault.StepFault.TheVariants as step
@@ -10,6 +9,7 @@ use Rattle.pure_fates.specs.Entries.{Fate, Proved, Failed, Tainted, Gone, Unsett
 use Rattle.pure_print.specs.declared.row.Row.{Row}
 use Rattle.pure_print.specs.declared.row.RowStatus.{RowStatus}
 use Rattle.pure_print.specs.declared.row.RowStatus.TheVariants as status
+use Rattle.pure_print.specs.NameText.{text_of_name}
 use Rattle.pure_print.specs.TermText.{term_text}
 use Rattle.pure_method.specs.Proof.{ProofOutcome}
 use Rattle.pure_promise.specs.Entries.{Entry}
@@ -41,10 +41,6 @@ step_word = codes ": step "
 
 unfoldable pub by_word : List ℕ
 by_word = codes ": by "
-
--- the text of a name; the name of a lemma has one
-abbrev pub text_of_name : (texts : List (List ℕ)) → ℕ → List ℕ
-text_of_name texts n = unwrap_or (slice_get (name_texts texts) n) []
 
 -- the name of the lemma with this label
 abbrev pub label_text : (texts : List (List ℕ)) → List Entry → Label → List ℕ

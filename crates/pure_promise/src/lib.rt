@@ -3,7 +3,6 @@
 
 mod entry;
 mod fault_text;
-mod find;
 mod joining;
 pub mod laws;
 mod lemma_rows;

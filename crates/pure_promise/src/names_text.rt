@@ -7,22 +7,10 @@ ghost use Rattle.pure_promise.specs.Seen.{seen, reported};
 ghost use Rattle.pure_promise.specs.RowText as spec;
 
 use crate::entry::Entry;
-use crate::find::place_of;
-use pure_term::{Label, Name, Names};
+use pure_fates::place_of;
+use pure_print::push_text_of_name;
+use pure_term::{Label, Names};
 use std::alloc::AllocError;
-
-/// Appends the text of the name.
-pub(crate) fn push_name(text: &mut Vec<u8>, names: &Names, name: Name) -> Result<(), AllocError>
-    ensures { OnOk result (text.new.items ≡ text.old.items ++ spec.text_of_name names.now name) }
-{
-    match names.text(name) {
-        Some(found) => {
-            text.extend_from_slice(found)?;
-            Ok(())
-        }
-        None => Ok(()),
-    }
-}
 
 /// Appends the name of the lemma with this label.
 fn push_label(
@@ -36,7 +24,7 @@ fn push_label(
     ensures { OnOk result (text.new.items ≡ text.old.items ++ spec.label_text names.now (seen entries.now) label) }
 {
     let place = place_of(entries, label);
-    push_name(text, names, entries[place].name)?;
+    push_text_of_name(text, names, entries[place].name)?;
     Ok(())
 }
 

@@ -5,6 +5,7 @@ ghost use Rattle.pure_fates.specs.Entries as fates;
 ghost use Rattle.pure_fates.specs.Entries.{AreEntries, IsFate};
 ghost use Rattle.pure_fates.specs.Seen.{seen_fate};
 ghost use Rattle.pure_theorem.specs.Sets.{IsLabelSet};
+ghost use Rattle.pure_print.specs.NameText.{text_of_name};
 ghost use Rattle.pure_print.specs.TermText.{term_text};
 ghost use Rattle.pure_promise.specs.declared.entry.Own.TheVariants as own;
 ghost use Rattle.pure_promise.specs.Seen.{seen, seen_own, seen_entry, reported};
@@ -12,19 +13,19 @@ ghost use Rattle.pure_promise.specs.RowText as spec;
 
 use crate::entry::{Entry, Own};
 use crate::fault_text::fault_words;
-use crate::names_text::{push_labels, push_name};
+use crate::names_text::push_labels;
 use pure_fates::Fate;
 use pure_goal_steps::StepFault;
-use pure_print::{Row, RowStatus, print_term};
+use pure_print::{Row, RowStatus, print_term, push_text_of_name};
 use pure_term::{Label, Name, Names, Term, Text};
 use std::alloc::{AllocError, Global};
 
 /// The text of a lemma's name.
 fn head_of(alloc: Global, names: &Names, name: Name) -> Result<Text, AllocError>
-    ensures { IfOk result (λ text. text ≡ spec.text_of_name names.now name) }
+    ensures { IfOk result (λ text. text ≡ text_of_name names.now name) }
 {
     let mut text = Vec::new(alloc);
-    push_name(&mut text, names, name)?;
+    push_text_of_name(&mut text, names, name)?;
     Ok(Text::from(text))
 }
 

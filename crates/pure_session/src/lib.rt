@@ -14,5 +14,5 @@ mod texts;
 
 pub use loading::{Theories, load_theories};
 pub use order::Loaded;
-pub use reason::RefusedFile;
+pub use reason::{RefusedFile, parent_refused_text};
 pub use session::{Session, load};

@@ -39,8 +39,16 @@ fn syntax_text(alloc: Global, line: u32, column: u32) -> Result<Text, AllocError
     Ok(Text::from(text))
 }
 
+/// That the parent of this name was refused.
+#[tactic(auto, unfolding(pure_graph::specs::Session::parent_refused_text))]
+pub fn parent_refused_text(alloc: Global, parent: &[u8]) -> Result<Text, AllocError>
+    ensures { IfOk result (λ t. t ≡ spec.parent_refused_text ++ parent.now) }
+{
+    joined(alloc, b"parent refused ", parent)
+}
+
 /// The text of a reason.
-#[tactic(auto, unfolding(pure_graph::specs::Session::too_many_files_text, pure_graph::specs::Session::no_file_text, pure_graph::specs::Session::too_large_text, pure_graph::specs::Session::header_name_text, pure_graph::specs::Session::cyclic_imports_text, pure_graph::specs::Session::parent_refused_text))]
+#[tactic(auto, unfolding(pure_graph::specs::Session::too_many_files_text, pure_graph::specs::Session::no_file_text, pure_graph::specs::Session::too_large_text, pure_graph::specs::Session::header_name_text, pure_graph::specs::Session::cyclic_imports_text))]
 fn reason_text(alloc: Global, reason: &Reason) -> Result<Text, AllocError>
     ensures { IfOk result (λ t. t ≡ spec.reason_text reason.now) }
 {
@@ -51,7 +59,7 @@ fn reason_text(alloc: Global, reason: &Reason) -> Result<Text, AllocError>
         Reason::Syntax { line, column } => syntax_text(alloc, *line, *column),
         Reason::HeaderName => Text::make(alloc, b"header name"),
         Reason::CyclicImports => Text::make(alloc, b"cyclic imports"),
-        Reason::ParentRefused { theory } => joined(alloc, b"parent refused ", theory.bytes()),
+        Reason::ParentRefused { theory } => parent_refused_text(alloc, theory.bytes()),
     }
 }
 

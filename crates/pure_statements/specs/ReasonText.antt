@@ -1,7 +1,7 @@
 -- The texts of reasons.
-use Rattle.std.specs.Prelude.{ℕ, List, [], ◌∷◌, ◌++◌, codes, take, slice_get, unwrap_or}
+use Rattle.std.specs.Prelude.{ℕ, List, [], ◌∷◌, ◌++◌, codes, take}
 use Rattle.std.specs.Fmt.{decimal}
-use Rattle.pure_typ.specs.NameTexts.{name_texts}
+use Rattle.pure_print.specs.NameText.{text_of_name}
 use Rattle.pure_lex.specs.Lines.{line_behind, column_behind}
 use Rattle.pure_statements.specs.declared.reason.Reason.{Reason}
 use Rattle.pure_statements.specs.declared.reason.Reason.TheVariants.{Duplicate, UnknownClass, UnknownType, WrongCount, NotCoregular, Syntax, TooLong, UnknownNameAt, UnknownClassAt, WrongCountAt, SchematicAt, IllTyped, TooManySteps, TooLarge, NotDefinition, NotClosed, ExtraTypeVariable}
@@ -36,10 +36,6 @@ column_of source at = column_behind (take at source)
 -- both, with a colon between them
 abbrev pub place_text : (source : List ℕ) → (at : ℕ) → List ℕ
 place_text source at = decimal (line_of source at) ++ (58 ∷ decimal (column_of source at))
-
--- the text of a name; a name that is declared has one
-abbrev pub text_of_name : (texts : List (List ℕ)) → ℕ → List ℕ
-text_of_name texts n = unwrap_or (slice_get (name_texts texts) n) []
 
 -- what stands behind the words: the place, or the names
 abbrev pub reason_rest : (texts : List (List ℕ)) → (source : List ℕ) → Reason → List ℕ

@@ -2,9 +2,11 @@
 ghost use Rattle.std.specs.Prelude.{◌≡◌, ◌<◌, ◌-◌, ◌^◌, ◌++◌, ◌∷◌, length, take, OnOk};
 ghost use Rattle.std.specs.Fmt.{decimal};
 ghost use Rattle.pure_lex.specs.Lines as lines;
+ghost use Rattle.pure_print.specs.NameText.{text_of_name};
 ghost use Rattle.pure_statements.specs.ReasonText as spec;
 
 use crate::reason::Reason;
+use pure_print::push_text_of_name;
 use pure_typ::{Name, Names};
 use std::alloc::{AllocError, Global};
 
@@ -90,18 +92,6 @@ fn push_place(alloc: Global, text: &mut Vec<u8>, source: &[u8], at: u32) -> Resu
     Ok(())
 }
 
-fn push_name(text: &mut Vec<u8>, names: &Names, name: Name) -> Result<(), AllocError>
-    ensures { OnOk result (text.new.items ≡ text.old.items ++ spec.text_of_name names.now name) }
-{
-    match names.text(name) {
-        Some(found) => {
-            text.extend_from_slice(found)?;
-            Ok(())
-        }
-        None => Ok(()),
-    }
-}
-
 fn push_names(
     text: &mut Vec<u8>,
     names: &Names,
@@ -109,13 +99,13 @@ fn push_names(
     c1: Name,
     c2: Name,
 ) -> Result<(), AllocError>
-    ensures { OnOk result (text.new.items ≡ text.old.items ++ (spec.text_of_name names.now con ++ (32 ∷ (spec.text_of_name names.now c1 ++ (32 ∷ spec.text_of_name names.now c2))))) }
+    ensures { OnOk result (text.new.items ≡ text.old.items ++ (text_of_name names.now con ++ (32 ∷ (text_of_name names.now c1 ++ (32 ∷ text_of_name names.now c2))))) }
 {
-    push_name(text, names, con)?;
+    push_text_of_name(text, names, con)?;
     text.push(b' ')?;
-    push_name(text, names, c1)?;
+    push_text_of_name(text, names, c1)?;
     text.push(b' ')?;
-    push_name(text, names, c2)?;
+    push_text_of_name(text, names, c2)?;
     Ok(())
 }
 
@@ -158,7 +148,7 @@ fn push_words(text: &mut Vec<u8>, reason: Reason) -> Result<(), AllocError>
 }
 
 /// Appends the text of the reason.
-pub(crate) fn push_reason(
+pub fn push_reason(
     alloc: Global,
     text: &mut Vec<u8>,
     names: &Names,

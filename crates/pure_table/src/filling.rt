@@ -10,24 +10,11 @@ use pure_work::Closed;
 use std::alloc::{AllocError, Global};
 use std::sync::Arc;
 
-/// The row once more.
-fn copied(alloc: Global, row: &Row) -> Result<Row, AllocError>
-    ensures { IfOk result (λ copy. copy ≡ row.now) }
-{
-    let head = row.head.copy(alloc)?;
-    let tail = row.tail.copy(alloc)?;
-    Ok(Row {
-        status: row.status,
-        head,
-        tail,
-    })
-}
-
 /// Puts the row behind the others.
 fn put(alloc: Global, rows: &mut Vec<Row>, row: &Row) -> Result<(), AllocError>
     ensures { IfOk result (λ _. rows.new.items ≡ rows.old.items ++ (row.now ∷ [])) }
 {
-    let row = copied(alloc, row)?;
+    let row = row.copy(alloc)?;
     rows.push(row)?;
     Ok(())
 }

@@ -25,6 +25,6 @@ pub use fresh::{first_pair_with, first_with};
 pub use inference::{alone, from_one, from_two, within_limits};
 pub use lists::{copied_pairs, copied_terms, extend_pairs, extend_terms};
 pub use same::{are_same, are_same_typs};
-pub use sets::{set_of_terms, united_labels, united_terms, without};
+pub use sets::{compare_labels, set_of_terms, united_labels, united_terms, without};
 pub use theorem::{Pair, Thm};
 pub use typed::{has_typ, range_for, typ_of_typed, typ_of_variable};

@@ -12,7 +12,7 @@ use std::alloc::{AllocError, Global};
 use std::cmp::Ordering;
 
 /// The order of two labels: by theory, then by command, then by part.
-fn compare_labels(left: &Label, right: &Label) -> Ordering
+pub fn compare_labels(left: &Label, right: &Label) -> Ordering
     ensures { result ≡ label_cmp left.now right.now }
 {
     left.theory.cmp(&right.theory).then(

@@ -3,7 +3,6 @@ pub mod StageLaws
 pub mod GrowthLaws
 pub mod RefusalLaws
 pub mod PureLaws
-pub mod SchematicLaws
 pub mod DefinitionLaws
 pub mod LookupLaws
 pub mod OnceLaws

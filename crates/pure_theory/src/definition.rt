@@ -9,8 +9,9 @@ ghost use Rattle.pure_theory.specs.Definitions.{HasVariable, HasExtraTyp, AreNew
 
 use crate::fault::DeclFault;
 use crate::pure::constant;
-use crate::schematic::{has_extra_typ, has_variable, schematic_term, schematic_typ};
+use crate::schematic::{schematic_term, schematic_typ};
 use crate::theory::Theory;
+use pure_certify::{has_extra_typ, has_variable};
 use pure_term::{Name, Term, Typ};
 use pure_theorem::equation;
 use std::alloc::{AllocError, Global};

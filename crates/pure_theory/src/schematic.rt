@@ -1,58 +1,10 @@
-//! Fixed type variables made schematic, and what a definition's body may not have.
-ghost use Rattle.std.specs.Prelude.{◌≡◌, ◌↔◌, IfOk, IsTrue};
+//! Fixed type variables made schematic.
+ghost use Rattle.std.specs.Prelude.{◌≡◌, IfOk};
 ghost use Rattle.pure_definitions.specs.Terms.Subst.{typ_instance, inst_typ};
 ghost use Rattle.pure_logic.specs.Content.{schematic_typ_variable};
-ghost use Rattle.pure_theory.specs.Definitions.{HasVariable, HasExtra, HasExtraTyp};
 
 use pure_term::{Term, TermNode, Typ, TypNode};
-use pure_typ::occurs_in_typ;
 use std::alloc::{AllocError, Global};
-
-/// Whether the term has a fixed or a schematic variable.
-pub(crate) fn has_variable(t: &Term) -> bool
-    ensures { IsTrue result ↔ HasVariable t.now }
-{
-    match &t.node {
-        TermNode::Const { .. } => false,
-        TermNode::Free { .. } => true,
-        TermNode::Var { .. } => true,
-        TermNode::Bound { .. } => false,
-        TermNode::Abs { body, .. } => has_variable(body),
-        TermNode::App { fun, arg } => has_variable(fun) || has_variable(arg),
-    }
-}
-
-/// Whether the second type has a type variable that the first lacks.
-fn has_extra(typ: &Typ, t: &Typ) -> bool
-    ensures { IsTrue result ↔ HasExtra typ.now t.now }
-{
-    match &t.node {
-        TypNode::TFree { .. } => !occurs_in_typ(t, typ),
-        TypNode::TVar { .. } => !occurs_in_typ(t, typ),
-        TypNode::Con { args, .. } => {
-            for arg in args {
-                if has_extra(typ, arg) {
-                    return true;
-                }
-            }
-            false
-        }
-    }
-}
-
-/// Whether a type in the term has a type variable that the type lacks.
-pub(crate) fn has_extra_typ(typ: &Typ, t: &Term) -> bool
-    ensures { IsTrue result ↔ HasExtraTyp typ.now t.now }
-{
-    match &t.node {
-        TermNode::Const { typ: own, .. } => has_extra(typ, own),
-        TermNode::Free { typ: own, .. } => has_extra(typ, own),
-        TermNode::Var { typ: own, .. } => has_extra(typ, own),
-        TermNode::Bound { .. } => false,
-        TermNode::Abs { typ: own, body } => has_extra(typ, own) || has_extra_typ(typ, body),
-        TermNode::App { fun, arg } => has_extra_typ(typ, fun) || has_extra_typ(typ, arg),
-    }
-}
 
 /// The type with its fixed type variables made schematic.
 pub(crate) fn schematic_typ(alloc: Global, t: &Typ) -> Result<Typ, AllocError>

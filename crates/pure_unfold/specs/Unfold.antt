@@ -1,42 +1,13 @@
 -- Definitions, and terms in which a defined constant is unfolded: what it is defined to be stands in its place (Isabelle/Isar Implementation manual, section 2.3).
-use Rattle.std.specs.Prelude.{◌≡◌, ◌⊎◌, ℕ}
-use Rattle.pure_definitions.specs.Types.Typ.{Typ, TFree, TVar, Con, Typs, none, also}
-use Rattle.pure_definitions.specs.Types.Occurs.{OccursInTyp}
+use Rattle.std.specs.Prelude.{◌≡◌, ℕ}
+use Rattle.pure_definitions.specs.Types.Typ.{Typ}
 use Rattle.pure_definitions.specs.Types.Order.{Algebra}
-use Rattle.pure_definitions.specs.Terms.Term.{Term, Const, Free, Var, Bound, Abs, App}
+use Rattle.pure_definitions.specs.Terms.Term.{Term, Const}
 use Rattle.pure_definitions.specs.Terms.Subst.{inst_typ, IsSortRespecting}
 use Rattle.pure_definitions.specs.Declarations.Certified.{IsMatch}
+pub use Rattle.pure_certify.specs.Bodies.{HasVariable, HasExtra, HaveExtra, HasExtraTyp}
 use Rattle.pure_logic.specs.Connectives.{eq}
 use Rattle.pure_unfold.specs.Replaced.{IsReplaced, HasReplaced}
-
--- The term has a fixed or a schematic variable.
-abbrev pub HasVariable : Term → Type 0
-HasVariable (Const c T) = ⊥
-HasVariable (Free x T) = Unit {0}
-HasVariable (Var x i T) = Unit {0}
-HasVariable (Bound n) = ⊥
-HasVariable (Abs T b) = HasVariable b
-HasVariable (App f a) = HasVariable f ⊎ HasVariable a
-
--- The second type has a type variable, fixed or schematic, that the first lacks.
-abbrev mutual
-  pub HasExtra : Typ → Typ → Type 0
-  HasExtra T (TFree x s) = ¬ OccursInTyp (TFree x s) T
-  HasExtra T (TVar x i s) = ¬ OccursInTyp (TVar x i s) T
-  HasExtra T (Con k ts) = HaveExtra T ts
-
-  pub HaveExtra : Typ → Typs → Type 0
-  HaveExtra T none = ⊥
-  HaveExtra T (also t ts) = HasExtra T t ⊎ HaveExtra T ts
-
--- A type in the term has a type variable that the type lacks.
-abbrev pub HasExtraTyp : Typ → Term → Type 0
-HasExtraTyp T (Const c U) = HasExtra T U
-HasExtraTyp T (Free x U) = HasExtra T U
-HasExtraTyp T (Var x i U) = HasExtra T U
-HasExtraTyp T (Bound n) = ⊥
-HasExtraTyp T (Abs U b) = HasExtra T U ⊎ HasExtraTyp T b
-HasExtraTyp T (App f a) = HasExtraTyp T f ⊎ HasExtraTyp T a
 
 -- The proposition is the definition of the constant, with this type, as the body: `c == body`. The body has no variable, and no type variable that the constant's type lacks.
 pub record IsDefinition (prop : Term) (name : ℕ) (typ : Typ) (body : Term) : Type 0 where

@@ -26,24 +26,11 @@ use std::alloc::{AllocError, Global};
 use std::mem;
 use std::sync::Arc;
 
-/// An equal row.
-fn copied_row(alloc: Global, row: &Row) -> Result<Row, AllocError>
-    ensures { IfOk result (λ copied. copied ≡ row.now) }
-{
-    let head = row.head.copy(alloc)?;
-    let tail = row.tail.copy(alloc)?;
-    Ok(Row {
-        status: row.status,
-        head,
-        tail,
-    })
-}
-
 /// A theory that was refused when it began closes with its row.
 fn barred_turn(alloc: Global, row: &Row) -> Result<Turn, AllocError>
     ensures { IfOk result (λ turn. turn ≡ turns.Closed (outline.Barred row.now)) }
 {
-    let row = copied_row(alloc, row)?;
+    let row = row.copy(alloc)?;
     Ok(Turn::Closed {
         closed: Closed::barred(row),
     })

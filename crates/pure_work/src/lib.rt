@@ -13,5 +13,6 @@ mod statements;
 
 pub use checker::Checker;
 pub use closed::Closed;
+pub use refused::refused_theory;
 pub use run::{Run, Turn};
 pub use statements::Statements;

@@ -1,122 +1,43 @@
-//! The rows of theories that are refused when they begin.
-ghost use Rattle.std.specs.Prelude.{◌≡◌, ◌++◌, [], List, IfOk, OnOk};
-ghost use Rattle.pure_print.specs.declared.row.RowStatus.TheVariants as status;
+//! The rows of theories that are refused.
+ghost use Rattle.std.specs.Prelude.{◌≡◌, ◌++◌, [], List, IfOk};
 ghost use Rattle.pure_graph.specs.Session.{parent_refused_text};
 ghost use Rattle.pure_logic.specs.Content.{Content};
-ghost use Rattle.pure_statements.specs.Rows.{colon};
-ghost use Rattle.pure_statements.specs.ReasonText.{reason_text, reason_rest, text_of_name};
+ghost use Rattle.pure_statements.specs.ReasonText.{reason_text};
 ghost use Rattle.pure_statements.specs.declared.reason.Reason.TheVariants as reason;
 ghost use Rattle.pure_theory.specs.Begin.{IsBeginRefusal};
-ghost use Rattle.pure_verdicts.specs.Verdicts.{theory_word, refused_theory};
+ghost use Rattle.pure_verdicts.specs.Verdicts.{refused_theory};
 ghost use Rattle.pure_work.specs.Parents.{IsConflictRow};
 
 use pure_print::{Row, RowStatus};
+use pure_session::parent_refused_text;
+use pure_statements::{Reason, push_reason};
 use pure_text::Text;
 use pure_theory::DeclFault;
 use pure_typ::{Name, Names};
 use std::alloc::{AllocError, Global};
 
-/// What the row is about: the theory of this name.
-#[tactic(auto, unfolding(pure_verdicts::specs::Verdicts::theory_word))]
-fn head_of(alloc: Global, theory: &[u8]) -> Result<Text, AllocError>
-    ensures { IfOk result (λ text. text ≡ theory_word ++ theory.now) }
+/// The row of the theory of this name, which is refused for this reason.
+#[tactic(auto, unfolding(pure_verdicts::specs::Verdicts::theory_word, pure_statements::specs::Rows::colon))]
+pub fn refused_theory(alloc: Global, theory: &[u8], reason: &[u8]) -> Result<Row, AllocError>
+    ensures { IfOk result (λ row. row ≡ refused_theory theory.now reason.now) }
 {
-    let mut bytes = Vec::from_slice(alloc, b"theory ")?;
-    bytes.extend_from_slice(theory)?;
-    Ok(Text::from(bytes))
-}
-
-/// What stands before the reason.
-#[tactic(auto, unfolding(pure_statements::specs::Rows::colon))]
-fn colon(alloc: Global) -> Result<Vec<u8>, AllocError>
-    ensures { IfOk result (λ bytes. bytes.items ≡ colon) }
-{
-    Vec::from_slice(alloc, b": ")
-}
-
-/// The row of a theory that is refused, with what is said behind its head.
-fn refused_row(alloc: Global, theory: &[u8], tail: Text) -> Result<Row, AllocError>
-    ensures { IfOk result (λ row. row ≡ record { status = status.Refused; head = theory_word ++ theory.now; tail = tail }) }
-{
-    let head = head_of(alloc, theory)?;
+    let mut head = Vec::from_slice(alloc, b"theory ")?;
+    head.extend_from_slice(theory)?;
+    let mut tail = Vec::from_slice(alloc, b": ")?;
+    tail.extend_from_slice(reason)?;
     Ok(Row {
         status: RowStatus::Refused,
-        head,
-        tail,
+        head: Text::from(head),
+        tail: Text::from(tail),
     })
-}
-
-/// Appends that a parent was refused.
-#[tactic(auto, unfolding(pure_graph::specs::Session::parent_refused_text))]
-fn push_words(text: &mut Vec<u8>) -> Result<(), AllocError>
-    ensures { OnOk result (text.new.items ≡ text.old.items ++ parent_refused_text) }
-{
-    text.extend_from_slice(b"parent refused ")?;
-    Ok(())
-}
-
-/// Appends that this parent was refused.
-fn push_parent(text: &mut Vec<u8>, parent: &[u8]) -> Result<(), AllocError>
-    ensures { OnOk result (text.new.items ≡ text.old.items ++ (parent_refused_text ++ parent.now)) }
-{
-    push_words(text)?;
-    text.extend_from_slice(parent)?;
-    Ok(())
 }
 
 /// The row of a theory whose parent of this name was refused when it began.
 pub(crate) fn parent_refused(alloc: Global, theory: &[u8], parent: &[u8]) -> Result<Row, AllocError>
     ensures { IfOk result (λ row. row ≡ refused_theory theory.now (parent_refused_text ++ parent.now)) }
 {
-    let mut tail = colon(alloc)?;
-    push_parent(&mut tail, parent)?;
-    refused_row(alloc, theory, Text::from(tail))
-}
-
-/// Appends the text of the name, if it has one.
-fn push_name(text: &mut Vec<u8>, names: &Names, name: Name) -> Result<(), AllocError>
-    ensures { OnOk result (text.new.items ≡ text.old.items ++ text_of_name names.now name) }
-{
-    match names.text(name) {
-        Some(found) => {
-            text.extend_from_slice(found)?;
-            Ok(())
-        }
-        None => Ok(()),
-    }
-}
-
-/// Appends the three names, with blanks between them.
-fn push_names(
-    text: &mut Vec<u8>,
-    names: &Names,
-    con: Name,
-    c1: Name,
-    c2: Name,
-) -> Result<(), AllocError>
-    ensures { OnOk result (text.new.items ≡ text.old.items ++ reason_rest names.now [] (reason.NotCoregular con c1 c2)) }
-{
-    push_name(text, names, con)?;
-    text.push(b' ')?;
-    push_name(text, names, c1)?;
-    text.push(b' ')?;
-    push_name(text, names, c2)?;
-    Ok(())
-}
-
-/// Appends that arities for these are in conflict.
-#[tactic(auto, unfolding(pure_statements::specs::ReasonText::reason_words))]
-fn push_conflict(
-    text: &mut Vec<u8>,
-    names: &Names,
-    con: Name,
-    c1: Name,
-    c2: Name,
-) -> Result<(), AllocError>
-    ensures { OnOk result (text.new.items ≡ text.old.items ++ reason_text names.now [] (reason.NotCoregular con c1 c2)) }
-{
-    text.extend_from_slice(b"not coregular ")?;
-    push_names(text, names, con, c1, c2)
+    let reason = parent_refused_text(alloc, parent)?;
+    refused_theory(alloc, theory, reason.bytes())
 }
 
 /// The row of a theory whose parents, merged one after the other, have arities in conflict.
@@ -130,9 +51,15 @@ fn not_coregular(
 ) -> Result<Row, AllocError>
     ensures { IfOk result (λ row. row ≡ refused_theory theory.now (reason_text names.now [] (reason.NotCoregular con c1 c2))) }
 {
-    let mut tail = colon(alloc)?;
-    push_conflict(&mut tail, names, con, c1, c2)?;
-    refused_row(alloc, theory, Text::from(tail))
+    let mut text = Vec::new(alloc);
+    push_reason(
+        alloc,
+        &mut text,
+        names,
+        b"",
+        &Reason::NotCoregular { con, c1, c2 },
+    )?;
+    refused_theory(alloc, theory, &text)
 }
 
 /// The row of a theory whose parents can't be merged.

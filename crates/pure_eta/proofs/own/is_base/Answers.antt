@@ -1,0 +1,5 @@
+use Rattle.pure_eta.proofs.OwnLaws.{no_arrows}
+use Rattle.pure_eta.proofs.own.is_base.Goals as goal
+
+pub returns-in_default : goal.returns-in_default
+returns-in_default c = no_arrows c.args.typ.now c.in_default.ensures

@@ -1,8 +1,0 @@
-use Rattle.std.proofs.Common.{take}
-use Rattle.pure_definitions.specs.Types.Typ.{typs_of}
-use Rattle.pure_theory.specs.Definitions.{HaveExtra}
-use Rattle.pure_theory.proofs.schematic.+has_extra.Given as goal
-
--- none of those so far has one
-abbrev pub invariant-loop-arg : goal.invariant-loop-arg
-invariant-loop-arg l = ¬ HaveExtra l.typ (typs_of (take l.arg-index l.arg-items))
