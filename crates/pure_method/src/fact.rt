@@ -7,8 +7,8 @@ ghost use Rattle.pure_method.specs.Facts.{IsFact};
 ghost use Rattle.pure_method.specs.Taking.{IsFactAnswer, AreFactsAnswer};
 
 use pure_goal_steps::StepFault;
+use pure_script::TextList;
 use pure_term::{Label, Term};
-use pure_text::Text;
 use pure_theorem::{Thm, built_term};
 use pure_theory::{Fact, Theory};
 use pure_typ::NamesByBase;
@@ -82,15 +82,15 @@ pub fn found_facts(
     alloc: Global,
     names: &NamesByBase,
     theory: &Theory,
-    written: &[Text],
+    written: &TextList,
 ) -> Result<Vec<Thm>, StepFault>
     requires { IsInSession names.now theory.now }
     ensures facts { IfOk result (λ found. AreFactsAnswer names.now theory.now written.now (Ok found.items)) }
     ensures fault { IfErr result (λ fault. AreFactsAnswer names.now theory.now written.now (Err fault)) }
 {
     let mut found = Vec::new(alloc);
-    for text in written {
-        match found_fact(alloc, names, theory, text.bytes()) {
+    for place in 0..written.len() {
+        match found_fact(alloc, names, theory, written.at(place)) {
             Ok(fact) => put(&mut found, fact)?,
             Err(fault) => return Err(fault),
         }

@@ -16,8 +16,7 @@ use crate::fact::{discard, discard_all, found_fact, found_facts};
 use crate::unfold::unfolded;
 use pure_goal_steps::StepFault;
 use pure_resolve::Goal;
-use pure_script::Step;
-use pure_text::Text;
+use pure_script::{Step, TextList};
 use pure_theory::Theory;
 use pure_typ::NamesByBase;
 use std::alloc::Global;
@@ -97,7 +96,7 @@ fn by_unfolding(
     names: &NamesByBase,
     theory: &Theory,
     goal: &Goal,
-    written: &[Text],
+    written: &TextList,
 ) -> Result<Goal, StepFault>
     requires ready { IsReady names.now theory.now }
     requires goal { MayStep theory.now goal.now.thm }

@@ -5,3 +5,4 @@ pub mod Places
 pub mod States
 pub mod Faults
 pub mod Laws
+pub mod TextLists

@@ -50,7 +50,7 @@ seen_proof_place goal (AtBasic x0) = spec.AtBasic x0
 seen_proof_place goal (AfterBasic x0) = spec.AfterBasic x0
 seen_proof_place goal (AtFact x0 x1) = spec.AtFact x0 (seen_method x1)
 seen_proof_place goal (AtUnfolded x0) = spec.AtUnfolded x0
-seen_proof_place goal (AfterUnfolded x0) = spec.AfterUnfolded x0 goal.facts.items
+seen_proof_place goal (AfterUnfolded x0) = spec.AfterUnfolded x0 goal.facts
 
 abbrev pub seen_class : NewClass → AbovePlace → spec.Place
 seen_class class above_place.AfterClassName = spec.AfterClassName class.name

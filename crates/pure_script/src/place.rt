@@ -7,6 +7,7 @@ ghost use Rattle.pure_script.specs.Places.{seen_place, seen_type_place, seen_ari
 ghost use Rattle.pure_script.specs.Lexemes.{seen_lexeme};
 
 use crate::lexeme::{Lexeme, ident_in, is_word, name_in, variable_in};
+use crate::text_list::TextList;
 use crate::texts::Texts;
 use crate::theory::{Command, Span, Step};
 use pure_grammar::Keyword;
@@ -40,7 +41,7 @@ pub(crate) struct Goal {
     pub(crate) name: Text,
     pub(crate) prop: Span,
     pub(crate) script: Vec<Step>,
-    pub(crate) facts: Vec<Text>,
+    pub(crate) facts: TextList,
 }
 
 /// A class with those above it so far.

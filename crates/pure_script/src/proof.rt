@@ -12,6 +12,7 @@ use crate::place::{
     Course, FactMethod, Goal, LemmaPlace, Place, ProofPlace, RestPlace, Turn, at_command, ident,
     moves_if, name, of_lemma,
 };
+use crate::text_list::TextList;
 use crate::theory::{Command, Span, Step};
 use pure_grammar::{Keyword, Sign};
 use pure_text::Text;
@@ -46,7 +47,7 @@ pub(crate) fn at_lemma_text(alloc: Global, name: Text, lexeme: Lexeme<'_>) -> Tu
         None => Turn::Refuses,
         Some(prop) => {
             let script = Vec::new(alloc);
-            let facts = Vec::new(alloc);
+            let facts = TextList::empty(alloc);
             let goal = Goal {
                 name,
                 prop,
@@ -222,8 +223,8 @@ fn at_unfolded(
     match name(alloc, lexeme)? {
         None => Ok(Course::Refuses),
         Some(fact) => {
-            let mut facts = Vec::new(alloc);
-            facts.push(fact)?;
+            let mut facts = TextList::empty(alloc);
+            facts.push(fact.bytes())?;
             goal.facts = facts;
             *place = ProofPlace::AfterUnfolded { last };
             Ok(Course::Stays)
@@ -239,16 +240,16 @@ fn after_unfolded(
     last: bool,
     lexeme: Lexeme<'_>,
 ) -> Result<Course, AllocError>
-    ensures { IfOk result (λ course. seen_proof_course course goal.new place.new (seen_lexeme lexeme.entry) ≡ spec.proof_turn goal.old.name (span goal.old.prop) (seen_steps goal.old.script.items) (spec.AfterUnfolded last goal.old.facts.items) (seen_lexeme lexeme.entry)) }
+    ensures { IfOk result (λ course. seen_proof_course course goal.new place.new (seen_lexeme lexeme.entry) ≡ spec.proof_turn goal.old.name (span goal.old.prop) (seen_steps goal.old.script.items) (spec.AfterUnfolded last goal.old.facts) (seen_lexeme lexeme.entry)) }
 {
     match name(alloc, lexeme)? {
         Some(fact) => {
-            goal.facts.push(fact)?;
+            goal.facts.push(fact.bytes())?;
             *place = ProofPlace::AfterUnfolded { last };
             Ok(Course::Stays)
         }
         None => {
-            let facts = mem::replace(&mut goal.facts, Vec::new(alloc));
+            let facts = mem::replace(&mut goal.facts, TextList::empty(alloc));
             step(goal, Step::Unfold { facts })?;
             after_basic(goal, place, last, lexeme)
         }

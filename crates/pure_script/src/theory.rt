@@ -2,6 +2,7 @@
 ghost use Rattle.std.specs.Prelude.{◌≡◌, IfOk};
 ghost use Rattle.pure_script.specs.Seen.{seen_step};
 
+use crate::text_list::TextList;
 use pure_grammar::TokenKind;
 use pure_text::Text;
 use std::alloc::{AllocError, Global};
@@ -20,22 +21,11 @@ pub enum Step {
     Erule { fact: Text },
     Drule { fact: Text },
     Assumption,
-    Unfold { facts: Vec<Text> },
+    Unfold { facts: TextList },
     Prefer { n: u32 },
     Defer,
     Close,
     Done,
-}
-
-/// Equal texts.
-fn copy_texts(alloc: Global, texts: &[Text]) -> Result<Vec<Text>, AllocError>
-    ensures { IfOk result (λ copied. copied.items ≡ texts.now) }
-{
-    let mut copied = Vec::new(alloc);
-    for text in texts {
-        copied.push(text.copy(alloc)?)?;
-    }
-    Ok(copied)
 }
 
 impl Step {
@@ -55,7 +45,7 @@ impl Step {
             }),
             Step::Assumption => Ok(Step::Assumption),
             Step::Unfold { facts } => Ok(Step::Unfold {
-                facts: copy_texts(alloc, facts)?,
+                facts: facts.copy(alloc)?,
             }),
             Step::Prefer { n } => Ok(Step::Prefer { n: *n }),
             Step::Defer => Ok(Step::Defer),

@@ -3,7 +3,7 @@
 mod rows;
 
 use pure_lex::tokens;
-use pure_script::{Command, ScriptFault, Span, Step, TheoryText, read_theory};
+use pure_script::{Command, ScriptFault, Span, Step, TextList, TheoryText, read_theory};
 use pure_text::Text;
 use rows::{CHANGES, Change, FURTHER, WORKED};
 use std::alloc::Global;
@@ -237,6 +237,14 @@ fn say_texts(shown: &mut Vec<u8>, texts: &[Text]) -> Result<(), Fail> {
     Ok(())
 }
 
+fn say_facts(shown: &mut Vec<u8>, facts: &TextList) -> Result<(), Fail> {
+    for place in 0..facts.len() {
+        say(shown, " ")?;
+        shown.extend_from_slice(facts.at(place))?;
+    }
+    Ok(())
+}
+
 fn say_number(alloc: Global, shown: &mut Vec<u8>, n: u32) -> Result<(), Fail> {
     say(shown, &format!(in alloc; " {n}")?)
 }
@@ -258,7 +266,7 @@ fn say_step(alloc: Global, shown: &mut Vec<u8>, step: &Step) -> Result<(), Fail>
         Step::Assumption => say(shown, " assumption"),
         Step::Unfold { facts } => {
             say(shown, " unfold")?;
-            say_texts(shown, facts)
+            say_facts(shown, facts)
         }
         Step::Prefer { n } => {
             say(shown, " prefer")?;

@@ -3,5 +3,5 @@ use Rattle.pure_text.specs.Lists.{EachTwo}
 use Rattle.pure_method.specs.Facts.{IsFound}
 use Rattle.pure_method.proofs.fact.found_facts.Given as goal
 
-abbrev pub invariant-loop-text : goal.invariant-loop-text
-invariant-loop-text l = EachTwo (IsFound l.names l.theory) (take l.text-index l.written) l.found.items
+abbrev pub invariant-loop-place : goal.invariant-loop-place
+invariant-loop-place l = EachTwo (IsFound l.names l.theory) (take l.place l.written) l.found.items
