@@ -45,12 +45,14 @@ fn forked(
     requires statement { IsStatement place.now.content stated.prop }
     ensures { IfOk result (λ d. seen_outcome d ≡ forking place.now name (seen_steps script.now) stated) }
 {
-    let next = with_promise(place, name, &stated.prop)?;
+    let Stated { fixed, prop } = stated;
+    let prop = shared(alloc, prop)?;
+    let promised = Arc::try_clone(&prop)?;
+    let next = with_promise(place, name, promised)?;
     let next = shared(alloc, next)?;
     let script = copied_steps(alloc, script)?;
     let stage = Arc::try_clone(place.stage())?;
     let label = place.label();
-    let Stated { fixed, prop } = stated;
     let duty = Duty {
         label,
         name,

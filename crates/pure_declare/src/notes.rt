@@ -5,15 +5,16 @@ use pure_term::Term;
 use pure_theory::Stage;
 use pure_typ::{Label, Name};
 use std::marker::Model;
+use std::sync::Arc;
 
-/// A lemma that is bound before its proof is run: its label and name, the stage before it, its statement with fixed variables and generalised, and the steps of its proof.
+/// A lemma that is bound before its proof is run: its label and name, the stage before it, its statement with fixed variables and generalised, and the steps of its proof. The generalised one is shared with the stage behind it.
 #[derive(Drop)]
 pub struct Duty {
     pub label: Label,
     pub name: Name,
     pub stage: Stage,
     pub fixed: Term,
-    pub prop: Term,
+    pub prop: Arc<Term>,
     pub script: Vec<Step>,
 }
 
@@ -26,7 +27,7 @@ impl Model for Duty {
 
     ghost coded = { coded_fork };
 
-    ghost view = { λ d. record { label = d.label; name = d.name; content = d.stage.value; fixed = d.fixed; prop = d.prop; script = seen_steps d.script.items } };
+    ghost view = { λ d. record { label = d.label; name = d.name; content = d.stage.value; fixed = d.fixed; prop = d.prop.value; script = seen_steps d.script.items } };
 }
 
 /// What a command leaves in the table: a row, or a lemma whose row its proof gives.

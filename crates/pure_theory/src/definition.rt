@@ -11,6 +11,7 @@ use crate::fault::DeclFault;
 use crate::pure::constant;
 use crate::schematic::{has_extra_typ, has_variable, schematic_term, schematic_typ};
 use crate::theory::Theory;
+use pure_stage::shared;
 use pure_term::{Name, Term, Typ};
 use pure_theorem::equation;
 use std::alloc::{AllocError, Global};
@@ -72,7 +73,8 @@ impl Theory {
         let typ = schematic_typ(self.alloc, typ)?;
         let constant = self.declare_const(name, &typ)?;
         let axiom = definition_axiom(self.alloc, name, &typ, body)?;
-        let more = constant.declare_axiom(fact, &axiom)?;
+        let prop = shared(self.alloc, axiom)?;
+        let more = constant.declare_axiom(fact, prop)?;
         Ok(more)
     }
 }
