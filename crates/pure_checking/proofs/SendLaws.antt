@@ -68,10 +68,10 @@ thm_sync : IsSync thm.the_row
 thm_sync = search (term_sync, crosses, sendable) depth 60
 
 cthm_send : IsSend cthm.the_row
-cthm_send = search (theory_send, theory_sync, thm_send, crosses, sendable) depth 60
+cthm_send = search (theory_send, theory_sync, thm_send, thm_sync, crosses, sendable) depth 60
 
 cthm_sync : IsSync cthm.the_row
-cthm_sync = search (theory_send, theory_sync, thm_sync, crosses, sendable) depth 60
+cthm_sync = search (theory_send, theory_sync, thm_send, thm_sync, crosses, sendable) depth 60
 
 pub duty_send : IsSend duty.the_row
 duty_send = search (theory_send, theory_sync, term_send, term_sync, step_send, crosses, sendable) depth 60

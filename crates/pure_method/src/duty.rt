@@ -8,6 +8,7 @@ ghost use Rattle.pure_method.specs.Facts as facts;
 
 use pure_declare::Duty;
 use pure_script::Step;
+use pure_stage::shared;
 use pure_term::{Label, Term};
 use pure_theorem::Thm;
 use pure_theory::{Cthm, Theory};
@@ -70,6 +71,7 @@ pub fn certified(alloc: Global, duty: &Duty, rests: Vec<Label>) -> Result<Cthm, 
     ensures { IfOk result (λ c. c ≡ record { content = duty.now.content; theorem = facts.theorem duty.now.prop rests.items }) }
 {
     let thm = lemma_theorem(alloc, duty, rests)?;
+    let theorem = shared(alloc, thm)?;
     let stage = Arc::try_clone(&duty.stage)?;
-    Ok(Cthm::make(stage, thm))
+    Ok(Cthm::make(stage, theorem))
 }

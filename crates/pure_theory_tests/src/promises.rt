@@ -33,7 +33,10 @@ pub(crate) fn promised(alloc: Global, name: Name) -> Result<Theory, DeclFault> {
 fn resting(alloc: Global, stage: &Stage) -> Result<Option<Cthm>, AllocError> {
     let theory = &**stage;
     match promise(alloc, theory, LABEL) {
-        Ok(thm) => Ok(Some(Cthm::make(Arc::try_clone(stage)?, thm))),
+        Ok(thm) => {
+            let thm = Arc::new(alloc, thm)?;
+            Ok(Some(Cthm::make(Arc::try_clone(stage)?, thm)))
+        }
         Err(_) => Ok(None),
     }
 }
