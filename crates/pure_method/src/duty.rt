@@ -9,7 +9,7 @@ ghost use Rattle.pure_method.specs.Facts as facts;
 use pure_declare::Duty;
 use pure_script::Step;
 use pure_stage::shared;
-use pure_term::{Label, Term};
+use pure_term::Label;
 use pure_theorem::Thm;
 use pure_theory::{Cthm, Theory};
 use std::alloc::{AllocError, Global};
@@ -23,13 +23,6 @@ pub fn theory_of(duty: &Duty) -> &Theory
     let theory = &*duty.stage;
     theory.content_is_sound();
     theory
-}
-
-/// The statement with fixed variables, of which the proof is.
-pub fn statement_of(duty: &Duty) -> &Term
-    ensures { result.now ≡ duty.now.fixed }
-{
-    &duty.fixed
 }
 
 /// The step at this place of the proof.
