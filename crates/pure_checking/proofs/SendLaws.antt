@@ -68,16 +68,16 @@ thm_sync : IsSync thm.the_row
 thm_sync = search (term_sync, crosses, sendable) depth 60
 
 cthm_send : IsSend cthm.the_row
-cthm_send = search (theory_send, theory_sync, thm_send, crosses, sendable) depth 60
+cthm_send = search (theory_send, theory_sync, thm_send, thm_sync, crosses, sendable) depth 60
 
 cthm_sync : IsSync cthm.the_row
-cthm_sync = search (theory_send, theory_sync, thm_sync, crosses, sendable) depth 60
+cthm_sync = search (theory_send, theory_sync, thm_send, thm_sync, crosses, sendable) depth 60
 
 pub duty_send : IsSend duty.the_row
-duty_send = search (theory_send, theory_sync, term_send, step_send, crosses, sendable) depth 60
+duty_send = search (theory_send, theory_sync, term_send, term_sync, step_send, crosses, sendable) depth 60
 
 pub duty_sync : IsSync duty.the_row
-duty_sync = search (theory_send, theory_sync, term_sync, step_sync, crosses, sendable) depth 60
+duty_sync = search (theory_send, theory_sync, term_send, term_sync, step_sync, crosses, sendable) depth 60
 
 pub outcome_send : IsSend outcome.the_row
 outcome_send = search (cthm_send, crosses, sendable) depth 60

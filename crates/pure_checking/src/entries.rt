@@ -10,6 +10,7 @@ use pure_declare::Duty;
 use pure_method::Outcome;
 use pure_promise::{Entry, Own};
 use std::alloc::{AllocError, Global};
+use std::sync::Arc;
 
 /// What became of a lemma whose proof came to this.
 fn own_by(outcome: &Outcome) -> Result<Own, AllocError>
@@ -39,12 +40,12 @@ fn own_standing(standing: &Standing<Outcome>) -> Result<Own, AllocError>
     }
 }
 
-/// The lemma's entry.
-fn entry(alloc: Global, promise: &Promise<Duty, Outcome>) -> Result<Entry, AllocError>
+/// The lemma's entry, which shares its statement and its theorem.
+fn entry(promise: &Promise<Duty, Outcome>) -> Result<Entry, AllocError>
     ensures { IfOk result (IsHeldOf promise.now) }
 {
     let goal: &Duty = &promise.goal;
-    let prop = goal.prop.copy(alloc)?;
+    let prop = Arc::try_clone(&goal.prop)?;
     let own = own_standing(&promise.standing)?;
     Ok(Entry {
         label: goal.label,
@@ -63,7 +64,7 @@ pub(crate) fn entries(
 {
     let mut entries = Vec::with_capacity(alloc, promises.len())?;
     for promise in promises {
-        entries.push(entry(alloc, &promise)?)?;
+        entries.push(entry(&promise)?)?;
     }
     Ok(entries)
 }

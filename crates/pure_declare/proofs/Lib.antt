@@ -12,6 +12,7 @@ pub mod LemmaSteps
 pub mod OutcomeSteps
 pub mod FixedLaws
 pub mod TidyLaws
+pub mod FixingLaws
 pub mod TidyDeclared
 pub mod DoneLaws
 pub mod PromisedLaws

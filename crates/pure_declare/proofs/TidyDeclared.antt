@@ -30,9 +30,11 @@ use Rattle.pure_statements.proofs.ElaboratedLaws.{elaborated-fixed}
 use Rattle.pure_statements.proofs.SchematicLaws.{normal-generalised}
 use Rattle.pure_declare.specs.Notes.{Fork, Forked, Outcome, Change}
 use Rattle.pure_declare.specs.Commands.{Place, vocabulary, IsOutcome, IsSaid, IsNewClassChange, IsClassChange, IsTypeChange, IsFoundArityChange, IsClassArityChange, IsDomainsArityChange, IsArityChange, IsNewConstChange, IsConstChange, IsAxiomChange, IsBodyChange, IsTermChange, IsTypedChange, IsTreeChange, IsTextChange, IsNewDefinitionChange, IsDefinitionChange, IsLemmaOutcome, declaring, declaring_const, declaring_definition, declaring_axiom, defining, forking}
+use Rattle.pure_declare.specs.Fixing.{fixed_again}
 use Rattle.pure_declare.specs.Fold.{outcome_of}
 use Rattle.pure_declare.specs.Tidy.{HasTypIndexes, IsUnschematic, IsTidyFact, IsTidyDecl, IsTidy, IsTidyFork, PureIsTidy, DeclaresTidy, ForksTidy}
 use Rattle.pure_declare.proofs.FixedLaws.{normal-has}
+use Rattle.pure_declare.proofs.FixingLaws.{term-again}
 use Rattle.pure_declare.proofs.TidyLaws.{Never, Zero, fixed-typ, typ-zero, generalised-zero, inst-zero, elaborated-never, normal-inst}
 
 -- A normal form that is elaborated at a type.
@@ -77,6 +79,10 @@ stated-tidy V source span s (goes_on raw read (goes_on t typed (goes_on u normal
 stated-tidy V source span s (goes_on raw read (goes_on t typed (goes_on u normal (passes small e)))) =
     let same : stated u ≡ s = cc in
     subst IsTidyStated same (record { term = tidy-term V prop raw t u prop-fixed typed normal; prop = refl })
+
+-- Its generalised form tells the statement.
+pub stated-again : (V : Vocabulary) (source : List ℕ) (span : Span) (s : Stated) → IsStated V source span (Ok s) → fixed_again s.prop ≡ s.fixed
+stated-again V source span s h = let tidy = stated-tidy V source span s h in ap fixed_again tidy.prop ∙ term-again s.fixed tidy.term.fixed
 
 pub typ-fixed : (V : Vocabulary) (source : List ℕ) (span : Span) (T : Typ) → IsStatedTyp V source span (Ok T) → IsFixedTyp T
 typ-fixed V source span T (refuses reason h e) = absurd (cc)

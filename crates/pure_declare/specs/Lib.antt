@@ -1,5 +1,6 @@
 pub mod Named
 pub mod Notes
+pub mod Fixing
 pub mod Lookups
 pub mod Commands
 pub mod Codes

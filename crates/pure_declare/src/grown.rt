@@ -14,6 +14,7 @@ use pure_term::Term;
 use pure_theory::{DeclFault, Theory};
 use pure_typ::{Name, Typ};
 use std::alloc::AllocError;
+use std::sync::Arc;
 
 /// The only failure that is left.
 fn only_memory(_fault: DeclFault) -> AllocError
@@ -63,10 +64,14 @@ pub(crate) fn with_const(place: &Place<'_>, name: Name, typ: &Typ) -> Result<The
 }
 
 /// With an axiom of a new name.
-pub(crate) fn with_axiom(place: &Place<'_>, name: Name, prop: &Term) -> Result<Theory, AllocError>
+pub(crate) fn with_axiom(
+    place: &Place<'_>,
+    name: Name,
+    prop: Arc<Term>,
+) -> Result<Theory, AllocError>
     requires new { IsTaken place.now facts name → ⊥ }
-    requires statement { IsStatement place.now.content prop.now }
-    ensures { IfOk result (λ Q. Q ≡ with_decl place.now.content (AxiomDecl name prop.now)) }
+    requires statement { IsStatement place.now.content prop.value }
+    ensures { IfOk result (λ Q. Q ≡ with_decl place.now.content (AxiomDecl name prop.value)) }
 {
     match place.theory().declare_axiom(name, prop) {
         Ok(next) => Ok(next),
@@ -75,10 +80,14 @@ pub(crate) fn with_axiom(place: &Place<'_>, name: Name, prop: &Term) -> Result<T
 }
 
 /// With a promise of a new name, under the command's label.
-pub(crate) fn with_promise(place: &Place<'_>, name: Name, prop: &Term) -> Result<Theory, AllocError>
+pub(crate) fn with_promise(
+    place: &Place<'_>,
+    name: Name,
+    prop: Arc<Term>,
+) -> Result<Theory, AllocError>
     requires new { IsTaken place.now facts name → ⊥ }
-    requires statement { IsStatement place.now.content prop.now }
-    ensures { IfOk result (λ Q. Q ≡ with_decl place.now.content (PromiseDecl name place.now.label prop.now)) }
+    requires statement { IsStatement place.now.content prop.value }
+    ensures { IfOk result (λ Q. Q ≡ with_decl place.now.content (PromiseDecl name place.now.label prop.value)) }
 {
     let label = place.label();
     match place.theory().declare_promise(name, label, prop) {

@@ -5,6 +5,7 @@ ghost use Rattle.pure_lookup.specs.Meaning.{facts};
 ghost use Rattle.pure_script.specs.Seen.{span, seen_step, seen_steps};
 ghost use Rattle.pure_statements.specs.Chain.{FailsAs, Then, Gives};
 ghost use Rattle.pure_statements.specs.Statement.{IsStated};
+ghost use Rattle.pure_declare.specs.Fixing.{fixed_again};
 ghost use Rattle.pure_declare.specs.Commands.{vocabulary, IsTaken, IsLemmaOutcome, forking};
 ghost use Rattle.pure_declare.specs.Premises.{LiesIn};
 ghost use Rattle.pure_declare.specs.Seen.{seen_outcome};
@@ -43,19 +44,21 @@ fn forked(
 ) -> Result<Declared, AllocError>
     requires new { IsTaken place.now facts name → ⊥ }
     requires statement { IsStatement place.now.content stated.prop }
+    requires fixed { fixed_again stated.prop ≡ stated.fixed }
     ensures { IfOk result (λ d. seen_outcome d ≡ forking place.now name (seen_steps script.now) stated) }
 {
-    let next = with_promise(place, name, &stated.prop)?;
+    let Stated { prop, .. } = stated;
+    let prop = shared(alloc, prop)?;
+    let promised = Arc::try_clone(&prop)?;
+    let next = with_promise(place, name, promised)?;
     let next = shared(alloc, next)?;
     let script = copied_steps(alloc, script)?;
     let stage = Arc::try_clone(place.stage())?;
     let label = place.label();
-    let Stated { fixed, prop } = stated;
     let duty = Duty {
         label,
         name,
         stage,
-        fixed,
         prop,
         script,
     };

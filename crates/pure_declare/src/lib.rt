@@ -6,6 +6,7 @@ mod change;
 mod command;
 mod definition;
 mod fault;
+mod fixing;
 mod grown;
 mod language;
 pub mod laws;

@@ -1,24 +1,29 @@
 //! What commands leave: a row, or a lemma whose proof is still to be given.
+ghost use Rattle.std.specs.Prelude.{◌≡◌, IfOk};
+
+use crate::fixing::fixed_again;
 use pure_print::Row;
 use pure_script::Step;
 use pure_term::Term;
 use pure_theory::Stage;
 use pure_typ::{Label, Name};
+use std::alloc::{AllocError, Global};
 use std::marker::Model;
+use std::sync::Arc;
 
-/// A lemma that is bound before its proof is run: its label and name, the stage before it, its statement with fixed variables and generalised, and the steps of its proof.
+/// A lemma that is bound before its proof is run: its label and name, the stage before it, its statement, generalised, and the steps of its proof. The statement is shared with the stage behind it; the one with fixed variables, of which the proof is, is made of it where it is asked for.
 #[derive(Drop)]
 pub struct Duty {
     pub label: Label,
     pub name: Name,
     pub stage: Stage,
-    pub fixed: Term,
-    pub prop: Term,
+    pub prop: Arc<Term>,
     pub script: Vec<Step>,
 }
 
 impl Model for Duty {
     ghost use Rattle.pure_declare.specs.Codes.{coded_fork};
+    ghost use Rattle.pure_declare.specs.Fixing.{fixed_again};
     ghost use Rattle.pure_declare.specs.Notes.{Fork};
     ghost use Rattle.pure_script.specs.Seen.{seen_steps};
 
@@ -26,7 +31,20 @@ impl Model for Duty {
 
     ghost coded = { coded_fork };
 
-    ghost view = { λ d. record { label = d.label; name = d.name; content = d.stage.value; fixed = d.fixed; prop = d.prop; script = seen_steps d.script.items } };
+    ghost view = { λ d. record { label = d.label; name = d.name; content = d.stage.value; fixed = fixed_again d.prop.value; prop = d.prop.value; script = seen_steps d.script.items } };
+}
+
+impl Duty {
+    /// The statement with fixed variables, of which the proof is.
+    ///
+    /// # Errors
+    ///
+    /// Want of memory alone.
+    pub fn fixed(&self, alloc: Global) -> Result<Term, AllocError>
+        ensures { IfOk result (λ t. t ≡ self.now.fixed) }
+    {
+        fixed_again(alloc, &*self.prop)
+    }
 }
 
 /// What a command leaves in the table: a row, or a lemma whose row its proof gives.

@@ -19,8 +19,8 @@ use crate::quoted::{statement_of, written_typ};
 use crate::tails::{prop_tail, typ_tail};
 use crate::taken::{is_class_taken, is_const_taken, is_fact_taken, is_typ_taken};
 use pure_script::Span;
-use pure_statements::{Failed, Reason, schematic_typ};
-use pure_term::Term;
+use pure_stage::shared;
+use pure_statements::{Failed, Reason, Stated, schematic_typ};
 use pure_text::Text;
 use pure_typ::{Name, Typ};
 use std::alloc::{AllocError, Global};
@@ -142,13 +142,15 @@ fn axiom_made(
     alloc: Global,
     place: &Place<'_>,
     name: Name,
-    prop: &Term,
+    stated: Stated,
 ) -> Result<Change, AllocError>
     requires new { IsTaken place.now facts name → ⊥ }
-    requires statement { IsStatement place.now.content prop.now }
-    ensures { IfOk result (λ c. c ≡ declaring_axiom place.now name prop.now) }
+    requires statement { IsStatement place.now.content stated.prop }
+    ensures { IfOk result (λ c. c ≡ declaring_axiom place.now name stated.prop) }
 {
-    let tail = prop_tail(alloc, place, prop)?;
+    let Stated { prop, .. } = stated;
+    let tail = prop_tail(alloc, place, &prop)?;
+    let prop = shared(alloc, prop)?;
     let next = with_axiom(place, name, prop)?;
     Ok(Change::saying(tail, next))
 }
@@ -160,7 +162,7 @@ fn new_axiom(alloc: Global, place: &Place<'_>, name: Name, at: Span) -> Result<C
     ensures { Answers (Then (IsStated (vocabulary place.now) place.now.source (span at)) (λ s. Gives (declaring_axiom place.now name s.prop))) result }
 {
     let stated = statement_of(alloc, place, at)?;
-    let change = axiom_made(alloc, place, name, &stated.prop)?;
+    let change = axiom_made(alloc, place, name, stated)?;
     Ok(change)
 }
 

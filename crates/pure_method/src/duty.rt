@@ -8,7 +8,8 @@ ghost use Rattle.pure_method.specs.Facts as facts;
 
 use pure_declare::Duty;
 use pure_script::Step;
-use pure_term::{Label, Term};
+use pure_stage::shared;
+use pure_term::Label;
 use pure_theorem::Thm;
 use pure_theory::{Cthm, Theory};
 use std::alloc::{AllocError, Global};
@@ -22,13 +23,6 @@ pub fn theory_of(duty: &Duty) -> &Theory
     let theory = &*duty.stage;
     theory.content_is_sound();
     theory
-}
-
-/// The statement with fixed variables, of which the proof is.
-pub fn statement_of(duty: &Duty) -> &Term
-    ensures { result.now ≡ duty.now.fixed }
-{
-    &duty.fixed
 }
 
 /// The step at this place of the proof.
@@ -70,6 +64,7 @@ pub fn certified(alloc: Global, duty: &Duty, rests: Vec<Label>) -> Result<Cthm, 
     ensures { IfOk result (λ c. c ≡ record { content = duty.now.content; theorem = facts.theorem duty.now.prop rests.items }) }
 {
     let thm = lemma_theorem(alloc, duty, rests)?;
+    let theorem = shared(alloc, thm)?;
     let stage = Arc::try_clone(&duty.stage)?;
-    Ok(Cthm::make(stage, thm))
+    Ok(Cthm::make(stage, theorem))
 }

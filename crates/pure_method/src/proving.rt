@@ -4,7 +4,7 @@ ghost use Rattle.pure_method.specs.Outcome.{IsProvable, IsOutcomeOf};
 ghost use Rattle.pure_method.specs.declared.proving.Place.TheVariants as stands;
 ghost use Rattle.pure_method.specs.Running.{Proves, IsBroken, IsRun, IsPlace, IsTurn, turn_shown, steps_left};
 
-use crate::duty::{statement_of, theory_of};
+use crate::duty::theory_of;
 use crate::fault::is_memory;
 use crate::outcome::Outcome;
 use crate::run::{Next, Run, next_of};
@@ -38,7 +38,8 @@ pub fn start(alloc: Global, _names: &NamesByBase, duty: &Duty) -> Result<Proving
     ensures proves { IfOk result (Proves _names.now duty.now) }
     ensures unbroken { IfOk result (λ proving. ¬ IsBroken proving) }
 {
-    match pure_resolve::start(alloc, theory_of(duty), statement_of(duty)) {
+    let statement = duty.fixed(alloc)?;
+    match pure_resolve::start(alloc, theory_of(duty), &statement) {
         Ok(goal) => Ok(Proving {
             place: Place::Runs {
                 run: Run {

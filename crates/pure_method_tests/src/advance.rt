@@ -46,7 +46,7 @@ fn is_outcome(
     let own = by_steps(alloc, names, duty)?;
     let is_same = own.steps == row.0 && are_same(outcome, &own.outcome);
     mem::forget(own);
-    Ok(is_same && is_wanted(outcome, &duty.prop, row.1))
+    Ok(is_same && is_wanted(outcome, &*duty.prop, row.1))
 }
 
 /// Whether the row's outcome comes of the proof, step by step and at once.

@@ -31,7 +31,7 @@ content_of Cancelled = record { declarations = []; own = None; ancestors = [] }
 
 -- what a lemma claims
 abbrev claim_of : Entry → Claim
-claim_of e = record { entry = reported e; prop = e.prop; content = content_of e.own }
+claim_of e = record { entry = reported e; prop = e.prop.value; content = content_of e.own }
 
 claims-entries : (es : List Entry) → map Claim.entry (map claim_of es) ≡ map reported es
 claims-entries [] = refl
@@ -48,10 +48,10 @@ theorem-alone th A rests h r = λ i. record { hyps = h.1 i; pairs = h.2 i; prop 
 claim_is_shown : (e : Entry) → IsTheorem e → IsClosed e → IsShown (claim_of e)
 claim_is_shown e theorem closed = by e.own refl
   where
-    by : (own : Own) → e.own ≡ own → IsShown (record { entry = record { label = e.label; own = plain_own (seen_own own) }; prop = e.prop; content = content_of own })
+    by : (own : Own) → e.own ≡ own → IsShown (record { entry = record { label = e.label; own = plain_own (seen_own own) }; prop = e.prop.value; content = content_of own })
     by (Proved r) is rests shown =
         let facts = theorem r is in
-        (facts.0, subst (IsDerivable r.content) (theorem-alone r.theorem e.prop rests (closed r is) (ap rests_of shown)) facts.1)
+        (facts.0, subst (IsDerivable r.content) (theorem-alone r.theorem e.prop.value rests (closed r is) (ap rests_of shown)) facts.1)
     by (Fault step fault) is rests shown = absurd (shown-fault rests (sym shown))
     by Cancelled is rests shown = absurd (shown-cancelled rests (sym shown))
 
@@ -64,10 +64,10 @@ claim_is_grounded es e grounded = by e.own refl
     below r d h Cancelled is more shown = absurd (shown-cancelled more (sym shown))
 
     at : (r : Certified) → e.own ≡ Proved r → (d : Entry) → IsIn d es → IsIn d.label r.theorem.rests
-        → ((name : ℕ) (A : Term) → IsIn (PromiseDecl name d.label A) r.content.declarations → A ≡ d.prop) × ((more : List Label) → (reported d).own ≡ Shown more → IsBelow (content_of d.own) r.content)
+        → ((name : ℕ) (A : Term) → IsIn (PromiseDecl name d.label A) r.content.declarations → A ≡ d.prop.value) × ((more : List Label) → (reported d).own ≡ Shown more → IsBelow (content_of d.own) r.content)
     at r is d stands among = (let h = grounded r is d stands among in (h.0, below r d h.1 d.own refl))
 
-    by : (own : Own) → e.own ≡ own → IsGrounded (map claim_of es) (record { entry = record { label = e.label; own = plain_own (seen_own own) }; prop = e.prop; content = content_of own })
+    by : (own : Own) → e.own ≡ own → IsGrounded (map claim_of es) (record { entry = record { label = e.label; own = plain_own (seen_own own) }; prop = e.prop.value; content = content_of own })
     by (Proved r) is rests shown c stands among =
         let found = in_mapped claim_of c es stands in
         subst (λ (c : Claim). ((name : ℕ) (A : Term) → IsIn (PromiseDecl name c.entry.label A) r.content.declarations → A ≡ c.prop) × ((more : List Label) → c.entry.own ≡ Shown more → IsBelow c.content r.content))
@@ -82,19 +82,19 @@ module _ (es : List Entry) (may : MayJoin es) (theorems : Each IsTheorem es) whe
   each_claim : (P : Claim → Type 0) → ((e : Entry) → IsIn e es → P (claim_of e)) → Each P (map claim_of es)
   each_claim P h = each_of P (map claim_of es) (λ c m. (let found = in_mapped claim_of c es m in subst P found.2 (h found.0 found.1)))
 
-  derivable : (e : Entry) → IsIn e es → IsFate (map reported es) e.label fates.Proved → IsDerivableAlone (content_of e.own) e.prop
+  derivable : (e : Entry) → IsIn e es → IsFate (map reported es) e.label fates.Proved → IsDerivableAlone (content_of e.own) e.prop.value
   derivable e stands fate = proved_is_derivable (map claim_of es) (subst AreEntries (sym (claims-entries es)) entries)
       (each_claim IsShown (λ d m. claim_is_shown d (each_at IsTheorem es theorems d m) (each_at IsClosed es may.closed d m)))
       (each_claim (IsGrounded (map claim_of es)) (λ d m. claim_is_grounded es d (each_at (joining.IsGrounded es) es may.grounded d m)))
       (claim_of e) (in-map claim_of e es stands) (subst (λ ds. IsFate ds e.label fates.Proved) (sym (claims-entries es)) fate)
 
-  shown_is_proved : (e : Entry) → IsIn e es → (rests : List Label) → Became (map reported es) e.label (Shown rests) → IsDerivableAlone (content_of e.own) e.prop → (r : Certified) × (e.own ≡ Proved r) × IsDerivableAlone r.content e.prop
+  shown_is_proved : (e : Entry) → IsIn e es → (rests : List Label) → Became (map reported es) e.label (Shown rests) → IsDerivableAlone (content_of e.own) e.prop.value → (r : Certified) × (e.own ≡ Proved r) × IsDerivableAlone r.content e.prop.value
   shown_is_proved e stands rests became = by e.own refl
     where
       same : (own : Own) → e.own ≡ own → Shown rests ≡ plain_own (seen_own own)
       same own is = became_once (map reported es) entries.ascend e.label (Shown rests) (plain_own (seen_own own)) became (record { entry = reported e; stands = in-map reported e es stands; of_label = refl; own_is = ap (λ o. plain_own (seen_own o)) is })
 
-      by : (own : Own) → e.own ≡ own → IsDerivableAlone (content_of own) e.prop → (r : Certified) × (e.own ≡ Proved r) × IsDerivableAlone r.content e.prop
+      by : (own : Own) → e.own ≡ own → IsDerivableAlone (content_of own) e.prop.value → (r : Certified) × (e.own ≡ Proved r) × IsDerivableAlone r.content e.prop.value
       by (Proved r) is h = (r, is, h)
       by (Fault step fault) is h = absurd (shown-fault rests (same (Fault step fault) is))
       by Cancelled is h = absurd (shown-cancelled rests (same Cancelled is))

@@ -35,12 +35,12 @@ IsTheorem e = (r : Certified) → e.own ≡ Proved r → IsContent r.content × 
 
 -- The theorem of a lemma that is proved is its statement, without hypotheses and pairs.
 abbrev pub IsClosed : Entry → Type 0
-IsClosed e = (r : Certified) → e.own ≡ Proved r → (r.theorem.prop ≡ e.prop) × (r.theorem.hyps ≡ []) × (r.theorem.pairs ≡ [])
+IsClosed e = (r : Certified) → e.own ≡ Proved r → (r.theorem.prop ≡ e.prop.value) × (r.theorem.hyps ≡ []) × (r.theorem.pairs ≡ [])
 
 -- Each promise on which its theorem rests states in the theorem's theory what its lemma does; where that one is proved too, its theory is below this one's.
 abbrev pub IsGrounded : List Entry → Entry → Type 0
 IsGrounded es e = (r : Certified) → e.own ≡ Proved r → (d : Entry) → IsIn d es → IsIn d.label r.theorem.rests
-    → ((name : ℕ) (A : Term) → IsIn (PromiseDecl name d.label A) r.content.declarations → A ≡ d.prop)
+    → ((name : ℕ) (A : Term) → IsIn (PromiseDecl name d.label A) r.content.declarations → A ≡ d.prop.value)
     × ((s : Certified) → d.own ≡ Proved s → IsBelow s.content r.content)
 
 -- Lemmas may be joined: their labels ascend and their proofs rest on earlier ones, theorems are statements, and promises are those of the lemmas.
@@ -51,4 +51,4 @@ pub record MayJoin (es : List Entry) : Type 0 where
 
 -- What the lemma with this label states is derivable from the axioms of its theorem's theory alone.
 abbrev pub IsSettled : List Entry → Label → Type 0
-IsSettled es l = (e : Entry) → IsIn e es → e.label ≡ l → (r : Certified) × (e.own ≡ Proved r) × IsDerivableAlone r.content e.prop
+IsSettled es l = (e : Entry) → IsIn e es → e.label ≡ l → (r : Certified) × (e.own ≡ Proved r) × IsDerivableAlone r.content e.prop.value

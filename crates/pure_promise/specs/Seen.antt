@@ -15,7 +15,7 @@ seen_own Cancelled = None
 
 -- the lemma of a code's entry, and those of several
 abbrev pub seen_entry : code.Entry → Entry
-seen_entry e = record { label = e.label; name = e.name; prop = e.prop; own = seen_own e.own }
+seen_entry e = record { label = e.label; name = e.name; prop = e.prop.value; own = seen_own e.own }
 
 abbrev pub seen : List code.Entry → List Entry
 seen = map seen_entry

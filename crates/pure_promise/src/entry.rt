@@ -5,6 +5,7 @@ use pure_fates::Reported;
 use pure_goal_steps::StepFault;
 use pure_term::{Label, Name, Term};
 use pure_theory::Cthm;
+use std::sync::Arc;
 
 /// What became of a lemma by itself: its proof came to a theorem, or a step of it failed, or it was cancelled.
 #[derive(Drop)]
@@ -19,7 +20,7 @@ pub enum Own {
 pub struct Entry {
     pub label: Label,
     pub name: Name,
-    pub prop: Term,
+    pub prop: Arc<Term>,
     pub own: Own,
 }
 

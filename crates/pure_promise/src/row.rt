@@ -17,7 +17,7 @@ use crate::names_text::push_labels;
 use pure_fates::Fate;
 use pure_goal_steps::StepFault;
 use pure_print::{Row, RowStatus, print_term, push_text_of_name};
-use pure_term::{Label, Name, Names, Term, Text};
+use pure_term::{Label, Name, Names, Text};
 use std::alloc::{AllocError, Global};
 
 /// The text of a lemma's name.
@@ -31,11 +31,11 @@ fn head_of(alloc: Global, names: &Names, name: Name) -> Result<Text, AllocError>
 
 /// A colon and the statement.
 #[tactic(auto, unfolding(crate::specs::RowText::colon))]
-fn proved_tail(alloc: Global, names: &Names, prop: &Term) -> Result<Text, AllocError>
-    ensures { IfOk result (λ text. text ≡ spec.colon ++ term_text names.now prop.now) }
+fn proved_tail(alloc: Global, names: &Names, entry: &Entry) -> Result<Text, AllocError>
+    ensures { IfOk result (λ text. text ≡ spec.colon ++ term_text names.now entry.now.prop.value) }
 {
     let mut text = Vec::from_slice(alloc, b": ")?;
-    let printed = print_term(alloc, names, prop)?;
+    let printed = print_term(alloc, names, &*entry.prop)?;
     text.extend_from_slice(printed.bytes())?;
     Ok(Text::from(text))
 }
@@ -94,7 +94,7 @@ fn tail_of(
     ensures { IfOk result (λ text. text ≡ spec.tail_text names.now (seen entries.now) (seen_entry entry.now) (seen_fate fate.now)) }
 {
     match fate {
-        Fate::Proved => proved_tail(alloc, names, &entry.prop),
+        Fate::Proved => proved_tail(alloc, names, entry),
         Fate::Failed => failed_tail(alloc, &entry.own),
         Fate::Tainted { faults } => tainted_tail(alloc, names, entries, faults),
         Fate::Gone => Ok(Text::from(Vec::new(alloc))),

@@ -20,7 +20,7 @@ IsAlone th A = (th.prop ≡ A) × (th.hyps ≡ []) × (th.pairs ≡ [])
 
 -- Promises of its label state what it does.
 abbrev pub IsStatedIn : Content → Entry → Type 0
-IsStatedIn Q d = (name : ℕ) (A : Term) → IsIn (PromiseDecl name d.label A) Q.declarations → A ≡ d.prop
+IsStatedIn Q d = (name : ℕ) (A : Term) → IsIn (PromiseDecl name d.label A) Q.declarations → A ≡ d.prop.value
 
 -- Its theorem's theory is below the content.
 abbrev pub IsOfTheory : Content → Entry → Type 0

@@ -105,7 +105,7 @@ fn drawn(alloc: Global, theory: &Theory, letter: u8) -> Result<Thm, Fail>
 /// The theorem that the letter says, in the theory.
 fn theorem(alloc: Global, stage: &Stage, letter: u8) -> Result<Cthm, Fail> {
     let th = drawn(alloc, &**stage, letter)?;
-    made(stage, th)
+    made(alloc, stage, th)
 }
 
 /// The promise of this number in the theory, which states what the letter says.

@@ -5,8 +5,9 @@ use crate::session::variable;
 use pure_goal_steps::StepFault;
 use pure_print::print_row;
 use pure_promise::{Entry, Own, rows};
+use pure_stage::shared;
 use pure_term::Names;
-use std::alloc::Global;
+use std::alloc::{AllocError, Global};
 use std::process::Abort;
 use std::test::Fail;
 
@@ -66,13 +67,14 @@ static FAULTS: [(u32, StepFault, &[u8]); 11] = [
 ];
 
 /// A lemma whose proof is at fault.
-fn failed(alloc: Global, step: u32, fault: StepFault) -> Entry {
-    Entry {
+fn failed(alloc: Global, step: u32, fault: StepFault) -> Result<Entry, AllocError> {
+    let prop = shared(alloc, variable(alloc))?;
+    Ok(Entry {
         label: label_at(0),
         name: name_at(0),
-        prop: variable(alloc),
+        prop,
         own: Own::Fault { step, fault },
-    }
+    })
 }
 
 /// Whether the lemma has this row.
@@ -84,7 +86,7 @@ fn has_row(
     text: &[u8],
 ) -> Result<bool, Fail> {
     let mut lemmas = Vec::new(alloc);
-    lemmas.push(failed(alloc, step, fault))?;
+    lemmas.push(failed(alloc, step, fault)?)?;
     if !are_listed(&lemmas) {
         return Ok(false);
     }

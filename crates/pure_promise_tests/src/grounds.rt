@@ -30,7 +30,7 @@ fn is_closed(lemma: &Entry) -> bool
     ensures { IsTrue result → IsClosed lemma.now }
 {
     match &lemma.own {
-        Own::Proved { result: proof } => is_alone(proof.thm(), &lemma.prop),
+        Own::Proved { result: proof } => is_alone(proof.thm(), &*lemma.prop),
         Own::Fault { .. } => true,
         Own::Cancelled => true,
     }
@@ -42,7 +42,7 @@ fn is_stated_in(theory: &Theory, lemma: &Entry) -> bool
 {
     theory.content_is_sound();
     match theory.promise_prop(lemma.label) {
-        Some(prop) => are_same(prop, &lemma.prop),
+        Some(prop) => are_same(prop, &*lemma.prop),
         None => true,
     }
 }

@@ -31,18 +31,19 @@ fn theorem(alloc: Global, theory: &Theory, place: u32, letter: u8) -> Result<Thm
 }
 
 /// The theorem in its theory.
-pub(crate) fn made(stage: &Stage, th: Thm) -> Result<Cthm, Fail>
+pub(crate) fn made(alloc: Global, stage: &Stage, th: Thm) -> Result<Cthm, Fail>
     requires { IsDerivable stage.now.value th }
     ensures { IfOk result (λ made. made ≡ record { content = stage.now.value; theorem = th }) }
 {
     let own = Arc::try_clone(stage)?;
+    let th = shared(alloc, th)?;
     Ok(Cthm::make(own, th))
 }
 
 /// The theorem of the lemma at the place.
 fn proof(alloc: Global, stage: &Stage, place: u32, letter: u8) -> Result<Cthm, Fail> {
     let th = theorem(alloc, &**stage, place, letter)?;
-    made(stage, th)
+    made(alloc, stage, th)
 }
 
 /// What became of the lemma at the place.
@@ -61,7 +62,7 @@ fn own(alloc: Global, stage: &Stage, place: u32, letter: u8) -> Result<Own, Fail
 
 /// The lemma at the place.
 fn lemma(alloc: Global, stage: &Stage, place: u32, letter: u8) -> Result<Entry, Fail> {
-    let prop = statement(alloc, letter)?;
+    let prop = shared(alloc, statement(alloc, letter)?)?;
     let own = own(alloc, stage, place, letter)?;
     Ok(Entry {
         label: label_at(place),

@@ -5,6 +5,7 @@ ghost use Rattle.pure_logic.specs.PureContent.{proposition_variable};
 ghost use Rattle.pure_promise_tests.specs.Earlier.{AreEarlier};
 
 use crate::names::{VARIABLE, label_at, name_at};
+use pure_stage::shared;
 use pure_term::{Term, TermNode};
 use pure_theorem::{implication, is_prop, prop_typ};
 use pure_theory::{Stage, Theory};
@@ -42,17 +43,18 @@ pub(crate) fn pure_theory(alloc: Global) -> Result<Theory, Fail>
 }
 
 /// The theory with the promise of the lemma at the place more, which states this.
-fn with_promise(theory: &Theory, place: u32, prop: &Term) -> Result<Theory, Fail>
+fn with_promise(alloc: Global, theory: &Theory, place: u32, prop: Term) -> Result<Theory, Fail>
     requires earlier { AreEarlier place theory.now.declarations }
-    requires schematic { IsSchematic prop.now }
+    requires schematic { IsSchematic prop }
     ensures { IfOk result (λ more. AreEarlier (place + 1) more.declarations) }
 {
-    let Ok(typ) = theory.certify(prop) else {
+    let Ok(typ) = theory.certify(&prop) else {
         return Err("not certified".into());
     };
     if !is_prop(&typ) {
         return Err("not a proposition".into());
     }
+    let prop = shared(alloc, prop)?;
     match theory.declare_promise(name_at(place), label_at(place), prop) {
         Ok(more) => Ok(more),
         Err(_) => Err("not declared".into()),
@@ -70,5 +72,5 @@ pub(crate) fn promised(
     ensures { IfOk result (λ more. AreEarlier (place + 1) more.declarations) }
 {
     let prop = statement(alloc, letter)?;
-    with_promise(theory, place, &prop)
+    with_promise(alloc, theory, place, prop)
 }

@@ -31,11 +31,11 @@ impl From<AllocError> for TransferFault {
     }
 }
 
-/// A theory, and a theorem that is derivable in it.
+/// A theory, and a theorem that is derivable in it, both of which copies share.
 #[derive(Drop)]
 pub struct Cthm {
     stage: Stage,
-    thm: Thm,
+    thm: Arc<Thm>,
 }
 
 impl Model for Cthm {
@@ -46,16 +46,16 @@ impl Model for Cthm {
 
     ghost coded = { coded_certified };
 
-    ghost view = { λ c. record { content = c.stage.value; theorem = c.thm } };
+    ghost view = { λ c. record { content = c.stage.value; theorem = c.thm.value } };
 
-    ghost invariant = { λ c. IsDerivable c.stage.value c.thm };
+    ghost invariant = { λ c. IsDerivable c.stage.value c.thm.value };
 }
 
 impl Cthm {
     /// The theorem in the theory.
-    pub fn make(stage: Stage, thm: Thm) -> Cthm
-        requires { IsDerivable stage.value thm }
-        ensures { result ≡ record { content = stage.value; theorem = thm } }
+    pub fn make(stage: Stage, thm: Arc<Thm>) -> Cthm
+        requires { IsDerivable stage.value thm.value }
+        ensures { result ≡ record { content = stage.value; theorem = thm.value } }
     {
         Cthm { stage, thm }
     }
@@ -78,7 +78,7 @@ impl Cthm {
     pub fn thm(&self) -> &Thm
         ensures { result.now ≡ self.now.theorem }
     {
-        &self.thm
+        &*self.thm
     }
 
     /// The theorem is derivable in the theory.
@@ -88,16 +88,16 @@ impl Cthm {
         let _ = &self.thm;
     }
 
-    /// An equal value, which shares the theory.
+    /// An equal value, which shares the theory and the theorem.
     pub fn copy(&self) -> Result<Cthm, AllocError>
         ensures { IfOk result (λ copy. copy ≡ self.now) }
     {
         let stage = Arc::try_clone(&self.stage)?;
-        let thm = self.thm.copy(self.stage.alloc)?;
+        let thm = Arc::try_clone(&self.thm)?;
         Ok(Cthm { stage, thm })
     }
 
-    /// The theorem in another theory, which must have each declaration of its own.
+    /// The same theorem in another theory, which must have each declaration of its own.
     pub fn transfer(&self, to: &Stage) -> Result<Cthm, TransferFault>
         ensures ok { IfOk result (λ more. more ≡ record { content = to.now.value; theorem = self.now.theorem }) }
         ensures below { OnOk result (IsBelow self.now.content to.now.value) }
@@ -110,7 +110,7 @@ impl Cthm {
             return Err(TransferFault::Missing { declaration });
         }
         let stage = Arc::try_clone(to)?;
-        let thm = self.thm.copy(self.stage.alloc)?;
+        let thm = Arc::try_clone(&self.thm)?;
         Ok(Cthm { stage, thm })
     }
 }

@@ -47,42 +47,38 @@ impl Theory {
         Ok(more)
     }
 
-    /// Declares an axiom.
-    pub fn declare_axiom(&self, name: Name, prop: &Term) -> Result<Theory, DeclFault>
-        requires { IsStatement self.now prop.now }
-        ensures ok { IfOk result (λ more. more ≡ with_decl self.now (AxiomDecl name prop.now)) }
-        ensures new { OnOk result (¬ HasNamesake self.now.declarations (AxiomDecl name prop.now)) }
-        ensures fault { IfErr result (IsNameRefusal self.now.declarations (AxiomDecl name prop.now)) }
+    /// Declares an axiom, whose statement the theory shares.
+    pub fn declare_axiom(&self, name: Name, prop: Arc<Term>) -> Result<Theory, DeclFault>
+        requires { IsStatement self.now prop.value }
+        ensures ok { IfOk result (λ more. more ≡ with_decl self.now (AxiomDecl name prop.value)) }
+        ensures new { OnOk result (¬ HasNamesake self.now.declarations (AxiomDecl name prop.value)) }
+        ensures fault { IfErr result (IsNameRefusal self.now.declarations (AxiomDecl name prop.value)) }
     {
         if let Some(_old) = self.declared.fact(name) {
             return Err(DeclFault::Duplicate);
         }
-        let copy = prop.copy(self.alloc)?;
-        let prop = shared(self.alloc, copy)?;
         let declared = self.declared.with_axiom(name, prop)?;
         let order = Arc::try_clone(&self.order)?;
         let more = self.with(declared, order)?;
         Ok(more)
     }
 
-    /// Declares a promise, whose label comes after those of all others.
+    /// Declares a promise, whose label comes after those of all others. The theory shares its statement.
     pub fn declare_promise(
         &self,
         name: Name,
         label: Label,
-        prop: &Term,
+        prop: Arc<Term>,
     ) -> Result<Theory, DeclFault>
-        requires statement { IsStatement self.now prop.now }
+        requires statement { IsStatement self.now prop.value }
         requires label { IsLabelAbove self.now.declarations label }
-        ensures ok { IfOk result (λ more. more ≡ with_decl self.now (PromiseDecl name label prop.now)) }
-        ensures new { OnOk result (¬ HasNamesake self.now.declarations (PromiseDecl name label prop.now)) }
-        ensures fault { IfErr result (IsNameRefusal self.now.declarations (PromiseDecl name label prop.now)) }
+        ensures ok { IfOk result (λ more. more ≡ with_decl self.now (PromiseDecl name label prop.value)) }
+        ensures new { OnOk result (¬ HasNamesake self.now.declarations (PromiseDecl name label prop.value)) }
+        ensures fault { IfErr result (IsNameRefusal self.now.declarations (PromiseDecl name label prop.value)) }
     {
         if let Some(_old) = self.declared.fact(name) {
             return Err(DeclFault::Duplicate);
         }
-        let copy = prop.copy(self.alloc)?;
-        let prop = shared(self.alloc, copy)?;
         let declared = self.declared.with_promise(name, label, prop)?;
         let order = Arc::try_clone(&self.order)?;
         let more = self.with(declared, order)?;

@@ -12,6 +12,7 @@ use crate::pure::constant;
 use crate::schematic::{schematic_term, schematic_typ};
 use crate::theory::Theory;
 use pure_certify::{has_extra_typ, has_variable};
+use pure_stage::shared;
 use pure_term::{Name, Term, Typ};
 use pure_theorem::equation;
 use std::alloc::{AllocError, Global};
@@ -73,7 +74,8 @@ impl Theory {
         let typ = schematic_typ(self.alloc, typ)?;
         let constant = self.declare_const(name, &typ)?;
         let axiom = definition_axiom(self.alloc, name, &typ, body)?;
-        let more = constant.declare_axiom(fact, &axiom)?;
+        let prop = shared(self.alloc, axiom)?;
+        let more = constant.declare_axiom(fact, prop)?;
         Ok(more)
     }
 }

@@ -5,15 +5,15 @@
 //!
 //! A refusal is its letter, `D` for a duplicate, `C` for an unknown class, `T` for an unknown type, `W` for a wrong count, `N` for arities that aren't
 //! coregular, `V` for a body with a variable and `X` for one with a further type variable, and then the names that it has.
-ghost use Rattle.std.specs.Prelude.{IsTrue};
+ghost use Rattle.std.specs.Prelude.{◌≡◌, IfOk, IsTrue};
 ghost use Rattle.std.specs.List.Sorted.{IsStrictlyIncreasing};
 ghost use Rattle.pure_definitions.specs.Types.Typ.{prop};
 ghost use Rattle.pure_logic.specs.PureContent.{proposition_variable};
-ghost use Rattle.std.specs.Prelude.{◌≡◌};
 
 use pure_term::{Name, Sort, Term, TermNode, Typ, TypNode};
 use pure_theory::{DeclFault, Stage, Theory};
 use std::alloc::{AllocError, Global};
+use std::sync::Arc;
 
 /// The name that the byte stands for.
 pub(crate) fn name(byte: u8) -> Name {
@@ -88,6 +88,13 @@ pub(crate) fn variable(alloc: Global) -> Term
     Term { node }
 }
 
+/// The statement `?A`, to be shared.
+pub(crate) fn shared_variable(alloc: Global) -> Result<Arc<Term>, AllocError>
+    ensures { IfOk result (λ prop. prop.value ≡ proposition_variable 0) }
+{
+    Arc::new(alloc, variable(alloc))
+}
+
 /// Declares a constant of type prop.
 pub(crate) fn declare_const(
     alloc: Global,
@@ -106,8 +113,8 @@ pub(crate) fn declare_axiom(
     name: Name,
 ) -> Result<Theory, DeclFault> {
     theory.content_is_sound();
-    let term = variable(alloc);
-    theory.declare_axiom(name, &term)
+    let prop = shared_variable(alloc)?;
+    theory.declare_axiom(name, prop)
 }
 
 /// Declares a class.

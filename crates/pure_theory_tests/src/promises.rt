@@ -1,5 +1,5 @@
 //! A promise, a theorem that rests on it, and theories to which that is handed on.
-use crate::notation::{declare, name, shared, variable};
+use crate::notation::{declare, name, shared, shared_variable};
 use crate::sessions::{Told, stage_over};
 use pure_rules::promise;
 use pure_term::{Label, Name};
@@ -25,14 +25,18 @@ static LAST: Told = (b'B', 3, b"", b"c< p!");
 pub(crate) fn promised(alloc: Global, name: Name) -> Result<Theory, DeclFault> {
     let pure = Theory::pure(alloc)?;
     pure.content_is_sound();
-    pure.declare_promise(name, LABEL, &variable(alloc))
+    let prop = shared_variable(alloc)?;
+    pure.declare_promise(name, LABEL, prop)
 }
 
 /// The theorem of the promise.
 fn resting(alloc: Global, stage: &Stage) -> Result<Option<Cthm>, AllocError> {
     let theory = &**stage;
     match promise(alloc, theory, LABEL) {
-        Ok(thm) => Ok(Some(Cthm::make(Arc::try_clone(stage)?, thm))),
+        Ok(thm) => {
+            let thm = Arc::new(alloc, thm)?;
+            Ok(Some(Cthm::make(Arc::try_clone(stage)?, thm)))
+        }
         Err(_) => Ok(None),
     }
 }

@@ -11,4 +11,4 @@ declare_promise-requires-clause-label c =
     (subst (λ (l : Label). IsLabelAbove c.args.place.now.content.declarations l) (sym c.label-label.ensures.value) c.label-label.ensures.above)
 
 pub only_memory-requires : goal.only_memory-requires
-only_memory-requires c = promise-memory c.theory.result.now c.args.place.now.content c.theory.ensures.value c.in-Err.fault c.args.name c.label-label.result c.args.prop.now c.requires.new c.in-Err.ensures.fault
+only_memory-requires c = promise-memory c.theory.result.now c.args.place.now.content c.theory.ensures.value c.in-Err.fault c.args.name c.label-label.result c.args.prop.value c.requires.new c.in-Err.ensures.fault

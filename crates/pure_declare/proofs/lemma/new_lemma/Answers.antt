@@ -1,6 +1,11 @@
 use Rattle.pure_script.specs.Seen.{span, seen_steps}
+use Rattle.pure_declare.specs.Commands.{vocabulary}
 use Rattle.pure_declare.proofs.LemmaSteps.{lemma-failed, lemma-memory, lemma-made}
+use Rattle.pure_declare.proofs.TidyDeclared.{stated-again}
 use Rattle.pure_declare.proofs.lemma.new_lemma.Goals as goal
+
+pub forked-requires-clause-fixed : goal.forked-requires-clause-fixed
+forked-requires-clause-fixed c = stated-again (vocabulary c.args.place.now) c.args.place.now.source (span c.args.at) c.in_ok-stated.stated c.in_ok-stated.ensures.answer
 
 pub returns-in_err-stated-clause-failed : goal.returns-in_err-stated-clause-failed
 returns-in_err-stated-clause-failed c =

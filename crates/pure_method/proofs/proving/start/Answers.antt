@@ -5,12 +5,12 @@ use Rattle.pure_method.proofs.StartLaws.{started-run, started-fault}
 use Rattle.pure_method.proofs.proving.start.Goals as goal
 
 pub start-requires : goal.start-requires
-start-requires c = subst IsTyped (sym c.statement_of.ensures) (prop, c.requires.proposition.typed)
+start-requires c = subst IsTyped (sym c.in_ok-statement.ensures) (prop, c.requires.proposition.typed)
 
 pub returns-in-Ok-clause-proves : goal.returns-in-Ok-clause-proves
 returns-in-Ok-clause-proves c =
-    started-run c.args._names.now c.args.duty.now c.requires c.statement_of.result.now c.statement_of.ensures c.theory_of.result.now c.theory_of.ensures.value c.theory_of.ensures.sound
+    started-run c.args._names.now c.args.duty.now c.requires c.in_ok-statement.statement c.in_ok-statement.ensures c.theory_of.result.now c.theory_of.ensures.value c.theory_of.ensures.sound
     c.in-Ok.goal c.in-Ok.ensures.answer c.in-Ok.ensures.derivable
 
-pub returns-else-is_memory-clause-proves : goal.returns-else-is_memory-clause-proves
-returns-else-is_memory-clause-proves c = started-fault c.args._names.now c.args.duty.now c.requires c.statement_of.result.now c.statement_of.ensures c.in-Err.fault c.if-is_memory.ensures c.in-Err.ensures.answer
+pub returns-clause-proves : goal.returns-clause-proves
+returns-clause-proves c = started-fault c.args._names.now c.args.duty.now c.requires c.in_ok-statement.statement c.in_ok-statement.ensures c.in-Err.fault c.if-is_memory.ensures c.in-Err.ensures.answer

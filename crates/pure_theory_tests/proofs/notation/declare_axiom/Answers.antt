@@ -6,4 +6,4 @@ use Rattle.pure_theory_tests.proofs.notation.declare_axiom.Goals as goal
 
 pub declare_axiom-requires : goal.declare_axiom-requires
 declare_axiom-requires c =
-    rw c.variable-term.ensures (record { proposition = certified_of-above pure_content c.args.theory.now c.content_is_sound.ensures.above_pure (proposition_variable 0) prop (variable_is_proposition 0); schematic = tt })
+    rw c.in_ok-prop.ensures (record { proposition = certified_of-above pure_content c.args.theory.now c.content_is_sound.ensures.above_pure (proposition_variable 0) prop (variable_is_proposition 0); schematic = tt })

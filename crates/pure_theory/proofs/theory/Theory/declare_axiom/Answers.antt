@@ -4,13 +4,13 @@ use Rattle.pure_theory.proofs.NamesakeLaws.{new_axiom, old_axiom}
 use Rattle.pure_theory.proofs.theory.Theory.declare_axiom.Goals as goal
 
 pub with-requires : goal.with-requires
-with-requires c = rw (← c.self.view_is, c.in_ok-declared.ensures, c.in_ok-order.ensures, c.in_ok-prop.ensures, c.in_ok-copy.ensures) (axiom_stage _ _ c.self.invariant c.args.name c.args.prop.now c.in_default.ensures (rw (← c.self.view_is) at c.requires))
+with-requires c = rw (← c.self.view_is, c.in_ok-declared.ensures, c.in_ok-order.ensures) (axiom_stage _ _ c.self.invariant c.args.name c.args.prop.value c.in_default.ensures (rw (← c.self.view_is) at c.requires))
 
 pub returns-clause-ok : goal.returns-clause-ok
-returns-clause-ok c = rw (c.in_ok-more.ensures, c.in_ok-declared.ensures, c.in_ok-prop.ensures, c.in_ok-copy.ensures, ← c.self.view_is) refl
+returns-clause-ok c = rw (c.in_ok-more.ensures, c.in_ok-declared.ensures, ← c.self.view_is) refl
 
 pub returns-clause-new : goal.returns-clause-new
-returns-clause-new c = rw (← c.self.view_is) (new_axiom c.self.inside.declared c.args.name c.args.prop.now c.in_default.ensures)
+returns-clause-new c = rw (← c.self.view_is) (new_axiom c.self.inside.declared c.args.name c.args.prop.value c.in_default.ensures)
 
 pub returns-in-Some-clause-fault : goal.returns-in-Some-clause-fault
-returns-in-Some-clause-fault c = rw (← c.self.view_is) (old_axiom c.self.inside.declared c.args.name c.args.prop.now c.in-Some._old.now ((c.in-Some.ensures c.in-Some._old.now).1 refl))
+returns-in-Some-clause-fault c = rw (← c.self.view_is) (old_axiom c.self.inside.declared c.args.name c.args.prop.value c.in-Some._old.now ((c.in-Some.ensures c.in-Some._old.now).1 refl))
