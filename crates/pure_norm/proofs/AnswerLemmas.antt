@@ -1,5 +1,5 @@
 -- The walk from a whole term gives the normaliser's answer.
-use Rattle.std.proofs.Common.{◌≡◌, ℕ, zero, suc, ◌≤◌, List, [], ◌∷◌, length, refl, ap, sym, subst, arith}
+use Rattle.std.proofs.Common.{◌≡◌, ℕ, zero, suc, List, [], ◌∷◌, length, refl, ap, sym, subst, arith}
 use Rattle.std.specs.Prelude.{Some, Err}
 use Rattle.pure_text.specs.Lists.{Each}
 use Rattle.pure_definitions.specs.Terms.Term.{Term, IsWithin, term_size, term_depth, max_size, max_depth}
@@ -11,6 +11,7 @@ use Rattle.pure_norm.specs.declared.fault.NormFault.{NormFault}
 use Rattle.pure_norm.specs.declared.fault.NormFault.TheVariants.{Steps, Big, Memory}
 use Rattle.pure_norm.specs.Walk.{Normal, Fits, Leads, nodes_at, Walked, Outgrows, RunsOut, Fails}
 use Rattle.pure_norm.specs.NormAnswer.{IsNormAnswer}
+use Rattle.pure_norm.proofs.BetaLaws.{normal_form-of_normal}
 
 fits-within : (t : Term) → Fits max_size 0 t → IsWithin t
 fits-within t h = let low = h.shallow in record { size = h.few; depth = omega arith }
@@ -105,3 +106,11 @@ pub fails-answer : (walk : Walk) (t : Term) (fault : NormFault) → IsBeginning 
 fails-answer walk t Big b h = outgrows-answer walk t b h
 fails-answer walk t Steps b h = runs_out-answer walk t b h
 fails-answer walk t Memory b h = tt
+
+-- A normal term within the limits is its own normal form.
+pub normal-answer : (rest : ℕ) (t u : Term) → Leaves max_size max_depth (term_size t) (term_depth t) (Some rest) → IsBetaNormal t → u ≡ t → IsBetaAnswer t (NormalForm u)
+normal-answer rest t u h normal same =
+    let room = h.0 in
+    let low = h.1 in
+    let within : IsWithin t = record { size = omega arith; depth = omega arith } in
+    subst (λ v. IsBetaAnswer t (NormalForm v)) (sym same) (normal_form-of_normal t within normal)

@@ -18,7 +18,6 @@ use Rattle.pure_norm.proofs.RedexLemmas.{deepest-redex, redex-contracted, redex-
 -- what is asked of the body
 pub record IsFewBody (deep : ℕ) (body : Term) : Type 0 where
   pub few : term_size body ≤ 200000
-  pub low : 0 + term_depth body ≤ 10000
   pub deep_enough : deep + term_depth body ≤ 10000
 
 module _ (deep : ℕ) (before : Walk) (T : Typ) (e : Env) (body a : Term) (can : CanWalk deep before (App (Abs T (meant_under 1 e body)) a)) where
@@ -28,7 +27,7 @@ module _ (deep : ℕ) (before : Walk) (T : Typ) (e : Env) (body a : Term) (can :
       let shallow = can.shallow in
       let size = size-le-meant 1 e body in
       let depth = depth-le-meant 1 e body in
-      record { few = omega arith; low = omega arith; deep_enough = omega arith }
+      record { few = omega arith; deep_enough = omega arith }
 
   pub no_step : before.steps ≡ 0 → CannotContract deep before (App (Abs T (meant_under 1 e body)) a) Steps
   no_step none = (subst_bound (meant_under 1 e body) a, (λ i. Some (subst_bound (meant_under 1 e body) a)), none)

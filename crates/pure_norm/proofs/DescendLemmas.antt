@@ -1,5 +1,5 @@
 -- A walk that goes down into an abstraction or an application: what it needs there, and what it says of the whole.
-use Rattle.std.proofs.Common.{◌≡◌, ℕ, ◌+◌, ◌≤◌, sym, subst, arith}
+use Rattle.std.proofs.Common.{◌≡◌, ℕ, ◌+◌, sym, subst, arith}
 use Rattle.pure_definitions.specs.Types.Typ.{Typ, typ_size}
 use Rattle.pure_definitions.specs.Terms.Term.{Term, Abs, App, term_size}
 use Rattle.pure_definitions.specs.Reduction.Beta.{IsAbs, IsBetaNormal}

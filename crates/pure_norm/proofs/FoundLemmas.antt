@@ -5,7 +5,7 @@ use Rattle.pure_definitions.specs.Terms.Term.{Term, Bound}
 use Rattle.pure_definitions.specs.Terms.Bounds.{lift_term}
 use Rattle.pure_norm.specs.declared.held.Found.{Found}
 use Rattle.pure_norm.specs.declared.held.Held.{Held}
-use Rattle.pure_norm.specs.Env.{Env, Empty, Bind, Under, Raise, meant}
+use Rattle.pure_norm.specs.Env.{Env, Bind, Under, Raise, meant}
 use Rattle.pure_norm.specs.Held.{IsFound, IsHeld}
 use Rattle.pure_norm.proofs.MeantLemmas.{found-raised, found-stays, found-under, bind-itself, bind-other}
 

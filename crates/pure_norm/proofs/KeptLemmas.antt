@@ -1,7 +1,7 @@
 -- The occurrences of a term's own bound variables stay as they are in what is meant.
-use Rattle.std.proofs.Common.{◌≡◌, ◌∙◌, ◌⊎◌, inl, inr, ℕ, ◌+◌, ◌<◌, ◌≤◌, Bool, true, false, refl, ap, sym, arith}
+use Rattle.std.proofs.Common.{◌≡◌, ◌∙◌, inl, inr, ℕ, ◌+◌, ◌≤◌, false, refl, ap, sym, arith}
 use Rattle.std.proofs.lemmas.Bool.Decides.{nat_tests}
-use Rattle.std.specs.Prelude.{max, nat_eq, nat_lt, if◌then◌else◌}
+use Rattle.std.specs.Prelude.{nat_eq}
 use Rattle.pure_definitions.specs.Terms.Term.{Term, Const, Free, Var, Bound, Abs, App}
 use Rattle.pure_definitions.specs.Terms.Bounds.{lift_term}
 use Rattle.pure_definitions.proofs.LiftLaws.{lifted, lift_term-bound}

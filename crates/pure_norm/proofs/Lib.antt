@@ -4,6 +4,8 @@ pub mod MeantLemmas
 pub mod FoundLemmas
 pub mod KeptLemmas
 pub mod MeasureLemmas
+pub mod RowLemmas
+pub mod PieceLemmas
 pub mod StepLemmas
 pub mod LeadsLemmas
 pub mod WalkLemmas

@@ -1,16 +1,16 @@
 -- What is meant by each kind of term in an environment.
-use Rattle.std.proofs.Common.{◌≡◌, ◌∙◌, ◌⊎◌, inl, inr, ℕ, zero, suc, ◌+◌, ◌<◌, ◌≤◌, Bool, true, false, refl, ap, sym, subst, arith}
+use Rattle.std.proofs.Common.{◌≡◌, ◌∙◌, ◌⊎◌, inl, inr, ℕ, ◌+◌, ◌<◌, ◌≤◌, true, false, refl, ap, sym, arith}
 use Rattle.std.proofs.lemmas.Bool.Decides.{nat_tests}
 use Rattle.std.specs.Prelude.{◌-◌, nat_lt}
 use Rattle.pure_definitions.specs.Types.Typ.{Typ}
 use Rattle.pure_definitions.specs.Terms.Term.{Term, Const, Free, Var, Bound, Abs, App, term_size, term_depth}
-use Rattle.pure_definitions.specs.Terms.Bounds.{lift_term, place_at, subst_under}
+use Rattle.pure_definitions.specs.Terms.Bounds.{lift_term, subst_under}
 use Rattle.pure_definitions.proofs.LiftLaws.{lift-lift, subst-lift}
 use Rattle.pure_definitions.proofs.TermLemmas.{term_size-lift, term_depth-lift}
 use Rattle.pure_term_laws.proofs.BoundLaws.{lift-zero, lift-again}
 use Rattle.pure_term_laws.proofs.MapLaws.{place-below, place-itself, beside, subst-past-lift, size-le-subst, depth-le-subst}
 use Rattle.pure_norm.specs.Env.{Env, Empty, Bind, Under, Raise, meant_under, meant}
-use Rattle.pure_norm.specs.Turn.{IsLeaf}
+use Rattle.pure_norm.specs.Pieces.{IsLeaf}
 
 leaf-subst : (n : ℕ) (c t : Term) → IsLeaf t → subst_under n c t ≡ t
 leaf-subst n c (Const d T) h = refl

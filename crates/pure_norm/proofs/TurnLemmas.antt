@@ -1,12 +1,5 @@
 -- Walks to an abstraction and to a normal form, by what is found on the way.
-use Rattle.std.proofs.Common.{◌≡◌, ◌∙◌, ℕ, zero, suc, ◌+◌, ◌*◌, ◌<◌, ◌≤◌, refl, sym, subst, arith}
-use Rattle.std.proofs.Common.{Box}
-use Rattle.std.specs.declared.alloc.Global.{Global}
-use Rattle.pure_typ.specs.declared.typ.Typ as typ
-use Rattle.pure_term.specs.declared.term.Term as term
-use Rattle.pure_term.specs.declared.term.TermNode.{TermNode}
-use Rattle.pure_term.specs.declared.term.TermNode.TheVariants as node
-use Rattle.pure_term.specs.TermView.{view_term}
+use Rattle.std.proofs.Common.{◌≡◌, ℕ, zero, suc, ◌+◌, ◌*◌, ◌<◌, ◌≤◌, refl, sym, subst, arith}
 use Rattle.pure_definitions.specs.Types.Typ.{Typ}
 use Rattle.pure_definitions.specs.Terms.Term.{Term, Const, Free, Var, Bound, Abs, App, term_size}
 use Rattle.pure_definitions.specs.Reduction.Beta.{IsAbs, IsBetaNormal}
@@ -16,7 +9,7 @@ use Rattle.pure_norm.specs.declared.fault.NormFault.TheVariants.{Steps, Big, Mem
 use Rattle.pure_norm.specs.declared.walk.Turn.{Turn}
 use Rattle.pure_norm.specs.declared.walk.Turn.TheVariants as turn
 use Rattle.pure_norm.specs.Held.{IsBound, closure_term}
-use Rattle.pure_norm.specs.Turn.{IsLeaf, head_term, turns, IsTurn, IsFoundTurn}
+use Rattle.pure_norm.specs.Turn.{head_term, turns, IsTurn, IsFoundTurn}
 use Rattle.pure_norm.specs.Walk.{Abstraction, Normal, Leads, CanWalk, Walked, Fails, Contracted, CannotContract}
 use Rattle.pure_norm.proofs.WalkLemmas.{walked-chain, fails-chain, can_walk-after, walked-nowhere}
 use Rattle.pure_norm.proofs.DescendLemmas.{can_walk-body, walked-body, fails-body, can_walk-function, walked-function, fails-function, walked-redex, fails-redex, can_walk-argument, IsFunctionOver, walked-after_function, fails-after_function}
@@ -134,8 +127,8 @@ walked-same deep walk t u can e = subst (λ v. Walked Abstraction deep walk walk
 pub turn-found : (deep p : ℕ) (walk : Walk) (t : Term) (found : Turn) → CanWalk deep walk t → IsFoundTurn t found → IsTurn deep walk walk (Bound p) t found
 turn-found deep p walk t (turn.Over h) can found = (walked-same deep walk t (head_term h) can found.0, found.1)
 turn-found deep p walk t (turn.Next d) can found =
-    let left = turns-other walk d.term.now found.1 in
-    (walked-same deep walk t (closure_term d) can found.0, omega arith)
+    let left = turns-other walk d.piece.term.now found.1 in
+    (walked-same deep walk t (closure_term d) can found.0, omega arith, found.2)
 
 -- what is said of equal terms
 pub turn-same : (deep : ℕ) (before now : Walk) (c d t u : Term) (x : Turn) → c ≡ d → t ≡ u → IsTurn deep before now d u x → IsTurn deep before now c t x
@@ -144,13 +137,3 @@ turn-same deep before now c d t u x e f h =
 
 pub fails-same : (deep : ℕ) (before : Walk) (t u : Term) (fault : NormFault) → t ≡ u → Fails Abstraction deep before u fault → Fails Abstraction deep before t fault
 fails-same deep before t u fault e h = subst (λ (v : Term). Fails Abstraction deep before v fault) (sym e) h
-
--- A node that is no abstraction, no bound variable and no application is a constant or a variable.
-pub leaf-node : (n : TermNode) → ((p : ℕ) → n ≡ node.Bound p → ⊥) → ((T : typ.Typ) (b : Box term.Term Global) → n ≡ node.Abs T b → ⊥)
-    → ((f a : Box term.Term Global) → n ≡ node.App f a → ⊥) → IsLeaf (view_term n)
-leaf-node (node.Const c T) h k l = tt
-leaf-node (node.Free x T) h k l = tt
-leaf-node (node.Var x i T) h k l = tt
-leaf-node (node.Bound p) h k l = absurd (h p refl)
-leaf-node (node.Abs T b) h k l = absurd (k T b refl)
-leaf-node (node.App f a) h k l = absurd (l f a refl)

@@ -5,4 +5,4 @@ use Rattle.pure_norm.specs.Env.{meant_under}
 
 -- the abstraction that is meant
 abbrev pub function_term : Function → Term
-function_term f = Abs f.typ.now (meant_under 1 f.scope.value f.body.now)
+function_term f = Abs f.typ.now (meant_under 1 f.scope.value f.body.term.now)

@@ -1,6 +1,8 @@
 pub mod Env
 pub mod EnvCodes
 pub mod Measures
+pub mod Cells
+pub mod Pieces
 pub mod ScopeView
 pub mod ScopeFalls
 pub mod Held

@@ -7,13 +7,15 @@ ghost use Rattle.pure_norm.specs.Env.{meant};
 ghost use Rattle.pure_norm.specs.Held.{closure_term};
 ghost use Rattle.pure_norm.specs.Walk.{CanWalk, Contracted, CannotContract};
 ghost use Rattle.pure_norm.specs.Function.{function_term};
+ghost use Rattle.pure_norm.specs.Pieces.{IsPiece};
 
 use crate::fault::NormFault;
 use crate::held::hold;
 use crate::measure::Measure;
 use crate::occurrences::{Occurrences, find_occurrences};
+use crate::pieces::Piece;
 use crate::scope::{Closure, Scope, scope_with};
-use pure_term::{MAX_DEPTH, Term, Typ};
+use pure_term::{MAX_DEPTH, Typ};
 use pure_typ::size_of_typ;
 use std::alloc::Global;
 use std::rc::Rc;
@@ -29,37 +31,40 @@ pub struct Walk {
 #[derive(Drop)]
 pub struct Function<'t> {
     pub typ: &'t Typ,
-    pub body: &'t Term,
+    pub body: Piece<'t>,
     pub scope: Rc<Scope<'t>>,
 }
 
-/// The function's body, with its variable bound to the argument. It costs a walk of the body and one of the argument, as they are held.
+/// The function's body, with its variable bound to the argument. It costs a look through the row of the body and one through that of the argument.
 pub fn contract<'t>(
     alloc: Global,
     function: &Function<'t>,
-    arg: &'t Term,
+    arg: &Piece<'t>,
     scope: &Rc<Scope<'t>>,
     deep: u32,
     walk: &mut Walk,
 ) -> Result<Closure<'t>, NormFault>
-    requires { CanWalk deep walk.old (App (function_term function.now) (meant scope.now.value arg.now)) }
-    ensures contracted { IfOk result (λ closure. Contracted deep walk.old walk.new (App (function_term function.now) (meant scope.now.value arg.now)) (closure_term closure)) }
-    ensures fault { IfErr result (λ fault. CannotContract deep walk.old (App (function_term function.now) (meant scope.now.value arg.now)) fault) }
+    requires body { IsPiece function.now.body }
+    requires arg { IsPiece arg.now }
+    requires can { CanWalk deep walk.old (App (function_term function.now) (meant scope.now.value arg.now.term.now)) }
+    ensures contracted { IfOk result (λ closure. Contracted deep walk.old walk.new (App (function_term function.now) (meant scope.now.value arg.now.term.now)) (closure_term closure)) }
+    ensures piece { IfOk result (λ closure. IsPiece closure.piece) }
+    ensures fault { IfErr result (λ fault. CannotContract deep walk.old (App (function_term function.now) (meant scope.now.value arg.now.term.now)) fault) }
 {
     if walk.steps == 0 {
         return Err(NormFault::Steps);
     }
     let held = hold(alloc, arg, scope)?;
     let measure = held.measure;
-    let term = function.body;
-    let found = find_occurrences(term, 0, deep);
+    let found = find_occurrences(&function.body, deep);
     let Some(room) = room_after(function.typ, measure, found, walk.room) else {
         return Err(NormFault::Big);
     };
     let scope = scope_with(alloc, &held.closure, measure, &function.scope)?;
     walk.steps -= 1;
     walk.room = room;
-    Ok(Closure { term, scope })
+    let piece = function.body;
+    Ok(Closure { piece, scope })
 }
 
 /// How many nodes are left of room when the argument of a redex goes to its occurrences, below the binder's type.

@@ -1,13 +1,16 @@
 //! What stands for a bound variable in a scope, and arguments held there.
-ghost use Rattle.std.specs.Prelude.{◌≡◌, ◌≤◌, IfOk};
+ghost use Rattle.std.specs.Prelude.{◌≡◌, ◌≤◌, IfOk, MatchOption};
 ghost use Rattle.pure_definitions.specs.Terms.Term as tree;
 ghost use Rattle.pure_definitions.specs.Terms.Term.{term_size, term_depth, max_size, max_depth};
 ghost use Rattle.pure_definitions.specs.Terms.Bounds.{lift_term};
 ghost use Rattle.pure_norm.specs.Env.{meant};
 ghost use Rattle.pure_norm.specs.Measures.{measure_of};
 ghost use Rattle.pure_norm.specs.Held.{IsBound, IsFound, IsHeld};
+ghost use Rattle.pure_norm.specs.Pieces.{IsPiece};
 
-use crate::measure::{Measure, measure_in};
+use crate::measure::Measure;
+use crate::pieces::Piece;
+use crate::rows::measure_in;
 use crate::scope::{Closure, Scope, ScopeNode, push_measures, raised_scope};
 use pure_term::{Term, TermNode};
 use std::alloc::{AllocError, Global};
@@ -54,7 +57,7 @@ pub fn find<'t>(
             find(alloc, rest, place - 1, up)
         }
         ScopeNode::Bind {
-            term,
+            piece,
             inner,
             measure,
             rest,
@@ -62,11 +65,21 @@ pub fn find<'t>(
             if place != 0 {
                 return find(alloc, rest, place - 1, up);
             }
-            if let TermNode::Bound { place } = &term.node {
-                return find(alloc, inner, *place, up);
+            if let Some(place) = place_of(piece.term) {
+                return find(alloc, inner, place, up);
             }
-            keep(alloc, *term, inner, *measure, up)
+            keep(alloc, piece, inner, *measure, up)
         }
+    }
+}
+
+/// The place of a term that is a bound variable.
+fn place_of(t: &Term) -> Option<u32>
+    ensures { MatchOption result (¬ IsBound t.now) (λ place. t.now ≡ tree.Bound place) }
+{
+    match &t.node {
+        TermNode::Bound { place } => Some(*place),
+        _ => None,
     }
 }
 
@@ -83,48 +96,58 @@ fn stays<'t>(place: u32, up: u32) -> Result<Found<'t>, AllocError>
 /// The term that a binder stands for, raised.
 fn keep<'t>(
     alloc: Global,
-    term: &'t Term,
+    piece: &Piece<'t>,
     inner: &Rc<Scope<'t>>,
     measure: Measure,
     up: u32,
 ) -> Result<Found<'t>, AllocError>
-    requires other { ¬ IsBound term.now }
-    requires measured { measure ≡ measure_of (meant inner.now.value term.now) }
-    ensures { IfOk result (λ found. IsFound (lift_term up 0 (meant inner.now.value term.now)) found) }
+    requires other { ¬ IsBound piece.now.term.now }
+    requires measured { measure ≡ measure_of (meant inner.now.value piece.now.term.now) }
+    requires piece { IsPiece piece.now }
+    ensures { IfOk result (λ found. IsFound (lift_term up 0 (meant inner.now.value piece.now.term.now)) found) }
 {
     let scope = raised_scope(alloc, up, inner)?;
-    let closure = Closure { term, scope };
+    let closure = Closure {
+        piece: *piece,
+        scope,
+    };
     Ok(Found::Kept(Held { closure, measure }))
 }
 
 /// The argument held in its scope. A bound variable is not held itself, but what stands for it.
-pub fn hold<'t>(alloc: Global, arg: &'t Term, scope: &Rc<Scope<'t>>) -> Result<Held<'t>, AllocError>
-    requires few { term_size (meant scope.now.value arg.now) ≤ max_size }
-    requires shallow { term_depth (meant scope.now.value arg.now) ≤ max_depth }
-    ensures { IfOk result (λ held. IsHeld (meant scope.now.value arg.now) held) }
+pub fn hold<'t>(
+    alloc: Global,
+    arg: &Piece<'t>,
+    scope: &Rc<Scope<'t>>,
+) -> Result<Held<'t>, AllocError>
+    requires piece { IsPiece arg.now }
+    requires few { term_size (meant scope.now.value arg.now.term.now) ≤ max_size }
+    requires shallow { term_depth (meant scope.now.value arg.now.term.now) ≤ max_depth }
+    ensures { IfOk result (λ held. IsHeld (meant scope.now.value arg.now.term.now) held) }
 {
-    if let TermNode::Bound { place } = &arg.node {
-        if let Found::Kept(held) = find(alloc, scope, *place, 0)? {
+    if let Some(place) = place_of(arg.term) {
+        if let Found::Kept(held) = find(alloc, scope, place, 0)? {
             return Ok(held);
         }
     }
     hold_itself(alloc, arg, scope)
 }
 
-/// The argument itself held in its scope, measured by one walk through it.
+/// The argument itself held in its scope, measured by one look through its row.
 fn hold_itself<'t>(
     alloc: Global,
-    arg: &'t Term,
+    arg: &Piece<'t>,
     scope: &Rc<Scope<'t>>,
 ) -> Result<Held<'t>, AllocError>
-    requires few { term_size (meant scope.now.value arg.now) ≤ max_size }
-    requires shallow { term_depth (meant scope.now.value arg.now) ≤ max_depth }
-    ensures { IfOk result (λ held. IsHeld (meant scope.now.value arg.now) held) }
+    requires piece { IsPiece arg.now }
+    requires few { term_size (meant scope.now.value arg.now.term.now) ≤ max_size }
+    requires shallow { term_depth (meant scope.now.value arg.now.term.now) ≤ max_depth }
+    ensures { IfOk result (λ held. IsHeld (meant scope.now.value arg.now.term.now) held) }
 {
     let mut places = Vec::new(alloc);
     push_measures(scope, &mut places)?;
-    let measure = measure_in(arg, 0, &places);
+    let measure = measure_in(arg.cells, arg.binders, arg.above, &places);
     let scope = scope.clone()?;
-    let closure = Closure { term: arg, scope };
+    let closure = Closure { piece: *arg, scope };
     Ok(Held { closure, measure })
 }

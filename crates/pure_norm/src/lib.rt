@@ -2,12 +2,15 @@
 #![tactic(auto)]
 
 mod beta;
+mod cells;
 mod contract;
 mod fault;
 mod held;
 pub mod laws;
 mod measure;
 mod occurrences;
+mod pieces;
+mod rows;
 mod scope;
 mod walk;
 

@@ -1,9 +1,12 @@
-//! How often and how deep a bound variable occurs.
-ghost use Rattle.std.specs.Prelude.{◌≡◌, ◌+◌, ◌≤◌, max};
-ghost use Rattle.pure_definitions.specs.Terms.Term.{Bound, term_size, term_depth};
+//! How often and how deep the variable of an abstraction occurs in its body.
+ghost use Rattle.std.specs.Prelude.{◌≡◌, ◌+◌, ◌≤◌};
+ghost use Rattle.pure_definitions.specs.Terms.Term.{term_size, term_depth};
+ghost use Rattle.pure_norm.specs.Cells.{total, greatest, cell_count, cell_deepest};
 ghost use Rattle.pure_norm.specs.Occurrences.{occurrence_count, deepest_occurrence};
+ghost use Rattle.pure_norm.specs.Pieces.{IsPiece};
 
-use pure_term::{Term, TermNode};
+use crate::cells::Cell;
+use crate::pieces::Piece;
 
 /// How often a bound variable occurs, and how many nodes are above the deepest of its occurrences.
 #[derive(Clone, Copy)]
@@ -12,55 +15,55 @@ pub struct Occurrences {
     pub deepest: u32,
 }
 
-/// The occurrences of bound variable `place` in the term, which stands below so many nodes.
-pub fn find_occurrences(t: &Term, place: u32, above: u32) -> Occurrences
-    requires few { term_size t.now ≤ 200000 }
-    requires low { place + term_depth t.now ≤ 10000 }
-    requires deep { above + term_depth t.now ≤ 10000 }
-    ensures few { result.count ≤ term_size t.now }
-    ensures count { result.count ≡ occurrence_count place t.now }
-    ensures deepest { result.deepest ≡ deepest_occurrence place above t.now }
+/// The occurrences of an abstraction's variable in its body, which comes to stand below so many nodes.
+pub fn find_occurrences(body: &Piece<'_>, deep: u32) -> Occurrences
+    requires piece { IsPiece body.now }
+    requires few { term_size body.now.term.now ≤ 200000 }
+    requires deep { deep + term_depth body.now.term.now ≤ 10000 }
+    ensures few { result.count ≤ term_size body.now.term.now }
+    ensures count { result.count ≡ occurrence_count 0 body.now.term.now }
+    ensures deepest { result.deepest ≡ deepest_occurrence 0 deep body.now.term.now }
 {
-    let none = Occurrences {
+    occurrences_in(body.cells, body.binders, body.above, deep)
+}
+
+/// The same by the row of a body that stands below so many binders and nodes.
+fn occurrences_in(cells: &[Cell], binders: u32, above: u32, deep: u32) -> Occurrences
+    requires few { total (cell_count binders) cells.now ≤ 200000 }
+    requires low { greatest (cell_deepest binders above deep) cells.now ≤ 20000 }
+    ensures count { result.count ≡ total (cell_count binders) cells.now }
+    ensures deepest { result.deepest ≡ greatest (cell_deepest binders above deep) cells.now }
+{
+    let mut count: u32 = 0;
+    let mut deepest: u32 = 0;
+    for cell in cells {
+        let own = occurrence_at(cell, binders, above, deep);
+        count += own.count;
+        deepest = deepest.max(own.deepest);
+    }
+    Occurrences { count, deepest }
+}
+
+/// The same at one node.
+fn occurrence_at(cell: &Cell, binders: u32, above: u32, deep: u32) -> Occurrences
+    requires { cell_deepest binders above deep cell.now ≤ 20000 }
+    ensures count { result.count ≡ cell_count binders cell.now }
+    ensures deepest { result.deepest ≡ cell_deepest binders above deep cell.now }
+{
+    let mut found = Occurrences {
         count: 0,
         deepest: 0,
     };
-    with_occurrences(t, place, above, none)
-}
-
-/// The same beside those that were found before, so that the last call of each node can take the place of its own.
-fn with_occurrences(t: &Term, place: u32, above: u32, found: Occurrences) -> Occurrences
-    requires few { found.count + term_size t.now ≤ 200000 }
-    requires low { place + term_depth t.now ≤ 10000 }
-    requires deep { above + term_depth t.now ≤ 10000 }
-    ensures few { result.count ≤ found.count + term_size t.now }
-    ensures count { result.count ≡ found.count + occurrence_count place t.now }
-    ensures deepest { result.deepest ≡ max found.deepest (deepest_occurrence place above t.now) }
-{
-    match &t.node {
-        TermNode::Bound { place: bound } => with_bound(*bound, place, above, found),
-        TermNode::Abs { body, .. } => with_occurrences(body, place + 1, above + 1, found),
-        TermNode::App { fun, arg } => {
-            let function = with_occurrences(fun, place, above + 1, found);
-            with_occurrences(arg, place, above + 1, function)
+    if let Cell::Variable {
+        place,
+        binders: below,
+        above: path,
+    } = cell
+    {
+        if *place == below.saturating_sub(binders) {
+            found.count = 1;
+            found.deepest = path.saturating_sub(above) + deep;
         }
-        _ => found,
     }
-}
-
-/// With a bound variable, which may be an occurrence.
-fn with_bound(bound: u32, place: u32, above: u32, found: Occurrences) -> Occurrences
-    requires few { found.count ≤ 200000 }
-    ensures few { result.count ≤ found.count + 1 }
-    ensures count { result.count ≡ found.count + occurrence_count place (Bound bound) }
-    ensures deepest { result.deepest ≡ max found.deepest (deepest_occurrence place above (Bound bound)) }
-{
-    if bound == place {
-        Occurrences {
-            count: found.count + 1,
-            deepest: found.deepest.max(above),
-        }
-    } else {
-        found
-    }
+    found
 }

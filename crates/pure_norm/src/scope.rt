@@ -5,9 +5,10 @@ ghost use Rattle.pure_definitions.specs.Terms.Bounds.{lift_term};
 ghost use Rattle.pure_norm.specs.Env as env;
 ghost use Rattle.pure_norm.specs.Env.{meant};
 ghost use Rattle.pure_norm.specs.Measures.{measures, measure_of};
+ghost use Rattle.pure_norm.specs.Pieces.{IsPiece};
 
 use crate::measure::{Measure, node};
-use pure_term::Term;
+use crate::pieces::Piece;
 use std::alloc::{AllocError, Global};
 use std::marker::Model;
 use std::rc::Rc;
@@ -25,7 +26,7 @@ pub struct Scope<'t> {
 pub enum ScopeNode<'t> {
     Empty,
     Bind {
-        term: &'t Term,
+        piece: Piece<'t>,
         inner: Rc<Scope<'t>>,
         measure: Measure,
         rest: Rc<Scope<'t>>,
@@ -63,7 +64,7 @@ impl<'t> Model for Scope<'t> {
 /// A term in a scope.
 #[derive(Drop)]
 pub struct Closure<'t> {
-    pub term: &'t Term,
+    pub piece: Piece<'t>,
     pub scope: Rc<Scope<'t>>,
 }
 
@@ -108,14 +109,15 @@ pub fn scope_with<'t>(
     measure: Measure,
     scope: &Rc<Scope<'t>>,
 ) -> Result<Rc<Scope<'t>>, AllocError>
-    requires { measure ≡ measure_of (meant closure.now.scope.value closure.now.term.now) }
-    ensures { IfOk result (λ s. s.value ≡ env.Bind closure.now.term.now closure.now.scope.value scope.now.value) }
+    requires measured { measure ≡ measure_of (meant closure.now.scope.value closure.now.piece.term.now) }
+    requires piece { IsPiece closure.now.piece }
+    ensures { IfOk result (λ s. s.value ≡ env.Bind closure.now.piece.term.now closure.now.scope.value scope.now.value) }
 {
-    let term = closure.term;
+    let piece = closure.piece;
     let inner = closure.scope.clone()?;
     let rest = scope.clone()?;
     let node = ScopeNode::Bind {
-        term,
+        piece,
         inner,
         measure,
         rest,

@@ -4,11 +4,13 @@ ghost use Rattle.pure_definitions.specs.Terms.Term as tree;
 ghost use Rattle.pure_definitions.specs.Reduction.Beta.{IsBetaNormal};
 ghost use Rattle.pure_norm.specs.Env.{meant};
 ghost use Rattle.pure_norm.specs.Walk.{Normal, Abstraction, CanWalk, Walked, Fails};
-ghost use Rattle.pure_norm.specs.Turn.{head_term, IsHead, IsLeaf, IsTurn, IsFoundTurn};
+ghost use Rattle.pure_norm.specs.Pieces.{IsPiece, IsLeaf};
+ghost use Rattle.pure_norm.specs.Turn.{head_term, IsHead, IsTurn, IsFoundTurn};
 
 use crate::contract::{Function, Walk, contract};
 use crate::fault::NormFault;
 use crate::held::{Found, find};
+use crate::pieces::{Form, Piece, form_of};
 use crate::scope::{Closure, Scope, scope_under};
 use pure_term::{Term, TermNode, Typ};
 use std::alloc::{AllocError, Global};
@@ -32,22 +34,23 @@ pub enum Turn<'t> {
 #[cycle(walk)]
 pub fn normal_form<'t>(
     alloc: Global,
-    t: &'t Term,
+    t: &Piece<'t>,
     scope: &Rc<Scope<'t>>,
     deep: u32,
     walk: &mut Walk,
 ) -> Result<Box<Term>, NormFault>
-    requires { CanWalk deep walk.old (meant scope.now.value t.now) }
-    ensures walked { IfOk result (λ u. Walked Normal deep walk.old walk.new (meant scope.now.value t.now) u.value) }
+    requires piece { IsPiece t.now }
+    requires can { CanWalk deep walk.old (meant scope.now.value t.now.term.now) }
+    ensures walked { IfOk result (λ u. Walked Normal deep walk.old walk.new (meant scope.now.value t.now.term.now) u.value) }
     ensures over { IfOk result (λ u. IsBetaNormal u.value) }
-    ensures fault { IfErr result (λ fault. Fails Normal deep walk.old (meant scope.now.value t.now) fault) }
+    ensures fault { IfErr result (λ fault. Fails Normal deep walk.old (meant scope.now.value t.now.term.now) fault) }
 {
     let found = head_of(alloc, t, scope, deep, walk)?;
     match found {
         Head::Reduced(u) => Ok(u),
         Head::Function(function) => {
             let inner = scope_under(alloc, &function.scope)?;
-            let body = normal_form(alloc, function.body, &inner, deep + 1, walk)?;
+            let body = normal_form(alloc, &function.body, &inner, deep + 1, walk)?;
             Ok(abstracted(alloc, function.typ, body)?)
         }
     }
@@ -57,24 +60,25 @@ pub fn normal_form<'t>(
 #[cycle(walk)]
 fn head_of<'t>(
     alloc: Global,
-    t: &'t Term,
+    t: &Piece<'t>,
     scope: &Rc<Scope<'t>>,
     deep: u32,
     walk: &mut Walk,
 ) -> Result<Head<'t>, NormFault>
-    requires { CanWalk deep walk.old (meant scope.now.value t.now) }
-    ensures walked { IfOk result (λ head. Walked Abstraction deep walk.old walk.new (meant scope.now.value t.now) (head_term head)) }
+    requires piece { IsPiece t.now }
+    requires can { CanWalk deep walk.old (meant scope.now.value t.now.term.now) }
+    ensures walked { IfOk result (λ head. Walked Abstraction deep walk.old walk.new (meant scope.now.value t.now.term.now) (head_term head)) }
     ensures over { IfOk result (λ head. IsHead head) }
-    ensures fault { IfErr result (λ fault. Fails Abstraction deep walk.old (meant scope.now.value t.now) fault) }
+    ensures fault { IfErr result (λ fault. Fails Abstraction deep walk.old (meant scope.now.value t.now.term.now) fault) }
 {
-    let mut term = t;
+    let mut piece = *t;
     let mut place = scope.clone()?;
     'contractions: loop {
-        let turn = turn_at(alloc, term, &place, deep, walk)?;
+        let turn = turn_at(alloc, &piece, &place, deep, walk)?;
         match turn {
             Turn::Over(found) => return Ok(found),
             Turn::Next(next) => {
-                term = next.term;
+                piece = next.piece;
                 place = next.scope;
             }
         }
@@ -85,30 +89,31 @@ fn head_of<'t>(
 #[cycle(walk)]
 fn turn_at<'t>(
     alloc: Global,
-    t: &'t Term,
+    t: &Piece<'t>,
     scope: &Rc<Scope<'t>>,
     deep: u32,
     walk: &mut Walk,
 ) -> Result<Turn<'t>, NormFault>
-    requires { CanWalk deep walk.old (meant scope.now.value t.now) }
-    ensures turned { IfOk result (λ turn. IsTurn deep walk.old walk.new t.now (meant scope.now.value t.now) turn) }
-    ensures fault { IfErr result (λ fault. Fails Abstraction deep walk.old (meant scope.now.value t.now) fault) }
+    requires piece { IsPiece t.now }
+    requires can { CanWalk deep walk.old (meant scope.now.value t.now.term.now) }
+    ensures turned { IfOk result (λ turn. IsTurn deep walk.old walk.new t.now.term.now (meant scope.now.value t.now.term.now) turn) }
+    ensures fault { IfErr result (λ fault. Fails Abstraction deep walk.old (meant scope.now.value t.now.term.now) fault) }
 {
-    match &t.node {
-        TermNode::Abs { typ, body } => {
-            let head = lambda(typ, body, scope)?;
+    match form_of(t) {
+        Form::Abs { typ, body } => {
+            let head = lambda(typ, &body, scope)?;
             Ok(Turn::Over(head))
         }
-        TermNode::Bound { place } => {
-            let turn = at_bound(alloc, *place, scope)?;
+        Form::Bound { place } => {
+            let turn = at_bound(alloc, place, scope)?;
             Ok(turn)
         }
-        TermNode::App { fun, arg } => {
-            let next = apply(alloc, fun, arg, scope, deep, walk)?;
+        Form::App { fun, arg } => {
+            let next = apply(alloc, &fun, &arg, scope, deep, walk)?;
             Ok(next)
         }
-        _ => {
-            let head = leaf(alloc, t)?;
+        Form::Leaf => {
+            let head = leaf(alloc, t.term)?;
             Ok(Turn::Over(head))
         }
     }
@@ -118,15 +123,17 @@ fn turn_at<'t>(
 #[cycle(walk)]
 fn apply<'t>(
     alloc: Global,
-    fun: &'t Term,
-    arg: &'t Term,
+    fun: &Piece<'t>,
+    arg: &Piece<'t>,
     scope: &Rc<Scope<'t>>,
     deep: u32,
     walk: &mut Walk,
 ) -> Result<Turn<'t>, NormFault>
-    requires { CanWalk deep walk.old (tree.App (meant scope.now.value fun.now) (meant scope.now.value arg.now)) }
-    ensures turned { IfOk result (λ turn. IsTurn deep walk.old walk.new (tree.App fun.now arg.now) (tree.App (meant scope.now.value fun.now) (meant scope.now.value arg.now)) turn) }
-    ensures fault { IfErr result (λ fault. Fails Abstraction deep walk.old (tree.App (meant scope.now.value fun.now) (meant scope.now.value arg.now)) fault) }
+    requires fun { IsPiece fun.now }
+    requires arg { IsPiece arg.now }
+    requires can { CanWalk deep walk.old (tree.App (meant scope.now.value fun.now.term.now) (meant scope.now.value arg.now.term.now)) }
+    ensures turned { IfOk result (λ turn. IsTurn deep walk.old walk.new (tree.App fun.now.term.now arg.now.term.now) (tree.App (meant scope.now.value fun.now.term.now) (meant scope.now.value arg.now.term.now)) turn) }
+    ensures fault { IfErr result (λ fault. Fails Abstraction deep walk.old (tree.App (meant scope.now.value fun.now.term.now) (meant scope.now.value arg.now.term.now)) fault) }
 {
     let found = head_of(alloc, fun, scope, deep + 1, walk)?;
     match found {
@@ -143,11 +150,13 @@ fn apply<'t>(
 }
 
 /// What is found at an abstraction: itself.
-fn lambda<'t>(typ: &'t Typ, body: &'t Term, scope: &Rc<Scope<'t>>) -> Result<Head<'t>, AllocError>
-    ensures found { IfOk result (λ head. head_term head ≡ meant scope.now.value (tree.Abs typ.now body.now)) }
+fn lambda<'t>(typ: &'t Typ, body: &Piece<'t>, scope: &Rc<Scope<'t>>) -> Result<Head<'t>, AllocError>
+    requires { IsPiece body.now }
+    ensures found { IfOk result (λ head. head_term head ≡ meant scope.now.value (tree.Abs typ.now body.now.term.now)) }
     ensures over { IfOk result (λ head. IsHead head) }
 {
     let scope = scope.clone()?;
+    let body = *body;
     Ok(Head::Function(Function { typ, body, scope }))
 }
 

@@ -1,5 +1,4 @@
-use Rattle.std.proofs.Common.{◌∙◌, sym, ap}
-use Rattle.pure_norm.specs.Measures.{measure_of}
+use Rattle.std.proofs.Common.{◌∙◌, sym}
 use Rattle.pure_norm.proofs.MeasureLemmas.{measure-lift}
 use Rattle.pure_norm.specs.Env.{meant}
 use Rattle.pure_norm.proofs.held.keep.Goals as goal
@@ -7,8 +6,9 @@ use Rattle.pure_norm.proofs.held.keep.Goals as goal
 pub returns : goal.returns
 returns c = (
   record {
-    meaning = c.in_ok-scope.ensures c.args.term.now;
-    measured = c.requires.measured ∙ sym (measure-lift c.args.up 0 (meant c.args.inner.now.value c.args.term.now));
+    meaning = c.in_ok-scope.ensures c.args.piece.now.term.now;
+    measured = c.requires.measured ∙ sym (measure-lift c.args.up 0 (meant c.args.inner.now.value c.args.piece.now.term.now));
+    piece = c.requires.piece;
   },
   c.requires.other,
 )

@@ -1,6 +1,7 @@
 use Rattle.std.proofs.Common.{◌+◌, ◌-◌, ◌*◌}
 use Rattle.pure_norm.specs.Env.{meant}
 use Rattle.pure_norm.specs.Walk.{Abstraction, Walked}
+use Rattle.pure_norm.specs.Pieces.{IsPiece}
 use Rattle.pure_norm.specs.Turn.{turns}
 use Rattle.pure_norm.proofs.walk.+walk.Given as goal
 
@@ -17,7 +18,7 @@ abbrev pub decreases-apply : goal.decreases-apply
 decreases-apply l = 4 * (2000 - l.deep)
 
 abbrev pub invariant-head_of-contractions : goal.invariant-head_of-contractions
-invariant-head_of-contractions l = Walked Abstraction l.deep l.initial.walk l.walk (meant l.scope.value l.t) (meant l.place.value l.term)
+invariant-head_of-contractions l = Walked Abstraction l.deep l.initial.walk l.walk (meant l.scope.value l.t.term.now) (meant l.place.value l.piece.term.now) × IsPiece l.piece
 
 abbrev pub decreases-head_of-contractions : goal.decreases-head_of-contractions
-decreases-head_of-contractions l = turns l.walk l.term
+decreases-head_of-contractions l = turns l.walk l.piece.term.now

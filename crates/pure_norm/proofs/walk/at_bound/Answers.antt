@@ -17,4 +17,4 @@ returns-in-Kept c =
     let found = rw c.in-Kept.is at c.in_ok-found.ensures in
     let same : lift_term 0 0 (meant c.deref.result.now (Bound c.args.place)) ≡ meant c.args.scope.now.value (Bound c.args.place) =
     rw c.deref.ensures (lift-zero 0 (meant c.args.scope.now.value (Bound c.args.place))) in
-    (found.0.meaning ∙ same, found.1)
+    (found.0.meaning ∙ same, found.1, found.0.piece)
