@@ -8,6 +8,7 @@ pub mod Procedure
 pub mod Asking
 pub mod Working
 pub mod NarrowingStep
+pub mod Measures
 pub mod Meeting
 pub mod LargeTypes
 pub mod Reached
