@@ -1,17 +1,15 @@
 -- A pair with a type that is too large to be written out passes the limits, where what is left of it has a unifier.
-use Rattle.std.proofs.Common.{◌≡◌, ◌≢◌, ℕ, ◌≤◌, List, [], ◌∷◌, ◌++◌, map, Option, Some, None, inl, inr, ◌⊎◌, refl, ap, sym, subst, ◌∙◌, arith, append_assoc, Bool, true, false, cond, ◌↔◌, IsTrue, length, take, take_all, not}
+use Rattle.std.proofs.Common.{◌≡◌, ◌≢◌, ℕ, List, [], ◌∷◌, ◌++◌, map, Option, Some, None, inl, inr, refl, ap, sym, subst, ◌∙◌, arith, append_assoc, Bool, true, false, not}
 use Rattle.std.specs.Prelude.{reverse, MatchBool}
 use Rattle.std.specs.Bool.{OnTrue}
-use Rattle.pure_text.specs.Lists.{IsIn, Each, AnyOf}
-use Rattle.pure_text.proofs.ListLaws.{any-append_left, any-append_right}
-use Rattle.pure_definitions.specs.Types.Typ.{Typ, TFree, TVar, Con, typs_of, typ_eq}
+use Rattle.pure_text.specs.Lists.{IsIn, Each}
+use Rattle.pure_definitions.specs.Types.Typ.{Typ, TFree, TVar, Con, typs_of}
 use Rattle.pure_definitions.specs.Types.Occurs.{OccursInTyp, OccursInTyps}
 use Rattle.pure_definitions.specs.Types.Order.{Algebra, IsCoregular}
-use Rattle.pure_definitions.specs.Terms.Subst.{TypBind, typ_variable, typ_image, typ_instance}
+use Rattle.pure_definitions.specs.Terms.Subst.{TypBind, typ_variable, typ_instance}
 use Rattle.pure_definitions.specs.Terms.Limits.{IsWithinTyp}
-use Rattle.pure_definitions.specs.Models.Equality.{typ_eq-same}
 use Rattle.pure_term_laws.specs.LawsOccurs.{IsTypVariable}
-use Rattle.pure_term_laws.proofs.OccursLaws.{typ_instances-agree, typ_variable_of_typ_instance}
+use Rattle.pure_term_laws.proofs.OccursLaws.{typ_instances-agree}
 use Rattle.pure_term_laws.proofs.SubstLaws.{typ_instance-identity}
 use Rattle.pure_term_laws.proofs.MapLaws.{typ_instance-again}
 use Rattle.pure_tunify.specs.declared.pair.TypPair.{TypPair}
@@ -27,7 +25,7 @@ use Rattle.pure_tunify.specs.LargeTypes.{HasNoClasses, IsSettled, IsSettling}
 use Rattle.pure_tunify.specs.Answers.{IsPassed, IsSolvable, IsSolvability}
 use Rattle.pure_tunify.proofs.MapLaws.{identity_is_substitution, after_is_substitution, setting_is_substitution, setting-itself, setting-other}
 use Rattle.pure_tunify.proofs.PlaceLaws.{difference_is_place, no_difference, difference-itself}
-use Rattle.pure_tunify.proofs.SettingLaws.{instance-append, as_variable, composed-absent, instance-new, instance-old, old_pair-later}
+use Rattle.pure_tunify.proofs.SettingLaws.{instance-append, as_variable, composed-absent, instance-old, old_pair-later}
 use Rattle.pure_tunify.proofs.PursueLaws.{place_now, pursuit_starts, pursuit_ends, as_pair, pursued_as_pair, left_as_pair, left_place, right_place}
 use Rattle.pure_tunify.proofs.ReductionLaws.{agree_unifier, equalised, blocks_unifiers}
 use Rattle.pure_tunify.proofs.OutcomeLaws.{equalisable_or_blocked}

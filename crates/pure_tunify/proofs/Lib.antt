@@ -14,6 +14,7 @@ pub mod ReductionLaws
 pub mod NameLaws
 pub mod MeantLaws
 pub mod WrittenLaws
+pub mod MeasureLaws
 pub mod UnifyLaws
 pub mod IndexLaws
 pub mod TreatLaws

@@ -2,7 +2,7 @@
 use Rattle.std.proofs.Common.{◌≡◌, ◌≢◌, ℕ, zero, suc, ◌<◌, ◌≤◌, ◌+◌, List, [], ◌∷◌, ◌++◌, map, get_or, inl, inr, ◌⊎◌, refl, ap, sym, subst, ◌∙◌, arith, Bool, true, false, cond, ◌↔◌, IsTrue, length, take, take_all}
 use Rattle.std.specs.Prelude.{MatchBool}
 use Rattle.std.specs.Bool.{OnTrue}
-use Rattle.pure_text.specs.Lists.{IsIn, Each, AnyOf, AreDistinct}
+use Rattle.pure_text.specs.Lists.{IsIn, Each, AnyOf}
 use Rattle.pure_text.proofs.ListLaws.{any_split, any-append_left, any-append_right, read_in}
 use Rattle.pure_text.proofs.LoopLaws.{longer_by}
 use Rattle.pure_definitions.specs.Types.Typ.{Typ, TFree, TVar, Con, Typs, none, also, typ_eq}
@@ -16,7 +16,7 @@ use Rattle.pure_term_laws.proofs.SubstLaws.{typ_instance-identity}
 use Rattle.pure_tunify.specs.Settings.{composed}
 use Rattle.pure_tunify.specs.Reached.{Covers, AreParts, IsReached, IsReachedBy}
 use Rattle.pure_tunify.proofs.MapLaws.{setting-itself}
-use Rattle.pure_tunify.proofs.SettingLaws.{as_variable, composed-absent, instance-append, instance-new}
+use Rattle.pure_tunify.proofs.SettingLaws.{composed-absent, instance-append, instance-new}
 
 -- The types that a type reaches.
 in_setting : (b : TypBind) (v w : Typ) → IsTypVariable v → OccursInTyp w (composed (b ∷ []) v) → (typ_variable b ≡ v) × OccursInTyp w b.image ⊎ OccursInTyp w v

@@ -94,13 +94,6 @@ module _ (p : Progress) (tidy : IsTidy p) where
   image_beyond distinct b m beyond within =
       beyond (subst IsWithinTyp (composed-image p.sets (typ_variable b) tidy.triangular tt ∙ ap (typ_instance (composed p.sets)) (typ_image-entry p.sets b distinct m)) (within b.name b.index b.sort))
 
--- A type that fits into the room of the limits is within them, and one that doesn't isn't.
-pub fits_within : (t : Typ) (rest : ℕ) → Leaves 200000 2000 (typ_size t) (typ_depth t) (Some rest) → IsWithinTyp t
-fits_within t rest h = record { size = (let size = h.0 in omega arith); depth = h.1 }
-
-pub fits_not : (t : Typ) → Leaves 200000 2000 (typ_size t) (typ_depth t) None → ¬ IsWithinTyp t
-fits_not t h w = let deep : 2000 < typ_depth t = h w.size in let shallow = w.depth in absurd (omega arith)
-
 -- A variable is within the limits.
 leaf_within : (v : Typ) → IsTypVariable v → IsWithinTyp v
 leaf_within (TFree x s) is = record { size = omega arith; depth = omega arith }

@@ -9,6 +9,7 @@ pub mod Closed
 pub mod Asking
 pub mod Working
 pub mod NarrowingStep
+pub mod Measures
 pub mod Meeting
 pub mod LargeTypes
 pub mod Reached

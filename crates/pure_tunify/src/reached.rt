@@ -8,8 +8,9 @@ ghost use Rattle.pure_term_laws.specs.LawsOccurs.{IsTypVariable};
 ghost use Rattle.pure_tunify.specs.Settings.{composed};
 ghost use Rattle.pure_tunify.specs.Reached.{IsReached, IsReachedBy};
 
+use crate::occurs::variable_occurs;
 use crate::settings::Settings;
-use pure_typ::{Typ, TypBind, TypNode, occurs_in_typ};
+use pure_typ::{Typ, TypBind, TypNode};
 use std::alloc::{AllocError, Global};
 
 /// Whether the variable occurs in one of the types.
@@ -17,7 +18,7 @@ fn occurs_in_any(variable: &Typ, typs: &[Typ]) -> bool
     ensures { MatchBool result (AnyOf (OccursInTyp variable.now) typs.now) (Each (λ t. ¬ OccursInTyp variable.now t) typs.now) }
 {
     for typ in typs {
-        if occurs_in_typ(variable, typ) {
+        if variable_occurs(variable, typ) {
             return true;
         }
     }
@@ -25,7 +26,7 @@ fn occurs_in_any(variable: &Typ, typs: &[Typ]) -> bool
 }
 
 /// The variable of the entry.
-fn variable_of(bind: &TypBind, alloc: Global) -> Result<Typ, AllocError>
+pub fn variable_of(bind: &TypBind, alloc: Global) -> Result<Typ, AllocError>
     ensures { IfOk result (λ v. v ≡ typ_variable bind.now) }
 {
     let sort = bind.sort.copy(alloc)?;
@@ -71,7 +72,7 @@ fn is_in_no_image(settings: &Settings, variable: &Typ) -> bool
     ensures { OnTrue result (Each (λ b. ¬ OccursInTyp variable.now b.image) settings.now.sets) }
 {
     for bind in settings.binds() {
-        if occurs_in_typ(variable, &bind.image) {
+        if variable_occurs(variable, &bind.image) {
             return false;
         }
     }
@@ -90,7 +91,7 @@ pub fn occurs_resolved(
     ensures { IfOk result (λ occurs. MatchBool occurs (OccursInTyp variable.now (typ_instance (composed settings.now.sets) t.now)) (¬ OccursInTyp variable.now (typ_instance (composed settings.now.sets) t.now))) }
 {
     if is_in_no_image(settings, variable) {
-        let here = occurs_in_typ(variable, t);
+        let here = variable_occurs(variable, t);
         return Ok(here);
     }
     let typs = reached(settings, alloc, t)?;

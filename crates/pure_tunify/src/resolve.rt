@@ -1,5 +1,6 @@
 //! Types in which all set variables are replaced.
-ghost use Rattle.std.specs.Prelude.{◌≡◌, reverse, IfOk, MatchBool, MatchOption};
+ghost use Rattle.std.specs.Prelude.{◌≡◌, reverse, IfOk, MatchOption};
+ghost use Rattle.std.specs.Bool.{OnTrue};
 ghost use Rattle.pure_definitions.specs.Terms.Subst.{IsTypMap, typ_instance};
 ghost use Rattle.pure_definitions.specs.Types.Typ.{typ_size, typ_depth};
 ghost use Rattle.pure_definitions.specs.Terms.Limits.{Leaves, IsWithinTyp};
@@ -158,15 +159,18 @@ pub fn measured_leaves(
     }
 }
 
-/// Whether the image is a variable, or within the limits. It is measured and not made.
+/// The most nodes, and the greatest depth, of a type that is soon measured without what is known of others.
+const FEW: u32 = 200;
+
+/// Whether the image is a variable, or has few nodes with all set variables replaced; then it is within the limits.
 fn is_small(settings: &Settings, image: &Typ) -> Result<bool, AllocError>
-    ensures { IfOk result (λ small. MatchBool small (IsSmall settings.now.sets image.now) (¬ IsWithinTyp (typ_instance (composed settings.now.sets) image.now))) }
+    ensures { IfOk result (λ small. OnTrue small (IsSmall settings.now.sets image.now)) }
 {
     match &image.node {
         TypNode::TFree { .. } => Ok(true),
         TypNode::TVar { .. } => Ok(true),
         TypNode::Con { .. } => {
-            let found = resolved_leaves(settings, image, MAX_SIZE, MAX_DEPTH)?;
+            let found = resolved_leaves(settings, image, FEW, FEW)?;
             match found {
                 None => Ok(false),
                 Some(_) => Ok(true),
@@ -175,9 +179,9 @@ fn is_small(settings: &Settings, image: &Typ) -> Result<bool, AllocError>
     }
 }
 
-/// Whether the images are within the limits. One that is a variable has no entry to be measured, or another's.
-pub fn are_images_within(settings: &Settings) -> Result<bool, AllocError>
-    ensures { IfOk result (λ within. MatchBool within (HasImagesWithin settings.now.sets) (¬ HasImagesWithin settings.now.sets)) }
+/// Whether all images are so. One that is a variable has no entry to be measured, or another's.
+pub fn are_images_small(settings: &Settings) -> Result<bool, AllocError>
+    ensures { IfOk result (λ small. OnTrue small (HasImagesWithin settings.now.sets)) }
 {
     for bind in settings.binds() {
         let small = is_small(settings, &bind.image)?;

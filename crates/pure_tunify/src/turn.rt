@@ -14,12 +14,13 @@ ghost use Rattle.pure_tunify.specs.Meeting.{IsTreating, IsTurned};
 use crate::asks::asked_of_arguments;
 use crate::meeting::{Meeting, Turned, arguments, meeting_of, push_arguments, put_back};
 use crate::narrow::narrow;
+use crate::occurs::variable_occurs;
 use crate::pair::TypPair;
 use crate::reached::occurs_resolved;
 use crate::resolve::{Resolved, measured_leaves, resolve_measured};
 use crate::settings::Settings;
 use pure_order::Order;
-use pure_typ::{MAX_DEPTH, MAX_SIZE, Sort, Typ, TypBind, TypNode, occurs_in_typ};
+use pure_typ::{MAX_DEPTH, MAX_SIZE, Sort, Typ, TypBind, TypNode};
 use std::alloc::{AllocError, Global};
 
 /// The greatest depth of a type that is written out with all set variables replaced; a deeper one is too large.
@@ -100,7 +101,7 @@ fn treat(
         return Ok(turned);
     };
     let Resolved { typ: t, .. } = resolved;
-    if occurs_in_typ(variable, &t) {
+    if variable_occurs(variable, &t) {
         return Ok(Turned::Never);
     }
     let own = sort.copy(alloc)?;

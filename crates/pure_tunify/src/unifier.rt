@@ -11,9 +11,10 @@ ghost use Rattle.pure_tunify.specs.Passes.{HasCome, IsPass, IsJudged, IfFound, I
 
 use crate::fault::TypFault;
 use crate::index::index_above_each;
+use crate::measure::are_images_within;
 use crate::meeting::Turned;
 use crate::pair::TypPair;
-use crate::resolve::{are_images_within, written};
+use crate::resolve::written;
 use crate::settings::Settings;
 use crate::solve::solve;
 use pure_order::Order;
@@ -28,13 +29,13 @@ const MOST_NAMES: u32 = 0x8000_0000;
 const MOST_NODES: u32 = 1_000_000;
 
 /// Whether the images and the names are within the limits.
-fn is_within(settings: &Settings) -> Result<bool, AllocError>
+fn is_within(settings: &Settings, alloc: Global) -> Result<bool, AllocError>
     ensures { IfOk result (λ within. MatchBool within (AreWithinLimits settings.now.sets settings.now.next) (¬ AreWithinLimits settings.now.sets settings.now.next)) }
 {
     if MOST_NAMES < settings.next() {
         return Ok(false);
     }
-    let within = are_images_within(settings)?;
+    let within = are_images_within(settings, alloc)?;
     Ok(within)
 }
 
@@ -106,7 +107,7 @@ fn judge(
     requires { IsOldPair settings.old.index settings.old.next pair.now }
     ensures { IfErr result (IsJudged order.now settings.old pair.now at) }
 {
-    let within = is_within(settings)?;
+    let within = is_within(settings, alloc)?;
     if !within {
         return Ok(());
     }
@@ -115,7 +116,7 @@ fn judge(
         Turned::Never => Err(TypFault::NoTyping { index: at }),
         Turned::Large => Err(TypFault::Big { index: at }),
         Turned::Further => {
-            let fits = is_within(settings)?;
+            let fits = is_within(settings, alloc)?;
             if !fits {
                 return Err(TypFault::Big { index: at });
             }
@@ -168,7 +169,7 @@ fn fits(
     if !done {
         return Ok(false);
     }
-    is_within(&settings)
+    is_within(&settings, alloc)
 }
 
 /// The first pair of so many that makes an image beyond the limits: by halves, since images only grow.
@@ -231,14 +232,14 @@ fn settle_at_once(
     match solve_all(order, alloc, &mut settings, pairs) {
         Pass::Stopped(at) => Ok(Attempt::Stopped(at)),
         Pass::Beyond(at) => {
-            let within = is_within(&settings)?;
+            let within = is_within(&settings, alloc)?;
             if !within {
                 return Ok(Attempt::Stopped(at));
             }
             Ok(Attempt::Beyond(at))
         }
         Pass::Whole => {
-            let within = is_within(&settings)?;
+            let within = is_within(&settings, alloc)?;
             if !within {
                 return Ok(Attempt::Stopped(count_of(pairs)));
             }

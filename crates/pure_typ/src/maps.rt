@@ -139,9 +139,15 @@ fn replaces_typ(b: &TypBind, name: Name, index: u32, sort: &Sort) -> bool
 fn compare_variable(b: &TypBind, name: Name, index: u32, sort: &Sort) -> Ordering
     ensures { result ≡ typ_cmp (typ_variable b.now) (typ_tree.TVar name index sort.now) }
 {
-    b.name
-        .cmp(&name)
-        .then(b.index.cmp(&index).then(b.sort.cmp(sort)))
+    match b.name.cmp(&name) {
+        Ordering::Less => Ordering::Less,
+        Ordering::Greater => Ordering::Greater,
+        Ordering::Equal => match b.index.cmp(&index) {
+            Ordering::Less => Ordering::Less,
+            Ordering::Greater => Ordering::Greater,
+            Ordering::Equal => b.sort.cmp(sort),
+        },
+    }
 }
 
 /// Where among the places this variable stands or would stand, by halves.

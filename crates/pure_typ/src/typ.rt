@@ -131,9 +131,13 @@ fn compare_typs(t: &Typ, u: &Typ) -> Ordering
     ensures { result ≡ typ_cmp t.now u.now }
 {
     match (&t.node, &u.node) {
-        (TypNode::TFree { name: x, sort: s }, TypNode::TFree { name: y, sort: r }) => x
-            .cmp(y)
-            .then(s.cmp(r)),
+        (TypNode::TFree { name: x, sort: s }, TypNode::TFree { name: y, sort: r }) => {
+            match x.cmp(y) {
+                Ordering::Less => Ordering::Less,
+                Ordering::Greater => Ordering::Greater,
+                Ordering::Equal => s.cmp(r),
+            }
+        }
         (
             TypNode::TVar {
                 name: x,
@@ -145,7 +149,15 @@ fn compare_typs(t: &Typ, u: &Typ) -> Ordering
                 index: j,
                 sort: r,
             },
-        ) => x.cmp(y).then(i.cmp(j).then(s.cmp(r))),
+        ) => match x.cmp(y) {
+            Ordering::Less => Ordering::Less,
+            Ordering::Greater => Ordering::Greater,
+            Ordering::Equal => match i.cmp(j) {
+                Ordering::Less => Ordering::Less,
+                Ordering::Greater => Ordering::Greater,
+                Ordering::Equal => s.cmp(r),
+            },
+        },
         (TypNode::Con { name: k, args: ts }, TypNode::Con { name: m, args: us }) => match k.cmp(m) {
             Ordering::Less => Ordering::Less,
             Ordering::Greater => Ordering::Greater,

@@ -20,7 +20,7 @@ put-requires-clause-absent c =
     let whole : TVar c.in-TVar.name c.in-TVar.index c.in-TVar.sort ≡ c.args.variable.now = rw c.in-TVar.is at c.variable.view_is in
     let narrowed : IsNarrowed c.args.order.now c.in-TVar.sort c.args.settings.now c.narrow.new.settings c.in-Some.resolved.typ c.in-Some-narrowed.image = rw c.in-Some-narrowed.is at c.in_ok-narrowed.ensures in
     treated_absent c.args.order.now c.args.settings.now c.narrow.new.settings c.args.variable.now c.args.other.now c.in-Some.resolved.typ c.in-Some-narrowed.image c.in-TVar.name c.in-TVar.index c.in-TVar.sort c.in_ok-own.own c.next-next.result
-    c.next-next.ensures.tidy whole c.requires.absent c.requires.old c.in_ok-own.ensures found.0 c.occurs_in_typ.result c.occurs_in_typ.ensures c.if-occurs_in_typ.false narrowed c.next-next.ensures.value
+    c.next-next.ensures.tidy whole c.requires.absent c.requires.old c.in_ok-own.ensures found.0 c.variable_occurs.result c.variable_occurs.ensures c.if-variable_occurs.false narrowed c.next-next.ensures.value
 
 pub put-requires-clause-tidy : goal.put-requires-clause-tidy
 put-requires-clause-tidy c =
@@ -28,7 +28,7 @@ put-requires-clause-tidy c =
     let whole : TVar c.in-TVar.name c.in-TVar.index c.in-TVar.sort ≡ c.args.variable.now = rw c.in-TVar.is at c.variable.view_is in
     let narrowed : IsNarrowed c.args.order.now c.in-TVar.sort c.args.settings.now c.narrow.new.settings c.in-Some.resolved.typ c.in-Some-narrowed.image = rw c.in-Some-narrowed.is at c.in_ok-narrowed.ensures in
     treated_tidy c.args.order.now c.args.settings.now c.narrow.new.settings c.args.variable.now c.args.other.now c.in-Some.resolved.typ c.in-Some-narrowed.image c.in-TVar.name c.in-TVar.index c.in-TVar.sort c.in_ok-own.own c.next-next.result
-    c.next-next.ensures.tidy whole c.requires.absent c.requires.old c.in_ok-own.ensures found.0 c.occurs_in_typ.result c.occurs_in_typ.ensures c.if-occurs_in_typ.false narrowed c.next-next.ensures.value
+    c.next-next.ensures.tidy whole c.requires.absent c.requires.old c.in_ok-own.ensures found.0 c.variable_occurs.result c.variable_occurs.ensures c.if-variable_occurs.false narrowed c.next-next.ensures.value
 
 pub returns : goal.returns
 returns c =
@@ -36,4 +36,4 @@ returns c =
     let whole : TVar c.in-TVar.name c.in-TVar.index c.in-TVar.sort ≡ c.args.variable.now = rw c.in-TVar.is at c.variable.view_is in
     let narrowed : IsNarrowed c.args.order.now c.in-TVar.sort c.args.settings.now c.narrow.new.settings c.in-Some.resolved.typ c.in-Some-narrowed.image = rw c.in-Some-narrowed.is at c.in_ok-narrowed.ensures in
     treated_set c.args.order.now c.args.settings.now c.narrow.new.settings c.args.variable.now c.args.other.now c.in-Some.resolved.typ c.in-Some-narrowed.image c.in-TVar.name c.in-TVar.index c.in-TVar.sort c.in_ok-own.own c.next-next.result
-    c.next-next.ensures.tidy whole c.requires.absent c.requires.old c.in_ok-own.ensures found.0 c.occurs_in_typ.result c.occurs_in_typ.ensures c.if-occurs_in_typ.false narrowed c.next-next.ensures.value c.put.new.self c.in_ok-put.ensures
+    c.next-next.ensures.tidy whole c.requires.absent c.requires.old c.in_ok-own.ensures found.0 c.variable_occurs.result c.variable_occurs.ensures c.if-variable_occurs.false narrowed c.next-next.ensures.value c.put.new.self c.in_ok-put.ensures

@@ -1,4 +1,3 @@
-use Rattle.pure_tunify.specs.Answers.{AreUnified}
 use Rattle.pure_tunify.specs.Working.{HasImagesWithin, IsWrittenInOrder}
 use Rattle.pure_tunify.proofs.UnifyLaws.{settled_unified, written_general, written_idempotent}
 use Rattle.pure_tunify.proofs.unifier.unify_from.Goals as goal
