@@ -1,7 +1,7 @@
 -- What the calls answer, from what their parts answer.
 use Rattle.std.proofs.Common.{◌≡◌, ℕ, zero, suc, List, [], ◌∷◌, map, Some, None, Result, Ok, Err, IfOk, IfErr, slice_get, inl, inr, refl, ap, sym, subst, ◌∙◌}
 use Rattle.pure_text.specs.Lists.{Each}
-use Rattle.pure_definitions.specs.Types.Typ.{Typ, TFree, TVar, Con, prop}
+use Rattle.pure_definitions.specs.Types.Typ.{Typ, prop}
 use Rattle.pure_definitions.specs.Types.Order.{Algebra}
 use Rattle.pure_definitions.specs.Terms.Term.{Term, IsWithin}
 use Rattle.pure_definitions.specs.Terms.Subst.{inst_typ}
@@ -137,9 +137,9 @@ not_typed V t T d (Schematic at) of h = absurd h
 pub draft_of : (V : Vocabulary) (t : RawTree) (T : Typ) (sorts : ℕ → List ℕ) → term_faults V [] t ≡ [] → AreSorts V.algebra (term_classes V t) sorts → IsDraftOf V t T (whole_draft V sorts t T)
 draft_of V t T sorts sound are = record { sound = sound; sorts = sorts; are_sorts = are; is = refl }
 
--- The pairs of a whole draft have no fresh variables.
-pub pairs_are_old : (V : Vocabulary) (sorts : ℕ → List ℕ) (t : RawTree) (T : Typ) (u : Term) (all : Constraints) → IsFixedTyp T → HasConstraintsOf (whole_draft V sorts t T) u all → Each (IsOldPair 2 0) all.pairs.items
-pairs_are_old V sorts t T u all fixed has = subst (λ (ps : List TypPair). Each (IsOldPair 2 0) ps) (sym has.pairs) (whole_is_old V sorts t T fixed)
+-- The pairs of a text's draft have no fresh variables.
+pub pairs_are_old : (V : Vocabulary) (t : RawTree) (T : Typ) (d : Draft) (u : Term) (all : Constraints) → IsFixedTyp T → IsDraftOf V t T d → HasConstraintsOf d u all → Each (IsOldPair 2 0) all.pairs.items
+pairs_are_old V t T d u all fixed of has = subst (λ (ps : List TypPair). Each (IsOldPair 2 0) ps) (sym (has.pairs ∙ ap (λ (e : Draft). map pair_of e.constraints) of.is)) (whole_is_old V of.sorts t T fixed)
 
 pub all_general : (V : Vocabulary) (t : RawTree) (T : Typ) (r : Result Term ElabFault) → IsFixedTyp T → IfOk r (IsElaborated V t T) → IfOk r (IsMostGeneralTerm V t T)
 all_general V t T (Ok u) fixed h = answer_is_most_general V t T u fixed h
@@ -160,12 +160,12 @@ all_large V A order t all p (Ok u) found finished = tt
 all_large V A order t all p (Err f) found finished = λ d has. typed_large V A order d t all has p f found finished
 
 -- What the draft of a text comes to is what the text says.
-pub elaborated_ok : (V : Vocabulary) (t : RawTree) (T : Typ) (sorts : ℕ → List ℕ) (u : Term) (all : Constraints) (r : Result Term ElabFault) → term_faults V [] t ≡ [] → AreSorts V.algebra (term_classes V t) sorts
-    → HasConstraintsOf (whole_draft V sorts t T) u all → IfOk r (λ w. (d : Draft) → HasConstraintsOf d u all → IsTyped V d w) → IfOk r (IsElaborated V t T)
-elaborated_ok V t T sorts u all (Ok w) sound are has h = record { draft = whole_draft V sorts t T; of_text = draft_of V t T sorts sound are; typed = h (whole_draft V sorts t T) has }
-elaborated_ok V t T sorts u all (Err f) sound are has h = tt
+pub elaborated_ok : (V : Vocabulary) (t : RawTree) (T : Typ) (d : Draft) (u : Term) (all : Constraints) (r : Result Term ElabFault) → IsDraftOf V t T d → HasConstraintsOf d u all
+    → IfOk r (λ w. (e : Draft) → HasConstraintsOf e u all → IsTyped V e w) → IfOk r (IsElaborated V t T)
+elaborated_ok V t T d u all (Ok w) of has h = record { draft = d; of_text = of; typed = h d has }
+elaborated_ok V t T d u all (Err f) of has h = tt
 
-pub elaborated_err : (V : Vocabulary) (t : RawTree) (T : Typ) (sorts : ℕ → List ℕ) (u : Term) (all : Constraints) (r : Result Term ElabFault) → term_faults V [] t ≡ [] → AreSorts V.algebra (term_classes V t) sorts
-    → HasConstraintsOf (whole_draft V sorts t T) u all → IfErr r (λ f. (d : Draft) → HasConstraintsOf d u all → IsTypingFault V d f) → IfErr r (IsElabFault V t T)
-elaborated_err V t T sorts u all (Ok w) sound are has h = tt
-elaborated_err V t T sorts u all (Err f) sound are has h = not_typed V t T (whole_draft V sorts t T) f (draft_of V t T sorts sound are) (h (whole_draft V sorts t T) has)
+pub elaborated_err : (V : Vocabulary) (t : RawTree) (T : Typ) (d : Draft) (u : Term) (all : Constraints) (r : Result Term ElabFault) → IsDraftOf V t T d → HasConstraintsOf d u all
+    → IfErr r (λ f. (e : Draft) → HasConstraintsOf e u all → IsTypingFault V e f) → IfErr r (IsElabFault V t T)
+elaborated_err V t T d u all (Ok w) of has h = tt
+elaborated_err V t T d u all (Err f) of has h = not_typed V t T d f of (h d has)

@@ -4,6 +4,7 @@ pub mod NumberedLaws
 pub mod OldLaws
 pub mod EarliestLaws
 pub mod WalkLaws
+pub mod ClosedLaws
 pub mod SortLaws
 pub mod DraftedLaws
 pub mod AnswerLaws

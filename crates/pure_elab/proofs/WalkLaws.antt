@@ -58,10 +58,13 @@ pub numbered_append : (image : ℕ → List ℕ → Typ) (first : ℕ) (binds : 
 numbered_append image first binds [] ys = refl
 numbered_append image first binds (x ∷ xs) ys = numbered_append image first (with_entry image first binds x) xs ys
 
+pub schematics-turn : (ts : List Typ) (i : ℕ) (t : Typ) → i < length ts → t ≡ get_or ts i t → schematics_of (typs_of (take (i + 1) ts)) ≡ schematics_of (typs_of (take i ts)) ++ schematics t
+schematics-turn ts i t within is = flat_turn schematics (λ l. schematics_of (typs_of l)) refl (λ y ys. refl) ts i t within is
+
 pub numbered-turn : (image : ℕ → List ℕ → Typ) (first : ℕ) (binds : List TypBind) (ts : List Typ) (i : ℕ) (t : Typ) → i < length ts → t ≡ get_or ts i t
     → numbered image first binds (schematics_of (typs_of (take (i + 1) ts))) ≡ numbered image first (numbered image first binds (schematics_of (typs_of (take i ts)))) (schematics t)
 numbered-turn image first binds ts i t within is =
-    ap (numbered image first binds) (flat_turn schematics (λ l. schematics_of (typs_of l)) refl (λ y ys. refl) ts i t within is)
+    ap (numbered image first binds) (schematics-turn ts i t within is)
     ∙ numbered_append image first binds (schematics_of (typs_of (take i ts))) (schematics t)
 
 pub written-map : (V : Vocabulary) (sorts : ℕ → List ℕ) (ts : List RawTypTree) → typs_of (map (written_typ V sorts) ts) ≡ written_typs V sorts (raw_typs_of ts)

@@ -14,7 +14,7 @@ ghost use Rattle.pure_elab.specs.Drafts as drafts;
 ghost use Rattle.pure_elab.specs.Table.{sort_among};
 ghost use Rattle.pure_elab.specs.Typings.{fresh_index};
 ghost use Rattle.pure_elab.specs.Answers as answers;
-ghost use Rattle.pure_elab.specs.Answers.{IsFixedTyp, IsTyped, IsTypingFault, IsElaborated, IsElabFault, IsElaboratedTyp, IsElabTypFault};
+ghost use Rattle.pure_elab.specs.Answers.{IsFixedTyp, IsDraftOf, IsTyped, IsTypingFault, IsElaborated, IsElabFault, IsElaboratedTyp, IsElabTypFault};
 ghost use Rattle.pure_elab.specs.Laws.{IsMostGeneralTerm};
 ghost use Rattle.pure_elab.specs.Finished.{IsFinished, IsNameRefusal, IsFaultFrom, HasConstraintsOf};
 
@@ -22,13 +22,13 @@ use crate::draft::{Constraints, constrain_to, draft, raw_place};
 use crate::fault::{ElabFault, FaultAt, NameFault};
 use crate::faults::{with_term, with_typ};
 use crate::language::Language;
-use crate::numbered::{Numbering, number_term};
+use crate::numbered::{Numbering, number_term, replace_in_term};
 use crate::scope::Scope;
 use crate::settled::settled;
 use crate::sorts::{VariableSort, sorts_of_term, sorts_of_typ};
 use crate::written::written_typ;
 use pure_read::{Raw, RawTyp};
-use pure_term::{Grow, Term, inst_typ};
+use pure_term::{Grow, Term};
 use pure_tunify::{Settings, TypFault, settle};
 use pure_typ::{Name, Typ, TypMap, TypNode};
 use std::alloc::{AllocError, Global};
@@ -63,8 +63,7 @@ fn fault_of(found: FaultAt) -> ElabFault
 
 /// Refuses a term with a fault of names.
 fn check_names<L: Language>(alloc: Global, language: &L, raw: &Raw) -> Result<(), ElabFault>
-    ensures ok { OnOk result (term_faults (L.vocabulary language.now) [] raw.now ≡ []) }
-    ensures fault { IfErr result (λ f. IsNameRefusal (term_faults (L.vocabulary language.now) [] raw.now) f) }
+    ensures { IfErr result (λ f. IsNameRefusal (term_faults (L.vocabulary language.now) [] raw.now) f) }
 {
     let typ = prop(alloc);
     let scope = Scope::Empty;
@@ -86,10 +85,9 @@ fn fixed<L: Language>(alloc: Global, language: &L, term: Term) -> Result<Term, A
     if entries.len() == 0 {
         return Ok(term);
     }
-    match inst_typ(alloc, &term, &binds) {
-        Ok(term) => Ok(term),
-        Err(_) => Err(AllocError),
-    }
+    let mut fixed = term;
+    replace_in_term(alloc, &binds, &mut fixed)?;
+    Ok(fixed)
 }
 
 /// The draft's term under the settings, with the unknowns that are left made fixed.
@@ -101,7 +99,7 @@ fn finished<L: Language>(
 ) -> Result<Term, ElabFault>
     ensures { IsFinished (L.vocabulary language.now) (inst_typ (composed settings.now.sets) term) result }
 {
-    match settled(settings, alloc, &term) {
+    match settled(settings, alloc, term) {
         Err(Grow::Big) => Err(ElabFault::Big),
         Err(Grow::Memory) => Err(ElabFault::Memory),
         Ok(term) => {
@@ -143,7 +141,7 @@ fn typed<L: Language>(
     }
 }
 
-/// The draft of a whole term that has to have this type.
+/// The draft of a whole term that has to have this type, with these sorts of its type variables.
 fn whole_draft<L: Language>(
     alloc: Global,
     language: &L,
@@ -151,7 +149,8 @@ fn whole_draft<L: Language>(
     raw: &Raw,
     typ: Typ,
 ) -> Result<(Box<Term>, Constraints), AllocError>
-    ensures { IfOk result (λ found. HasConstraintsOf (drafts.whole_draft (L.vocabulary language.now) (sort_among sorts.now) raw.now typ) found.0.value found.1) }
+    ensures draft { IfOk result (λ found. HasConstraintsOf (drafts.whole_draft (L.vocabulary language.now) (sort_among sorts.now) raw.now typ) found.0.value found.1) }
+    ensures sound { OnOk result (term_faults (L.vocabulary language.now) [] raw.now ≡ []) }
 {
     let mut constraints = Constraints {
         next: 0,
@@ -165,6 +164,20 @@ fn whole_draft<L: Language>(
     Ok((drafted.term, constraints))
 }
 
+/// The draft of a text that has to have this type. Where a name is at fault there is none.
+fn text_draft<L: Language>(
+    alloc: Global,
+    language: &L,
+    raw: &Raw,
+    typ: Typ,
+) -> Result<(Box<Term>, Constraints), AllocError>
+    ensures { IfOk result (λ found. (d : drafts.Draft) × IsDraftOf (L.vocabulary language.now) raw.now typ d × HasConstraintsOf d found.0.value found.1) }
+{
+    let sorts = sorts_of_term(alloc, language, raw)?;
+    let found = whole_draft(alloc, language, sorts.as_slice(), raw, typ)?;
+    Ok(found)
+}
+
 /// The term that the text says at this type.
 fn elaborate_to<L: Language>(
     alloc: Global,
@@ -176,10 +189,13 @@ fn elaborate_to<L: Language>(
     ensures ok { IfOk result (IsElaborated (L.vocabulary language.now) raw.now typ) }
     ensures fault { IfErr result (IsElabFault (L.vocabulary language.now) raw.now typ) }
 {
-    check_names(alloc, language, raw)?;
-    let sorts = sorts_of_term(alloc, language, raw)?;
-    let (term, constraints) = whole_draft(alloc, language, sorts.as_slice(), raw, typ)?;
-    typed(alloc, language, Box::into_inner(term), &constraints)
+    match text_draft(alloc, language, raw, typ) {
+        Ok(found) => typed(alloc, language, Box::into_inner(found.0), &found.1),
+        Err(_) => {
+            check_names(alloc, language, raw)?;
+            Err(ElabFault::Memory)
+        }
+    }
 }
 
 /// The proposition that the text says, under a most general typing; or the first fault of its names, before all typing, or

@@ -1,15 +1,17 @@
 //! Drafts: written terms with unknown types, and the constraints on these.
-ghost use Rattle.std.specs.Prelude.{◌≡◌, ◌+◌, [], ◌∷◌, IfOk, OnOk};
+ghost use Rattle.std.specs.Prelude.{◌≡◌, ◌+◌, ℕ, [], ◌∷◌, IfOk, OnOk};
 ghost use Rattle.pure_definitions.specs.Types.Typ as tree;
 ghost use Rattle.pure_definitions.specs.Terms.Term as term_tree;
 ghost use Rattle.pure_elab.specs.Drafts as spec;
 ghost use Rattle.pure_elab.specs.Drafts.{texts_of};
 ghost use Rattle.pure_elab.specs.Written as written;
+ghost use Rattle.pure_elab.specs.Faults.{typ_faults, annotation_faults, leaf_faults, term_faults};
 ghost use Rattle.pure_elab.specs.Meant.{meant};
 ghost use Rattle.pure_elab.specs.Scope.{binders_of};
 ghost use Rattle.pure_elab.specs.Table.{sort_among};
 ghost use Rattle.pure_elab.specs.Drafted.{AreAdded, IsDrafted};
 
+use crate::faults::with_typ;
 use crate::language::Language;
 use crate::meaning::Meaning;
 use crate::names::meaning_of;
@@ -152,7 +154,8 @@ fn draft_meaning<L: Language>(
     text: &[u8],
     meaning: Meaning,
 ) -> Result<Drafted, AllocError>
-    ensures { IfOk result (λ d. IsDrafted (spec.leaf_draft (L.vocabulary language.now) (binders_of scope.now) text.now meaning constraints.old.next) constraints.old constraints.new d.term.value d.typ) }
+    ensures draft { IfOk result (λ d. IsDrafted (spec.leaf_draft (L.vocabulary language.now) (binders_of scope.now) text.now meaning constraints.old.next) constraints.old constraints.new d.term.value d.typ) }
+    ensures sound { OnOk result ((at : ℕ) → leaf_faults at meaning ≡ []) }
 {
     match meaning {
         Meaning::Constant { name } => match language.const_typ(name) {
@@ -178,11 +181,22 @@ fn draft_leaf<L: Language>(
     kind: TokenKind,
     text: &[u8],
 ) -> Result<Drafted, AllocError>
-    ensures { IfOk result (λ d. IsDrafted (spec.leaf_draft (L.vocabulary language.now) (binders_of scope.now) text.now (meant (L.vocabulary language.now) (texts_of (binders_of scope.now)) kind text.now) constraints.old.next) constraints.old constraints.new d.term.value d.typ) }
+    ensures draft { IfOk result (λ d. IsDrafted (spec.leaf_draft (L.vocabulary language.now) (binders_of scope.now) text.now (meant (L.vocabulary language.now) (texts_of (binders_of scope.now)) kind text.now) constraints.old.next) constraints.old constraints.new d.term.value d.typ) }
+    ensures sound { OnOk result ((at : ℕ) → leaf_faults at (meant (L.vocabulary language.now) (texts_of (binders_of scope.now)) kind text.now) ≡ []) }
 {
     let meaning = meaning_of(language, scope, kind, text)?;
     let drafted = draft_meaning(alloc, language, constraints, scope, text, meaning)?;
     Ok(drafted)
+}
+
+/// Refuses a type with a fault of names, as if memory were wanted: the fault itself is looked for where a draft fails.
+fn check_typ<L: Language>(language: &L, raw: &RawTyp) -> Result<(), AllocError>
+    ensures { OnOk result (typ_faults (L.vocabulary language.now) raw.now ≡ []) }
+{
+    match with_typ(language, raw, None) {
+        None => Ok(()),
+        Some(_) => Err(AllocError),
+    }
 }
 
 /// The type of a binder: the one that is written, or an unknown.
@@ -195,6 +209,7 @@ fn binder_typ<L: Language>(
 ) -> Result<Typ, AllocError>
     ensures typ { IfOk result (λ t. t ≡ spec.binder_typ (L.vocabulary language.now) (sort_among sorts.now) annotation.now constraints.old.next) }
     ensures added { OnOk result (AreAdded [] (spec.behind_binder annotation.now constraints.old.next) constraints.old constraints.new) }
+    ensures sound { OnOk result (annotation_faults (L.vocabulary language.now) annotation.now ≡ []) }
 {
     match annotation {
         None => {
@@ -204,6 +219,7 @@ fn binder_typ<L: Language>(
             Ok(unknown(alloc, number))
         }
         Some(raw) => {
+            check_typ(language, raw)?;
             let typ = written_typ(alloc, language, sorts, raw)?;
             Ok(typ)
         }
@@ -308,14 +324,16 @@ fn constrain_to_written<L: Language>(
     typ: &Typ,
     raw: &RawTyp,
 ) -> Result<(), AllocError>
-    ensures { OnOk result (AreAdded (record { at = spec.raw_typ_place raw.now; left = typ.now; right = written.written_typ (L.vocabulary language.now) (sort_among sorts.now) raw.now } ∷ []) constraints.old.next constraints.old constraints.new) }
+    ensures added { OnOk result (AreAdded (record { at = spec.raw_typ_place raw.now; left = typ.now; right = written.written_typ (L.vocabulary language.now) (sort_among sorts.now) raw.now } ∷ []) constraints.old.next constraints.old constraints.new) }
+    ensures sound { OnOk result (typ_faults (L.vocabulary language.now) raw.now ≡ []) }
 {
+    check_typ(language, raw)?;
     let written = written_typ(alloc, language, sorts, raw)?;
     constrain_to(alloc, constraints, raw_typ_place(raw), typ, written)?;
     Ok(())
 }
 
-/// The draft of a term under binders.
+/// The draft of a term under binders. Where a name is at fault there is none.
 pub(crate) fn draft<L: Language>(
     alloc: Global,
     language: &L,
@@ -324,7 +342,8 @@ pub(crate) fn draft<L: Language>(
     scope: &Scope<'_, '_>,
     raw: &Raw,
 ) -> Result<Drafted, AllocError>
-    ensures { IfOk result (λ d. IsDrafted (spec.draft (L.vocabulary language.now) (sort_among sorts.now) (binders_of scope.now) raw.now constraints.old.next) constraints.old constraints.new d.term.value d.typ) }
+    ensures draft { IfOk result (λ d. IsDrafted (spec.draft (L.vocabulary language.now) (sort_among sorts.now) (binders_of scope.now) raw.now constraints.old.next) constraints.old constraints.new d.term.value d.typ) }
+    ensures sound { OnOk result (term_faults (L.vocabulary language.now) (texts_of (binders_of scope.now)) raw.now ≡ []) }
 {
     match &raw.node {
         RawNode::Leaf { kind, text, .. } => {

@@ -3,6 +3,7 @@
 
 mod calls;
 mod classes;
+mod closed;
 mod draft;
 mod fault;
 mod faults;

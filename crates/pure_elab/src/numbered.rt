@@ -1,12 +1,14 @@
 //! Type variables that are numbered by first occurrence.
 ghost use Rattle.std.specs.Prelude.{◌≡◌, ◌+◌, IfOk, OnOk, length};
 ghost use Rattle.pure_definitions.specs.Types.Typ as tree;
+ghost use Rattle.pure_definitions.specs.Terms.Subst.{typ_image, typ_instance, inst_typ};
 ghost use Rattle.pure_tunify.specs.Occurrences.{schematics, schematics_of};
 ghost use Rattle.pure_elab.specs.Numbered as spec;
 ghost use Rattle.pure_elab.specs.Numbering.{image_of};
 
+use crate::closed::{is_closed, put};
 use pure_term::{Term, TermNode};
-use pure_typ::{Name, Sort, Typ, TypBind, TypMap, TypNode};
+use pure_typ::{Name, Sort, Typ, TypBind, TypMap, TypNode, instance_of};
 use std::alloc::{AllocError, Global};
 
 /// What numbered variables become: unknowns, or fixed type variables.
@@ -165,6 +167,50 @@ pub(crate) fn number_term(
         TermNode::App { fun, arg } => {
             number_term(alloc, numbering, first, binds, fun)?;
             number_term(alloc, numbering, first, binds, arg)?;
+            Ok(())
+        }
+    }
+}
+
+/// Replaces the variables that have entries in the type. One without variables stays as it is, and takes no memory.
+#[tactic(auto, using(crate::proofs::ClosedLaws::closed_replaced))]
+fn replace_in_typ(alloc: Global, binds: &TypMap, t: &mut Typ) -> Result<(), AllocError>
+    ensures { OnOk result (t.new ≡ typ_instance (typ_image binds.now) t.old) }
+{
+    if is_closed(t) {
+        return Ok(());
+    }
+    let new = instance_of(alloc, t, binds)?;
+    put(t, new);
+    Ok(())
+}
+
+/// Replaces the variables that have entries in the types of the term.
+pub(crate) fn replace_in_term(alloc: Global, binds: &TypMap, t: &mut Term) -> Result<(), AllocError>
+    ensures { OnOk result (t.new ≡ inst_typ (typ_image binds.now) t.old) }
+{
+    match &mut t.node {
+        TermNode::Const { typ, .. } => {
+            replace_in_typ(alloc, binds, typ)?;
+            Ok(())
+        }
+        TermNode::Free { typ, .. } => {
+            replace_in_typ(alloc, binds, typ)?;
+            Ok(())
+        }
+        TermNode::Var { typ, .. } => {
+            replace_in_typ(alloc, binds, typ)?;
+            Ok(())
+        }
+        TermNode::Bound { .. } => Ok(()),
+        TermNode::Abs { typ, body } => {
+            replace_in_typ(alloc, binds, typ)?;
+            replace_in_term(alloc, binds, body)?;
+            Ok(())
+        }
+        TermNode::App { fun, arg } => {
+            replace_in_term(alloc, binds, fun)?;
+            replace_in_term(alloc, binds, arg)?;
             Ok(())
         }
     }

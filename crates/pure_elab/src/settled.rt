@@ -1,14 +1,15 @@
 //! The draft's term under the settings that unification has found.
-ghost use Rattle.std.specs.Prelude.{◌≡◌, IfOk};
+ghost use Rattle.std.specs.Prelude.{◌≡◌, IfOk, OnOk};
 ghost use Rattle.pure_definitions.specs.Terms.Term.{term_size, term_depth};
-ghost use Rattle.pure_definitions.specs.Terms.Subst.{inst_typ};
+ghost use Rattle.pure_definitions.specs.Terms.Subst.{inst_typ, typ_instance};
 ghost use Rattle.pure_definitions.specs.Terms.Limits.{Leaves};
 ghost use Rattle.pure_term.specs.Grown.{IsGrown};
 ghost use Rattle.pure_tunify.specs.Settings.{composed};
 
+use crate::closed::{is_closed, put};
 use pure_term::{Grow, Term, TermNode};
 use pure_tunify::{Settings, resolved_leaves, settled_typ};
-use pure_typ::{MAX_DEPTH, MAX_SIZE};
+use pure_typ::{MAX_DEPTH, MAX_SIZE, Typ};
 use std::alloc::{AllocError, Global};
 
 /// What is left of a room for so many nodes, on paths of so many, when the term with all set variables replaced is put in.
@@ -59,56 +60,59 @@ fn settled_leaves(
     }
 }
 
-/// The term with all set variables replaced.
-fn settled_term(settings: &Settings, alloc: Global, t: &Term) -> Result<Box<Term>, AllocError>
-    ensures { IfOk result (λ u. u.value ≡ inst_typ (composed settings.now.sets) t.now) }
+/// Replaces all set variables in the type. One without variables stays as it is, and takes no memory.
+#[tactic(auto, using(crate::proofs::ClosedLaws::closed_settled))]
+fn settle_typ(settings: &Settings, alloc: Global, t: &mut Typ) -> Result<(), AllocError>
+    ensures { OnOk result (t.new ≡ typ_instance (composed settings.now.sets) t.old) }
 {
-    match &t.node {
-        TermNode::Const { name, typ } => {
-            let typ = settled_typ(settings, alloc, typ)?;
-            let node = TermNode::Const { name: *name, typ };
-            Ok(Box::new(alloc, Term { node })?)
+    if is_closed(t) {
+        return Ok(());
+    }
+    let new = settled_typ(settings, alloc, t)?;
+    put(t, new);
+    Ok(())
+}
+
+/// Replaces all set variables in the term.
+fn settle_term(settings: &Settings, alloc: Global, t: &mut Term) -> Result<(), AllocError>
+    ensures { OnOk result (t.new ≡ inst_typ (composed settings.now.sets) t.old) }
+{
+    match &mut t.node {
+        TermNode::Const { typ, .. } => {
+            settle_typ(settings, alloc, typ)?;
+            Ok(())
         }
-        TermNode::Free { name, typ } => {
-            let typ = settled_typ(settings, alloc, typ)?;
-            let node = TermNode::Free { name: *name, typ };
-            Ok(Box::new(alloc, Term { node })?)
+        TermNode::Free { typ, .. } => {
+            settle_typ(settings, alloc, typ)?;
+            Ok(())
         }
-        TermNode::Var { name, index, typ } => {
-            let typ = settled_typ(settings, alloc, typ)?;
-            let node = TermNode::Var {
-                name: *name,
-                index: *index,
-                typ,
-            };
-            Ok(Box::new(alloc, Term { node })?)
+        TermNode::Var { typ, .. } => {
+            settle_typ(settings, alloc, typ)?;
+            Ok(())
         }
-        TermNode::Bound { place } => {
-            let node = TermNode::Bound { place: *place };
-            Ok(Box::new(alloc, Term { node })?)
-        }
+        TermNode::Bound { .. } => Ok(()),
         TermNode::Abs { typ, body } => {
-            let typ = settled_typ(settings, alloc, typ)?;
-            let body = settled_term(settings, alloc, body)?;
-            let node = TermNode::Abs { typ, body };
-            Ok(Box::new(alloc, Term { node })?)
+            settle_typ(settings, alloc, typ)?;
+            settle_term(settings, alloc, body)?;
+            Ok(())
         }
         TermNode::App { fun, arg } => {
-            let fun = settled_term(settings, alloc, fun)?;
-            let arg = settled_term(settings, alloc, arg)?;
-            let node = TermNode::App { fun, arg };
-            Ok(Box::new(alloc, Term { node })?)
+            settle_term(settings, alloc, fun)?;
+            settle_term(settings, alloc, arg)?;
+            Ok(())
         }
     }
 }
 
 /// The term with all set variables replaced. It is measured first.
-pub(crate) fn settled(settings: &Settings, alloc: Global, term: &Term) -> Result<Term, Grow>
-    ensures { IsGrown (inst_typ (composed settings.now.sets) term.now) result }
+pub(crate) fn settled(settings: &Settings, alloc: Global, term: Term) -> Result<Term, Grow>
+    ensures { IsGrown (inst_typ (composed settings.now.sets) term) result }
 {
-    let found = settled_leaves(settings, term, MAX_SIZE, MAX_DEPTH)?;
+    let found = settled_leaves(settings, &term, MAX_SIZE, MAX_DEPTH)?;
     let Some(_) = found else {
         return Err(Grow::Big);
     };
-    Ok(Box::into_inner(settled_term(settings, alloc, term)?))
+    let mut settled = term;
+    settle_term(settings, alloc, &mut settled)?;
+    Ok(settled)
 }

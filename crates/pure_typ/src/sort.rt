@@ -55,11 +55,15 @@ impl Sort {
         Ok(Sort { classes })
     }
 
-    /// An equal sort.
+    /// An equal sort. The empty one, which most are, takes no memory.
     pub fn copy(&self, alloc: Global) -> Result<Sort, AllocError>
         ensures { IfOk result (λ s. s ≡ self.now) }
     {
-        let classes = Vec::from_slice(alloc, self.classes())?;
+        let own = self.classes();
+        if own.len() == 0 {
+            return Ok(Sort::make(Vec::new(alloc)));
+        }
+        let classes = Vec::from_slice(alloc, own)?;
         Ok(Sort { classes })
     }
 }
