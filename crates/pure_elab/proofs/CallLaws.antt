@@ -54,16 +54,7 @@ found_refuses faults f fault e same = subst (λ (x : ElabFault). IsNameRefusal f
 pub nothing_found : (faults : List FaultAt) → None ≡ earliest None faults → faults ≡ []
 nothing_found faults e = none_found faults (sym e)
 
--- A refusal of names is a fault of the text.
-pub refused_term : (V : Vocabulary) (t : RawTree) (T : Typ) (fault : ElabFault) → IsNameRefusal (term_faults V [] t) fault → IsElabFault V t T fault
-refused_term V t T (UnknownName at) h = h
-refused_term V t T (UnknownSort at) h = h
-refused_term V t T (WrongCount at) h = h
-refused_term V t T (Schematic at) h = h
-refused_term V t T (IllTyped at) h = absurd h
-refused_term V t T Big h = absurd h
-refused_term V t T Memory h = h
-
+-- A refusal of names is a fault of the text of a type.
 pub refused_typ : (V : Vocabulary) (t : RawTypTree) (fault : ElabFault) → IsNameRefusal (typ_faults V t) fault → IsElabTypFault V t fault
 refused_typ V t (UnknownName at) h = h
 refused_typ V t (UnknownSort at) h = h
