@@ -9,6 +9,7 @@ use Rattle.pure_logic.specs.Content.{Content, IsContent}
 use Rattle.pure_order_tables.specs.Classes.{IsDeclared}
 use Rattle.pure_order_tables.specs.Arities.{IsKnown, with_arity}
 use Rattle.pure_order_tables.specs.Unknown.{IsFirstUnknown, names_of, joined}
+use Rattle.pure_certify.proofs.PartLemmas.{class_declared}
 use Rattle.pure_stage.proofs.AlgebraLaws.{arity_algebra}
 use Rattle.pure_theory.specs.declared.fault.DeclFault.{DeclFault}
 use Rattle.pure_theory.specs.declared.fault.DeclFault.TheVariants as fault
@@ -22,7 +23,7 @@ use Rattle.pure_declare.specs.Notes.{Change}
 use Rattle.pure_declare.specs.Changes.{failed_declaration}
 use Rattle.pure_declare.specs.Commands.{Place, vocabulary, AreKnown, IsMiscounted, declaring, IsFoundArityChange, IsClassArityChange, IsDomainsArityChange, IsArityChange}
 use Rattle.pure_declare.specs.Lookups.{IsWrittenSort, AreWrittenSorts}
-use Rattle.pure_declare.proofs.KnownLaws.{declared_among, first-in}
+use Rattle.pure_declare.proofs.KnownLaws.{first-in}
 
 same-count : (Q : Content) → IsContent Q → (k m n : ℕ) → IsIn (ConDecl k m) Q.declarations → IsIn (ConDecl k n) Q.declarations → m ≡ n
 same-count Q content k m n i j = let same = content.named_once (ConDecl k m) (ConDecl k n) i j refl in cc
@@ -109,8 +110,8 @@ known-of P k sorts c con domains class = record {
   con = con;
   classes = record {
     domains = each_imply (Each (IsDeclaredClass P.content.declarations)) (Each (IsDeclared (classes_of P.content.declarations))) sorts
-        (λ s h. each_imply (IsDeclaredClass P.content.declarations) (IsDeclared (classes_of P.content.declarations)) s (declared_among P.content.declarations) h) domains;
-    class = declared_among P.content.declarations c class;
+        (λ s h. each_imply (IsDeclaredClass P.content.declarations) (IsDeclared (classes_of P.content.declarations)) s (class_declared P.content.declarations) h) domains;
+    class = class_declared P.content.declarations c class;
   };
 }
 

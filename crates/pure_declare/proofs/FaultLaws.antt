@@ -9,10 +9,11 @@ use Rattle.pure_definitions.specs.Terms.Term.{Term}
 use Rattle.pure_definitions.specs.Declarations.Decl.{Decl, ClassDecl, ConDecl, ConstDecl, AxiomDecl, PromiseDecl, classes_of, IsDeclaredClass}
 use Rattle.pure_logic.specs.Content.{Content, AreNamedAlike}
 use Rattle.pure_lookup.specs.Meaning.{classes, constructors, constants, facts, IsDeclaredIn}
+use Rattle.pure_certify.proofs.PartLemmas.{class_declared}
 use Rattle.pure_theory.specs.declared.fault.DeclFault.{DeclFault}
 use Rattle.pure_theory.specs.declared.fault.DeclFault.TheVariants.{Duplicate, UnknownClass, UnknownType, WrongCount, NotCoregular, NotClosed, ExtraType, Memory}
 use Rattle.pure_theory.specs.Refusals.{HasNamesake, IsNameRefusal, IsClassRefusal}
-use Rattle.pure_declare.proofs.KnownLaws.{declared_among, first-in}
+use Rattle.pure_declare.proofs.KnownLaws.{first-in}
 
 name-memory : (ds : List Decl) (d : Decl) (f : DeclFault) → (HasNamesake ds d → ⊥) → IsNameRefusal ds d f → f ≡ Memory
 name-memory ds d Duplicate new h = absurd (new h)
@@ -48,7 +49,7 @@ promise-taken ds x l A _ i alike = absurd alike
 
 class-memory-here : (ds : List Decl) (k : Class) (f : DeclFault) → (IsDeclaredIn classes ds k.name → ⊥) → Each (IsDeclaredClass ds) k.above → IsClassRefusal ds k f → f ≡ Memory
 class-memory-here ds k Duplicate new known h = absurd (new (class-taken ds k h.0 h.1 h.2))
-class-memory-here ds k (UnknownClass c) new known h = absurd (h.1.unknown (declared_among ds c (each_at (IsDeclaredClass ds) k.above known c (first-in (classes_of ds) k.above c h.1))))
+class-memory-here ds k (UnknownClass c) new known h = absurd (h.1.unknown (class_declared ds c (each_at (IsDeclaredClass ds) k.above known c (first-in (classes_of ds) k.above c h.1))))
 class-memory-here ds k Memory new known h = refl
 class-memory-here ds k (UnknownType l) new known h = absurd h
 class-memory-here ds k (WrongCount l) new known h = absurd h

@@ -24,9 +24,10 @@ use Rattle.pure_logic.specs.Content.{Content, IsStatement, definition, schematic
 use Rattle.pure_logic.specs.PureContent.{pure_content}
 use Rattle.pure_lookup.specs.Meaning.{constructors, constants, facts}
 use Rattle.pure_lookup.specs.Laws.{IsInSession}
+use Rattle.pure_certify.proofs.PartLemmas.{declared_class, class_declared}
 use Rattle.pure_theory.specs.Stage.{IsSound, IsStage, with_declarations, with_decl}
 use Rattle.pure_theory.specs.Refusals.{HasCon, IsLabelAbove}
-use Rattle.pure_theory.proofs.GrowthLaws.{declared_class, typ_stage, const_stage, axiom_stage, promise_stage, class_stage, arity_stage}
+use Rattle.pure_theory.proofs.GrowthLaws.{typ_stage, const_stage, axiom_stage, promise_stage, class_stage, arity_stage}
 use Rattle.pure_theory.proofs.DefinitionLaws.{made_schematic, defined_typ-certified, definition_is_statement}
 use Rattle.pure_theory.proofs.LookupLaws.{declared_fact}
 use Rattle.pure_theory.proofs.PureLaws.{pure_is_sound}
@@ -38,7 +39,7 @@ use Rattle.pure_declare.specs.Lookups.{IsWrittenSort}
 use Rattle.pure_declare.specs.Notes.{Outcome}
 use Rattle.pure_declare.specs.Commands.{Place, vocabulary, IsTaken, IsMiscounted, defining}
 use Rattle.pure_declare.specs.Good.{IsGood, PureIsGood, DeclaresGood, GoodIsCertified}
-use Rattle.pure_declare.proofs.KnownLaws.{declared_among, classes-known}
+use Rattle.pure_declare.proofs.KnownLaws.{classes-known}
 use Rattle.pure_declare.proofs.LookupSteps.{sorts-known, typ-known, one_class-known}
 use Rattle.pure_declare.proofs.QuotedLaws.{certified-declarations}
 use Rattle.pure_declare.proofs.BoundLaws.{stated-of, typ-of, body-of}
@@ -56,8 +57,8 @@ arities-known : (ds : List Decl) → AreCertifiedDeclarations ds → Each (IsKno
 arities-known ds h = each_of (IsKnown (classes_of ds)) (arities_of ds) (λ a m.
     let there = (declared_arities ds a).0 m in
     record {
-      domains = each_imply (Each (IsDeclaredClass ds)) (Each (IsDeclared (classes_of ds))) a.domains (λ s k. each_imply (IsDeclaredClass ds) (IsDeclared (classes_of ds)) s (declared_among ds) k) (h.domains a there);
-      class = declared_among ds a.class (h.classes a there);
+      domains = each_imply (Each (IsDeclaredClass ds)) (Each (IsDeclared (classes_of ds))) a.domains (λ s k. each_imply (IsDeclaredClass ds) (IsDeclared (classes_of ds)) s (class_declared ds) k) (h.domains a there);
+      class = class_declared ds a.class (h.classes a there);
     })
 
 -- Sorts that are written ascend.
@@ -87,7 +88,7 @@ module _ (P : Place) (session : IsInSession P.texts P.content) (g : IsGood P.con
   class-good : (k : Class) → (IsDeclaredClass P.content.declarations k.name → ⊥) → Each (IsDeclaredClass P.content.declarations) k.above → IsGood (with_decl P.content (ClassDecl k))
   class-good k new above =
       let ds = P.content.declarations in
-      let among : Each (IsDeclared (classes_of ds)) k.above = each_imply (IsDeclaredClass ds) (IsDeclared (classes_of ds)) k.above (declared_among ds) above in
+      let among : Each (IsDeclared (classes_of ds)) k.above = each_imply (IsDeclaredClass ds) (IsDeclared (classes_of ds)) k.above (class_declared ds) above in
       let fresh : IsDeclared (classes_of ds) k.name → ⊥ = λ m. new (declared_class ds k.name m) in
       let coregular : IsCoregular (with_class (algebra_of ds) k) = coregular_with_class (algebra_of ds) k g.ordered fresh (arities-known ds (certified-declarations P.content g.sound)) g.sound.content.coregular in
       good (with_decl P.content (ClassDecl k)) (class_stage P.content g.sound (algebra_of ds) (with_class (algebra_of ds) k) refl coregular k new among refl).sound
@@ -101,8 +102,8 @@ module _ (P : Place) (session : IsInSession P.texts P.content) (g : IsGood P.con
       let sorts = sorts-known P.texts P.content session content is.domains.0 a.domains is.domains.1 in
       let class = one_class-known P.texts P.content session content is.class.0 a.class is.class.1 in
       let known : IsKnown (classes_of ds) a = record {
-        domains = each_imply (Each (IsDeclaredClass ds)) (Each (IsDeclared (classes_of ds))) a.domains (λ s k. each_imply (IsDeclaredClass ds) (IsDeclared (classes_of ds)) s (declared_among ds) k) sorts;
-        class = declared_among ds a.class class;
+        domains = each_imply (Each (IsDeclaredClass ds)) (Each (IsDeclared (classes_of ds))) a.domains (λ s k. each_imply (IsDeclaredClass ds) (IsDeclared (classes_of ds)) s (class_declared ds) k) sorts;
+        class = class_declared ds a.class class;
       } in
       let there : HasCon ds a = counted-so ds a con.0 is.counted con.1 in
       good (with_decl P.content (ArityDecl a))

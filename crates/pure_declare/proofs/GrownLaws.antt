@@ -23,7 +23,7 @@ use Rattle.pure_declare.specs.Premises.{HasClassesAbove}
 use Rattle.pure_declare.specs.Grown.{IsGrown, DeclaresGrown}
 use Rattle.pure_declare.proofs.KnownLaws.{classes-known}
 
-before-through : (l m n : Label) → IsBefore l m → IsBefore m n → IsBefore l n
+pub before-through : (l m n : Label) → IsBefore l m → IsBefore m n → IsBefore l n
 before-through l m n (inl a) (inl b) = inl (omega arith)
 before-through l m n (inl a) (inr b) = let same = b.0 in inl (omega arith)
 before-through l m n (inr a) (inl b) = let same = a.0 in inl (omega arith)

@@ -4,17 +4,12 @@ use Rattle.std.specs.Prelude.{Some, None}
 use Rattle.pure_text.specs.Lists.{IsIn}
 use Rattle.pure_text.proofs.AnswerLaws.{yes_as, no_as}
 use Rattle.pure_definitions.specs.Types.Typ.{Typ}
-use Rattle.pure_definitions.specs.Types.Order.{Algebra}
-use Rattle.pure_definitions.specs.Declarations.Decl.{Decl, ConDecl, ConstDecl, algebra_of, IsDeclaredClass}
-use Rattle.pure_order_tables.specs.Classes.{IsDeclared}
+use Rattle.pure_definitions.specs.Declarations.Decl.{Decl, ConDecl, ConstDecl}
 use Rattle.pure_certify.specs.Tables.{IsParams, IsUnknownConst, IsConstOf}
 use Rattle.pure_stage.specs.Facts.{Stated, fact_decl}
 use Rattle.pure_logic.specs.Content.{Content}
 use Rattle.pure_lookup.specs.Meaning.{Space, facts, IsDeclaredIn}
-use Rattle.pure_theory.proofs.LookupLaws.{class_declared, declared_fact, undeclared_fact}
-
-pub class-declared : (ds : List Decl) (A : Algebra) (c : ℕ) (b : Bool) → A ≡ algebra_of ds → IsTrue b ↔ IsDeclared A.classes c → IsTrue b ↔ IsDeclaredClass ds c
-class-declared = class_declared
+use Rattle.pure_theory.proofs.LookupLaws.{declared_fact, undeclared_fact}
 
 pub fact-yes : (ds : List Decl) (x : ℕ) (s : Stated) → ((t : Stated) → IsIn (fact_decl x t) ds ↔ (t ≡ s)) → IsTrue true ↔ IsDeclaredIn facts ds x
 fact-yes ds x s h = yes_as (IsDeclaredIn facts ds x) (declared_fact ds x s ((h s).1 refl))

@@ -1,15 +1,16 @@
 -- What the file of a loaded theory says.
 use Rattle.std.proofs.Common.{◌≡◌, ◌≤◌, inl, inr, ℕ, ◌+◌, Bool, true, false, cond, List, [], ◌∷◌, ◌++◌, length, map, refl, sym, ◌∙◌, ap, subst, Option, Some, None, nat_lt}
-use Rattle.pure_text.specs.Lists.{IsIn, EachTwo}
+use Rattle.pure_text.specs.Lists.{IsIn}
 use Rattle.pure_grammar.specs.Theories.TheoryText.{TheoryText}
 use Rattle.pure_graph.specs.Limits.{most_files, most_bytes}
 use Rattle.pure_graph.specs.Outcome.{Outcome, Refused, Stands, IsTheoryText, IsOwnOutcome, is_headed, is_large, tree_outcome}
-use Rattle.pure_graph.specs.Reading.{Answer, File, IsTried, AreReadFrom, counted, fits, command_count}
-use Rattle.pure_graph.specs.Graph.{IsOutcomeJudged, linked, without, first_absent, imports_of}
+use Rattle.pure_graph.specs.Reading.{Answer, File, IsTried, AreReadFrom, counted, command_count}
+use Rattle.pure_graph.specs.Graph.{IsOutcomeJudged, linked, first_absent, imports_of}
 use Rattle.pure_graph.specs.Order.{Loaded, file_of, AreTakenBehind}
 use Rattle.pure_graph.specs.Session.{Refusal, IsLoadingOf}
 use Rattle.pure_graph.specs.declared.outcome.Reason.TheVariants.{TooManyFiles, TooLarge, HeaderName}
 use Rattle.pure_session.proofs.GraphLemmas.{in_mapped}
+use Rattle.pure_session.proofs.LoadedLemmas.{right_of, judged-before, linked-before, counted-before}
 
 -- The file of a theory stands by itself: its bytes aren't too many and have this tree, with the theory's name in front, which isn't too large.
 pub record IsOwn (theory source : List ℕ) (text : TheoryText) : Type 0 where
@@ -51,13 +52,6 @@ tried-stands : (is_read : Bool) (a : Answer) (own : Outcome) (s : List ℕ) (x :
 tried-stands true a own s x tried e = own-stands a.theory a.bytes s x (subst (IsOwnOutcome a.theory a.bytes) e tried)
 tried-stands false a own s x tried e = let no : Refused TooManyFiles ≡ Stands s x = sym tried ∙ e in absurd (cc)
 
-counted-before : (n : ℕ) (o : Outcome) (s : List ℕ) (x : TheoryText) → counted n o ≡ Stands s x → o ≡ Stands s x
-counted-before n o s x h = by (fits n o) h
-  where
-    by : (b : Bool) → cond b o (Refused TooLarge) ≡ Stands s x → o ≡ Stands s x
-    by true e = e
-    by false e = absurd (cc)
-
 read-stands : (place n : ℕ) (answers : List Answer) (files : List File) (f : File) (s : List ℕ) (x : TheoryText) → AreReadFrom place n answers files → IsIn f files → f.outcome ≡ Stands s x → IsOwn f.theory s x
 read-stands place n [] [] f s x read m o = absurd m
 read-stands place n [] (g ∷ files) f s x read m o = absurd read
@@ -68,24 +62,6 @@ read-stands place n (a ∷ answers) (g ∷ files) f s x (own, tried, made, rest)
     subst (λ t. IsOwn t s x) (sym theory) (tried-stands (nat_lt place most_files) a own s x tried (counted-before n own s x said))
 read-stands place n (a ∷ answers) (g ∷ files) f s x (own, tried, made, rest) (inr m) o =
     read-stands (place + 1) (n + command_count (counted n own)) answers files f s x rest m o
-
-linked-before : (o : Outcome) (absent : Option (List ℕ)) (s : List ℕ) (x : TheoryText) → without absent o ≡ Stands s x → o ≡ Stands s x
-linked-before o None s x h = h
-linked-before o (Some p) s x h = absurd (cc)
-
-judged-before : (files : List File) (t : List ℕ) (o : Outcome) (s : List ℕ) (x : TheoryText) → IsOutcomeJudged files t o (Stands s x) → o ≡ Stands s x
-judged-before files t (Refused reason) s x h = absurd (cc)
-judged-before files t (Stands b y) s x (inl (c, e)) = absurd (cc)
-judged-before files t (Stands b y) s x (inr (n, inl (p, f, e))) = absurd (cc)
-judged-before files t (Stands b y) s x (inr (n, inr (k, e))) = sym e
-
--- the file of which a file is what the tests on imports leave
-right_of : {A B : Type 0} (R : A → B → Type 0) (xs : List A) (ys : List B) (y : B) → EachTwo R xs ys → IsIn y ys → (x : A) × IsIn x xs × R x y
-right_of R [] [] y each m = absurd m
-right_of R [] (z ∷ ys) y each m = absurd each
-right_of R (x ∷ xs) [] y each m = absurd each
-right_of R (x ∷ xs) (z ∷ ys) y each (inl e) = (x, inl refl, subst (R x) (sym e) each.0)
-right_of R (x ∷ xs) (z ∷ ys) y each (inr m) = let w = right_of R xs ys y each.1 m in (w.0, inr w.1, w.2)
 
 -- a loaded theory is that of a file that stands
 pub taken-stands : (files : List File) (taken : List (List ℕ)) (loaded : List Loaded) → AreTakenBehind files taken loaded → (l : Loaded) → IsIn l loaded → IsIn (file_of l.name l.source l.text) files

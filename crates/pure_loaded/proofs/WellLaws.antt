@@ -21,8 +21,8 @@ use Rattle.pure_graph.specs.Limits.{most_bytes, most_commands}
 use Rattle.pure_graph.specs.Outcome.{IsTheoryText, is_headed, has_long_proof, pure_theory}
 use Rattle.pure_graph.specs.Order.{Loaded}
 use Rattle.pure_graph.specs.SessionNames.{spelling_of, Gives, GivesInside, IsSpelled, IsGiven, full_names}
+use Rattle.pure_graph.proofs.SourceLemmas.{whole-range}
 use Rattle.pure_session.proofs.SetLemmas.{each-slice}
-use Rattle.pure_session.proofs.TokenLemmas.{whole-range}
 use Rattle.pure_session.proofs.PlainLemmas.{plain-spelling}
 use Rattle.pure_lookup.specs.Meaning.{pure_text}
 use Rattle.pure_declare.specs.Premises.{LiesIn, HasRanges, HasFullNames, IsNamed}

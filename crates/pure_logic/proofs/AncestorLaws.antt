@@ -13,13 +13,13 @@ use Rattle.pure_logic.specs.PureContent.{pure_content}
 use Rattle.pure_logic.specs.Beginning.{theory_eq, without_theory, each_once, theories_of, ancestors_of, IsBeginning, AreToldApart, IsNewOver, HasTheoriesApart}
 use Rattle.pure_logic.proofs.MergeLaws.{one_merge}
 
-theory_eq-same : (t u : TheoryId) → theory_eq t u ≡ true → t ≡ u
+pub theory_eq-same : (t u : TheoryId) → theory_eq t u ≡ true → t ≡ u
 theory_eq-same t u h =
     let names = eqb-true t.name u.name (first_so (nat_eq t.name u.name) (nat_eq t.index u.index) h) in
     let indexes = eqb-true t.index u.index (second_so (nat_eq t.name u.name) (nat_eq t.index u.index) h) in
     λ l. record { name = names l; index = indexes l }
 
-theory_eq-itself : (t : TheoryId) → theory_eq t t ≡ true
+pub theory_eq-itself : (t : TheoryId) → theory_eq t t ≡ true
 theory_eq-itself t = both_true (eq-eqb t.name t.name refl) (eq-eqb t.index t.index refl)
 
 in-without : (x t : TheoryId) (ts : List TheoryId) → IsIn x (without_theory t ts) → IsIn x ts × (t ≢ x)

@@ -89,7 +89,7 @@ merge-coregular before P (R ∷ Rs) merged h = merge-coregular h.0 R Rs merged h
 statement-above : (P Q : Content) → IsBelow P Q → (A : Term) → IsStatement P A → IsStatement Q A
 statement-above P Q below A h = record { proposition = certified_of-above P Q below A prop h.proposition; schematic = h.schematic }
 
-well_formed-above : (P Q : Content) → IsBelow P Q → (x : Decl) → IsWellFormed P x → IsWellFormed Q x
+pub well_formed-above : (P Q : Content) → IsBelow P Q → (x : Decl) → IsWellFormed P x → IsWellFormed Q x
 well_formed-above P Q below (ConstDecl c T) h = h
 well_formed-above P Q below (AxiomDecl n A) h = statement-above P Q below A h
 well_formed-above P Q below (PromiseDecl n l A) h = statement-above P Q below A h

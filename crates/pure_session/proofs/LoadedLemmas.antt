@@ -30,24 +30,24 @@ taken-stands files taken [] l all m = absurd m
 taken-stands files taken (k ∷ loaded) l all (inl e) = subst (λ (x : Loaded). IsIn (file_of x.name x.source x.text) files) (sym e) all.0.ready.stands
 taken-stands files taken (k ∷ loaded) l all (inr m) = taken-stands files (taken ++ k.name ∷ []) loaded l all.2 m
 
-right_of : {A B : Type 0} (R : A → B → Type 0) (xs : List A) (ys : List B) (y : B) → EachTwo R xs ys → IsIn y ys → (x : A) × IsIn x xs × R x y
+pub right_of : {A B : Type 0} (R : A → B → Type 0) (xs : List A) (ys : List B) (y : B) → EachTwo R xs ys → IsIn y ys → (x : A) × IsIn x xs × R x y
 right_of R [] [] y each m = absurd m
 right_of R [] (z ∷ ys) y each m = absurd each
 right_of R (x ∷ xs) [] y each m = absurd each
 right_of R (x ∷ xs) (z ∷ ys) y each (inl e) = (x, inl refl, subst (R x) (sym e) each.0)
 right_of R (x ∷ xs) (z ∷ ys) y each (inr m) = let w = right_of R xs ys y each.1 m in (w.0, inr w.1, w.2)
 
-judged-before : (files : List File) (t : List ℕ) (o : Outcome) (source : List ℕ) (text : TheoryText) → IsOutcomeJudged files t o (Stands source text) → o ≡ Stands source text
+pub judged-before : (files : List File) (t : List ℕ) (o : Outcome) (source : List ℕ) (text : TheoryText) → IsOutcomeJudged files t o (Stands source text) → o ≡ Stands source text
 judged-before files t (Refused reason) source text h = absurd (cc)
 judged-before files t (Stands s x) source text (inl (c, e)) = absurd (cc)
 judged-before files t (Stands s x) source text (inr (n, inl (p, f, e))) = absurd (cc)
 judged-before files t (Stands s x) source text (inr (n, inr (k, e))) = sym e
 
-linked-before : (o : Outcome) (absent : Option (List ℕ)) (source : List ℕ) (text : TheoryText) → without absent o ≡ Stands source text → o ≡ Stands source text
+pub linked-before : (o : Outcome) (absent : Option (List ℕ)) (source : List ℕ) (text : TheoryText) → without absent o ≡ Stands source text → o ≡ Stands source text
 linked-before o None source text h = h
 linked-before o (Some p) source text h = absurd (cc)
 
-counted-before : (n : ℕ) (o : Outcome) (source : List ℕ) (text : TheoryText) → counted n o ≡ Stands source text → o ≡ Stands source text
+pub counted-before : (n : ℕ) (o : Outcome) (source : List ℕ) (text : TheoryText) → counted n o ≡ Stands source text → o ≡ Stands source text
 counted-before n o source text h = tell (fits n o) h
   where
     tell : (b : Bool) → cond b o (Refused TooLarge) ≡ Stands source text → o ≡ Stands source text

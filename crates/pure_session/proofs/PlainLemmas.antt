@@ -18,9 +18,9 @@ use Rattle.pure_typ.specs.NameTexts.{builtin_texts}
 use Rattle.pure_graph.specs.Order.{Loaded}
 use Rattle.pure_graph.specs.Outcome.{pure_theory}
 use Rattle.pure_graph.specs.SessionNames.{spelling_of, Gives, GivesInside, IsSpelled, full_name, full_names, IsGiven}
+use Rattle.pure_graph.proofs.SourceLemmas.{whole-range}
 use Rattle.pure_session.specs.Plain.{ArePlain}
 use Rattle.pure_session.proofs.SetLemmas.{each-slice}
-use Rattle.pure_session.proofs.TokenLemmas.{whole-range}
 
 -- ---- spellings have no dot
 no_dot : is_name_byte 46 ≡ false

@@ -1,5 +1,5 @@
 -- What the tokens that were found in a source say of its spellings.
-use Rattle.std.proofs.Common.{◌≡◌, ◌⊎◌, ◌↔◌, ℕ, ◌+◌, ◌-◌, true, false, List, length, take, take_all, ◌∙◌, ap, subst, arith}
+use Rattle.std.proofs.Common.{◌≡◌, ◌⊎◌, ◌↔◌, ℕ, ◌+◌, ◌-◌, true, false, List, length, subst}
 use Rattle.std.specs.Prelude.{slice_range}
 use Rattle.pure_text.specs.Lists.{AnyOf}
 use Rattle.pure_grammar.specs.declared.token.Token.{Token}
@@ -7,11 +7,7 @@ use Rattle.pure_grammar.specs.declared.token.TokenKind.TheVariants.{Quote}
 use Rattle.pure_grammar.specs.Tokens.Spelling.{Spells, HasFault}
 use Rattle.pure_grammar.proofs.Readings.{one_list, list_or_fault}
 use Rattle.pure_graph.specs.SessionNames.{Gives, GivesInside, IsSpelled}
-
-pub whole-range : (source : List ℕ) → slice_range source 0 (length source) ≡ source
-whole-range source =
-    let all : length source - 0 ≡ length source = omega arith in
-    ap (λ n. take n source) all ∙ take_all (length source) source (omega arith)
+use Rattle.pure_graph.proofs.SourceLemmas.{whole-range}
 
 pub inside-given : (source : List ℕ) (quote : Token) (found : List Token) → quote.kind ≡ Quote → Spells (quote.to - 1) found (slice_range source (quote.from + 1) (quote.to - 1)) → (t : List ℕ)
     → AnyOf (λ token. Gives source true token t) found ↔ GivesInside source quote t

@@ -52,7 +52,7 @@ promise_of now (Some b) ds x l s is same = λ C. (
   λ e. (is (record { label = Some l; prop = C })).1 (ap (λ D. record { label = Some l; prop = D }) e ∙ sym same),
 )
 
-named : (x : ℕ) (l : Option Label) (A B : Term) → AreNamedAlike (AxiomDecl x A) (fact x l B)
+pub named : (x : ℕ) (l : Option Label) (A B : Term) → AreNamedAlike (AxiomDecl x A) (fact x l B)
 named x None A B = refl
 named x (Some l) A B = refl
 

@@ -1,5 +1,5 @@
 -- Whether parents agree, and whether theories are told apart.
-use Rattle.std.proofs.Common.{◌≡◌, ◌≢◌, ◌⊎◌, ◌↔◌, ℕ, ◌+◌, ◌<◌, List, [], ◌∷◌, ◌++◌, length, Bool, true, false, IsTrue, refl, sym, ◌∙◌, inl, inr, take, add-one, arith}
+use Rattle.std.proofs.Common.{◌≡◌, ◌≢◌, ◌↔◌, ℕ, ◌+◌, ◌<◌, List, [], ◌∷◌, ◌++◌, length, Bool, true, false, IsTrue, refl, sym, ◌∙◌, inl, inr, take, add-one, arith}
 use Rattle.std.proofs.lemmas.Bool.{eqb-true}
 use Rattle.std.specs.Prelude.{Some, slice_get, ◌==◌}
 use Rattle.std.specs.declared.alloc.Global.{Global}
@@ -12,6 +12,7 @@ use Rattle.pure_order_tables.proofs.OtherLaws.{with_others}
 use Rattle.pure_logic.specs.Content.{TheoryId, Content, AreNamedAlike, AreLabelledAlike, IsContent}
 use Rattle.pure_logic.specs.Beginning.{theory_eq, AreToldApart, IsNewOver}
 use Rattle.pure_logic.specs.Laws.Contents.{AreAgreed}
+use Rattle.pure_logic.proofs.AncestorLaws.{theory_eq-same, theory_eq-itself}
 use Rattle.pure_stage.specs.Named.{AreNamedOnce}
 use Rattle.pure_stage.specs.Agreement.{AreAlike, AreOnce, Fits}
 use Rattle.pure_stage.proofs.GetLaws.{take_next}
@@ -19,7 +20,6 @@ use Rattle.pure_theory.specs.Begin.{contents, AreTold, IsNewBeside}
 use Rattle.pure_theory.specs.Stage.{IsSound}
 use Rattle.pure_theory.proofs.NamesakeLaws.{named_back, labelled_back}
 use Rattle.pure_theory.proofs.MergeLaws.{any-take, get_any}
-use Rattle.pure_theory.proofs.OnceLaws.{theory_eq-same, theory_eq-itself}
 
 -- The declaration is one of a parent.
 abbrev pub IsOf : List Content → Decl → Type 0

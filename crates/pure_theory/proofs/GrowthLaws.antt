@@ -2,27 +2,25 @@
 use Rattle.std.proofs.Common.{◌≡◌, ℕ, List, [], ◌∷◌, ◌++◌, refl, sym, ◌∙◌, ap, subst}
 use Rattle.std.specs.List.Sorted.{IsStrictlyIncreasing}
 use Rattle.pure_text.specs.Lists.{IsIn, Each}
-use Rattle.pure_text.proofs.ListLaws.{each_imply, any_some, any_of}
+use Rattle.pure_text.proofs.ListLaws.{each_imply, any_of}
 use Rattle.pure_definitions.specs.Names.{Label}
 use Rattle.pure_definitions.specs.Types.Typ.{Typ}
 use Rattle.pure_definitions.specs.Types.Order.{Class, Arity, Algebra, IsCoregular}
 use Rattle.pure_definitions.specs.Terms.Term.{Term}
 use Rattle.pure_definitions.specs.Declarations.Decl.{Decl, ClassDecl, ConDecl, ArityDecl, ConstDecl, AxiomDecl, PromiseDecl, classes_of, arities_of, algebra_of, IsDeclaredClass}
 use Rattle.pure_definitions.specs.Declarations.Certified.{IsCertifiedSort, IsCertifiedTyp}
-use Rattle.pure_term_laws.proofs.DeclLaws.{declared_classes, declared_arities}
+use Rattle.pure_term_laws.proofs.DeclLaws.{declared_arities}
 use Rattle.pure_order_tables.specs.Classes.{IsDeclared}
 use Rattle.pure_order_tables.specs.Arities.{IsKnown, with_class, with_arity}
 use Rattle.pure_order_tables.specs.Unknown.{HasArityFor}
 use Rattle.pure_logic.specs.Content.{Content, IsSchematicTyp, IsStatement, IsWellFormed, AreNamedAlike, AreLabelledAlike}
+use Rattle.pure_certify.proofs.PartLemmas.{declared_class}
 use Rattle.pure_stage.specs.Facts.{Stated, fact_decl}
 use Rattle.pure_theory.specs.Stage.{IsCertifiedDecl, IsSound, IsStage, with_decl}
 use Rattle.pure_theory.specs.Refusals.{HasNamesake, HasCon, IsLabelAbove}
 use Rattle.pure_theory.proofs.NamesakeLaws.{new_typ, new_const, new_axiom, new_promise, new_class, new_label}
 use Rattle.pure_stage.proofs.AlgebraLaws.{IsPlain, plain_algebra, class_algebra, arity_algebra}
 use Rattle.pure_theory.proofs.StageLaws.{sound_grown}
-
-pub declared_class : (ds : List Decl) (c : ℕ) → IsDeclared (classes_of ds) c → IsDeclaredClass ds c
-declared_class ds c h = let some = any_some (λ k. k.name ≡ c) (classes_of ds) h in (some.0, (declared_classes ds some.0).0 some.1, some.2)
 
 -- An arity has no name.
 no_arity_named : (a : Arity) (e : Decl) → ¬ AreNamedAlike (ArityDecl a) e

@@ -18,7 +18,7 @@ use Rattle.pure_lookup.specs.Meaning.{Space, facts, IsDeclaredIn, Meaning, Decla
 use Rattle.pure_lookup.specs.LookUps.{IsFoundName}
 use Rattle.pure_lookup.specs.Places.{IsIndexOf}
 use Rattle.pure_lookup.proofs.MeaningLaws.{found_is_declared}
-use Rattle.pure_theory.proofs.GrowthLaws.{declared_class}
+use Rattle.pure_certify.proofs.PartLemmas.{declared_class}
 
 -- What is built is a fact.
 built_visible : (texts : List (List ℕ)) (Q : Content) (space : Space) (place : ℕ) (theory base : List ℕ) (k : ℕ) → IsVisible texts Q space place theory base (Built k) → space ≡ facts

@@ -52,7 +52,7 @@ others_all (y ∷ ys) = new (λ m. m) (others_all ys)
 pub merge_of_one : (P : Content) → IsSound P → IsMerge (P ∷ []) P.declarations
 merge_of_one P h = (P.declarations, added P.declarations (others_all P.declarations) h.distinct, h.content.coregular, refl)
 
-merge_after-snoc : (before : List Decl) (Qs : List Content) (Q : Content) (mid after : List Decl) → IsMergeAfter before Qs mid → IsAdded mid Q.declarations after → IsCoregular (algebra_of after) → IsMergeAfter before (Qs ++ Q ∷ []) after
+pub merge_after-snoc : (before : List Decl) (Qs : List Content) (Q : Content) (mid after : List Decl) → IsMergeAfter before Qs mid → IsAdded mid Q.declarations after → IsCoregular (algebra_of after) → IsMergeAfter before (Qs ++ Q ∷ []) after
 merge_after-snoc before [] Q mid after h a c = (after, rw (← h) a, c, refl)
 merge_after-snoc before (P ∷ Ps) Q mid after h a c = (h.0, h.1, h.2, merge_after-snoc h.0 Ps Q mid after h.3 a c)
 

@@ -14,7 +14,8 @@ use Rattle.pure_term_laws.proofs.DeclLaws.{declared_classes}
 use Rattle.pure_order_tables.specs.Classes.{IsDeclared}
 use Rattle.pure_logic.specs.Content.{AreNamedAlike, AreLabelledAlike}
 use Rattle.pure_logic.proofs.ContentLaws.{named_alike, named_alike-so}
-use Rattle.pure_stage.specs.Facts.{Stated, fact, fact_decl}
+use Rattle.pure_stage.specs.Facts.{Stated, fact_decl}
+use Rattle.pure_stage.proofs.FactLaws.{named}
 use Rattle.pure_theory.specs.Refusals.{HasNamesake, IsBefore, IsLabelAbove}
 
 pub named_back : (d e : Decl) → AreNamedAlike d e → AreNamedAlike e d
@@ -123,10 +124,6 @@ not_named (x ∷ xs) d h e m alike = elim m [
     by true h t = absurd (cc)
     by false h t = absurd (cc)
 
-fact_named : (x : ℕ) (l : Option Label) (A B : Term) → AreNamedAlike (AxiomDecl x A) (fact x l B)
-fact_named x None A B = refl
-fact_named x (Some l) A B = refl
-
 pub typ_fresh : (ds : List Decl) (k : ℕ) → is_new ds (ConDecl k 0) ≡ true → (n : ℕ) → ¬ IsIn (ConDecl k n) ds
 typ_fresh ds k new n m = not_named ds (ConDecl k 0) new (ConDecl k n) m refl
 
@@ -134,7 +131,7 @@ pub const_fresh : (ds : List Decl) (c : ℕ) → is_new ds (ConstDecl c prop) �
 const_fresh ds c new T m = not_named ds (ConstDecl c prop) new (ConstDecl c T) m refl
 
 pub fact_fresh : (ds : List Decl) (x : ℕ) → is_new ds (AxiomDecl x (Bound 0)) ≡ true → (s : Stated) → ¬ IsIn (fact_decl x s) ds
-fact_fresh ds x new s m = not_named ds (AxiomDecl x (Bound 0)) new (fact_decl x s) m (fact_named x s.label (Bound 0) s.prop)
+fact_fresh ds x new s m = not_named ds (AxiomDecl x (Bound 0)) new (fact_decl x s) m (named x s.label (Bound 0) s.prop)
 
 -- whether nothing in the list is named like an earlier element
 abbrev pub are_new : List Decl → Bool

@@ -1,6 +1,5 @@
 -- Theories without repeats, put in one after the other.
-use Rattle.std.proofs.Common.{◌≡◌, List, [], ◌∷◌, ◌++◌, Bool, true, false, cond, ◌||◌, nat_eq, refl, ap, sym, ◌∙◌, append_assoc, append-nil, ℕ, ◌+◌, ◌<◌, length, get_or, take, add-one}
-use Rattle.std.proofs.lemmas.Bool.{eq-eqb, eqb-true}
+use Rattle.std.proofs.Common.{◌≡◌, List, [], ◌∷◌, ◌++◌, Bool, true, false, cond, ◌||◌, refl, ap, sym, ◌∙◌, append_assoc, append-nil, ℕ, ◌+◌, ◌<◌, length, get_or, take, add-one}
 use Rattle.std.proofs.lemmas.List.{flat_map_more}
 use Rattle.std.proofs.lemmas.List.Folds.{list_any_at, list_any_more}
 use Rattle.std.specs.Prelude.{Some, None, slice_get}
@@ -8,20 +7,10 @@ use Rattle.std.specs.Option.{option_to_list}
 use Rattle.pure_text.proofs.LoopLaws.{longer_by}
 use Rattle.pure_stage.proofs.GetLaws.{take_next}
 use Rattle.std.specs.List.{list_any, flat_map}
-use Rattle.std.specs.Cmp.{first_so, second_so}
-use Rattle.std.specs.Cmp.Derive.{both_true}
 use Rattle.pure_logic.specs.Content.{TheoryId, Content}
 use Rattle.pure_logic.specs.Beginning.{theory_eq, without_theory, each_once, theories_of, ancestors_of}
+use Rattle.pure_logic.proofs.AncestorLaws.{theory_eq-same, theory_eq-itself}
 use Rattle.pure_theory.specs.Once.{once_more, all_once_more}
-
-pub theory_eq-same : (t u : TheoryId) → theory_eq t u ≡ true → t ≡ u
-theory_eq-same t u h =
-    let names = eqb-true t.name u.name (first_so (nat_eq t.name u.name) (nat_eq t.index u.index) h) in
-    let indexes = eqb-true t.index u.index (second_so (nat_eq t.name u.name) (nat_eq t.index u.index) h) in
-    λ l. record { name = names l; index = indexes l }
-
-pub theory_eq-itself : (t : TheoryId) → theory_eq t t ≡ true
-theory_eq-itself t = both_true (eq-eqb t.name t.name refl) (eq-eqb t.index t.index refl)
 
 -- Of two theories: they are the same, and the test says so both ways; or it says neither way.
 data Told (t u : TheoryId) : Type 0 where

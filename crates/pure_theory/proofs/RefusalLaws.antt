@@ -13,8 +13,8 @@ use Rattle.pure_theory.specs.declared.fault.DeclFault.TheVariants.{Duplicate, Un
 use Rattle.pure_theory.specs.Refusals.{HasNamesake, HasCon, IsNewArity, IsClassRefusal, IsGivenClassRefusal, IsGivenArityRefusal, refusal_of}
 use Rattle.pure_text.specs.Lists.{Each}
 use Rattle.pure_text.proofs.ListLaws.{each_imply}
+use Rattle.pure_certify.proofs.PartLemmas.{declared_class}
 use Rattle.pure_theory.proofs.NamesakeLaws.{new_class}
-use Rattle.pure_theory.proofs.GrowthLaws.{declared_class}
 
 pub given_class : (cs : List Class) (class : ℕ) (above : List ℕ) (fault : OrderFault) → IsClassFault cs class above fault → IsGivenClassRefusal cs class above (refusal_of fault)
 given_class cs class above (order.UnknownClass c) h = h

@@ -2,29 +2,17 @@
 use Rattle.std.proofs.Common.{◌≡◌, List, [], ◌∷◌, ◌++◌, refl, sym, ◌∙◌, inl, inr}
 use Rattle.pure_text.specs.Lists.{IsIn}
 use Rattle.pure_text.proofs.ListLaws.{in_split, in-append_left, in-append_right, each-append, each_imply, distinct-snoc}
-use Rattle.pure_definitions.specs.Types.Typ.{prop}
 use Rattle.pure_definitions.specs.Types.Order.{IsCoregular}
-use Rattle.pure_definitions.specs.Terms.Term.{Term}
 use Rattle.pure_definitions.specs.Declarations.Decl.{Decl, ClassDecl, ConDecl, ArityDecl, ConstDecl, AxiomDecl, PromiseDecl, algebra_of, IsDeclaredClass}
 use Rattle.pure_definitions.specs.Declarations.Certified.{IsCertifiedSort}
-use Rattle.pure_logic.specs.Content.{Content, IsBelow, IsStatement, IsWellFormed, AreNamedAlike, AreLabelledAlike}
-use Rattle.pure_logic.proofs.AboveLaws.{sort-above, typ-above, certified_of-above}
+use Rattle.pure_logic.specs.Content.{Content, IsBelow, IsWellFormed, AreNamedAlike, AreLabelledAlike}
+use Rattle.pure_logic.proofs.AboveLaws.{sort-above, typ-above}
+use Rattle.pure_logic.proofs.MergeLaws.{well_formed-above}
 use Rattle.pure_stage.specs.declared.decl.Decl as outlined
 use Rattle.pure_stage.specs.Missing.{IsFirstMissing}
 use Rattle.pure_theory.specs.Stage.{IsCertifiedDecl, IsSound, with_decl}
 use Rattle.pure_theory.specs.Refusals.{HasNamesake}
 use Rattle.pure_theory.proofs.NamesakeLaws.{named_back, labelled_back}
-
-statement-above : (Q R : Content) → IsBelow Q R → (A : Term) → IsStatement Q A → IsStatement R A
-statement-above Q R below A h = record { proposition = certified_of-above Q R below A prop h.proposition; schematic = h.schematic }
-
-pub well_formed-above : (Q R : Content) → IsBelow Q R → (d : Decl) → IsWellFormed Q d → IsWellFormed R d
-well_formed-above Q R below (ConstDecl c T) h = h
-well_formed-above Q R below (AxiomDecl x A) h = statement-above Q R below A h
-well_formed-above Q R below (PromiseDecl x l A) h = statement-above Q R below A h
-well_formed-above Q R below (ClassDecl k) h = tt
-well_formed-above Q R below (ConDecl k n) h = tt
-well_formed-above Q R below (ArityDecl a) h = tt
 
 pub certified-above : (ds es : List Decl) → ((d : Decl) → IsIn d ds → IsIn d es) → (d : Decl) → IsCertifiedDecl ds d → IsCertifiedDecl es d
 certified-above ds es above (ConstDecl c T) h = typ-above ds es above T h

@@ -18,16 +18,7 @@ pub either : (a b : Bool) → (a || b) ≡ true → (a ≡ true) ⊎ (b ≡ true
 either true b e = inl refl
 either false b e = inr e
 
--- A variable that stands on a firm path occurs.
-pub occurs-itself : (t : Term) → Occurs t t
-occurs-itself (Const c T) = refl
-occurs-itself (Free x T) = refl
-occurs-itself (Var x i T) = refl
-occurs-itself (Bound p) = refl
-occurs-itself (Abs T b) = inl refl
-occurs-itself (App f a) = inl refl
-
-front-occurs : (t : Term) → Occurs (front t) t
+pub front-occurs : (t : Term) → Occurs (front t) t
 front-occurs (App f a) = inr (inl (front-occurs f))
 front-occurs (Const c T) = refl
 front-occurs (Free x T) = refl

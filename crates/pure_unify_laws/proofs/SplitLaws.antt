@@ -113,7 +113,7 @@ front-typed bs (Abs T b) U h = (U, h, none_more (arrow_count U))
 no_abstraction : (n : ℕ) → 0 ≡ 1 + n → ⊥
 no_abstraction n e = absurd (omega arith)
 
-spines-alike : (bs : List Typ) (l r : Term) (T : Typ) → HasType bs l T → HasType bs r T → front l ≡ front r → length (arguments l) ≡ length (arguments r)
+pub spines-alike : (bs : List Typ) (l r : Term) (T : Typ) → HasType bs l T → HasType bs r T → front l ≡ front r → length (arguments l) ≡ length (arguments r)
 spines-alike bs l r T h k e =
     let first = front-typed bs l T h in
     let second = front-typed bs r T k in

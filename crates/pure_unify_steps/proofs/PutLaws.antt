@@ -66,7 +66,7 @@ variable_same sets written h (Abs T b) = refl
 variable_same sets written h (App f a) = refl
 
 -- Terms with settings put in are typed.
-retyping-respects : (typs : Typ → Typ) → IsTypeRespecting typs (retyped_variable typs)
+pub retyping-respects : (typs : Typ → Typ) → IsTypeRespecting typs (retyped_variable typs)
 retyping-respects typs = record { fixed = λ x T. refl; schematic = λ x i T. refl }
 
 pub retyped_typed : (map : List TypBind) (t : Term) → IsTyped t → IsTyped (inst_typ (typ_image map) t)

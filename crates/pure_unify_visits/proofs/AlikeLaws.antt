@@ -1,13 +1,12 @@
 -- Long sides of one type and one head have as many arguments; and what a setting puts in has its variable's type.
 use Rattle.std.proofs.Common.{◌≡◌, ℕ, suc, ◌+◌, List, [], ◌∷◌, ◌++◌, length, refl, ap, sym, subst, ◌∙◌, arith}
 use Rattle.std.specs.Prelude.{Option, Some, IfSome}
-use Rattle.std.proofs.lemmas.List.{length-append}
 use Rattle.pure_text.specs.Lists.{Each}
 use Rattle.pure_definitions.specs.Types.Typ.{Typ, arrow}
 use Rattle.pure_definitions.specs.Types.Order.{Algebra}
 use Rattle.pure_definitions.specs.Terms.Term.{Term, Const, Free, Var, Bound, Abs, App}
 use Rattle.pure_definitions.specs.Terms.Typing.{HasType}
-use Rattle.pure_definitions.specs.Terms.Subst.{TypBind, TermBind, typ_instance, inst_typ, retyped_variable, IsTypeRespecting}
+use Rattle.pure_definitions.specs.Terms.Subst.{TypBind, TermBind, typ_instance, inst_typ, retyped_variable}
 use Rattle.pure_definitions.specs.Reduction.Eta.{abstraction_count, arrow_count, HasSaturatedParts, IsEtaNormalForm}
 use Rattle.pure_term_laws.proofs.TypingLaws.{typed-once}
 use Rattle.pure_term_laws.proofs.TypingBoundLaws.{typing-instance}
@@ -15,42 +14,17 @@ use Rattle.pure_eta.proofs.KeptLaws.{steps_keep_type}
 use Rattle.pure_norm.proofs.BetaLaws.{normal_form-keeps_type}
 use Rattle.pure_logic.specs.Derivable.{Pair}
 use Rattle.pure_tunify.specs.Settings.{composed}
-use Rattle.pure_unify_definitions.specs.Fronts.{term_body, front, arguments, head, pair}
+use Rattle.pure_unify_definitions.specs.Fronts.{term_body, arguments, head, pair}
 use Rattle.pure_unify_definitions.specs.Node.{Setting, Typs, with_setting, with_setting_put}
 use Rattle.pure_unify_definitions.specs.LongSides.{Long, ComesTo, is_long, AllLong, AreLong, both_long}
 use Rattle.pure_unify_definitions.specs.Treatment.{Put, Split, Unify, IsBareSide, left_bare, right_bare, IsTreatment, absent, same_heads, constants}
 use Rattle.pure_unify_laws.proofs.HeadLaws.{head-long, unified-equal}
+use Rattle.pure_unify_laws.proofs.SplitLaws.{spines-alike}
 use Rattle.pure_unify_steps.specs.declared.node.Node.{Node}
 use Rattle.pure_unify_steps.specs.Long.{IsLongSide, IsLongPair}
 use Rattle.pure_unify_steps.specs.Retyped.{ArePut}
+use Rattle.pure_unify_steps.proofs.PutLaws.{retyping-respects}
 use Rattle.pure_unify_visits.specs.Scanned.{HasAsMany, HasAsManyAt}
-
-none_more : (n : ℕ) → n ≡ 0 + n
-none_more n = omega arith
-
-front-typed : (bs : List Typ) (t : Term) (U : Typ) → HasType bs t U → (F : Typ) × HasType bs (front t) F × (arrow_count F ≡ length (arguments t) + arrow_count U)
-front-typed bs (App f a) U h =
-    let rest = front-typed bs f (arrow h.0 U) h.1 in
-    let many : length (arguments f ++ a ∷ []) ≡ length (arguments f) + 1 = length-append (arguments f) (a ∷ []) in
-    (rest.0, rest.1, counted rest.0 (length (arguments f)) (length (arguments f ++ a ∷ [])) (arrow_count U) rest.2 many)
-  where
-    counted : (F : Typ) (n m k : ℕ) → arrow_count F ≡ n + (1 + k) → m ≡ n + 1 → arrow_count F ≡ m + k
-    counted F n m k e f = omega arith
-front-typed bs (Const c T) U h = (U, h, none_more (arrow_count U))
-front-typed bs (Free x T) U h = (U, h, none_more (arrow_count U))
-front-typed bs (Var x i T) U h = (U, h, none_more (arrow_count U))
-front-typed bs (Bound n) U h = (U, h, none_more (arrow_count U))
-front-typed bs (Abs T b) U h = (U, h, none_more (arrow_count U))
-
-spines-alike : (bs : List Typ) (l r : Term) (T : Typ) → HasType bs l T → HasType bs r T → front l ≡ front r → length (arguments l) ≡ length (arguments r)
-spines-alike bs l r T h k e =
-    let first = front-typed bs l T h in
-    let second = front-typed bs r T k in
-    let same : first.0 ≡ second.0 = typed-once bs (front r) first.0 second.0 (subst (λ (t : Term). HasType bs t first.0) e first.1) second.1 in
-    counted (arrow_count first.0) (length (arguments l)) (length (arguments r)) (arrow_count T) first.2 (ap arrow_count same ∙ second.2)
-  where
-    counted : (a n m k : ℕ) → a ≡ n + k → a ≡ m + k → n ≡ m
-    counted a n m k e f = omega arith
 
 no_abstraction : (n : ℕ) → 0 ≡ 1 + n → ⊥
 no_abstraction n e = absurd (omega arith)
@@ -110,9 +84,6 @@ placed s [] p rest (both_long {qs = qs} {l = l} {r = r} f g more) = record { bef
 placed s (x ∷ passed) p rest (both_long {qs = qs} {l = l} {r = r} f g more) =
     let later = placed s passed p rest more in
     record { before = pair l r ∷ later.before; at = later.at; behind = later.behind; stands = ap (λ ps. pair l r ∷ ps) later.stands; place = ap (λ n. suc n) later.place; left = later.left; right = later.right }
-
-retyping-respects : (typs : Typ → Typ) → IsTypeRespecting typs (retyped_variable typs)
-retyping-respects typs = record { fixed = λ x T. refl; schematic = λ x i T. refl }
 
 retyped-side : (sets : List TypBind) (t u : Term) (T : Typ) → HasType [] t T → ComesTo (inst_typ (composed sets) t) (Long u) → HasType [] u (typ_instance (composed sets) T)
 retyped-side sets t u T h c = comes_typed (inst_typ (composed sets) t) u (typ_instance (composed sets) T) (typing-instance (composed sets) (retyped_variable (composed sets)) (retyping-respects (composed sets)) [] t T h) c
