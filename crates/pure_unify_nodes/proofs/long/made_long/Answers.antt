@@ -1,7 +1,7 @@
 use Rattle.pure_term_laws.proofs.TypingLaws.{typed-closed}
 use Rattle.pure_norm.proofs.BetaLaws.{normal_form-is_normal}
 use Rattle.pure_unify_nodes.proofs.LongLemmas.{normal_typed, side_of_normal, side_of_fault}
-use Rattle.pure_unify_nodes.proofs.long.long_side.Goals as goal
+use Rattle.pure_unify_nodes.proofs.long.made_long.Goals as goal
 
 pub beta_norm-requires : goal.beta_norm-requires
 beta_norm-requires c = typed-closed c.args.t.now c.requires.0 c.requires.1
