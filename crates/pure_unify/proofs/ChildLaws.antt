@@ -21,7 +21,7 @@ use Rattle.pure_unify_steps.specs.declared.node.Node.{Node}
 use Rattle.pure_unify_steps.specs.declared.node.Path.{Path}
 use Rattle.pure_unify_steps.specs.declared.node.Setting.{Setting}
 use Rattle.pure_unify_steps.specs.Held.{IsSetting, IsPath, IsNode}
-use Rattle.pure_unify_steps.specs.Long.{IsLongPair}
+use Rattle.pure_unify_nodes.specs.Long.{IsLongPair}
 use Rattle.pure_unify_visits.specs.declared.scan.Visited.{Visited}
 use Rattle.pure_unify_visits.specs.declared.scan.Visited.TheVariants.{Simple, Failed}
 use Rattle.pure_unify_visits.specs.Visited.{IsSimplified, IsVisitAnswer, IsLongVisit}

@@ -12,10 +12,10 @@ use Rattle.pure_unify_definitions.specs.Node.{Node, root}
 use Rattle.pure_unify_definitions.specs.Treatment.{ArePastVariables, Fail, IsTreatment, equal, clash}
 use Rattle.pure_unify_definitions.specs.Simplification.{with_pairs, drops, fails, Simplifies, step, failed, Failed, Visits, visited}
 use Rattle.pure_unify_definitions.specs.Search.{over, node_fails, NoUnifier, IsUnifyAnswer}
-use Rattle.pure_unify_steps.specs.Long.{IsLongPair}
+use Rattle.pure_unify_nodes.specs.Long.{IsLongPair}
 use Rattle.pure_unify_steps.proofs.BareLaws.{rigid_is_none}
 use Rattle.pure_unify_steps.proofs.TreatLaws.{against_neither}
-use Rattle.pure_unify.specs.OneTyp.{HaveOneTyp}
+use Rattle.pure_unify_nodes.specs.OneTyp.{HaveOneTyp}
 use Rattle.pure_unify_nodes.specs.SideAnswer.{AreSidesTyped}
 use Rattle.pure_unify.proofs.OwnLaws.{own_pairs}
 use Rattle.pure_unify.specs.Clashes.{AreRigidApart, IsClash, AreClashing, here, later}

@@ -6,7 +6,7 @@ use Rattle.pure_definitions.specs.Terms.Term.{Term, Const, Free, Var, Bound, Abs
 use Rattle.pure_logic.specs.Derivable.{Pair}
 use Rattle.pure_unify_definitions.specs.Fronts.{term_body, front, head, is_schematic}
 use Rattle.pure_unify_definitions.specs.Children.{HasFlexible, on_left, on_right, IsChoice}
-use Rattle.pure_unify_steps.specs.Long.{IsLongSide, IsLongPair}
+use Rattle.pure_unify_nodes.specs.Long.{IsLongSide, IsLongPair}
 use Rattle.pure_unify.specs.Images.{HasCountable, IsCountableVariable}
 
 body-depth : (t : Term) → term_depth (term_body t) ≤ term_depth t

@@ -8,7 +8,7 @@ use Rattle.pure_definitions.specs.Terms.Typing.{HasType}
 use Rattle.pure_unify_definitions.specs.Search.{max_choices, max_nodes}
 use Rattle.pure_unify_steps.specs.declared.node.Node.{Node}
 use Rattle.pure_unify_steps.specs.Held.{IsNode}
-use Rattle.pure_unify_steps.specs.Long.{IsLongPair}
+use Rattle.pure_unify_nodes.specs.Long.{IsLongPair}
 use Rattle.pure_unify.specs.declared.branch.Branch.{Branch}
 use Rattle.pure_unify.specs.declared.branch.Chosen.TheVariants as chosen
 use Rattle.pure_unify.specs.declared.search.Frame.{Frame}

@@ -15,5 +15,4 @@ pub mod GoLaws
 pub mod CallLaws
 pub mod CountLaws
 pub mod OwnLaws
-pub mod OneTypLaws
 pub mod ClashLaws

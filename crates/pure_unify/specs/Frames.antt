@@ -15,7 +15,7 @@ use Rattle.pure_unify_definitions.specs.Simplification as rules
 use Rattle.pure_unify_definitions.specs.Simplification.{IsLeft, Visits}
 use Rattle.pure_unify_steps.specs.declared.node.Node.{Node}
 use Rattle.pure_unify_steps.specs.Held.{IsNode}
-use Rattle.pure_unify_steps.specs.Long.{IsLongPair}
+use Rattle.pure_unify_nodes.specs.Long.{IsLongPair}
 use Rattle.pure_unify.specs.declared.branch.Branch.{Branch}
 use Rattle.pure_unify.specs.declared.branch.Chosen.{Chosen}
 use Rattle.pure_unify.specs.declared.branch.Chosen.TheVariants.{Nothing, Cut, At}

@@ -4,6 +4,4 @@ pub mod Heads
 pub mod Unified
 pub mod Resolved
 pub mod Frames
-pub mod OwnForm
-pub mod OneTyp
 pub mod Clashes

@@ -4,7 +4,7 @@ ghost use Rattle.pure_text.specs.Lists.{Each};
 ghost use Rattle.pure_definitions.specs.Terms.Term as tree;
 ghost use Rattle.pure_unify_definitions.specs.Fronts.{is_schematic};
 ghost use Rattle.pure_unify_definitions.specs.Children.{images};
-ghost use Rattle.pure_unify_steps.specs.Long.{IsLongPair};
+ghost use Rattle.pure_unify_nodes.specs.Long.{IsLongPair};
 ghost use Rattle.pure_unify.specs.Images.{HasCountable, IsCountableVariable};
 ghost use Rattle.pure_unify.specs.Frames.{IsOpen, IsChosen, IsTypedChosen};
 

@@ -9,7 +9,7 @@ ghost use Rattle.pure_unify_nodes.specs.SideAnswer.{AreSidesTyped};
 ghost use Rattle.pure_unify_steps.specs.Held.{IsNode};
 ghost use Rattle.pure_unify_laws.specs.Condition.{IsUnifyContent, AreUnifiable};
 ghost use Rattle.pure_unify_answers.specs.Maps.{Solves, IsFiniteUnifier};
-ghost use Rattle.pure_unify_steps.specs.Long.{IsLongPair};
+ghost use Rattle.pure_unify_nodes.specs.Long.{IsLongPair};
 ghost use Rattle.pure_unify_visits.specs.Visited.{IsVisitAnswer, IsLongVisit};
 ghost use Rattle.pure_unify.specs.Unified.{seen, IsToldAs, IsUnified, IsLeftOver};
 ghost use Rattle.pure_unify.specs.Frames.{HoldNodes, CanGoOn, IsSimpleVisit};

@@ -9,9 +9,9 @@ ghost use Rattle.pure_unify_nodes.specs.SideAnswer.{AreSidesTyped};
 ghost use Rattle.pure_unify.specs.Clashes.{AreRigidApart, IsClash, AreClashing};
 
 use crate::own::are_own;
-use crate::typs::have_one_typ;
 use pure_term::Term;
 use pure_theorem::{Pair, are_same};
+use pure_unify_nodes::have_one_typ;
 use pure_unify_sides::{Heads, compared_heads, head, is_schematic};
 
 /// Whether the heads aren't schematic, differ, and aren't constants of one name.

@@ -13,7 +13,6 @@ mod later;
 mod own;
 mod resolve;
 mod search;
-mod typs;
 mod unifier;
 
 pub use call::unify;

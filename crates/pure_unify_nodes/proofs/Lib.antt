@@ -1,1 +1,3 @@
 pub mod LongLemmas
+pub mod OwnLaws
+pub mod OneTypLaws

@@ -18,6 +18,7 @@ use Rattle.pure_norm.proofs.BetaLaws.{normal_form-keeps_type, normal_form-is_nor
 use Rattle.pure_unify_definitions.specs.Fronts.{pair}
 use Rattle.pure_unify_definitions.specs.LongSides as sides
 use Rattle.pure_unify_definitions.specs.LongSides.{Long, Ends, ComesTo, is_long, has_steps, is_large, is_wide, Sides, AllLong, Stopped, AreLong, no_more, left_stops, right_stops, later_stops, both_long}
+use Rattle.pure_unify_nodes.specs.Long.{IsLongSide}
 use Rattle.pure_unify_nodes.specs.SideAnswer.{IsTyped, AreSidesTyped, IsLengthened, IsSideAnswer, IsPairStopped, IsPairAnswer, IsSidesFault}
 
 pub normal_typed : (t n : Term) → IsTyped t → IsBetaAnswer t (NormalForm n) → IsTyped n
@@ -33,6 +34,13 @@ pub side_of_fault : (t : Term) (fault : NormFault) → IsNormAnswer t (Err fault
 side_of_fault t Big h = is_large h
 side_of_fault t Steps h = has_steps h
 side_of_fault t Memory h = tt
+
+-- A side in long form comes to itself.
+pub comes_itself : (t : Term) → IsLongSide t → ComesTo t (Long t)
+comes_itself t h = is_long (record { before = []; last = t; sequence = refl; undecided = tt; in_time = omega arith; decided = (h.within, h.form.normal, refl) }) h.form h.within
+
+pub own_answer : (t copy : Term) → copy ≡ t → IsLongSide t → ComesTo t (Long copy)
+own_answer t copy e h = subst (λ (u : Term). ComesTo t (Long u)) (sym e) (comes_itself t h)
 
 pub pair_of_left : (p : Pair) (fault : NormFault) → IsSideAnswer p.left (Err fault) → IsPairAnswer p (Err fault)
 pair_of_left p Big h = inl h
@@ -52,7 +60,7 @@ pub record HasBrought (ps : List Pair) (i : ℕ) (made : List Pair) : Type 0 whe
 pub brought_none : (ps : List Pair) → HasBrought ps 0 []
 brought_none ps = record { goes = λ qs l. l; stops = λ s l. l }
 
-pair_stops : (p : Pair) (ps : List Pair) (s : sides.Stop) → IsPairStopped p s → AreLong (p ∷ ps) (Stopped s)
+pub pair_stops : (p : Pair) (ps : List Pair) (s : sides.Stop) → IsPairStopped p s → AreLong (p ∷ ps) (Stopped s)
 pair_stops p ps s (inl f) = left_stops f
 pair_stops p ps s (inr (l, f, g)) = right_stops f g
 

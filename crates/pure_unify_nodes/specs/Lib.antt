@@ -1,1 +1,4 @@
 pub mod SideAnswer
+pub mod Long
+pub mod OwnForm
+pub mod OneTyp

@@ -2,11 +2,13 @@
 ghost use Rattle.std.specs.Prelude.{◌≡◌, ◌++◌, ◌∷◌, [], IfOk, IfErr, OnOk};
 ghost use Rattle.pure_text.specs.Lists.{Each};
 ghost use Rattle.pure_definitions.specs.Types.Typ as tree;
+ghost use Rattle.pure_definitions.specs.Terms.Term.{IsWithin};
 ghost use Rattle.pure_definitions.specs.Terms.Typing.{HasType};
 ghost use Rattle.pure_definitions.specs.Reduction.Beta.{IsBetaNormal};
 ghost use Rattle.pure_unify_definitions.specs.LongSides.{AllLong, AreLong};
 ghost use Rattle.pure_unify_nodes.specs.SideAnswer.{IsTyped, AreSidesTyped, IsLengthened, IsSideAnswer, IsPairAnswer, IsSidesFault};
 
+use crate::own::{is_long, is_own};
 use pure_eta::long_form;
 use pure_norm::{NormFault, beta_norm};
 use pure_term::{Grow, Term};
@@ -26,8 +28,8 @@ fn long_of_normal(alloc: Global, normal: &Term) -> Result<Term, NormFault>
     }
 }
 
-/// The long form of a side, or what stops the search.
-pub fn long_side(alloc: Global, t: &Term) -> Result<Term, NormFault>
+/// The long form of a side that is made, or what stops the search.
+fn made_long(alloc: Global, t: &Term) -> Result<Term, NormFault>
     requires { IsTyped t.now }
     ensures { IsSideAnswer t.now result }
 {
@@ -35,6 +37,30 @@ pub fn long_side(alloc: Global, t: &Term) -> Result<Term, NormFault>
         Ok(normal) => long_of_normal(alloc, &normal),
         Err(fault) => Err(fault),
     }
+}
+
+/// The long form of a side, or what stops the search. A side that is its own is copied.
+pub fn long_side(alloc: Global, t: &Term) -> Result<Term, NormFault>
+    requires { IsTyped t.now }
+    ensures { IsSideAnswer t.now result }
+{
+    if is_own(t) {
+        let copy = t.copy(alloc)?;
+        return Ok(copy);
+    }
+    made_long(alloc, t)
+}
+
+/// The same of a side within the limits that is handed over: one that is its own long form is handed back.
+pub fn owned_long_side(alloc: Global, t: Term) -> Result<Term, NormFault>
+    requires typed { IsTyped t }
+    requires within { IsWithin t }
+    ensures { IsSideAnswer t result }
+{
+    if is_long(&t) {
+        return Ok(t);
+    }
+    made_long(alloc, &t)
 }
 
 /// The pair with both sides in long form, or what the first of them that stops the search stops it by.

@@ -1,5 +1,6 @@
 //! The pairs of the arguments of two sides.
-ghost use Rattle.std.specs.Prelude.{◌≡◌, ◌++◌, length, IfOk, OnOk};
+ghost use Rattle.std.specs.Prelude.{◌≡◌, ◌++◌, [], length, IfOk, OnOk};
+ghost use Rattle.std.specs.Bool.{OnTrue};
 ghost use Rattle.pure_unify_definitions.specs.Fronts as fronts;
 
 use crate::fronts::term_body;
@@ -78,5 +79,58 @@ pub fn push_argument_pairs(
     ensures { OnOk result (pairs.new.items ≡ pairs.old.items ++ fronts.argument_pairs l.now r.now) }
 {
     push_pairs(alloc, pairs, l, r, term_body(l), term_body(r))?;
+    Ok(())
+}
+
+/// Takes two applications apart, which have as many arguments, and puts the pairs of these behind those of the list.
+fn move_pairs(pairs: &mut Vec<Pair>, f: Term, g: Term) -> Result<(), AllocError>
+    requires { length (fronts.arguments f) ≡ length (fronts.arguments g) }
+    ensures { OnOk result (pairs.new.items ≡ pairs.old.items ++ fronts.pairs_below [] [] (fronts.arguments f) (fronts.arguments g)) }
+{
+    let Term { node: first } = f;
+    let Term { node: second } = g;
+    match (first, second) {
+        (
+            TermNode::App { fun, arg },
+            TermNode::App {
+                fun: other,
+                arg: last,
+            },
+        ) => {
+            move_pairs(pairs, Box::into_inner(fun), Box::into_inner(other))?;
+            let left = Box::into_inner(arg);
+            let right = Box::into_inner(last);
+            pairs.push(Pair { left, right })?;
+            Ok(())
+        }
+        _ => Ok(()),
+    }
+}
+
+/// Whether the side is no abstraction.
+fn is_open(t: &Term) -> bool
+    ensures { OnTrue result ((fronts.abstractions t.now ≡ []) × (fronts.term_body t.now ≡ t.now)) }
+{
+    match &t.node {
+        TermNode::Abs { .. } => false,
+        _ => true,
+    }
+}
+
+/// The same of the sides of a pair that is handed over: arguments that don't stand below abstractions aren't copied.
+pub fn move_argument_pairs(
+    alloc: Global,
+    pairs: &mut Vec<Pair>,
+    pair: Pair,
+) -> Result<(), AllocError>
+    requires { length (fronts.arguments (fronts.term_body pair.left)) ≡ length (fronts.arguments (fronts.term_body pair.right)) }
+    ensures { OnOk result (pairs.new.items ≡ pairs.old.items ++ fronts.argument_pairs pair.left pair.right) }
+{
+    let Pair { left, right } = pair;
+    if !is_open(&left) || !is_open(&right) {
+        push_argument_pairs(alloc, pairs, &left, &right)?;
+        return Ok(());
+    }
+    move_pairs(pairs, left, right)?;
     Ok(())
 }

@@ -9,7 +9,8 @@ use Rattle.pure_term_laws.proofs.EtaNormalLaws.{one_eta_normal_form}
 use Rattle.pure_eta.proofs.KeptLaws.{steps_keep_beta_normal}
 use Rattle.pure_unify_definitions.specs.Fronts.{term_body, front, head, is_schematic, is_flexible}
 use Rattle.pure_unify_definitions.specs.Treatment.{IsBare}
-use Rattle.pure_unify_steps.specs.Long.{IsLongSide}
+use Rattle.pure_unify_nodes.specs.Long.{IsLongSide}
+use Rattle.pure_unify_steps.specs.Direct.{is_plain}
 use Rattle.pure_unify_steps.specs.Treated.{IsBareAnswer}
 use Rattle.std.specs.Prelude.{Option, Some, None}
 
@@ -71,3 +72,22 @@ pub other_is_none : (t form : Term) → IsEtaNormalForm t form → is_schematic 
 other_is_none t form f rigid w b =
     let same : form ≡ w = one_eta_normal_form t form w f b.form in
     true≢false (sym b.variable ∙ (ap is_schematic (sym same) ∙ rigid))
+
+bare-shape : {t w : Term} → EtaReduces t w → is_schematic w ≡ true → ¬ IsAbs t → is_schematic t ≡ true
+bare-shape done e n = e
+bare-shape (next (contract d) r) e n = absurd (n tt)
+bare-shape (next (body s) r) e n = absurd (n tt)
+bare-shape (next (function s) r) e n = absurd (true≢false (sym (bare-shape r e (λ x. x))))
+bare-shape (next (argument s) r) e n = absurd (true≢false (sym (bare-shape r e (λ x. x))))
+
+-- A side that is neither an abstraction nor a schematic variable is no bare one.
+shape_is_none : (t : Term) → ¬ IsAbs t → is_schematic t ≡ false → IsBareAnswer t None
+shape_is_none t n e w b = true≢false (sym (bare-shape b.form.reduces b.variable n) ∙ e)
+
+pub plain_is_none : (t : Term) → is_plain t ≡ true → IsBareAnswer t None
+plain_is_none (Const d U) e = shape_is_none (Const d U) (λ x. x) refl
+plain_is_none (Free x U) e = shape_is_none (Free x U) (λ y. y) refl
+plain_is_none (Var x i U) e = absurd (true≢false (sym e))
+plain_is_none (Bound p) e = shape_is_none (Bound p) (λ x. x) refl
+plain_is_none (Abs U b) e = absurd (true≢false (sym e))
+plain_is_none (App f a) e = shape_is_none (App f a) (λ x. x) refl

@@ -5,3 +5,4 @@ pub mod TreatLaws
 pub mod GatherLaws
 pub mod RetypeLaws
 pub mod LoopLaws
+pub mod DirectLaws

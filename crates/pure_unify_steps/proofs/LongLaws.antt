@@ -12,16 +12,13 @@ use Rattle.pure_logic.specs.Derivable.{Pair}
 use Rattle.pure_unify_definitions.specs.Fronts.{abstractions, term_body, arguments, below, pair, pairs_below, argument_pairs}
 use Rattle.pure_unify_definitions.specs.LongSides.{Long, ComesTo, is_long, Sides, AllLong, AreLong, no_more, both_long}
 use Rattle.pure_unify_nodes.specs.SideAnswer.{IsTyped, AreSidesTyped}
-use Rattle.pure_unify_steps.specs.Long.{IsLongSide, IsLongPair}
+use Rattle.pure_unify_nodes.specs.Long.{IsLongSide, IsLongPair}
 
 pub comes_long : (t u : Term) → ComesTo t (Long u) → IsLongSide u
 comes_long t u (is_long b l w) = record {
   form = record { typ = l.typ; typed = l.long_typed; long_typed = l.long_typed; reduces = done; normal = l.normal; saturated = l.saturated; parts = l.parts };
   within = w;
 }
-
-pub comes_itself : (t : Term) → IsLongSide t → ComesTo t (Long t)
-comes_itself t h = is_long (record { before = []; last = t; sequence = refl; undecided = tt; in_time = omega arith; decided = (h.within, h.form.normal, refl) }) h.form h.within
 
 pub side_typed : (t : Term) → IsLongSide t → IsTyped t
 side_typed t h = (h.form.typ, h.form.typed)

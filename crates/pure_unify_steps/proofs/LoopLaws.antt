@@ -9,20 +9,22 @@ use Rattle.pure_definitions.specs.Terms.Term.{Term}
 use Rattle.pure_definitions.specs.Terms.Subst.{TypBind, TermBind, term_variable, typ_image, retyped_variable}
 use Rattle.pure_logic.specs.Derivable.{Pair}
 use Rattle.pure_norm.specs.declared.fault.NormFault.{NormFault}
+use Rattle.pure_norm.specs.declared.fault.NormFault.TheVariants.{Steps, Big, Memory}
 use Rattle.pure_unify_definitions.specs.Fronts.{variables, pair_variables}
-use Rattle.pure_unify_definitions.specs.LongSides.{AllLong, AreLong}
+use Rattle.pure_unify_definitions.specs.LongSides as sides
+use Rattle.pure_unify_definitions.specs.LongSides.{AllLong, Stopped, AreLong, no_more, later_stops, both_long}
 use Rattle.pure_unify_definitions.specs.Node as node
 use Rattle.pure_tunify.specs.Settings.{composed}
 use Rattle.pure_unify_definitions.specs.Node.{Typs, Single, with_setting_put, entry_variables}
 use Rattle.pure_unify_nodes.specs.SideAnswer.{IsPairAnswer, IsSidesFault}
-use Rattle.pure_unify_nodes.proofs.LongLemmas.{HasBrought, brought_none, brought_fault, brought_more, brought_all}
+use Rattle.pure_unify_nodes.proofs.LongLemmas.{pair_stops, HasBrought, brought_none, brought_fault, brought_more, brought_all}
 use Rattle.pure_unify_steps.specs.declared.node.Setting.{Setting}
 use Rattle.pure_unify_steps.specs.declared.node.Setting.TheVariants.{OfTyps}
 use Rattle.pure_unify_steps.specs.Held.{IsSetting, put_in}
 use Rattle.pure_unify_steps.specs.Gathered.{gathered}
 use Rattle.pure_unify_steps.proofs.PutLaws.{variable_same}
 use Rattle.pure_unify_steps.proofs.GatherLaws.{two_at, two_end, gathered-more}
-use Rattle.pure_unify_steps.specs.Long.{IsLongPair}
+use Rattle.pure_unify_nodes.specs.Long.{IsLongPair}
 use Rattle.pure_unify_steps.specs.Old.{HasNoFresh, HaveNoFresh}
 
 -- The pairs with a setting put in, as far as a loop has come.
@@ -55,6 +57,47 @@ put_more setting ps i made p q h e a long = record {
 
 pub put_all : (setting : Setting) (ps : List Pair) (i : ℕ) (made : List Pair) → IsPutSoFar setting ps i made → drop i ps ≡ [] → (s : node.Setting) → IsSetting setting s → AreLong (with_setting_put s ps) (AllLong made)
 put_all setting ps i made h e s k = brought_all (with_setting_put s ps) i made (h.goes s k) (drop-put_all s ps i ∙ ap (with_setting_put s) e)
+
+-- The same where pairs are taken from the front: with those that are left all come to what was made and what they come to.
+pub record IsPutOnto (setting : Setting) (ps left made : List Pair) : Type 0 where
+  pub goes : (s : node.Setting) → IsSetting setting s → (qs : List Pair) → AreLong (with_setting_put s left) (AllLong qs) → AreLong (with_setting_put s ps) (AllLong (made ++ qs))
+  pub stops : (s : node.Setting) → IsSetting setting s → (stop : sides.Stop) → AreLong (with_setting_put s left) (Stopped stop) → AreLong (with_setting_put s ps) (Stopped stop)
+  pub rest : Each IsLongPair left
+  pub long : Each IsLongPair made
+
+pub onto_start : (setting : Setting) (ps left made : List Pair) → left ≡ ps → made ≡ [] → Each IsLongPair ps → IsPutOnto setting ps left made
+onto_start setting ps left made e f h =
+    let start : IsPutOnto setting ps ps [] = record { goes = λ s k qs l. l; stops = λ s k stop l. l; rest = h; long = tt } in
+    subst (λ (os : List Pair). IsPutOnto setting ps left os) (sym f) (subst (λ (qs : List Pair). IsPutOnto setting ps qs []) (sym e) start)
+
+pub onto_next : (setting : Setting) (ps left rest made : List Pair) (p : Pair) → left ≡ p ∷ rest → IsPutOnto setting ps left made → IsLongPair p
+onto_next setting ps left rest made p e h = (subst (λ (qs : List Pair). Each IsLongPair qs) e h.rest).0
+
+pub onto_more : (setting : Setting) (ps left rest made more : List Pair) (p q : Pair) → left ≡ p ∷ rest → more ≡ made ++ q ∷ []
+    → ((s : node.Setting) → IsSetting setting s → IsPairAnswer (put_in s p) (Ok q)) → IsLongPair q → IsPutOnto setting ps left made → IsPutOnto setting ps rest more
+onto_more setting ps left rest made more p q e f a long h =
+    let now : IsPutOnto setting ps (p ∷ rest) made = subst (λ (qs : List Pair). IsPutOnto setting ps qs made) e h in
+    subst (λ (os : List Pair). IsPutOnto setting ps rest os) (sym f) (record {
+      goes = λ s k qs l. subst (λ (os : List Pair). AreLong (with_setting_put s ps) (AllLong os)) (sym (append_assoc made (q ∷ []) qs)) (now.goes s k (q ∷ qs) (both_long (a s k).0 (a s k).1 l));
+      stops = λ s k stop l. now.stops s k stop (later_stops (a s k).0 (a s k).1 l);
+      rest = now.rest.1;
+      long = each-append IsLongPair made (q ∷ []) now.long (long, tt);
+    })
+
+first_fault : (p : Pair) (rest ps : List Pair) (fault : NormFault) → ((stop : sides.Stop) → AreLong (p ∷ rest) (Stopped stop) → AreLong ps (Stopped stop)) → IsPairAnswer p (Err fault) → IsSidesFault ps fault
+first_fault p rest ps Big f a = f sides.Big (pair_stops p rest sides.Big a)
+first_fault p rest ps Steps f a = f sides.Steps (pair_stops p rest sides.Steps a)
+first_fault p rest ps Memory f a = tt
+
+pub onto_fault : (setting : Setting) (ps left rest made : List Pair) (p : Pair) (fault : NormFault) → left ≡ p ∷ rest
+    → ((s : node.Setting) → IsSetting setting s → IsPairAnswer (put_in s p) (Err fault)) → IsPutOnto setting ps left made → (s : node.Setting) → IsSetting setting s → IsSidesFault (with_setting_put s ps) fault
+onto_fault setting ps left rest made p fault e a h s k =
+    let now : IsPutOnto setting ps (p ∷ rest) made = subst (λ (qs : List Pair). IsPutOnto setting ps qs made) e h in
+    first_fault (put_in s p) (with_setting_put s rest) (with_setting_put s ps) fault (now.stops s k) (a s k)
+
+pub onto_all : (setting : Setting) (ps left made : List Pair) → length left ≡ 0 → IsPutOnto setting ps left made → (s : node.Setting) → IsSetting setting s → AreLong (with_setting_put s ps) (AllLong made)
+onto_all setting ps [] made e h s k = subst (λ (os : List Pair). AreLong (with_setting_put s ps) (AllLong os)) (append-nil made) (h.goes s k [] no_more)
+onto_all setting ps (p ∷ left) made e h s k = absurd (omega (arith, e))
 
 -- Lists of variables, as far as a loop has come.
 pub pairs_start : (list : List Term) (ps : List Pair) → list ++ pair_variables ps ≡ list ++ pair_variables (drop 0 ps)

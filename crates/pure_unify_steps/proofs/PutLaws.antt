@@ -27,8 +27,9 @@ use Rattle.pure_unify_nodes.specs.SideAnswer.{IsTyped, IsSideAnswer}
 use Rattle.pure_unify_steps.specs.declared.node.Setting.{Setting}
 use Rattle.pure_unify_steps.specs.declared.node.Setting.TheVariants.{OfTyps, OfTerm}
 use Rattle.pure_unify_steps.specs.Held.{IsSetting}
-use Rattle.pure_unify_steps.specs.Long.{IsLongSide}
-use Rattle.pure_unify_steps.proofs.LongLaws.{comes_long, comes_itself}
+use Rattle.pure_unify_nodes.specs.Long.{IsLongSide}
+use Rattle.pure_unify_nodes.proofs.LongLemmas.{own_answer}
+use Rattle.pure_unify_steps.proofs.LongLaws.{comes_long}
 
 -- A term beyond the limits is too large.
 pub beyond_large : (t : Term) → ¬ IsWithin t → ComesTo t (Ends sides.Big)
@@ -79,14 +80,11 @@ replaced_typed map t r h =
 pub made_typed : (t u : Term) → IsTyped t → u ≡ t → IsTyped u
 made_typed t u h e = subst IsTyped (sym e) h
 
-pub made_answer : (t u : Term) (r : Result Term NormFault) → u ≡ t → IsSideAnswer u r → IsSideAnswer t r
-made_answer t u r e h = subst (λ (v : Term). IsSideAnswer v r) e h
+pub made_within : (t u : Term) → u ≡ t → IsWithin t → IsWithin u
+made_within t u e h = subst IsWithin (sym e) h
 
 pub untouched_fixed : (map : List TermBind) (t : Term) (x : ℕ) (T : Typ) → t ≡ Free x T → inst_term (term_image map) t ≡ t
 untouched_fixed map t x T e = subst (λ (u : Term). inst_term (term_image map) u ≡ u) (sym e) (entries-keep_fixed map x T ∙ ap (Free x) (typ_instance-identity T))
-
-pub untouched_long : (t u copy : Term) → u ≡ t → copy ≡ t → IsLongSide t → ComesTo u (Long copy)
-untouched_long t u copy e f h = subst (λ (v : Term). ComesTo v (Long copy)) (sym e) (subst (λ (v : Term). ComesTo t (Long v)) (sym f) (comes_itself t h))
 
 -- The answer for a side with a setting put in.
 pub typs_answer : (map sets : List TypBind) (t : Term) (r : Result Term NormFault) → IsWritten sets map → IsSideAnswer (inst_typ (typ_image map) t) r → IsSideAnswer (inst_typ (composed sets) t) r
@@ -99,12 +97,16 @@ answer_for_typs map t r h setting e s k = by s (subst (λ (x : Setting). IsSetti
     by (Typs sets) w = typs_answer map sets t r w.0 h
     by (Single b) w = absurd w
 
-pub answer_for_term : (map : List TermBind) (t : Term) (r : Result Term NormFault) → IsSideAnswer (inst_term (term_image map) t) r → (setting : Setting) → setting ≡ OfTerm map → (s : node.Setting) → IsSetting setting s → IsSideAnswer (with_setting s t) r
-answer_for_term map t r h setting e s k = by s (subst (λ (x : Setting). IsSetting x s) e k)
+-- A side that stays as it is under a map does so under the setting.
+pub term_stays : (map : List TermBind) (t : Term) → inst_term (term_image map) t ≡ t → (setting : Setting) → setting ≡ OfTerm map → (s : node.Setting) → IsSetting setting s → with_setting s t ≡ t
+term_stays map t h setting e s k = by s (subst (λ (x : Setting). IsSetting x s) e k)
   where
-    by : (s : node.Setting) → IsSetting (OfTerm map) s → IsSideAnswer (with_setting s t) r
+    by : (s : node.Setting) → IsSetting (OfTerm map) s → with_setting s t ≡ t
     by (Typs sets) w = absurd w
-    by (Single b) w = subst (λ (bs : List TermBind). IsSideAnswer (inst_term (term_image bs) t) r) w h
+    by (Single b) w = subst (λ (bs : List TermBind). inst_term (term_image bs) t ≡ t) w h
+
+pub stays_answer : (setting : Setting) (t copy : Term) → ((s : node.Setting) → IsSetting setting s → with_setting s t ≡ t) → copy ≡ t → IsLongSide t → (s : node.Setting) → IsSetting setting s → IsSideAnswer (with_setting s t) (Ok copy)
+stays_answer setting t copy same e h s k = subst (λ (v : Term). IsSideAnswer v (Ok copy)) (sym (same s k)) (own_answer t copy e h)
 
 pub answer_long : (t : Term) (r : Result Term NormFault) → IsSideAnswer t r → IfOk r IsLongSide
 answer_long t (Ok u) h = comes_long t u h

@@ -15,11 +15,13 @@ use Rattle.pure_unify_definitions.specs.Fronts.{head, is_flexible}
 use Rattle.pure_unify_definitions.specs.Firm.{occurs_firmly}
 use Rattle.pure_unify_definitions.specs.Treatment as rules
 use Rattle.pure_unify_definitions.specs.Treatment.{IsBare, IsBareSide, left_bare, right_bare, AreOfOneTyp, ArePastVariables, AreRigid, AreApart, IsTreatment, equal, differ, firm, absent, same_heads, constants, clash, left}
+use Rattle.pure_unify_nodes.specs.Long.{IsLongSide}
+use Rattle.pure_unify_nodes.specs.OneTyp.{HaveOneTyp}
 use Rattle.pure_unify_steps.specs.declared.treat.Treatment.{Treatment}
 use Rattle.pure_unify_steps.specs.declared.treat.Treatment.TheVariants.{Dropped, Differ, Fail, Put, Split, Unify, Leave}
 use Rattle.pure_unify_steps.specs.Treated.{seen, IsAgainst, IsBareAnswer, IsVariableAnswer, AreCompared, IsHeadsTreatment}
 
-set_to : (l r v other : Term) (b : TermBind) → AreOfOneTyp l r → IsBareSide l r v other → term_variable b ≡ v → ¬ Occurs v other → IsEtaNormalForm other b.image → IsTreatment l r (rules.Put b)
+pub set_to : (l r v other : Term) (b : TermBind) → AreOfOneTyp l r → IsBareSide l r v other → term_variable b ≡ v → ¬ Occurs v other → IsEtaNormalForm other b.image → IsTreatment l r (rules.Put b)
 set_to l r v other b one side e free form =
     absent {x = b.name} {i = b.index} {T = b.typ} {other = other} {u = b.image} one (subst (λ (w : Term). IsBareSide l r w other) (sym e) side) (subst (λ (w : Term). ¬ Occurs w other) (sym e) free) form
 
@@ -66,6 +68,10 @@ left_answer l r v (Err e) b h = tt
 pub right_answer : {E : Type 0} (l r v : Term) (o : Result (Option Treatment) E) → IsBareAnswer l None → IsBareAnswer r (Some v) → IfOk o (IsAgainst v l) → IfOk o (IsVariableAnswer l r)
 right_answer l r v (Ok o) n b h = against_right l r v o n b h
 right_answer l r v (Err e) n b h = tt
+
+-- Sides in long form have types, so that they are of one type where they have no two.
+pub one_typ : (l r : Term) → IsLongSide l → IsLongSide r → HaveOneTyp [] l r → AreCompared l r None
+one_typ l r h k one = (h.form.typ, h.form.typed, subst (λ (T : Typ). HasType [] r T) (sym (one h.form.typ k.form.typ h.form.typed k.form.typed)) k.form.typed)
 
 pub of_one_typ : (l r : Term) → l ≢ r → AreCompared l r None → AreOfOneTyp l r
 of_one_typ l r n h = record { differ = n; typ = h.0; left = h.1; right = h.2 }

@@ -1,6 +1,6 @@
 pub mod Held
-pub mod Long
 pub mod Treated
 pub mod Gathered
 pub mod Old
 pub mod Retyped
+pub mod Direct

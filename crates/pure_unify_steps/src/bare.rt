@@ -2,9 +2,10 @@
 ghost use Rattle.std.specs.Prelude.{◌≡◌, IfOk, true};
 ghost use Rattle.pure_definitions.specs.Terms.Subst.{term_variable};
 ghost use Rattle.pure_unify_definitions.specs.Fronts as fronts;
-ghost use Rattle.pure_unify_steps.specs.Long.{IsLongSide};
+ghost use Rattle.pure_unify_nodes.specs.Long.{IsLongSide};
 ghost use Rattle.pure_unify_steps.specs.Treated.{IsBareAnswer, IsAgainst, IsVariableAnswer};
 
+use crate::direct::is_plain;
 use crate::treat::Treatment;
 use pure_eta::eta_norm;
 use pure_term::{Term, TermBind, TermNode, occurs};
@@ -16,6 +17,9 @@ fn bare_variable(alloc: Global, t: &Term) -> Result<Option<Term>, AllocError>
     requires { IsLongSide t.now }
     ensures { IfOk result (IsBareAnswer t.now) }
 {
+    if is_plain(t) {
+        return Ok(None);
+    }
     if !is_flexible(t) {
         return Ok(None);
     }
@@ -27,7 +31,7 @@ fn bare_variable(alloc: Global, t: &Term) -> Result<Option<Term>, AllocError>
 }
 
 /// The entry that sets the schematic variable to the image.
-fn entry_for(v: Term, image: Term) -> TermBind
+pub fn entry_for(v: Term, image: Term) -> TermBind
     requires { fronts.is_schematic v ≡ true }
     ensures variable { term_variable result ≡ v }
     ensures image { result.image ≡ image }
@@ -50,14 +54,14 @@ fn treat_bare(alloc: Global, v: Term, other: &Term) -> Result<Option<Treatment>,
     requires long { IsLongSide other.now }
     ensures { IfOk result (IsAgainst v other.now) }
 {
+    if !occurs(&v, other) {
+        let image = eta_norm(alloc, other)?;
+        return Ok(Some(Treatment::Put(entry_for(v, image))));
+    }
     if occurs_firmly(&v, other) {
         return Ok(Some(Treatment::Fail));
     }
-    if occurs(&v, other) {
-        return Ok(None);
-    }
-    let image = eta_norm(alloc, other)?;
-    Ok(Some(Treatment::Put(entry_for(v, image))))
+    Ok(None)
 }
 
 /// What the rule does with sides of one type, where it applies: the left is looked at first.

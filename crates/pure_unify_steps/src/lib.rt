@@ -2,13 +2,15 @@
 #![tactic(auto)]
 
 mod bare;
+mod direct;
 mod gather;
 mod node;
 mod put;
 mod retype;
 mod treat;
 
+pub use direct::direct_entry;
 pub use node::{Node, Path, Setting};
-pub use put::put_pairs;
+pub use put::{put_owned_pairs, put_pairs};
 pub use retype::{Retyping, retype_pairs};
 pub use treat::{Treatment, treatment_of};

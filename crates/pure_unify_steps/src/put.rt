@@ -1,19 +1,19 @@
 //! Settings put into pairs, whose sides are brought to long form.
 ghost use Rattle.std.specs.Prelude.{◌≡◌, ◌++◌, ◌∷◌, [], IfOk, IfErr, OnOk};
-ghost use Rattle.std.specs.Bool.{OnFalse};
+ghost use Rattle.std.specs.Bool.{OnFalse, OnTrue};
 ghost use Rattle.pure_text.specs.Lists.{Each};
 ghost use Rattle.pure_definitions.specs.Terms.Subst.{AreTypeRespecting, typ_image, term_image, inst_typ, inst_term};
 ghost use Rattle.pure_unify_definitions.specs.LongSides.{AllLong, AreLong};
 ghost use Rattle.pure_unify_definitions.specs.Node as node;
 ghost use Rattle.pure_unify_nodes.specs.SideAnswer.{IsTyped, IsSideAnswer, IsPairAnswer, IsSidesFault};
 ghost use Rattle.pure_unify_steps.specs.Held.{IsSetting, IsTypedSetting, put_in};
-ghost use Rattle.pure_unify_steps.specs.Long.{IsLongSide, IsLongPair};
+ghost use Rattle.pure_unify_nodes.specs.Long.{IsLongSide, IsLongPair};
 
 use crate::node::Setting;
 use pure_norm::NormFault;
 use pure_term::{Grow, Term, TermMap, TermNode, TypMap, inst_term, inst_typ};
 use pure_theorem::Pair;
-use pure_unify_nodes::long_side;
+use pure_unify_nodes::owned_long_side;
 use std::alloc::{AllocError, Global};
 
 /// Whether an entry replaces a variable of the term.
@@ -39,7 +39,7 @@ fn put_typs(alloc: Global, map: &TypMap, t: &Term) -> Result<Term, NormFault>
     ensures { IsSideAnswer (inst_typ (typ_image map.now) t.now) result }
 {
     match inst_typ(alloc, t, map) {
-        Ok(made) => long_side(alloc, &made),
+        Ok(made) => owned_long_side(alloc, made),
         Err(Grow::Big) => Err(NormFault::Big),
         Err(Grow::Memory) => Err(NormFault::Memory),
     }
@@ -52,29 +52,29 @@ fn put_terms(alloc: Global, map: &TermMap, t: &Term) -> Result<Term, NormFault>
     ensures { IsSideAnswer (inst_term (term_image map.now) t.now) result }
 {
     match inst_term(alloc, t, map) {
-        Ok(made) => long_side(alloc, &made),
+        Ok(made) => owned_long_side(alloc, made),
         Err(Grow::Big) => Err(NormFault::Big),
         Err(Grow::Memory) => Err(NormFault::Memory),
     }
 }
 
-/// The same of a side in long form, which stays as it is where no entry replaces a variable of it.
-fn put_touched(alloc: Global, map: &TermMap, t: &Term) -> Result<Term, NormFault>
-    requires long { IsLongSide t.now }
-    requires respecting { AreTypeRespecting map.now }
-    ensures { IsSideAnswer (inst_term (term_image map.now) t.now) result }
+/// Whether the side is known to stay as it is: no entry replaces a variable of it.
+fn stays(setting: &Setting, t: &Term) -> bool
+    ensures { OnTrue result ((s : node.Setting) → IsSetting setting.now s → node.with_setting s t.now ≡ t.now) }
 {
-    if is_touched(map, t) {
-        return put_terms(alloc, map, t);
-    }
-    match t.copy(alloc) {
-        Ok(copy) => Ok(copy),
-        Err(_) => Err(NormFault::Memory),
+    match setting {
+        Setting::OfTyps(_) => false,
+        Setting::OfTerm(map) => {
+            if is_touched(map, t) {
+                return false;
+            }
+            true
+        }
     }
 }
 
-/// The side with the setting put in, in long form, or what stops the search.
-fn put_side(alloc: Global, setting: &Setting, t: &Term) -> Result<Term, NormFault>
+/// The side with the setting put in, made and brought to long form, or what stops the search.
+fn put_made(alloc: Global, setting: &Setting, t: &Term) -> Result<Term, NormFault>
     requires long { IsLongSide t.now }
     requires respecting { IsTypedSetting setting.now }
     ensures answer { (s : node.Setting) → IsSetting setting.now s → IsSideAnswer (node.with_setting s t.now) result }
@@ -82,8 +82,35 @@ fn put_side(alloc: Global, setting: &Setting, t: &Term) -> Result<Term, NormFaul
 {
     match setting {
         Setting::OfTyps(map) => put_typs(alloc, map, t),
-        Setting::OfTerm(map) => put_touched(alloc, map, t),
+        Setting::OfTerm(map) => put_terms(alloc, map, t),
     }
+}
+
+/// The same, but a side that stays as it is is copied.
+fn put_side(alloc: Global, setting: &Setting, t: &Term) -> Result<Term, NormFault>
+    requires long { IsLongSide t.now }
+    requires respecting { IsTypedSetting setting.now }
+    ensures answer { (s : node.Setting) → IsSetting setting.now s → IsSideAnswer (node.with_setting s t.now) result }
+    ensures long { IfOk result IsLongSide }
+{
+    if stays(setting, t) {
+        let copy = t.copy(alloc)?;
+        return Ok(copy);
+    }
+    put_made(alloc, setting, t)
+}
+
+/// The same of a side that is handed over: one that stays as it is is handed back.
+fn put_owned(alloc: Global, setting: &Setting, t: Term) -> Result<Term, NormFault>
+    requires long { IsLongSide t }
+    requires respecting { IsTypedSetting setting.now }
+    ensures answer { (s : node.Setting) → IsSetting setting.now s → IsSideAnswer (node.with_setting s t) result }
+    ensures long { IfOk result IsLongSide }
+{
+    if stays(setting, &t) {
+        return Ok(t);
+    }
+    put_made(alloc, setting, &t)
 }
 
 /// The pair with the setting put in, in long form, or what the first side that stops the search stops it by.
@@ -122,6 +149,46 @@ pub fn put_pairs(alloc: Global, setting: &Setting, pairs: &[Pair]) -> Result<Vec
     let mut made = Vec::new(alloc);
     for pair in pairs {
         match put_pair(alloc, setting, pair) {
+            Ok(one) => add_pair(&mut made, one)?,
+            Err(fault) => return Err(fault),
+        }
+    }
+    Ok(made)
+}
+
+/// The same of a pair that is handed over.
+fn put_owned_pair(alloc: Global, setting: &Setting, pair: Pair) -> Result<Pair, NormFault>
+    requires long { IsLongPair pair }
+    requires respecting { IsTypedSetting setting.now }
+    ensures answer { (s : node.Setting) → IsSetting setting.now s → IsPairAnswer (put_in s pair) result }
+    ensures long { IfOk result IsLongPair }
+{
+    let Pair { left, right } = pair;
+    let left = match put_owned(alloc, setting, left) {
+        Ok(left) => left,
+        Err(fault) => return Err(fault),
+    };
+    match put_owned(alloc, setting, right) {
+        Ok(right) => Ok(Pair { left, right }),
+        Err(fault) => Err(fault),
+    }
+}
+
+/// The same of pairs that are handed over: sides that stay as they are aren't copied.
+pub fn put_owned_pairs(
+    alloc: Global,
+    setting: &Setting,
+    pairs: Vec<Pair>,
+) -> Result<Vec<Pair>, NormFault>
+    requires long { Each IsLongPair pairs.items }
+    requires respecting { IsTypedSetting setting.now }
+    ensures ok { (s : node.Setting) → IsSetting setting.now s → IfOk result (λ made. AreLong (node.with_setting_put s pairs.items) (AllLong made.items)) }
+    ensures fault { (s : node.Setting) → IsSetting setting.now s → IfErr result (IsSidesFault (node.with_setting_put s pairs.items)) }
+    ensures long { IfOk result (λ made. Each IsLongPair made.items) }
+{
+    let mut made = Vec::new(alloc);
+    for pair in pairs {
+        match put_owned_pair(alloc, setting, pair) {
             Ok(one) => add_pair(&mut made, one)?,
             Err(fault) => return Err(fault),
         }

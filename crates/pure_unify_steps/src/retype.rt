@@ -8,7 +8,7 @@ ghost use Rattle.pure_tunify.specs.Working.{IsWrittenInOrder};
 ghost use Rattle.pure_unify_definitions.specs.LongSides.{AllLong, AreLong};
 ghost use Rattle.pure_unify_definitions.specs.Node as node;
 ghost use Rattle.pure_unify_steps.specs.Held.{IsPath};
-ghost use Rattle.pure_unify_steps.specs.Long.{IsLongPair};
+ghost use Rattle.pure_unify_nodes.specs.Long.{IsLongPair};
 ghost use Rattle.pure_unify_steps.specs.Old.{HasNoFresh, HaveNoFresh};
 ghost use Rattle.pure_unify_steps.specs.Retyped.{IsTyping, IsPutAnswer, ArePut, IsApartAnswer, IsRetypingAnswer};
 

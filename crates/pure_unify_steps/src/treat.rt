@@ -1,12 +1,13 @@
 //! The treatment of a pair: the first rule that applies to it.
 ghost use Rattle.std.specs.Prelude.{IfOk};
 ghost use Rattle.pure_unify_definitions.specs.Treatment.{AreOfOneTyp, ArePastVariables, IsTreatment};
-ghost use Rattle.pure_unify_steps.specs.Long.{IsLongSide};
+ghost use Rattle.pure_unify_nodes.specs.Long.{IsLongSide};
 ghost use Rattle.pure_unify_steps.specs.Treated.{seen, AreCompared, IsConstant, IsConstantTyp, IsHeadsTreatment};
 
 use crate::bare::treat_variables;
 use pure_term::{Term, TermBind, TermNode, Typ};
 use pure_theorem::{are_same, are_same_typs, typ_of_typed};
+use pure_unify_nodes::have_one_typ;
 use pure_unify_sides::{Heads, compared_heads, head, is_flexible};
 use std::alloc::{AllocError, Global};
 
@@ -28,6 +29,9 @@ fn differing_typs(alloc: Global, l: &Term, r: &Term) -> Result<Option<(Typ, Typ)
     requires right { IsLongSide r.now }
     ensures { IfOk result (AreCompared l.now r.now) }
 {
+    if have_one_typ(l, r) {
+        return Ok(None);
+    }
     let left = typ_of_typed(alloc, l)?;
     let right = typ_of_typed(alloc, r)?;
     if are_same_typs(&left, &right) {

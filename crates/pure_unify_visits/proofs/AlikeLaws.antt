@@ -21,7 +21,7 @@ use Rattle.pure_unify_definitions.specs.Treatment.{Put, Split, Unify, IsBareSide
 use Rattle.pure_unify_laws.proofs.HeadLaws.{head-long, unified-equal}
 use Rattle.pure_unify_laws.proofs.SplitLaws.{spines-alike}
 use Rattle.pure_unify_steps.specs.declared.node.Node.{Node}
-use Rattle.pure_unify_steps.specs.Long.{IsLongSide, IsLongPair}
+use Rattle.pure_unify_nodes.specs.Long.{IsLongSide, IsLongPair}
 use Rattle.pure_unify_steps.specs.Retyped.{ArePut}
 use Rattle.pure_unify_steps.proofs.PutLaws.{retyping-respects}
 use Rattle.pure_unify_visits.specs.Scanned.{HasAsMany, HasAsManyAt}

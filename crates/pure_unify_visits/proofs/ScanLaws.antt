@@ -15,7 +15,7 @@ use Rattle.pure_unify_steps.specs.declared.node.Setting.TheVariants.{OfTyps, OfT
 use Rattle.pure_unify_steps.specs.declared.node.Path.{Path}
 use Rattle.pure_unify_steps.specs.declared.node.Node.{Node}
 use Rattle.pure_unify_steps.specs.Held.{IsSetting, IsTypedSetting, IsPath, IsNode}
-use Rattle.pure_unify_steps.specs.Long.{IsLongPair}
+use Rattle.pure_unify_nodes.specs.Long.{IsLongPair}
 use Rattle.pure_unify_steps.proofs.LongLaws.{argument_pairs-long}
 use Rattle.pure_unify_visits.specs.declared.scan.Scan.{Scan}
 use Rattle.pure_unify_visits.specs.Scanned.{IsScan, IsReady, HasAsMany, HasAsManyAt, ArePairsSplit}

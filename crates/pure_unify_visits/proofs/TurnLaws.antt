@@ -25,7 +25,7 @@ use Rattle.pure_unify_steps.specs.declared.node.Path.{Path}
 use Rattle.pure_unify_steps.specs.declared.retype.Retyping.{Retyping}
 use Rattle.pure_unify_steps.specs.Held.{IsSetting, IsPath, IsNode}
 use Rattle.pure_unify_steps.specs.Retyped.{IsRetypingAnswer}
-use Rattle.pure_unify_steps.specs.Long.{IsLongPair}
+use Rattle.pure_unify_nodes.specs.Long.{IsLongPair}
 use Rattle.pure_unify_visits.specs.declared.scan.Visited.{Visited}
 use Rattle.pure_unify_visits.specs.declared.scan.Visited.TheVariants.{Simple, Failed}
 use Rattle.pure_unify_visits.specs.declared.scan.Scan.{Scan}
@@ -60,11 +60,8 @@ first : (scan : Scan) (p : Pair) (n : node.Node) (how : rules.Treatment) → IsR
 first scan p n how h k t = record { stands = sym k.pairs; before = h.left; treated = t }
 
 -- A setting is put into pairs.
-pub put_made : (ps os qs : List Pair) (p : node.Path) (s : node.Setting) (scan : Scan) → os ≡ ps → AreLong (with_setting_put s os) (AllLong qs) → IsScan scan (record { pairs = qs; path = further p s }) → IsPutInto ps p s (Ok scan)
-put_made ps os qs p s scan e l h = (qs, subst (λ (xs : List Pair). AreLong (with_setting_put s xs) (AllLong qs)) e l, h)
-
-pub put_stop : (ps os : List Pair) (p : node.Path) (s : node.Setting) (fault : NormFault) → os ≡ ps → IsSidesFault (with_setting_put s os) fault → IsPutInto ps p s (Err fault)
-put_stop ps os p s fault e h = subst (λ (xs : List Pair). IsSidesFault (with_setting_put s xs) fault) e h
+pub put_made : (ps qs : List Pair) (p : node.Path) (s : node.Setting) (scan : Scan) → AreLong (with_setting_put s ps) (AllLong qs) → IsScan scan (record { pairs = qs; path = further p s }) → IsPutInto ps p s (Ok scan)
+put_made ps qs p s scan l h = (qs, l, h)
 
 module _ (A : Algebra) (maxidx : ℕ) where
   pub passed_on : (scan next : Scan) (p : Pair) (n : node.Node) → IsAt scan p n → next.passed.items ≡ scan.passed.items ++ p ∷ [] → next.rest.items ≡ scan.rest.items → next.path ≡ scan.path → IsTurned A maxidx n (Ok (Onward next))

@@ -16,7 +16,7 @@ use Rattle.pure_unify_definitions.specs.Simplification.{IsLeft, Visit, Simplifie
 use Rattle.pure_unify_nodes.specs.SideAnswer.{IsSidesFault}
 use Rattle.pure_unify_steps.specs.declared.node.Node.{Node}
 use Rattle.pure_unify_steps.specs.Held.{IsPath, IsNode}
-use Rattle.pure_unify_steps.specs.Long.{IsLongPair}
+use Rattle.pure_unify_nodes.specs.Long.{IsLongPair}
 use Rattle.pure_unify_visits.specs.declared.scan.Scan.{Scan}
 use Rattle.pure_unify_visits.specs.declared.scan.Turn.{Turn}
 use Rattle.pure_unify_visits.specs.declared.scan.Turn.TheVariants.{Onward, Ends}

@@ -9,7 +9,7 @@ use Rattle.pure_unify_definitions.specs.Node as node
 use Rattle.pure_unify_definitions.specs.Simplification as rules
 use Rattle.pure_unify_definitions.specs.Simplification.{Halted, Simplifies, Visits}
 use Rattle.pure_unify_steps.specs.Held.{IsNode}
-use Rattle.pure_unify_steps.specs.Long.{IsLongPair}
+use Rattle.pure_unify_nodes.specs.Long.{IsLongPair}
 use Rattle.pure_unify_visits.specs.declared.scan.Visited.{Visited}
 use Rattle.pure_unify_visits.specs.declared.scan.Visited.TheVariants.{Simple, Failed}
 

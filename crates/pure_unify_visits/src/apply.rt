@@ -3,7 +3,7 @@ ghost use Rattle.std.specs.Prelude.{ℕ, ◌+◌, ◌<◌, ◌^◌, IfOk};
 ghost use Rattle.pure_definitions.specs.Types.Order.{Algebra};
 ghost use Rattle.pure_unify_definitions.specs.Node as node;
 ghost use Rattle.pure_unify_definitions.specs.Treatment as rules;
-ghost use Rattle.pure_unify_steps.specs.Long.{IsLongPair};
+ghost use Rattle.pure_unify_nodes.specs.Long.{IsLongPair};
 ghost use Rattle.pure_unify_steps.specs.Treated.{seen};
 ghost use Rattle.pure_unify_visits.specs.Scanned.{IsScan, IsAt, IsReady, IsTurned, IsReadyTurn};
 
@@ -15,7 +15,7 @@ use pure_norm::NormFault;
 use pure_order::Order;
 use pure_term::Typ;
 use pure_theorem::Pair;
-use pure_unify_steps::{Node, Treatment, treatment_of};
+use pure_unify_steps::{Node, Treatment, direct_entry, treatment_of};
 use std::alloc::Global;
 
 /// The pair is passed: no rule applies to it.
@@ -126,7 +126,7 @@ fn apply(
 }
 
 /// What comes of a node when this pair is treated by the first rule that applies, or passed.
-fn treat(
+fn treat_otherwise(
     alloc: Global,
     order: &Order,
     maxidx: u32,
@@ -145,6 +145,26 @@ fn treat(
             discard(pair);
             Err(NormFault::Memory)
         }
+    }
+}
+
+/// The same, but a variable that is set to the other side as it stands takes that side.
+fn treat(
+    alloc: Global,
+    order: &Order,
+    maxidx: u32,
+    scan: Scan,
+    pair: Pair,
+) -> Result<Turn, NormFault>
+    requires room { maxidx + 66 < 2 ^ 32 }
+    requires ready { IsReady scan }
+    requires long { IsLongPair pair }
+    ensures answer { (n : node.Node) → IsAt scan pair n → IsTurned order.now maxidx n result }
+    ensures ready { IfOk result IsReadyTurn }
+{
+    match direct_entry(pair) {
+        Ok(bind) => put(alloc, scan, bind),
+        Err(pair) => treat_otherwise(alloc, order, maxidx, scan, pair),
     }
 }
 

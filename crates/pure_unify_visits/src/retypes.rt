@@ -4,7 +4,7 @@ ghost use Rattle.pure_text.specs.Lists.{Each};
 ghost use Rattle.pure_definitions.specs.Terms.Subst as subst;
 ghost use Rattle.pure_unify_definitions.specs.Node as node;
 ghost use Rattle.pure_unify_steps.specs.Held.{IsSetting, IsPath};
-ghost use Rattle.pure_unify_steps.specs.Long.{IsLongPair};
+ghost use Rattle.pure_unify_nodes.specs.Long.{IsLongPair};
 ghost use Rattle.pure_unify_steps.specs.Retyped.{ArePut};
 ghost use Rattle.pure_unify_visits.specs.Scanned.{IsAt, IsReady, IsRetypedNode};
 

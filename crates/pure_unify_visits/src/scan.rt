@@ -3,7 +3,7 @@ ghost use Rattle.std.specs.Prelude.{◌≡◌, ◌++◌, ◌∷◌, [], reverse,
 ghost use Rattle.pure_text.specs.Lists.{Each};
 ghost use Rattle.pure_unify_definitions.specs.Node as nodes;
 ghost use Rattle.pure_unify_steps.specs.Held.{IsNode};
-ghost use Rattle.pure_unify_steps.specs.Long.{IsLongPair};
+ghost use Rattle.pure_unify_nodes.specs.Long.{IsLongPair};
 ghost use Rattle.pure_unify_visits.specs.Scanned.{IsScan, IsReady};
 
 use pure_theorem::Pair;

@@ -7,14 +7,14 @@ ghost use Rattle.pure_logic.specs.Derivable as logic;
 ghost use Rattle.pure_unify_definitions.specs.Node as node;
 ghost use Rattle.pure_unify_definitions.specs.Treatment as rules;
 ghost use Rattle.pure_unify_steps.specs.Held.{IsSetting, IsTypedSetting, IsPath};
-ghost use Rattle.pure_unify_steps.specs.Long.{IsLongPair};
+ghost use Rattle.pure_unify_nodes.specs.Long.{IsLongPair};
 ghost use Rattle.pure_unify_visits.specs.Scanned.{IsScan, IsAt, IsReady, IsTurned, IsReadyTurn, IsPutInto};
 
 use crate::scan::{Scan, Turn, move_back, scan_of};
 use pure_norm::NormFault;
 use pure_term::{TermBind, TermMap};
 use pure_theorem::Pair;
-use pure_unify_steps::{Node, Path, Setting, put_pairs};
+use pure_unify_steps::{Node, Path, Setting, put_owned_pairs};
 use std::alloc::{AllocError, Global};
 
 /// The setting of one variable.
@@ -70,7 +70,7 @@ fn put_into(
     ensures answer { (p : node.Path) (s : node.Setting) → IsPath path p → IsSetting setting s → IsPutInto pairs.items p s result }
     ensures ready { IfOk result IsReady }
 {
-    match put_pairs(alloc, &setting, &pairs) {
+    match put_owned_pairs(alloc, &setting, pairs) {
         Ok(made) => Ok(set(alloc, made, path, setting)?),
         Err(fault) => {
             discard(setting);

@@ -8,34 +8,24 @@ ghost use Rattle.pure_unify_definitions.specs.Node as nodes;
 ghost use Rattle.pure_unify_definitions.specs.Simplification.{IsSplitAt};
 ghost use Rattle.pure_unify_definitions.specs.Treatment as rules;
 ghost use Rattle.pure_unify_steps.specs.Held.{IsNode};
-ghost use Rattle.pure_unify_steps.specs.Long.{IsLongPair};
+ghost use Rattle.pure_unify_nodes.specs.Long.{IsLongPair};
 ghost use Rattle.pure_unify_visits.specs.Scanned.{IsScan, IsAt, IsReady, IsTurned, IsReadyTurn, HasAsMany, HasAsManyAt, ArePairsSplit};
 
-use crate::scan::{Scan, Turn, discard, move_back};
+use crate::scan::{Scan, Turn, move_back};
 use pure_norm::NormFault;
 use pure_theorem::Pair;
-use pure_unify_sides::push_argument_pairs;
+use pure_unify_sides::move_argument_pairs;
 use pure_unify_steps::Node;
 use std::alloc::{AllocError, Global};
 
-/// The pairs of the arguments.
-fn parts_of(alloc: Global, pair: &Pair) -> Result<Vec<Pair>, AllocError>
-    requires { HasAsMany pair.now }
-    ensures { IfOk result (λ made. made.items ≡ argument_pairs pair.now.left pair.now.right) }
-{
-    let mut made = Vec::new(alloc);
-    push_argument_pairs(alloc, &mut made, &pair.left, &pair.right)?;
-    Ok(made)
-}
-
-/// The same of a pair that goes.
+/// The pairs of the arguments of a pair that goes.
 fn parted(alloc: Global, pair: Pair) -> Result<Vec<Pair>, AllocError>
     requires { HasAsMany pair }
     ensures { IfOk result (λ made. made.items ≡ argument_pairs pair.left pair.right) }
 {
-    let made = parts_of(alloc, &pair);
-    discard(pair);
-    made
+    let mut made = Vec::new(alloc);
+    move_argument_pairs(alloc, &mut made, pair)?;
+    Ok(made)
 }
 
 /// Puts the pairs of the arguments of the pair before those still to come.

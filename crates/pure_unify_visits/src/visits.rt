@@ -4,7 +4,7 @@ ghost use Rattle.pure_text.specs.Lists.{Each};
 ghost use Rattle.pure_unify_definitions.specs.Node as nodes;
 ghost use Rattle.pure_unify_nodes.specs.SideAnswer.{AreSidesTyped};
 ghost use Rattle.pure_unify_steps.specs.Held.{IsPath, IsNode};
-ghost use Rattle.pure_unify_steps.specs.Long.{IsLongPair};
+ghost use Rattle.pure_unify_nodes.specs.Long.{IsLongPair};
 ghost use Rattle.pure_unify_visits.specs.Scanned.{IsScan, IsReady};
 ghost use Rattle.pure_unify_visits.specs.Visited.{IsSimplified, IsVisitAnswer, IsLongVisit};
 

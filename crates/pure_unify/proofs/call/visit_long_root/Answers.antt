@@ -1,7 +1,7 @@
 use Rattle.std.proofs.Common.{List, subst}
 use Rattle.pure_text.specs.Lists.{Each}
 use Rattle.pure_logic.specs.Derivable.{Pair}
-use Rattle.pure_unify_steps.specs.Long.{IsLongPair}
+use Rattle.pure_unify_nodes.specs.Long.{IsLongPair}
 use Rattle.pure_unify.proofs.ChildLaws.{visited_answer}
 use Rattle.pure_unify.proofs.OwnLaws.{own_pairs}
 use Rattle.pure_unify.proofs.call.visit_long_root.Goals as goal

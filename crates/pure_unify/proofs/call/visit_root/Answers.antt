@@ -2,7 +2,7 @@ use Rattle.std.proofs.Common.{List, sym, subst, arith}
 use Rattle.pure_text.specs.Lists.{Each}
 use Rattle.pure_logic.specs.Derivable.{Pair}
 use Rattle.pure_unify_definitions.specs.Node.{root}
-use Rattle.pure_unify_steps.specs.Long.{IsLongPair}
+use Rattle.pure_unify_nodes.specs.Long.{IsLongPair}
 use Rattle.pure_unify.proofs.ChildLaws.{visit_simple}
 use Rattle.pure_unify.proofs.call.visit_root.Goals as goal
 

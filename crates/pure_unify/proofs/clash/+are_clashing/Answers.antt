@@ -1,6 +1,6 @@
 use Rattle.std.proofs.Common.{◌≡◌, ◌∷◌, length, ap, sym, ◌∙◌, arith}
 use Rattle.pure_logic.specs.Derivable.{Pair}
-use Rattle.pure_unify.proofs.OwnLaws.{on_true}
+use Rattle.pure_unify_nodes.proofs.OwnLaws.{on_true}
 use Rattle.pure_unify.proofs.ClashLaws.{first_typed, rest_typed, first_clashes, later_clashes}
 use Rattle.pure_unify.proofs.clash.+are_clashing.Goals as goal
 

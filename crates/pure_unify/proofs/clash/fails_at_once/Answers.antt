@@ -1,4 +1,4 @@
-use Rattle.pure_unify.proofs.OwnLaws.{on_true}
+use Rattle.pure_unify_nodes.proofs.OwnLaws.{on_true}
 use Rattle.pure_unify.proofs.ClashLaws.{clashing_visit}
 use Rattle.pure_unify.proofs.clash.fails_at_once.Goals as goal
 

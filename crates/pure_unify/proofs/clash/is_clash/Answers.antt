@@ -1,6 +1,6 @@
 use Rattle.std.proofs.Common.{sym, ap}
 use Rattle.pure_logic.specs.Derivable.{Pair}
-use Rattle.pure_unify.proofs.OwnLaws.{on_true}
+use Rattle.pure_unify_nodes.proofs.OwnLaws.{on_true}
 use Rattle.pure_unify.proofs.ClashLaws.{clash_told}
 use Rattle.pure_unify.proofs.clash.is_clash.Goals as goal
 

@@ -1,4 +1,4 @@
-use Rattle.pure_unify_steps.specs.Long.{IsLongPair}
+use Rattle.pure_unify_nodes.specs.Long.{IsLongPair}
 use Rattle.pure_unify.proofs.OwnLaws.{each_more, each_all}
 use Rattle.pure_unify.proofs.own.are_own.Goals as goal
 

@@ -1,6 +1,6 @@
 use Rattle.std.proofs.Common.{take}
 use Rattle.pure_text.specs.Lists.{Each}
-use Rattle.pure_unify_steps.specs.Long.{IsLongPair}
+use Rattle.pure_unify_nodes.specs.Long.{IsLongPair}
 use Rattle.pure_unify.proofs.own.are_own.Given as goal
 
 abbrev pub invariant-loop-pair : goal.invariant-loop-pair

@@ -1,6 +1,9 @@
 use Rattle.std.proofs.Common.{sym, ◌∙◌}
-use Rattle.pure_unify_steps.proofs.BareLaws.{rigid_is_none, other_is_none}
+use Rattle.pure_unify_steps.proofs.BareLaws.{plain_is_none, rigid_is_none, other_is_none}
 use Rattle.pure_unify_steps.proofs.bare.bare_variable.Goals as goal
+
+pub returns-then-is_plain : goal.returns-then-is_plain
+returns-then-is_plain c = plain_is_none c.args.t.now (sym c.is_plain.ensures ∙ c.if-is_plain.true)
 
 pub returns-then-not-is_flexible : goal.returns-then-not-is_flexible
 returns-then-not-is_flexible c = rigid_is_none c.args.t.now c.requires (sym c.is_flexible.ensures ∙ c.if-not-is_flexible.true)

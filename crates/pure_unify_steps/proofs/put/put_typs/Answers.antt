@@ -1,9 +1,12 @@
 use Rattle.pure_definitions.specs.Terms.Subst.{typ_image, inst_typ}
-use Rattle.pure_unify_steps.proofs.PutLaws.{beyond_large, retyped_typed, made_typed}
+use Rattle.pure_unify_steps.proofs.PutLaws.{beyond_large, retyped_typed, made_typed, made_within}
 use Rattle.pure_unify_steps.proofs.put.put_typs.Goals as goal
 
-pub long_side-requires : goal.long_side-requires
-long_side-requires c = made_typed (inst_typ (typ_image c.args.map.now) c.args.t.now) c.in-Ok.made (retyped_typed c.args.map.now c.args.t.now c.requires) c.in-Ok.ensures.0
+pub owned_long_side-requires-clause-typed : goal.owned_long_side-requires-clause-typed
+owned_long_side-requires-clause-typed c = made_typed (inst_typ (typ_image c.args.map.now) c.args.t.now) c.in-Ok.made (retyped_typed c.args.map.now c.args.t.now c.requires) c.in-Ok.ensures.0
+
+pub owned_long_side-requires-clause-within : goal.owned_long_side-requires-clause-within
+owned_long_side-requires-clause-within c = made_within (inst_typ (typ_image c.args.map.now) c.args.t.now) c.in-Ok.made c.in-Ok.ensures.0 c.in-Ok.ensures.1
 
 pub returns-in-Err-Big : goal.returns-in-Err-Big
 returns-in-Err-Big c = beyond_large (inst_typ (typ_image c.args.map.now) c.args.t.now) (rw c.in-Err-Big.field-0-is at c.in-Err-Big.ensures)

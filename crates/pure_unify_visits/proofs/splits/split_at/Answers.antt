@@ -1,5 +1,5 @@
 use Rattle.std.proofs.Common.{reverse, refl}
-use Rattle.pure_unify_steps.specs.Long.{IsLongPair}
+use Rattle.pure_unify_nodes.specs.Long.{IsLongPair}
 use Rattle.pure_unify_visits.proofs.ListLaws.{each-reverse}
 use Rattle.pure_unify_visits.proofs.ScanLaws.{scan_ready, reversed_back, reversed_long, split_node, split_long}
 use Rattle.pure_unify_visits.proofs.splits.split_at.Goals as goal

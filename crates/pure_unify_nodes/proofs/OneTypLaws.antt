@@ -2,11 +2,10 @@
 use Rattle.std.proofs.Common.{◌≡◌, List, ◌∷◌, sym, ap, ◌∙◌}
 use Rattle.pure_definitions.specs.Types.Typ.{Typ, arrow}
 use Rattle.pure_definitions.specs.Terms.Term.{Term, Abs}
-use Rattle.pure_unify.specs.OwnForm.{IsFront}
-use Rattle.pure_unify.specs.OneTyp.{HaveOneTyp}
+use Rattle.pure_unify_nodes.specs.OneTyp.{HasNoOther, HaveOneTyp}
 
-pub same_typs : (bs : List Typ) (l r : Term) (T U : Typ) → IsFront bs l T → IsFront bs r U → T ≡ U → HaveOneTyp bs l r
-same_typs bs l r T U h k e V W f g = sym (h.typ V f) ∙ (e ∙ k.typ W g)
+pub same_typs : (bs : List Typ) (l r : Term) (T U : Typ) → HasNoOther bs l T → HasNoOther bs r U → T ≡ U → HaveOneTyp bs l r
+same_typs bs l r T U h k e V W f g = sym (h V f) ∙ (e ∙ k W g)
 
 abstractions-alike : (bs : List Typ) (V : Typ) (b c : Term) → HaveOneTyp (V ∷ bs) b c → HaveOneTyp bs (Abs V b) (Abs V c)
 abstractions-alike bs V b c h T U f g = sym f.2 ∙ (ap (arrow V) (h f.0 g.0 f.1 g.1) ∙ g.2)

@@ -1,6 +1,6 @@
 use Rattle.std.proofs.Common.{◌+◌, ◌*◌}
 use Rattle.pure_definitions.specs.Terms.Term.{term_depth}
-use Rattle.pure_unify.proofs.own.+long.Given as goal
+use Rattle.pure_unify_nodes.proofs.own.+long.Given as goal
 
 abbrev pub decreases-front_typ : goal.decreases-front_typ
 decreases-front_typ l = 2 * term_depth l.t.now

@@ -1,8 +1,8 @@
 use Rattle.std.proofs.Common.{◌≡◌, refl}
 use Rattle.pure_definitions.specs.Terms.Term.{Const, Free, Var, Abs}
 use Rattle.pure_term.specs.Scope.{scope_typs}
-use Rattle.pure_unify.proofs.OwnLaws.{constant_front, fixed_front, schematic_front, base_long, abstraction_long, on_true}
-use Rattle.pure_unify.proofs.own.+long.Goals as goal
+use Rattle.pure_unify_nodes.proofs.OwnLaws.{constant_front, fixed_front, schematic_front, base_long, abstraction_long, on_true}
+use Rattle.pure_unify_nodes.proofs.own.+long.Goals as goal
 
 pub front_typ-returns-in-Const : goal.front_typ-returns-in-Const
 front_typ-returns-in-Const t c =

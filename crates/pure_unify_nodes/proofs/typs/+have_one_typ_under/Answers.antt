@@ -1,9 +1,9 @@
 use Rattle.std.proofs.Common.{◌≡◌, refl}
 use Rattle.pure_definitions.specs.Terms.Term.{Abs}
 use Rattle.pure_term.specs.Scope.{scope_typs}
-use Rattle.pure_unify.proofs.OwnLaws.{on_true}
-use Rattle.pure_unify.proofs.OneTypLaws.{same_abstractions}
-use Rattle.pure_unify.proofs.typs.+have_one_typ_under.Goals as goal
+use Rattle.pure_unify_nodes.proofs.OwnLaws.{on_true}
+use Rattle.pure_unify_nodes.proofs.OneTypLaws.{same_abstractions}
+use Rattle.pure_unify_nodes.proofs.typs.+have_one_typ_under.Goals as goal
 
 pub returns-else-not-are_same_typs : goal.returns-else-not-are_same_typs
 returns-else-not-are_same_typs t c =

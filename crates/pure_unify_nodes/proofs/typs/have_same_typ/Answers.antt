@@ -1,6 +1,6 @@
 use Rattle.pure_term.specs.Scope.{scope_typs}
-use Rattle.pure_unify.proofs.OneTypLaws.{same_typs}
-use Rattle.pure_unify.proofs.typs.have_same_typ.Goals as goal
+use Rattle.pure_unify_nodes.proofs.OneTypLaws.{same_typs}
+use Rattle.pure_unify_nodes.proofs.typs.have_same_typ.Goals as goal
 
 pub returns : goal.returns
 returns c =
