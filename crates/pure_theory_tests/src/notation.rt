@@ -92,7 +92,8 @@ pub(crate) fn variable(alloc: Global) -> Term
 pub(crate) fn shared_variable(alloc: Global) -> Result<Arc<Term>, AllocError>
     ensures { IfOk result (λ prop. prop.value ≡ proposition_variable 0) }
 {
-    Arc::new(alloc, variable(alloc))
+    let prop = Arc::new(alloc, variable(alloc))?;
+    Ok(prop)
 }
 
 /// Declares a constant of type prop.
