@@ -1,5 +1,5 @@
 //! Lists of texts in little memory.
-ghost use Rattle.std.specs.Prelude.{◌≡◌, ◌++◌, ◌∷◌, ◌<◌, ◌≤◌, [], IfOk, OnOk, MatchOption, None, Some, length, slice_get, slice_range};
+ghost use Rattle.std.specs.Prelude.{◌≡◌, ◌++◌, ◌∷◌, ◌<◌, ◌≤◌, [], IfOk, OnOk, Some, length, slice_get, slice_range};
 ghost use Rattle.pure_script.specs.TextLists.{beginning};
 
 use std::alloc::{AllocError, Global};
@@ -70,12 +70,7 @@ impl TextList {
         self.ends.as_slice().len()
     }
 
-    /// Whether there are none.
-    pub fn is_empty(&self) -> bool {
-        self.ends.is_empty()
-    }
-
-    /// The text at the place, from 0, where there is one.
+    /// The text at the place, from 0.
     pub fn at(&self, place: usize) -> &[u8]
         requires { place < length self.now }
         ensures { slice_get self.now place ≡ Some result.now }
@@ -83,17 +78,6 @@ impl TextList {
         let from = beginning_at(self.ends.as_slice(), place);
         let to = end_at(self.ends.as_slice(), place);
         between(self.bytes.as_slice(), from, to)
-    }
-
-    /// The text at the place, from 0; none exactly where there are no more.
-    pub fn get(&self, place: usize) -> Option<&[u8]>
-        ensures { MatchOption result (slice_get self.now place ≡ None) (λ text. slice_get self.now place ≡ Some text.now) }
-    {
-        if place < self.len() {
-            Some(self.at(place))
-        } else {
-            None
-        }
     }
 
     /// Puts a text behind the others. Bytes beyond 2 ^ 32, which no source has, are want of memory.
