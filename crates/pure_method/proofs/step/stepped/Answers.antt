@@ -27,7 +27,7 @@ returns-in-Drule c = record {
 
 pub returns-in-Unfold : goal.returns-in-Unfold
 returns-in-Unfold c = record {
-  answer = step-as c.args.names.now c.args.theory.now c.args.goal.now.thm (tree.Unfold c.deref.result.now) (seen_step c.args.step.now) (ap seen_step c.in-Unfold.is ∙ ap tree.Unfold (sym c.deref.ensures.value)) c.by_unfolding.result c.by_unfolding.ensures.answer;
+  answer = step-as c.args.names.now c.args.theory.now c.args.goal.now.thm _ (seen_step c.args.step.now) (ap seen_step c.in-Unfold.is) c.by_unfolding.result c.by_unfolding.ensures.answer;
   may = c.by_unfolding.ensures.may;
 }
 
