@@ -63,7 +63,8 @@ fn fault_of(found: FaultAt) -> ElabFault
 
 /// Refuses a term with a fault of names.
 fn check_names<L: Language>(alloc: Global, language: &L, raw: &Raw) -> Result<(), ElabFault>
-    ensures { IfErr result (λ f. IsNameRefusal (term_faults (L.vocabulary language.now) [] raw.now) f) }
+    ensures ok { OnOk result (term_faults (L.vocabulary language.now) [] raw.now ≡ []) }
+    ensures fault { IfErr result (λ f. IsNameRefusal (term_faults (L.vocabulary language.now) [] raw.now) f) }
 {
     let typ = prop(alloc);
     let scope = Scope::Empty;
