@@ -15,7 +15,7 @@ fn domains(tables: &Tables, place: usize) -> &[Sort]
     requires { place < length tables.now.arities }
     ensures { result.now ≡ domains_at tables.now place }
 {
-    let entry = &tables.arities()[place];
+    let entry = tables.arities().get(place);
     entry.sorts()
 }
 

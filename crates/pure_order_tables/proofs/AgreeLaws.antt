@@ -8,11 +8,7 @@ use Rattle.pure_text.proofs.ListLaws.{each_of, each_at, read_in, in-map}
 use Rattle.pure_definitions.specs.Types.Typ.{sort_eq}
 use Rattle.pure_definitions.specs.Types.Order.{Class}
 use Rattle.pure_order_tables.specs.declared.classes.ClassEntry.{ClassEntry}
-use Rattle.pure_order_tables.specs.ClassView.{class_of, shared_classes}
-use Rattle.pure_order_tables.specs.Shares.{values_of}
-use Rattle.std.specs.declared.alloc.Global.{Global}
-use Rattle.std.specs.declared.sync.Arc.{Arc}
-use Rattle.std.specs.Arc.{arc_value}
+use Rattle.pure_order_tables.specs.ClassView.{class_of, classes_of}
 use Rattle.pure_order_tables.specs.Classes.{Agree, IsSameIfNamed}
 
 pub named_alike : (m n : ℕ) (b : Bool) → b ≡ not (nat_eq m n) → b ≡ false → m ≡ n
@@ -31,8 +27,8 @@ same_if_named c k b named test = (λ t e. same c k e (decides.0 t), λ h. decide
     same : (c k : Class) → c.name ≡ k.name → c.above ≡ k.above → c ≡ k
     same c k e f = λ i. record { name = e i; above = f i }
 
-pub class_in : (es : List (Arc ClassEntry Global)) (i : ℕ) (a : Arc ClassEntry Global) (e : ClassEntry) → i < length es → a ≡ get_or es i a → e ≡ arc_value a → IsIn (class_of e) (shared_classes es)
-class_in es i a e within read is = rw is (in-map class_of (arc_value a) (values_of es) (in-map arc_value a es (read_in es i a within read)))
+pub class_in : (es : List ClassEntry) (i : ℕ) (e : ClassEntry) → i < length es → e ≡ get_or es i e → IsIn (class_of e) (classes_of es)
+class_in es i e within read = in-map class_of e es (read_in es i e within read)
 
 pub agree_each : (cs ks : List Class) → Each (λ c. Each (IsSameIfNamed c) ks) cs ↔ Agree cs ks
 agree_each cs ks = (

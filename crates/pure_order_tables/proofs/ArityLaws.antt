@@ -9,7 +9,7 @@ use Rattle.pure_definitions.proofs.OrderLaws.{below-more, domains_same, domains-
 use Rattle.pure_order_tables.specs.Classes.{IsDeclared, Follows}
 use Rattle.pure_order_tables.specs.Arities.{IsArityBelow, IsGreatest, IsGreatestIfAny, IsKnown, with_class, with_arity}
 use Rattle.pure_order_tables.specs.Checks.{IsCovered, IsDecided}
-use Rattle.pure_order_tables.specs.ArityTable.{IsPlace, ArePlaces}
+use Rattle.pure_order_tables.specs.ArityTable.{IsPlace}
 use Rattle.pure_order_tables.proofs.BelowLaws.{below-one_more}
 
 -- with one more arity
@@ -96,7 +96,7 @@ kept_apart A a k d (Some i) not p = kept_place A a k d i (λ g. not g.is) p
 
 -- with one more class
 
-declared_in : (A : Algebra) (a : Arity) → Each (IsKnown A.classes) A.arities → IsIn a A.arities → IsKnown A.classes a
+pub declared_in : (A : Algebra) (a : Arity) → Each (IsKnown A.classes) A.arities → IsIn a A.arities → IsKnown A.classes a
 declared_in A a known m = each_at (IsKnown A.classes) A.arities known a m
 
 not_the_new : (cs : List Class) (k : Class) (c : ℕ) → ¬ IsDeclared cs k.name → IsDeclared cs c → ¬ (c ≡ k.name)
@@ -119,30 +119,23 @@ arity_before A l f fresh known k d q h = record { declared = h.declared; con = h
 arity_after : (A : Algebra) (l : Class) (k d : ℕ) (q : Arity) → IsArityBelow A k d q → IsArityBelow (with_class A l) k d q
 arity_after A l k d q h = record { declared = h.declared; con = h.con; below = below-more A (with_class A l) (has_more A l) h.below }
 
-pub places_after : (A : Algebra) (l : Class) → Follows [] A.classes → ¬ IsDeclared A.classes l.name → Each (IsKnown A.classes) A.arities → (k : ℕ) (place : ℕ → Option ℕ) → ArePlaces A k place → ArePlaces (with_class A l) k place
-places_after A l f fresh known k place p d = by (place d) (p d)
-  where
-    by : (o : Option ℕ) → MatchOption o ((q : Arity) → ¬ IsArityBelow A k d q) (IsPlace A k d) → MatchOption o ((q : Arity) → ¬ IsArityBelow (with_class A l) k d q) (IsPlace (with_class A l) k d)
-    by None p = λ q h. p q (arity_before A l f fresh known k d q h)
-    by (Some i) p = record {
-      within = p.within;
-      greatest = λ e. record {
-        is = arity_after A l k d (get_or A.arities i e) (p.greatest e).is;
-        above = λ b g. (let old = arity_before A l f fresh known k d b g.is in
-            let greatest : IsGreatest A k d b = record { is = old; above = λ c m. domains_before A l f fresh c b (declared_in A c known m.declared) (g.above c (arity_after A l k d c m)) } in
-            domains-more A (with_class A l) (has_more A l) b (get_or A.arities i e) ((p.greatest e).above b greatest));
-      };
-    }
+pub place_after : (A : Algebra) (l : Class) → Follows [] A.classes → ¬ IsDeclared A.classes l.name → Each (IsKnown A.classes) A.arities → (k d : ℕ) (o : Option ℕ) → MatchOption o ((q : Arity) → ¬ IsArityBelow A k d q) (IsPlace A k d) → MatchOption o ((q : Arity) → ¬ IsArityBelow (with_class A l) k d q) (IsPlace (with_class A l) k d)
+place_after A l f fresh known k d None p = λ q h. p q (arity_before A l f fresh known k d q h)
+place_after A l f fresh known k d (Some i) p = record {
+  within = p.within;
+  greatest = λ e. record {
+    is = arity_after A l k d (get_or A.arities i e) (p.greatest e).is;
+    above = λ b g. (let old = arity_before A l f fresh known k d b g.is in
+        let greatest : IsGreatest A k d b = record { is = old; above = λ c m. domains_before A l f fresh c b (declared_in A c known m.declared) (g.above c (arity_after A l k d c m)) } in
+        domains-more A (with_class A l) (has_more A l) b (get_or A.arities i e) ((p.greatest e).above b greatest));
+  };
+}
 
 pub known_after : (A : Algebra) (l : Class) → Each (IsKnown A.classes) A.arities → Each (IsKnown (with_class A l).classes) A.arities
 known_after A l known = each_of (IsKnown (with_class A l).classes) A.arities (λ a m. (let old = declared_in A a known m in record {
   domains = each_of (Each (IsDeclared (with_class A l).classes)) a.domains (λ s n. each_of (IsDeclared (with_class A l).classes) s (λ c o. any-append_left (λ x. x.name ≡ c) A.classes (l ∷ []) (each_at (IsDeclared A.classes) s (each_at (Each (IsDeclared A.classes)) a.domains old.domains s n) c o)));
   class = any-append_left (λ x. x.name ≡ a.class) A.classes (l ∷ []) old.class;
 }))
-
--- While the classes above the new arity's are gone through: the place at d is right with the new arity, or d is still to come and the place is right without it.
-abbrev pub IsDone : Algebra → Arity → ℕ → Type 0 → Option ℕ → Type 0
-IsDone A a d passed o = MatchOption o ((q : Arity) → ¬ IsArityBelow (with_arity A a) a.con d q) (IsPlace (with_arity A a) a.con d) ⊎ ((¬ passed) × MatchOption o ((q : Arity) → ¬ IsArityBelow A a.con d q) (IsPlace A a.con d))
 
 -- Where the order of classes is decided, so is that of domains.
 

@@ -1,25 +1,22 @@
 -- A table of classes with one more class.
-use Rattle.std.proofs.Common.{◌≡◌, ℕ, ◌+◌, ◌-◌, ◌<◌, ◌≤◌, ◌/◌, zero, suc, List, [], ◌∷◌, ◌++◌, length, get_or, refl, sym, ap, inl, inr, ◌⊎◌, ◌↔◌, Option, Some, None, MatchOption, ◌∙◌, arith, length-append}
+use Rattle.std.proofs.Common.{◌≡◌, ℕ, ◌+◌, ◌<◌, ◌≤◌, ◌/◌, ◌%◌, zero, suc, List, [], ◌∷◌, ◌++◌, length, get_or, refl, sym, ap, subst, inl, inr, ◌⊎◌, ◌↔◌, Option, Some, None, MatchOption, ◌∙◌, arith, length-append}
 use Rattle.std.proofs.Math.ListN.{get_or-append}
 use Rattle.std.proofs.Math.Seq.{get_or-append_seam}
 use Rattle.std.proofs.lemmas.List.{length-map}
-use Rattle.std.specs.declared.sync.Arc.{Arc}
-use Rattle.std.specs.Arc.{arc_value}
 use Rattle.std.specs.List.Sorted.{IsStrictlyIncreasing}
-use Rattle.std.specs.BTreeMap.{BTreeMap, get, Updates}
-use Rattle.std.specs.declared.alloc.Global.{Global}
+use Rattle.std.specs.FinMap.{FinMap, empty, get, get-empty, insert}
 use Rattle.std.specs.Ordering.{nat_cmp}
 use Rattle.pure_text.specs.Lists.{IsIn, Each, AnyOf}
 use Rattle.pure_definitions.specs.Types.Order.{Class, IsClassBelow, itself, along}
 use Rattle.pure_text.proofs.ListLaws.{any_of, any_imply, each_imply, in-append_left, in-append_right, in_split, in_or_not, any_split, any_some, each_of, each_at, each-append, any-append_left, any-append_right}
 use Rattle.std.proofs.lemmas.List.{map-append}
 use Rattle.pure_order_tables.specs.declared.classes.ClassEntry.{ClassEntry}
-use Rattle.pure_order_tables.specs.ClassView.{class_of, classes_of, shared_classes}
-use Rattle.pure_order_tables.specs.Shares.{values_of}
+use Rattle.pure_order_tables.specs.ClassView.{class_of, classes_of}
 use Rattle.pure_order_tables.specs.Rows.{Holds}
 use Rattle.pure_order_tables.specs.Classes.{IsDeclared, Follows, of_classes}
-use Rattle.pure_order_tables.specs.ClassTable.{AreAllAbove, HasNumbers, IsClassTable, IsEntry, IsNewRow, IsNumber, IsRow, NamedBefore, name_at, no_class}
+use Rattle.pure_order_tables.specs.ClassTable.{AreAllAbove, HasNumbers, IsClassTable, IsEntry, IsNewEntry, IsNewRow, IsNumber, IsOtherNamed, IsRow, NamedBefore, name_at, no_class}
 use Rattle.std.proofs.lemmas.Bool.Decides.{eqb_tells}
+use Rattle.std.specs.Int.{bit_at}
 use Rattle.pure_order_tables.specs.Checks.{IsDecided}
 use Rattle.pure_order_tables.proofs.MapLaws.{get_after}
 use Rattle.pure_definitions.proofs.OrderLaws.{below-trans, below-more, below_same}
@@ -170,17 +167,17 @@ number_kept : (cs : List Class) (k : Class) (c : ℕ) → ¬ (c ≡ k.name) → 
 number_kept cs k c other None m = still_undeclared cs k c other m
 number_kept cs k c other (Some n) m = record { within = omega (arith, length-append cs (k ∷ []), m.within); named = name_kept cs (k ∷ []) n m.within ∙ m.named }
 
-long_classes : (es : List ClassEntry) → length (classes_of es) ≡ length es
+pub long_classes : (es : List ClassEntry) → length (classes_of es) ≡ length es
 long_classes es = length-map es class_of
 
-pub table-one_more : (es : List ClassEntry) (e : ClassEntry) (old new : BTreeMap ℕ ℕ) → IsClassTable es old → ¬ IsDeclared (classes_of es) e.name → Each (IsDeclared (classes_of es)) e.above.items → IsNewRow (classes_of es) e.above.items e.row.items → IsStrictlyIncreasing e.up.items
-    → ((x : ℕ) → IsIn x e.up.items ↔ ((x ≡ e.name) ⊎ NamedBefore (classes_of es) e.row.items x (length (classes_of es)))) → Updates nat_cmp old new e.name (Some (length es)) → IsClassTable (es ++ e ∷ []) new
-table-one_more es e old new t fresh known row up has updates = record {
+table-one_more : (es : List ClassEntry) (e : ClassEntry) (old : FinMap nat_cmp ℕ) → IsClassTable es old → ¬ IsDeclared (classes_of es) e.name → Each (IsDeclared (classes_of es)) e.above.items → IsNewRow (classes_of es) e.above.items e.row.items → IsStrictlyIncreasing e.up.items
+    → ((x : ℕ) → IsIn x e.up.items ↔ ((x ≡ e.name) ⊎ NamedBefore (classes_of es) e.row.items x (length (classes_of es)))) → IsClassTable (es ++ e ∷ []) (insert old e.name (length (classes_of es)))
+table-one_more es e old t fresh known row up has = record {
   ordered = rw longer (follows-one_more [] cs k t.ordered fresh known);
   entries = rw longer (each-append (IsEntry (cs ++ k ∷ [])) es (e ∷ []) (each_of (IsEntry (cs ++ k ∷ [])) es (λ x m. entry_kept cs k t.ordered fresh x (each_at (IsEntry cs) es t.entries x m))) (new_entry, tt));
-  numbered = λ c. rw longer (elim (get_after old new e.name (length es) updates c) [
-    | inl w ↦ rw w.1 (rw w.0 (record { within = omega (arith, length-append cs (k ∷ []), long_classes es); named = name_new cs k (length es) (sym (long_classes es)) }))
-    | inr w ↦ rw w.1 (number_kept cs k c w.0 (get nat_cmp old c) (t.numbered c))
+  numbered = λ c. rw longer (elim (get_after old e.name (length cs) c) [
+    | inl w ↦ rw w.1 (rw w.0 (record { within = omega (arith, length-append cs (k ∷ [])); named = name_new cs k (length cs) refl }))
+    | inr w ↦ rw w.1 (number_kept cs k c w.0 (get old c) (t.numbered c))
   ]);
 }
   where
@@ -199,33 +196,36 @@ table-one_more es e old new t fresh known row up has updates = record {
       row = new_row cs k t.ordered fresh known e.row.items row;
     }
 
--- the same of the pointers, ps code appends one
-pub entries-one_more : (ps ps' : List (Arc ClassEntry Global)) (a : Arc ClassEntry Global) (e : ClassEntry) (value : List Class) (count : ℕ) (old new : BTreeMap ℕ ℕ) → ps' ≡ ps ++ a ∷ [] → arc_value a ≡ e → shared_classes ps ≡ value → count ≡ length ps → IsClassTable (values_of ps) old → ¬ IsDeclared value e.name → Each (IsDeclared value) e.above.items
-    → IsNewRow value e.above.items e.row.items → IsStrictlyIncreasing e.up.items → ((x : ℕ) → IsIn x e.up.items ↔ ((x ≡ e.name) ⊎ NamedBefore value e.row.items x (length value))) → Updates nat_cmp old new e.name (Some count) → IsClassTable (values_of ps') new
-entries-one_more ps ps' a e value count old new longer is view counted t fresh known row up has updates =
-    let number : count ≡ length (values_of ps) = counted ∙ sym (length-map ps arc_value) in
-    rw (longer, map-append arc_value ps (a ∷ []), is) (table-one_more (values_of ps) e old new t (rw view fresh) (rw view known) (rw view row) up (rw view has) (rw number at updates))
+-- the same of the classes that the table is seen as
+pub table-one_new : (es : List ClassEntry) (e : ClassEntry) (k : Class) (value : List Class) (count : ℕ) (old : FinMap nat_cmp ℕ) → classes_of es ≡ value → count ≡ length value → IsClassTable es old → ¬ IsDeclared value k.name → Each (IsDeclared value) k.above → IsNewEntry value k e → IsClassTable (es ++ e ∷ []) (insert old k.name count)
+table-one_new es e k value count old view counted t fresh known new =
+    let back : k ≡ class_of e = sym new.class in
+    rw (back, counted, ← view) (table-one_more es e old t
+    (rw view (subst (λ (c : Class). ¬ IsDeclared value c.name) back fresh))
+    (rw view (subst (λ (c : Class). Each (IsDeclared value) c.above) back known))
+    (rw view (subst (λ (c : Class). IsNewRow value c.above e.row.items) back new.row)) new.ascend
+    (rw view (subst (λ (c : Class). (x : ℕ) → IsIn x e.up.items ↔ ((x ≡ c.name) ⊎ NamedBefore value e.row.items x (length value))) back new.up)))
 
--- the entry with a number
-pub entry_at : (P : ClassEntry → Type 0) (ps : List (Arc ClassEntry Global)) (n : ℕ) (a : Arc ClassEntry Global) (e : ClassEntry) → n < length ps → a ≡ get_or ps n a → e ≡ arc_value a → Each P (values_of ps) → P e
-entry_at P [] n a e within read is each = absurd (omega arith)
-entry_at P (x ∷ xs) zero a e within read is each = rw (is, read) each.0
-entry_at P (x ∷ xs) (suc n) a e within read is each = entry_at P xs n a e (omega arith) read is each.1
+pub empty_classes : (es : List ClassEntry) (numbers : FinMap nat_cmp ℕ) → es ≡ [] → numbers ≡ empty → IsClassTable es numbers
+empty_classes es numbers none no_numbers = rw (none, no_numbers) (record { ordered = tt; entries = tt; numbered = λ c. rw (get-empty {X = ℕ} nat_cmp c) (λ h. h) })
 
-pub long_shared : (ps : List (Arc ClassEntry Global)) → length (shared_classes ps) ≡ length ps
-long_shared ps = long_classes (values_of ps) ∙ length-map ps arc_value
+pub number_none : (es : List ClassEntry) (numbers : FinMap nat_cmp ℕ) (value : List Class) (c : ℕ) → classes_of es ≡ value → IsClassTable es numbers → get numbers c ≡ None → ¬ IsDeclared value c
+number_none es numbers value c view t none = rw (← view) (rw none at (t.numbered c))
 
-pub named_at : (ps : List (Arc ClassEntry Global)) (n : ℕ) (a : Arc ClassEntry Global) (e : ClassEntry) → n < length ps → a ≡ get_or ps n a → e ≡ arc_value a → IsNumber (shared_classes ps) e.name n
-named_at ps n a e within read is = record { within = omega (arith, long_shared ps); named = at ps n a e within read is }
+pub number_some : (es : List ClassEntry) (numbers : FinMap nat_cmp ℕ) (value : List Class) (c n : ℕ) → classes_of es ≡ value → IsClassTable es numbers → get numbers c ≡ Some n → IsNumber value c n
+number_some es numbers value c n view t some = rw (← view) (rw some at (t.numbered c))
+
+pub named_at : (es : List ClassEntry) (n : ℕ) (e : ClassEntry) → n < length es → e ≡ get_or es n e → IsNumber (classes_of es) e.name n
+named_at es n e within read = record { within = omega (arith, long_classes es); named = at es n e within read }
   where
-    at : (ps : List (Arc ClassEntry Global)) (n : ℕ) (a : Arc ClassEntry Global) (e : ClassEntry) → n < length ps → a ≡ get_or ps n a → e ≡ arc_value a → name_at (shared_classes ps) n ≡ e.name
-    at [] n a e within read is = absurd (omega arith)
-    at (x ∷ xs) zero a e within read is = rw (is, read) refl
-    at (x ∷ xs) (suc n) a e within read is = at xs n a e (omega arith) read is
+    at : (es : List ClassEntry) (n : ℕ) (e : ClassEntry) → n < length es → e ≡ get_or es n e → name_at (classes_of es) n ≡ e.name
+    at [] n e within read = absurd (omega arith)
+    at (x ∷ xs) zero e within read = rw read refl
+    at (x ∷ xs) (suc n) e within read = at xs n e (omega arith) read
 
 -- The order is decided by the names above a class.
-pub decided : (es : List ClassEntry) (numbers : BTreeMap ℕ ℕ) → IsClassTable es numbers → IsDecided (of_classes (classes_of es))
-decided es numbers t c d = by (get nat_cmp numbers c) (t.numbered c)
+pub decided : (es : List ClassEntry) (numbers : FinMap nat_cmp ℕ) → IsClassTable es numbers → IsDecided (of_classes (classes_of es))
+decided es numbers t c d = by (get numbers c) (t.numbered c)
   where
     named : (P : ClassEntry → Type 0) (es : List ClassEntry) (c n : ℕ) → Each P es → IsNumber (classes_of es) c n → (e : ClassEntry) × (e.name ≡ c) × P e
     named P [] c n each w = absurd (omega (arith, w.within))
@@ -260,28 +260,28 @@ pub number_each : (cs : List Class) (read words words' : List ℕ) (n : ℕ) →
 number_each cs read words words' n put before = each_imply (λ c. (m : ℕ) × IsNumber cs c m × Holds words m) (λ c. (m : ℕ) × IsNumber cs c m × Holds words' m) read (λ c w. (w.0, w.1, (put w.0).1 (inr w.2))) before
 
 -- The row of a new class so far: the numbers from an end on of the classes above it have been seen. It goes up with the order.
-pub record IsRowSoFar (cs : List Class) (above numbers row : List ℕ) (i : ℕ) : Type 0 where
+pub record IsRowSoFar (cs : List Class) (above numbers row : List ℕ) (end : ℕ) : Type 0 where
   pub count : length row ≡ length cs / 64 + 1
   pub last : Holds row (length cs)
   pub only : (n : ℕ) → Holds row n → (n ≡ length cs) ⊎ AnyOf (λ b. (n < length cs) × IsClassBelow (of_classes cs) b (name_at cs n)) above
   pub closed : (m n : ℕ) → Holds row m → m < length cs → n < length cs → IsClassBelow (of_classes cs) (name_at cs m) (name_at cs n) → Holds row n
-  pub seen : (m : ℕ) → Holds numbers m → length cs ≤ m + i → Holds row m
+  pub seen : (m : ℕ) → Holds numbers m → end ≤ m → Holds row m
 
-pub so_far_start : (cs : List Class) (above numbers empty row : List ℕ) → HasNumbers cs above numbers → length row ≡ length cs / 64 + 1 → ((n : ℕ) → ¬ Holds empty n) → ((n : ℕ) → Holds row n ↔ ((n ≡ length cs) ⊎ Holds empty n)) → IsRowSoFar cs above numbers row 0
-so_far_start cs above numbers empty row has count none put = record {
-  count = count;
-  last = (put (length cs)).1 (inl refl);
-  only = λ n h. elim ((put n).0 h) [ inl e ↦ inl e | inr o ↦ absurd (none n o) ];
+pub so_far_start : (cs : List Class) (above numbers empty row : List ℕ) (end : ℕ) → end ≡ length cs → HasNumbers cs above numbers → length row ≡ end / 64 + 1 → ((n : ℕ) → ¬ Holds empty n) → ((n : ℕ) → Holds row n ↔ ((n ≡ end) ⊎ Holds empty n)) → IsRowSoFar cs above numbers row end
+so_far_start cs above numbers empty row end is has count none put = record {
+  count = rw is at count;
+  last = rw (← is) ((put end).1 (inl refl));
+  only = λ n h. elim ((put n).0 h) [ inl e ↦ inl (e ∙ is) | inr o ↦ absurd (none n o) ];
   closed = λ m n h within. elim ((put m).0 h) [ inl e ↦ absurd (omega arith) | inr o ↦ absurd (none m o) ];
-  seen = λ m h end. (let w = has.only m h in absurd (omega (arith, w.0)));
+  seen = λ m h from. (let w = has.only m h in absurd (omega (arith, w.0, from, is)));
 }
 
-pub here_or_before : (last i m : ℕ) → i < last → last ≤ m + (i + 1) → m < last → (m ≡ last - 1 - i) ⊎ (last ≤ m + i)
-here_or_before last i m h end within = grind arith
+pub here_or_behind : (m n end : ℕ) → n + 1 ≡ end → n ≤ m → (m ≡ n) ⊎ (end ≤ m)
+here_or_behind m n end is from = grind arith
 
-pub so_far_put : (cs : List Class) (above numbers row other row' : List ℕ) (i number : ℕ) → HasNumbers cs above numbers → i < length cs → number ≡ length cs - 1 - i → Holds numbers number → IsRow cs (name_at cs number) other → ((n : ℕ) → Holds row' n ↔ (Holds row n ⊎ ((n / 64 < length row) × Holds other n))) → length row' ≡ length row
-    → IsRowSoFar cs above numbers row i → IsRowSoFar cs above numbers row' (i + 1)
-so_far_put cs above numbers row other row' i number has within is held theirs put long s = record {
+pub so_far_put : (cs : List Class) (above numbers row other row' : List ℕ) (end number : ℕ) → HasNumbers cs above numbers → number + 1 ≡ end → Holds numbers number → IsRow cs (name_at cs number) other → ((n : ℕ) → Holds row' n ↔ (Holds row n ⊎ ((n / 64 < length row) × Holds other n))) → length row' ≡ length row
+    → IsRowSoFar cs above numbers row end → IsRowSoFar cs above numbers row' number
+so_far_put cs above numbers row other row' end number has is held theirs put long s = record {
   count = long ∙ s.count;
   last = (put (length cs)).1 (inl s.last);
   only = λ n h. elim ((put n).0 h) [
@@ -292,29 +292,42 @@ so_far_put cs above numbers row other row' i number has within is held theirs pu
     | inl o ↦ (put n).1 (inl (s.closed m n o m_within n_within below))
     | inr w ↦ reach n n_within (below-trans ((theirs m).0 w.1).1 below)
   ];
-  seen = λ m h end. elim (here_or_before (length cs) i m within end (has.only m h).0) [
-    | inl e ↦ reach m (has.only m h).0 (rw (e ∙ sym is) itself)
-    | inr before ↦ (put m).1 (inl (s.seen m h before))
+  seen = λ m h from. elim (here_or_behind m number end is from) [
+    | inl e ↦ reach m (has.only m h).0 (rw e itself)
+    | inr behind ↦ (put m).1 (inl (s.seen m h behind))
   ];
 }
   where
     reach : (n : ℕ) → n < length cs → IsClassBelow (of_classes cs) (name_at cs number) (name_at cs n) → Holds row' n
     reach n n_within below = (put n).1 (inr (rw s.count (omega (arith, n_within)), (theirs n).1 (n_within, below)))
 
-pub so_far_kept : (cs : List Class) (above numbers row : List ℕ) (i number : ℕ) → HasNumbers cs above numbers → i < length cs → number ≡ length cs - 1 - i → (¬ Holds numbers number) ⊎ Holds row number → IsRowSoFar cs above numbers row i → IsRowSoFar cs above numbers row (i + 1)
-so_far_kept cs above numbers row i number has within is held s = record {
+pub so_far_kept : (cs : List Class) (above numbers row : List ℕ) (end number : ℕ) → number + 1 ≡ end → (¬ Holds numbers number) ⊎ Holds row number → IsRowSoFar cs above numbers row end → IsRowSoFar cs above numbers row number
+so_far_kept cs above numbers row end number is held s = record {
   count = s.count;
   last = s.last;
   only = s.only;
   closed = s.closed;
-  seen = λ m h end. elim (here_or_before (length cs) i m within end (has.only m h).0) [
-    | inl e ↦ elim held [ inl not ↦ absurd (not (rw (e ∙ sym is) at h)) | inr there ↦ rw (e ∙ sym is) there ]
-    | inr before ↦ s.seen m h before
+  seen = λ m h from. elim (here_or_behind m number end is from) [
+    | inl e ↦ elim held [ inl not ↦ absurd (not (rw e at h)) | inr there ↦ rw e there ]
+    | inr behind ↦ s.seen m h behind
   ];
 }
 
-pub so_far_all : (cs : List Class) (above numbers row : List ℕ) (i : ℕ) → HasNumbers cs above numbers → length cs ≤ i → IsRowSoFar cs above numbers row i → IsNewRow cs above row
-so_far_all cs above numbers row i has end s n = (
+pub below_or_from : (m n : ℕ) → (m < n) ⊎ (n ≤ m)
+below_or_from m n = grind arith
+
+-- Numbers that the row has already are passed.
+pub so_far_passed : (cs : List Class) (above numbers row : List ℕ) (number end : ℕ) → ((m : ℕ) → end ≤ m → m < number → Holds numbers m → Holds row m) → IsRowSoFar cs above numbers row number → IsRowSoFar cs above numbers row end
+so_far_passed cs above numbers row number end passed s = record {
+  count = s.count;
+  last = s.last;
+  only = s.only;
+  closed = s.closed;
+  seen = λ m h from. elim (below_or_from m number) [ inl below ↦ passed m from below h | inr behind ↦ s.seen m h behind ];
+}
+
+pub so_far_all : (cs : List Class) (above numbers row : List ℕ) (end : ℕ) → HasNumbers cs above numbers → end ≤ 0 → IsRowSoFar cs above numbers row end → IsNewRow cs above row
+so_far_all cs above numbers row end has over s n = (
   s.only n,
   λ w. elim w [
     | inl e ↦ rw e s.last
@@ -324,5 +337,83 @@ so_far_all cs above numbers row i has end s n = (
   ],
 )
 
-pub within_shared : (ps : List (Arc ClassEntry Global)) (value : List Class) (n : ℕ) → shared_classes ps ≡ value → n < length value → n < length ps
-within_shared ps value n view within = rw (← long_shared ps, view) within
+-- the classes by the row of a new class
+
+-- Where there is no lowest class, the row of a new class has no number but its own.
+pub none_named : (cs : List Class) (above numbers words : List ℕ) → ((n : ℕ) → n < length cs → ¬ Holds numbers n) → HasNumbers cs above numbers → IsNewRow cs above words → (x : ℕ) → ¬ NamedBefore cs words x (length cs)
+none_named cs above numbers words none has row x w = elim ((row w.0).0 w.2) [
+  | inl last ↦ omega (arith, last, w.1)
+  | inr some ↦ (let b = any_some (λ b. (w.0 < length cs) × IsClassBelow (of_classes cs) b (name_at cs w.0)) above some in
+      let m = each_at (λ c. (m : ℕ) × IsNumber cs c m × Holds numbers m) above has.each b.0 b.1 in
+      none m.0 m.1.within m.2)
+]
+
+holds_or_not : (words : List ℕ) (n : ℕ) → Holds words n ⊎ ¬ Holds words n
+holds_or_not words n = elim (eqb_tells (bit_at (get_or words (n / 64) 0) (n % 64)) 1) [ inl w ↦ inl (record { bit = w.1 }) | inr w ↦ inr (λ h. w.1 h.bit) ]
+
+-- The names above the lowest class, and those of the other numbers in the row.
+pub named_both : (cs : List Class) → Follows [] cs → (above numbers words : List ℕ) (low : ℕ) (e : ClassEntry) → Holds numbers low → IsNumber cs e.name low → IsEntry cs e → HasNumbers cs above numbers → IsNewRow cs above words → (names names' : List ℕ) → names ≡ e.up.items → ((x : ℕ) → IsIn x names' ↔ (IsIn x names ⊎ IsOtherNamed cs words e.row.items x 0))
+    → (x : ℕ) → IsIn x names' ↔ NamedBefore cs words x (length cs)
+named_both cs f above numbers words low e held is entry has row names names' same put x = (there, back)
+  where
+    in_row : (n : ℕ) → n < length cs → IsClassBelow (of_classes cs) e.name (name_at cs n) → Holds words n
+    in_row n within below = (row n).1 (inr (any_of (λ b. (n < length cs) × IsClassBelow (of_classes cs) b (name_at cs n)) e.name above (rw is.named at (has.only low held).1) (within, below)))
+
+    above_lowest : IsClassBelow (of_classes cs) e.name x → NamedBefore cs words x (length cs)
+    above_lowest below =
+        let n = number_of cs x (elim (reaches (of_classes cs) f below) [ inl same ↦ rw (← same) entry.up.declared | inr m ↦ m ]) in
+        (n.0, n.1.within, in_row n.0 n.1.within (rw n.1.named below), n.1.named)
+
+    there : IsIn x names' → NamedBefore cs words x (length cs)
+    there m = elim ((put x).0 m) [
+      | inl up ↦ above_lowest ((entry.up.are x).0 (rw same at up))
+      | inr w ↦ (w.number, w.is.within, w.held, w.is.named)
+    ]
+
+    back : NamedBefore cs words x (length cs) → IsIn x names'
+    back w = elim (holds_or_not e.row.items w.0) [
+      | inl seen ↦ (put x).1 (inl (rw same ((entry.up.are x).1 (rw w.3 at (((entry.row w.0).0 seen).1)))))
+      | inr new ↦ (put x).1 (inr (record { number = w.0; is = record { within = w.1; named = w.3 }; held = w.2; other = new; from = omega arith }))
+    ]
+
+-- one turn of the putting of names
+
+pub others_put : (cs : List Class) (row seen start names names' : List ℕ) (end number y : ℕ) → number + 1 ≡ end → number < length cs → y ≡ name_at cs number → Holds row number → ¬ Holds seen number → ((x : ℕ) → IsIn x names' ↔ ((x ≡ y) ⊎ IsIn x names)) → ((x : ℕ) → IsIn x names ↔ (IsIn x start ⊎ IsOtherNamed cs row seen x end))
+    → (x : ℕ) → IsIn x names' ↔ (IsIn x start ⊎ IsOtherNamed cs row seen x number)
+others_put cs row seen start names names' end number y is within named held new put before x = (
+  λ m. elim ((put x).0 m) [
+    | inl e ↦ inr (record { number = number; is = record { within = within; named = sym (e ∙ named) }; held = held; other = new; from = omega arith })
+    | inr o ↦ elim ((before x).0 o) [ inl s ↦ inl s | inr w ↦ inr (record { number = w.number; is = w.is; held = w.held; other = w.other; from = (let f = w.from in omega (arith, f, is)) }) ]
+  ],
+  λ w. elim w [
+    | inl s ↦ (put x).1 (inr ((before x).1 (inl s)))
+    | inr o ↦ elim (here_or_behind o.number number end is o.from) [
+      | inl e ↦ (put x).1 (inl (sym o.is.named ∙ ap (name_at cs) e ∙ sym named))
+      | inr behind ↦ (put x).1 (inr ((before x).1 (inr (record { number = o.number; is = o.is; held = o.held; other = o.other; from = behind }))))
+    ]
+  ],
+)
+
+pub others_kept : (cs : List Class) (row seen start names : List ℕ) (end number : ℕ) → number + 1 ≡ end → (¬ Holds row number) ⊎ Holds seen number → ((x : ℕ) → IsIn x names ↔ (IsIn x start ⊎ IsOtherNamed cs row seen x end)) → (x : ℕ) → IsIn x names ↔ (IsIn x start ⊎ IsOtherNamed cs row seen x number)
+others_kept cs row seen start names end number is held before x = (
+  λ m. elim ((before x).0 m) [ inl s ↦ inl s | inr w ↦ inr (record { number = w.number; is = w.is; held = w.held; other = w.other; from = (let f = w.from in omega (arith, f, is)) }) ],
+  λ w. elim w [
+    | inl s ↦ (before x).1 (inl s)
+    | inr o ↦ elim (here_or_behind o.number number end is o.from) [
+      | inl e ↦ elim held [ inl not ↦ absurd (not (rw e at o.held)) | inr seen ↦ absurd (o.other (rw e seen)) ]
+      | inr behind ↦ (before x).1 (inr (record { number = o.number; is = o.is; held = o.held; other = o.other; from = behind }))
+    ]
+  ],
+)
+
+pub others_passed : (cs : List Class) (row seen start names : List ℕ) (number end : ℕ) → end ≤ number → ((m : ℕ) → end ≤ m → m < number → Holds row m → Holds seen m) → ((x : ℕ) → IsIn x names ↔ (IsIn x start ⊎ IsOtherNamed cs row seen x number)) → (x : ℕ) → IsIn x names ↔ (IsIn x start ⊎ IsOtherNamed cs row seen x end)
+others_passed cs row seen start names number end below passed before x = (
+  λ m. elim ((before x).0 m) [ inl s ↦ inl s | inr w ↦ inr (record { number = w.number; is = w.is; held = w.held; other = w.other; from = (let f = w.from in omega (arith, f, below)) }) ],
+  λ w. elim w [
+    | inl s ↦ (before x).1 (inl s)
+    | inr o ↦ elim (below_or_from o.number number) [
+      | inl early ↦ absurd (o.other (passed o.number o.from early o.held))
+      | inr behind ↦ (before x).1 (inr (record { number = o.number; is = o.is; held = o.held; other = o.other; from = behind }))
+    ]
+  ],
+)

@@ -1,5 +1,5 @@
 -- Conflicts between the arities of two coregular algebras.
-use Rattle.std.proofs.Common.{◌≡◌, ◌↔◌, ◌⊎◌, ℕ, ◌<◌, ◌≤◌, ◌+◌, List, [], ◌∷◌, ◌++◌, min, max, length, get_or, take, refl, sym, ap, subst, inl, inr, ◌∙◌, arith, Option, Some, None, MatchOption}
+use Rattle.std.proofs.Common.{◌≡◌, ◌⊎◌, ℕ, ◌<◌, ◌≤◌, ◌+◌, List, [], ◌∷◌, ◌++◌, min, max, length, get_or, take, refl, sym, ap, subst, inl, inr, ◌∙◌, arith, Option, Some, None, MatchOption}
 use Rattle.pure_text.specs.Lists.{IsIn, Each, AnyOf}
 use Rattle.pure_text.proofs.ListLaws.{any_some, any-append_left, any-append_right, each-append, each_at, each_imply, in-append_left, in-append_right, in_split}
 use Rattle.pure_text.proofs.LoopLaws.{in_turn}
@@ -9,10 +9,10 @@ use Rattle.pure_order_tables.specs.declared.conflicts.Exposed.{Exposed}
 use Rattle.pure_order_tables.specs.Rows.{Holds}
 use Rattle.pure_order_tables.specs.Classes.{IsDeclared}
 use Rattle.pure_order_tables.specs.ClassTable.{name_at}
-use Rattle.pure_order_tables.specs.Arities.{IsArityBelow, IsKnown, IsUnion}
+use Rattle.pure_order_tables.specs.Arities.{IsKnown, IsUnion}
 use Rattle.pure_order_tables.specs.Others.{AreWithOthers}
 use Rattle.pure_order_tables.specs.Checks.{IsInConflict, IsLeastConflict, IsNotAfter}
-use Rattle.pure_order_tables.specs.Uncovered.{Extends, IsCoveredBy, IsUncovered}
+use Rattle.pure_order_tables.specs.Uncovered.{Extends, IsCoveredBy}
 use Rattle.pure_order_tables.specs.Exposed.{AreExposed, AreIn, AreSides, Clash, FindsClash, FindsConflict, HasBoth, IsExposed, IsLeastClash, names_in, with_arities}
 use Rattle.pure_order_tables.proofs.BelowLaws.{declared_at, reaches}
 use Rattle.pure_order_tables.proofs.ClassTableLaws.{number_of}

@@ -1,15 +1,16 @@
 -- The judgement of a new arity in a coregular algebra.
-use Rattle.std.proofs.Common.{◌≡◌, ◌↔◌, ℕ, ◌+◌, ◌<◌, ◌≤◌, List, [], ◌∷◌, ◌++◌, length, refl, sym, inl, inr, ◌⊎◌, ◌∙◌, arith, Option, Some, None, MatchOption}
+use Rattle.std.proofs.Common.{◌≡◌, ℕ, ◌+◌, ◌<◌, ◌≤◌, List, [], ◌∷◌, ◌++◌, length, refl, sym, inl, inr, ◌⊎◌, arith, Option, Some, None, MatchOption, Bool, IsTrue}
 use Rattle.pure_text.specs.Lists.{IsIn, Each}
-use Rattle.pure_text.proofs.ListLaws.{in-append_left, in-append_right, in_split, any_some, each_at, each-append}
-use Rattle.pure_definitions.specs.Types.Order.{Arity, Algebra, IsClassBelow, AreDomainsBelow, IsJoin, AreCompatible, IsCoregular}
-use Rattle.pure_definitions.proofs.OrderLaws.{below-trans, domains_same, domains-trans}
+use Rattle.pure_text.proofs.ListLaws.{in-append_left, in-append_right, in_split, any_some, each_at, each_of}
+use Rattle.pure_definitions.specs.Types.Order.{Arity, Algebra, IsClassBelow, AreDomainsBelow, IsJoin, AreCompatible, IsCoregular, itself}
+use Rattle.pure_definitions.proofs.OrderLaws.{below-trans, below_same, domains_same, domains-trans}
 use Rattle.pure_order_tables.specs.Rows.{Holds}
 use Rattle.pure_order_tables.specs.Classes.{Follows, IsDeclared}
 use Rattle.pure_order_tables.specs.ClassTable.{IsNumber, name_at}
-use Rattle.pure_order_tables.specs.Arities.{IsArityBelow, IsGreatestIfAny, IsAboveGreatest, IsNotAbove, with_arity}
+use Rattle.pure_order_tables.specs.Arities.{IsArityBelow, IsGreatestIfAny, IsAboveGreatest, IsKnown, IsNotAbove, with_arity}
 use Rattle.pure_order_tables.specs.Checks.{AreAllBelow, AreGreater, FailsAt, FindsAt, IsCovered, IsDecided, IsLeastInConflict, PassesAt}
-use Rattle.pure_order_tables.specs.Uncovered.{AreElsewhere, Clears, Extends, IsBelowRow, IsCoveredBy, IsUncovered}
+use Rattle.pure_order_tables.specs.ArityTable.{IsPlace}
+use Rattle.pure_order_tables.specs.Uncovered.{AreElsewhere, Clears, Extends, IsCoveredBy, IsUncovered}
 use Rattle.pure_order_tables.proofs.ArityLaws.{same_order, same_order_back, same_domains, same_domains_back, two_decided}
 use Rattle.pure_order_tables.proofs.BelowLaws.{declared_at, reaches}
 use Rattle.pure_order_tables.proofs.ClassTableLaws.{last_or_before, number_of}
@@ -69,6 +70,29 @@ greater_all A f decided candidates a N row ds i known u end other s = record {
         | inr covered ↦ (let w : IsCoveredBy A A a d = rw n.1.named at covered in inr (inl (covered_any A decided a d (candidates a.con d w.0 w.1) w)))
       ]);
 }
+
+-- The constructor has no arity for classes below those in the row before an end.
+abbrev pub IsBareBefore : Algebra → ℕ → List ℕ → ℕ → Type 0
+IsBareBefore A k row end = (n : ℕ) → n < end → Holds row n → (q : Arity) → ¬ IsArityBelow A k (name_at A.classes n) q
+
+pub bare_put : (A : Algebra) (k : ℕ) (row : List ℕ) (i r : ℕ) (place : Option ℕ) (b b' : Bool) → r ≡ name_at A.classes i → MatchOption place ((q : Arity) → ¬ IsArityBelow A k r q) (IsPlace A k r) → (IsTrue b' → IsTrue b × (place ≡ None)) → (IsTrue b → IsBareBefore A k row i) → IsTrue b' → IsBareBefore A k row (i + 1)
+bare_put A k row i r place b b' is at next before t n within h = elim (last_or_before n i within) [
+  | inl early ↦ before (next t).0 n early h
+  | inr e ↦ rw (e, ← is) (rw (next t).1 at at)
+]
+
+pub bare_passed : (A : Algebra) (k : ℕ) (row : List ℕ) (i : ℕ) → ¬ Holds row i → IsBareBefore A k row i → IsBareBefore A k row (i + 1)
+bare_passed A k row i not before n within h = elim (last_or_before n i within) [ inl early ↦ before n early h | inr e ↦ absurd (not (rw e at h)) ]
+
+-- So its arities are elsewhere.
+pub elsewhere : (A : Algebra) (k : ℕ) (row : List ℕ) → Each (IsKnown A.classes) A.arities → IsBareBefore A k row (length A.classes) → AreElsewhere A k row A.arities
+elsewhere A k row known none = each_of (λ b. b.con ≡ k → (n : ℕ) × IsNumber A.classes b.class n × ¬ Holds row n) A.arities (λ b m con.
+    let n = number_of A.classes b.class (each_at (IsKnown A.classes) A.arities known b m).class in
+    (n.0, n.1, λ h. none n.0 n.1.within h b (record { declared = m; con = con; below = below_same A b.class (name_at A.classes n.0) (sym n.1.named) })))
+
+-- Beside no arity of its constructor a new arity keeps the algebra coregular.
+pub bare_coregular : (A : Algebra) → IsCoregular A → (a : Arity) → ((d : ℕ) (q : Arity) → ¬ IsArityBelow A a.con d q) → IsCoregular (with_arity A a)
+bare_coregular A r a none = coregular_with A r a (λ b m con. absurd (none b.class b (record { declared = m; con = con; below = itself })))
 
 -- In a coregular algebra all are below what is above the greatest.
 pub all_below : (A : Algebra) → IsDecided A → IsCoregular A → (a : Arity) (d : ℕ) → IsAboveGreatest A a.con d a.domains → AreAllBelow A a d

@@ -4,9 +4,9 @@ use Rattle.std.specs.Prelude.{slice_get}
 use Rattle.std.specs.Global.{Vec}
 use Rattle.std.specs.declared.alloc.Global.{Global}
 use Rattle.std.specs.declared.sync.Arc.{Arc}
-use Rattle.pure_text.specs.Lists.{IsIn, Each, AnyOf}
-use Rattle.pure_text.proofs.ListLaws.{any_some, any_of, any_imply, any-append_left, in-append_left, each_of, each_at, each_imply, each-append, each-left, each-right}
-use Rattle.pure_text.proofs.LoopLaws.{any_turn, each_turn, longer_by}
+use Rattle.pure_text.specs.Lists.{Each, AnyOf}
+use Rattle.pure_text.proofs.ListLaws.{any_some, any_of, any_imply, any-append_left, in-append_left, each_of, each_at, each_imply}
+use Rattle.pure_text.proofs.LoopLaws.{any_turn, each_turn}
 use Rattle.pure_definitions.specs.Types.Order.{Class, Algebra, IsClassBelow, HasClassBelow, IsSortBelow}
 use Rattle.pure_definitions.proofs.OrderLaws.{below-trans, below-more, below_same}
 use Rattle.pure_order_tables.specs.Rows.{Holds}
@@ -15,7 +15,7 @@ use Rattle.pure_order_tables.specs.ClassTable.{IsNumber, name_at}
 use Rattle.pure_order_tables.specs.Sorts.{AreUpWords}
 use Rattle.pure_order_tables.specs.Uncovered.{IsUpRow}
 use Rattle.pure_order_tables.specs.declared.tables.ArityEntry.{ArityEntry}
-use Rattle.pure_order_tables.specs.ArityView.{arity_of, arities_of}
+use Rattle.pure_order_tables.specs.ArityView.{arity_of}
 use Rattle.pure_order_tables.specs.Kept.{AreKeptRows, IsKeptEntry, IsKeptRow, IsSortRow, words_in, words_of}
 use Rattle.pure_order_tables.proofs.BelowLaws.{below-classes, below-one_more, declared_at, reaches}
 use Rattle.pure_order_tables.proofs.ClassTableLaws.{declared_at_number, declared_by, inside, name_kept, name_new, number_of}
@@ -174,12 +174,6 @@ kept_entry cs e g ss rows same are read kept = record {
   at = λ i. let P : List (List ℕ) → Type 0 = λ xs. IsKeptRow cs (get_or xs i []) (words_in g.rows i) in
       subst P (read ∙ ap (λ a. a.domains) (sym same)) (rw are (kept.at i));
 }
-
-pub kept_turn_copy : (cs : List Class) (xs ys ys' : List ArityEntry) (i : ℕ) (e g : ArityEntry) → i < length xs → e ≡ get_or xs i e → ys' ≡ ys ++ g ∷ [] → arity_of g ≡ arity_of e → ((i : ℕ) → words_in g.rows i ≡ words_in e.rows i) → (Each (IsKeptEntry cs) (take i xs) → Each (IsKeptEntry cs) ys)
-    → Each (IsKeptEntry cs) (take (i + 1) xs) → Each (IsKeptEntry cs) ys'
-kept_turn_copy cs xs ys ys' i e g within read longer same rows before all =
-    let split = rw (longer_by xs i e within read) at all in
-    rw longer (each-append (IsKeptEntry cs) ys (g ∷ []) (before (each-left (IsKeptEntry cs) (take i xs) (e ∷ []) split)) (kept_copy cs e g same rows (each-right (IsKeptEntry cs) (take i xs) (e ∷ []) split).0, tt))
 
 -- rows one after the other
 

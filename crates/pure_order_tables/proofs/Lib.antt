@@ -1,10 +1,8 @@
-pub mod ShareLaws
 pub mod RowLaws
 pub mod OtherLaws
 pub mod MapLaws
 pub mod BelowLaws
 pub mod ClassTableLaws
-pub mod HeldLaws
 pub mod ArityLaws
 pub mod ArityTableLaws
 pub mod CoregularLaws

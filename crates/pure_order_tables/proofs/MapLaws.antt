@@ -1,19 +1,25 @@
--- What a map has after an entry is put in.
-use Rattle.std.proofs.Common.{◌≡◌, ℕ, refl, sym, inl, inr, ◌⊎◌, ◌<◌, Some, false}
-use Rattle.std.specs.BTreeMap.{BTreeMap, get, Updates}
-use Rattle.std.specs.Ordering.{nat_cmp, MatchOrdering, is_eq}
-use Rattle.std.specs.declared.cmp.Ordering.{Ordering}
-use Rattle.std.specs.declared.cmp.Ordering.TheVariants.{Less, Equal, Greater}
-use Rattle.std.proofs.lemmas.Cmp.{ranked}
+-- What a map has after entries are put in.
+use Rattle.std.proofs.Common.{◌≡◌, ℕ, List, [], ◌∷◌, map, refl, sym, inl, inr, ◌⊎◌, ◌∙◌, Some}
+use Rattle.std.specs.FinMap.{FinMap, get, insert}
+use Rattle.std.specs.Ordering.{nat_cmp}
 use Rattle.std.proofs.lemmas.Bool.Decides.{eqb_tells}
+use Rattle.pure_text.specs.Lists.{IsIn}
+use Rattle.pure_shelf.specs.View.{puts}
+use Rattle.pure_shelf.proofs.GrownLaws.{insert_same, insert_other}
 
-pub not_equal : (k q : ℕ) → ¬ (q ≡ k) → (r : Ordering) → MatchOrdering r (k < q) (k ≡ q) (q < k) → is_eq r ≡ false
-not_equal k q apart Less h = refl
-not_equal k q apart Equal h = absurd (apart (sym h))
-not_equal k q apart Greater h = refl
+pub get_after : {V : Type 0} (m : FinMap nat_cmp V) (k : ℕ) (v : V) (q : ℕ) → ((q ≡ k) × (get (insert m k v) q ≡ Some v)) ⊎ ((¬ (q ≡ k)) × (get (insert m k v) q ≡ get m q))
+get_after m k v q = elim (eqb_tells q k) [
+  | inl w ↦ inl (w.1, insert_same m k q v (sym w.1))
+  | inr w ↦ inr (w.1, insert_other m k q v (λ e. w.1 (sym e)))
+]
 
-pub get_after : {V : Type 0} (m n : BTreeMap ℕ V) (k : ℕ) (v : V) → Updates nat_cmp m n k (Some v) → (q : ℕ) → ((q ≡ k) × (get nat_cmp n q ≡ Some v)) ⊎ ((¬ (q ≡ k)) × (get nat_cmp n q ≡ get nat_cmp m q))
-get_after m n k v u q = elim (eqb_tells q k) [
-  | inl w ↦ inl (w.1, rw w.1 u.1)
-  | inr w ↦ inr (w.1, u.2 q (not_equal k q w.1 (nat_cmp k q) (ranked k q (nat_cmp k q) refl)))
+-- One value was put in at each of these keys.
+pub get_placed : (m : FinMap nat_cmp ℕ) (p : ℕ) (ds : List ℕ) (q : ℕ) → (IsIn q ds × (get (puts m (map (λ (d : ℕ). (d, p)) ds)) q ≡ Some p)) ⊎ ((¬ IsIn q ds) × (get (puts m (map (λ (d : ℕ). (d, p)) ds)) q ≡ get m q))
+get_placed m p [] q = inr (λ n. n, refl)
+get_placed m p (d ∷ ds) q = elim (get_placed (insert m d p) p ds q) [
+  | inl w ↦ inl (inr w.0, w.1)
+  | inr w ↦ elim (get_after m d p q) [
+    | inl here ↦ inl (inl here.0, w.1 ∙ here.1)
+    | inr other ↦ inr (λ n. elim n [ inl e ↦ other.0 e | inr t ↦ w.0 t ], w.1 ∙ other.1)
+  ]
 ]

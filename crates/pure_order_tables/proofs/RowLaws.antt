@@ -170,20 +170,26 @@ word_within first second i fits all = same_from_bits (bit_and (get_or first i 0)
     bits zero y z p e forth = omega (arith, e)
     bits (suc x) y z p e forth = let one : suc x ≡ 1 = omega (arith, p) in let other = forth one in omega (arith, e, one, other)
 
+word_has : (a b j : ℕ) → bit_and a b ≡ a → bit_at a j ≡ 1 → bit_at b j ≡ 1
+word_has a b j same one =
+    let m : bit_at (bit_and a b) j ≡ min (bit_at a j) (bit_at b j) = bit_at_and a b j in
+    let k : bit_at (bit_and a b) j ≡ bit_at a j = ap (λ w. bit_at w j) same in
+    omega (arith, m, k, one, bit_at-lt b j)
+
+-- Below a number whose word the other row's word has, its numbers are in the other row.
+pub word_passed : (first second : List ℕ) (number : ℕ) → bit_and (get_or first (number / 64) 0) (get_or second (number / 64) 0) ≡ get_or first (number / 64) 0 → (place : ℕ) → number / 64 * 64 ≤ place → place < number → Holds first place → Holds second place
+word_passed first second number same place from before h =
+    let here : place / 64 ≡ number / 64 = omega (arith, from, before) in
+    record { bit = rw here (word_has (get_or first (number / 64) 0) (get_or second (number / 64) 0) (place % 64) same (rw here at h.bit)) }
+
 pub within_turn : (first second : List ℕ) (i : ℕ) → bit_and (get_or first i 0) (get_or second i 0) ≡ get_or first i 0 → ((place : ℕ) → place / 64 < i → Holds first place → Holds second place) → (place : ℕ) → place / 64 < i + 1 → Holds first place → Holds second place
 within_turn first second i same before place inside h = elim (here_or_there (place / 64) i inside) [
   | inl early ↦ before place early h
-  | inr here ↦ record { bit = rw here (both (place % 64) (rw here at h.bit)) }
+  | inr here ↦ record { bit = rw here (word_has (get_or first i 0) (get_or second i 0) (place % 64) same (rw here at h.bit)) }
 ]
   where
     here_or_there : (m n : ℕ) → m < n + 1 → (m < n) ⊎ (m ≡ n)
     here_or_there m n h = grind arith
-
-    both : (j : ℕ) → bit_at (get_or first i 0) j ≡ 1 → bit_at (get_or second i 0) j ≡ 1
-    both j one =
-        let m : bit_at (bit_and (get_or first i 0) (get_or second i 0)) j ≡ min (bit_at (get_or first i 0) j) (bit_at (get_or second i 0) j) = bit_at_and (get_or first i 0) (get_or second i 0) j in
-        let k : bit_at (bit_and (get_or first i 0) (get_or second i 0)) j ≡ bit_at (get_or first i 0) j = ap (λ w. bit_at w j) same in
-        omega (arith, m, k, one, bit_at-lt (get_or second i 0) j)
 
 pub within_all : (first second : List ℕ) (i : ℕ) → length first ≤ i → ((place : ℕ) → place / 64 < i → Holds first place → Holds second place) → (place : ℕ) → Holds first place → Holds second place
 within_all first second i end before place h = before place (let w = held_within first place h in omega (arith, w, end)) h

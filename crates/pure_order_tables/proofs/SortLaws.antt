@@ -1,6 +1,5 @@
 -- The order of sorts by a row of bits.
-use Rattle.std.proofs.Common.{◌≡◌, ◌↔◌, ◌⊎◌, ℕ, ◌+◌, ◌<◌, ◌≤◌, List, [], length, get_or, take, refl, sym, inl, inr, ◌∙◌, arith, Option, Some, None, MatchOption, Bool, IsTrue}
-use Rattle.std.proofs.lemmas.Bool.Decides.{eqb_tells}
+use Rattle.std.proofs.Common.{◌≡◌, ◌↔◌, ◌⊎◌, ℕ, ◌+◌, ◌<◌, ◌≤◌, List, [], length, get_or, take, refl, inl, inr, arith, Bool, IsTrue}
 use Rattle.pure_text.specs.Lists.{IsIn, AnyOf}
 use Rattle.pure_text.proofs.ListLaws.{any_some, any_of, any_imply}
 use Rattle.pure_text.proofs.LoopLaws.{any_turn}
@@ -10,7 +9,7 @@ use Rattle.pure_order_tables.specs.Classes.{Follows, IsDeclared}
 use Rattle.pure_order_tables.specs.ClassTable.{IsNumber, name_at}
 use Rattle.pure_order_tables.specs.Sorts.{AreUpWords}
 use Rattle.pure_order_tables.specs.Uncovered.{IsUpRow}
-use Rattle.pure_order_tables.proofs.BelowLaws.{below-undeclared, declared, declared_at, reaches}
+use Rattle.pure_order_tables.proofs.BelowLaws.{declared, declared_at, reaches}
 use Rattle.pure_order_tables.proofs.ClassTableLaws.{declared_by}
 
 pub words_start : (A : Algebra) (s words : List ℕ) → ((n : ℕ) → ¬ Holds words n) → AreUpWords A (take 0 s) words

@@ -1,8 +1,8 @@
 -- The classes at which no arity covers an arity.
-use Rattle.std.proofs.Common.{◌≡◌, subst, ◌↔◌, ◌⊎◌, ℕ, ◌+◌, ◌-◌, ◌<◌, ◌≤◌, ◌/◌, zero, suc, List, [], ◌∷◌, length, get_or, refl, sym, ap, inl, inr, ◌∙◌, arith, Bool, IsTrue, Option, Some, None, MatchOption}
+use Rattle.std.proofs.Common.{◌≡◌, subst, ◌↔◌, ◌⊎◌, ℕ, ◌+◌, ◌<◌, ◌≤◌, ◌/◌, zero, suc, List, [], ◌∷◌, length, get_or, sym, ap, inl, inr, ◌∙◌, arith, Bool, IsTrue, Option, Some, None, MatchOption}
 use Rattle.std.proofs.lemmas.List.{length-map}
-use Rattle.pure_text.specs.Lists.{IsIn, Each, EachTwo}
-use Rattle.pure_definitions.specs.Types.Order.{Class, Arity, Algebra, IsClassBelow, IsSortBelow, AreDomainsBelow, IsCoregular, itself}
+use Rattle.pure_text.specs.Lists.{EachTwo}
+use Rattle.pure_definitions.specs.Types.Order.{Arity, Algebra, IsClassBelow, IsSortBelow, IsCoregular}
 use Rattle.pure_definitions.proofs.OrderLaws.{domains-more, domains-trans}
 use Rattle.pure_order_tables.specs.Rows.{Holds}
 use Rattle.pure_order_tables.specs.ClassTable.{IsNumber, IsRow, name_at}
@@ -13,7 +13,7 @@ use Rattle.pure_order_tables.specs.Arities.{IsArityBelow, IsAboveGreatest, IsNot
 use Rattle.pure_order_tables.specs.Checks.{IsDecided}
 use Rattle.pure_order_tables.specs.Uncovered.{Extends, IsAbovePlace, IsBelowPlace, IsCoveredBy, IsUncovered, IsUpRow, IsWithinArities}
 use Rattle.pure_order_tables.proofs.BelowLaws.{below-classes}
-use Rattle.pure_order_tables.proofs.ClassTableLaws.{here_or_before}
+use Rattle.pure_order_tables.proofs.ClassTableLaws.{below_or_from, here_or_behind}
 use Rattle.pure_order_tables.proofs.CoregularLaws.{candidate_greatest, directed}
 
 -- what the test by the arity at the place of a class says
@@ -62,66 +62,77 @@ covers_up : (V B : Algebra) → Extends V B → (a : Arity) (d e : ℕ) → IsCo
 covers_up V B ext a d e w h = (w.0, record { declared = w.1.declared; con = w.1.con; below = ext.up w.0 d e w.1.declared w.1.below h }, w.2)
 
 -- The classes have been seen whose numbers are from an end on.
-pub record IsUncoveredSoFar (V B : Algebra) (a : Arity) (row covered : List ℕ) (i : ℕ) : Type 0 where
+pub record IsUncoveredSoFar (V B : Algebra) (a : Arity) (row covered : List ℕ) (end : ℕ) : Type 0 where
   pub count : length row ≡ length V.classes / 64 + 1
   pub covered_count : length covered ≡ length V.classes / 64 + 1
   pub above : (n : ℕ) → Holds row n → (n < length V.classes) × IsClassBelow V a.class (name_at V.classes n)
   pub bare : IsCoregular B → (n : ℕ) → Holds row n → ¬ IsCoveredBy V B a (name_at V.classes n)
   pub covers : (n : ℕ) → Holds covered n → IsCoveredBy V B a (name_at V.classes n)
-  pub seen : (n : ℕ) → n < length V.classes → length V.classes ≤ n + i → IsClassBelow V a.class (name_at V.classes n) → Holds row n ⊎ IsCoveredBy V B a (name_at V.classes n)
+  pub seen : (n : ℕ) → n < length V.classes → end ≤ n → IsClassBelow V a.class (name_at V.classes n) → Holds row n ⊎ IsCoveredBy V B a (name_at V.classes n)
 
-pub uncovered_start : (V B : Algebra) (a : Arity) (row covered : List ℕ) → length row ≡ length V.classes / 64 + 1 → length covered ≡ length V.classes / 64 + 1 → ((n : ℕ) → ¬ Holds row n) → ((n : ℕ) → ¬ Holds covered n) → IsUncoveredSoFar V B a row covered 0
-uncovered_start V B a row covered count covered_count none none_covered = record {
-  count = count;
-  covered_count = covered_count;
+pub uncovered_start : (V B : Algebra) (a : Arity) (row covered : List ℕ) (end : ℕ) → end ≡ length V.classes → length row ≡ end / 64 + 1 → length covered ≡ end / 64 + 1 → ((n : ℕ) → ¬ Holds row n) → ((n : ℕ) → ¬ Holds covered n) → IsUncoveredSoFar V B a row covered end
+uncovered_start V B a row covered end is count covered_count none none_covered = record {
+  count = rw is at count;
+  covered_count = rw is at covered_count;
   above = λ n h. absurd (none n h);
   bare = λ r n h. absurd (none n h);
   covers = λ n h. absurd (none_covered n h);
-  seen = λ n within end. absurd (omega (arith, within, end));
+  seen = λ n within from. absurd (omega (arith, within, from, is));
 }
 
 -- one turn, at a class that is covered, at one that isn't, and at one that is passed over
 
-pub turn_covered : (V B : Algebra) → Extends V B → (a : Arity) (row covered covered' other : List ℕ) (i number : ℕ) → i < length V.classes → number ≡ length V.classes - 1 - i → IsCoveredBy V B a (name_at V.classes number) → IsUpRow V (name_at V.classes number) other
-    → ((n : ℕ) → Holds covered' n ↔ (Holds covered n ⊎ ((n / 64 < length covered) × Holds other n))) → length covered' ≡ length covered → IsUncoveredSoFar V B a row covered i → IsUncoveredSoFar V B a row covered' (i + 1)
-turn_covered V B ext a row covered covered' other i number within is cover up put long s = record {
+pub turn_covered : (V B : Algebra) → Extends V B → (a : Arity) (row covered covered' other : List ℕ) (end number : ℕ) → number + 1 ≡ end → IsCoveredBy V B a (name_at V.classes number) → IsUpRow V (name_at V.classes number) other
+    → ((n : ℕ) → Holds covered' n ↔ (Holds covered n ⊎ ((n / 64 < length covered) × Holds other n))) → length covered' ≡ length covered → IsUncoveredSoFar V B a row covered end → IsUncoveredSoFar V B a row covered' number
+turn_covered V B ext a row covered covered' other end number is cover up put long s = record {
   count = s.count;
   covered_count = long ∙ s.covered_count;
   above = s.above;
   bare = s.bare;
   covers = λ n h. elim ((put n).0 h) [ inl o ↦ s.covers n o | inr w ↦ covers_up V B ext a (name_at V.classes number) (name_at V.classes n) cover ((up n).0 w.1).1 ];
-  seen = λ n n_within end below. elim (here_or_before (length V.classes) i n within end n_within) [ inl e ↦ inr (rw (e ∙ sym is) cover) | inr before ↦ s.seen n n_within before below ];
+  seen = λ n n_within from below. elim (here_or_behind n number end is from) [ inl e ↦ inr (rw e cover) | inr behind ↦ s.seen n n_within behind below ];
 }
 
-pub turn_bare : (V B : Algebra) (a : Arity) (row row' covered : List ℕ) (i number : ℕ) → i < length V.classes → number ≡ length V.classes - 1 - i → IsClassBelow V a.class (name_at V.classes number) → (IsCoregular B → ¬ IsCoveredBy V B a (name_at V.classes number)) → ((n : ℕ) → Holds row' n ↔ ((n ≡ number) ⊎ Holds row n)) → length row' ≡ length row
-    → IsUncoveredSoFar V B a row covered i → IsUncoveredSoFar V B a row' covered (i + 1)
-turn_bare V B a row row' covered i number within is below bare put long s = record {
+pub turn_bare : (V B : Algebra) (a : Arity) (row row' covered : List ℕ) (end number : ℕ) → number + 1 ≡ end → number < length V.classes → IsClassBelow V a.class (name_at V.classes number) → (IsCoregular B → ¬ IsCoveredBy V B a (name_at V.classes number)) → ((n : ℕ) → Holds row' n ↔ ((n ≡ number) ⊎ Holds row n)) → length row' ≡ length row
+    → IsUncoveredSoFar V B a row covered end → IsUncoveredSoFar V B a row' covered number
+turn_bare V B a row row' covered end number is within below bare put long s = record {
   count = long ∙ s.count;
   covered_count = s.covered_count;
-  above = λ n h. elim ((put n).0 h) [ inl e ↦ rw e (omega (arith, is, within), below) | inr o ↦ s.above n o ];
+  above = λ n h. elim ((put n).0 h) [ inl e ↦ rw e (within, below) | inr o ↦ s.above n o ];
   bare = λ r n h. elim ((put n).0 h) [ inl e ↦ rw e (bare r) | inr o ↦ s.bare r n o ];
   covers = s.covers;
-  seen = λ n n_within end under. elim (here_or_before (length V.classes) i n within end n_within) [
-    | inl e ↦ inl ((put n).1 (inl (e ∙ sym is)))
-    | inr before ↦ elim (s.seen n n_within before under) [ inl h ↦ inl ((put n).1 (inr h)) | inr w ↦ inr w ]
+  seen = λ n n_within from under. elim (here_or_behind n number end is from) [
+    | inl e ↦ inl ((put n).1 (inl e))
+    | inr behind ↦ elim (s.seen n n_within behind under) [ inl h ↦ inl ((put n).1 (inr h)) | inr w ↦ inr w ]
   ];
 }
 
-pub turn_passed : (V B : Algebra) (a : Arity) (row covered : List ℕ) (i number : ℕ) → i < length V.classes → number ≡ length V.classes - 1 - i → (¬ IsClassBelow V a.class (name_at V.classes number)) ⊎ Holds covered number → IsUncoveredSoFar V B a row covered i → IsUncoveredSoFar V B a row covered (i + 1)
-turn_passed V B a row covered i number within is passed s = record {
+pub turn_passed : (V B : Algebra) (a : Arity) (row covered : List ℕ) (end number : ℕ) → number + 1 ≡ end → (¬ IsClassBelow V a.class (name_at V.classes number)) ⊎ Holds covered number → IsUncoveredSoFar V B a row covered end → IsUncoveredSoFar V B a row covered number
+turn_passed V B a row covered end number is passed s = record {
   count = s.count;
   covered_count = s.covered_count;
   above = s.above;
   bare = s.bare;
   covers = s.covers;
-  seen = λ n n_within end under. elim (here_or_before (length V.classes) i n within end n_within) [
-    | inl e ↦ elim passed [ inl other ↦ absurd (other (rw (e ∙ sym is) at under)) | inr held ↦ inr (rw (e ∙ sym is) (s.covers number held)) ]
-    | inr before ↦ s.seen n n_within before under
+  seen = λ n n_within from under. elim (here_or_behind n number end is from) [
+    | inl e ↦ elim passed [ inl other ↦ absurd (other (rw e at under)) | inr held ↦ inr (rw e (s.covers number held)) ]
+    | inr behind ↦ s.seen n n_within behind under
   ];
 }
 
-pub uncovered_all : (V B : Algebra) (a : Arity) (row covered : List ℕ) (i : ℕ) → length V.classes ≤ i → IsUncoveredSoFar V B a row covered i → IsUncovered V B a row
-uncovered_all V B a row covered i end s = record { above = s.above; bare = s.bare; rest = λ n within under. s.seen n within (omega arith) under }
+-- Numbers that are covered already are passed.
+pub uncovered_passed : (V B : Algebra) (a : Arity) (up row covered : List ℕ) (number end : ℕ) → IsUpRow V a.class up → ((n : ℕ) → end ≤ n → n < number → Holds up n → Holds covered n) → IsUncoveredSoFar V B a row covered number → IsUncoveredSoFar V B a row covered end
+uncovered_passed V B a up row covered number end above passed s = record {
+  count = s.count;
+  covered_count = s.covered_count;
+  above = s.above;
+  bare = s.bare;
+  covers = s.covers;
+  seen = λ n within from under. elim (below_or_from n number) [ inl below ↦ inr (s.covers n (passed n from below ((above n).1 (within, under)))) | inr behind ↦ s.seen n within behind under ];
+}
+
+pub uncovered_all : (V B : Algebra) (a : Arity) (row covered : List ℕ) (end : ℕ) → end ≤ 0 → IsUncoveredSoFar V B a row covered end → IsUncovered V B a row
+uncovered_all V B a row covered end over s = record { above = s.above; bare = s.bare; rest = λ n within under. s.seen n within (omega arith) under }
 
 -- the row of a class with a number, in the algebra of the table
 pub up_row : (A B : Algebra) (number : ℕ) (words : List ℕ) → A ≡ B → IsRow A.classes (name_at A.classes number) words → IsUpRow B (name_at B.classes number) words

@@ -1,13 +1,13 @@
 -- What a table of classes keeps.
-use Rattle.std.specs.Prelude.{◌≡◌, ◌↔◌, ◌⊎◌, ◌<◌, ℕ, List, [], MatchOption, length, get_or}
+use Rattle.std.specs.Prelude.{◌≡◌, ◌↔◌, ◌⊎◌, ◌<◌, ◌≤◌, ℕ, List, [], MatchOption, length, get_or}
 use Rattle.std.specs.List.Sorted.{IsStrictlyIncreasing}
-use Rattle.std.specs.BTreeMap.{BTreeMap, get}
+use Rattle.std.specs.FinMap.{FinMap, get}
 use Rattle.std.specs.Ordering.{nat_cmp}
 use Rattle.pure_text.specs.Lists.{IsIn, Each, AnyOf}
 use Rattle.pure_definitions.specs.Types.Order.{Class, IsClassBelow}
 use Rattle.pure_order_tables.specs.declared.classes.ClassEntry.{ClassEntry}
 use Rattle.pure_order_tables.specs.Classes.{IsDeclared, Follows, of_classes}
-use Rattle.pure_order_tables.specs.ClassView.{classes_of}
+use Rattle.pure_order_tables.specs.ClassView.{class_of, classes_of}
 use Rattle.pure_order_tables.specs.Rows.{Holds}
 
 -- The class is declared, and these names are the classes above it, ascending.
@@ -50,8 +50,23 @@ IsNewRow cs above words = (n : ℕ) → Holds words n ↔ ((n ≡ length cs) ⊎
 abbrev pub NamedBefore : List Class → List ℕ → ℕ → ℕ → Type 0
 NamedBefore cs words x end = (n : ℕ) × (n < end) × Holds words n × (name_at cs n ≡ x)
 
+-- The name is that of a class whose number is in the first row and not in the second, from an end on.
+pub record IsOtherNamed (cs : List Class) (row seen : List ℕ) (x end : ℕ) : Type 0 where
+  pub number : ℕ
+  pub is : IsNumber cs x number
+  pub held : Holds row number
+  pub other : ¬ Holds seen number
+  pub from : end ≤ number
+
+-- The entry is that of a new class: the row has its number and those of the classes above it, and the names are theirs.
+pub record IsNewEntry (cs : List Class) (k : Class) (e : ClassEntry) : Type 0 where
+  pub class : class_of e ≡ k
+  pub row : IsNewRow cs k.above e.row.items
+  pub ascend : IsStrictlyIncreasing e.up.items
+  pub up : (x : ℕ) → IsIn x e.up.items ↔ ((x ≡ k.name) ⊎ NamedBefore cs e.row.items x (length cs))
+
 -- The classes are declared in order, each entry is right, and the map gives for each declared class its number.
-pub record IsClassTable (es : List ClassEntry) (numbers : BTreeMap ℕ ℕ) : Type 0 where
+pub record IsClassTable (es : List ClassEntry) (numbers : FinMap nat_cmp ℕ) : Type 0 where
   pub ordered : Follows [] (classes_of es)
   pub entries : Each (IsEntry (classes_of es)) es
-  pub numbered : (c : ℕ) → MatchOption (get nat_cmp numbers c) (¬ IsDeclared (classes_of es) c) (IsNumber (classes_of es) c)
+  pub numbered : (c : ℕ) → MatchOption (get numbers c) (¬ IsDeclared (classes_of es) c) (IsNumber (classes_of es) c)

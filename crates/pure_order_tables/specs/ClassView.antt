@@ -1,9 +1,6 @@
 -- What a table of classes is seen as.
 use Rattle.std.specs.Prelude.{List, map}
-use Rattle.std.specs.declared.alloc.Global.{Global}
-use Rattle.std.specs.declared.sync.Arc.{Arc}
 use Rattle.pure_order_tables.specs.declared.classes.ClassEntry.{ClassEntry}
-use Rattle.pure_order_tables.specs.Shares.{values_of}
 use Rattle.pure_definitions.specs.Types.Order.{Class}
 
 abbrev pub class_of : ClassEntry → Class
@@ -11,6 +8,3 @@ class_of e = record { name = e.name; above = e.above.items }
 
 abbrev pub classes_of : List ClassEntry → List Class
 classes_of = map class_of
-
-abbrev pub shared_classes : List (Arc ClassEntry Global) → List Class
-shared_classes es = classes_of (values_of es)

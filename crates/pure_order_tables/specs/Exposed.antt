@@ -1,7 +1,7 @@
 -- The arities of two algebras that the other lacks, and the clashes among them.
 use Rattle.std.specs.Prelude.{◌≡◌, ◌↔◌, ◌⊎◌, ℕ, List, [], min, max, Option, MatchOption}
 use Rattle.pure_text.specs.Lists.{IsIn, Each, AnyOf}
-use Rattle.pure_definitions.specs.Types.Order.{Class, Arity, Algebra, IsCoregular}
+use Rattle.pure_definitions.specs.Types.Order.{Arity, Algebra, IsCoregular}
 use Rattle.pure_order_tables.specs.declared.conflicts.Exposed.{Exposed}
 use Rattle.pure_order_tables.specs.Rows.{Holds}
 use Rattle.pure_order_tables.specs.Classes.{Follows}

@@ -1,6 +1,4 @@
-pub mod Shares
 pub mod Rows
-pub mod Held
 pub mod Others
 pub mod Classes
 pub mod ClassView

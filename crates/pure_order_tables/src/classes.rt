@@ -5,17 +5,15 @@ ghost use Rattle.pure_text.specs.Lists.{IsIn, Each, AnyOf};
 ghost use Rattle.pure_definitions.specs.Types.Order.{Class, IsClassBelow};
 ghost use Rattle.pure_order_tables.specs.Classes.{Agree, Follows, IsAntisymmetric, IsDeclared, IsSameIfNamed, of_classes};
 ghost use Rattle.pure_order_tables.specs.Checks.{IsDecided};
-ghost use Rattle.pure_order_tables.specs.ClassTable.{AreAllAbove, HasNumbers, IsEntry, IsNewRow, IsNumber, IsRow, NamedBefore, name_at};
-ghost use Rattle.pure_order_tables.specs.ClassView.{class_of, classes_of, shared_classes};
+ghost use Rattle.pure_order_tables.specs.ClassTable.{AreAllAbove, HasNumbers, IsEntry, IsNewEntry, IsNewRow, IsNumber, IsRow, IsOtherNamed, NamedBefore, name_at};
+ghost use Rattle.pure_order_tables.specs.ClassView.{class_of, classes_of};
+ghost use Rattle.pure_order_tables.specs.Rows.{Holds};
 
-use crate::maps::{copied, names_held};
 use crate::names::put;
-use crate::room::push_in_room;
-use crate::rows::{empty_row, holds, holds_only, put_place, put_row};
-use crate::shares::shared;
+use crate::rows::{empty_row, end_below, holds, holds_only, put_place, put_row};
+use pure_shelf::{GrownList, GrownMap};
 use pure_typ::Name;
 use std::alloc::{AllocError, Global};
-use std::collections::BTreeMap;
 use std::marker::Model;
 use std::sync::Arc;
 
@@ -28,11 +26,11 @@ pub struct ClassEntry {
     row: Vec<u64>,
 }
 
-/// The declared classes, each behind a pointer that other tables share, and for each its number, which is its place.
+/// The declared classes, and for each its number, which is its place. Other tables share both.
 #[derive(Drop)]
 pub struct ClassTable {
-    entries: Vec<Arc<ClassEntry>>,
-    numbers: BTreeMap<u32, usize>,
+    entries: GrownList<ClassEntry>,
+    numbers: GrownMap<usize>,
 }
 
 /// Whether the entries are the same, if they are of one class.
@@ -48,13 +46,12 @@ impl Model for ClassTable {
 
     ghost Value = { List Class };
 
-    ghost use Rattle.pure_order_tables.specs.ClassView.{shared_classes};
+    ghost use Rattle.pure_order_tables.specs.ClassView.{classes_of};
     ghost use Rattle.pure_order_tables.specs.ClassTable.{IsClassTable};
-    ghost use Rattle.pure_order_tables.specs.Shares.{values_of};
 
-    ghost view = { λ t. shared_classes t.entries.items };
+    ghost view = { λ t. classes_of t.entries };
 
-    ghost invariant = { λ t. IsClassTable (values_of t.entries.items) t.numbers };
+    ghost invariant = { λ t. IsClassTable t.entries t.numbers };
 }
 
 impl ClassTable {
@@ -63,8 +60,8 @@ impl ClassTable {
         ensures { result ≡ [] }
     {
         ClassTable {
-            entries: Vec::new(alloc),
-            numbers: BTreeMap::new(alloc),
+            entries: GrownList::empty(alloc),
+            numbers: GrownMap::empty(alloc),
         }
     }
 
@@ -72,8 +69,8 @@ impl ClassTable {
     pub(crate) fn copy(&self, alloc: Global) -> Result<ClassTable, AllocError>
         ensures { IfOk result (λ copy. copy ≡ self.now) }
     {
-        let entries = shared(alloc, self.entries.as_slice())?;
-        let numbers = copied(&self.numbers)?;
+        let entries = self.entries.share(alloc)?;
+        let numbers = self.numbers.share(alloc)?;
         Ok(ClassTable { entries, numbers })
     }
 
@@ -88,7 +85,10 @@ impl ClassTable {
     pub(crate) fn number(&self, class: Name) -> Option<usize>
         ensures { MatchOption result (¬ IsDeclared self.now class) (IsNumber self.now class) }
     {
-        self.numbers.get(&class.0).copied()
+        match self.numbers.get(class.0) {
+            None => None,
+            Some(number) => Some(*number),
+        }
     }
 
     /// The entry with a number.
@@ -97,8 +97,7 @@ impl ClassTable {
         ensures named { IsNumber self.now result.now.name number }
         ensures entry { IsEntry self.now result.now }
     {
-        let pointer = &self.entries[number];
-        &**pointer
+        self.entries.get(number)
     }
 
     /// The class with a number.
@@ -196,32 +195,112 @@ impl ClassTable {
         Ok(row)
     }
 
-    /// The row of a new class: its own number, and those of the classes above one of these. The lowest of these come first, so that a row is read only where it adds something.
-    fn new_row(&self, alloc: Global, above: &[Name]) -> Result<Vec<u64>, AllocError>
-        requires { Each (IsDeclared self.now) above.now }
-        ensures { IfOk result (λ row. IsNewRow self.now above.now row.items) }
+    /// The row of a new class: its own number, and those of the classes above one of the classes with these numbers. The lowest of these come first, so that a row is read only where it adds something.
+    fn new_row(&self, alloc: Global, numbers: &[u64]) -> Result<Vec<u64>, AllocError>
+        ensures { IfOk result (λ row. (above : List ℕ) → HasNumbers self.now above numbers.now → IsNewRow self.now above row.items) }
     {
         let last = self.count();
-        let numbers = self.numbers_of(alloc, above)?;
         let mut row = empty_row(alloc, last / 64 + 1)?;
         put_place(&mut row, last);
-        for i in 0..last {
-            let number = last - 1 - i;
-            if holds_only(numbers.as_slice(), row.as_slice(), number) {
+        let mut end = last;
+        while end > 0 {
+            let number = end - 1;
+            if holds_only(numbers, row.as_slice(), number) {
                 put_row(&mut row, self.row_of(number));
             }
+            end = end_below(numbers, row.as_slice(), number);
         }
         Ok(row)
     }
 
-    /// The class, and the classes whose numbers the row of a new class holds, ascending.
-    fn names_of(&self, alloc: Global, class: Name, row: &[u64]) -> Result<Vec<Name>, AllocError>
-        ensures ascend { IfOk result (λ names. IsStrictlyIncreasing names.items) }
-        ensures has { IfOk result (λ names. (above : List ℕ) → IsNewRow self.now above row.now → (x : ℕ) → IsIn x names.items ↔ ((x ≡ class) ⊎ NamedBefore self.now row.now x (length self.now))) }
+    /// The number of the lowest of the classes with these numbers.
+    fn lowest(&self, numbers: &[u64]) -> Option<usize>
+        ensures { MatchOption result ((n : ℕ) → n < length self.now → ¬ Holds numbers.now n) (λ n. (n < length self.now) × Holds numbers.now n) }
     {
-        let mut names = names_held(alloc, &self.numbers, row)?;
+        let mut end = self.count();
+        while end > 0 {
+            let number = end - 1;
+            if holds(numbers, number) {
+                return Some(number);
+            }
+            end = end_below(numbers, &[], number);
+        }
+        None
+    }
+
+    /// Puts in the classes whose numbers the first row holds, and the second doesn't.
+    fn put_others(&self, names: &mut Vec<Name>, row: &[u64], seen: &[u64]) -> Result<(), AllocError>
+        requires { IsStrictlyIncreasing names.old.items }
+        ensures ascend { IsStrictlyIncreasing names.new.items }
+        ensures has { OnOk result ((x : ℕ) → IsIn x names.new.items ↔ (IsIn x names.old.items ⊎ IsOtherNamed self.now row.now seen.now x 0)) }
+    {
+        let mut end = self.count();
+        while end > 0 {
+            let number = end - 1;
+            if holds_only(row, seen, number) {
+                put(names, self.name(number))?;
+            }
+            end = end_below(row, seen, number);
+        }
+        Ok(())
+    }
+
+    /// The classes whose numbers the row of a new class holds, ascending. Most of them are those above the lowest of the classes with the first numbers.
+    fn names_above(
+        &self,
+        alloc: Global,
+        numbers: &[u64],
+        row: &[u64],
+    ) -> Result<Vec<Name>, AllocError>
+        ensures ascend { IfOk result (λ names. IsStrictlyIncreasing names.items) }
+        ensures has { IfOk result (λ names. (above : List ℕ) → HasNumbers self.now above numbers.now → IsNewRow self.now above row.now → (x : ℕ) → IsIn x names.items ↔ NamedBefore self.now row.now x (length self.now)) }
+    {
+        self.are_in_order();
+        let Some(lowest) = self.lowest(numbers) else {
+            return Ok(Vec::new(alloc));
+        };
+        let entry = self.numbered(lowest);
+        let mut names = Vec::from_slice(alloc, entry.up.as_slice())?;
+        self.put_others(&mut names, row, entry.row.as_slice())?;
+        Ok(names)
+    }
+
+    /// The class, and the classes whose numbers the row of a new class holds, ascending.
+    fn names_of(
+        &self,
+        alloc: Global,
+        class: Name,
+        numbers: &[u64],
+        row: &[u64],
+    ) -> Result<Vec<Name>, AllocError>
+        ensures ascend { IfOk result (λ names. IsStrictlyIncreasing names.items) }
+        ensures has { IfOk result (λ names. (above : List ℕ) → HasNumbers self.now above numbers.now → IsNewRow self.now above row.now → (x : ℕ) → IsIn x names.items ↔ ((x ≡ class) ⊎ NamedBefore self.now row.now x (length self.now))) }
+    {
+        let mut names = self.names_above(alloc, numbers, row)?;
         put(&mut names, class)?;
         Ok(names)
+    }
+
+    /// The entry of a new class.
+    fn new_entry(
+        &self,
+        alloc: Global,
+        class: Name,
+        above: &[Name],
+    ) -> Result<ClassEntry, AllocError>
+        requires { Each (IsDeclared self.now) above.now }
+        ensures { IfOk result (IsNewEntry self.now (record { name = class; above = above.now })) }
+    {
+        let numbers = self.numbers_of(alloc, above)?;
+        let row = self.new_row(alloc, numbers.as_slice())?;
+        let up = self.names_of(alloc, class, numbers.as_slice(), row.as_slice())?;
+        let above = Vec::from_slice(alloc, above)?;
+        Ok(ClassEntry {
+            name: class,
+            above,
+            up,
+            row,
+        })
     }
 
     /// Declares a class.
@@ -232,37 +311,32 @@ impl ClassTable {
         ensures err { OnErr result (self.new ≡ self.old) }
         ensures ordered { Follows [] self.old }
     {
-        let row = self.new_row(alloc, above)?;
-        let up = self.names_of(alloc, class, row.as_slice())?;
-        let above = Vec::from_slice(alloc, above)?;
-        let entry = ClassEntry {
-            name: class,
-            above,
-            up,
-            row,
-        };
+        let entry = self.new_entry(alloc, class, above)?;
         let entry = Arc::new(alloc, entry)?;
-        let number = self.count();
-        self.entries.reserve(1)?;
-        self.numbers.insert(class.0, number)?;
-        push_in_room(&mut self.entries, entry);
+        let number = Arc::new(alloc, self.count())?;
+        let mut numbers = self.numbers.share(alloc)?;
+        numbers.put(alloc, class.0, number)?;
+        self.entries.push(alloc, entry)?;
+        self.numbers = numbers;
         Ok(())
     }
 
     /// The declared classes.
-    pub(crate) fn entries(&self) -> &[Arc<ClassEntry>]
-        ensures are { shared_classes result.now ≡ self.now }
+    pub(crate) fn entries(&self) -> &GrownList<ClassEntry>
+        ensures are { classes_of result.now ≡ self.now }
         ensures ordered { Follows [] self.now }
     {
-        self.entries.as_slice()
+        &self.entries
     }
 
     /// Whether the table declares the class as the entry does, if it declares it.
     fn agrees_at(&self, entry: &ClassEntry) -> bool
         ensures { IsTrue result ↔ Each (IsSameIfNamed (class_of entry.now)) self.now }
     {
-        for own in self.entries.as_slice() {
-            if !are_same_if_named(entry, &**own) {
+        let entries = self.entries();
+        for i in 0..entries.len() {
+            let own = entries.get(i);
+            if !are_same_if_named(entry, own) {
                 return false;
             }
         }
@@ -273,8 +347,10 @@ impl ClassTable {
     pub(crate) fn agrees(&self, other: &ClassTable) -> bool
         ensures { IsTrue result ↔ Agree self.now other.now }
     {
-        for entry in self.entries.as_slice() {
-            if !other.agrees_at(&**entry) {
+        let entries = self.entries();
+        for i in 0..entries.len() {
+            let entry = entries.get(i);
+            if !other.agrees_at(entry) {
                 return false;
             }
         }

@@ -12,6 +12,7 @@ ghost use Rattle.pure_order_tables.specs.Exposed.{AreExposed, AreIn, AreSides, C
 use crate::names::lesser_names;
 use crate::rows::{holds, meet};
 use crate::tables::{ArityEntry, Tables};
+use pure_shelf::GrownList;
 use pure_typ::Name;
 use std::alloc::{AllocError, Global};
 
@@ -64,7 +65,7 @@ impl Tables {
         &self,
         alloc: Global,
         arity: &ArityEntry,
-        entries: &[ArityEntry],
+        entries: &GrownList<ArityEntry>,
         other: &Tables,
     ) -> Result<Exposed, AllocError>
         requires extends { Extends self.now other.now }
@@ -87,8 +88,8 @@ impl Tables {
     fn exposed(
         &self,
         alloc: Global,
-        arities: &[ArityEntry],
-        entries: &[ArityEntry],
+        arities: &GrownList<ArityEntry>,
+        entries: &GrownList<ArityEntry>,
         other: &Tables,
     ) -> Result<Vec<Exposed>, AllocError>
         requires extends { Extends self.now other.now }
@@ -98,7 +99,8 @@ impl Tables {
         ensures { IfOk result (λ exposed. (A : Algebra) → A.arities ≡ arities_of arities.now → AreExposed self.now A other.now exposed.items) }
     {
         let mut exposed = Vec::new(alloc);
-        for arity in arities {
+        for i in 0..arities.len() {
+            let arity = arities.get(i);
             if !other.has_same(arity) {
                 exposed.push(self.expose(alloc, arity, entries, other)?)?;
             }
@@ -112,7 +114,7 @@ impl Tables {
         alloc: Global,
         first: &Tables,
         second: &Tables,
-        theirs: &[ArityEntry],
+        theirs: &GrownList<ArityEntry>,
     ) -> Result<Option<(Name, Name, Name)>, AllocError>
         requires sides { AreSides self.now first.now second.now }
         requires same { self.now.arities ≡ first.now.arities }

@@ -1,8 +1,11 @@
 //! The judgement of a new arity: where it would be the greatest, or the least class that it is in conflict with.
-ghost use Rattle.std.specs.Prelude.{◌≡◌, ◌↔◌, ℕ, IsTrue, IfOk, IfErr, OnOk, OnErr, IfSome, MatchBool, MatchOption, MatchResult};
+ghost use Rattle.std.specs.Prelude.{◌≡◌, ◌↔◌, ◌<◌, ℕ, None, length, IsTrue, IfOk, IfErr, OnOk, OnErr, IfSome, MatchBool, MatchOption, MatchResult};
 ghost use Rattle.std.specs.Bool.{OnTrue};
-ghost use Rattle.pure_definitions.specs.Types.Order.{AreDomainsBelow, IsClassBelow, IsCoregular};
-ghost use Rattle.pure_order_tables.specs.Arities.{IsKnown, with_arity};
+ghost use Rattle.pure_text.specs.Lists.{IsIn};
+ghost use Rattle.pure_definitions.specs.Types.Order.{Arity, AreDomainsBelow, IsClassBelow, IsCoregular};
+ghost use Rattle.pure_order_tables.specs.Arities.{IsArityBelow, IsKnown, with_arity};
+ghost use Rattle.pure_order_tables.specs.ClassTable.{name_at};
+ghost use Rattle.pure_order_tables.specs.Rows.{Holds};
 ghost use Rattle.pure_order_tables.specs.Kept.{IsKeptEntry};
 ghost use Rattle.pure_order_tables.specs.Classes.{IsDeclared};
 ghost use Rattle.pure_order_tables.specs.ArityView.{arity_of};
@@ -14,6 +17,16 @@ use crate::rows::{holds, meet};
 use crate::tables::{ArityEntry, Tables};
 use pure_typ::Name;
 use std::alloc::{AllocError, Global};
+
+/// Whether there is no place, and was none before.
+fn still_none(none: bool, place: Option<usize>) -> bool
+    ensures { IsTrue result → IsTrue none × (place ≡ None) }
+{
+    match place {
+        None => none,
+        Some(_) => false,
+    }
+}
 
 impl Tables {
     /// The classes at which a new arity, which isn't covered at the classes in the row, would be the greatest.
@@ -50,12 +63,26 @@ impl Tables {
     fn are_elsewhere(&self, con: Name, row: &[u64]) -> bool
         ensures { OnTrue result (AreElsewhere self.now con row.now self.now.arities) }
     {
-        for arity in self.arities() {
+        let arities = self.arities();
+        for i in 0..arities.len() {
+            let arity = arities.get(i);
             if arity.con == con && holds(row, self.number_of(arity.class)) {
                 return false;
             }
         }
         true
+    }
+
+    /// The same, where it may be known that there is no arity of the constructor for a class below one in the row.
+    fn is_elsewhere(&self, con: Name, row: &[u64], bare: bool) -> bool
+        requires { IsTrue bare → (n : ℕ) → n < length self.now.classes → Holds row.now n → (q : Arity) → ¬ IsArityBelow self.now con (name_at self.now.classes n) q }
+        ensures { OnTrue result (AreElsewhere self.now con row.now self.now.arities) }
+    {
+        self.are_in_order();
+        if bare {
+            return true;
+        }
+        self.are_elsewhere(con, row)
     }
 
     /// The classes at which the new arity would be the greatest, if it is above all others where it isn't covered.
@@ -75,9 +102,10 @@ impl Tables {
         self.order_is_decided();
         self.have_candidates();
         let mut top = self.place(arity.con, arity.class);
-        if !self.is_above_at(arity, top) || !self.are_elsewhere(arity.con, uncovered) {
+        if !self.is_above_at(arity, top) {
             return Ok(None);
         }
+        let mut bare = true;
         let mut greater = Vec::new(alloc);
         for number in 0..self.class_count() {
             if holds(uncovered, number) {
@@ -87,8 +115,12 @@ impl Tables {
                     return Ok(None);
                 }
                 top = place;
+                bare = still_none(bare, place);
                 greater.push(class)?;
             }
+        }
+        if !self.is_elsewhere(arity.con, uncovered, bare) {
+            return Ok(None);
         }
         Ok(Some(greater))
     }
@@ -137,13 +169,26 @@ impl Tables {
         requires { IsKeptEntry self.now.classes arity.now }
         ensures { FindsAt (Clears self.now (arity_of arity.now) uncovered.now) arity.now.con self.now.arities result }
     {
+        let arities = self.arities();
         let mut least = None;
-        for other in self.arities() {
+        for i in 0..arities.len() {
+            let other = arities.get(i);
             if self.collides(arity, other, uncovered) {
                 least = Some(lesser(least, other.class));
             }
         }
         least
+    }
+
+    /// The classes above a declared one.
+    fn all_above(&self, alloc: Global, class: Name) -> Result<Vec<Name>, AllocError>
+        requires { IsDeclared self.now.classes class }
+        ensures { IfOk result (λ names. (d : ℕ) → IsIn d names.items ↔ IsClassBelow self.now class d) }
+    {
+        let Some(names) = self.above(class) else {
+            return Ok(Vec::new(alloc));
+        };
+        Vec::from_slice(alloc, names)
     }
 
     /// The classes at which a new arity would be the greatest; or else the least class of a declared arity in conflict with it.
@@ -159,6 +204,9 @@ impl Tables {
     {
         self.are_in_order();
         self.order_is_decided();
+        if self.is_bare(arity.con) {
+            return Ok(Ok(self.all_above(alloc, arity.class)?));
+        }
         let uncovered = self.uncovered(alloc, arity, self.arities(), self)?;
         if let Some(greater) = self.fits(alloc, arity, uncovered.as_slice())? {
             return Ok(Ok(greater));

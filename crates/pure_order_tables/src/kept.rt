@@ -7,6 +7,7 @@ ghost use Rattle.pure_order_tables.specs.Kept.{AreKeptEntries, AreKeptRows, IsKe
 use crate::rows::{empty_row, holds, put_row, within};
 use crate::sorts::{FEW, MOST};
 use crate::tables::{ArityEntry, Tables};
+use pure_shelf::GrownList;
 use pure_typ::{Name, Sort};
 use std::alloc::{AllocError, Global};
 use std::sync::Arc;
@@ -83,13 +84,16 @@ impl Tables {
         &self,
         alloc: Global,
         other: &Tables,
-    ) -> Result<Vec<ArityEntry>, AllocError>
-        ensures { IfOk result (λ kept. AreKeptEntries self.now.classes other.now kept.items) }
+    ) -> Result<GrownList<ArityEntry>, AllocError>
+        ensures { IfOk result (λ kept. AreKeptEntries self.now.classes other.now kept) }
     {
         let arities = other.arities();
-        let mut all = Vec::with_capacity(alloc, arities.len())?;
-        for arity in arities {
-            all.push(self.kept(alloc, arity)?)?;
+        let mut all = GrownList::empty(alloc);
+        for i in 0..arities.len() {
+            let arity = arities.get(i);
+            let kept = self.kept(alloc, arity)?;
+            let kept = Arc::new(alloc, kept)?;
+            all.push(alloc, kept)?;
         }
         Ok(all)
     }

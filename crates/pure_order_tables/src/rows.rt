@@ -1,5 +1,5 @@
 //! Rows of bits: sets of numbers, in words of 64 bits.
-ghost use Rattle.std.specs.Prelude.{◌≡◌, ◌↔◌, ◌⊎◌, ◌<◌, ◌/◌, ℕ, IsTrue, MatchBool, IfOk, length, slice_index};
+ghost use Rattle.std.specs.Prelude.{◌≡◌, ◌↔◌, ◌⊎◌, ◌<◌, ◌≤◌, ◌/◌, ℕ, IsTrue, MatchBool, IfOk, length, slice_index};
 ghost use Rattle.pure_order_tables.specs.Rows.{Holds};
 
 use std::alloc::{AllocError, Global};
@@ -86,4 +86,16 @@ pub(crate) fn within(first: &[u64], second: &[u64]) -> bool
         }
     }
     true
+}
+
+/// Where those numbers below this one end that the first row may hold and the second not: past the number's word, if it holds none of them.
+pub(crate) fn end_below(first: &[u64], second: &[u64], number: usize) -> usize
+    ensures below { result ≤ number }
+    ensures passed { (place : ℕ) → result ≤ place → place < number → Holds first.now place → Holds second.now place }
+{
+    let word = word_at(first, number / 64);
+    if word & word_at(second, number / 64) == word {
+        return number / 64 * 64;
+    }
+    number
 }

@@ -1,27 +1,25 @@
 //! The declared classes and arities, and the place of the greatest arity of each constructor for each class.
 ghost use Rattle.std.specs.Prelude.{◌≡◌, ◌↔◌, ◌⊎◌, ◌<◌, ℕ, List, [], IsTrue, OnOk, OnErr, IfOk, IfSome, MatchBool, MatchOption, length};
 ghost use Rattle.std.specs.Arc.{arc_value};
-ghost use Rattle.std.specs.BTreeMap.{get};
-ghost use Rattle.std.specs.Ordering.{nat_cmp};
+ghost use Rattle.std.specs.Bool.{OnTrue};
 ghost use Rattle.std.specs.List.Sorted.{IsStrictlyIncreasing};
 ghost use Rattle.pure_text.specs.Lists.{IsIn, Each};
 ghost use Rattle.pure_definitions.specs.Types.Order.{Arity, Class, IsClassBelow, HasClassBelow, IsCoregular};
 ghost use Rattle.pure_order_tables.specs.Classes.{Agree, Follows, IsAntisymmetric, IsDeclared};
-ghost use Rattle.pure_order_tables.specs.ClassView.{shared_classes};
+ghost use Rattle.pure_order_tables.specs.ClassView.{classes_of};
 ghost use Rattle.pure_order_tables.specs.ClassTable.{IsNumber, name_at};
 ghost use Rattle.pure_order_tables.specs.Uncovered.{IsUpRow};
 ghost use Rattle.pure_order_tables.specs.Arities.{IsArityBelow, IsGreatestIfAny, IsAboveGreatest, IsKnown, IsNotAbove, with_class, with_arity};
 ghost use Rattle.pure_order_tables.specs.Checks.{AreGreater, IsDecided};
 ghost use Rattle.pure_order_tables.specs.ArityView.{arity_of, arities_of};
-ghost use Rattle.pure_order_tables.specs.ArityTable.{IsPlace, ArePlaces, places_in};
+ghost use Rattle.pure_order_tables.specs.ArityTable.{IsPlace, IsSlot};
 ghost use Rattle.pure_order_tables.specs.Kept.{IsKeptEntry, words_in};
 
 use crate::classes::{ClassEntry, ClassTable};
-use crate::maps::copied;
-use crate::room::push_in_room;
+use crate::slots::{Slot, placed};
+use pure_shelf::{GrownList, GrownMap};
 use pure_typ::{Name, Sort};
 use std::alloc::{AllocError, Global};
-use std::collections::BTreeMap;
 use std::marker::Model;
 use std::sync::Arc;
 
@@ -35,12 +33,12 @@ pub struct ArityEntry {
     pub(crate) rows: Option<Arc<Vec<Vec<u64>>>>,
 }
 
-/// Declared classes and arities. For each constructor and class the slots have the place of the arity with the greatest domains; a constructor's places stand behind a pointer that other tables share.
+/// Declared classes and arities, and for each constructor with arities its slot: for each class the place of the arity with the greatest domains. Other tables share all three.
 #[derive(Drop)]
 pub struct Tables {
     classes: ClassTable,
-    arities: Vec<ArityEntry>,
-    slots: BTreeMap<u32, Arc<BTreeMap<u32, usize>>>,
+    arities: GrownList<ArityEntry>,
+    slots: GrownMap<Slot>,
 }
 
 /// Rows that are the same.
@@ -131,9 +129,9 @@ impl Model for Tables {
     ghost use Rattle.pure_order_tables.specs.ArityView.{algebra_of};
     ghost use Rattle.pure_order_tables.specs.ArityTable.{IsTable};
 
-    ghost view = { λ t. algebra_of t.classes t.arities.items };
+    ghost view = { λ t. algebra_of t.classes t.arities };
 
-    ghost invariant = { λ t. IsTable t.classes t.arities.items t.slots };
+    ghost invariant = { λ t. IsTable t.classes t.arities t.slots };
 }
 
 impl Tables {
@@ -143,8 +141,8 @@ impl Tables {
     {
         Tables {
             classes: ClassTable::empty(alloc),
-            arities: Vec::new(alloc),
-            slots: BTreeMap::new(alloc),
+            arities: GrownList::empty(alloc),
+            slots: GrownMap::empty(alloc),
         }
     }
 
@@ -153,8 +151,8 @@ impl Tables {
         ensures { IfOk result (λ copy. copy ≡ self.now) }
     {
         let classes = self.classes.copy(alloc)?;
-        let arities = shared_arities(alloc, self.arities.as_slice())?;
-        let slots = shared_slots(&self.slots)?;
+        let arities = self.arities.share(alloc)?;
+        let slots = self.slots.share(alloc)?;
         Ok(Tables {
             classes,
             arities,
@@ -273,13 +271,38 @@ impl Tables {
         self.classes.classes_are_apart();
     }
 
+    /// The place for the class by a constructor's slot.
+    fn place_in(&self, slot: &Slot, class: Name) -> Option<usize>
+        requires { slot.now.first < length self.now.arities }
+        ensures { (k : ℕ) → IsSlot self.now k slot.now → MatchOption result ((q : Arity) → ¬ IsArityBelow self.now k class q) (IsPlace self.now k class) }
+    {
+        if let Some(place) = slot.later.get(class.0) {
+            return Some(*place);
+        }
+        let first = self.arities().get(slot.first);
+        if self.below(first.class, class) {
+            return Some(slot.first);
+        }
+        None
+    }
+
     /// The place of an arity of the constructor for a class below this one, the greatest if there is a greatest.
     pub fn place(&self, con: Name, class: Name) -> Option<usize>
         ensures { MatchOption result ((q : Arity) → ¬ IsArityBelow self.now con class q) (IsPlace self.now con class) }
     {
-        match self.slots.get(&con.0) {
+        match self.slots.get(con.0) {
             None => None,
-            Some(places) => places.get(&class.0).copied(),
+            Some(slot) => self.place_in(slot, class),
+        }
+    }
+
+    /// Whether the constructor has no arity.
+    pub(crate) fn is_bare(&self, con: Name) -> bool
+        ensures { OnTrue result ((d : ℕ) (q : Arity) → ¬ IsArityBelow self.now con d q) }
+    {
+        match self.slots.get(con.0) {
+            None => true,
+            Some(_) => false,
         }
     }
 
@@ -290,7 +313,7 @@ impl Tables {
         match self.place(con, class) {
             None => None,
             Some(place) => {
-                let entry = &self.arities[place];
+                let entry = self.arities().get(place);
                 Some(entry.sorts())
             }
         }
@@ -300,6 +323,7 @@ impl Tables {
     pub(crate) fn have_candidates(&self)
         ensures { (k d : ℕ) (q : Arity) → IsArityBelow self.now k d q → (c : Arity) × IsGreatestIfAny self.now k d c }
     {
+        self.order_is_decided();
         let _ = &self.slots;
     }
 
@@ -310,33 +334,30 @@ impl Tables {
         self.arities.len()
     }
 
-    /// The constructor's places.
-    fn places_of(&self, alloc: Global, con: Name) -> Result<BTreeMap<u32, usize>, AllocError>
-        ensures { IfOk result (λ places. ArePlaces self.now con (get nat_cmp places)) }
-    {
-        match self.slots.get(&con.0) {
-            None => Ok(BTreeMap::new(alloc)),
-            Some(places) => copied(&**places),
-        }
-    }
-
-    /// The places of the constructor's arities once this one stands behind the others.
-    fn places_with(
+    /// The slot of the arity's constructor once the arity stands behind the others, where it is the greatest at these classes.
+    fn slot_with(
         &self,
         alloc: Global,
         arity: &ArityEntry,
         greater: &[Name],
-    ) -> Result<BTreeMap<u32, usize>, AllocError>
+    ) -> Result<Slot, AllocError>
         requires { AreGreater self.now (arity_of arity.now) greater.now }
-        ensures { IfOk result (λ places. ArePlaces (with_arity self.now (arity_of arity.now)) arity.now.con (get nat_cmp places)) }
+        ensures { IfOk result (IsSlot (with_arity self.now (arity_of arity.now)) arity.now.con) }
     {
         self.order_is_decided();
-        let mut places = self.places_of(alloc, arity.con)?;
         let last = self.arity_count();
-        for upper in greater {
-            places.insert(upper.0, last)?;
-        }
-        Ok(places)
+        let con = arity.con;
+        let Some(slot) = self.slots.get(con.0) else {
+            let later = GrownMap::empty(alloc);
+            return Ok(Slot { first: last, later });
+        };
+        let entries = placed(alloc, greater, last)?;
+        let mut later = slot.later.share(alloc)?;
+        later.put_all(alloc, entries)?;
+        Ok(Slot {
+            first: slot.first,
+            later,
+        })
     }
 
     /// Declares a class.
@@ -369,51 +390,31 @@ impl Tables {
         ensures ok { OnOk result (self.new ≡ with_arity self.old (arity_of arity)) }
         ensures err { OnErr result (self.new ≡ self.old) }
     {
-        let places = self.places_with(alloc, &arity, greater)?;
-        let places = Arc::new(alloc, places)?;
         let con = arity.con;
-        self.arities.reserve(1)?;
-        self.slots.insert(con.0, places)?;
-        push_in_room(&mut self.arities, arity);
+        let slot = self.slot_with(alloc, &arity, greater)?;
+        let slot = Arc::new(alloc, slot)?;
+        let arity = Arc::new(alloc, arity)?;
+        let mut slots = self.slots.share(alloc)?;
+        slots.put(alloc, con.0, slot)?;
+        self.arities.push(alloc, arity)?;
+        self.slots = slots;
         Ok(())
     }
 
     /// The declared arities.
-    pub fn arities(&self) -> &[ArityEntry]
+    pub fn arities(&self) -> &GrownList<ArityEntry>
         ensures are { arities_of result.now ≡ self.now.arities }
         ensures known { Each (IsKnown self.now.classes) self.now.arities }
         ensures kept { Each (IsKeptEntry self.now.classes) result.now }
     {
-        self.arities.as_slice()
+        &self.arities
     }
 
     /// The declared classes.
-    pub(crate) fn class_entries(&self) -> &[Arc<ClassEntry>]
-        ensures are { shared_classes result.now ≡ self.now.classes }
+    pub(crate) fn class_entries(&self) -> &GrownList<ClassEntry>
+        ensures are { classes_of result.now ≡ self.now.classes }
         ensures ordered { Follows [] self.now.classes }
     {
         self.classes.entries()
     }
-}
-
-/// Arities that share their domains with these.
-fn shared_arities(alloc: Global, arities: &[ArityEntry]) -> Result<Vec<ArityEntry>, AllocError>
-    ensures same { IfOk result (λ copies. arities_of copies.items ≡ arities_of arities.now) }
-    ensures kept { IfOk result (λ copies. (cs : List Class) → Each (IsKeptEntry cs) arities.now → Each (IsKeptEntry cs) copies.items) }
-{
-    let mut copies = Vec::with_capacity(alloc, arities.len())?;
-    for arity in arities {
-        copies.push(arity.share()?)?;
-    }
-    Ok(copies)
-}
-
-/// A map that shares the places of each constructor with this one.
-fn shared_slots(
-    slots: &BTreeMap<u32, Arc<BTreeMap<u32, usize>>>,
-) -> Result<BTreeMap<u32, Arc<BTreeMap<u32, usize>>>, AllocError>
-    ensures { IfOk result (λ copies. (k d : ℕ) → places_in (get nat_cmp copies k) d ≡ places_in (get nat_cmp slots.now k) d) }
-{
-    let copies = slots.clone()?;
-    Ok(copies)
 }

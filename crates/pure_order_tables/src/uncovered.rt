@@ -5,8 +5,9 @@ ghost use Rattle.pure_order_tables.specs.Classes.{IsDeclared};
 ghost use Rattle.pure_order_tables.specs.Kept.{AreKeptEntries, IsKeptEntry};
 ghost use Rattle.pure_order_tables.specs.Uncovered.{Extends, IsAbovePlace, IsBelowPlace, IsUncovered, IsWithinArities};
 
-use crate::rows::{empty_row, holds_only, put_place, put_row};
+use crate::rows::{empty_row, end_below, holds_only, put_place, put_row};
 use crate::tables::{ArityEntry, Tables};
+use pure_shelf::GrownList;
 use std::alloc::{AllocError, Global};
 
 /// Whether the places are the same.
@@ -30,7 +31,7 @@ impl Tables {
     fn is_below_at(
         &self,
         arity: &ArityEntry,
-        entries: &[ArityEntry],
+        entries: &GrownList<ArityEntry>,
         other: &Tables,
         place: Option<usize>,
     ) -> bool
@@ -42,7 +43,7 @@ impl Tables {
         match place {
             None => false,
             Some(place) => {
-                let entry = &entries[place];
+                let entry = entries.get(place);
                 self.arity_below(arity, entry)
             }
         }
@@ -52,7 +53,7 @@ impl Tables {
     fn is_below_new(
         &self,
         arity: &ArityEntry,
-        entries: &[ArityEntry],
+        entries: &GrownList<ArityEntry>,
         other: &Tables,
         place: Option<usize>,
         bare: Option<usize>,
@@ -75,7 +76,7 @@ impl Tables {
         match place {
             None => true,
             Some(place) => {
-                let entry = &self.arities()[place];
+                let entry = self.arities().get(place);
                 self.arity_below(entry, arity)
             }
         }
@@ -101,7 +102,7 @@ impl Tables {
         &self,
         alloc: Global,
         arity: &ArityEntry,
-        entries: &[ArityEntry],
+        entries: &GrownList<ArityEntry>,
         other: &Tables,
     ) -> Result<Vec<u64>, AllocError>
         requires extends { Extends self.now other.now }
@@ -116,8 +117,9 @@ impl Tables {
         let mut row = empty_row(alloc, count / 64 + 1)?;
         let mut covered = empty_row(alloc, count / 64 + 1)?;
         let mut bare = None;
-        for i in 0..count {
-            let number = count - 1 - i;
+        let mut end = count;
+        while end > 0 {
+            let number = end - 1;
             if holds_only(up, covered.as_slice(), number) {
                 let place = other.place(arity.con, self.class_name(number));
                 if self.is_below_new(arity, entries, other, place, bare) {
@@ -127,6 +129,7 @@ impl Tables {
                     put_place(&mut row, number);
                 }
             }
+            end = end_below(up, covered.as_slice(), number);
         }
         Ok(row)
     }

@@ -4,7 +4,7 @@ ghost use Rattle.pure_text.specs.Lists.{IsIn, Each};
 ghost use Rattle.pure_definitions.specs.Types.Order.{Algebra, IsCoregular};
 ghost use Rattle.pure_order_tables.specs.Checks.{IsLeastConflict};
 ghost use Rattle.pure_order_tables.specs.ArityView.{arity_of, arities_of};
-ghost use Rattle.pure_order_tables.specs.ClassView.{shared_classes};
+ghost use Rattle.pure_order_tables.specs.ClassView.{classes_of};
 ghost use Rattle.pure_order_tables.specs.Classes.{Agree, Follows};
 ghost use Rattle.pure_order_tables.specs.Arities.{IsKnown, IsUnion, IsUnionInOrder};
 ghost use Rattle.pure_order_tables.specs.Others.{AreWithOthers};
@@ -12,9 +12,9 @@ ghost use Rattle.pure_order_tables.specs.Kept.{IsKeptEntry};
 
 use crate::classes::ClassEntry;
 use crate::tables::{ArityEntry, Tables};
+use pure_shelf::GrownList;
 use pure_typ::{Name, Sort};
 use std::alloc::{AllocError, Global};
-use std::sync::Arc;
 
 /// Whether the sorts are the same.
 fn are_same_sorts(first: &[Sort], second: &[Sort]) -> bool
@@ -37,7 +37,9 @@ impl Tables {
     pub(crate) fn has_same(&self, arity: &ArityEntry) -> bool
         ensures { IsTrue result ↔ IsIn (arity_of arity.now) self.now.arities }
     {
-        for other in self.arities() {
+        let arities = self.arities();
+        for i in 0..arities.len() {
+            let other = arities.get(i);
             if is_same_arity(arity, other) {
                 return true;
             }
@@ -46,14 +48,18 @@ impl Tables {
     }
 
     /// Declares those of the classes that aren't declared yet.
-    fn push_classes(&mut self, alloc: Global, entries: &[Arc<ClassEntry>]) -> Result<(), AllocError>
-        requires ordered { Follows [] (shared_classes entries.now) }
-        requires agree { Agree self.old.classes (shared_classes entries.now) }
-        ensures classes { OnOk result (AreWithOthers self.old.classes (shared_classes entries.now) self.new.classes) }
+    fn push_classes(
+        &mut self,
+        alloc: Global,
+        entries: &GrownList<ClassEntry>,
+    ) -> Result<(), AllocError>
+        requires ordered { Follows [] (classes_of entries.now) }
+        requires agree { Agree self.old.classes (classes_of entries.now) }
+        ensures classes { OnOk result (AreWithOthers self.old.classes (classes_of entries.now) self.new.classes) }
         ensures arities { OnOk result (self.new.arities ≡ self.old.arities) }
     {
-        for pointer in entries {
-            let entry = &**pointer;
+        for i in 0..entries.len() {
+            let entry = entries.get(i);
             if !self.is_declared(entry.name) {
                 self.push_class(alloc, entry.name, entry.above.as_slice())?;
             }
@@ -66,7 +72,7 @@ impl Tables {
         &mut self,
         alloc: Global,
         first: &Tables,
-        arities: &[ArityEntry],
+        arities: &GrownList<ArityEntry>,
     ) -> Result<(), AllocError>
         requires known { Each (IsKnown self.old.classes) (arities_of arities.now) }
         requires kept { Each (IsKeptEntry self.old.classes) arities.now }
@@ -74,7 +80,8 @@ impl Tables {
         ensures classes { OnOk result (self.new.classes ≡ self.old.classes) }
         ensures arities { OnOk result (AreWithOthers first.now.arities (arities_of arities.now) self.new.arities) }
     {
-        for arity in arities {
+        for i in 0..arities.len() {
+            let arity = arities.get(i);
             if !first.has_same(arity) {
                 let uncovered = self.uncovered(alloc, arity, self.arities(), self)?;
                 let greater = self.greater(alloc, arity, uncovered.as_slice())?;
@@ -104,10 +111,10 @@ impl Tables {
         tables.push_classes(alloc, other.class_entries())?;
         tables.are_in_order();
         let theirs = tables.all_kept(alloc, other)?;
-        if let Some(found) = tables.least_conflict(alloc, self, other, theirs.as_slice())? {
+        if let Some(found) = tables.least_conflict(alloc, self, other, &theirs)? {
             return Ok(Err(found));
         }
-        tables.push_arities(alloc, self, theirs.as_slice())?;
+        tables.push_arities(alloc, self, &theirs)?;
         Ok(Ok(tables))
     }
 }

@@ -43,7 +43,12 @@ impl Tables {
     pub fn arity(&self, con: Name, class: Name) -> Option<&[Sort]>
         ensures { MatchOption result (¬ HasArityFor self.now con class) (λ domains. IsIn (record { con = con; domains = domains.now; class = class }) self.now.arities) }
     {
-        for arity in self.arities() {
+        let Some(_) = self.place(con, class) else {
+            return None;
+        };
+        let arities = self.arities();
+        for i in 0..arities.len() {
+            let arity = arities.get(i);
             if is_for(arity, con, class) {
                 return Some(arity.sorts());
             }

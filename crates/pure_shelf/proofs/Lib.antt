@@ -3,3 +3,4 @@ pub mod MergeLaws
 pub mod RunLaws
 pub mod PowerLaws
 pub mod ShelfLaws
+pub mod GrownLaws

@@ -16,7 +16,7 @@ pub struct Entry<V> {
 }
 
 /// An entry with the same key and value.
-fn shared_entry<V: Drop>(entry: &Entry<V>) -> Result<Entry<V>, AllocError>
+pub(crate) fn shared_entry<V: Drop>(entry: &Entry<V>) -> Result<Entry<V>, AllocError>
     ensures { IfOk result (λ e. pair_of e ≡ pair_of entry.now) }
 {
     let value = Arc::try_clone(&entry.value)?;

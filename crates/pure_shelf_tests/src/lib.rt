@@ -2,4 +2,6 @@
 #![tactic(auto)]
 
 #[cfg(test)]
+mod grown;
+#[cfg(test)]
 mod shelves;

@@ -11,6 +11,10 @@ use Rattle.std.proofs.lemmas.Map.Keys.{sorted_head, sorted_tail}
 abbrev pub byte_order : List ℕ → List ℕ → Ordering
 byte_order = slice_cmp nat_cmp
 
+-- Two texts of which neither is below the other are the same.
+pub equal_texts : (x y : List ℕ) → byte_order x y ≡ Equal → x ≡ y
+equal_texts x y e = same_text x y (sym (texts_ties x y ∙ ap is_eq e))
+
 abbrev IsBelowAll : List ℕ → List (List ℕ) → Type 0
 IsBelowAll x ys = AllByRecursion (λ y. byte_order x y ≡ Less) ys
 
@@ -46,7 +50,7 @@ not_less x xs y ys sorted have less =
 heads_equal : (x : List ℕ) (xs : List (List ℕ)) (y : List ℕ) (ys : List (List ℕ)) → IsStrictlySortedBy byte_order (x ∷ xs) → IsStrictlySortedBy byte_order (y ∷ ys) → HaveSame (x ∷ xs) (y ∷ ys)
     → (o : Ordering) → byte_order x y ≡ o → x ≡ y
 heads_equal x xs y ys a b have Less h = absurd (not_less x xs y ys b have h)
-heads_equal x xs y ys a b have Equal h = same_text x y (sym (texts_ties x y ∙ ap is_eq h))
+heads_equal x xs y ys a b have Equal h = equal_texts x y h
 heads_equal x xs y ys a b have Greater h = absurd (not_less y ys x xs a (λ t. sym (have t)) (nat_list_cmp_total.antisymm y x ∙ ap ordering_reverse h))
 
 tails_same : (x : List ℕ) (xs ys : List (List ℕ)) → IsBelowAll x xs → IsBelowAll x ys → HaveSame (x ∷ xs) (x ∷ ys) → (t : List ℕ) (b : Bool) → b ≡ same t x → list_any (same t) xs ≡ list_any (same t) ys

@@ -4,4 +4,6 @@ pub mod AscendingTexts
 pub mod ListLaws
 pub mod Joins
 pub mod LoopLaws
+pub mod MergeLaws
 pub mod TextSets
+pub mod TextListLaws

@@ -1,6 +1,5 @@
-use Rattle.std.proofs.Common.{◌+◌, take, take_all}
+use Rattle.std.proofs.Common.{◌+◌, take_all}
 use Rattle.pure_text.proofs.AnswerLaws.{test_fails}
-use Rattle.pure_order_tables.specs.Exposed.{AreIn}
 use Rattle.pure_order_tables.proofs.ConflictLaws.{AreSeen, clash_kept, clash_put, seen_all, seen_here, seen_more, seen_split, seen_start}
 use Rattle.pure_order_tables.proofs.conflicts.least_clash.Goals as goal
 use Rattle.pure_order_tables.proofs.conflicts.least_clash.Goals.{then-clash, else-clash}

@@ -1,7 +1,6 @@
 use Rattle.std.proofs.Common.{◌∙◌, ℕ, refl, inl, take_all}
 use Rattle.pure_text.proofs.ListLaws.{each_read, read_in}
 use Rattle.pure_text.proofs.LoopLaws.{each_turn}
-use Rattle.pure_text.specs.Lists.{IsIn, Each}
 use Rattle.pure_order_tables.specs.Classes.{IsDeclared}
 use Rattle.pure_order_tables.specs.ClassTable.{IsNumber}
 use Rattle.pure_order_tables.specs.Rows.{Holds}

@@ -1,6 +1,5 @@
-use Rattle.pure_order_tables.specs.Shares.{values_of}
 use Rattle.pure_order_tables.proofs.ClassTableLaws.{decided}
 use Rattle.pure_order_tables.proofs.classes.ClassTable.order_is_decided.Goals as goal
 
 pub returns : goal.returns
-returns c = rw c.self.view_is at (decided (values_of c.self.inside.entries.items) c.self.inside.numbers c.self.invariant)
+returns c = rw c.self.view_is at (decided c.self.inside.entries c.self.inside.numbers c.self.invariant)

@@ -5,8 +5,8 @@ use Rattle.pure_order_tables.specs.ArityView.{arities_of}
 use Rattle.pure_order_tables.specs.Exposed.{IsExposed}
 use Rattle.pure_order_tables.proofs.tables.Tables.exposed.Given as goal
 
-abbrev pub invariant-loop-arity : goal.invariant-loop-arity
-invariant-loop-arity l = record {
+abbrev pub invariant-loop-i : goal.invariant-loop-i
+invariant-loop-i l = record {
   from : Each (λ e. (a : Arity) × IsIn a (arities_of l.arities) × IsExposed l.self l.other a e) l.exposed.items;
-  all : Each (λ a. IsIn a l.other.arities ⊎ AnyOf (IsExposed l.self l.other a) l.exposed.items) (arities_of (take l.arity-index l.arities));
+  all : Each (λ a. IsIn a l.other.arities ⊎ AnyOf (IsExposed l.self l.other a) l.exposed.items) (arities_of (take l.i l.arities));
 }

@@ -6,11 +6,11 @@ use Rattle.pure_order_tables.proofs.CoregularLaws.{one_more_arity}
 use Rattle.pure_order_tables.proofs.tables.Tables.has_same.Goals as goal
 
 pub returns-then-is_same_arity : goal.returns-then-is_same_arity
-returns-then-is_same_arity c = yes_as _ (rw (c.is_same_arity.ensures.0 c.if-is_same_arity.true, ← c.arities-other-items.ensures.are) (in-map arity_of c.other-item.result c.arities-other-items.result.now (read_in c.arities-other-items.result.now c.loop-other.other-index c.other-item.result c.loop-other-test.true c.other-item.is)))
+returns-then-is_same_arity c = yes_as _ (rw (c.is_same_arity.ensures.0 c.if-is_same_arity.true, ← c.arities-arities.ensures.are) (in-map arity_of c.get-other.result.now c.arities-arities.result.now (read_in c.arities-arities.result.now c.loop-i.i c.get-other.result.now (rw c.len-i-end.ensures at c.loop-i-test.true) c.get-other.ensures)))
 
-pub loop-other-preserved : goal.loop-other-preserved
-loop-other-preserved c m =
-    elim (in_split (arity_of c.args.arity.now) (arities_of (take c.loop-other.other-index c.arities-other-items.result.now)) (arity_of c.other-item.result ∷ []) (rw (one_more_arity c.arities-other-items.result.now c.loop-other.other-index c.other-item.result c.loop-other-test.true c.other-item.is) at m)) [
-      | inl before ↦ c.loop-other.invariant before
+pub loop-i-preserved : goal.loop-i-preserved
+loop-i-preserved c m =
+    elim (in_split (arity_of c.args.arity.now) (arities_of (take c.loop-i.i c.arities-arities.result.now)) (arity_of c.get-other.result.now ∷ []) (rw (one_more_arity c.arities-arities.result.now c.loop-i.i c.get-other.result.now (rw c.len-i-end.ensures at c.loop-i-test.true) c.get-other.ensures) at m)) [
+      | inl before ↦ c.loop-i.invariant before
       | inr w ↦ elim w [ inl here ↦ test_fails _ c.is_same_arity.result c.is_same_arity.ensures c.if-is_same_arity.false here | inr none ↦ absurd none ]
     ]

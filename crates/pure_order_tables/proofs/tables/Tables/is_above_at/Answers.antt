@@ -10,7 +10,7 @@ pub arity_below-requires-clause-first : goal.arity_below-requires-clause-first
 arity_below-requires-clause-first c =
     let short : c.in-Some.place < length c.args.self.now.arities = rw c.in-Some.is at c.requires.within in
     let within : c.in-Some.place < length c.arities.result.now = rw (← c.arities.ensures.are, length-map c.arities.result.now arity_of) at short in
-    each_read (IsKeptEntry c.args.self.now.classes) c.arities.result.now c.in-Some.place c.index-arities-place.result within c.index-arities-place.is c.arities.ensures.kept
+    each_read (IsKeptEntry c.args.self.now.classes) c.arities.result.now c.in-Some.place c.get-entry.result.now within c.get-entry.ensures c.arities.ensures.kept
 
 pub returns-in-Some : goal.returns-in-Some
-returns-in-Some c = rw c.in-Some.is (above_read c.args.self.now (arity_of c.args.arity.now) c.arities.result.now c.in-Some.place c.index-arities-place.result (arity_of c.index-arities-place.result).domains (arity_of c.args.arity.now).domains c.arity_below.result c.arities.ensures.are (rw c.in-Some.is at c.requires.within) c.index-arities-place.is refl refl c.arity_below.ensures)
+returns-in-Some c = rw c.in-Some.is (above_read c.args.self.now (arity_of c.args.arity.now) c.arities.result.now c.in-Some.place c.get-entry.result.now (arity_of c.get-entry.result.now).domains (arity_of c.args.arity.now).domains c.arity_below.result c.arities.ensures.are (rw c.in-Some.is at c.requires.within) c.get-entry.ensures refl refl c.arity_below.ensures)

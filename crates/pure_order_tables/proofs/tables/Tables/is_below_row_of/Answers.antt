@@ -1,5 +1,5 @@
 use Rattle.pure_order_tables.proofs.KeptLaws.{from_words, rows_below}
-use Rattle.std.proofs.Common.{◌≤◌, length, arith}
+use Rattle.std.proofs.Common.{◌≤◌, length}
 use Rattle.pure_order_tables.proofs.tables.Tables.is_below_row_of.Goals as goal
 
 pub returns : goal.returns

@@ -1,5 +1,4 @@
-use Rattle.std.proofs.Common.{◌∙◌, ◌≡◌, sym}
-use Rattle.pure_order_tables.specs.ArityView.{arities_of}
+use Rattle.std.proofs.Common.{◌∙◌, sym}
 use Rattle.pure_order_tables.proofs.ConflictLaws.{conflict_found}
 use Rattle.pure_order_tables.proofs.tables.Tables.least_conflict.Goals as goal
 

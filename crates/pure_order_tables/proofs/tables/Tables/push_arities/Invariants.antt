@@ -3,8 +3,8 @@ use Rattle.pure_order_tables.specs.ArityView.{arities_of}
 use Rattle.pure_order_tables.specs.Others.{AreWithOthers}
 use Rattle.pure_order_tables.proofs.tables.Tables.push_arities.Given as goal
 
-abbrev pub invariant-loop-arity : goal.invariant-loop-arity
-invariant-loop-arity l = record {
+abbrev pub invariant-loop-i : goal.invariant-loop-i
+invariant-loop-i l = record {
   classes : l.self.classes ≡ l.fn.self.classes;
-  arities : AreWithOthers l.first.arities (arities_of (take l.arity-index l.arities)) l.self.arities;
+  arities : AreWithOthers l.first.arities (arities_of (take l.i l.arities)) l.self.arities;
 }

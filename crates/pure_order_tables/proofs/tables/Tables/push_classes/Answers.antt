@@ -7,23 +7,23 @@ use Rattle.pure_order_tables.proofs.tables.Tables.push_classes.Goals as goal
 use Rattle.pure_order_tables.proofs.tables.Tables.push_classes.Goals.{then-not-is_declared+in_ok-push_class, else-not-is_declared}
 
 pub push_class-requires-clause-known : goal.push_class-requires-clause-known
-push_class-requires-clause-known c = rw c.as_slice.ensures.value (above_known c.loop-pointer.self.classes c.args.self.now.classes c.args.entries.now c.loop-pointer.pointer-index c.pointer-item.result c.deref-entry.result.now c.loop-pointer-test.true c.pointer-item.is c.deref-entry.ensures c.requires.ordered c.loop-pointer.invariant.classes)
+push_class-requires-clause-known c = rw c.as_slice.ensures.value (above_known c.loop-i.self.classes c.args.self.now.classes c.args.entries.now c.loop-i.i c.get-entry.result.now (rw c.len-i-end.ensures at c.loop-i-test.true) c.get-entry.ensures c.requires.ordered c.loop-i.invariant.classes)
 
-pub loop-pointer-init : goal.loop-pointer-init
-loop-pointer-init c = record { classes = others_none c.args.self.now.classes; arities = refl }
+pub loop-i-init : goal.loop-i-init
+loop-i-init c = record { classes = others_none c.args.self.now.classes; arities = refl }
 
-pub loop-pointer-preserved : goal.loop-pointer-preserved
-loop-pointer-preserved c = elim c.if-not-is_declared.branch [
+pub loop-i-preserved : goal.loop-i-preserved
+loop-i-preserved c = elim c.if-not-is_declared.branch [
   | then-not-is_declared+in_ok-push_class w ↦ record {
-    classes = rw w.self-is (union_put c.loop-pointer.self.classes w.push_class.new.self.classes c.args.self.now.classes c.args.entries.now c.loop-pointer.pointer-index c.pointer-item.result c.deref-entry.result.now c.loop-pointer-test.true c.pointer-item.is c.deref-entry.ensures
-        (rw w.as_slice.ensures.value at (ap (λ (A : Algebra). A.classes) w.in_ok-push_class.ensures.ok)) (test_fails _ c.is_declared.result c.is_declared.ensures w.if-not-is_declared.true) c.loop-pointer.invariant.classes);
-    arities = rw w.self-is (ap (λ (A : Algebra). A.arities) w.in_ok-push_class.ensures.ok ∙ c.loop-pointer.invariant.arities);
+    classes = rw w.self-is (union_put c.loop-i.self.classes w.push_class.new.self.classes c.args.self.now.classes c.args.entries.now c.loop-i.i c.get-entry.result.now (rw c.len-i-end.ensures at c.loop-i-test.true) c.get-entry.ensures
+        (rw w.as_slice.ensures.value at (ap (λ (A : Algebra). A.classes) w.in_ok-push_class.ensures.ok)) (test_fails _ c.is_declared.result c.is_declared.ensures w.if-not-is_declared.true) c.loop-i.invariant.classes);
+    arities = rw w.self-is (ap (λ (A : Algebra). A.arities) w.in_ok-push_class.ensures.ok ∙ c.loop-i.invariant.arities);
   }
   | else-not-is_declared w ↦ record {
-    classes = rw w.self-is (union_kept c.loop-pointer.self.classes c.args.self.now.classes c.args.entries.now c.loop-pointer.pointer-index c.pointer-item.result c.deref-entry.result.now c.loop-pointer-test.true c.pointer-item.is c.deref-entry.ensures c.requires.ordered c.requires.agree (c.is_declared.ensures.0 w.if-not-is_declared.false) c.loop-pointer.invariant.classes);
-    arities = rw w.self-is c.loop-pointer.invariant.arities;
+    classes = rw w.self-is (union_kept c.loop-i.self.classes c.args.self.now.classes c.args.entries.now c.loop-i.i c.get-entry.result.now (rw c.len-i-end.ensures at c.loop-i-test.true) c.get-entry.ensures c.requires.ordered c.requires.agree (c.is_declared.ensures.0 w.if-not-is_declared.false) c.loop-i.invariant.classes);
+    arities = rw w.self-is c.loop-i.invariant.arities;
   }
 ]
 
 pub returns-clause-classes : goal.returns-clause-classes
-returns-clause-classes c = rw (take_all c.loop-pointer.pointer-index c.args.entries.now c.loop-pointer-test.false) at c.loop-pointer.invariant.classes
+returns-clause-classes c = rw (take_all c.loop-i.i c.args.entries.now (rw c.len-i-end.ensures at c.loop-i-test.false)) at c.loop-i.invariant.classes

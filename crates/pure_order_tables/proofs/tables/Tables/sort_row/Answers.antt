@@ -1,4 +1,3 @@
-use Rattle.pure_text.proofs.AnswerLaws.{test_fails}
 use Rattle.pure_order_tables.proofs.KeptLaws.{row_all, row_held, row_put, row_start}
 use Rattle.pure_order_tables.proofs.tables.Tables.sort_row.Goals as goal
 use Rattle.pure_order_tables.proofs.tables.Tables.sort_row.Goals.{then-not-holds, else-not-holds}
