@@ -58,7 +58,8 @@ fn texts(alloc: Global, rows: &[(&[u8], u32)]) -> Result<Vec<Text>, AllocError>
 
 /// The names of the table.
 pub fn session(alloc: Global) -> Result<Names, AllocError> {
-    Ok(Names::make(texts(alloc, &NAMES[BUILTIN..])?))
+    let names = Names::make(alloc, texts(alloc, &NAMES[BUILTIN..])?)?;
+    Ok(names)
 }
 
 /// The name with the text, or a number above the table.

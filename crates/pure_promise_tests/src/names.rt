@@ -23,7 +23,8 @@ fn texts(alloc: Global, rows: &[&[u8]]) -> Result<Vec<Text>, AllocError>
 
 /// The names of the tests.
 pub(crate) fn own_names(alloc: Global) -> Result<Names, AllocError> {
-    Ok(Names::make(texts(alloc, &TEXTS)?))
+    let names = Names::make(alloc, texts(alloc, &TEXTS)?)?;
+    Ok(names)
 }
 
 /// The name of the lemma at the place: `A.bad`, `A.u`, `A.v` and `A.ok`, and so again.

@@ -5,4 +5,3 @@ pub mod Places
 pub mod States
 pub mod Faults
 pub mod Laws
-pub mod TextLists

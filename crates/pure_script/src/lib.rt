@@ -10,12 +10,11 @@ mod place;
 mod proof;
 mod read;
 mod state;
-mod text_list;
 mod texts;
 mod theory;
 mod turn;
 mod typedecl;
 
+pub use pure_text::TextList;
 pub use read::read_theory;
-pub use text_list::TextList;
 pub use theory::{Command, ScriptFault, Span, Step, TheoryText};

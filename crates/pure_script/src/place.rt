@@ -7,11 +7,10 @@ ghost use Rattle.pure_script.specs.Places.{seen_place, seen_type_place, seen_ari
 ghost use Rattle.pure_script.specs.Lexemes.{seen_lexeme};
 
 use crate::lexeme::{Lexeme, ident_in, is_word, name_in, variable_in};
-use crate::text_list::TextList;
 use crate::texts::Texts;
 use crate::theory::{Command, Span, Step};
 use pure_grammar::Keyword;
-use pure_text::Text;
+use pure_text::{Text, TextList};
 use std::alloc::{AllocError, Global};
 
 /// The methods that take one fact.

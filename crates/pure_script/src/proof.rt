@@ -12,10 +12,9 @@ use crate::place::{
     Course, FactMethod, Goal, LemmaPlace, Place, ProofPlace, RestPlace, Turn, at_command, ident,
     moves_if, name, of_lemma,
 };
-use crate::text_list::TextList;
 use crate::theory::{Command, Span, Step};
 use pure_grammar::{Keyword, Sign};
-use pure_text::Text;
+use pure_text::{Text, TextList};
 use std::alloc::{AllocError, Global};
 use std::mem;
 

@@ -2,9 +2,8 @@
 ghost use Rattle.std.specs.Prelude.{◌≡◌, IfOk};
 ghost use Rattle.pure_script.specs.Seen.{seen_step};
 
-use crate::text_list::TextList;
 use pure_grammar::TokenKind;
-use pure_text::Text;
+use pure_text::{Text, TextList};
 use std::alloc::{AllocError, Global};
 
 /// A range of the source.

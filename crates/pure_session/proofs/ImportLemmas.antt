@@ -12,7 +12,8 @@ use Rattle.pure_session.specs.ImportGraph.{theories, AreLinked, MarksPlaces}
 use Rattle.pure_session.specs.Places.{place_in, HasMark}
 use Rattle.pure_graph.proofs.LawsLemmas.{linked_theories}
 use Rattle.pure_graph.proofs.Ascending.{among-in, in-among}
-use Rattle.pure_session.proofs.FoldLemmas.{rest_at, drop_past}
+use Rattle.pure_text.proofs.MergeLaws.{past_end}
+use Rattle.pure_session.proofs.FoldLemmas.{rest_at}
 use Rattle.pure_session.proofs.PlaceLemmas.{place-in, place-or_not}
 
 -- ---- a search from the front
@@ -29,7 +30,7 @@ pub find-here : {A : Type 0} (test : A → Bool) (xs : List A) (i : ℕ) (x : A)
 find-here test xs i x within read hit so_far = so_far ∙ ap (find test) (rest_at xs i x within read) ∙ find-hit test x (drop (i + 1) xs) hit
 
 pub find-end : {A : Type 0} (test : A → Bool) (xs : List A) (i : ℕ) → length xs ≤ i → find test xs ≡ find test (drop i xs) → find test xs ≡ None
-find-end test xs i past so_far = so_far ∙ ap (find test) (drop_past xs i past)
+find-end test xs i past so_far = so_far ∙ ap (find test) (past_end xs i past)
 
 kept_find : {A : Type 0} (test : A → Bool) (x : A) (xs : List A) (b : Bool) → find test (cond b (x ∷ xs) xs) ≡ cond (b && test x) (Some x) (find test xs)
 kept_find test x xs true = refl

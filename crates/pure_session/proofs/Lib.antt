@@ -10,4 +10,5 @@ pub mod LoadLemmas
 pub mod SetLemmas
 pub mod TokenLemmas
 pub mod PlainLemmas
+pub mod NamesLemmas
 pub mod LoadedLemmas

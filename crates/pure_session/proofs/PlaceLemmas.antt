@@ -8,7 +8,7 @@ use Rattle.std.specs.Cmp.Lexicographic.{same_text, nat_list_cmp_total, nat_list_
 use Rattle.std.proofs.lemmas.Map.Keys.{sorted_head, sorted_tail}
 use Rattle.std.proofs.lemmas.Bool.{cases_lt}
 use Rattle.pure_text.specs.Lists.{IsIn}
-use Rattle.pure_text.proofs.AscendingTexts.{byte_order}
+use Rattle.pure_text.proofs.AscendingTexts.{byte_order, equal_texts}
 use Rattle.pure_grammar.specs.Theories.Lexeme.{same}
 use Rattle.pure_session.specs.Places.{place_in}
 
@@ -77,14 +77,11 @@ pairs_ascend (x ∷ xs) i zero d sorted less h = absurd (omega arith)
 pairs_ascend (x ∷ xs) zero (suc j) d sorted less h = below-at x xs j d (sorted_head byte_order x xs sorted) (omega arith)
 pairs_ascend (x ∷ xs) (suc i) (suc j) d sorted less h = pairs_ascend xs i j d (sorted_tail byte_order x xs sorted) (omega arith) (omega arith)
 
-equal_text : (a b : List ℕ) → byte_order a b ≡ Equal → a ≡ b
-equal_text a b e = same_text a b (sym (texts_ties a b ∙ ap is_eq e))
-
 pub place-hit : (texts : List (List ℕ)) (t : List ℕ) (k : ℕ) → IsStrictlySortedBy byte_order texts → k < length texts → ((d : List ℕ) → byte_order (get_or texts k d) t ≡ Equal) → k ≡ place_in texts t
 place-hit [] t k sorted h found = absurd (omega arith)
 place-hit (x ∷ xs) t zero sorted h found = sym (place-head x xs t (texts_ties x t ∙ ap is_eq (found x)))
 place-hit (x ∷ xs) t (suc k) sorted h found =
-    let there : get_or xs k x ≡ t = equal_text (get_or xs k x) t (found x) in
+    let there : get_or xs k x ≡ t = equal_texts (get_or xs k x) t (found x) in
     let less : byte_order x t ≡ Less = subst (λ u. byte_order x u ≡ Less) there (below-at x xs k x (sorted_head byte_order x xs sorted) (omega arith)) in
     ap suc (place-hit xs t k (sorted_tail byte_order x xs sorted) (omega arith) found) ∙ sym (place-tail x xs t (texts_ties x t ∙ ap is_eq less))
 
@@ -100,7 +97,7 @@ at_most_last Greater = omega arith
 
 index_rises : (a b t : List ℕ) → byte_order a b ≡ Less → (o : Ordering) → byte_order b t ≡ o → ordering_index (byte_order a t) ≤ ordering_index (byte_order b t)
 index_rises a b t less Less e = let before : byte_order a t ≡ Less = nat_list_cmp_total.trans a b t less e in rw (before, e) (omega arith)
-index_rises a b t less Equal e = let before : byte_order a t ≡ Less = subst (λ u. byte_order a u ≡ Less) (equal_text b t e) less in rw (before, e) (omega arith)
+index_rises a b t less Equal e = let before : byte_order a t ≡ Less = subst (λ u. byte_order a u ≡ Less) (equal_texts b t e) less in rw (before, e) (omega arith)
 index_rises a b t less Greater e = rw e (at_most_last (byte_order a t))
 
 same_place : (xs : List (List ℕ)) (t : List ℕ) (i j : ℕ) (d : List ℕ) → i ≡ j → ordering_index (byte_order (get_or xs i d) t) ≤ ordering_index (byte_order (get_or xs j d) t)

@@ -15,7 +15,7 @@ use crate::order::Loaded;
 use crate::reason::joined;
 use crate::texts::{put, put_source};
 use pure_script::Command;
-use pure_text::Text;
+use pure_text::{Text, TextList};
 use pure_typ::Names;
 use std::alloc::{AllocError, Global};
 use std::collections::BTreeSet;
@@ -101,40 +101,57 @@ fn put_theory(
     Ok(())
 }
 
-/// The texts that the theories give.
-fn texts_of(alloc: Global, theories: &[Loaded]) -> Result<BTreeSet<Vec<u8>>, AllocError>
-    ensures { IfOk result (λ texts. (t : List ℕ) → IsIn t (texts_in texts) ↔ AnyOf (λ loaded. IsGiven loaded t) (all_loaded theories.now)) }
-{
-    let mut texts = BTreeSet::new(alloc);
-    for loaded in theories {
-        put_theory(alloc, &mut texts, loaded)?;
-    }
-    Ok(texts)
-}
-
 /// The texts of the set, in byte order.
-fn listed(alloc: Global, texts: &BTreeSet<Vec<u8>>) -> Result<Vec<Text>, AllocError>
-    ensures texts { IfOk result (λ list. list.items ≡ texts_in texts.now) }
-    ensures ascend { IfOk result (λ list. IsStrictlySortedBy (slice_cmp nat_cmp) list.items) }
+fn listed(alloc: Global, texts: &BTreeSet<Vec<u8>>) -> Result<TextList, AllocError>
+    ensures texts { IfOk result (λ list. list ≡ texts_in texts.now) }
+    ensures ascend { IfOk result (λ list. IsStrictlySortedBy (slice_cmp nat_cmp) list) }
 {
-    let mut list = Vec::new(alloc);
+    let mut list = TextList::empty(alloc);
     for text in texts.iter() {
-        list.push(Text::make(alloc, text.as_slice())?)?;
+        list.push(text.as_slice())?;
     }
     Ok(list)
 }
 
-/// The names with these texts, if they aren't too many; else memory fails.
-fn named(alloc: Global, texts: &BTreeSet<Vec<u8>>) -> Result<Names, AllocError>
-    requires { (m n : ℕ) (text : List ℕ) → slice_get builtin_texts m ≡ Some text → slice_get (texts_in texts.now) n ≢ Some text }
-    ensures same { IfOk result (λ names. names ≡ texts_in texts.now) }
-    ensures ascend { IfOk result (λ names. IsStrictlySortedBy (slice_cmp nat_cmp) names) }
+/// The texts that a theory gives, in byte order.
+fn given(alloc: Global, loaded: &Loaded) -> Result<TextList, AllocError>
+    ensures { IfOk result (λ texts. AreNames (seen_loaded loaded.now ∷ []) texts) }
 {
-    let list = listed(alloc, texts)?;
-    if list.len() >= MOST_TEXTS {
+    let mut texts = BTreeSet::new(alloc);
+    put_theory(alloc, &mut texts, loaded)?;
+    let list = listed(alloc, &texts)?;
+    Ok(list)
+}
+
+/// The texts that the theories give, in byte order. Lists are united by halves, since one set of all texts takes five times the memory.
+fn texts_of(alloc: Global, theories: &[Loaded]) -> Result<TextList, AllocError>
+    ensures { IfOk result (λ texts. AreNames (all_loaded theories.now) texts) }
+{
+    let count = theories.len();
+    if count == 0 {
+        return Ok(TextList::empty(alloc));
+    }
+    if count == 1 {
+        let texts = given(alloc, &theories[0])?;
+        return Ok(texts);
+    }
+    let (left, right) = theories.split_at(count / 2);
+    let left = texts_of(alloc, left)?;
+    let right = texts_of(alloc, right)?;
+    let all = left.union(alloc, &right)?;
+    Ok(all)
+}
+
+/// The names with these texts, if they aren't too many; else memory fails.
+fn named(texts: TextList) -> Result<Names, AllocError>
+    requires ascend { IsStrictlySortedBy (slice_cmp nat_cmp) texts }
+    requires others { (m n : ℕ) (text : List ℕ) → slice_get builtin_texts m ≡ Some text → slice_get texts n ≢ Some text }
+    ensures { IfOk result (λ names. names ≡ texts) }
+{
+    if texts.len() >= MOST_TEXTS {
         return Err(AllocError);
     }
-    Ok(Names::make(list))
+    Ok(Names::of_list(texts))
 }
 
 /// The names of the session of these theories.
@@ -143,6 +160,6 @@ pub(crate) fn names_of(alloc: Global, theories: &[Loaded]) -> Result<Names, Allo
     ensures { IfOk result (λ names. AreNames (all_loaded theories.now) names) }
 {
     let texts = texts_of(alloc, theories)?;
-    let names = named(alloc, &texts)?;
+    let names = named(texts)?;
     Ok(names)
 }

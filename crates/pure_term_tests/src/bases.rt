@@ -34,7 +34,8 @@ fn texts(alloc: Global, rows: &[&[u8]]) -> Result<Vec<Text>, AllocError>
 
 /// The names of the session.
 fn session(alloc: Global) -> Result<Names, AllocError> {
-    Ok(Names::make(texts(alloc, &TEXTS)?))
+    let names = Names::make(alloc, texts(alloc, &TEXTS)?)?;
+    Ok(names)
 }
 
 /// Whether the names have these numbers.

@@ -103,7 +103,8 @@ fn texts(alloc: Global, rows: &[&[u8]]) -> Result<Vec<Text>, AllocError>
 fn own_names(alloc: Global) -> Result<Names, AllocError>
     ensures { IfOk result AreSessionTexts }
 {
-    Ok(Names::make(texts(alloc, &TEXTS)?))
+    let names = Names::make(alloc, texts(alloc, &TEXTS)?)?;
+    Ok(names)
 }
 
 /// The same by their bases.

@@ -44,7 +44,8 @@ static ROWS: [(u8, &[u8], u32); 24] = [
 fn own_names(alloc: Global) -> Result<NamesByBase, AllocError>
     ensures { IfOk result (λ names. names ≡ []) }
 {
-    let names = NamesByBase::make(alloc, Names::make(Vec::new(alloc)))?;
+    let no_names = Names::make(alloc, Vec::new(alloc))?;
+    let names = NamesByBase::make(alloc, no_names)?;
     Ok(names)
 }
 

@@ -93,11 +93,6 @@ pub length-builtin_texts : length builtin_texts ≡ 6
 unfolding builtin_texts
 length-builtin_texts = refl
 
-slice_at : {X : Type 0} (xs : List X) (i : ℕ) (x d : X) → x ≡ get_or xs i x → i < length xs → x ≡ get_or xs i d
-slice_at [] i x d e h = absurd (omega arith)
-slice_at (y ∷ ys) zero x d e h = e
-slice_at (y ∷ ys) (suc i) x d e h = slice_at ys i x d e (omega arith)
-
 -- The texts below `low` are below the text that is looked for, and those from `high` on are above it.
 pub record Narrows (texts : List (List ℕ)) (w : List ℕ) (low high : ℕ) : Type 0 where
   pub below : (k : ℕ) (d : List ℕ) → k < low → slice_cmp nat_cmp (get_or texts k d) w ≡ Less
@@ -105,15 +100,12 @@ pub record Narrows (texts : List (List ℕ)) (w : List ℕ) (low high : ℕ) : T
   pub ordered : low ≤ high
   pub within : high ≤ length texts
 
-pub narrows-all : (texts : List (List ℕ)) (w : List ℕ) (high : ℕ) → high ≡ length texts → Narrows texts w 0 high
-narrows-all texts w high e = record { below = λ k d h. absurd (omega arith); above = λ k d h l. absurd (omega arith); ordered = omega arith; within = omega arith }
-
-pub narrows-up : (texts : List (List ℕ)) (w t : List ℕ) (low high middle : ℕ) → DoAscend texts → Narrows texts w low high → middle < high → t ≡ get_or texts middle t
+pub narrows-up : (texts : List (List ℕ)) (w t : List ℕ) (low high middle : ℕ) → DoAscend texts → Narrows texts w low high → middle < high → slice_get texts middle ≡ Some t
     → slice_cmp nat_cmp t w ≡ Less → Narrows texts w (middle + 1) high
 narrows-up texts w t low high middle ascend n m e less = record { below = below; above = n.above; ordered = omega arith; within = n.within }
   where
     here : (d : List ℕ) → slice_cmp nat_cmp (get_or texts middle d) w ≡ Less
-    here d = let same : get_or texts middle d ≡ t = sym (slice_at texts middle t d e (omega (arith, n.within))) in rw same less
+    here d = let same : get_or texts middle d ≡ t = get_or_from_slice_get texts middle t d e in rw same less
 
     below : (k : ℕ) (d : List ℕ) → k < middle + 1 → slice_cmp nat_cmp (get_or texts k d) w ≡ Less
     below k d h = by (nat_lt k middle) refl
@@ -124,12 +116,12 @@ narrows-up texts w t low high middle ascend n m e less = record { below = below;
             nat_list_cmp_total.trans (get_or texts k d) (get_or texts middle d) w (ascend k middle d lt (omega (arith, n.within))) (here d)
         by false f = let same : k ≡ middle = grind (arith, nat_tests) in rw same (here d)
 
-pub narrows-down : (texts : List (List ℕ)) (w t : List ℕ) (low high middle : ℕ) → DoAscend texts → Narrows texts w low high → low ≤ middle → middle < high → t ≡ get_or texts middle t
+pub narrows-down : (texts : List (List ℕ)) (w t : List ℕ) (low high middle : ℕ) → DoAscend texts → Narrows texts w low high → low ≤ middle → middle < high → slice_get texts middle ≡ Some t
     → slice_cmp nat_cmp t w ≡ Greater → Narrows texts w low middle
 narrows-down texts w t low high middle ascend n l m e greater = record { below = n.below; above = above; ordered = l; within = omega (arith, n.within) }
   where
     here : (d : List ℕ) → slice_cmp nat_cmp (get_or texts middle d) w ≡ Greater
-    here d = let same : get_or texts middle d ≡ t = sym (slice_at texts middle t d e (omega (arith, n.within))) in rw same greater
+    here d = let same : get_or texts middle d ≡ t = get_or_from_slice_get texts middle t d e in rw same greater
 
     flipped : (x y : List ℕ) → slice_cmp nat_cmp x y ≡ Greater → slice_cmp nat_cmp y x ≡ Less
     flipped x y h = nat_list_cmp_total.antisymm y x ∙ ap ordering_reverse h

@@ -7,7 +7,7 @@ ghost use Rattle.pure_typ.specs.NameTexts.{builtin_texts, name_texts, HasText, D
 ghost use Rattle.pure_typ.specs.NameBases.{base_of, name_base};
 
 use crate::name::{BUILTIN_COUNT, Name};
-use pure_text::Text;
+use pure_text::{Text, TextList};
 use std::alloc::{AllocError, Global};
 use std::cmp::Ordering;
 use std::marker::Model;
@@ -15,7 +15,7 @@ use std::marker::Model;
 /// The texts of a session's names, in byte order.
 #[derive(Debug, Drop)]
 pub struct Names {
-    texts: Vec<Text>,
+    texts: TextList,
 }
 
 impl Model for Names {
@@ -24,16 +24,25 @@ impl Model for Names {
 
     ghost Value = { List (List ℕ) };
 
-    ghost view = { λ n. n.texts.items };
+    ghost view = { λ n. n.texts };
 
-    ghost invariant = { λ n. AreSessionTexts n.texts.items };
+    ghost invariant = { λ n. AreSessionTexts n.texts };
 }
 
 impl Names {
     /// The names with these texts.
-    pub fn make(texts: Vec<Text>) -> Names
+    pub fn make(alloc: Global, texts: Vec<Text>) -> Result<Names, AllocError>
         requires { AreSessionTexts texts.items }
-        ensures { result ≡ texts.items }
+        ensures { IfOk result (λ names. names ≡ texts.items) }
+    {
+        let list = listed(alloc, texts.as_slice())?;
+        Ok(Names::of_list(list))
+    }
+
+    /// The names with the texts of the list. It takes no memory.
+    pub fn of_list(texts: TextList) -> Names
+        requires { AreSessionTexts texts }
+        ensures { result ≡ texts }
     {
         Names { texts }
     }
@@ -60,10 +69,11 @@ impl Names {
         if number < BUILTIN_COUNT {
             return Some(builtin(number));
         }
-        match self.texts.get((number - BUILTIN_COUNT) as usize) {
-            Some(text) => Some(text.bytes()),
-            None => None,
+        let place = (number - BUILTIN_COUNT) as usize;
+        if place < self.texts.len() {
+            return Some(self.texts.at(place));
         }
+        None
     }
 
     /// The texts are those of a session: they ascend, none is a text of Pure, and there are fewer than 2^31.
@@ -97,11 +107,8 @@ impl Names {
     pub fn copy(&self, alloc: Global) -> Result<Names, AllocError>
         ensures { IfOk result (λ names. names ≡ self.now) }
     {
-        let mut texts = Vec::new(alloc);
-        for text in self.texts.as_slice() {
-            texts.push(text.copy(alloc)?)?;
-        }
-        Ok(Names::make(texts))
+        let texts = self.texts.copy(alloc)?;
+        Ok(Names { texts })
     }
 
     /// The name with the three texts, one after another.
@@ -111,11 +118,22 @@ impl Names {
         if let Some(number) = find_builtin(a, b, c) {
             return Some(Name(number));
         }
-        match find_text(self.texts.as_slice(), a, b, c) {
+        match find_text(&self.texts, a, b, c) {
             Some(index) => Some(Name(index as u32 + BUILTIN_COUNT)),
             None => None,
         }
     }
+}
+
+/// These texts as one list.
+fn listed(alloc: Global, texts: &[Text]) -> Result<TextList, AllocError>
+    ensures { IfOk result (λ list. list ≡ texts.now) }
+{
+    let mut list = TextList::empty(alloc);
+    for text in texts {
+        list.push(text.bytes())?;
+    }
+    Ok(list)
 }
 
 /// The text of a name that Pure itself declares.
@@ -160,7 +178,7 @@ fn find_builtin(a: &[u8], b: &[u8], c: &[u8]) -> Option<u32>
 }
 
 /// The place of the three texts, one after another, among texts that ascend.
-fn find_text(texts: &[Text], a: &[u8], b: &[u8], c: &[u8]) -> Option<usize>
+fn find_text(texts: &TextList, a: &[u8], b: &[u8], c: &[u8]) -> Option<usize>
     requires { DoAscend texts.now }
     ensures { IsFound texts.now (a.now ++ (b.now ++ c.now)) result }
 {
@@ -168,8 +186,7 @@ fn find_text(texts: &[Text], a: &[u8], b: &[u8], c: &[u8]) -> Option<usize>
     let mut high = texts.len();
     while low < high {
         let middle = low + (high - low) / 2;
-        let text = &texts[middle];
-        match compare_joined(text.bytes(), a, b, c) {
+        match compare_joined(texts.at(middle), a, b, c) {
             Ordering::Less => low = middle + 1,
             Ordering::Greater => high = middle,
             Ordering::Equal => return Some(middle),

@@ -1,7 +1,8 @@
 use Rattle.std.proofs.Common.{refl, ap}
 use Rattle.pure_graph.specs.Seen.{seen_files}
 use Rattle.pure_session.specs.ImportGraph.{theories}
-use Rattle.pure_session.proofs.FoldLemmas.{rest_at, drop_past, fold-step, fold-end}
+use Rattle.pure_text.proofs.MergeLaws.{past_end}
+use Rattle.pure_session.proofs.FoldLemmas.{rest_at, fold-step, fold-end}
 use Rattle.pure_session.proofs.imports.theories_in.Goals as goal
 
 pub loop-file-init : goal.loop-file-init
@@ -14,4 +15,4 @@ loop-file-preserved c =
 
 pub returns : goal.returns
 returns c =
-    fold-end c.loop-file.names.items _ _ (ap (λ fs. theories (seen_files fs)) (drop_past c.args.files.now c.loop-file.file-index c.loop-file-test.false)) c.loop-file.invariant
+    fold-end c.loop-file.names.items _ _ (ap (λ fs. theories (seen_files fs)) (past_end c.args.files.now c.loop-file.file-index c.loop-file-test.false)) c.loop-file.invariant

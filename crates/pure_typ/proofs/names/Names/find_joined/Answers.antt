@@ -1,4 +1,4 @@
-use Rattle.std.proofs.Common.{◌≡◌, ◌++◌, sym, ap, ◌∙◌}
+use Rattle.std.proofs.Common.{◌++◌, ap, sym, ◌∙◌}
 use Rattle.std.specs.Prelude.{slice_get}
 use Rattle.pure_typ.specs.NameTexts.{builtin_texts}
 use Rattle.pure_typ.proofs.NamesLemmas.{none-joined, slice_get-builtin}
@@ -6,11 +6,9 @@ use Rattle.pure_typ.proofs.names.Names.find_joined.Goals as goal
 
 pub returns-in-Some-find_text : goal.returns-in-Some-find_text
 returns-in-Some-find_text c =
-    let texts : c.as_slice.result.now ≡ c.args.self.now = c.as_slice.ensures.value ∙ c.self.view_is in
-    slice_get-builtin c.args.self.now c.in-Some-find_text.index ∙ (ap (λ ts. slice_get ts c.in-Some-find_text.index) (sym texts) ∙ c.in-Some-find_text.ensures)
+    slice_get-builtin c.args.self.now c.in-Some-find_text.index ∙ (ap (λ ts. slice_get ts c.in-Some-find_text.index) (sym c.self.view_is) ∙ c.in-Some-find_text.ensures)
 
 pub returns-in-None : goal.returns-in-None
 returns-in-None c =
-    let texts : c.as_slice.result.now ≡ c.args.self.now = c.as_slice.ensures.value ∙ c.self.view_is in
     none-joined builtin_texts c.args.self.now (c.args.a.now ++ (c.args.b.now ++ c.args.c.now)) c.in_default.ensures
-    (λ n e. c.in-None.ensures n (ap (λ ts. slice_get ts n) texts ∙ e))
+    (λ n e. c.in-None.ensures n (ap (λ ts. slice_get ts n) c.self.view_is ∙ e))
