@@ -1,8 +1,7 @@
 -- Types without schematic variables stay as they are under maps that leave fixed type variables.
 use Rattle.std.proofs.Common.{◌≡◌, ℕ, ◌+◌, ◌<◌, List, [], ◌∷◌, ◌++◌, length, take, get_or, refl, ap, sym, ◌∙◌}
 use Rattle.pure_definitions.specs.Types.Typ.{Typ, TFree, TVar, Con, Typs, none, also, typs_of}
-use Rattle.pure_definitions.specs.Terms.Subst.{TypBind, typ_image, typ_instance, typs_instance, KeepsFixedTyps}
-use Rattle.pure_term_laws.proofs.SubstLaws.{entries-keep_fixed_typs}
+use Rattle.pure_definitions.specs.Terms.Subst.{TypBind, typ_instance, typs_instance, KeepsFixedTyps}
 use Rattle.pure_tunify.specs.Occurrences.{schematics, schematics_of}
 use Rattle.pure_tunify.specs.Settings.{composed}
 use Rattle.pure_tunify.proofs.SettingLaws.{composed-fixed}
@@ -27,12 +26,9 @@ module _ (typs : Typ → Typ) (keeps : KeepsFixedTyps typs) where
     closed_stay none e = refl
     closed_stay (also t ts) e = λ i. also (closed_stays t (front_empty (schematics t) (schematics_of ts) e) i) (closed_stay ts (back_empty (schematics t) (schematics_of ts) e) i)
 
--- It stays as it is under settings, and under entries.
+-- It stays as it is under settings.
 pub closed_settled : (sets : List TypBind) (T : Typ) → schematics T ≡ [] → T ≡ typ_instance (composed sets) T
 closed_settled sets T e = sym (closed_stays (composed sets) (composed-fixed sets) T e)
-
-pub closed_replaced : (binds : List TypBind) (T : Typ) → schematics T ≡ [] → T ≡ typ_instance (typ_image binds) T
-closed_replaced binds T e = sym (closed_stays (typ_image binds) (entries-keep_fixed_typs binds) T e)
 
 -- One type more without schematic variables.
 pub closed_turn : (ts : List Typ) (i : ℕ) (t : Typ) → i < length ts → t ≡ get_or ts i t → schematics_of (typs_of (take i ts)) ≡ [] → schematics t ≡ [] → schematics_of (typs_of (take (i + 1) ts)) ≡ []

@@ -1,10 +1,13 @@
 pub mod Lists
 pub mod DraftLaws
 pub mod NumberedLaws
+pub mod NumbersLaws
+pub mod ReplacedLaws
 pub mod OldLaws
 pub mod EarliestLaws
 pub mod WalkLaws
 pub mod ClosedLaws
+pub mod PutInLaws
 pub mod SortLaws
 pub mod DraftedLaws
 pub mod AnswerLaws

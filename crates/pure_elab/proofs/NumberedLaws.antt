@@ -6,13 +6,12 @@ use Rattle.pure_text.proofs.ListLaws.{each-append, in-append_left, in-append_rig
 use Rattle.pure_definitions.specs.Types.Typ.{Typ, TFree, TVar, Con, Typs, none, also, typ_eq}
 use Rattle.pure_definitions.specs.Types.Occurs.{OccursInTyp, OccursInTyps}
 use Rattle.pure_definitions.specs.Models.Equality.{typ_eq-same, typ_eq-itself}
-use Rattle.pure_definitions.specs.Terms.Term.{Term, Const, Free, Var, Bound, Abs, App}
+use Rattle.pure_definitions.specs.Terms.Term.{Term}
 use Rattle.pure_definitions.specs.Terms.Subst.{TypBind, typ_variable, typ_image, inst_typ}
-use Rattle.pure_term_laws.proofs.SubstLaws.{typ_instance-identity}
 use Rattle.pure_tunify.specs.Occurrences.{schematics, schematics_of}
 use Rattle.pure_tunify.specs.Settings.{bind}
 use Rattle.pure_typ.specs.TypBound.{IsTypBound}
-use Rattle.pure_elab.specs.Numbered.{has_entry, with_entry, numbered, term_variables, fixings, with_fixed}
+use Rattle.pure_elab.specs.Numbered.{has_entry, with_entry, numbered, term_variables, with_fixed}
 
 mutual
   pub occurs-schematics : (x i : ℕ) (s : List ℕ) (T : Typ) → OccursInTyp (TVar x i s) T → IsIn (TVar x i s) (schematics T)
@@ -50,7 +49,7 @@ or-right false b h = h
 or-left : (a b : Bool) → a ≡ true → (a || b) ≡ true
 or-left a b h = rw h refl
 
-has-appended : (binds : List TypBind) (b : TypBind) (v : Typ) → typ_variable b ≡ v → has_entry (binds ++ b ∷ []) v ≡ true
+pub has-appended : (binds : List TypBind) (b : TypBind) (v : Typ) → typ_variable b ≡ v → has_entry (binds ++ b ∷ []) v ≡ true
 has-appended binds b v e =
     list_any-append (λ c. typ_eq (typ_variable c) v) binds (b ∷ [])
     ∙ or-right (has_entry binds v) (typ_eq (typ_variable b) v || false) (or-left (typ_eq (typ_variable b) v) false (subst (λ (u : Typ). typ_eq (typ_variable b) u ≡ true) e (typ_eq-itself (typ_variable b))))
@@ -62,7 +61,7 @@ chosen_kept : (q : Bool) (binds : List TypBind) (b : TypBind) (v : Typ) → has_
 chosen_kept true binds b v h = h
 chosen_kept false binds b v h = has-kept binds (b ∷ []) v h
 
-with_entry-kept : (image : ℕ → List ℕ → Typ) (first : ℕ) (binds : List TypBind) (w v : Typ) → has_entry binds v ≡ true → has_entry (with_entry image first binds w) v ≡ true
+pub with_entry-kept : (image : ℕ → List ℕ → Typ) (first : ℕ) (binds : List TypBind) (w v : Typ) → has_entry binds v ≡ true → has_entry (with_entry image first binds w) v ≡ true
 with_entry-kept image first binds (TFree x s) v h = h
 with_entry-kept image first binds (TVar x i s) v h = chosen_kept (has_entry binds (TVar x i s)) binds (bind x i s (image (first + length binds) s)) v h
 with_entry-kept image first binds (Con k ts) v h = h
@@ -125,21 +124,6 @@ absent-has (b ∷ bs) v gone = absent_by (typ_eq (typ_variable b) v) b bs v refl
 pub fixed_by : (fresh first : ℕ) (start binds : List TypBind) (t u : Term) → start ≡ [] → first ≡ fresh → binds ≡ numbered TFree first start (term_variables t) → u ≡ inst_typ (typ_image binds) t → u ≡ with_fixed fresh t
 fixed_by fresh first start binds t u e f g h = h ∙ ap (λ b. inst_typ (typ_image b) t) (g ∙ (λ i. numbered TFree (f i) (e i) (term_variables t)))
 
--- A term under the map without entries is the term.
-inst_none : (t : Term) → inst_typ (typ_image []) t ≡ t
-inst_none (Const c T) = ap (Const c) (typ_instance-identity T)
-inst_none (Free x T) = ap (Free x) (typ_instance-identity T)
-inst_none (Var x i T) = ap (Var x i) (typ_instance-identity T)
-inst_none (Bound n) = refl
-inst_none (Abs T b) = λ l. Abs (typ_instance-identity T l) (inst_none b l)
-inst_none (App f a) = λ l. App (inst_none f l) (inst_none a l)
-
-empty_list : (entries : List TypBind) → length entries ≡ 0 → entries ≡ []
+pub empty_list : (entries : List TypBind) → length entries ≡ 0 → entries ≡ []
 empty_list [] e = refl
 empty_list (b ∷ bs) e = absurd (cc)
-
--- A term without schematic variables stays as it is when they are made fixed.
-pub none_fixed : (fresh first : ℕ) (start binds entries : List TypBind) (t : Term) → start ≡ [] → first ≡ fresh → binds ≡ numbered TFree first start (term_variables t) → entries ≡ binds → length entries ≡ 0 → t ≡ with_fixed fresh t
-none_fixed fresh first start binds entries t e f g h short =
-    let none : fixings fresh t ≡ [] = sym (g ∙ (λ i. numbered TFree (f i) (e i) (term_variables t))) ∙ (sym h ∙ empty_list entries short) in
-    sym (ap (λ b. inst_typ (typ_image b) t) none ∙ inst_none t)

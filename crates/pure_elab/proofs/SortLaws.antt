@@ -18,7 +18,7 @@ drop_here [] i x within is = absurd (omega arith)
 drop_here (y ∷ ys) zero x within is = ap (λ z. z ∷ ys) (sym is)
 drop_here (y ∷ ys) (suc i) x within is = let later : suc i + 1 ≡ suc (i + 1) = omega arith in rw later (drop_here ys i x (omega arith) is)
 
-drop_none : {A : Type 0} (xs : List A) (i : ℕ) → length xs ≤ i → drop i xs ≡ []
+pub drop_none : {A : Type 0} (xs : List A) (i : ℕ) → length xs ≤ i → drop i xs ≡ []
 drop_none [] zero full = refl
 drop_none [] (suc i) full = refl
 drop_none (x ∷ xs) zero full = absurd (omega arith)

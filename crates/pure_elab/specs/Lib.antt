@@ -12,5 +12,7 @@ pub mod Laws
 pub mod Scope
 pub mod Table
 pub mod Numbering
+pub mod Numbers
+pub mod PutIn
 pub mod Drafted
 pub mod Finished

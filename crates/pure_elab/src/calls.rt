@@ -22,19 +22,23 @@ use crate::draft::{Constraints, constrain_to, draft, raw_place};
 use crate::fault::{ElabFault, FaultAt, NameFault};
 use crate::faults::{with_term, with_typ};
 use crate::language::Language;
-use crate::numbered::{Numbering, number_term, replace_in_term};
+use crate::numbered::number_term;
+use crate::numbers::{Numbering, no_numbers};
 use crate::scope::Scope;
 use crate::settled::settled;
 use crate::sorts::{VariableSort, sorts_of_term, sorts_of_typ};
 use crate::written::written_typ;
 use pure_read::{Raw, RawTyp};
 use pure_term::{Grow, Term};
-use pure_tunify::{Settings, TypFault, settle};
-use pure_typ::{Name, Typ, TypMap, TypNode};
+use pure_tunify::{Settings, TypFault, settle, settle_given};
+use pure_typ::{Name, Typ, TypNode};
 use std::alloc::{AllocError, Global};
 
 /// The index of the fresh variables of unification.
 const FRESH_INDEX: u32 = 2;
+
+/// For how many constraints there is room at first.
+const FIRST_ROOM: usize = 8;
 
 /// The type of propositions. It takes no memory.
 fn prop(alloc: Global) -> Typ
@@ -79,15 +83,10 @@ fn check_names<L: Language>(alloc: Global, language: &L, raw: &Raw) -> Result<()
 fn fixed<L: Language>(alloc: Global, language: &L, term: Term) -> Result<Term, AllocError>
     ensures { IfOk result (λ t. t ≡ with_fixed (L.vocabulary language.now).fresh term) }
 {
-    let mut binds = TypMap::empty(alloc);
-    let first = language.first_fresh();
-    number_term(alloc, Numbering::Fixed, first, &mut binds, &term)?;
-    let entries = binds.binds();
-    if entries.len() == 0 {
-        return Ok(term);
-    }
     let mut fixed = term;
-    replace_in_term(alloc, &binds, &mut fixed)?;
+    let mut numbers = no_numbers(alloc);
+    let first = language.first_fresh();
+    number_term(alloc, Numbering::Fixed, first, &mut numbers, &mut fixed)?;
     Ok(fixed)
 }
 
@@ -155,8 +154,8 @@ fn whole_draft<L: Language>(
 {
     let mut constraints = Constraints {
         next: 0,
-        pairs: Vec::new(alloc),
-        places: Vec::new(alloc),
+        pairs: Vec::with_capacity(alloc, FIRST_ROOM)?,
+        places: Vec::with_capacity(alloc, FIRST_ROOM)?,
     };
     let scope = Scope::Empty;
     let drafted = draft(alloc, language, sorts, &mut constraints, &scope, raw)?;
@@ -179,8 +178,37 @@ fn text_draft<L: Language>(
     Ok(found)
 }
 
-/// The term that the text says at this type.
-fn elaborate_to<L: Language>(
+/// The term under the unifier of the constraints, where one pass over them finds it.
+fn typed_soon<L: Language>(
+    alloc: Global,
+    language: &L,
+    term: Term,
+    constraints: Constraints,
+) -> Result<Term, ElabFault>
+    requires { Each (IsOldPair fresh_index 0) constraints.pairs.items }
+    ensures { IfOk result (λ t. (d : drafts.Draft) → HasConstraintsOf d term constraints → IsTyped (L.vocabulary language.now) d t) }
+{
+    let Constraints { pairs, .. } = constraints;
+    let settings = settle_given(alloc, language.order(), pairs, FRESH_INDEX, 0)?;
+    finished(alloc, language, term, &settings)
+}
+
+/// The term that the text says at this type, where one pass over its draft finds it.
+fn elaborate_soon<L: Language>(
+    alloc: Global,
+    language: &L,
+    raw: &Raw,
+    typ: Typ,
+) -> Result<Term, ElabFault>
+    requires { IsFixedTyp typ }
+    ensures { IfOk result (IsElaborated (L.vocabulary language.now) raw.now typ) }
+{
+    let found = text_draft(alloc, language, raw, typ)?;
+    typed_soon(alloc, language, Box::into_inner(found.0), found.1)
+}
+
+/// The term that the text says at this type, or its fault. The constraints are kept, so that a reason is found.
+fn elaborate_again<L: Language>(
     alloc: Global,
     language: &L,
     raw: &Raw,
@@ -196,6 +224,24 @@ fn elaborate_to<L: Language>(
             check_names(alloc, language, raw)?;
             Err(ElabFault::Memory)
         }
+    }
+}
+
+/// The term that the text says at this type, or its fault. Most texts have none, and then no constraint is copied.
+fn elaborate_to<L: Language>(
+    alloc: Global,
+    language: &L,
+    raw: &Raw,
+    typ: Typ,
+) -> Result<Term, ElabFault>
+    requires { IsFixedTyp typ }
+    ensures ok { IfOk result (IsElaborated (L.vocabulary language.now) raw.now typ) }
+    ensures fault { IfErr result (IsElabFault (L.vocabulary language.now) raw.now typ) }
+{
+    let copy = typ.copy(alloc)?;
+    match elaborate_soon(alloc, language, raw, copy) {
+        Ok(term) => Ok(term),
+        Err(_) => elaborate_again(alloc, language, raw, typ),
     }
 }
 

@@ -15,7 +15,8 @@ use crate::faults::with_typ;
 use crate::language::Language;
 use crate::meaning::Meaning;
 use crate::names::meaning_of;
-use crate::numbered::{Numbering, further, number_typ};
+use crate::numbered::number_typ;
+use crate::numbers::{Numbering, further, next_number, no_numbers};
 use crate::scope::{Scope, bound_typ};
 use crate::sorts::VariableSort;
 use crate::written::written_typ;
@@ -24,7 +25,7 @@ use pure_read::{Raw, RawNode, RawTyp, RawTypNode};
 use pure_term::{Term, TermNode};
 use pure_text::Text;
 use pure_tunify::TypPair;
-use pure_typ::{Name, Sort, Typ, TypMap, TypNode, instance_of};
+use pure_typ::{Name, Sort, Typ, TypNode};
 use std::alloc::{AllocError, Global};
 
 /// A term and its type, both with unknowns.
@@ -99,11 +100,11 @@ fn with_unknowns(
     ensures typ { IfOk result (λ t. t ≡ (spec.constant_draft 0 declared.now constraints.old.next).typ) }
     ensures added { OnOk result (AreAdded [] (spec.constant_draft 0 declared.now constraints.old.next).next constraints.old constraints.new) }
 {
-    let mut binds = TypMap::empty(alloc);
+    let mut typ = declared.copy(alloc)?;
+    let mut numbers = no_numbers(alloc);
     let first = constraints.next;
-    number_typ(alloc, Numbering::Unknowns, first, &mut binds, declared)?;
-    let next = further(first, binds.binds().len())?;
-    let typ = instance_of(alloc, declared, &binds)?;
+    number_typ(alloc, Numbering::Unknowns, first, &mut numbers, &mut typ)?;
+    let next = next_number(first, &numbers)?;
     constraints.next = next;
     Ok(typ)
 }

@@ -5,6 +5,7 @@ pub mod MeetLaws
 pub mod ExampleLaws
 pub mod PlaceLaws
 pub mod SettingLaws
+pub mod EntryLaws
 pub mod NodeLaws
 pub mod SchematicLaws
 pub mod AskingLaws

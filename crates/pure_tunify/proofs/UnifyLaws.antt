@@ -1,5 +1,5 @@
 -- The pairs one after the other, and the map that is answered.
-use Rattle.std.proofs.Common.{◌≡◌, ℕ, ◌+◌, ◌<◌, ◌≤◌, List, [], ◌∷◌, ◌++◌, map, length, get_or, drop, suc, inl, inr, add-one, drop-cons, refl, ap, sym, subst, ◌∙◌, arith}
+use Rattle.std.proofs.Common.{◌≡◌, ℕ, ◌+◌, ◌<◌, ◌≤◌, List, [], ◌∷◌, ◌++◌, map, length, get_or, drop, suc, inl, inr, add-one, drop-cons, append_assoc, append-nil, refl, ap, sym, subst, ◌∙◌, arith}
 use Rattle.std.specs.Prelude.{Result, Ok, Err, IfErr}
 use Rattle.std.proofs.lemmas.List.{drop_all}
 use Rattle.std.proofs.Math.Nat.{le_trans}
@@ -23,7 +23,7 @@ use Rattle.pure_tunify.specs.declared.fault.TypFault.TheVariants.{NoTyping, Big,
 use Rattle.pure_tunify.specs.Passes.{HasCome, IsJudged}
 use Rattle.pure_tunify.specs.Answers.{IsEqualised, IsPassed, AreSettled, AreUnified, IsIdempotentMap, IsDecided, IsReason}
 use Rattle.pure_tunify.proofs.SizeLaws.{shrinks}
-use Rattle.pure_tunify.proofs.SettingLaws.{instance-append, instance-free, composed-absent, composed-fixed}
+use Rattle.pure_tunify.proofs.SettingLaws.{instance-append, instance-free, composed-absent, composed-fixed, old_pair-later}
 use Rattle.pure_tunify.proofs.PursueLaws.{pursuit_ends}
 use Rattle.pure_tunify.proofs.ReductionLaws.{agree_unifier}
 use Rattle.pure_tunify.proofs.MeantLaws.{procedure_is_meant}
@@ -145,3 +145,48 @@ module _ (A : Algebra) (index from : ℕ) (pairs : List TypPair) (old : Each (Is
   -- Settings that were found are a most general unifier.
   pub settled_general : (p : Progress) → AreSettled A index from pairs p → IsMostGeneral A index from pairs (composed p.sets)
   settled_general p h = (procedure_is_meant A index from pairs (Unified p.sets p.next) old h.unifies).general
+
+-- So many pairs have been taken from the front, and all have come so far.
+pub record HasTaken (A : Algebra) (index from : ℕ) (pairs left : List TypPair) (now : Progress) : Type 0 where
+  pub taken : List TypPair
+  pub all : taken ++ left ≡ pairs
+  pub come : HasCome A index from pairs (length taken) now
+
+at_front : {X : Type 0} (front rest : List X) (x : X) → x ≡ get_or (front ++ x ∷ rest) (length front) x
+at_front [] rest x = refl
+at_front (y ∷ ys) rest x = at_front ys rest x
+
+in_front : {X : Type 0} (front rest : List X) (x : X) → length front < length (front ++ x ∷ rest)
+in_front [] rest x = omega arith
+in_front (y ∷ ys) rest x = omega (arith, in_front ys rest x)
+
+one_longer : {X : Type 0} (front : List X) (x : X) → length front + 1 ≡ length (front ++ x ∷ [])
+one_longer [] x = refl
+one_longer (y ∷ ys) x = let more = one_longer ys x in omega (arith, more)
+
+each_at_front : {X : Type 0} (P : X → Type 0) (front rest : List X) (x : X) → Each P (front ++ x ∷ rest) → P x
+each_at_front P [] rest x h = h.0
+each_at_front P (y ∷ ys) rest x h = each_at_front P ys rest x h.1
+
+module _ (A : Algebra) (index from : ℕ) (pairs left rest : List TypPair) (p : TypPair) (now : Progress) (first : left ≡ p ∷ rest) (h : HasTaken A index from pairs left now) where
+  all_taken : h.taken ++ p ∷ rest ≡ pairs
+  all_taken = ap (λ l. h.taken ++ l) (sym first) ∙ h.all
+
+  -- The next pair is made equal, and has no fresh variables.
+  pub taken_next : (new : Progress) → IsEqualised A now new p → HasTaken A index from pairs rest new
+  taken_next new e = record {
+    taken = h.taken ++ p ∷ [];
+    all = append_assoc h.taken (p ∷ []) rest ∙ all_taken;
+    come = subst (λ (n : ℕ). HasCome A index from pairs n new) (one_longer h.taken p)
+        (come_next A index from pairs (length h.taken) now p h.come (subst (λ (l : List TypPair). length h.taken < length l) all_taken (in_front h.taken rest p))
+        (subst (λ (l : List TypPair). p ≡ get_or l (length h.taken) p) all_taken (at_front h.taken rest p)) new e);
+  }
+
+  pub taken_old : Each (IsOldPair index from) pairs → IsOldPair now.index now.next p
+  taken_old old = subst (λ (k : ℕ). IsOldPair k now.next p) (sym h.come.same)
+      (old_pair-later index from now.next p h.come.later (each_at_front (IsOldPair index from) h.taken rest p (subst (Each (IsOldPair index from)) (sym all_taken) old)))
+
+-- At the end all pairs have been taken.
+pub come_all : (A : Algebra) (index from : ℕ) (pairs left : List TypPair) (now : Progress) → length left ≡ 0 → HasTaken A index from pairs left now → HasCome A index from pairs (length pairs) now
+come_all A index from pairs [] now none h = subst (λ (n : ℕ). HasCome A index from pairs n now) (ap length (sym (append-nil h.taken) ∙ h.all)) h.come
+come_all A index from pairs (p ∷ ps) now none h = absurd (omega arith)

@@ -24,6 +24,6 @@ pub use asks::{Asked, asked_of, asked_of_arguments};
 pub use fault::TypFault;
 pub use index::index_above_each as index_above;
 pub use pair::TypPair;
-pub use resolve::{resolved_leaves, settled_typ};
+pub use resolve::{Resolved, resolve as resolved_in_room};
 pub use settings::Settings;
-pub use unifier::{settle, unify, unify_from};
+pub use unifier::{settle, settle_given, unify, unify_from};

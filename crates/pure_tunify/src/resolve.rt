@@ -74,20 +74,6 @@ pub fn resolve(
     }
 }
 
-/// The type with all set variables replaced. Where it isn't within the limits memory is wanted: measure it first.
-pub fn settled_typ(settings: &Settings, alloc: Global, t: &Typ) -> Result<Typ, AllocError>
-    ensures { IfOk result (λ u. u ≡ typ_instance (composed settings.now.sets) t.now) }
-{
-    let found = resolve(settings, alloc, t, MAX_SIZE, MAX_DEPTH)?;
-    match found {
-        None => Err(AllocError),
-        Some(image) => {
-            let Resolved { typ, .. } = image;
-            Ok(typ)
-        }
-    }
-}
-
 /// What is left of a room for so many nodes, on paths of so many, when the type with all set variables replaced is put in.
 pub fn resolved_leaves(
     settings: &Settings,

@@ -1,5 +1,7 @@
 //! The variables that unification has set, one after the other.
 ghost use Rattle.std.specs.Prelude.{◌≡◌, ◌++◌, [], ◌∷◌, map, IfOk, OnOk, MatchOption};
+ghost use Rattle.pure_definitions.specs.Types.Typ as tree;
+ghost use Rattle.pure_definitions.specs.Types.Typ.{typ_eq};
 ghost use Rattle.pure_text.specs.Lists.{IsIn};
 ghost use Rattle.pure_definitions.specs.Types.Typ.{typ_size, typ_depth};
 ghost use Rattle.pure_definitions.specs.Terms.Limits.{Leaves};
@@ -8,7 +10,7 @@ ghost use Rattle.pure_term_laws.specs.LawsOccurs.{IsTypVariable};
 ghost use Rattle.pure_tunify.specs.Unifiers.{IsOld};
 ghost use Rattle.pure_tunify.specs.Settings.{composed, IsTidy};
 
-use pure_typ::{Typ, TypBind, TypMap, TypNode, instance_leaves};
+use pure_typ::{Name, Sort, Typ, TypBind, TypMap, TypNode, instance_leaves};
 use std::alloc::{AllocError, Global};
 use std::marker::Model;
 
@@ -34,6 +36,30 @@ impl Model for Settings {
     ghost view = { λ s. record { sets = s.map; index = s.index; next = s.next } };
 
     ghost invariant = { λ s. IsTidy (record { sets = s.map; index = s.index; next = s.next }) };
+}
+
+/// So many entries are sooner looked at one after the other than by halves.
+const FEW: usize = 24;
+
+/// Whether the entry sets this variable.
+fn sets(bind: &TypBind, name: Name, index: u32, sort: &Sort) -> bool
+    ensures { result ≡ typ_eq (typ_variable bind.now) (tree.TVar name index sort.now) }
+{
+    bind.name == name && bind.index == index && bind.sort == *sort
+}
+
+/// The image of the variable, by a look at one entry after the other.
+fn image_among<'b>(binds: &'b [TypBind], name: Name, index: u32, sort: &Sort) -> Option<&'b Typ>
+    ensures { MatchOption result
+        (typ_image binds.now (tree.TVar name index sort.now) ≡ tree.TVar name index sort.now)
+        (λ t. typ_image binds.now (tree.TVar name index sort.now) ≡ t.now) }
+{
+    for bind in binds {
+        if sets(bind, name, index, sort) {
+            return Some(&bind.image);
+        }
+    }
+    None
 }
 
 impl Settings {
@@ -85,14 +111,28 @@ impl Settings {
         ensures image { MatchOption result (IsTypVariable t.now → ¬ IsIn t.now (map typ_variable self.now.sets)) (λ u. IsTypVariable t.now × (typ_image self.now.sets t.now ≡ u.now)) }
         ensures tidy { IsTidy self.now }
     {
+        let _ = &self.map;
         match &t.node {
-            TypNode::TVar { name, index, sort } => match self.map.find(*name, *index, sort) {
+            TypNode::TVar { name, index, sort } => match self.image(*name, *index, sort) {
                 Some(image) => Some(image),
                 None => None,
             },
             TypNode::TFree { .. } => None,
             TypNode::Con { .. } => None,
         }
+    }
+
+    /// The image of a schematic variable that is set, as the map has it.
+    fn image(&self, name: Name, index: u32, sort: &Sort) -> Option<&Typ>
+        ensures { MatchOption result
+            (typ_image self.now.sets (tree.TVar name index sort.now) ≡ tree.TVar name index sort.now)
+            (λ t. typ_image self.now.sets (tree.TVar name index sort.now) ≡ t.now) }
+    {
+        let binds = self.map.binds();
+        if binds.len() <= FEW {
+            return image_among(binds, name, index, sort);
+        }
+        self.map.find(name, index, sort)
     }
 
     /// The type itself, or what stands for it where it is a variable that is set: no variable that is set.

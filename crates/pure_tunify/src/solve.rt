@@ -12,28 +12,35 @@ use pure_order::Order;
 use pure_typ::Name;
 use std::alloc::{AllocError, Global};
 
-/// A list with a copy of the pair.
-fn at_first(alloc: Global, pair: &TypPair) -> Result<Vec<TypPair>, AllocError>
-    ensures { IfOk result (λ work. work.items ≡ pair.now ∷ []) }
+/// A copy of the pair.
+fn copied(alloc: Global, pair: &TypPair) -> Result<TypPair, AllocError>
+    ensures { IfOk result (λ p. p ≡ pair.now) }
 {
-    let mut work = Vec::new(alloc);
     let left = pair.left.copy(alloc)?;
     let right = pair.right.copy(alloc)?;
-    work.push(TypPair { left, right })?;
+    Ok(TypPair { left, right })
+}
+
+/// A list with the pair.
+fn at_first(alloc: Global, pair: TypPair) -> Result<Vec<TypPair>, AllocError>
+    ensures { IfOk result (λ work. work.items ≡ pair ∷ []) }
+{
+    let mut work = Vec::new(alloc);
+    work.push(pair)?;
     Ok(work)
 }
 
 /// Makes a pair equal by further settings; never where it comes to a place without a unifier. Where an image would be too
 /// large to be written out, the pair passes the limits, if what is left of it has a unifier; memory is wanted where that
 /// isn't found out.
-pub fn solve(
+pub fn solve_given(
     order: &Order,
     alloc: Global,
     settings: &mut Settings,
-    pair: &TypPair,
+    pair: TypPair,
 ) -> Result<Turned, AllocError>
-    requires { IsOldPair settings.old.index settings.old.next pair.now }
-    ensures { IfOk result (IsSolved order.now settings.old settings.new pair.now) }
+    requires { IsOldPair settings.old.index settings.old.next pair }
+    ensures { IfOk result (IsSolved order.now settings.old settings.new pair) }
 {
     let mut work = at_first(alloc, pair)?;
     let turned = pursue(order, alloc, settings, &mut work)?;
@@ -51,4 +58,19 @@ pub fn solve(
             }
         }
     }
+}
+
+/// The same of a pair that is kept.
+pub fn solve(
+    order: &Order,
+    alloc: Global,
+    settings: &mut Settings,
+    pair: &TypPair,
+) -> Result<Turned, AllocError>
+    requires { IsOldPair settings.old.index settings.old.next pair.now }
+    ensures { IfOk result (IsSolved order.now settings.old settings.new pair.now) }
+{
+    let copy = copied(alloc, pair)?;
+    let turned = solve_given(order, alloc, settings, copy)?;
+    Ok(turned)
 }

@@ -128,8 +128,8 @@ fn opened(settings: &Settings, alloc: Global, t: Typ) -> Result<Typ, AllocError>
 {
     match settings.find(&t) {
         None => Ok(t),
-        Some(_) => {
-            let top = settings.head(&t)?;
+        Some(image) => {
+            let top = settings.head(image)?;
             let copy = top.copy(alloc)?;
             Ok(copy)
         }

@@ -16,7 +16,7 @@ use crate::meeting::Turned;
 use crate::pair::TypPair;
 use crate::resolve::written;
 use crate::settings::Settings;
-use crate::solve::solve;
+use crate::solve::{solve, solve_given};
 use pure_order::Order;
 use pure_typ::{MAX_SIZE, TypMap};
 use std::alloc::{AllocError, Global};
@@ -310,6 +310,53 @@ pub fn settle(
         Attempt::Beyond(at) => Err(TypFault::Big { index: at }),
         Attempt::Stopped(at) => Err(reason(alloc, order, pairs, index, from, at)),
     }
+}
+
+/// Makes the pairs equal, one after the other; false where one has no unifier or passes the limits.
+fn solve_each(
+    order: &Order,
+    alloc: Global,
+    settings: &mut Settings,
+    pairs: Vec<TypPair>,
+) -> Result<bool, AllocError>
+    requires start { settings.old.sets ≡ [] }
+    requires old { Each (IsOldPair settings.old.index settings.old.next) pairs.items }
+    ensures { IfOk result (λ done. OnTrue done (HasCome order.now settings.old.index settings.old.next pairs.items (length pairs.items) settings.new)) }
+{
+    for pair in pairs {
+        let turned = solve_given(order, alloc, settings, pair)?;
+        match turned {
+            Turned::Further => {}
+            Turned::Never => return Ok(false),
+            Turned::Large => return Ok(false),
+        }
+    }
+    Ok(true)
+}
+
+/// The settings, as above, where one pass finds them. It takes the pairs apart, and needs no copy of them; where it fails,
+/// as if memory were wanted, the reason is looked for by `settle`.
+pub fn settle_given(
+    alloc: Global,
+    order: &Order,
+    pairs: Vec<TypPair>,
+    index: u32,
+    from: u32,
+) -> Result<Settings, AllocError>
+    requires { Each (IsOldPair index from) pairs.items }
+    ensures { IfOk result (λ found. AreSettled order.now index from pairs.items found) }
+{
+    let mut settings = Settings::start(alloc, index, from, MAX_SIZE);
+    let done = solve_each(order, alloc, &mut settings, pairs)?;
+    if !done {
+        return Err(AllocError);
+    }
+    let within = is_within(&settings, alloc)?;
+    if !within {
+        return Err(AllocError);
+    }
+    let _ = settings.binds();
+    Ok(settings)
 }
 
 /// The most general unifier of the pairs, with fresh variables of the given index whose names are counted from the given

@@ -2,7 +2,7 @@ use Rattle.std.proofs.Common.{sym, subst}
 use Rattle.pure_definitions.specs.Terms.Term.{Term}
 use Rattle.pure_elab.specs.Finished.{HasConstraintsOf}
 use Rattle.pure_elab.proofs.CallLaws.{pairs_are_old, elaborated_ok, elaborated_err}
-use Rattle.pure_elab.proofs.calls.elaborate_to.Goals as goal
+use Rattle.pure_elab.proofs.calls.elaborate_again.Goals as goal
 
 pub typed-requires : goal.typed-requires
 typed-requires g c =
