@@ -19,6 +19,7 @@ pub mod MeasureLaws
 pub mod UnifyLaws
 pub mod IndexLaws
 pub mod TreatLaws
+pub mod FreeLaws
 pub mod WorkLaws
 pub mod MeetingLaws
 pub mod OneAnswerLaws

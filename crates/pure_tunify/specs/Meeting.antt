@@ -1,5 +1,5 @@
 -- How two types meet at a place, and what a turn makes of the pairs that are left.
-use Rattle.std.specs.Prelude.{◌≡◌, ◌≢◌, ◌⊎◌, ℕ, List, [], ◌∷◌, map, reverse, Some, Bool, length, MatchBool}
+use Rattle.std.specs.Prelude.{◌≡◌, ◌≢◌, ◌⊎◌, ℕ, List, [], ◌∷◌, map, reverse, Some, Bool, true, false, length, MatchBool}
 use Rattle.pure_text.specs.Lists.{IsIn, Each}
 use Rattle.pure_definitions.specs.Types.Typ.{Typ, Con, Typs, typs_of, typs_count}
 use Rattle.pure_definitions.specs.Types.Order.{Algebra}
@@ -89,6 +89,11 @@ abbrev pub IsTreating : Algebra → (old new : Progress) → (variable other : T
 IsTreating A old new v t Further = IsSetTo A old new v t
 IsTreating A old new v t Never = CannotBeSetTo A v t
 IsTreating A old new v t Large = (new ≡ old) × ¬ IsWithinTyp t
+
+-- What comes of a variable that was set, and of one that can't be.
+abbrev pub turned_by : Bool → Turned
+turned_by true = Further
+turned_by false = Never
 
 -- A pair that is too large is put back.
 abbrev pub IsPutBack : TypPair → (old new : List TypPair) → Turned → Type 0

@@ -40,6 +40,10 @@ IsWrittenInOrder sets binds = IsWritten sets binds × (map typ_variable binds �
 abbrev pub IsFreeOf : List TypBind → Typ → Type 0
 IsFreeOf sets t = Each (λ b. ¬ OccursInTyp (typ_variable b) t) sets
 
+-- No variable of the type is set, so that it is its own instance, and this one doesn't occur in it.
+abbrev pub IsUntouched : List TypBind → (variable t : Typ) → Type 0
+IsUntouched sets v t = (typ_instance (composed sets) t ≡ t) × ¬ OccursInTyp v t
+
 -- further settings and names were used
 pub record IsFurther (old new : Progress) (more : List TypBind) : Type 0 where
   pub sets : new.sets ≡ old.sets ++ more

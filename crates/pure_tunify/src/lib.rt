@@ -4,6 +4,7 @@
 mod asking;
 mod asks;
 mod fault;
+mod free;
 mod index;
 mod large;
 pub mod laws;

@@ -1,5 +1,5 @@
 //! One turn of making a pair equal: a variable is set, or arguments are looked at.
-ghost use Rattle.std.specs.Prelude.{◌≡◌, ◌∷◌, map, reverse, IfOk};
+ghost use Rattle.std.specs.Prelude.{◌≡◌, ◌∷◌, map, reverse, IfOk, MatchBool};
 ghost use Rattle.std.specs.Bool.{OnTrue};
 ghost use Rattle.pure_text.specs.Lists.{IsIn, Each};
 ghost use Rattle.pure_definitions.specs.Terms.Subst.{typ_variable, typ_instance};
@@ -9,9 +9,12 @@ ghost use Rattle.pure_tunify.specs.Asks.{HasNoInstance};
 ghost use Rattle.pure_tunify.specs.Steps.{pair};
 ghost use Rattle.pure_tunify.specs.Settings.{composed, IsTidy};
 ghost use Rattle.pure_tunify.specs.Procedure.{IsSchematic};
+ghost use Rattle.pure_tunify.specs.Meeting as spec;
 ghost use Rattle.pure_tunify.specs.Meeting.{IsTreating, IsTurned};
+ghost use Rattle.pure_tunify.specs.Working.{IsUntouched, IsSetTo, CannotBeSetTo};
 
 use crate::asks::asked_of_arguments;
+use crate::free::is_free;
 use crate::meeting::{Meeting, Turned, arguments, meeting_of, push_arguments, put_back};
 use crate::narrow::narrow;
 use crate::occurs::variable_occurs;
@@ -120,6 +123,48 @@ fn treat(
     Ok(Turned::Further)
 }
 
+/// Sets a schematic variable that doesn't occur in another type to this, narrowed to the variable's sort; false where no
+/// instance of it is of the sort. No variable of the type is set, so that it is taken as it stands.
+fn set_as_it_stands(
+    order: &Order,
+    alloc: Global,
+    settings: &mut Settings,
+    variable: Typ,
+    other: Typ,
+) -> Result<bool, AllocError>
+    requires schematic { IsSchematic variable }
+    requires absent { ¬ IsIn variable (map typ_variable settings.old.sets) }
+    requires old { IsOldPair settings.old.index settings.old.next (pair variable other) }
+    requires free { IsUntouched settings.old.sets variable other }
+    ensures { IfOk result (λ set. MatchBool set (IsSetTo order.now settings.old settings.new variable (typ_instance (composed settings.old.sets) other)) (CannotBeSetTo order.now variable (typ_instance (composed settings.old.sets) other))) }
+{
+    let _ = settings.next();
+    let Typ { node } = variable;
+    let TypNode::TVar { name, index, sort } = node else {
+        return Err(AllocError);
+    };
+    let narrowed = narrow(order, alloc, settings, &sort, other)?;
+    let Some(image) = narrowed else {
+        return Ok(false);
+    };
+    let next = settings.next();
+    let bind = TypBind {
+        name,
+        index,
+        sort,
+        image,
+    };
+    settings.put(bind, next)?;
+    Ok(true)
+}
+
+/// What comes of a variable that was set, or can't be.
+fn turned_by(set: bool) -> Turned
+    ensures { result ≡ spec.turned_by set }
+{
+    if set { Turned::Further } else { Turned::Never }
+}
+
 /// The type itself, or a copy of what stands for it where it is a variable that is set: no variable that is set.
 fn opened(settings: &Settings, alloc: Global, t: Typ) -> Result<Typ, AllocError>
     ensures same { IfOk result (λ h. typ_instance (composed settings.now.sets) h ≡ typ_instance (composed settings.now.sets) t) }
@@ -154,11 +199,19 @@ fn meet(
         Meeting::Same => Ok(Turned::Further),
         Meeting::Apart => Ok(Turned::Never),
         Meeting::Left => {
+            if is_free(settings, &left, &right) {
+                let set = set_as_it_stands(order, alloc, settings, left, right)?;
+                return Ok(turned_by(set));
+            }
             let turned = treat(order, alloc, settings, &left, &right)?;
             put_back(work, left, right, turned)?;
             Ok(turned)
         }
         Meeting::Right => {
+            if is_free(settings, &right, &left) {
+                let set = set_as_it_stands(order, alloc, settings, right, left)?;
+                return Ok(turned_by(set));
+            }
             let turned = treat(order, alloc, settings, &right, &left)?;
             put_back(work, left, right, turned)?;
             Ok(turned)

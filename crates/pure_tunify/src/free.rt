@@ -1,0 +1,49 @@
+//! Types in which no variable is set.
+ghost use Rattle.std.specs.Prelude.{◌≡◌, MatchOption};
+ghost use Rattle.std.specs.Bool.{OnTrue};
+ghost use Rattle.pure_definitions.specs.Terms.Subst.{typ_instance};
+ghost use Rattle.pure_tunify.specs.Settings.{composed};
+ghost use Rattle.pure_tunify.specs.Working.{IsUntouched};
+
+use crate::occurs::variable_occurs;
+use crate::settings::Settings;
+use pure_typ::{Typ, TypNode};
+
+/// The most nodes of a type that is looked through.
+const FEW: u32 = 64;
+
+/// What is left of so many nodes when those of the type are counted; none where a variable of it is set, or it has more.
+fn free_leaves(settings: &Settings, t: &Typ, left: u32) -> Option<u32>
+    ensures { MatchOption result (Unit {0}) (λ _. typ_instance (composed settings.now.sets) t.now ≡ t.now) }
+{
+    if left == 0 {
+        return None;
+    }
+    match &t.node {
+        TypNode::TFree { .. } => Some(left - 1),
+        TypNode::TVar { .. } => match settings.find(t) {
+            Some(_) => None,
+            None => Some(left - 1),
+        },
+        TypNode::Con { args, .. } => {
+            let mut rest = left - 1;
+            for arg in args {
+                let Some(less) = free_leaves(settings, arg, rest) else {
+                    return None;
+                };
+                rest = less;
+            }
+            Some(rest)
+        }
+    }
+}
+
+/// Whether the variable doesn't occur in the type, nor one that is set, where the type has few nodes.
+pub fn is_free(settings: &Settings, variable: &Typ, t: &Typ) -> bool
+    ensures { OnTrue result (IsUntouched settings.now.sets variable.now t.now) }
+{
+    match free_leaves(settings, t, FEW) {
+        None => false,
+        Some(_) => !variable_occurs(variable, t),
+    }
+}
