@@ -6,7 +6,6 @@ pub mod ReplacedLaws
 pub mod OldLaws
 pub mod EarliestLaws
 pub mod WalkLaws
-pub mod ClosedLaws
 pub mod PutInLaws
 pub mod SortLaws
 pub mod DraftedLaws

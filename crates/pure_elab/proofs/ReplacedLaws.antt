@@ -15,12 +15,12 @@ use Rattle.pure_elab.proofs.NumbersLaws.{numbered-stays}
 use Rattle.pure_elab.proofs.WalkLaws.{numbered_append}
 
 -- What stands in a list whose front is replaced is what stood there.
-rest_stays : (f : Typ → Typ) (xs : List Typ) (i : ℕ) (x : Typ) → i < length xs → get_or (map f (take i xs) ++ drop i xs) i x ≡ get_or xs i x
+pub rest_stays : (f : Typ → Typ) (xs : List Typ) (i : ℕ) (x : Typ) → i < length xs → get_or (map f (take i xs) ++ drop i xs) i x ≡ get_or xs i x
 rest_stays f [] i x within = absurd (omega arith)
 rest_stays f (y ∷ ys) zero x within = refl
 rest_stays f (y ∷ ys) (suc i) x within = rest_stays f ys i x (omega arith)
 
-written_back : (us ts : List Typ) (n : ℕ) → length us ≡ length ts → length ts ≡ n → take n (us ++ drop (length us) ts) ≡ us
+pub written_back : (us ts : List Typ) (n : ℕ) → length us ≡ length ts → length ts ≡ n → take n (us ++ drop (length us) ts) ≡ us
 written_back us ts n long count =
     let past : length ts ≤ length us = omega (arith, long) in
     let full : length us ≤ n = omega (arith, long, count) in

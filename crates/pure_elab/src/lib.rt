@@ -3,7 +3,6 @@
 
 mod calls;
 mod classes;
-mod closed;
 mod draft;
 mod fault;
 mod faults;
@@ -13,6 +12,7 @@ mod meaning;
 mod names;
 mod numbered;
 mod numbers;
+mod place;
 mod scope;
 mod settled;
 mod sorts;

@@ -6,8 +6,8 @@ ghost use Rattle.pure_elab.specs.Numbered as spec;
 ghost use Rattle.pure_elab.specs.Numbering.{image_of};
 ghost use Rattle.pure_elab.specs.Numbers.{entries, IsNumberedTyp, AreNumberedTyps, IsTermNumbered};
 
-use crate::closed::put;
 use crate::numbers::{Numbering, Numbers, image_in};
+use crate::place::put;
 use pure_term::{Term, TermNode};
 use pure_typ::{Sort, Typ, TypNode};
 use std::alloc::{AllocError, Global};
