@@ -20,7 +20,7 @@ use Rattle.pure_verdicts.proofs.FoldLaws.{declared-count}
 use Rattle.pure_verdicts.proofs.StepLaws.{theory-once, run_goes_on, run_closes}
 use Rattle.pure_verdicts.proofs.OwnLaws.{runs_give}
 use Rattle.pure_work.specs.Outline.{Barred, Ran, row_of}
-use Rattle.pure_work.specs.Runs.{IsBarredBy, IsUnderWay, IsGoing, IsStandingOf, IsRunOf, IsSameGoing, IsSameStanding, IsSameRun, left_of}
+use Rattle.pure_work.specs.Runs.{IsBarredBy, IsUnderWay, IsGoing, IsStandingOf, IsRunOf, IsSameGoing, IsSameRun, left_of}
 use Rattle.pure_work.specs.Turns.{ClosesWith, IsGoingTurn, IsTurn, turn_of}
 use Rattle.pure_work.specs.declared.run.Going.{Going}
 use Rattle.pure_work.specs.declared.run.Standing.{Standing}
@@ -152,10 +152,6 @@ barred-made texts theories old new row stands (Ok turn) e = λ index notes run. 
 barred-made texts theories old new row stands (Err e) h = h
 
 -- Where memory is wanted the run is as it was.
-pub going-same : {A E : Type 0} (g : Going) (r : Result A E) → OnErr r (IsSameGoing g g)
-going-same g (Ok x) = tt
-going-same g (Err e) = record { rows = refl; content = refl; left = refl }
-
 pub barred-keeps : (old new : Run) (row : Row) → old.standing ≡ code.Barred row → new.index ≡ old.index → new.standing ≡ code.Barred row → (r : Result Turn AllocError) → OnErr r (IsSameRun old new)
 barred-keeps old new row before index_is after (Ok turn) = tt
 barred-keeps old new row before index_is after (Err e) = record { index = index_is; standing = rw (before, after) refl }
