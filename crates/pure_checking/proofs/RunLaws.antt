@@ -1,5 +1,6 @@
 -- The runs of a session as runs of the core's work.
 use Rattle.std.proofs.Common.{◌≡◌, ◌≢◌, ◌∙◌, ◌<◌, ◌≤◌, ℕ, zero, suc, ◌+◌, List, [], ◌∷◌, ◌++◌, length, map, length-append, refl, sym, ap, subst, arith, Some, None, slice_get}
+use Rattle.std.specs.Prelude.{Result, Ok, Err, OnErr}
 use Rattle.std.proofs.lemmas.Option.{none-some}
 use Rattle.pure_text.specs.Lists.{Each, EachTwo}
 use Rattle.pure_text.proofs.ListLaws.{each_imply}
@@ -13,7 +14,7 @@ use Rattle.pure_loaded.specs.Loaded.{IsLoadedSession}
 use Rattle.pure_verdicts.proofs.NoteLaws.{forks-append}
 use Rattle.pure_work.specs.Outline.{Outline, outline}
 use Rattle.pure_work.specs.Parents.{AreOutlinesOf, HasParents}
-use Rattle.pure_work.specs.Runs.{IsRunOf, IsStandingOf, turns_left}
+use Rattle.pure_work.specs.Runs.{IsBarredBy, IsUnderWay, IsStandingOf, IsRunOf, IsSameStanding, IsSameRun, left_of, turns_left}
 use Rattle.pure_work.specs.Turns as turns
 use Rattle.pure_work.specs.Checked.{Checked}
 use Rattle.pure_work.specs.declared.run.Run.{Run}
@@ -25,7 +26,7 @@ use Rattle.pure_machine.specs.State.{parents_at}
 use Rattle.pure_machine.specs.Step.{IsShape}
 use Rattle.pure_machine.proofs.PromiseLaws.{slice_get-mapped}
 use Rattle.pure_core.specs.declared.work.Turn as core
-use Rattle.pure_core.specs.Turns.{IsTurn}
+use Rattle.pure_core.specs.Turns.{IsTurn, IsRunKept}
 use Rattle.pure_checking.specs.Relations.{shape_of, ClosesAfter, RunsAfter}
 use Rattle.pure_checking.specs.Turns.{core_turn}
 
@@ -112,3 +113,27 @@ pub command-of : (session held : Checked) → held ≡ session → (i n : ℕ) (
 command-of session held same i n old new t u is answered h =
     subst (IsTurn (IsFork session.texts session.theories) (ClosesAfter session.texts session.theories) (RunsAfter session.texts session.theories) turns_left i n old new) (sym is)
     (turn-of session.texts session.theories i n h.0 old new t h.2 (subst (λ (c : Checked). turns.IsTurn c.texts c.theories i h.0 old new t) same (answered i h.0 (subst (λ (c : Checked). IsRunOf c.texts c.theories i h.0 old) (sym same) h.1))))
+
+-- a run that stands where it stood
+same-standing : (texts : List (List ℕ)) (theories : List Loaded) (i : ℕ) (notes : List Note) (old new : Standing) → IsSameStanding old new → IsStandingOf texts theories i notes old → IsStandingOf texts theories i notes new
+same-standing texts theories i notes (standing.Barred old) (standing.Barred new) same h = (h.0, subst (IsBarredBy texts theories i) (sym same) h.1)
+same-standing texts theories i notes (standing.Barred old) (standing.Going new) same h = absurd same
+same-standing texts theories i notes (standing.Going old) (standing.Barred new) same h = absurd same
+same-standing texts theories i notes (standing.Going old) (standing.Going new) same h = record {
+  way = subst (λ (now : Content). IsUnderWay texts theories i notes now new.left) (sym same.content) (subst (IsUnderWay texts theories i notes old.now.value) (sym same.left) h.way);
+  rows = same.rows ∙ h.rows;
+}
+
+same-left : (old new : Standing) → IsSameStanding old new → left_of new ≡ left_of old
+same-left (standing.Barred old) (standing.Barred new) same = refl
+same-left (standing.Barred old) (standing.Going new) same = absurd same
+same-left (standing.Going old) (standing.Barred new) same = absurd same
+same-left (standing.Going old) (standing.Going new) same = same.left
+
+same-run : (texts : List (List ℕ)) (theories : List Loaded) (i : ℕ) (notes : List Note) (old new : Run) → IsSameRun old new → IsRunOf texts theories i notes old → IsRunOf texts theories i notes new
+same-run texts theories i notes old new same h = record { index_is = same.index ∙ h.index_is; standing = same-standing texts theories i notes old.standing new.standing same.standing h.standing }
+
+-- what the call keeps
+pub keeps-run : {A E : Type 0} (texts : List (List ℕ)) (theories : List Loaded) (old new : Run) → IsSameRun old new → (r : Result A E) → OnErr r (IsRunKept (RunsAfter texts theories) turns_left old new)
+keeps-run texts theories old new same (Ok x) = tt
+keeps-run texts theories old new same (Err e) = (λ i n h. (h.0, same-run texts theories i h.0 old new same h.1, h.2), same-left old.standing new.standing same.standing)

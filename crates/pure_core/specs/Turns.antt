@@ -1,5 +1,5 @@
 -- What a turn of a theory's commands, or of a proof, leads to.
-use Rattle.std.specs.Prelude.{◌<◌, ℕ, ◌+◌, Option, Some, None}
+use Rattle.std.specs.Prelude.{◌≡◌, ◌<◌, ℕ, ◌+◌, Option, Some, None}
 use Rattle.pure_core.specs.declared.work.Turn.{Turn}
 use Rattle.pure_core.specs.declared.work.Turn.TheVariants.{Declared, Forked, Closed}
 
@@ -8,6 +8,10 @@ abbrev pub IsTurn : {G C R : Type 0} → (forks : ℕ → ℕ → G → Type 0) 
 IsTurn forks closes runs left i n old new Declared = runs i n new × (left new < left old)
 IsTurn forks closes runs left i n old new (Forked g) = forks i n g × runs i (n + 1) new × (left new < left old)
 IsTurn forks closes runs left i n old new (Closed c) = closes i n c
+
+-- Of a theory whose run is as it was: what the old run has made the new one has, and as many turns are left.
+abbrev pub IsRunKept : {R : Type 0} → (runs : ℕ → ℕ → R → Type 0) → (left : R → ℕ) → (old new : R) → Type 0
+IsRunKept runs left old new = ((i n : ℕ) → runs i n old → runs i n new) × (left new ≡ left old)
 
 -- Of a proof of a goal: a turn that gives no outcome goes on with fewer turns left, and one that gives an outcome gives one that the goal may have.
 abbrev pub IsAdvance : {G O P : Type 0} → (proves : G → P → Type 0) → (may : G → O → Type 0) → (left : P → ℕ) → G → (old new : P) → Option O → Type 0

@@ -13,10 +13,10 @@ pub enum Turn<G, C> {
 /// The work of a session: what its theories fork, what closes them, and which outcomes goals have (Wenzel, Parallel Proof
 /// Checking in Isabelle/Isar, 2009).
 pub trait Work: Send + Sync {
-    ghost use Rattle.std.specs.Prelude.{◌≡◌, ◌<◌, ℕ, List, Bool, map, Option, Some, IfOk};
+    ghost use Rattle.std.specs.Prelude.{◌≡◌, ◌<◌, ℕ, List, Bool, map, Option, Some, IfOk, OnErr};
     ghost use Rattle.pure_text.specs.Lists.{EachTwo};
     ghost use Rattle.pure_machine.specs.State.{parents_at};
-    ghost use Rattle.pure_core.specs.Turns.{IsTurn, IsAdvance};
+    ghost use Rattle.pure_core.specs.Turns.{IsTurn, IsRunKept, IsAdvance};
 
     type Goal: Send + Sync + Drop;
 
@@ -59,11 +59,12 @@ pub trait Work: Send + Sync {
             × EachTwo (λ i c. (n : ℕ) × closes self.now i n c.value) numbers parents.now }
         ensures { IfOk result (λ run. runs self.now theory 0 run) };
 
-    /// One turn of a theory's run that hasn't closed.
+    /// One turn of a theory's run that hasn't closed. Where memory is wanted the run is as it was.
     fn command(&self, run: &mut Self::Run) -> Result<Turn<Self::Goal, Self::Closed>, AllocError>
         requires { (i : ℕ) × (n : ℕ) × runs self.now i n run.old }
-        ensures { IfOk result (λ turn. (i n : ℕ) → runs self.now i n run.old
-            → IsTurn (forks self.now) (closes self.now) (runs self.now) turns_left i n run.old run.new turn) };
+        ensures turn { IfOk result (λ turn. (i n : ℕ) → runs self.now i n run.old
+            → IsTurn (forks self.now) (closes self.now) (runs self.now) turns_left i n run.old run.new turn) }
+        ensures keeps { OnErr result (IsRunKept (runs self.now) turns_left run.old run.new) };
 
     /// The proof of a goal that a theory may fork, before its first step.
     fn start(&self, goal: &Self::Goal) -> Result<Self::Proving, AllocError>

@@ -1,6 +1,6 @@
 -- Turns of runs.
 use Rattle.std.proofs.Common.{◌≡◌, ◌∙◌, ℕ, zero, suc, ◌+◌, ◌<◌, List, [], ◌∷◌, ◌++◌, length, ap, sym, refl, subst, arith}
-use Rattle.std.specs.Prelude.{Option, Some, None, Result, Ok, Err, IfOk, slice_get}
+use Rattle.std.specs.Prelude.{Option, Some, None, Result, Ok, Err, IfOk, OnErr, slice_get}
 use Rattle.std.specs.declared.alloc.AllocError.{AllocError}
 use Rattle.std.proofs.lemmas.List.{length-map, map-append}
 use Rattle.std.proofs.lemmas.Option.{same_Some}
@@ -20,7 +20,7 @@ use Rattle.pure_verdicts.proofs.FoldLaws.{declared-count}
 use Rattle.pure_verdicts.proofs.StepLaws.{theory-once, run_goes_on, run_closes}
 use Rattle.pure_verdicts.proofs.OwnLaws.{runs_give}
 use Rattle.pure_work.specs.Outline.{Barred, Ran, row_of}
-use Rattle.pure_work.specs.Runs.{IsBarredBy, IsUnderWay, IsGoing, IsStandingOf, IsRunOf, left_of}
+use Rattle.pure_work.specs.Runs.{IsBarredBy, IsUnderWay, IsGoing, IsStandingOf, IsRunOf, IsSameGoing, IsSameRun, left_of}
 use Rattle.pure_work.specs.Turns.{ClosesWith, IsGoingTurn, IsTurn, turn_of}
 use Rattle.pure_work.specs.declared.run.Going.{Going}
 use Rattle.pure_work.specs.declared.run.Standing.{Standing}
@@ -150,3 +150,13 @@ pub barred-made : (texts : List (List ℕ)) (theories : List Loaded) (old new : 
     → IfOk r (λ turn. (index : ℕ) (notes : List Note) → IsRunOf texts theories index notes old → IsTurn texts theories index notes old new turn)
 barred-made texts theories old new row stands (Ok turn) e = λ index notes run. turn-barred texts theories index notes old new row turn stands e run
 barred-made texts theories old new row stands (Err e) h = h
+
+-- Where memory is wanted the run is as it was.
+pub barred-keeps : (old new : Run) (row : Row) → old.standing ≡ code.Barred row → new.index ≡ old.index → new.standing ≡ code.Barred row → (r : Result Turn AllocError) → OnErr r (IsSameRun old new)
+barred-keeps old new row before index_is after (Ok turn) = tt
+barred-keeps old new row before index_is after (Err e) = record { index = index_is; standing = rw (before, after) refl }
+
+pub going-keeps : (old new : Run) (before after : Going) → old.standing ≡ code.Going before → new.index ≡ old.index → new.standing ≡ code.Going after → (r : Result Turn AllocError) → OnErr r (IsSameGoing before after)
+    → OnErr r (IsSameRun old new)
+going-keeps old new before after was index_is is (Ok turn) h = tt
+going-keeps old new before after was index_is is (Err e) h = record { index = index_is; standing = rw (was, is) h }

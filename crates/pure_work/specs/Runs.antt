@@ -42,6 +42,24 @@ pub record IsRunOf (texts : List (List ℕ)) (theories : List Loaded) (index : �
   pub index_is : run.index ≡ index
   pub standing : IsStandingOf texts theories index notes run.standing
 
+-- The program holds the same rows and content, and as many commands are left.
+pub record IsSameGoing (old new : Going) : Type 0 where
+  pub rows : new.rows.items ≡ old.rows.items
+  pub content : new.now.value ≡ old.now.value
+  pub left : new.left ≡ old.left
+
+-- The theory was refused by the same row, or it has run as far.
+abbrev pub IsSameStanding : (old new : Standing) → Type 0
+IsSameStanding (code.Barred old) (code.Barred new) = new ≡ old
+IsSameStanding (code.Barred old) (code.Going new) = ⊥
+IsSameStanding (code.Going old) (code.Barred new) = ⊥
+IsSameStanding (code.Going old) (code.Going new) = IsSameGoing old new
+
+-- The same theory runs, and it stands where it stood.
+pub record IsSameRun (old new : Run) : Type 0 where
+  pub index : new.index ≡ old.index
+  pub standing : IsSameStanding old.standing new.standing
+
 -- how many commands are left of a run
 abbrev pub left_of : Standing → ℕ
 left_of (code.Barred row) = 0

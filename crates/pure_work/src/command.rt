@@ -1,5 +1,5 @@
 //! The turns of a theory that runs.
-ghost use Rattle.std.specs.Prelude.{◌≡◌, ◌<◌, ◌+◌, ◌++◌, ◌∷◌, ℕ, List, [], length, Some, IfOk, slice_get};
+ghost use Rattle.std.specs.Prelude.{◌≡◌, ◌<◌, ◌+◌, ◌++◌, ◌∷◌, ℕ, List, [], length, Some, IfOk, OnErr, slice_get};
 ghost use Rattle.pure_script.specs.Seen.{seen_command, seen_commands};
 ghost use Rattle.pure_session.specs.Waiting.{seen_loaded};
 ghost use Rattle.pure_declare.specs.Notes as notes;
@@ -9,7 +9,7 @@ ghost use Rattle.pure_verdicts.specs.Verdicts.{IsTheoryAt};
 ghost use Rattle.pure_verdicts.specs.Given.{IsNextGiven};
 ghost use Rattle.pure_work.specs.Outline as outline;
 ghost use Rattle.pure_work.specs.Outline.{row_of};
-ghost use Rattle.pure_work.specs.Runs.{IsGoing, IsRunOf};
+ghost use Rattle.pure_work.specs.Runs.{IsGoing, IsRunOf, IsSameGoing, IsSameRun};
 ghost use Rattle.pure_work.specs.Turns.{turn_of, IsGoingTurn, IsTurn};
 ghost use Rattle.pure_work.specs.declared.run.Turn.TheVariants as turns;
 
@@ -38,7 +38,8 @@ fn barred_turn(alloc: Global, row: &Row) -> Result<Turn, AllocError>
 
 /// A theory that has no command left closes with its rows and its last stage.
 fn last_turn(alloc: Global, going: &mut Going) -> Result<Turn, AllocError>
-    ensures { IfOk result (λ turn. turn ≡ turns.Closed (outline.Ran going.old.rows.items going.old.now.value)) }
+    ensures turn { IfOk result (λ turn. turn ≡ turns.Closed (outline.Ran going.old.rows.items going.old.now.value)) }
+    ensures keeps { OnErr result (IsSameGoing going.old going.new) }
 {
     let last = Arc::try_clone(&going.now)?;
     let rows = mem::replace(&mut going.rows, Vec::new(alloc));
@@ -51,6 +52,7 @@ fn last_turn(alloc: Global, going: &mut Going) -> Result<Turn, AllocError>
 fn put_note(rows: &mut Vec<Option<Row>>, note: Note) -> Result<Turn, AllocError>
     ensures rows { IfOk result (λ _. rows.new.items ≡ rows.old.items ++ row_of (seen_note note) ∷ []) }
     ensures turn { IfOk result (λ turn. turn ≡ turn_of (seen_note note)) }
+    ensures keeps { OnErr result (rows.new.items ≡ rows.old.items) }
 {
     match note {
         Note::Row { row } => {
@@ -71,6 +73,7 @@ fn go_on(going: &mut Going, declared: Declared) -> Result<Turn, AllocError>
     ensures left { IfOk result (λ _. going.new.left + 1 ≡ going.old.left) }
     ensures rows { IfOk result (λ _. going.new.rows.items ≡ going.old.rows.items ++ row_of (seen_note declared.note) ∷ []) }
     ensures turn { IfOk result (λ turn. turn ≡ turn_of (seen_note declared.note)) }
+    ensures keeps { OnErr result (IsSameGoing going.old going.new) }
 {
     let Declared { stage, note } = declared;
     let turn = put_note(&mut going.rows, note)?;
@@ -107,7 +110,8 @@ impl Checker {
         requires runs { (past : List notes.Note) × IsGoing self.now.texts self.now.theories index past going.old }
         requires theory { IsTheoryAt self.now.theories index (seen_loaded theory.now) }
         requires command { slice_get (seen_commands theory.now.text.commands.items) (length going.old.rows.items) ≡ Some (seen_command command.now) }
-        ensures { IfOk result (λ turn. (past : List notes.Note) → IsGoing self.now.texts self.now.theories index past going.old → IsGoingTurn self.now.texts self.now.theories index past going.old going.new turn) }
+        ensures turn { IfOk result (λ turn. (past : List notes.Note) → IsGoing self.now.texts self.now.theories index past going.old → IsGoingTurn self.now.texts self.now.theories index past going.old going.new turn) }
+        ensures keeps { OnErr result (IsSameGoing going.old going.new) }
     {
         self.is_loaded_session();
         let place = going.rows.len() as u32;
@@ -123,7 +127,8 @@ impl Checker {
     /// A turn of a theory that wasn't refused when it began.
     fn going_turn(&self, index: u32, going: &mut Going) -> Result<Turn, AllocError>
         requires { (past : List notes.Note) × IsGoing self.now.texts self.now.theories index past going.old }
-        ensures { IfOk result (λ turn. (past : List notes.Note) → IsGoing self.now.texts self.now.theories index past going.old → IsGoingTurn self.now.texts self.now.theories index past going.old going.new turn) }
+        ensures turn { IfOk result (λ turn. (past : List notes.Note) → IsGoing self.now.texts self.now.theories index past going.old → IsGoingTurn self.now.texts self.now.theories index past going.old going.new turn) }
+        ensures keeps { OnErr result (IsSameGoing going.old going.new) }
     {
         let theory = self.theory(index);
         match theory.text.commands.get(going.rows.len()) {
@@ -136,10 +141,11 @@ impl Checker {
     ///
     /// # Errors
     ///
-    /// Want of memory alone.
+    /// Want of memory alone; the run is as it was then.
     pub fn command(&self, run: &mut Run) -> Result<Turn, AllocError>
         requires { (index : ℕ) × (past : List notes.Note) × IsRunOf self.now.texts self.now.theories index past run.old }
-        ensures { IfOk result (λ turn. (index : ℕ) (past : List notes.Note) → IsRunOf self.now.texts self.now.theories index past run.old → IsTurn self.now.texts self.now.theories index past run.old run.new turn) }
+        ensures turn { IfOk result (λ turn. (index : ℕ) (past : List notes.Note) → IsRunOf self.now.texts self.now.theories index past run.old → IsTurn self.now.texts self.now.theories index past run.old run.new turn) }
+        ensures keeps { OnErr result (IsSameRun run.old run.new) }
     {
         let index = run.index;
         match &mut run.standing {

@@ -16,8 +16,8 @@ pub go_on-requires : goal.go_on-requires
 go_on-requires c =
     some-left c.args.self.now.texts c.args.self.now.theories c.args.index (seen_loaded c.args.theory.now) c.requires.theory c.requires.runs.0 c.args.going.now (seen_command c.args.command.now) c.requires.runs.1 c.requires.command
 
-pub returns : goal.returns
-returns c =
+pub returns-clause-turn : goal.returns-clause-turn
+returns-clause-turn c =
     let count : c.len-place.result ≡ length c.args.going.now.rows.items = omega (arith, c.len-place.ensures, c.args.going.now.rows.ok) in
     turn-made c.args.self.now.texts c.args.self.now.theories c.args.index (seen_loaded c.args.theory.now) c.requires.theory c.args.going.now c.go_on.new.going (seen_command c.args.command.now) (seen_note c.in_ok-declared.declared.note)
     c.in_ok-declared.declared.stage.value c.len-place.result c.requires.command count c.in_ok-declared.ensures c.go_on.result c.go_on.ensures.now c.go_on.ensures.left c.go_on.ensures.rows c.go_on.ensures.turn
