@@ -28,7 +28,7 @@ use crate::scope::Scope;
 use crate::settled::settled;
 use crate::sorts::{VariableSort, sorts_of_term, sorts_of_typ};
 use crate::written::written_typ;
-use pure_read::{Raw, RawTyp};
+use pure_read::{Raw, RawNode, RawTyp};
 use pure_term::{Grow, Term};
 use pure_tunify::{Settings, TypFault, settle, settle_given};
 use pure_typ::{Name, Typ, TypNode};
@@ -39,6 +39,9 @@ const FRESH_INDEX: u32 = 2;
 
 /// For how many constraints there is room at first.
 const FIRST_ROOM: usize = 8;
+
+/// A text with so many nodes isn't short.
+const SHORT: u32 = 200;
 
 /// The type of propositions. It takes no memory.
 fn prop(alloc: Global) -> Typ
@@ -227,7 +230,22 @@ fn elaborate_again<L: Language>(
     }
 }
 
-/// The term that the text says at this type, or its fault. Most texts have none, and then no constraint is copied.
+/// What is left of a count when the nodes of a text are counted.
+fn left_behind(raw: &Raw, count: u32) -> u32 {
+    let left = count.saturating_sub(1);
+    if left == 0 {
+        return 0;
+    }
+    match &raw.node {
+        RawNode::Leaf { .. } => left,
+        RawNode::Abs { body, .. } => left_behind(body, left),
+        RawNode::App { fun, arg, .. } => left_behind(arg, left_behind(fun, left)),
+        RawNode::Typed { term, .. } => left_behind(term, left),
+    }
+}
+
+/// The term that the text says at this type, or its fault. Most texts are short and have none, and then no constraint is
+/// copied. A long one is elaborated once alone: what it costs to find its fault may be much.
 fn elaborate_to<L: Language>(
     alloc: Global,
     language: &L,
@@ -238,6 +256,9 @@ fn elaborate_to<L: Language>(
     ensures ok { IfOk result (IsElaborated (L.vocabulary language.now) raw.now typ) }
     ensures fault { IfErr result (IsElabFault (L.vocabulary language.now) raw.now typ) }
 {
+    if left_behind(raw, SHORT) == 0 {
+        return elaborate_again(alloc, language, raw, typ);
+    }
     let copy = typ.copy(alloc)?;
     match elaborate_soon(alloc, language, raw, copy) {
         Ok(term) => Ok(term),
