@@ -30,7 +30,7 @@ use crate::sorts::{VariableSort, sorts_of_term, sorts_of_typ};
 use crate::written::written_typ;
 use pure_read::{Raw, RawNode, RawTyp};
 use pure_term::{Grow, Term};
-use pure_tunify::{Settings, TypFault, settle, settle_given};
+use pure_tunify::{Settings, TypFault, pairs_of, settle, settle_given};
 use pure_typ::{Name, Typ, TypNode};
 use std::alloc::{AllocError, Global};
 
@@ -131,15 +131,16 @@ fn typed<L: Language>(
     alloc: Global,
     language: &L,
     term: Term,
-    constraints: &Constraints,
+    constraints: Constraints,
 ) -> Result<Term, ElabFault>
-    requires { Each (IsOldPair fresh_index 0) constraints.now.pairs.items }
-    ensures ok { IfOk result (λ t. (d : drafts.Draft) → HasConstraintsOf d term constraints.now → IsTyped (L.vocabulary language.now) d t) }
-    ensures fault { IfErr result (λ f. (d : drafts.Draft) → HasConstraintsOf d term constraints.now → IsTypingFault (L.vocabulary language.now) d f) }
+    requires { Each (IsOldPair fresh_index 0) constraints.pairs.items }
+    ensures ok { IfOk result (λ t. (d : drafts.Draft) → HasConstraintsOf d term constraints → IsTyped (L.vocabulary language.now) d t) }
+    ensures fault { IfErr result (λ f. (d : drafts.Draft) → HasConstraintsOf d term constraints → IsTypingFault (L.vocabulary language.now) d f) }
 {
-    let pairs = constraints.pairs.as_slice();
-    match settle(alloc, language.order(), pairs, FRESH_INDEX, 0) {
-        Err(fault) => Err(typing_fault(constraints.places.as_slice(), fault)),
+    let Constraints { pairs, places, .. } = constraints;
+    let pairs = pairs_of(alloc, pairs)?;
+    match settle(alloc, language.order(), pairs.as_slice(), FRESH_INDEX, 0) {
+        Err(fault) => Err(typing_fault(places.as_slice(), fault)),
         Ok(settings) => finished(alloc, language, term, &settings),
     }
 }
@@ -159,6 +160,7 @@ fn whole_draft<L: Language>(
         next: 0,
         pairs: Vec::with_capacity(alloc, FIRST_ROOM)?,
         places: Vec::with_capacity(alloc, FIRST_ROOM)?,
+        numbers: no_numbers(alloc),
     };
     let scope = Scope::Empty;
     let drafted = draft(alloc, language, sorts, &mut constraints, &scope, raw)?;
@@ -222,7 +224,7 @@ fn elaborate_again<L: Language>(
     ensures fault { IfErr result (IsElabFault (L.vocabulary language.now) raw.now typ) }
 {
     match text_draft(alloc, language, raw, typ) {
-        Ok(found) => typed(alloc, language, Box::into_inner(found.0), &found.1),
+        Ok(found) => typed(alloc, language, Box::into_inner(found.0), found.1),
         Err(_) => {
             check_names(alloc, language, raw)?;
             Err(ElabFault::Memory)

@@ -16,7 +16,7 @@ use crate::language::Language;
 use crate::meaning::Meaning;
 use crate::names::meaning_of;
 use crate::numbered::number_typ;
-use crate::numbers::{Numbering, further, next_number, no_numbers};
+use crate::numbers::{Numbering, Numbers, further, next_number, restart};
 use crate::scope::{Scope, bound_typ};
 use crate::sorts::VariableSort;
 use crate::written::written_typ;
@@ -24,7 +24,7 @@ use pure_grammar::TokenKind;
 use pure_read::{Raw, RawNode, RawTyp, RawTypNode};
 use pure_term::{Term, TermNode};
 use pure_text::Text;
-use pure_tunify::TypPair;
+use pure_tunify::Equation;
 use pure_typ::{Name, Sort, Typ, TypNode};
 use std::alloc::{AllocError, Global};
 
@@ -35,12 +35,14 @@ pub struct Drafted {
     pub typ: Typ,
 }
 
-/// The constraints so far, with their places, and the first number that no unknown has.
+/// The constraints so far, with their places, the first number that no unknown has, and a table that is lent for the
+/// unknowns of one constant after the other.
 #[derive(Debug, Drop)]
 pub struct Constraints {
     pub next: u32,
-    pub pairs: Vec<TypPair>,
+    pub pairs: Vec<Equation>,
     pub places: Vec<u32>,
+    pub numbers: Numbers,
 }
 
 /// The unknown of this number.
@@ -101,10 +103,11 @@ fn with_unknowns(
     ensures added { OnOk result (AreAdded [] (spec.constant_draft 0 declared.now constraints.old.next).next constraints.old constraints.new) }
 {
     let mut typ = declared.copy(alloc)?;
-    let mut numbers = no_numbers(alloc);
     let first = constraints.next;
-    number_typ(alloc, Numbering::Unknowns, first, &mut numbers, &mut typ)?;
-    let next = next_number(first, &numbers)?;
+    let numbers = &mut constraints.numbers;
+    restart(alloc, numbers);
+    number_typ(alloc, Numbering::Unknowns, first, numbers, &mut typ)?;
+    let next = next_number(first, numbers)?;
     constraints.next = next;
     Ok(typ)
 }
@@ -231,13 +234,12 @@ fn binder_typ<L: Language>(
 fn constrain(
     constraints: &mut Constraints,
     at: u32,
-    left: Typ,
-    right: Typ,
+    equation: Equation,
 ) -> Result<(), AllocError>
-    ensures { OnOk result (AreAdded (record { at = at; left = left; right = right } ∷ []) constraints.old.next constraints.old constraints.new) }
+    ensures { OnOk result (AreAdded (record { at = at; left = equation.left; right = equation.right } ∷ []) constraints.old.next constraints.old constraints.new) }
 {
     constraints.places.push(at)?;
-    constraints.pairs.push(TypPair { left, right })?;
+    constraints.pairs.push(equation)?;
     Ok(())
 }
 
@@ -254,9 +256,7 @@ fn constrain_application(
 {
     let number = constraints.next;
     let next = further(number, 1)?;
-    let range = unknown(alloc, number);
-    let right = Typ::arrow(alloc, arg, range)?;
-    constrain(constraints, at, fun, right)?;
+    constrain(constraints, at, Equation::applied(fun, arg, number))?;
     constraints.next = next;
     Ok(unknown(alloc, number))
 }
@@ -312,7 +312,7 @@ pub(crate) fn constrain_to(
     ensures { OnOk result (AreAdded (record { at = at; left = typ.now; right = wanted } ∷ []) constraints.old.next constraints.old constraints.new) }
 {
     let copy = typ.copy(alloc)?;
-    constrain(constraints, at, copy, wanted)?;
+    constrain(constraints, at, Equation::same(copy, wanted))?;
     Ok(())
 }
 

@@ -46,6 +46,15 @@ pub(crate) fn no_numbers(alloc: Global) -> Numbers
     }
 }
 
+/// Leaves no variables in the table, and its room.
+pub(crate) fn restart(alloc: Global, numbers: &mut Numbers)
+    ensures few { numbers.new.few.items ≡ [] }
+    ensures many { numbers.new.many ≡ [] }
+{
+    numbers.few.clear();
+    numbers.many = TypMap::empty(alloc);
+}
+
 /// The number and so many further ones.
 pub(crate) fn further(number: u32, count: usize) -> Result<u32, AllocError>
     ensures { IfOk result (λ n. n ≡ number + count) }

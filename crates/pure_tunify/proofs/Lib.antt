@@ -21,6 +21,7 @@ pub mod IndexLaws
 pub mod TreatLaws
 pub mod FreeLaws
 pub mod WorkLaws
+pub mod EquationLaws
 pub mod MeetingLaws
 pub mod OneAnswerLaws
 pub mod DecidedLaws

@@ -45,7 +45,7 @@ no_arguments_fixed x k s us ts e = absurd (fixed_constructor x k s (typs_of ts) 
 pub no_arguments_variable : (x i k : ℕ) (s : List ℕ) (us ts : List Typ) → TVar x i s ≡ Con k (typs_of ts) → us ≡ ts
 no_arguments_variable x i k s us ts e = absurd (variable_constructor x i k s (typs_of ts) e)
 
-not_so : (b : Bool) (P : Type 0) → (IsTrue b ↔ P) → b ≡ false → ¬ P
+pub not_so : (b : Bool) (P : Type 0) → (IsTrue b ↔ P) → b ≡ false → ¬ P
 not_so b P test e h = false_true (sym e ∙ test.1 h)
   where
     false_true : false ≡ true → ⊥

@@ -29,6 +29,12 @@ fixed_absent (b ∷ bs) x s (inl e) = other b.name b.index x b.sort s e
     other y j x r s e = cc
 fixed_absent (b ∷ bs) x s (inr m) = fixed_absent bs x s m
 
+-- A variable that isn't schematic isn't set.
+pub not_schematic_absent : (sets : List TypBind) (t : Typ) → ¬ IsSchematic t → IsTypVariable t → ¬ IsIn t (map typ_variable sets)
+not_schematic_absent sets (TFree x s) other is = fixed_absent sets x s
+not_schematic_absent sets (TVar x i s) other is = absurd (other tt)
+not_schematic_absent sets (Con k ts) other is = absurd is
+
 -- A set variable and its image have one instance.
 pub image_same : (p : Progress) (t u : Typ) → IsTidy p → IsTypVariable t → typ_image p.sets t ≡ u → typ_instance (composed p.sets) u ≡ typ_instance (composed p.sets) t
 image_same p t u tidy is e = ap (typ_instance (composed p.sets)) (sym e) ∙ (sym (composed-image p.sets t tidy.triangular is) ∙ sym (as_variable (composed p.sets) t is))

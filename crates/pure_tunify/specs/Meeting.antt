@@ -99,3 +99,7 @@ turned_by false = Never
 abbrev pub IsPutBack : TypPair → (old new : List TypPair) → Turned → Type 0
 IsPutBack q old new Large = reverse new ≡ q ∷ reverse old
 IsPutBack q old new _ = new ≡ old
+
+-- These pairs stand for one: whatever is set, what is made of them is made of it.
+abbrev pub StandsFor : TypPair → List TypPair → Type 0
+StandsFor p work = (A : Algebra) (now : Progress) → GoesOn A now now (p ∷ []) work

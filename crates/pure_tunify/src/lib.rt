@@ -3,6 +3,7 @@
 
 mod asking;
 mod asks;
+mod equation;
 mod fault;
 mod free;
 mod index;
@@ -22,6 +23,7 @@ mod turn;
 mod unifier;
 
 pub use asks::{Asked, asked_of, asked_of_arguments};
+pub use equation::{Equation, pairs_of};
 pub use fault::TypFault;
 pub use index::index_above_each as index_above;
 pub use pair::TypPair;

@@ -1,8 +1,9 @@
-//! One pair is made equal.
-ghost use Rattle.std.specs.Prelude.{◌≡◌, ◌∷◌, [], IfOk};
+//! The types of one equation are made equal.
+ghost use Rattle.std.specs.Prelude.{◌≡◌, IfOk};
 ghost use Rattle.pure_tunify.specs.Unifiers.{IsOldPair};
 ghost use Rattle.pure_tunify.specs.Answers.{IsSolved};
 
+use crate::equation::Equation;
 use crate::large::solvability;
 use crate::meeting::Turned;
 use crate::pair::TypPair;
@@ -12,45 +13,37 @@ use pure_order::Order;
 use pure_typ::Name;
 use std::alloc::{AllocError, Global};
 
-/// A copy of the pair.
-fn copied(alloc: Global, pair: &TypPair) -> Result<TypPair, AllocError>
+/// The equation of a copy of the pair.
+fn copied(alloc: Global, pair: &TypPair) -> Result<Equation, AllocError>
     ensures { IfOk result (λ p. p ≡ pair.now) }
 {
     let left = pair.left.copy(alloc)?;
     let right = pair.right.copy(alloc)?;
-    Ok(TypPair { left, right })
+    Ok(Equation::same(left, right))
 }
 
-/// A list with the pair.
-fn at_first(alloc: Global, pair: TypPair) -> Result<Vec<TypPair>, AllocError>
-    ensures { IfOk result (λ work. work.items ≡ pair ∷ []) }
-{
-    let mut work = Vec::new(alloc);
-    work.push(pair)?;
-    Ok(work)
-}
-
-/// Makes a pair equal by further settings; never where it comes to a place without a unifier. Where an image would be too
-/// large to be written out, the pair passes the limits, if what is left of it has a unifier; memory is wanted where that
-/// isn't found out.
+/// Makes the types of an equation equal by further settings; never where it comes to a place without a unifier. Where an
+/// image would be too large to be written out, the pair passes the limits, if what is left of it has a unifier; memory is
+/// wanted where that isn't found out. The list is only lent for what is left.
 pub fn solve_given(
     order: &Order,
     alloc: Global,
     settings: &mut Settings,
-    pair: TypPair,
+    work: &mut Vec<TypPair>,
+    equation: Equation,
 ) -> Result<Turned, AllocError>
-    requires { IsOldPair settings.old.index settings.old.next pair }
-    ensures { IfOk result (IsSolved order.now settings.old settings.new pair) }
+    requires { IsOldPair settings.old.index settings.old.next equation }
+    ensures { IfOk result (IsSolved order.now settings.old settings.new equation) }
 {
-    let mut work = at_first(alloc, pair)?;
-    let turned = pursue(order, alloc, settings, &mut work)?;
+    equation.begin(alloc, work)?;
+    let turned = pursue(order, alloc, settings, work)?;
     match turned {
         Turned::Further => Ok(Turned::Further),
         Turned::Never => Ok(Turned::Never),
         Turned::Large => {
             let _ = order.domains(Name::FUN, Name::FUN);
             let _ = settings.next();
-            let known = solvability(order, alloc, settings, &mut work)?;
+            let known = solvability(order, alloc, settings, work)?;
             match known {
                 Turned::Further => Ok(Turned::Large),
                 Turned::Never => Ok(Turned::Never),
@@ -70,7 +63,8 @@ pub fn solve(
     requires { IsOldPair settings.old.index settings.old.next pair.now }
     ensures { IfOk result (IsSolved order.now settings.old settings.new pair.now) }
 {
-    let copy = copied(alloc, pair)?;
-    let turned = solve_given(order, alloc, settings, copy)?;
+    let equation = copied(alloc, pair)?;
+    let mut work = Vec::new(alloc);
+    let turned = solve_given(order, alloc, settings, &mut work, equation)?;
     Ok(turned)
 }

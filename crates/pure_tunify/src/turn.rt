@@ -15,7 +15,9 @@ ghost use Rattle.pure_tunify.specs.Working.{IsUntouched, IsSetTo, CannotBeSetTo}
 
 use crate::asks::asked_of_arguments;
 use crate::free::is_free;
-use crate::meeting::{Meeting, Turned, arguments, meeting_of, push_arguments, put_back};
+use crate::meeting::{
+    Meeting, Turned, arguments, is_schematic, meeting_of, push_arguments, put_back,
+};
 use crate::narrow::narrow;
 use crate::occurs::variable_occurs;
 use crate::pair::TypPair;
@@ -165,8 +167,8 @@ fn turned_by(set: bool) -> Turned
     if set { Turned::Further } else { Turned::Never }
 }
 
-/// The type itself, or a copy of what stands for it where it is a variable that is set: no variable that is set.
-fn opened(settings: &Settings, alloc: Global, t: Typ) -> Result<Typ, AllocError>
+/// The variable itself, or a copy of what stands for it where it is set: no variable that is set.
+fn opened_variable(settings: &Settings, alloc: Global, t: Typ) -> Result<Typ, AllocError>
     ensures same { IfOk result (λ h. typ_instance (composed settings.now.sets) h ≡ typ_instance (composed settings.now.sets) t) }
     ensures free { IfOk result (λ h. IsTypVariable h → ¬ IsIn h (map typ_variable settings.now.sets)) }
     ensures old { IfOk result (λ h. IsOld settings.now.index settings.now.next t → IsOld settings.now.index settings.now.next h) }
@@ -179,6 +181,19 @@ fn opened(settings: &Settings, alloc: Global, t: Typ) -> Result<Typ, AllocError>
             Ok(copy)
         }
     }
+}
+
+/// The type itself, or a copy of what stands for it where it is a variable that is set: no variable that is set.
+fn opened(settings: &Settings, alloc: Global, t: Typ) -> Result<Typ, AllocError>
+    ensures same { IfOk result (λ h. typ_instance (composed settings.now.sets) h ≡ typ_instance (composed settings.now.sets) t) }
+    ensures free { IfOk result (λ h. IsTypVariable h → ¬ IsIn h (map typ_variable settings.now.sets)) }
+    ensures old { IfOk result (λ h. IsOld settings.now.index settings.now.next t → IsOld settings.now.index settings.now.next h) }
+{
+    if !is_schematic(&t) {
+        return Ok(t);
+    }
+    let top = opened_variable(settings, alloc, t)?;
+    Ok(top)
 }
 
 /// One turn at a pair of types that aren't set variables.

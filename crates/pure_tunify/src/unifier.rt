@@ -9,6 +9,7 @@ ghost use Rattle.pure_tunify.specs.Procedure.{Unifies, TooBig};
 ghost use Rattle.pure_tunify.specs.Answers.{AreSettled, AreUnified, IsIdempotentMap, IsIdempotent, IsDecided, IsReason, index_above_pairs};
 ghost use Rattle.pure_tunify.specs.Passes.{HasCome, IsPass, IsJudged, IfFound, IfBeyond};
 
+use crate::equation::Equation;
 use crate::fault::TypFault;
 use crate::index::index_above_each;
 use crate::measure::are_images_within;
@@ -312,19 +313,20 @@ pub fn settle(
     }
 }
 
-/// Makes the pairs equal, one after the other; false where one has no unifier or passes the limits.
+/// Makes the types of each equation equal, one after the other; false where one has no unifier or passes the limits.
 fn solve_each(
     order: &Order,
     alloc: Global,
     settings: &mut Settings,
-    pairs: Vec<TypPair>,
+    pairs: Vec<Equation>,
 ) -> Result<bool, AllocError>
     requires start { settings.old.sets ≡ [] }
     requires old { Each (IsOldPair settings.old.index settings.old.next) pairs.items }
     ensures { IfOk result (λ done. OnTrue done (HasCome order.now settings.old.index settings.old.next pairs.items (length pairs.items) settings.new)) }
 {
+    let mut work = Vec::new(alloc);
     for pair in pairs {
-        let turned = solve_given(order, alloc, settings, pair)?;
+        let turned = solve_given(order, alloc, settings, &mut work, pair)?;
         match turned {
             Turned::Further => {}
             Turned::Never => return Ok(false),
@@ -339,7 +341,7 @@ fn solve_each(
 pub fn settle_given(
     alloc: Global,
     order: &Order,
-    pairs: Vec<TypPair>,
+    pairs: Vec<Equation>,
     index: u32,
     from: u32,
 ) -> Result<Settings, AllocError>

@@ -1,18 +1,44 @@
+use Rattle.std.proofs.Common.{[], ◌∷◌, refl}
 use Rattle.std.specs.Prelude.{reverse}
+use Rattle.pure_tunify.specs.declared.meeting.Turned.TheVariants.{Further, Never, Large}
+use Rattle.pure_tunify.specs.Meeting.{IsPursuit}
 use Rattle.pure_tunify.proofs.WorkLaws.{one_equalised, one_blocked}
 use Rattle.pure_tunify.proofs.LargeLaws.{one_passed, one_refused}
+use Rattle.pure_tunify.proofs.EquationLaws.{stands_old, stands_pursuit}
 use Rattle.pure_tunify.proofs.solve.solve_given.Goals as goal
 
+pub pursue-requires : goal.pursue-requires
+pursue-requires c = stands_old c.args.equation (reverse c.begin.new.work.items) c.args.order.now c.args.settings.now c.in_ok-begin.ensures c.requires
+
 pub returns-in-Further : goal.returns-in-Further
-returns-in-Further c = one_equalised c.args.order.now c.args.pair c.args.settings.now c.pursue.new.settings c.in_ok-work.work.items c.in_ok-work.ensures (rw c.in-Further.is at c.in_ok-turned.ensures)
+returns-in-Further c =
+    let pursuit : IsPursuit c.args.order.now c.args.settings.now c.pursue.new.settings (c.args.equation ∷ []) (reverse c.pursue.new.work.items) c.in_ok-turned.turned =
+    stands_pursuit c.args.order.now c.args.settings.now c.pursue.new.settings c.args.equation (reverse c.begin.new.work.items) (reverse c.pursue.new.work.items) c.in_ok-turned.turned c.in_ok-begin.ensures c.in_ok-turned.ensures in
+    one_equalised c.args.order.now c.args.equation c.args.settings.now c.pursue.new.settings (c.args.equation ∷ []) refl (rw c.in-Further.is at pursuit)
 
 pub returns-in-Never : goal.returns-in-Never
-returns-in-Never c = one_blocked c.args.order.now c.args.pair c.args.settings.now c.pursue.new.settings c.in_ok-work.work.items c.in_ok-work.ensures (rw c.in-Never.is at c.in_ok-turned.ensures)
+returns-in-Never c =
+    let pursuit : IsPursuit c.args.order.now c.args.settings.now c.pursue.new.settings (c.args.equation ∷ []) (reverse c.pursue.new.work.items) c.in_ok-turned.turned =
+    stands_pursuit c.args.order.now c.args.settings.now c.pursue.new.settings c.args.equation (reverse c.begin.new.work.items) (reverse c.pursue.new.work.items) c.in_ok-turned.turned c.in_ok-begin.ensures c.in_ok-turned.ensures in
+    one_blocked c.args.order.now c.args.equation c.args.settings.now c.pursue.new.settings (c.args.equation ∷ []) refl (rw c.in-Never.is at pursuit)
+
+pub solvability-requires : goal.solvability-requires
+solvability-requires c =
+    let pursuit : IsPursuit c.args.order.now c.args.settings.now c.pursue.new.settings (c.args.equation ∷ []) (reverse c.pursue.new.work.items) c.in_ok-turned.turned =
+    stands_pursuit c.args.order.now c.args.settings.now c.pursue.new.settings c.args.equation (reverse c.begin.new.work.items) (reverse c.pursue.new.work.items) c.in_ok-turned.turned c.in_ok-begin.ensures c.in_ok-turned.ensures in
+    let large : IsPursuit c.args.order.now c.args.settings.now c.pursue.new.settings (c.args.equation ∷ []) (reverse c.pursue.new.work.items) Large = rw c.in-Large.is at pursuit in
+    record { old = large.0.kept (c.requires, tt) }
 
 pub returns-in-Further-known : goal.returns-in-Further-known
-returns-in-Further-known c = one_passed c.args.order.now c.domains.ensures.coregular c.args.pair c.args.settings.now c.pursue.new.settings c.solvability.new.settings c.in_ok-work.work.items (reverse c.pursue.new.work.items) c.in_ok-work.ensures c.requires c.next.ensures.tidy
-    (rw c.in-Large.is at c.in_ok-turned.ensures) (rw c.in-Further-known.is at c.in_ok-known-in-Large.ensures)
+returns-in-Further-known c =
+    let pursuit : IsPursuit c.args.order.now c.args.settings.now c.pursue.new.settings (c.args.equation ∷ []) (reverse c.pursue.new.work.items) c.in_ok-turned.turned =
+    stands_pursuit c.args.order.now c.args.settings.now c.pursue.new.settings c.args.equation (reverse c.begin.new.work.items) (reverse c.pursue.new.work.items) c.in_ok-turned.turned c.in_ok-begin.ensures c.in_ok-turned.ensures in
+    one_passed c.args.order.now c.domains.ensures.coregular c.args.equation c.args.settings.now c.pursue.new.settings c.solvability.new.settings (c.args.equation ∷ []) (reverse c.pursue.new.work.items) refl c.requires c.next.ensures.tidy
+    (rw c.in-Large.is at pursuit) (rw c.in-Further-known.is at c.in_ok-known-in-Large.ensures)
 
 pub returns-in-Never-known : goal.returns-in-Never-known
-returns-in-Never-known c = one_refused c.args.order.now c.domains.ensures.coregular c.args.pair c.args.settings.now c.pursue.new.settings c.solvability.new.settings c.in_ok-work.work.items (reverse c.pursue.new.work.items) c.in_ok-work.ensures c.requires c.next.ensures.tidy
-    (rw c.in-Large.is at c.in_ok-turned.ensures) (rw c.in-Never-known.is at c.in_ok-known-in-Large.ensures)
+returns-in-Never-known c =
+    let pursuit : IsPursuit c.args.order.now c.args.settings.now c.pursue.new.settings (c.args.equation ∷ []) (reverse c.pursue.new.work.items) c.in_ok-turned.turned =
+    stands_pursuit c.args.order.now c.args.settings.now c.pursue.new.settings c.args.equation (reverse c.begin.new.work.items) (reverse c.pursue.new.work.items) c.in_ok-turned.turned c.in_ok-begin.ensures c.in_ok-turned.ensures in
+    one_refused c.args.order.now c.domains.ensures.coregular c.args.equation c.args.settings.now c.pursue.new.settings c.solvability.new.settings (c.args.equation ∷ []) (reverse c.pursue.new.work.items) refl c.requires c.next.ensures.tidy
+    (rw c.in-Large.is at pursuit) (rw c.in-Never-known.is at c.in_ok-known-in-Large.ensures)
