@@ -2,6 +2,7 @@ pub mod Unifiers
 pub mod Occurrences
 pub mod Asks
 pub mod Steps
+pub mod Stored
 pub mod Settings
 pub mod ProgressCode
 pub mod Procedure

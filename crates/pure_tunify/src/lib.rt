@@ -18,6 +18,7 @@ mod reached;
 mod resolve;
 mod settings;
 mod solve;
+mod stored;
 mod turn;
 mod unifier;
 

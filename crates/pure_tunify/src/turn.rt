@@ -119,7 +119,7 @@ fn treat(
         sort: own,
         image,
     };
-    settings.put(bind, next)?;
+    settings.put(alloc, bind, next)?;
     Ok(Turned::Further)
 }
 
@@ -154,7 +154,7 @@ fn set_as_it_stands(
         sort,
         image,
     };
-    settings.put(bind, next)?;
+    settings.put(alloc, bind, next)?;
     Ok(true)
 }
 
