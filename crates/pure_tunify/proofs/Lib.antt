@@ -6,6 +6,7 @@ pub mod ExampleLaws
 pub mod PlaceLaws
 pub mod SettingLaws
 pub mod EntryLaws
+pub mod StoredLaws
 pub mod NodeLaws
 pub mod SchematicLaws
 pub mod AskingLaws

@@ -3,6 +3,7 @@ pub mod Occurrences
 pub mod Asks
 pub mod Steps
 pub mod Equations
+pub mod Stored
 pub mod Settings
 pub mod ProgressCode
 pub mod Procedure

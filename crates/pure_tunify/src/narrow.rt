@@ -196,7 +196,7 @@ fn replace_first(
         sort: own,
         image,
     };
-    settings.put(bind, later)?;
+    settings.put(alloc, bind, later)?;
     Ok(u)
 }
 

@@ -247,7 +247,7 @@ pub fn written(settings: &Settings, alloc: Global) -> Result<Option<TypMap>, All
             None => return Ok(None),
             Some(entry) => {
                 let next = done.next();
-                done.put(entry, next)?;
+                done.put(alloc, entry, next)?;
             }
         }
     }

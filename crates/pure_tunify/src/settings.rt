@@ -1,7 +1,5 @@
 //! The variables that unification has set, one after the other.
 ghost use Rattle.std.specs.Prelude.{◌≡◌, ◌++◌, [], ◌∷◌, map, IfOk, OnOk, MatchOption};
-ghost use Rattle.pure_definitions.specs.Types.Typ as tree;
-ghost use Rattle.pure_definitions.specs.Types.Typ.{typ_eq};
 ghost use Rattle.pure_text.specs.Lists.{IsIn};
 ghost use Rattle.pure_definitions.specs.Types.Typ.{typ_size, typ_depth};
 ghost use Rattle.pure_definitions.specs.Terms.Limits.{Leaves};
@@ -10,7 +8,8 @@ ghost use Rattle.pure_term_laws.specs.LawsOccurs.{IsTypVariable};
 ghost use Rattle.pure_tunify.specs.Unifiers.{IsOld};
 ghost use Rattle.pure_tunify.specs.Settings.{composed, IsTidy};
 
-use pure_typ::{Name, Sort, Typ, TypBind, TypMap, TypNode, instance_leaves};
+use crate::stored::Stored;
+use pure_typ::{Typ, TypBind, TypNode, typ_leaves};
 use std::alloc::{AllocError, Global};
 use std::marker::Model;
 
@@ -19,7 +18,7 @@ use std::marker::Model;
 /// all set variables replaced, of which no contract speaks.
 #[derive(Drop)]
 pub struct Settings {
-    map: TypMap,
+    map: Stored,
     index: u32,
     next: u32,
     most: u32,
@@ -38,28 +37,33 @@ impl Model for Settings {
     ghost invariant = { λ s. IsTidy (record { sets = s.map; index = s.index; next = s.next }) };
 }
 
-/// So many entries are sooner looked at one after the other than by halves.
-const FEW: usize = 24;
-
-/// Whether the entry sets this variable.
-fn sets(bind: &TypBind, name: Name, index: u32, sort: &Sort) -> bool
-    ensures { result ≡ typ_eq (typ_variable bind.now) (tree.TVar name index sort.now) }
+/// What is left of a room for so many nodes, on paths of so many, when the type is put in with the image of each set variable.
+fn leaves_of(stored: &Stored, t: &Typ, left: u32, room: u32) -> Option<u32>
+    ensures { Leaves left room (typ_size (typ_instance (typ_image stored.now) t.now)) (typ_depth (typ_instance (typ_image stored.now) t.now)) result }
 {
-    bind.name == name && bind.index == index && bind.sort == *sort
-}
-
-/// The image of the variable, by a look at one entry after the other.
-fn image_among<'b>(binds: &'b [TypBind], name: Name, index: u32, sort: &Sort) -> Option<&'b Typ>
-    ensures { MatchOption result
-        (typ_image binds.now (tree.TVar name index sort.now) ≡ tree.TVar name index sort.now)
-        (λ t. typ_image binds.now (tree.TVar name index sort.now) ≡ t.now) }
-{
-    for bind in binds {
-        if sets(bind, name, index, sort) {
-            return Some(&bind.image);
+    match &t.node {
+        TypNode::TFree { .. } => typ_leaves(t, left, room),
+        TypNode::TVar { name, index, sort } => match stored.find(*name, *index, sort) {
+            Some(image) => typ_leaves(image, left, room),
+            None => typ_leaves(t, left, room),
+        },
+        TypNode::Con { args, .. } => {
+            if left == 0 {
+                return None;
+            }
+            if room == 0 {
+                return None;
+            }
+            let mut rest = left - 1;
+            for arg in args {
+                let Some(less) = leaves_of(stored, arg, rest, room - 1) else {
+                    return None;
+                };
+                rest = less;
+            }
+            Some(rest)
         }
     }
-    None
 }
 
 impl Settings {
@@ -68,7 +72,7 @@ impl Settings {
         ensures { result ≡ record { sets = []; index = index; next = next } }
     {
         Settings {
-            map: TypMap::empty(alloc),
+            map: Stored::empty(alloc),
             index,
             next,
             most,
@@ -113,26 +117,13 @@ impl Settings {
     {
         let _ = &self.map;
         match &t.node {
-            TypNode::TVar { name, index, sort } => match self.image(*name, *index, sort) {
+            TypNode::TVar { name, index, sort } => match self.map.find(*name, *index, sort) {
                 Some(image) => Some(image),
                 None => None,
             },
             TypNode::TFree { .. } => None,
             TypNode::Con { .. } => None,
         }
-    }
-
-    /// The image of a schematic variable that is set, as the map has it.
-    fn image(&self, name: Name, index: u32, sort: &Sort) -> Option<&Typ>
-        ensures { MatchOption result
-            (typ_image self.now.sets (tree.TVar name index sort.now) ≡ tree.TVar name index sort.now)
-            (λ t. typ_image self.now.sets (tree.TVar name index sort.now) ≡ t.now) }
-    {
-        let binds = self.map.binds();
-        if binds.len() <= FEW {
-            return image_among(binds, name, index, sort);
-        }
-        self.map.find(name, index, sort)
     }
 
     /// The type itself, or what stands for it where it is a variable that is set: no variable that is set.
@@ -157,16 +148,16 @@ impl Settings {
         ensures leaves { Leaves left room (typ_size (typ_instance (typ_image self.now.sets) t.now)) (typ_depth (typ_instance (typ_image self.now.sets) t.now)) result }
         ensures tidy { IsTidy self.now }
     {
-        instance_leaves(t, &self.map, left, room)
+        leaves_of(&self.map, t, left, room)
     }
 
     /// Sets one more variable.
-    pub(crate) fn put(&mut self, bind: TypBind, next: u32) -> Result<(), AllocError>
+    pub(crate) fn put(&mut self, alloc: Global, bind: TypBind, next: u32) -> Result<(), AllocError>
         requires absent { ¬ IsIn (typ_variable bind) (map typ_variable self.old.sets) }
         requires tidy { IsTidy (record { sets = self.old.sets ++ bind ∷ []; index = self.old.index; next = next }) }
         ensures { OnOk result (self.new ≡ record { sets = self.old.sets ++ bind ∷ []; index = self.old.index; next = next }) }
     {
-        self.map.push(bind)?;
+        self.map.push(alloc, bind)?;
         self.next = next;
         Ok(())
     }

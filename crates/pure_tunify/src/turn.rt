@@ -121,7 +121,7 @@ fn treat(
         sort: own,
         image,
     };
-    settings.put(bind, next)?;
+    settings.put(alloc, bind, next)?;
     Ok(Turned::Further)
 }
 
@@ -156,7 +156,7 @@ fn set_as_it_stands(
         sort,
         image,
     };
-    settings.put(bind, next)?;
+    settings.put(alloc, bind, next)?;
     Ok(true)
 }
 

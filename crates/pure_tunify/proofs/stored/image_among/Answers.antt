@@ -2,7 +2,7 @@ use Rattle.std.proofs.Common.{◌∙◌, ap, sym}
 use Rattle.pure_definitions.specs.Types.Typ.{TVar}
 use Rattle.pure_definitions.specs.Terms.Subst.{TypBind}
 use Rattle.pure_tunify.proofs.EntryLaws.{image-past, image-here, image-none}
-use Rattle.pure_tunify.proofs.settings.image_among.Goals as goal
+use Rattle.pure_tunify.proofs.stored.image_among.Goals as goal
 
 pub returns-then-sets : goal.returns-then-sets
 returns-then-sets c =
