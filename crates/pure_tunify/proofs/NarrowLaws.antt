@@ -1,5 +1,5 @@
 -- Narrowing: the first variable of which more is asked, and a type in which it is replaced by a fresh one.
-use Rattle.std.proofs.Common.{◌≡◌, ℕ, ◌+◌, List, [], ◌∷◌, ◌++◌, map, inl, inr, ◌⊎◌, refl, ap, sym, subst, ◌∙◌, arith, Bool, true, false, cond, append_assoc}
+use Rattle.std.proofs.Common.{◌≡◌, ℕ, ◌+◌, List, [], ◌∷◌, ◌++◌, map, inl, inr, ◌⊎◌, refl, ap, sym, subst, ◌∙◌, arith, Bool, true, false, cond, append_assoc, length, eqb-true, ◌==◌}
 use Rattle.std.proofs.lemmas.List.{append-nil}
 use Rattle.pure_text.specs.Lists.{IsIn, Each}
 use Rattle.pure_text.proofs.ListLaws.{each_of, each_at, each_imply, each-append, any_of, any_some, any_imply, in_split, in-append_right}
@@ -253,24 +253,21 @@ narrowing_then A s p mid new t u w f g = record {
     new_later v fresh = subst (λ (i : ℕ). ¬ IsFresh i mid.next v) (sym f.further.index) (fresh-later p.index p.next mid.next v f.further.later fresh)
 
 -- The first variable of which more is asked is replaced.
-module _ (A : Algebra) (p : Progress) (t : Typ) (s : List ℕ) (found : Asked) (own : List ℕ) (image : Typ) (n k later : ℕ) (tidy : IsTidy p) (old : IsOld p.index p.next t) (free : IsFreeOf p.sets t)
-    (first : IsToNarrow A t s found) (is_own : own ≡ found.sort) (is_next : n ≡ p.next) (is_index : k ≡ p.index) (is_later : later ≡ n + 1) (is_image : image ≡ TVar n k found.asked) where
-  image_fresh : image ≡ TVar p.next p.index found.asked
-  image_fresh = is_image ∙ (λ l. TVar (is_next l) (is_index l) found.asked)
+module _ (A : Algebra) (p : Progress) (t : Typ) (s : List ℕ) (found : Asked) (n k later : ℕ) (tidy : IsTidy p) (old : IsOld p.index p.next t) (free : IsFreeOf p.sets t)
+    (first : IsToNarrow A t s found) (is_next : n ≡ p.next) (is_index : k ≡ p.index) (is_later : later ≡ n + 1) where
+  image_fresh : TVar n k found.asked ≡ TVar p.next p.index found.asked
+  image_fresh = λ l. TVar (is_next l) (is_index l) found.asked
 
   later_next : later ≡ p.next + 1
   later_next = is_later ∙ ap (λ m. m + 1) is_next
 
-  progress : ◌≡◌ {A = Progress} (record { sets = p.sets ++ bind found.name found.index own image ∷ []; index = p.index; next = later }) (after A p t s found.name found.index found.sort found.asked tidy old free first.0 first.1)
-  progress = λ l. record { sets = p.sets ++ bind found.name found.index (is_own l) (image_fresh l) ∷ []; index = p.index; next = later_next l }
+  progress : ◌≡◌ {A = Progress} (record { sets = p.sets ++ bind found.name found.index found.sort (TVar n k found.asked) ∷ []; index = p.index; next = later }) (after A p t s found.name found.index found.sort found.asked tidy old free first.0 first.1)
+  progress = λ l. record { sets = p.sets ++ bind found.name found.index found.sort (image_fresh l) ∷ []; index = p.index; next = later_next l }
 
-  pub replaced_absent : ¬ IsIn (TVar found.name found.index own) (map typ_variable p.sets)
-  replaced_absent = subst (λ (q : List ℕ). ¬ IsIn (TVar found.name found.index q) (map typ_variable p.sets)) (sym is_own) (not_set A p t s found.name found.index found.sort found.asked tidy old free first.0 first.1)
-
-  pub replaced_tidy : IsTidy (record { sets = p.sets ++ bind found.name found.index own image ∷ []; index = p.index; next = later })
+  pub replaced_tidy : IsTidy (record { sets = p.sets ++ bind found.name found.index found.sort (TVar n k found.asked) ∷ []; index = p.index; next = later })
   replaced_tidy = subst IsTidy (sym progress) (after_tidy A p t s found.name found.index found.sort found.asked tidy old free first.0 first.1)
 
-  pub replaced_is : (new : Progress) (u : Typ) → new ≡ record { sets = p.sets ++ bind found.name found.index own image ∷ []; index = p.index; next = later } → u ≡ typ_instance (setting found.name found.index found.sort image) t → IsNarrowing A s p new t u
+  pub replaced_is : (new : Progress) (u : Typ) → new ≡ record { sets = p.sets ++ bind found.name found.index found.sort (TVar n k found.asked) ∷ []; index = p.index; next = later } → u ≡ typ_instance (setting found.name found.index found.sort (TVar n k found.asked)) t → IsNarrowing A s p new t u
   replaced_is new u e f =
       let now = e ∙ progress in
       let type = f ∙ (λ l. typ_instance (setting found.name found.index found.sort (image_fresh l)) t) in
@@ -283,3 +280,11 @@ narrowed_fits A s p mid new t w u h is = subst (λ (q : Progress). IsNarrowed A 
   narrowing = h;
   narrows = subst (λ (xs : List TypBind). Narrows A p.index s p.next t xs mid.next w) (append-nil h.more) (h.onward mid.next [] w (fits is.2));
 }))
+
+-- A type is of a sort without classes as it stands.
+pub narrowed_at_once : (A : Algebra) (s : List ℕ) (p : Progress) (t : Typ) → IsOld p.index p.next t → IsFreeOf p.sets t → (classes : List ℕ) (b : Bool) → classes ≡ s → b ≡ (length classes == 0) → b ≡ true → IsNarrowed A s p p t t
+narrowed_at_once A s p t old free classes b are test empty = narrowed_fits A s p p p t t t (narrowing_start A s p t old free) (refl, refl, subst (IsOfSort A t) are (of_none classes (eqb-true (length classes) 0 (sym test ∙ empty))))
+  where
+    of_none : (r : List ℕ) → length r ≡ 0 → IsOfSort A t r
+    of_none [] e = tt
+    of_none (c ∷ r) e = absurd (omega arith)

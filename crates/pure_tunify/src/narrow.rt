@@ -1,8 +1,10 @@
 //! Narrowing a type to a sort.
 ghost use Rattle.std.specs.Prelude.{◌≡◌, ◌↔◌, ◌⊎◌, ℕ, map, IfOk, MatchOption};
+ghost use Rattle.std.specs.Bool.{OnTrue};
 ghost use Rattle.pure_text.specs.Lists.{IsIn, Each};
 ghost use Rattle.pure_definitions.specs.Types.Typ.{typ_eq};
 ghost use Rattle.pure_definitions.specs.Types.Typ as tree;
+ghost use Rattle.pure_definitions.specs.Types.Order.{IsOfSort};
 ghost use Rattle.pure_definitions.specs.Terms.Subst.{typ_variable, typ_instance};
 ghost use Rattle.pure_tunify.specs.Unifiers.{IsOld};
 ghost use Rattle.pure_tunify.specs.Steps.{setting};
@@ -17,6 +19,9 @@ use crate::settings::Settings;
 use pure_order::Order;
 use pure_typ::{Name, Sort, Typ, TypBind, TypMap, TypNode, instance_of};
 use std::alloc::{AllocError, Global};
+
+/// So few variables are sooner looked at without a table of those of which more may be asked.
+const FEW: usize = 2;
 
 /// Whether something is asked of the same variable in both.
 fn is_same_variable(first: &Asked, second: &Asked) -> bool
@@ -105,9 +110,33 @@ fn asked_again(alloc: Global, variable: &Asked, asked: Sort) -> Result<Asked, Al
     })
 }
 
-/// The first variable whose own sort isn't below all that is asked of it, with the reduced union of the two; none exactly
-/// where there is no such variable.
-fn first_asking(order: &Order, alloc: Global, asked: &[Asked]) -> Result<Option<Asked>, AllocError>
+/// The first variable whose own sort isn't below all that is asked of it, by a look through the list for each.
+fn first_asking_of(
+    order: &Order,
+    alloc: Global,
+    asked: &[Asked],
+) -> Result<Option<Asked>, AllocError>
+    ensures { IfOk result (λ o. MatchOption o (Each (AsksNoMore order.now asked.now) asked.now) (λ found. IsFirstAsking order.now asked.now found)) }
+{
+    for variable in asked {
+        let union = union_asked(order, alloc, asked, variable)?;
+        match union {
+            None => {}
+            Some(sort) => {
+                let found = asked_again(alloc, variable, sort)?;
+                return Ok(Some(found));
+            }
+        }
+    }
+    Ok(None)
+}
+
+/// The same, where the variables are found first of which more may be asked.
+fn first_asking_among(
+    order: &Order,
+    alloc: Global,
+    asked: &[Asked],
+) -> Result<Option<Asked>, AllocError>
     ensures { IfOk result (λ o. MatchOption o (Each (AsksNoMore order.now asked.now) asked.now) (λ found. IsFirstAsking order.now asked.now found)) }
 {
     let asking = asking_variables(order, alloc, asked)?;
@@ -124,8 +153,19 @@ fn first_asking(order: &Order, alloc: Global, asked: &[Asked]) -> Result<Option<
     Ok(None)
 }
 
-/// The type with another one for a variable.
-fn with_variable(
+/// The first variable whose own sort isn't below all that is asked of it, with the reduced union of the two; none exactly
+/// where there is no such variable.
+fn first_asking(order: &Order, alloc: Global, asked: &[Asked]) -> Result<Option<Asked>, AllocError>
+    ensures { IfOk result (λ o. MatchOption o (Each (AsksNoMore order.now asked.now) asked.now) (λ found. IsFirstAsking order.now asked.now found)) }
+{
+    if asked.len() <= FEW {
+        return first_asking_of(order, alloc, asked);
+    }
+    first_asking_among(order, alloc, asked)
+}
+
+/// The type with another one for a variable, by a map of this one entry.
+fn with_entry(
     alloc: Global,
     t: &Typ,
     name: Name,
@@ -144,6 +184,40 @@ fn with_variable(
         image,
     })?;
     let u = instance_of(alloc, t, &map)?;
+    Ok(u)
+}
+
+/// Whether the type is this variable.
+fn is_variable(t: &Typ, name: Name, index: u32, sort: &Sort) -> bool
+    ensures { OnTrue result (t.now ≡ tree.TVar name index sort.now) }
+{
+    match &t.node {
+        TypNode::TVar {
+            name: other,
+            index: number,
+            sort: own,
+        } => name == *other && index == *number && *sort == *own,
+        TypNode::TFree { .. } => false,
+        TypNode::Con { .. } => false,
+    }
+}
+
+/// The type with another one for a variable.
+fn with_variable(
+    alloc: Global,
+    t: &Typ,
+    name: Name,
+    index: u32,
+    sort: &Sort,
+    image: &Typ,
+) -> Result<Typ, AllocError>
+    ensures { IfOk result (λ u. u ≡ typ_instance (setting name index sort.now image.now) t.now) }
+{
+    if is_variable(t, name, index, sort) {
+        let u = image.copy(alloc)?;
+        return Ok(u);
+    }
+    let u = with_entry(alloc, t, name, index, sort, image)?;
     Ok(u)
 }
 
@@ -186,18 +260,40 @@ fn replace_first(
     let Some(later) = next.checked_add(1) else {
         return Err(AllocError);
     };
-    let index = settings.index();
-    let image = variable(alloc, Name(next), index, &found.asked)?;
-    let u = with_variable(alloc, &t, found.name, found.index, &found.sort, &image)?;
-    let own = found.sort.copy(alloc)?;
+    let fresh = settings.index();
+    let Asked {
+        name,
+        index,
+        sort: own,
+        asked,
+    } = found;
+    let image = Typ {
+        node: TypNode::TVar {
+            name: Name(next),
+            index: fresh,
+            sort: asked,
+        },
+    };
+    let u = with_variable(alloc, &t, name, index, &own, &image)?;
     let bind = TypBind {
-        name: found.name,
-        index: found.index,
+        name,
+        index,
         sort: own,
         image,
     };
     settings.put(alloc, bind, later)?;
     Ok(u)
+}
+
+/// Whether the type is a variable of the sort.
+fn is_variable_of_sort(order: &Order, t: &Typ, sort: &Sort) -> bool
+    ensures { OnTrue result (IsOfSort order.now t.now sort.now) }
+{
+    match &t.node {
+        TypNode::TFree { sort: own, .. } => order.sort_below(own, sort),
+        TypNode::TVar { sort: own, .. } => order.sort_below(own, sort),
+        TypNode::Con { .. } => false,
+    }
 }
 
 /// One step of narrowing.
@@ -212,7 +308,7 @@ fn narrow_once(
     requires free { IsFreeOf settings.old.sets t }
     ensures { IfOk result (IsNarrowingStep order.now sort.now settings.old settings.new t) }
 {
-    if sort.classes().is_empty() {
+    if is_variable_of_sort(order, &t, sort) {
         return Ok(Narrowing::Fits(t));
     }
     let found = asked_of(order, alloc, &t, sort)?;
@@ -241,6 +337,9 @@ pub fn narrow(
     requires free { IsFreeOf settings.old.sets t }
     ensures { IfOk result (λ o. MatchOption o (HasNoInstance order.now t sort.now) (λ u. IsNarrowed order.now sort.now settings.old settings.new t u)) }
 {
+    if sort.classes().is_empty() {
+        return Ok(Some(t));
+    }
     let mut narrowed = t;
     for _ in 0..u64::MAX {
         match narrow_once(order, alloc, settings, sort, narrowed)? {

@@ -2,8 +2,11 @@ use Rattle.std.proofs.Common.{◌≡◌}
 use Rattle.pure_definitions.specs.Types.Order.{IsOfSort}
 use Rattle.pure_tunify.specs.Asks.{HasNoInstance}
 use Rattle.pure_tunify.specs.Working.{IsNarrowing}
-use Rattle.pure_tunify.proofs.NarrowLaws.{narrowing_start, narrowing_then, narrowed_fits}
+use Rattle.pure_tunify.proofs.NarrowLaws.{narrowing_start, narrowing_then, narrowed_fits, narrowed_at_once}
 use Rattle.pure_tunify.proofs.narrow.narrow.Goals as goal
+
+pub returns-then-is_empty : goal.returns-then-is_empty
+returns-then-is_empty c = narrowed_at_once c.args.order.now c.args.sort.now c.args.settings.now c.args.t c.requires.old c.requires.free c.classes.result.now c.is_empty.result c.classes.ensures.are c.is_empty.ensures c.if-is_empty.true
 
 pub loop-init : goal.loop-init
 loop-init c = narrowing_start c.args.order.now c.args.sort.now c.args.settings.now c.args.t c.requires.old c.requires.free

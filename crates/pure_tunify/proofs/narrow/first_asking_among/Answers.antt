@@ -1,7 +1,7 @@
 use Rattle.pure_text.proofs.LoopLaws.{each_turn}
 use Rattle.pure_tunify.specs.Asking.{AsksNoMore, IsUnionAsked}
 use Rattle.pure_tunify.proofs.AskingLaws.{first_found}
-use Rattle.pure_tunify.proofs.narrow.first_asking.Goals as goal
+use Rattle.pure_tunify.proofs.narrow.first_asking_among.Goals as goal
 
 pub loop-variable-preserved : goal.loop-variable-preserved
 loop-variable-preserved c =
