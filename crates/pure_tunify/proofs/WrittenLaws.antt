@@ -14,6 +14,7 @@ use Rattle.pure_term_laws.specs.LawsOccurs.{IsTypVariable}
 use Rattle.pure_term_laws.proofs.OccursLaws.{typ_instances-agree}
 use Rattle.pure_term_laws.proofs.MapLaws.{typ_instance-again}
 use Rattle.pure_tunify.specs.Unifiers.{IsOld}
+use Rattle.pure_tunify.specs.Procedure.{IsSchematic}
 use Rattle.pure_tunify.specs.Settings.{composed, AreTriangular, Progress, IsTidy}
 use Rattle.pure_tunify.specs.Working.{HasImagesWithin, IsSmall}
 use Rattle.pure_tunify.proofs.DecidedLaws.{same_or_not}
