@@ -139,7 +139,8 @@ fn typed<L: Language>(
 {
     let Constraints { pairs, places, .. } = constraints;
     let pairs = pairs_of(alloc, pairs)?;
-    match settle(alloc, language.order(), pairs.as_slice(), FRESH_INDEX, 0) {
+    let all = pairs.as_slice();
+    match settle(alloc, language.order(), all, FRESH_INDEX, 0) {
         Err(fault) => Err(typing_fault(places.as_slice(), fault)),
         Ok(settings) => finished(alloc, language, term, &settings),
     }
