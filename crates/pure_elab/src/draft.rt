@@ -231,11 +231,7 @@ fn binder_typ<L: Language>(
 }
 
 /// Adds a constraint.
-fn constrain(
-    constraints: &mut Constraints,
-    at: u32,
-    equation: Equation,
-) -> Result<(), AllocError>
+fn constrain(constraints: &mut Constraints, at: u32, equation: Equation) -> Result<(), AllocError>
     ensures { OnOk result (AreAdded (record { at = at; left = equation.left; right = equation.right } ∷ []) constraints.old.next constraints.old constraints.new) }
 {
     constraints.places.push(at)?;
