@@ -213,7 +213,7 @@ fn elaborate_soon<L: Language>(
     typed_soon(alloc, language, Box::into_inner(found.0), found.1)
 }
 
-/// The term that the text says at this type, or its fault. The constraints are kept, so that a reason is found.
+/// The term that the text says at this type, or its fault. The pairs of its constraints are kept, so that a reason is found.
 fn elaborate_again<L: Language>(
     alloc: Global,
     language: &L,

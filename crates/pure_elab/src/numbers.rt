@@ -46,7 +46,7 @@ pub(crate) fn no_numbers(alloc: Global) -> Numbers
     }
 }
 
-/// Leaves no variables in the table, and its room.
+/// Leaves no variables in the table, and the room of its list.
 pub(crate) fn restart(alloc: Global, numbers: &mut Numbers)
     ensures few { numbers.new.few.items ≡ [] }
     ensures many { numbers.new.many ≡ [] }

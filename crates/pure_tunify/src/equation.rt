@@ -12,9 +12,9 @@ use pure_typ::{Name, Sort, Typ, TypNode};
 use std::alloc::{AllocError, Global};
 use std::marker::Model;
 
-/// Two types that are to be made equal. Of the second only the domain is kept where it is a type of functions to an
-/// unknown, the schematic variable of a number with index 0 and without classes: so no such type is made where the first
-/// is one of functions too.
+/// Two types that are to be made equal. The second is given whole, or by its parts, where it is a type of functions to an
+/// unknown, the schematic variable of a number with index 0 and without classes: then `right` is its domain, and where the
+/// first is a type of functions too, it isn't made to be solved.
 #[derive(Debug, Drop)]
 pub struct Equation {
     left: Typ,
