@@ -1,10 +1,10 @@
 -- What the program writes, whatever board it checked on.
 use Rattle.std.specs.Prelude.{ℕ, List, Option}
 use Rattle.pure_io.specs.declared.library.File as library
-use Rattle.pure_declare.specs.Notes.{Fork}
-use Rattle.pure_method.specs.declared.outcome.Outcome.{Outcome}
-use Rattle.pure_work.specs.Checked.{Checked}
-use Rattle.pure_work.specs.Outline.{Outline}
+use Rattle.pure_check.specs.Declare.Notes.{Fork}
+use Rattle.pure_check.specs.Method.declared.outcome.Outcome.{Outcome}
+use Rattle.pure_check.specs.TheoryRun.Checked.{Checked}
+use Rattle.pure_check.specs.TheoryRun.Outline.{Outline}
 use Rattle.pure_board.specs.Boards.{Ending}
 use Rattle.pure_check.specs.Answer.{Wrote}
 use Rattle.pure_check.specs.Meaning.{IsMeant}

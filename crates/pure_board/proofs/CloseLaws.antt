@@ -8,11 +8,11 @@ use Rattle.pure_text.specs.Lists.{IsIn, Each, AnyOf}
 use Rattle.pure_text.proofs.ListLaws.{each_imply, each_at, each-left, each-right, in-append_left, in-append_right}
 use Rattle.pure_machine.specs.Policy.{Opening}
 use Rattle.pure_machine.specs.State.{State, Event}
-use Rattle.pure_desk.specs.History.{entered_by}
-use Rattle.pure_desk.specs.View.{View, joining, noted}
-use Rattle.pure_desk.specs.Seats.{view_of, IsFree, HasAll, IsWhole}
-use Rattle.pure_desk.proofs.HistoryLaws.{begins-itself}
-use Rattle.pure_seats.specs.Seats.{own, state_of}
+use Rattle.pure_board_lock.specs.History.{entered_by}
+use Rattle.pure_board_lock.specs.View.{View, joining, noted}
+use Rattle.pure_board_lock.specs.Seats.{view_of, IsFree, HasAll, IsWhole}
+use Rattle.pure_board_lock.proofs.HistoryLaws.{begins-itself}
+use Rattle.pure_core_runs.specs.Seats.{own, state_of}
 use Rattle.pure_board.specs.Course.{IsLawful}
 use Rattle.pure_board.specs.Sight.{Plan, Sight}
 use Rattle.pure_board.specs.Tokens.{value_there, sight, IsSeated}

@@ -7,14 +7,14 @@ use Rattle.pure_machine.specs.Policy.{Opening}
 use Rattle.pure_machine.specs.State.{State, Promise, Event, TakeTheory, TakeProof, Fork, CloseTheory, Deliver, Stop, Running, theory_at}
 use Rattle.pure_machine.specs.Step.{Allows, Stands, IsOut, after, stops}
 use Rattle.pure_text.specs.Lists.{IsIn}
-use Rattle.pure_desk.specs.History.{entered_by, events}
-use Rattle.pure_desk.specs.View.{View, holding, looking, entering, releasing}
-use Rattle.pure_desk.specs.Steps.{IsHeld}
-use Rattle.pure_desk.specs.Seats.{view_of, IsFree, HasTurn, IsAsKept, IsNext}
-use Rattle.pure_desk.proofs.HistoryLaws.{entered-more}
-use Rattle.pure_seats.specs.Seats.{own, state_of, IsNumberedRun, MayEnter, HasTheory, forks_in}
-use Rattle.pure_seats.proofs.SplitLaws.{state-append, stops-append}
-use Rattle.pure_seats.proofs.SeatLaws.{state-history, run-grows, promise-keeps, taken-there, running-known, enter-fork, enter-close, enter-deliver, enter-stop}
+use Rattle.pure_board_lock.specs.History.{entered_by, events}
+use Rattle.pure_board_lock.specs.View.{View, holding, looking, entering, releasing}
+use Rattle.pure_board_lock.specs.Steps.{IsHeld}
+use Rattle.pure_board_lock.specs.Seats.{view_of, IsFree, HasTurn, IsAsKept, IsNext}
+use Rattle.pure_board_lock.proofs.HistoryLaws.{entered-more}
+use Rattle.pure_core_runs.specs.Seats.{own, state_of, IsNumberedRun, MayEnter, HasTheory, forks_in}
+use Rattle.pure_core_runs.proofs.SplitLaws.{state-append, stops-append}
+use Rattle.pure_core_runs.proofs.SeatLaws.{state-history, run-grows, promise-keeps, taken-there, running-known, enter-fork, enter-close, enter-deliver, enter-stop}
 use Rattle.pure_board.specs.Course.{IsLawful}
 use Rattle.pure_board.specs.Sight.{Sight, Sees, Enters}
 use Rattle.pure_board.specs.Taken.{IsGoalOf}

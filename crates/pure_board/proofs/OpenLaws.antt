@@ -9,11 +9,11 @@ use Rattle.pure_text.proofs.ListLaws.{each-append, any-append_left, any-append_r
 use Rattle.pure_machine.specs.Policy.{Opening}
 use Rattle.pure_machine.specs.State.{State, Event, opened}
 use Rattle.atomic_table.specs.declared.shared.Seat.{Seat}
-use Rattle.pure_desk.specs.View.{View, newcomer, splitting}
-use Rattle.pure_desk.specs.Seats.{IsFree}
-use Rattle.pure_seats.specs.Seats.{state_of}
-use Rattle.pure_seats.proofs.ToldLaws.{opened-opening}
-use Rattle.pure_seats.proofs.SeatLaws.{run-nothing}
+use Rattle.pure_board_lock.specs.View.{View, newcomer, splitting}
+use Rattle.pure_board_lock.specs.Seats.{IsFree}
+use Rattle.pure_core_runs.specs.Seats.{state_of}
+use Rattle.pure_core_runs.proofs.ToldLaws.{opened-opening}
+use Rattle.pure_core_runs.proofs.SeatLaws.{run-nothing}
 use Rattle.pure_board.specs.Course.{IsLawful}
 use Rattle.pure_board.specs.Sight.{Plan, Sight}
 use Rattle.pure_board.specs.Tokens.{sight, counting, IsSeated}

@@ -4,7 +4,7 @@ use Rattle.atomic_table.specs.Seated.{TableId}
 use Rattle.atomic_table.specs.Table.{Me}
 use Rattle.pure_machine.specs.Policy.{Opening}
 use Rattle.pure_machine.specs.State.{State, Event}
-use Rattle.pure_desk.specs.View.{View}
+use Rattle.pure_board_lock.specs.View.{View}
 use Rattle.pure_board.specs.Sight.{Sight}
 use Rattle.pure_board.specs.Tokens.{value_there, sight, IsDone}
 use Rattle.pure_board.proofs.HoldLaws.{some-same}

@@ -8,10 +8,10 @@ use Rattle.pure_machine.specs.Calls.{Takes, delivered_as, polled_as, is_in_cance
 use Rattle.pure_machine.specs.declared.answers.Task.TheVariants as task_code
 use Rattle.pure_machine.specs.declared.answers.Delivered as delivered
 use Rattle.pure_machine.specs.declared.answers.Polled as polled
-use Rattle.pure_desk.specs.History.{events}
-use Rattle.pure_desk.specs.View.{View, looking, entering, releasing}
-use Rattle.pure_desk.specs.Steps.{IsHeld}
-use Rattle.pure_seats.specs.Seats.{state_of, MayEnter}
+use Rattle.pure_board_lock.specs.History.{events}
+use Rattle.pure_board_lock.specs.View.{View, looking, entering, releasing}
+use Rattle.pure_board_lock.specs.Steps.{IsHeld}
+use Rattle.pure_core_runs.specs.Seats.{state_of, MayEnter}
 use Rattle.pure_board.specs.Course.{IsLawful}
 use Rattle.pure_board.specs.Sight.{Sight, Sees}
 use Rattle.pure_board.specs.Taken.{state_seen, IsGoalOf, IsTaken, IsForked, IsEntered, IsDelivered}

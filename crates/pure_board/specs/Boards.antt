@@ -5,8 +5,8 @@ use Rattle.atomic_table.specs.Seated.{TableId}
 use Rattle.pure_text.specs.Lists.{IsIn, Each, AnyOf}
 use Rattle.pure_machine.specs.Policy.{Opening}
 use Rattle.pure_machine.specs.State.{State, Event}
-use Rattle.pure_desk.specs.View.{View}
-use Rattle.pure_seats.specs.Seats.{own, state_of, IsNumberedRun}
+use Rattle.pure_board_lock.specs.View.{View}
+use Rattle.pure_core_runs.specs.Seats.{own, state_of, IsNumberedRun}
 use Rattle.pure_board.specs.Sight.{Plan, Sight}
 
 -- The seat is one of this board, which was opened so, and has neither seen nor entered anything.

@@ -2,7 +2,7 @@
 use Rattle.std.specs.Prelude.{◌≡◌, ℕ, List, Bool}
 use Rattle.pure_machine.specs.Policy.{Opening}
 use Rattle.pure_machine.specs.State.{Event}
-use Rattle.pure_seats.specs.Seats.{IsNumberedRun}
+use Rattle.pure_core_runs.specs.Seats.{IsNumberedRun}
 
 -- The history may be that of a board for the session: the opening has the session's shape, and the events with the numbers of their seats are a numbered legal run of it.
 pub record IsLawful {W G C O : Type 0} (shape : W → List (List ℕ)) (forks : W → ℕ → ℕ → G → Type 0) (closes : W → ℕ → ℕ → C → Type 0) (may : W → G → O → Type 0) (is_fault : W → O → Bool) (session : W) (o : Opening) (log : List (ℕ × Event G C O)) : Type 0 where

@@ -3,7 +3,7 @@ use Rattle.std.specs.Prelude.{◌≡◌, ◌<◌, ℕ, Bool, List, [], ◌∷◌
 use Rattle.atomic_table.specs.Seated.{TableId}
 use Rattle.pure_machine.specs.Policy.{Opening}
 use Rattle.pure_machine.specs.State.{Event}
-use Rattle.pure_seats.specs.Seats.{own, IsNumberedRun}
+use Rattle.pure_core_runs.specs.Seats.{own, IsNumberedRun}
 
 -- what a board is of: its name, and the session
 pub record Plan (W : Type 0) : Type 0 where

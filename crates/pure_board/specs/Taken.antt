@@ -6,7 +6,7 @@ use Rattle.pure_machine.specs.Calls.{delivered_as}
 use Rattle.pure_machine.specs.declared.answers.Task as task
 use Rattle.pure_machine.specs.declared.answers.Task.TheVariants as task_code
 use Rattle.pure_machine.specs.declared.answers.Delivered as delivered
-use Rattle.pure_seats.specs.Seats.{state_of}
+use Rattle.pure_core_runs.specs.Seats.{state_of}
 use Rattle.pure_board.specs.Sight.{Sight, Sees, Enters}
 
 -- the state to which what the seat saw leads

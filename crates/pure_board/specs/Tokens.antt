@@ -5,8 +5,8 @@ use Rattle.atomic_table.specs.Seated.{TableId}
 use Rattle.atomic_table.specs.Table.{Me}
 use Rattle.pure_machine.specs.Policy.{Opening}
 use Rattle.pure_machine.specs.State.{Event, State}
-use Rattle.pure_desk.specs.View.{View, first_seat, opened_seat}
-use Rattle.pure_seats.specs.Seats.{own, IsNumberedRun}
+use Rattle.pure_board_lock.specs.View.{View, first_seat, opened_seat}
+use Rattle.pure_core_runs.specs.Seats.{own, IsNumberedRun}
 use Rattle.pure_board.specs.Sight.{Sight}
 
 -- what is there

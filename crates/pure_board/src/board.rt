@@ -4,7 +4,7 @@ ghost use Rattle.pure_text.specs.Lists.{IsIn};
 ghost use Rattle.pure_machine.specs.State.{TakeProof, CloseTheory, Stop};
 ghost use Rattle.pure_machine.specs.Step.{IsOut, stops};
 ghost use Rattle.pure_machine.specs.Calls.{polled_as, is_in_cancelled};
-ghost use Rattle.pure_seats.specs.Seats.{HasTheory, forks_in};
+ghost use Rattle.pure_core_runs.specs.Seats.{HasTheory, forks_in};
 ghost use Rattle.pure_board.specs.Sight.{IsTrueSight, Sees};
 ghost use Rattle.pure_board.specs.Taken.{state_seen, IsGoalOf, IsTaken, IsForked, IsEntered, IsDelivered};
 
@@ -27,7 +27,7 @@ impl<W: Work> Model for Board<W> {
 
     ghost Value = { Plan W };
 
-    ghost use Rattle.pure_desk.specs.Names.{desk_id, desk_session};
+    ghost use Rattle.pure_board_lock.specs.Names.{desk_id, desk_session};
 
     ghost view = { λ b. record { name = desk_id b.desk; session = desk_session b.desk } };
 }

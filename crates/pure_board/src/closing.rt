@@ -2,8 +2,8 @@
 ghost use Rattle.std.specs.Prelude.{◌≡◌, ◌<◌, ◌∷◌, ◌++◌, [], List, true, is_some};
 ghost use Rattle.pure_text.specs.Lists.{Each};
 ghost use Rattle.pure_machine.specs.Policy.{Opening};
-ghost use Rattle.pure_desk.specs.Names.{desk_id};
-ghost use Rattle.pure_desk.specs.Seats.{view_of};
+ghost use Rattle.pure_board_lock.specs.Names.{desk_id};
+ghost use Rattle.pure_board_lock.specs.Seats.{view_of};
 ghost use Rattle.pure_board.specs.Boards.{AreAll, IsEnded, IsOfSeats, HasTaken};
 ghost use Rattle.pure_board.specs.Sight.{Sight};
 
@@ -103,7 +103,7 @@ impl<W: Work> Board<W> {
             Some(seat) => token_of(seat),
         };
         gather(&desk, &mut token, seats);
-        let pure_desk::Closed { object, note } = desk.close(token);
+        let pure_board_lock::Closed { object, note } = desk.close(token);
         Closed { core: object, note }
     }
 }

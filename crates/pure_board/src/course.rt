@@ -1,6 +1,6 @@
 //! The core on a desk: what determines it, and which histories it may have.
+use pure_board_lock::Course;
 use pure_core::{Core, Work};
-use pure_desk::Course;
 use std::marker::{Model, PhantomData};
 
 /// How a core is opened. Proofs alone see it, and no value of it is made.
@@ -36,7 +36,7 @@ pub struct Lawful<W> {
 }
 
 impl<W: Work> Course<Core<W>, W, Terms, Happening<W::Goal, W::Closed, W::Outcome>> for Lawful<W> {
-    ghost use Rattle.pure_seats.specs.Seats.{state_of};
+    ghost use Rattle.pure_core_runs.specs.Seats.{state_of};
     ghost use Rattle.pure_board.specs.Course.{IsLawful};
 
     ghost opened = { λ s. s.opening };

@@ -2,9 +2,9 @@
 ghost use Rattle.std.specs.Prelude.{◌≡◌, ◌<◌, ◌+◌, ◌-◌, ◌^◌, [], length, vec_len, vec_capacity, IfOk, OnOk};
 ghost use Rattle.pure_machine.specs.Policy.{Opening};
 ghost use Rattle.pure_machine.specs.Step.{IsShape};
-ghost use Rattle.pure_desk.specs.Names.{desk_id, desk_session};
-ghost use Rattle.pure_desk.specs.Seats.{view_of};
-ghost use Rattle.pure_desk.specs.View.{newcomer};
+ghost use Rattle.pure_board_lock.specs.Names.{desk_id, desk_session};
+ghost use Rattle.pure_board_lock.specs.Seats.{view_of};
+ghost use Rattle.pure_board_lock.specs.View.{newcomer};
 ghost use Rattle.pure_board.specs.Tokens.{sight, counting};
 ghost use Rattle.pure_board.specs.Boards.{IsNumberedFresh, AreOpened};
 

@@ -3,7 +3,7 @@ use crate::course::{Happening, Lawful, Terms};
 use pure_core::{Core, Work};
 
 /// The desk on which a core lies.
-pub(crate) type CoreDesk<W> = pure_desk::Desk<
+pub(crate) type CoreDesk<W> = pure_board_lock::Desk<
     Core<W>,
     W,
     Terms,
@@ -12,7 +12,7 @@ pub(crate) type CoreDesk<W> = pure_desk::Desk<
 >;
 
 /// A token at such a desk.
-pub(crate) type Token<W> = pure_desk::Seat<
+pub(crate) type Token<W> = pure_board_lock::Seat<
     Core<W>,
     W,
     Terms,

@@ -3,8 +3,8 @@ use Rattle.std.proofs.Common.{◌≡◌, ◌∙◌, ℕ, List, map, refl, sym, a
 use Rattle.pure_machine.specs.State.{CloseTheory}
 use Rattle.pure_machine.specs.Step.{IsOut, stops}
 use Rattle.pure_machine.specs.declared.answers.Task.TheVariants as task_code
-use Rattle.pure_seats.specs.Seats.{HasTheory}
-use Rattle.pure_seats.proofs.SeatLaws.{out-known}
+use Rattle.pure_core_runs.specs.Seats.{HasTheory}
+use Rattle.pure_core_runs.proofs.SeatLaws.{out-known}
 use Rattle.pure_board.specs.Sight.{Sight, IsTrueSight, Sees}
 use Rattle.pure_board.specs.Taken.{IsGoalOf, IsTaken, IsEntered, IsForked, IsDelivered, state_seen}
 use Rattle.pure_pool.specs.Held.{Held, Nothing, Theory, Proof}

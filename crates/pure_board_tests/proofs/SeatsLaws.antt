@@ -6,7 +6,7 @@ use Rattle.pure_text.specs.Lists.{IsIn, Each, AnyOf, EachTwo}
 use Rattle.pure_text.proofs.ListLaws.{each_at, two_long}
 use Rattle.pure_machine.specs.Policy.{Opening}
 use Rattle.pure_board.specs.Sight.{Plan, Sight}
-use Rattle.pure_desk.proofs.HistoryLaws.{shorter-begins}
+use Rattle.pure_board_lock.proofs.HistoryLaws.{shorter-begins}
 use Rattle.pure_board.specs.Boards.{IsFresh, AreAll, AreOpened, Ending, IsOfSeats}
 use Rattle.pure_board_tests.specs.Seen.{BeginAlike}
 use Rattle.pure_pool.specs.Seated.{IsSameSeat, IsServedBy}

@@ -9,7 +9,7 @@ use Rattle.pure_definitions.specs.Types.Order.{Algebra}
 use Rattle.pure_definitions.specs.Declarations.Decl.{Decl, ConDecl, classes_of, algebra_of, IsDeclaredClass}
 use Rattle.pure_definitions.specs.Declarations.Certified.{IsCertifiedTyp, AreCertifiedTyps, IsCertifiedConst}
 use Rattle.pure_term_laws.proofs.DeclLaws.{declared_classes}
-use Rattle.pure_order_tables.specs.Classes.{IsDeclared}
+use Rattle.pure_order.specs.OrderTables.Classes.{IsDeclared}
 use Rattle.pure_certify.specs.declared.fault.CertFault.{CertFault}
 use Rattle.pure_certify.specs.declared.fault.CertFault.TheVariants.{UnknownType, WrongCount, UnknownClass, UnknownConst, NotInstance, SortFails}
 use Rattle.pure_certify.specs.Tables.{IsUnknownConst}

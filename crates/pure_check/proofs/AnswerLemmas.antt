@@ -9,34 +9,34 @@ use Rattle.pure_graph.specs.Order.{Loaded}
 use Rattle.pure_session.specs.ToldTheories.{AreTheoriesOf}
 use Rattle.pure_typ.specs.NameTexts.{AreSessionTexts}
 use Rattle.std.specs.List.{filter_map}
-use Rattle.pure_declare.specs.Notes.{Fork, Note}
-use Rattle.pure_method.specs.Outcome.{IsOutcomeOf}
-use Rattle.pure_method.specs.declared.outcome.Outcome.{Outcome}
-use Rattle.pure_loaded.specs.Loaded.{IsLoadedSession}
-use Rattle.pure_loaded.proofs.OrderLaws.{loaded-in-order}
-use Rattle.pure_loaded.proofs.WellLaws.{loaded-well}
-use Rattle.pure_verdicts.specs.Statements.{forks_of, IsFork, AreStatements}
-use Rattle.pure_verdicts.proofs.StatementLaws.{statements_once}
-use Rattle.pure_work.specs.Checked.{Checked}
-use Rattle.pure_work.specs.Outline.{Outline}
-use Rattle.pure_table.specs.Table.{Table, IsTable}
-use Rattle.pure_table.proofs.DerivedLaws.{table_is_derived}
-use Rattle.pure_table.proofs.PrintedLaws.{said_are_statements}
+use Rattle.pure_check_work.specs.Declare.Notes.{Fork, Note}
+use Rattle.pure_check_work.specs.Method.Outcome.{IsOutcomeOf}
+use Rattle.pure_check_work.specs.Method.declared.outcome.Outcome.{Outcome}
+use Rattle.pure_check_work.specs.SessionLaws.Loaded.{IsLoadedSession}
+use Rattle.pure_check_work.proofs.SessionLaws.OrderLaws.{loaded-in-order}
+use Rattle.pure_check_work.proofs.SessionLaws.WellLaws.{loaded-well}
+use Rattle.pure_check_work.specs.SessionMeaning.Statements.{forks_of, IsFork, AreStatements}
+use Rattle.pure_check_work.proofs.SessionMeaning.StatementLaws.{statements_once}
+use Rattle.pure_check_work.specs.TheoryRun.Checked.{Checked}
+use Rattle.pure_check_work.specs.TheoryRun.Outline.{Outline}
+use Rattle.pure_check_work.specs.Table.Table.{Table, IsTable}
+use Rattle.pure_check_work.proofs.Table.DerivedLaws.{table_is_derived}
+use Rattle.pure_check_work.proofs.Table.PrintedLaws.{said_are_statements}
 use Rattle.pure_machine.specs.Policy.{Policy}
 use Rattle.pure_machine.specs.State.{Promise}
 use Rattle.pure_machine.specs.Step.{value_of}
-use Rattle.pure_joined.specs.Promises.{AreInOrder}
-use Rattle.pure_joined.proofs.JoinLaws.{core-joined}
+use Rattle.pure_core_end.specs.Promises.{AreInOrder}
+use Rattle.pure_core_end.proofs.JoinLaws.{core-joined}
 use Rattle.pure_board.specs.Boards.{Ending}
-use Rattle.pure_heed.specs.Heeded as heed
+use Rattle.pure_policy_laws.specs.Heeded as heed
 use Rattle.pure_policy.specs.Policy.{policy_of}
 use Rattle.pure_policy.proofs.PolicyLaws.{words_heeded}
-use Rattle.pure_checking.specs.Relations.{shape_of, ClosesAfter, is_fault}
-use Rattle.pure_checking.specs.Boards.{IsBoardOf}
-use Rattle.pure_checking.specs.Cancelled.{lemmas_of}
-use Rattle.pure_checking.proofs.LeftLaws.{said-joined}
-use Rattle.pure_checking.specs.Heeded.{lot_of, gone_labels}
-use Rattle.pure_checking.proofs.HeedLaws.{board-legal, session_is_heeded}
+use Rattle.pure_check_work.specs.Relations.{shape_of, ClosesAfter, is_fault}
+use Rattle.pure_check_work.specs.Boards.{IsBoardOf}
+use Rattle.pure_check_work.specs.Cancelled.{lemmas_of}
+use Rattle.pure_check_work.proofs.LeftLaws.{said-joined}
+use Rattle.pure_check_work.specs.Heeded.{lot_of, gone_labels}
+use Rattle.pure_check_work.proofs.HeedLaws.{board-legal, session_is_heeded}
 use Rattle.pure_words.specs.Words.{IsJob}
 use Rattle.pure_words.specs.declared.job.Job.{Job}
 use Rattle.pure_words.specs.declared.job.Job.TheVariants.{Check, Generate}

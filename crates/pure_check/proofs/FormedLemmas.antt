@@ -1,24 +1,24 @@
 -- From what the theories of a session left on a board, and the entries of its lemmas, to its table.
 use Rattle.std.proofs.Common.{◌≡◌, ℕ, Bool, List, [], map, refl, sym, ◌∙◌, ap, subst}
 use Rattle.std.specs.List.{list_all}
-use Rattle.pure_fates.specs.Entries.{AreEntries}
+use Rattle.pure_promise_fates.specs.Entries.{AreEntries}
 use Rattle.pure_definitions.specs.Names.{Label}
 use Rattle.pure_graph.specs.Order.{Loaded}
 use Rattle.pure_graph.specs.Session.{Session, Shown, shown}
 use Rattle.pure_print.specs.declared.row.Row.{Row}
-use Rattle.pure_declare.specs.Notes.{Fork}
-use Rattle.pure_method.specs.declared.outcome.Outcome.{Outcome}
-use Rattle.pure_promise.specs.Entries.{plain}
-use Rattle.pure_promise.specs.Seen.{seen}
-use Rattle.pure_promise.specs.declared.entry.Entry.{Entry}
-use Rattle.pure_loaded.specs.Loaded.{IsLoadedSession}
-use Rattle.pure_work.specs.Outline.{Outline}
-use Rattle.pure_table.specs.Table.{table_rows}
-use Rattle.pure_table.specs.Printed.{Parts, ArePartsOf, AreTableRows}
+use Rattle.pure_check_work.specs.Declare.Notes.{Fork}
+use Rattle.pure_check_work.specs.Method.declared.outcome.Outcome.{Outcome}
+use Rattle.pure_check_work.specs.Promise.Entries.{plain}
+use Rattle.pure_check_work.specs.Promise.Seen.{seen}
+use Rattle.pure_check_work.specs.Promise.declared.entry.Entry.{Entry}
+use Rattle.pure_check_work.specs.SessionLaws.Loaded.{IsLoadedSession}
+use Rattle.pure_check_work.specs.TheoryRun.Outline.{Outline}
+use Rattle.pure_check_work.specs.Table.Table.{table_rows}
+use Rattle.pure_check_work.specs.Table.Printed.{Parts, ArePartsOf, AreTableRows}
 use Rattle.pure_machine.specs.State.{Promise}
-use Rattle.pure_checking.specs.Cancelled.{cancelled_labels}
-use Rattle.pure_checking.specs.Said.{AreLeft, AreSaidBy}
-use Rattle.pure_checking.proofs.TableLaws.{table_has_premises}
+use Rattle.pure_check_work.specs.Cancelled.{cancelled_labels}
+use Rattle.pure_check_work.specs.Said.{AreLeft, AreSaidBy}
+use Rattle.pure_check_work.proofs.TableLaws.{table_has_premises}
 use Rattle.pure_check.specs.declared.formed.Extent.{Extent}
 use Rattle.pure_check.specs.Formed.{IsFormed, rows_text}
 use Rattle.pure_check.specs.Meaning.{is_good}

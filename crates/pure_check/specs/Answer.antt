@@ -3,7 +3,7 @@ use Rattle.std.specs.Prelude.{◌≡◌, ◌⊎◌, ℕ, Bool, true, false, List
 use Rattle.std.specs.List.{list_all}
 use Rattle.pure_io.specs.Outside.{Appends, AppendsProperPrefix}
 use Rattle.pure_graph.specs.Session.{Session}
-use Rattle.pure_table.specs.Table.{Table, table_rows}
+use Rattle.pure_check_work.specs.Table.Table.{Table, table_rows}
 use Rattle.pure_check.specs.Meaning.{is_good}
 use Rattle.pure_check.specs.declared.status.Status.{Status}
 use Rattle.pure_check.specs.declared.status.Status.TheVariants.{Clean, Rows, Usage, ReadFault, WriteFault, Memory}

@@ -8,22 +8,22 @@ use Rattle.pure_print.specs.declared.row.Row.{Row}
 use Rattle.pure_session.specs.Refused.{all_refused}
 use Rattle.pure_session.specs.Waiting.{all_loaded}
 use Rattle.pure_session.specs.declared.session.Session as code
-use Rattle.pure_loaded.specs.Loaded.{IsLoadedSession}
-use Rattle.pure_table.specs.Table.{Table, IsTable, table_rows}
+use Rattle.pure_check_work.specs.SessionLaws.Loaded.{IsLoadedSession}
+use Rattle.pure_check_work.specs.Table.Table.{Table, IsTable, table_rows}
 use Rattle.pure_words.specs.declared.job.Job.{Job}
 use Rattle.pure_words.specs.declared.job.Job.TheVariants.{Check, Generate}
 use Rattle.pure_check.specs.declared.formed.Extent.{Extent}
 use Rattle.pure_check.specs.declared.formed.Extent.TheVariants.{Whole, LastLine}
-use Rattle.pure_declare.specs.Notes.{Fork}
-use Rattle.pure_method.specs.declared.outcome.Outcome.{Outcome}
-use Rattle.pure_work.specs.Checked.{Checked}
-use Rattle.pure_work.specs.Outline.{Outline}
+use Rattle.pure_check_work.specs.Declare.Notes.{Fork}
+use Rattle.pure_check_work.specs.Method.declared.outcome.Outcome.{Outcome}
+use Rattle.pure_check_work.specs.TheoryRun.Checked.{Checked}
+use Rattle.pure_check_work.specs.TheoryRun.Outline.{Outline}
 use Rattle.pure_machine.specs.State.{Promise}
-use Rattle.pure_joined.specs.Promises.{AreInOrder}
+use Rattle.pure_core_end.specs.Promises.{AreInOrder}
 use Rattle.pure_board.specs.Boards.{Ending}
 use Rattle.pure_policy.specs.Heeded.{IsHeeded}
-use Rattle.pure_checking.specs.Cancelled.{cancelled_labels, entries_of}
-use Rattle.pure_checking.specs.Heeded.{lot_of, gone_labels}
+use Rattle.pure_check_work.specs.Cancelled.{cancelled_labels, entries_of}
+use Rattle.pure_check_work.specs.Heeded.{lot_of, gone_labels}
 use Rattle.pure_check.specs.Asked.{asked_of}
 use Rattle.pure_check.specs.Meaning.{IsToldSession, IsRunOf, is_good, text_for}
 

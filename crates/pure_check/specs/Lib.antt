@@ -1,3 +1,6 @@
+pub use Rattle.pure_check_work.specs.Declare as Declare
+pub use Rattle.pure_check_work.specs.Method as Method
+pub use Rattle.pure_check_work.specs.TheoryRun as TheoryRun
 pub mod Answer
 pub mod Asked
 pub mod Formed

@@ -12,22 +12,22 @@ use Rattle.pure_print.specs.RowText.{total_line}
 use Rattle.pure_print.specs.declared.row.Row.{Row}
 use Rattle.pure_print.specs.declared.row.RowStatus.{RowStatus}
 use Rattle.pure_print.specs.declared.row.RowStatus.TheVariants.{Declared, Refused, Proved, Failed, Tainted, Cancelled, Unsettled}
-use Rattle.pure_declare.specs.Notes.{Fork}
-use Rattle.pure_method.specs.declared.outcome.Outcome.{Outcome}
-use Rattle.pure_loaded.specs.Loaded.{IsLoadedSession}
-use Rattle.pure_verdicts.specs.Statements.{forks_of}
-use Rattle.pure_work.specs.Checked.{Checked}
-use Rattle.pure_work.specs.Outline.{Outline}
-use Rattle.pure_table.specs.Table.{Table, IsTable, IsDerivedTable, table_rows, session_text}
+use Rattle.pure_check_work.specs.Declare.Notes.{Fork}
+use Rattle.pure_check_work.specs.Method.declared.outcome.Outcome.{Outcome}
+use Rattle.pure_check_work.specs.SessionLaws.Loaded.{IsLoadedSession}
+use Rattle.pure_check_work.specs.SessionMeaning.Statements.{forks_of}
+use Rattle.pure_check_work.specs.TheoryRun.Checked.{Checked}
+use Rattle.pure_check_work.specs.TheoryRun.Outline.{Outline}
+use Rattle.pure_check_work.specs.Table.Table.{Table, IsTable, IsDerivedTable, table_rows, session_text}
 use Rattle.pure_machine.specs.State.{Promise}
-use Rattle.pure_joined.specs.Promises.{AreInOrder}
+use Rattle.pure_core_end.specs.Promises.{AreInOrder}
 use Rattle.pure_board.specs.Boards.{Ending}
 use Rattle.pure_policy.specs.Asked.{Asked}
 use Rattle.pure_policy.specs.Heeded.{IsHeeded}
 use Rattle.pure_policy.specs.Policy.{policy_of}
-use Rattle.pure_checking.specs.Boards.{IsBoardOf}
-use Rattle.pure_checking.specs.Cancelled.{lemmas_of, entries_of}
-use Rattle.pure_checking.specs.Heeded.{lot_of, gone_labels}
+use Rattle.pure_check_work.specs.Boards.{IsBoardOf}
+use Rattle.pure_check_work.specs.Cancelled.{lemmas_of, entries_of}
+use Rattle.pure_check_work.specs.Heeded.{lot_of, gone_labels}
 use Rattle.pure_check.specs.Asked.{asked_of}
 
 -- The session of a library's files, where it tells them; of one that tells none, the session of some listed names and of some answers on their theories.

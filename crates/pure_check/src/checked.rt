@@ -3,7 +3,7 @@ ghost use Rattle.std.specs.Prelude.{◌≡◌, ◌≢◌, ◌≤◌, is_some, If
 ghost use Rattle.pure_io.specs.Outside.{Rose};
 ghost use Rattle.pure_graph.specs.Session as graph;
 ghost use Rattle.pure_session.specs.Waiting.{all_loaded};
-ghost use Rattle.pure_loaded.specs.Loaded.{IsLoadedSession};
+ghost use Rattle.pure_check_work.specs.SessionLaws.Loaded.{IsLoadedSession};
 ghost use Rattle.pure_check.specs.Asked.{IsInRange};
 ghost use Rattle.pure_check.specs.Answer.{Wrote, IsPrinted, OnSilent, has_run};
 ghost use Rattle.pure_check.specs.Formed.{IsSeenSession, IsTextOf, IsPrintedOf, IsDone};
@@ -13,7 +13,7 @@ use crate::formed::{Formed, form};
 use crate::job::{extent_for, policy_for, workers_of};
 use crate::status::Status;
 use pure_board::Closed;
-use pure_checking::{Checking, checked};
+use pure_check_work::{Checking, checked};
 use pure_graph::LoadFault;
 use pure_io::{Gate, Library, Sink, write_all};
 use pure_session::{Session, load};

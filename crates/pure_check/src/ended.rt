@@ -3,7 +3,7 @@ ghost use Rattle.std.specs.Prelude.{◌≡◌, None, Some};
 
 use crate::status::Status;
 use pure_board::Closed;
-use pure_checking::Checking;
+use pure_check_work::Checking;
 
 /// How a call of `pure` ended: its status, and, where a table was printed or a part of one, the closed board on which the
 /// printed session was checked.

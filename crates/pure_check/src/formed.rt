@@ -10,10 +10,10 @@ ghost use Rattle.pure_check.specs.Formed.{IsFormed, rows_text};
 ghost use Rattle.pure_check.specs.Meaning as spec;
 
 use pure_board::Closed;
-use pure_checking::{Checking, Said, said_by};
+use pure_check_work::table::table;
+use pure_check_work::{Checking, Said, said_by};
 use pure_print::{Row, RowStatus, print_row, print_table};
 use pure_session::RefusedFile;
-use pure_table::table;
 use pure_text::Text;
 use std::alloc::{AllocError, Global};
 

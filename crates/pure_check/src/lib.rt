@@ -12,4 +12,5 @@ mod status;
 
 pub use call::pure;
 pub use ended::Ended;
+pub use pure_check_work::{declare, method, theory_run};
 pub use status::Status;

@@ -14,10 +14,10 @@ use Rattle.pure_logic.specs.Derivable.{Pair, Theorem, IsDerivable}
 use Rattle.pure_logic.specs.Proves.{Proves}
 use Rattle.pure_logic.proofs.ProvesLaws.{derivable_is_proves, weaker}
 use Rattle.pure_logic.proofs.EqualityLaws.{left-of, right-of}
-use Rattle.pure_equated.specs.Equated.{IsTypedUnder, AreEquated, AreEqualModulo}
-use Rattle.pure_equated.specs.Laws.Proved.{IsPairProved}
-use Rattle.pure_equated.proofs.NodesLaws.{equated_node_by_node}
-use Rattle.pure_equated.proofs.EquatedLaws.{equated_is_proved}
+use Rattle.pure_equation_laws.specs.Equated.{IsTypedUnder, AreEquated, AreEqualModulo}
+use Rattle.pure_equation_laws.specs.Laws.Proved.{IsPairProved}
+use Rattle.pure_equation_laws.proofs.NodesLaws.{equated_node_by_node}
+use Rattle.pure_equation_laws.proofs.EquatedLaws.{equated_is_proved}
 use Rattle.pure_theorem.specs.Facts.{IsTheoryContent}
 use Rattle.pure_conv.specs.declared.fault.ConvFault.{ConvFault}
 use Rattle.pure_conv.specs.Bottom.{AreEquations, AreDerivable, IsConverted, GivesConverted}

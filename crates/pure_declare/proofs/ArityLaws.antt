@@ -6,11 +6,11 @@ use Rattle.pure_text.proofs.ListLaws.{each_imply, each_at}
 use Rattle.pure_definitions.specs.Types.Order.{Arity, IsCoregular, Class}
 use Rattle.pure_definitions.specs.Declarations.Decl.{Decl, ConDecl, ArityDecl, classes_of, algebra_of, IsDeclaredClass}
 use Rattle.pure_logic.specs.Content.{Content, IsContent}
-use Rattle.pure_order_tables.specs.Classes.{IsDeclared}
-use Rattle.pure_order_tables.specs.Arities.{IsKnown, with_arity}
-use Rattle.pure_order_tables.specs.Unknown.{IsFirstUnknown, names_of, joined}
+use Rattle.pure_order.specs.OrderTables.Classes.{IsDeclared}
+use Rattle.pure_order.specs.OrderTables.Arities.{IsKnown, with_arity}
+use Rattle.pure_order.specs.OrderTables.Unknown.{IsFirstUnknown, names_of, joined}
 use Rattle.pure_certify.proofs.PartLemmas.{class_declared}
-use Rattle.pure_stage.proofs.AlgebraLaws.{arity_algebra}
+use Rattle.pure_theory_tables.proofs.AlgebraLaws.{arity_algebra}
 use Rattle.pure_theory.specs.declared.fault.DeclFault.{DeclFault}
 use Rattle.pure_theory.specs.declared.fault.DeclFault.TheVariants as fault
 use Rattle.pure_theory.specs.Refusals.{IsArityRefusal, IsGivenArityRefusal, IsCountRefusal, HasCon, IsNewArity}

@@ -9,8 +9,8 @@ use Rattle.pure_definitions.specs.Terms.Subst.{typ_instance}
 use Rattle.pure_definitions.specs.Declarations.Decl.{ClassDecl, ConDecl, ArityDecl, ConstDecl, AxiomDecl, algebra_of}
 use Rattle.pure_grammar.specs.Theories.TheoryText.{Span, Step, Command, Class as ClassOf, TypeDecl, Arity as ArityOf, Const, Axiom, Definition, Lemma}
 use Rattle.pure_grammar.specs.Terms.RawTree.{RawTree}
-use Rattle.pure_order_tables.specs.Arities.{with_arity}
-use Rattle.pure_order_tables.specs.Unknown.{HasArityFor}
+use Rattle.pure_order.specs.OrderTables.Arities.{with_arity}
+use Rattle.pure_order.specs.OrderTables.Unknown.{HasArityFor}
 use Rattle.pure_logic.specs.Content.{Content, definition, schematic_typ_variable}
 use Rattle.pure_lookup.specs.Meaning.{classes, constructors, constants, facts}
 use Rattle.pure_theory.specs.Stage.{with_declarations, with_decl}

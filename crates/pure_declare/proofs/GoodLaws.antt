@@ -12,13 +12,13 @@ use Rattle.pure_definitions.specs.Terms.Term.{Term}
 use Rattle.pure_definitions.specs.Terms.Subst.{typ_instance}
 use Rattle.pure_definitions.specs.Declarations.Decl.{Decl, ClassDecl, ConDecl, ArityDecl, ConstDecl, AxiomDecl, PromiseDecl, classes_of, arities_of, algebra_of, IsDeclaredClass}
 use Rattle.pure_term_laws.proofs.DeclLaws.{declared_arities}
-use Rattle.pure_order_tables.specs.Classes.{IsDeclared, Follows}
-use Rattle.pure_order_tables.specs.Arities.{IsKnown, with_class, with_arity}
-use Rattle.pure_order_tables.proofs.BelowLaws.{antisymmetric, antisymmetric_at, follows-one_more}
-use Rattle.pure_order_tables.proofs.CoregularLaws.{coregular_with_class}
-use Rattle.pure_stage.specs.Facts as Facts
-use Rattle.pure_stage.specs.Facts.{fact, fact_decl}
-use Rattle.pure_stage.proofs.AlgebraLaws.{class_algebra, arity_algebra}
+use Rattle.pure_order.specs.OrderTables.Classes.{IsDeclared, Follows}
+use Rattle.pure_order.specs.OrderTables.Arities.{IsKnown, with_class, with_arity}
+use Rattle.pure_order.proofs.OrderTables.BelowLaws.{antisymmetric, antisymmetric_at, follows-one_more}
+use Rattle.pure_order.proofs.OrderTables.CoregularLaws.{coregular_with_class}
+use Rattle.pure_theory_tables.specs.Facts as Facts
+use Rattle.pure_theory_tables.specs.Facts.{fact, fact_decl}
+use Rattle.pure_theory_tables.proofs.AlgebraLaws.{class_algebra, arity_algebra}
 use Rattle.pure_grammar.specs.Theories.TheoryText.{Span, Command}
 use Rattle.pure_logic.specs.Content.{Content, IsStatement, definition, schematic_typ_variable}
 use Rattle.pure_logic.specs.PureContent.{pure_content}

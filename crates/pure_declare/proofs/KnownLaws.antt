@@ -6,8 +6,8 @@ use Rattle.pure_text.proofs.ListLaws.{in-append_right, two-append}
 use Rattle.pure_text.proofs.LoopLaws.{longer_by}
 use Rattle.pure_definitions.specs.Types.Order.{Class}
 use Rattle.pure_definitions.specs.Declarations.Decl.{classes_of, IsDeclaredClass}
-use Rattle.pure_order_tables.specs.Classes.{IsDeclared}
-use Rattle.pure_order_tables.specs.Unknown.{IsFirstUnknown}
+use Rattle.pure_order.specs.OrderTables.Classes.{IsDeclared}
+use Rattle.pure_order.specs.OrderTables.Unknown.{IsFirstUnknown}
 use Rattle.pure_logic.specs.Content.{Content, IsContent}
 use Rattle.pure_lookup.specs.Meaning.{classes}
 use Rattle.pure_lookup.specs.LookUps.{IsFoundName}

@@ -1,3 +1,4 @@
+pub use Rattle.pure_theory.proofs as Theory
 pub mod LanguageLaws
 pub mod KnownLaws
 pub mod GrownLaws

@@ -7,10 +7,10 @@ use Rattle.pure_definitions.specs.Types.Typ.{Typ}
 use Rattle.pure_definitions.specs.Types.Order.{Arity, Algebra, IsCoregular}
 use Rattle.pure_definitions.specs.Terms.Term.{Term}
 use Rattle.pure_definitions.specs.Declarations.Decl.{ClassDecl, ConDecl, ArityDecl, algebra_of}
-use Rattle.pure_order_tables.specs.Arities.{with_arity}
-use Rattle.pure_order_tables.specs.Checks.{IsLeastInConflict}
-use Rattle.pure_order_tables.specs.Classes.{IsAntisymmetric}
-use Rattle.pure_order_tables.specs.Unknown.{HasArityFor}
+use Rattle.pure_order.specs.OrderTables.Arities.{with_arity}
+use Rattle.pure_order.specs.OrderTables.Checks.{IsLeastInConflict}
+use Rattle.pure_order.specs.OrderTables.Classes.{IsAntisymmetric}
+use Rattle.pure_order.specs.OrderTables.Unknown.{HasArityFor}
 use Rattle.pure_grammar.specs.Theories.TheoryText.{Span, Step, Command, Class as ClassOf, TypeDecl, Arity as ArityOf, Const, Axiom, Definition, Lemma}
 use Rattle.pure_typ.specs.NameTexts.{HasText}
 use Rattle.pure_logic.specs.Content.{Content, TheoryId}

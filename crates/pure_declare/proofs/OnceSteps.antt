@@ -9,7 +9,7 @@ use Rattle.pure_definitions.specs.Terms.Term.{Term}
 use Rattle.pure_definitions.specs.Reduction.Beta as beta
 use Rattle.pure_definitions.specs.Reduction.Beta.{BetaAnswer, IsBetaAnswer}
 use Rattle.pure_term_laws.proofs.BetaLaws.{one_beta_answer}
-use Rattle.pure_order_tables.specs.Classes.{IsAntisymmetric}
+use Rattle.pure_order.specs.OrderTables.Classes.{IsAntisymmetric}
 use Rattle.pure_grammar.specs.declared.token.Token.{Token}
 use Rattle.pure_grammar.specs.Theories.TheoryText.{Span}
 use Rattle.pure_grammar.specs.Terms.RawTree.{RawTypTree, RawTree}

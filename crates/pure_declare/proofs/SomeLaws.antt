@@ -5,7 +5,7 @@ use Rattle.pure_definitions.specs.Types.Typ.{Typ}
 use Rattle.pure_definitions.specs.Types.Order.{Arity, IsCoregular}
 use Rattle.pure_definitions.specs.Terms.Term.{Term, term_size}
 use Rattle.pure_definitions.specs.Declarations.Decl.{ClassDecl, ConDecl, ArityDecl, algebra_of}
-use Rattle.pure_order_tables.specs.Unknown.{HasArityFor}
+use Rattle.pure_order.specs.OrderTables.Unknown.{HasArityFor}
 use Rattle.pure_grammar.specs.Theories.TheoryText.{Span, Step, Command, Class as ClassOf, TypeDecl, Arity as ArityOf, Const, Axiom, Definition, Lemma}
 use Rattle.pure_lookup.specs.Meaning.{Space, classes, constructors, constants, facts}
 use Rattle.pure_theory.specs.Definitions.{HasVariable, HasExtraTyp}

@@ -12,7 +12,7 @@ use Rattle.pure_definitions.specs.Reduction.Beta as beta
 use Rattle.pure_definitions.specs.Reduction.Beta.{BetaAnswer, IsBetaAnswer}
 use Rattle.pure_definitions.proofs.OrderLaws.{below-trans}
 use Rattle.pure_term_laws.proofs.BetaLaws.{some_beta_answer}
-use Rattle.pure_order_tables.specs.Classes.{IsAntisymmetric}
+use Rattle.pure_order.specs.OrderTables.Classes.{IsAntisymmetric}
 use Rattle.pure_order.specs.Domains.{IsAboveAnother}
 use Rattle.pure_tunify.specs.Settings.{composed}
 use Rattle.pure_tunify.specs.Procedure.{Outcome, Unified, NotTyped, TooBig, Unifies, over, no_typing, big, next}

@@ -9,11 +9,11 @@ use Rattle.pure_definitions.specs.Types.Occurs.{OccursInTyp}
 use Rattle.pure_definitions.specs.Types.Order.{Class, Arity, Algebra, IsClassBelow, IsSortBelow, AreDomainsBelow, IsJoin, AreCompatible, IsCoregular}
 use Rattle.pure_definitions.specs.Terms.Term.{Term, Const, Free, Var, Bound, Abs, App}
 use Rattle.pure_definitions.specs.Declarations.Decl.{Decl, ClassDecl, ConDecl, ConstDecl, AxiomDecl, PromiseDecl}
-use Rattle.pure_order_tables.specs.Classes.{Follows}
-use Rattle.pure_order_tables.specs.Arities.{with_arity}
-use Rattle.pure_order_tables.specs.Unknown.{HasArityFor}
-use Rattle.pure_order_tables.proofs.BelowLaws.{reaches}
-use Rattle.pure_order_tables.proofs.CoregularLaws.{coregular_with}
+use Rattle.pure_order.specs.OrderTables.Classes.{Follows}
+use Rattle.pure_order.specs.OrderTables.Arities.{with_arity}
+use Rattle.pure_order.specs.OrderTables.Unknown.{HasArityFor}
+use Rattle.pure_order.proofs.OrderTables.BelowLaws.{reaches}
+use Rattle.pure_order.proofs.OrderTables.CoregularLaws.{coregular_with}
 use Rattle.pure_tunify.proofs.DecidedLaws.{is_decided, sort_below_or_not, occurs_or_not}
 use Rattle.pure_lookup.specs.Meaning.{Space, classes, constructors, constants, facts, IsDeclaredIn}
 use Rattle.pure_theory.specs.Definitions.{HasVariable, HasExtra, HaveExtra, HasExtraTyp}

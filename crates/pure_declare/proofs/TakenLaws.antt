@@ -6,7 +6,7 @@ use Rattle.pure_text.proofs.AnswerLaws.{yes_as, no_as}
 use Rattle.pure_definitions.specs.Types.Typ.{Typ}
 use Rattle.pure_definitions.specs.Declarations.Decl.{Decl, ConDecl, ConstDecl}
 use Rattle.pure_certify.specs.Tables.{IsParams, IsUnknownConst, IsConstOf}
-use Rattle.pure_stage.specs.Facts.{Stated, fact_decl}
+use Rattle.pure_theory_tables.specs.Facts.{Stated, fact_decl}
 use Rattle.pure_logic.specs.Content.{Content}
 use Rattle.pure_lookup.specs.Meaning.{Space, facts, IsDeclaredIn}
 use Rattle.pure_theory.proofs.LookupLaws.{declared_fact, undeclared_fact}

@@ -13,9 +13,9 @@ use Rattle.pure_typ.specs.NameTexts.{HasText}
 use Rattle.pure_logic.specs.Connectives.{eq}
 use Rattle.pure_logic.specs.Content.{Content, schematic_typ_variable, definition}
 use Rattle.pure_lookup.specs.Meaning.{Space, classes, constructors, constants, facts, IsDeclaredIn, full_text}
-use Rattle.pure_order_tables.specs.Arities.{with_arity, IsKnown}
-use Rattle.pure_order_tables.specs.Checks.{IsLeastInConflict}
-use Rattle.pure_order_tables.specs.Unknown.{HasArityFor}
+use Rattle.pure_order.specs.OrderTables.Arities.{with_arity, IsKnown}
+use Rattle.pure_order.specs.OrderTables.Checks.{IsLeastInConflict}
+use Rattle.pure_order.specs.OrderTables.Unknown.{HasArityFor}
 use Rattle.pure_theory.specs.Stage.{with_declarations, with_decl}
 use Rattle.pure_theory.specs.Definitions.{HasVariable, HasExtraTyp}
 use Rattle.pure_print.specs.TypText.{typ_text}

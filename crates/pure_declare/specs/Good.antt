@@ -3,7 +3,7 @@ use Rattle.std.specs.Prelude.{ℕ, List, []}
 use Rattle.pure_definitions.specs.Names.{Label}
 use Rattle.pure_definitions.specs.Declarations.Decl.{classes_of, algebra_of}
 use Rattle.pure_grammar.specs.Theories.TheoryText.{Command}
-use Rattle.pure_order_tables.specs.Classes.{Follows, IsAntisymmetric}
+use Rattle.pure_order.specs.OrderTables.Classes.{Follows, IsAntisymmetric}
 use Rattle.pure_logic.specs.Content.{Content, IsContent, IsBelow}
 use Rattle.pure_logic.specs.PureContent.{pure_content}
 use Rattle.pure_lookup.specs.Laws.{IsInSession}

@@ -1,3 +1,4 @@
+pub use Rattle.pure_theory.specs as Theory
 pub mod Named
 pub mod Notes
 pub mod Fixing

@@ -22,3 +22,4 @@ mod taken;
 pub use command::declare;
 pub use language::NamedTheory;
 pub use notes::{Declared, Duty, Note};
+pub use pure_theory as theory;

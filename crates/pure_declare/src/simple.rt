@@ -19,9 +19,9 @@ use crate::quoted::{statement_of, written_typ};
 use crate::tails::{prop_tail, typ_tail};
 use crate::taken::{is_class_taken, is_const_taken, is_fact_taken, is_typ_taken};
 use pure_script::Span;
-use pure_stage::shared;
 use pure_statements::{Failed, Reason, Stated, schematic_typ};
 use pure_text::Text;
+use pure_theory_tables::shared;
 use pure_typ::{Name, Typ};
 use std::alloc::{AllocError, Global};
 

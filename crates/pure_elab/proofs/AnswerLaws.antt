@@ -7,7 +7,7 @@ use Rattle.pure_definitions.specs.Types.Typ.{Typ}
 use Rattle.pure_definitions.specs.Types.Order.{Algebra}
 use Rattle.pure_definitions.specs.Terms.Term.{Term, IsWithin}
 use Rattle.pure_definitions.specs.Terms.Subst.{inst_typ}
-use Rattle.pure_order_tables.specs.Classes.{IsAntisymmetric}
+use Rattle.pure_order.specs.OrderTables.Classes.{IsAntisymmetric}
 use Rattle.pure_tunify.specs.Settings.{composed}
 use Rattle.pure_tunify.specs.Procedure.{Outcome, Unified, NotTyped, TooBig}
 use Rattle.pure_tunify.proofs.OneAnswerLaws.{unifies_one}

@@ -5,7 +5,7 @@ use Rattle.pure_definitions.specs.Types.Typ.{Typ}
 use Rattle.pure_definitions.specs.Terms.Term.{Term, IsWithin}
 use Rattle.pure_definitions.specs.Terms.Typing.{HasType}
 use Rattle.pure_definitions.specs.Terms.Subst.{inst_typ, typ_instance}
-use Rattle.pure_order_tables.specs.Classes.{IsAntisymmetric}
+use Rattle.pure_order.specs.OrderTables.Classes.{IsAntisymmetric}
 use Rattle.pure_tunify.specs.Unifiers.{Equates}
 use Rattle.pure_tunify.specs.ProcedureLaws.{IsBeyond}
 use Rattle.pure_grammar.specs.Terms.RawTree.{RawTypTree, RawTree}

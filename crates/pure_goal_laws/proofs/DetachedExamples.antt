@@ -15,7 +15,7 @@ use Rattle.pure_logic.proofs.EqualityLaws.{beta_equality}
 use Rattle.pure_logic.proofs.MapLaws.{identity_respects, sent-respects}
 use Rattle.pure_logic.proofs.PropositionLaws.{all-proposition}
 use Rattle.pure_logic.proofs.ProvesLaws.{derivable_is_proves}
-use Rattle.pure_equated.specs.Equated.{AreEquated, same, through, beta, abstraction, application}
+use Rattle.pure_equation_laws.specs.Equated.{AreEquated, same, through, beta, abstraction, application}
 use Rattle.pure_goal_laws.specs.Prefix.{Hypothesis, behind}
 use Rattle.pure_goal_laws.specs.Lifting.{bare, supposed, lifted_behind}
 use Rattle.pure_goal_laws.specs.GoalStep.{AreMatched, IsFactFor, IsRuleFor, lifted_premises, IsEliminated, destructed_premises}

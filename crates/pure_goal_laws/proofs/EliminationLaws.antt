@@ -16,7 +16,7 @@ use Rattle.pure_logic.specs.Concludes.{AreRespecting}
 use Rattle.pure_logic.specs.Proves.{Proves}
 use Rattle.pure_logic.proofs.ProvesLaws.{assumed, weaker, implication_is_proved, conclusion_is_proved, chain_is_proved, end_of_chain_is_proved, proved_is_proposition}
 use Rattle.pure_logic.proofs.PropositionLaws.{conclusion-proposition}
-use Rattle.pure_equated.specs.Laws.Proved.{IsPairProved}
+use Rattle.pure_equation_laws.specs.Laws.Proved.{IsPairProved}
 use Rattle.pure_goal_laws.specs.Prefix.{Item, Parameter, Hypothesis, behind, parameters, hypotheses}
 use Rattle.pure_goal_laws.specs.Lifting.{lifted_under, lifted_behind}
 use Rattle.pure_goal_laws.specs.GoalStep.{IsJustified, AreMatched, lifted_premises, IsEliminated}

@@ -19,7 +19,7 @@ use Rattle.pure_logic.proofs.MapLaws.{identity_respects, sent-respects}
 use Rattle.pure_logic.proofs.ContentLaws.{pure_is_content}
 use Rattle.pure_logic.proofs.PropositionLaws.{eq-proposition, all-proposition, derivable_is_proposition}
 use Rattle.pure_logic.proofs.ProvesLaws.{derivable_is_proves, assumed, implication_is_proved, quantification_is_proved}
-use Rattle.pure_equated.specs.Equated.{IsTypedUnder, AreEquated, same, beta, abstraction, application}
+use Rattle.pure_equation_laws.specs.Equated.{IsTypedUnder, AreEquated, same, beta, abstraction, application}
 use Rattle.pure_goal_laws.specs.Prefix.{Item, Hypothesis, behind, below_parameters, hypotheses}
 use Rattle.pure_goal_laws.specs.Lifting.{bare, quantified, supposed, lifted_behind}
 use Rattle.pure_goal_laws.specs.GoalStep.{AreMatched, IsRuleFor, lifted_premises}

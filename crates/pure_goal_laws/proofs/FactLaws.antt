@@ -13,8 +13,8 @@ use Rattle.pure_logic.specs.Proves.{Proves}
 use Rattle.pure_logic.proofs.ProvesLaws.{derivable_is_proves, weaker}
 use Rattle.pure_logic.specs.Laws.Maps.{raised_typs, raised_terms}
 use Rattle.pure_logic.proofs.TheoremMapLaws.{raised_is_derivable}
-use Rattle.pure_equated.specs.Equated.{AreEquated}
-use Rattle.pure_equated.proofs.EquatedLaws.{equated_proposition_is_proved}
+use Rattle.pure_equation_laws.specs.Equated.{AreEquated}
+use Rattle.pure_equation_laws.proofs.EquatedLaws.{equated_proposition_is_proved}
 use Rattle.pure_goal_laws.specs.Prefix.{Item, Hypothesis, behind, hypotheses}
 use Rattle.pure_goal_laws.specs.Lifting.{lifted_behind}
 use Rattle.pure_goal_laws.specs.GoalStep.{IsGoalStep, AreMatched, IsFactFor, IsRuleFor, lifted_premises, destructed_premises, IsEliminated}

@@ -10,8 +10,8 @@ use Rattle.pure_logic.specs.PureContent.{pure_content}
 use Rattle.pure_logic.specs.Derivable.{Theorem}
 use Rattle.pure_logic.specs.Proves.{Proves}
 use Rattle.pure_logic.proofs.EqualityLaws.{symmetric_equality}
-use Rattle.pure_equated.specs.Laws.Proved.{IsPairProved}
-use Rattle.pure_equated.proofs.EquatedLaws.{equated_is_proved}
+use Rattle.pure_equation_laws.specs.Laws.Proved.{IsPairProved}
+use Rattle.pure_equation_laws.proofs.EquatedLaws.{equated_is_proved}
 use Rattle.pure_goal_laws.specs.Prefix.{Item, Parameter, Hypothesis, behind, below_parameters}
 use Rattle.pure_goal_laws.specs.GoalStep.{AreMatched}
 use Rattle.pure_goal_laws.proofs.PrefixLaws.{equal_behind}

@@ -20,8 +20,8 @@ use Rattle.pure_logic.proofs.ConnectiveLaws.{certified_of}
 use Rattle.pure_logic.proofs.MapLaws.{identity_respects, sent-respects}
 use Rattle.pure_logic.proofs.PropositionLaws.{eq-proposition}
 use Rattle.pure_logic.proofs.ProvesLaws.{derivable_is_proves, assumed, implication_is_proved, conclusion_is_proved, chain_is_proved, proved-derivable}
-use Rattle.pure_equated.specs.Equated.{AreEquated, same}
-use Rattle.pure_equated.specs.Laws.Proved.{IsCertifiedPair}
+use Rattle.pure_equation_laws.specs.Equated.{AreEquated, same}
+use Rattle.pure_equation_laws.specs.Laws.Proved.{IsCertifiedPair}
 use Rattle.pure_goal_laws.specs.Prefix.{Hypothesis}
 use Rattle.pure_goal_laws.specs.Lifting.{bare, supposed, lifted_behind}
 use Rattle.pure_goal_laws.specs.GoalStep.{IsGoalStep, AreMatched, IsRuleFor, lifted_premises, IsEliminated}

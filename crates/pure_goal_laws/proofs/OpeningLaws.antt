@@ -13,7 +13,7 @@ use Rattle.pure_logic.specs.Proves.{Proves}
 use Rattle.pure_logic.proofs.ConnectiveLaws.{certified_of}
 use Rattle.pure_logic.proofs.PropositionLaws.{premise-proposition}
 use Rattle.pure_logic.proofs.ProvesLaws.{assumed, weaker, implication_is_proved, conclusion_is_proved, quantification_is_proved, instance_of_body_is_proved, proved_is_proposition}
-use Rattle.pure_equated.proofs.ClosingLaws.{closing, closing-abstraction, closing-application, closing-subst}
+use Rattle.pure_equation_laws.proofs.ClosingLaws.{closing, closing-abstraction, closing-application, closing-subst}
 use Rattle.pure_goal_laws.specs.Prefix.{Item, Parameter, Hypothesis, behind}
 
 -- the fixed variables with these names and types

@@ -14,7 +14,7 @@ use Rattle.pure_logic.proofs.EqualityLaws.{equal_is_proved}
 use Rattle.pure_logic.proofs.MapLaws.{identity_respects, sent-respects}
 use Rattle.pure_logic.proofs.PropositionLaws.{eq-proposition}
 use Rattle.pure_logic.proofs.ProvesLaws.{derivable_is_proves, assumed, weaker, proved-derivable}
-use Rattle.pure_equated.specs.Equated.{AreEquated, IsPairEquated, same, back, through, beta, pair, application}
+use Rattle.pure_equation_laws.specs.Equated.{AreEquated, IsPairEquated, same, back, through, beta, pair, application}
 use Rattle.pure_goal_laws.specs.Laws.States.{IsSmashed}
 use Rattle.pure_goal_laws.specs.Examples.Definitions.{a, b, any_b, any_f}
 use Rattle.pure_goal_laws.specs.Examples.Proofs.{goal_for, itself}

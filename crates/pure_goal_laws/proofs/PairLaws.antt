@@ -15,11 +15,11 @@ use Rattle.pure_logic.specs.Laws.Substitution.{pair_instance, theorem_instance}
 use Rattle.pure_logic.proofs.ConnectiveLaws.{certified_of}
 use Rattle.pure_logic.proofs.ProvesLaws.{derivable_is_proves, assumed, weaker, chain_is_proved, end_of_chain_is_proved, proved-derivable}
 use Rattle.pure_logic.proofs.SubstitutionLaws.{instance_is_derivable}
-use Rattle.pure_equated.specs.Equated.{AreEquated, IsPairEquated, back}
-use Rattle.pure_equated.specs.Laws.Proved.{IsCertifiedPair}
-use Rattle.pure_equated.proofs.SidesLaws.{equated_are_typed}
-use Rattle.pure_equated.proofs.EquatedLaws.{equated_proposition_is_proved}
-use Rattle.pure_equated.proofs.PairsLaws.{pairs_are_replaced}
+use Rattle.pure_equation_laws.specs.Equated.{AreEquated, IsPairEquated, back}
+use Rattle.pure_equation_laws.specs.Laws.Proved.{IsCertifiedPair}
+use Rattle.pure_equation_laws.proofs.SidesLaws.{equated_are_typed}
+use Rattle.pure_equation_laws.proofs.EquatedLaws.{equated_proposition_is_proved}
+use Rattle.pure_equation_laws.proofs.PairsLaws.{pairs_are_replaced}
 use Rattle.pure_goal_laws.specs.Laws.States.{IsSmashed}
 use Rattle.pure_goal_laws.proofs.StateLaws.{pairs_are_certified, pair-equated}
 

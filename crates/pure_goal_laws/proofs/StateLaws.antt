@@ -19,10 +19,10 @@ use Rattle.pure_logic.proofs.InferenceLaws.{inferred_from_one}
 use Rattle.pure_logic.proofs.MapLaws.{identity_respects}
 use Rattle.pure_logic.proofs.ProvesLaws.{derivable_is_proves, assumed, weaker, implication_is_proved, chain_is_proved, end_of_chain_is_proved, proved_is_proposition, derivable-proved}
 use Rattle.pure_logic.proofs.PropositionLaws.{derivable_is_proposition}
-use Rattle.pure_equated.specs.Equated.{AreEquated, IsPairEquated, same, pair}
-use Rattle.pure_equated.specs.Laws.Proved.{IsCertifiedPair}
-use Rattle.pure_equated.proofs.SidesLaws.{equated_are_typed}
-use Rattle.pure_equated.proofs.EquatedLaws.{equated_proposition_is_proved}
+use Rattle.pure_equation_laws.specs.Equated.{AreEquated, IsPairEquated, same, pair}
+use Rattle.pure_equation_laws.specs.Laws.Proved.{IsCertifiedPair}
+use Rattle.pure_equation_laws.proofs.SidesLaws.{equated_are_typed}
+use Rattle.pure_equation_laws.proofs.EquatedLaws.{equated_proposition_is_proved}
 use Rattle.pure_goal_laws.specs.GoalStep.{IsGoalStep}
 use Rattle.pure_goal_laws.proofs.StepLaws.{step_is_derivable}
 use Rattle.pure_goal_laws.proofs.JustificationLaws.{premises-propositions, by_equation}

@@ -15,11 +15,11 @@ use Rattle.pure_logic.specs.Laws.Substitution.{theorem_instance}
 use Rattle.pure_logic.proofs.ConnectiveLaws.{certified_of}
 use Rattle.pure_logic.proofs.ProvesLaws.{assumed, weaker, chain_is_proved, end_of_chain_is_proved, derivable-proved, proved-derivable}
 use Rattle.pure_logic.proofs.SubstitutionLaws.{instance_is_derivable}
-use Rattle.pure_equated.specs.Equated.{AreEquated, back}
-use Rattle.pure_equated.specs.Laws.Proved.{IsPairProved}
-use Rattle.pure_equated.proofs.SidesLaws.{equated_are_typed}
-use Rattle.pure_equated.proofs.EquatedLaws.{equated_proposition_is_proved}
-use Rattle.pure_equated.proofs.PairsLaws.{pairs_are_replaced, own-proved}
+use Rattle.pure_equation_laws.specs.Equated.{AreEquated, back}
+use Rattle.pure_equation_laws.specs.Laws.Proved.{IsPairProved}
+use Rattle.pure_equation_laws.proofs.SidesLaws.{equated_are_typed}
+use Rattle.pure_equation_laws.proofs.EquatedLaws.{equated_proposition_is_proved}
+use Rattle.pure_equation_laws.proofs.PairsLaws.{pairs_are_replaced, own-proved}
 use Rattle.pure_goal_laws.specs.GoalStep.{IsGoalStep, IsJustified}
 
 pub pairs-weaker : (Q : Content) (hyps more_hyps : List Term) (rests : List Label) (pairs : List Pair) → ((A : Term) → IsIn A hyps → IsIn A more_hyps) → Each (IsPairProved Q hyps rests) pairs → Each (IsPairProved Q more_hyps rests) pairs

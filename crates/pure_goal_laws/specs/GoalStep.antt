@@ -13,8 +13,8 @@ use Rattle.pure_logic.specs.Derivable.{Pair, Theorem}
 use Rattle.pure_logic.specs.Proves.{Proves}
 use Rattle.pure_logic.specs.Laws.Substitution.{pair_instance}
 use Rattle.pure_logic.specs.Laws.Maps.{raised_typs, raised_terms}
-use Rattle.pure_equated.specs.Equated.{AreEquated, IsPairEquated}
-use Rattle.pure_equated.specs.Laws.Proved.{IsPairProved, IsCertifiedPair}
+use Rattle.pure_equation_laws.specs.Equated.{AreEquated, IsPairEquated}
+use Rattle.pure_equation_laws.specs.Laws.Proved.{IsPairProved, IsCertifiedPair}
 use Rattle.pure_goal_laws.specs.Prefix.{Item, Hypothesis, behind, parameters, below_parameters}
 use Rattle.pure_goal_laws.specs.Lifting.{IsStripped, lifted_behind}
 

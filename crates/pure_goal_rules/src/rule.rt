@@ -9,7 +9,7 @@ use crate::build::one_more;
 use crate::raising::raised;
 use crate::stripping::strip;
 use pure_eta::{is_own_long_form, lengthened};
-use pure_pairs::theorem_index_above;
+use pure_goal_steps::pairs::theorem_index_above;
 use pure_term::Term;
 use pure_theorem::Thm;
 use std::alloc::{AllocError, Global};

@@ -13,9 +13,9 @@ use Rattle.pure_logic.specs.Concludes.{AreRespecting}
 use Rattle.pure_logic.specs.Derivable.{Pair}
 use Rattle.pure_logic.specs.Laws.Maps.{instantiated}
 use Rattle.pure_logic.specs.Laws.Substitution.{pair_instance}
-use Rattle.pure_equated.specs.Equated.{AreEquated, IsPairEquated}
-use Rattle.pure_equated.specs.Laws.Proved.{IsCertifiedPair}
-use Rattle.pure_equated.proofs.KeptLaws.{equated_of_instance, equated_modulo_others}
+use Rattle.pure_equation_laws.specs.Equated.{AreEquated, IsPairEquated}
+use Rattle.pure_equation_laws.specs.Laws.Proved.{IsCertifiedPair}
+use Rattle.pure_equation_laws.proofs.KeptLaws.{equated_of_instance, equated_modulo_others}
 use Rattle.pure_unify_definitions.specs.Search.{Unifier}
 use Rattle.pure_unify_answers.specs.Maps as answers
 use Rattle.pure_unify_answers.specs.Maps.{unifier_typs, unifier_terms, Solves}

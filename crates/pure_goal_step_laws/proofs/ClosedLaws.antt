@@ -12,7 +12,7 @@ use Rattle.pure_logic.specs.Content.{Content, IsContent, IsBelow, IsProposition}
 use Rattle.pure_logic.specs.PureContent.{pure_content}
 use Rattle.pure_logic.specs.Proves.{Proves}
 use Rattle.pure_logic.proofs.ProvesLaws.{proved_is_proposition}
-use Rattle.pure_equated.specs.Equated.{IsTypedUnder}
+use Rattle.pure_equation_laws.specs.Equated.{IsTypedUnder}
 use Rattle.pure_goal_laws.specs.Prefix.{Item, Parameter, Hypothesis, behind, parameters, below_parameters}
 use Rattle.pure_goal_laws.specs.Lifting.{function_typ, lifted_behind}
 use Rattle.pure_goal_laws.proofs.PrefixLaws.{behind-append, premise_behind, conclusion_behind}

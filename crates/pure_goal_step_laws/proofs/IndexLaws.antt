@@ -16,7 +16,7 @@ use Rattle.pure_logic.specs.Derivable.{Pair, Theorem}
 use Rattle.pure_logic.specs.Laws.Maps.{raised_typs, raised_terms}
 use Rattle.pure_goal_laws.specs.Prefix.{Item, Parameter, Hypothesis, behind, parameters, abstracted, below_parameters}
 use Rattle.pure_goal_laws.specs.Lifting.{function_typ, applied_to_bounds, lifted_under, lifted_behind}
-use Rattle.pure_pairs.specs.Smash.{typ_index_above, typs_index_above, term_index_above, pairs_index_above}
+use Rattle.pure_goal_steps.specs.Pairs.Smash.{typ_index_above, typs_index_above, term_index_above, pairs_index_above}
 use Rattle.pure_eta.specs.LongTerm.{range_typ, front_typ, expanded, expanded_at, long_term}
 use Rattle.pure_eta.proofs.LongLaws.{long_form-is}
 use Rattle.pure_eta.proofs.KeptLaws.{steps_keep_beta_normal}

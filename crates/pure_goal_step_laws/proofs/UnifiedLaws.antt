@@ -15,8 +15,8 @@ use Rattle.pure_logic.specs.Derivable.{Theorem, IsDerivable}
 use Rattle.pure_logic.specs.Proves.{Proves}
 use Rattle.pure_logic.proofs.PropositionLaws.{derivable_is_proposition}
 use Rattle.pure_logic.proofs.ProvesLaws.{proved_is_proposition}
-use Rattle.pure_equated.specs.Laws.Proved.{IsCertifiedPair}
-use Rattle.pure_equated.proofs.ReductionLaws.{long_form_is_equated}
+use Rattle.pure_equation_laws.specs.Laws.Proved.{IsCertifiedPair}
+use Rattle.pure_equation_laws.proofs.ReductionLaws.{long_form_is_equated}
 use Rattle.pure_unify_definitions.specs.Search as search
 use Rattle.pure_unify_definitions.specs.Search.{Unifier, Answer, Unified, IsUnifyAnswer}
 use Rattle.pure_unify_laws.specs.Reached.{AreSidesCertified}

@@ -1,3 +1,4 @@
+pub use Rattle.pure_pairs.proofs as Pairs
 pub mod ReadLaws
 pub mod FollowsLaws
 pub mod OneOutcomeLaws

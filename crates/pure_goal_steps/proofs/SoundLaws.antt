@@ -12,10 +12,10 @@ use Rattle.pure_logic.specs.PureContent.{pure_content}
 use Rattle.pure_logic.specs.Derivable.{Pair, Theorem, IsDerivable}
 use Rattle.pure_logic.proofs.PropositionLaws.{derivable_is_proposition}
 use Rattle.pure_logic.proofs.EqualityLaws.{right-certified}
-use Rattle.pure_equated.specs.Equated.{IsTypedUnder, AreEquated}
-use Rattle.pure_equated.proofs.SidesLaws.{equated_are_typed}
-use Rattle.pure_equated.proofs.KeptLaws.{equated_modulo_others}
-use Rattle.pure_equated.proofs.PairsLaws.{proposition_is_replaced}
+use Rattle.pure_equation_laws.specs.Equated.{IsTypedUnder, AreEquated}
+use Rattle.pure_equation_laws.proofs.SidesLaws.{equated_are_typed}
+use Rattle.pure_equation_laws.proofs.KeptLaws.{equated_modulo_others}
+use Rattle.pure_equation_laws.proofs.PairsLaws.{proposition_is_replaced}
 use Rattle.pure_unify_definitions.specs.LongSides.{Long, ComesTo, is_long}
 use Rattle.pure_unify_laws.proofs.SettingLaws.{comes-equated}
 use Rattle.pure_goal_laws.proofs.PrefixLaws.{premise_behind, conclusion_behind}

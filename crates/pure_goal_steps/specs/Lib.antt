@@ -1,3 +1,4 @@
+pub use Rattle.pure_pairs.specs as Pairs
 pub mod State
 pub mod Reading
 pub mod Follows

@@ -5,3 +5,4 @@ mod fault;
 pub mod laws;
 
 pub use fault::StepFault;
+pub use pure_pairs as pairs;

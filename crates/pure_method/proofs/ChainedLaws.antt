@@ -29,11 +29,11 @@ use Rattle.pure_conv.specs.UnfoldAnswer.{GivesUnfolded, RefusesUnfolded}
 use Rattle.pure_conv.specs.declared.fault.ConvFault.{ConvFault}
 use Rattle.pure_conv.specs.declared.fault.ConvFault.TheVariants as conv
 use Rattle.pure_goal_laws.proofs.StateLaws.{subgoals_are_propositions}
-use Rattle.pure_goal_steps.specs.State.{State, IsTheoremOf}
-use Rattle.pure_goal_steps.specs.Follows.{Outcome}
-use Rattle.pure_goal_steps.specs.Steps.{ConversionStep}
-use Rattle.pure_goal_steps.specs.declared.fault.StepFault.{StepFault}
-use Rattle.pure_goal_steps.specs.declared.fault.StepFault.TheVariants.{UnknownFact, NoSubgoal, NoPremise, NotDefinition, NothingToUnfold, NoUnifier, SearchBound, Steps, Big, NoHypothesis, SubgoalsLeft, Memory}
+use Rattle.pure_resolve.specs.GoalSteps.State.{State, IsTheoremOf}
+use Rattle.pure_resolve.specs.GoalSteps.Follows.{Outcome}
+use Rattle.pure_resolve.specs.GoalSteps.Steps.{ConversionStep}
+use Rattle.pure_resolve.specs.GoalSteps.declared.fault.StepFault.{StepFault}
+use Rattle.pure_resolve.specs.GoalSteps.declared.fault.StepFault.TheVariants.{UnknownFact, NoSubgoal, NoPremise, NotDefinition, NothingToUnfold, NoUnifier, SearchBound, Steps, Big, NoHypothesis, SubgoalsLeft, Memory}
 use Rattle.pure_resolve.specs.Goals.{IsOutcome, IsEquationFor, IsStep}
 use Rattle.pure_resolve.specs.Uses.{MayStep, IsFirstSubgoal}
 use Rattle.pure_resolve.specs.declared.state.Goal.{Goal}

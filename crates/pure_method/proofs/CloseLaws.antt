@@ -6,8 +6,8 @@ use Rattle.pure_definitions.specs.Declarations.Decl.{algebra_of}
 use Rattle.pure_logic.specs.Connectives.{protect, chain}
 use Rattle.pure_logic.specs.Content.{Content}
 use Rattle.pure_logic.specs.Derivable.{Theorem}
-use Rattle.pure_goal_steps.specs.State.{State, IsTheoremOf}
-use Rattle.pure_goal_steps.specs.Steps.{AssumptionStep}
+use Rattle.pure_resolve.specs.GoalSteps.State.{State, IsTheoremOf}
+use Rattle.pure_resolve.specs.GoalSteps.Steps.{AssumptionStep}
 use Rattle.pure_resolve.specs.Uses.{MayStep}
 use Rattle.pure_method.specs.Proof.{Closes}
 use Rattle.pure_method.specs.Closing.{CannotAssume, IsAssumed, IsClosed}

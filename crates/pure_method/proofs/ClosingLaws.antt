@@ -18,17 +18,17 @@ use Rattle.pure_theorem.specs.Within.{IsPairWithin, AreWithin}
 use Rattle.pure_unify_definitions.specs.Children.{IsFlexFlex}
 use Rattle.pure_unify_definitions.specs.Search.{Answer, Unified, NoUnifier, SearchBound, Stopped}
 use Rattle.pure_unify_laws.specs.Condition.{IsUnifyContent}
-use Rattle.pure_unify_answers.proofs.SolveLaws.{unifier_solves}
-use Rattle.pure_unify_answers.proofs.TreatmentLaws.{terms_same_or_not, term_within_or_not}
-use Rattle.pure_pairs.specs.Smash.{with_constants, pair_with, fresh_variable, Smashes}
-use Rattle.pure_goal_steps.specs.State.{State, theorem_of, IsLeftPair}
-use Rattle.pure_goal_steps.specs.Reading.{Place, places}
-use Rattle.pure_goal_steps.specs.Follows.{Outcome, AllLong, Come, all_long, Becomes, small, Follows, FollowsByFirst}
-use Rattle.pure_goal_steps.specs.Steps.{assumption_attempt, AssumptionStep, EndsAs}
-use Rattle.pure_goal_steps.specs.Derivability.{IsSound}
-use Rattle.pure_goal_steps.specs.declared.fault.StepFault.{StepFault}
-use Rattle.pure_goal_steps.specs.declared.fault.StepFault.TheVariants as fault
-use Rattle.pure_goal_step_laws.proofs.UnifiedLaws.{assumption_is_sound}
+use Rattle.pure_resolve.proofs.UnifyAnswers.SolveLaws.{unifier_solves}
+use Rattle.pure_resolve.proofs.UnifyAnswers.TreatmentLaws.{terms_same_or_not, term_within_or_not}
+use Rattle.pure_resolve.specs.Pairs.Smash.{with_constants, pair_with, fresh_variable, Smashes}
+use Rattle.pure_resolve.specs.GoalSteps.State.{State, theorem_of, IsLeftPair}
+use Rattle.pure_resolve.specs.GoalSteps.Reading.{Place, places}
+use Rattle.pure_resolve.specs.GoalSteps.Follows.{Outcome, AllLong, Come, all_long, Becomes, small, Follows, FollowsByFirst}
+use Rattle.pure_resolve.specs.GoalSteps.Steps.{assumption_attempt, AssumptionStep, EndsAs}
+use Rattle.pure_resolve.specs.GoalSteps.Derivability.{IsSound}
+use Rattle.pure_resolve.specs.GoalSteps.declared.fault.StepFault.{StepFault}
+use Rattle.pure_resolve.specs.GoalSteps.declared.fault.StepFault.TheVariants as fault
+use Rattle.pure_resolve.proofs.GoalStepLaws.UnifiedLaws.{assumption_is_sound}
 use Rattle.pure_method.specs.Outcomes.{HasOutcome}
 use Rattle.pure_method.specs.Proof.{Closes}
 use Rattle.pure_method.proofs.EndLaws.{smashed-kept}

@@ -18,12 +18,12 @@ use Rattle.pure_logic.proofs.TheoremMapLaws.{generalised_is_derivable}
 use Rattle.pure_unify_definitions.specs.Fronts.{front, arguments, head, is_schematic, is_flexible, below, domains}
 use Rattle.pure_unify_definitions.specs.Children.{IsFlexFlex}
 use Rattle.pure_unify_laws.specs.Condition.{IsUnifyContent}
-use Rattle.pure_pairs.specs.Smash.{with_constant, with_constants, pair_with, result_typ, fresh_variable, Smashes}
-use Rattle.pure_pairs.proofs.SmashLaws.{smashes-derivable}
+use Rattle.pure_resolve.specs.Pairs.Smash.{with_constant, with_constants, pair_with, result_typ, fresh_variable, Smashes}
+use Rattle.pure_resolve.proofs.Pairs.SmashLaws.{smashes-derivable}
 use Rattle.pure_goal_laws.proofs.StateLaws.{end_is_derivable}
-use Rattle.pure_goal_steps.specs.State.{State, theorem_of, IsLeftPair}
-use Rattle.pure_goal_steps.specs.Steps.{EndsAs}
-use Rattle.pure_goal_steps.specs.Derivability.{IsSound}
+use Rattle.pure_resolve.specs.GoalSteps.State.{State, theorem_of, IsLeftPair}
+use Rattle.pure_resolve.specs.GoalSteps.Steps.{EndsAs}
+use Rattle.pure_resolve.specs.GoalSteps.Derivability.{IsSound}
 use Rattle.pure_method.specs.Facts.{theorem}
 
 false-true : false ≡ true → ⊥

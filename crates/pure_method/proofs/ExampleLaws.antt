@@ -24,13 +24,13 @@ use Rattle.pure_unify_definitions.specs.LongSides.{Long, ComesTo, is_long, both_
 use Rattle.pure_unify_definitions.specs.Treatment.{IsTreatment}
 use Rattle.pure_unify_definitions.specs.Simplification.{Applies, Simplifies, visited}
 use Rattle.pure_unify_definitions.specs.Search.{Unified, IsUnifyAnswer, success, unifier_of}
-use Rattle.pure_unify_answers.proofs.PureLaws.{pure_is_unify_content}
-use Rattle.pure_pairs.specs.Smash.{Smashes}
+use Rattle.pure_resolve.proofs.UnifyAnswers.PureLaws.{pure_is_unify_content}
+use Rattle.pure_resolve.specs.Pairs.Smash.{Smashes}
 use Rattle.pure_goal_laws.specs.Prefix.{Hypothesis}
-use Rattle.pure_goal_steps.specs.State.{State, theorem_of}
-use Rattle.pure_goal_steps.specs.Follows.{Come, Becomes, FollowsByFirst}
-use Rattle.pure_goal_steps.specs.Steps.{BeginsAs, AssumptionStep, EndsAs}
-use Rattle.pure_goal_steps.specs.declared.fault.StepFault.TheVariants as fault
+use Rattle.pure_resolve.specs.GoalSteps.State.{State, theorem_of}
+use Rattle.pure_resolve.specs.GoalSteps.Follows.{Come, Becomes, FollowsByFirst}
+use Rattle.pure_resolve.specs.GoalSteps.Steps.{BeginsAs, AssumptionStep, EndsAs}
+use Rattle.pure_resolve.specs.GoalSteps.declared.fault.StepFault.TheVariants as fault
 use Rattle.pure_method.specs.Facts.{IsNamed, AreNamed}
 use Rattle.pure_method.specs.Proof.{Closes, Ends, IsProof}
 use Rattle.pure_method.specs.Examples.{premise, trivial_statement, AssumptionExample, ClosedExample, SecondStepExample, FirstStepExample, LeftExample, DerivableExample}

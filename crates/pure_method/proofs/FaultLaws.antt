@@ -15,11 +15,11 @@ use Rattle.pure_unify_definitions.specs.LongSides as sides
 use Rattle.pure_unify_definitions.specs.LongSides.{Stop}
 use Rattle.pure_unify_definitions.specs.Search as search
 use Rattle.pure_unify_definitions.specs.Search.{Unifier, Answer, Unified, Stopped}
-use Rattle.pure_goal_steps.specs.State.{State}
-use Rattle.pure_goal_steps.specs.Follows.{Outcome, stop_fault, Becomes, Attempt, Follows, FollowsByFirst}
-use Rattle.pure_goal_steps.specs.Steps.{rule_attempt, RuleStep, EliminationStep, DestructionStep, AssumptionStep, PreferStep, DeferStep, EndsAs}
-use Rattle.pure_goal_steps.specs.declared.fault.StepFault.{StepFault}
-use Rattle.pure_goal_steps.specs.declared.fault.StepFault.TheVariants as fault
+use Rattle.pure_resolve.specs.GoalSteps.State.{State}
+use Rattle.pure_resolve.specs.GoalSteps.Follows.{Outcome, stop_fault, Becomes, Attempt, Follows, FollowsByFirst}
+use Rattle.pure_resolve.specs.GoalSteps.Steps.{rule_attempt, RuleStep, EliminationStep, DestructionStep, AssumptionStep, PreferStep, DeferStep, EndsAs}
+use Rattle.pure_resolve.specs.GoalSteps.declared.fault.StepFault.{StepFault}
+use Rattle.pure_resolve.specs.GoalSteps.declared.fault.StepFault.TheVariants as fault
 use Rattle.pure_method.specs.Facts.{named_facts, MeansPromise, IsNamed}
 use Rattle.pure_method.specs.Unfolding.{TakesFact, ComesByFacts, UnfoldStep}
 use Rattle.pure_method.specs.Proof.{ByFacts, WithOne, Gives, ProofFault, Failed, Ends, IsProof}

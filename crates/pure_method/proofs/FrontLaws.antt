@@ -9,10 +9,10 @@ use Rattle.pure_definitions.specs.Terms.Subst.{term_instance}
 use Rattle.pure_eta.proofs.FormLaws.{each_typed_normal_term_has_long_form}
 use Rattle.pure_logic.specs.Connectives.{all_typ, imp_typ, all, imp}
 use Rattle.pure_logic.specs.Laws.Maps.{raised_typs, raised_terms}
-use Rattle.pure_unify_answers.proofs.TreatmentLaws.{terms_same_or_not}
+use Rattle.pure_resolve.proofs.UnifyAnswers.TreatmentLaws.{terms_same_or_not}
 use Rattle.pure_goal_laws.specs.Prefix.{Item, Parameter, Hypothesis}
-use Rattle.pure_goal_steps.specs.State.{greatest_index}
-use Rattle.pure_goal_steps.specs.Reading.{IsConclusion, IsRead, Strips, bare, quantified, supposed}
+use Rattle.pure_resolve.specs.GoalSteps.State.{greatest_index}
+use Rattle.pure_resolve.specs.GoalSteps.Reading.{IsConclusion, IsRead, Strips, bare, quantified, supposed}
 use Rattle.pure_method.specs.Outcomes.{IsSomeRule}
 
 -- What stands at the front of a term: a quantification, an implication, or neither.

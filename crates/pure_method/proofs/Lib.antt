@@ -1,3 +1,5 @@
+pub use Rattle.pure_declare.proofs.Theory as Theory
+pub use Rattle.pure_declare.proofs as Declare
 pub mod FactLaws
 pub mod OnceLaws
 pub mod EndLaws

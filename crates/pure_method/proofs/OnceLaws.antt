@@ -11,14 +11,14 @@ use Rattle.pure_logic.specs.Content.{Content, IsContent}
 use Rattle.pure_logic.specs.Derivable.{Theorem}
 use Rattle.pure_lookup.specs.Laws.{IsInSession}
 use Rattle.pure_unfold.proofs.UnfoldLaws.{unfolds-once, unfolds-something}
-use Rattle.pure_fates.proofs.LabelSets.{set_once}
-use Rattle.pure_goal_steps.specs.State.{State}
-use Rattle.pure_goal_steps.specs.Follows.{Outcome}
-use Rattle.pure_goal_steps.specs.Steps.{BeginsAs, RuleStep, EliminationStep, DestructionStep, ConversionStep}
-use Rattle.pure_goal_steps.specs.declared.fault.StepFault.{StepFault}
-use Rattle.pure_goal_steps.proofs.FollowsLaws.{becomes-once}
+use Rattle.pure_promise_fates.proofs.LabelSets.{set_once}
+use Rattle.pure_resolve.specs.GoalSteps.State.{State}
+use Rattle.pure_resolve.specs.GoalSteps.Follows.{Outcome}
+use Rattle.pure_resolve.specs.GoalSteps.Steps.{BeginsAs, RuleStep, EliminationStep, DestructionStep, ConversionStep}
+use Rattle.pure_resolve.specs.GoalSteps.declared.fault.StepFault.{StepFault}
+use Rattle.pure_resolve.proofs.GoalSteps.FollowsLaws.{becomes-once}
 use Rattle.pure_resolve.proofs.EndLaws.{ends_once as ends_as-once}
-use Rattle.pure_goal_steps.proofs.OneOutcomeLaws.{rule_once, elimination_once, destruction_once, assumption_once, prefer_once, defer_once, conversion_once}
+use Rattle.pure_resolve.proofs.GoalSteps.OneOutcomeLaws.{rule_once, elimination_once, destruction_once, assumption_once, prefer_once, defer_once, conversion_once}
 use Rattle.pure_method.specs.Facts.{AreNamed}
 use Rattle.pure_method.specs.Unfolding.{IsSmallEquation, TakesFact, ComesByFacts, UnfoldStep, chained_equation}
 use Rattle.pure_method.specs.Proof.{ByFacts, WithOne, Gives, Closes, ProofFault, ProofOutcome, Ending, Proved, Failed, Ends, IsProof}

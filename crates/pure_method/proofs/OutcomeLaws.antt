@@ -20,26 +20,26 @@ use Rattle.pure_unify_definitions.specs.LongSides.{Side, Sides, Long, Ends, Come
 use Rattle.pure_unify_definitions.specs.Search.{Unifier, Answer, Unified, NoUnifier, SearchBound, Stopped, IsUnifyAnswer}
 use Rattle.pure_unify_laws.specs.Reached.{AreSidesCertified}
 use Rattle.pure_unify_laws.specs.Condition.{AreIndexesUpTo, IsUnifyContent, AreUnifiable}
-use Rattle.pure_unify_answers.specs.Maps.{unifier_typs, unifier_terms, Solves}
-use Rattle.pure_unify_answers.proofs.AnswerLaws.{search_has_an_answer}
-use Rattle.pure_unify_answers.proofs.MapLaws.{maps_one_after_the_other}
-use Rattle.pure_unify_answers.proofs.SolveLaws.{unifier_solves}
-use Rattle.pure_unify_answers.proofs.TreatmentLaws.{term_within_or_not, some_sides}
+use Rattle.pure_resolve.specs.UnifyAnswers.Maps.{unifier_typs, unifier_terms, Solves}
+use Rattle.pure_resolve.proofs.UnifyAnswers.AnswerLaws.{search_has_an_answer}
+use Rattle.pure_resolve.proofs.UnifyAnswers.MapLaws.{maps_one_after_the_other}
+use Rattle.pure_resolve.proofs.UnifyAnswers.SolveLaws.{unifier_solves}
+use Rattle.pure_resolve.proofs.UnifyAnswers.TreatmentLaws.{term_within_or_not, some_sides}
 use Rattle.pure_goal_laws.specs.Prefix.{Item, behind}
 use Rattle.pure_goal_laws.specs.Lifting.{lifted_behind}
 use Rattle.pure_goal_laws.specs.GoalStep.{closed_pair}
 use Rattle.pure_goal_laws.proofs.StateLaws.{subgoals_are_propositions}
-use Rattle.pure_goal_steps.specs.State.{State, proposition, theorem_of, IsLeftPair, greatest_index}
-use Rattle.pure_goal_steps.specs.Reading.{IsRead, Place, places, around, without, standing, IsRuleOf, rule_maxidx}
-use Rattle.pure_goal_steps.specs.Follows.{stop_fault, Forms, AllLong, Halted, Come, no_more, first_stops, later_stops, all_long, Becomes, halted, large, small, Attempt, unified_pairs, with_unifier, Follows, FollowsBy, FollowsByFirst}
-use Rattle.pure_goal_steps.specs.Steps.{IsFirst, indexed, premises_behind, rule_attempt, elimination_attempt, destruction_attempt, assumption_attempt, BeginsAs, RuleStep, EliminationStep, DestructionStep, AssumptionStep, PreferStep, DeferStep, ConversionStep}
-use Rattle.pure_goal_steps.specs.Derivability.{IsSound}
-use Rattle.pure_goal_steps.specs.declared.fault.StepFault.TheVariants as fault
-use Rattle.pure_goal_step_laws.specs.Laws.{IsUsed}
-use Rattle.pure_goal_step_laws.proofs.AttemptLaws.{left_pairs}
-use Rattle.pure_goal_step_laws.proofs.IndexLaws.{IsUpTo, parameters-up_to, up_to-below, up_to-lifted_behind, standing-up_to, rule_up_to}
-use Rattle.pure_goal_step_laws.proofs.ClosedLaws.{closed_typed, lifted_propositions}
-use Rattle.pure_goal_step_laws.proofs.UnifiedLaws.{has-indexes, places-around, first-up_to, own-certified, own-indexes, proved, hypothesis-proposition, whole-proposition, up-to, its-proof, without-proposition, eliminated-certified, conclusion-certified, eliminated-indexes, conclusion-indexes, last-proposition}
+use Rattle.pure_resolve.specs.GoalSteps.State.{State, proposition, theorem_of, IsLeftPair, greatest_index}
+use Rattle.pure_resolve.specs.GoalSteps.Reading.{IsRead, Place, places, around, without, standing, IsRuleOf, rule_maxidx}
+use Rattle.pure_resolve.specs.GoalSteps.Follows.{stop_fault, Forms, AllLong, Halted, Come, no_more, first_stops, later_stops, all_long, Becomes, halted, large, small, Attempt, unified_pairs, with_unifier, Follows, FollowsBy, FollowsByFirst}
+use Rattle.pure_resolve.specs.GoalSteps.Steps.{IsFirst, indexed, premises_behind, rule_attempt, elimination_attempt, destruction_attempt, assumption_attempt, BeginsAs, RuleStep, EliminationStep, DestructionStep, AssumptionStep, PreferStep, DeferStep, ConversionStep}
+use Rattle.pure_resolve.specs.GoalSteps.Derivability.{IsSound}
+use Rattle.pure_resolve.specs.GoalSteps.declared.fault.StepFault.TheVariants as fault
+use Rattle.pure_resolve.specs.GoalStepLaws.Laws.{IsUsed}
+use Rattle.pure_resolve.proofs.GoalStepLaws.AttemptLaws.{left_pairs}
+use Rattle.pure_resolve.proofs.GoalStepLaws.IndexLaws.{IsUpTo, parameters-up_to, up_to-below, up_to-lifted_behind, standing-up_to, rule_up_to}
+use Rattle.pure_resolve.proofs.GoalStepLaws.ClosedLaws.{closed_typed, lifted_propositions}
+use Rattle.pure_resolve.proofs.GoalStepLaws.UnifiedLaws.{has-indexes, places-around, first-up_to, own-certified, own-indexes, proved, hypothesis-proposition, whole-proposition, up-to, its-proof, without-proposition, eliminated-certified, conclusion-certified, eliminated-indexes, conclusion-indexes, last-proposition}
 use Rattle.pure_method.specs.Outcomes.{HasOutcome}
 use Rattle.pure_method.proofs.FrontLaws.{some_reading, some_rule}
 

@@ -17,7 +17,7 @@ use Rattle.pure_method.specs.declared.proving.Proving.{Proving}
 use Rattle.pure_method.specs.Outcome.{IsOutcomeOf}
 use Rattle.pure_method.specs.declared.outcome.Outcome.{Outcome}
 use Rattle.pure_method.specs.declared.outcome.Outcome.TheVariants.{Fault}
-use Rattle.pure_goal_steps.specs.declared.fault.StepFault.TheVariants.{Big}
+use Rattle.pure_resolve.specs.GoalSteps.declared.fault.StepFault.TheVariants.{Big}
 use Rattle.pure_method.proofs.RunLaws.{some-left}
 
 -- The steps of the program that are seen as these are these.

@@ -17,7 +17,7 @@ use Rattle.pure_logic.specs.Derivable.{Theorem}
 use Rattle.pure_logic.specs.BuiltFacts.{built_facts}
 use Rattle.pure_lookup.specs.LookUps.{Fact, BuiltFact, AxiomFact, PromisedFact, IsFoundFact}
 use Rattle.pure_lookup.proofs.MeaningLaws.{one_fact}
-use Rattle.pure_theory.specs.Stage.{IsSound, IsCertifiedDecl}
+use Rattle.pure_declare.specs.Theory.Stage.{IsSound, IsCertifiedDecl}
 use Rattle.pure_theorem.specs.Facts.{IsTheoryContent}
 use Rattle.pure_unify_laws.specs.Condition.{IsUnifyContent}
 use Rattle.pure_declare.specs.Notes.{Fork}

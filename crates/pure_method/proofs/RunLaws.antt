@@ -12,13 +12,13 @@ use Rattle.pure_logic.specs.Laws.Maps as maps
 use Rattle.pure_logic.specs.Laws.Maps.{everything}
 use Rattle.pure_theorem.specs.Sets.{IsLabelSet}
 use Rattle.pure_theorem.proofs.SetLaws.{no_labels}
-use Rattle.pure_statement_laws.proofs.JoinLaws.{schematic-is_generalised}
+use Rattle.pure_statements.proofs.JoinLaws.{schematic-is_generalised}
 use Rattle.pure_declare.specs.Notes.{Fork}
-use Rattle.pure_goal_steps.specs.State.{State, IsTheoremOf}
-use Rattle.pure_goal_steps.specs.Follows.{Outcome}
-use Rattle.pure_goal_steps.specs.Steps.{BeginsAs, EndsAs}
-use Rattle.pure_goal_steps.specs.declared.fault.StepFault.{StepFault}
-use Rattle.pure_goal_steps.specs.declared.fault.StepFault.TheVariants.{UnknownFact, NoSubgoal, NoPremise, NotDefinition, NothingToUnfold, NoUnifier, SearchBound, Steps, Big, NoHypothesis, SubgoalsLeft, Memory}
+use Rattle.pure_resolve.specs.GoalSteps.State.{State, IsTheoremOf}
+use Rattle.pure_resolve.specs.GoalSteps.Follows.{Outcome}
+use Rattle.pure_resolve.specs.GoalSteps.Steps.{BeginsAs, EndsAs}
+use Rattle.pure_resolve.specs.GoalSteps.declared.fault.StepFault.{StepFault}
+use Rattle.pure_resolve.specs.GoalSteps.declared.fault.StepFault.TheVariants.{UnknownFact, NoSubgoal, NoPremise, NotDefinition, NothingToUnfold, NoUnifier, SearchBound, Steps, Big, NoHypothesis, SubgoalsLeft, Memory}
 use Rattle.pure_unify_laws.specs.Condition.{IsUnifyContent}
 use Rattle.pure_resolve.specs.Goals.{IsOutcome, IsStep}
 use Rattle.pure_resolve.specs.Ending.{IsEnd}

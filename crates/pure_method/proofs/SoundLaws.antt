@@ -25,17 +25,17 @@ use Rattle.pure_logic.proofs.EqualityLaws.{right-of, reflexive_equality, transit
 use Rattle.pure_logic.proofs.TheoremMapLaws.{weaker_is_derivable}
 use Rattle.pure_unify_definitions.specs.Search.{Answer, Unified, NoUnifier, SearchBound, Stopped}
 use Rattle.pure_unify_laws.specs.Condition.{IsUnifyContent}
-use Rattle.pure_unify_answers.proofs.SolveLaws.{unifier_solves}
+use Rattle.pure_resolve.proofs.UnifyAnswers.SolveLaws.{unifier_solves}
 use Rattle.pure_unfold.proofs.UnfoldLaws.{unfolds-derivable}
 use Rattle.pure_goal_laws.proofs.StateLaws.{subgoals_are_propositions}
-use Rattle.pure_goal_steps.specs.State.{State, theorem_of}
-use Rattle.pure_goal_steps.specs.Follows.{Becomes, Attempt, Follows, FollowsByFirst}
-use Rattle.pure_goal_steps.specs.Steps.{rule_attempt, BeginsAs, RuleStep, EliminationStep, DestructionStep, AssumptionStep, PreferStep, DeferStep, ConversionStep, EndsAs}
-use Rattle.pure_goal_steps.specs.Derivability.{IsSound}
-use Rattle.pure_goal_steps.specs.declared.fault.StepFault.{StepFault}
-use Rattle.pure_goal_steps.proofs.SoundLaws.{begins_sound, preferred_is_sound, deferred_is_sound, converted_is_sound}
-use Rattle.pure_goal_step_laws.specs.Laws.{IsUsed}
-use Rattle.pure_goal_step_laws.proofs.UnifiedLaws.{rule_is_sound, elimination_is_sound, destruction_is_sound, assumption_is_sound}
+use Rattle.pure_resolve.specs.GoalSteps.State.{State, theorem_of}
+use Rattle.pure_resolve.specs.GoalSteps.Follows.{Becomes, Attempt, Follows, FollowsByFirst}
+use Rattle.pure_resolve.specs.GoalSteps.Steps.{rule_attempt, BeginsAs, RuleStep, EliminationStep, DestructionStep, AssumptionStep, PreferStep, DeferStep, ConversionStep, EndsAs}
+use Rattle.pure_resolve.specs.GoalSteps.Derivability.{IsSound}
+use Rattle.pure_resolve.specs.GoalSteps.declared.fault.StepFault.{StepFault}
+use Rattle.pure_resolve.proofs.GoalSteps.SoundLaws.{begins_sound, preferred_is_sound, deferred_is_sound, converted_is_sound}
+use Rattle.pure_resolve.specs.GoalStepLaws.Laws.{IsUsed}
+use Rattle.pure_resolve.proofs.GoalStepLaws.UnifiedLaws.{rule_is_sound, elimination_is_sound, destruction_is_sound, assumption_is_sound}
 use Rattle.pure_method.specs.Facts.{theorem, IsFound, named_facts, MeansPromise, IsNamed}
 use Rattle.pure_method.specs.Unfolding.{TakesFact, ComesByFacts, UnfoldStep, all_rests}
 use Rattle.pure_method.specs.Proof.{ByFacts, Gives, Closes, Proved, Ends, IsProof}

@@ -5,11 +5,11 @@ use Rattle.pure_definitions.specs.Terms.Term.{Term}
 use Rattle.pure_logic.specs.Content.{Content, IsProposition}
 use Rattle.pure_logic.specs.Derivable.{IsDerivable}
 use Rattle.pure_theorem.specs.Facts.{IsTheoryContent}
-use Rattle.pure_theory.specs.Stage.{IsSound}
+use Rattle.pure_declare.specs.Theory.Stage.{IsSound}
 use Rattle.pure_declare.specs.Notes.{Fork}
-use Rattle.pure_goal_steps.specs.Steps.{BeginsAs}
-use Rattle.pure_goal_steps.specs.declared.fault.StepFault.{StepFault}
-use Rattle.pure_goal_steps.specs.declared.fault.StepFault.TheVariants.{Memory, Big}
+use Rattle.pure_resolve.specs.GoalSteps.Steps.{BeginsAs}
+use Rattle.pure_resolve.specs.GoalSteps.declared.fault.StepFault.{StepFault}
+use Rattle.pure_resolve.specs.GoalSteps.declared.fault.StepFault.TheVariants.{Memory, Big}
 use Rattle.pure_resolve.specs.Goals.{IsOutcome}
 use Rattle.pure_resolve.specs.declared.state.Goal.{Goal}
 use Rattle.pure_method.specs.Proof.{IsProof}

@@ -8,10 +8,10 @@ use Rattle.pure_logic.specs.Content.{Content}
 use Rattle.pure_logic.specs.Derivable.{Theorem, IsDerivable}
 use Rattle.pure_theorem.specs.Facts.{IsTheoryContent}
 use Rattle.pure_theorem.specs.Sets.{label_cmp, IsLabelSet, IsSetOf}
-use Rattle.pure_goal_steps.specs.State.{State}
-use Rattle.pure_goal_steps.specs.Follows.{Outcome}
-use Rattle.pure_goal_steps.specs.declared.fault.StepFault.{StepFault}
-use Rattle.pure_goal_steps.specs.declared.fault.StepFault.TheVariants.{UnknownFact, NoSubgoal, NoPremise, NotDefinition, NothingToUnfold, NoUnifier, SearchBound, Steps, Big, NoHypothesis, SubgoalsLeft, Memory}
+use Rattle.pure_resolve.specs.GoalSteps.State.{State}
+use Rattle.pure_resolve.specs.GoalSteps.Follows.{Outcome}
+use Rattle.pure_resolve.specs.GoalSteps.declared.fault.StepFault.{StepFault}
+use Rattle.pure_resolve.specs.GoalSteps.declared.fault.StepFault.TheVariants.{UnknownFact, NoSubgoal, NoPremise, NotDefinition, NothingToUnfold, NoUnifier, SearchBound, Steps, Big, NoHypothesis, SubgoalsLeft, Memory}
 use Rattle.pure_resolve.specs.Goals.{IsGoalTheorem, IsOutcome, IsStep}
 use Rattle.pure_resolve.specs.Uses.{MayStep, MayUse}
 use Rattle.pure_resolve.specs.declared.state.Goal.{Goal}

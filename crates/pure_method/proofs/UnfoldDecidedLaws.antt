@@ -11,7 +11,7 @@ use Rattle.pure_definitions.specs.Terms.Subst.{typ_instance, typs_instance, inst
 use Rattle.pure_definitions.specs.Declarations.Certified.{IsMatch}
 use Rattle.pure_tunify.proofs.DecidedLaws.{has_class_below_or_not, domains_or_none, same_or_not, occurs_or_not}
 use Rattle.pure_logic.specs.Connectives.{eq}
-use Rattle.pure_unify_answers.proofs.TreatmentLaws.{terms_same_or_not}
+use Rattle.pure_resolve.proofs.UnifyAnswers.TreatmentLaws.{terms_same_or_not}
 use Rattle.pure_unfold.specs.Replaced.{IsReplaced, HasReplaced}
 use Rattle.pure_unfold.specs.Unfold.{HasVariable, HasExtra, HaveExtra, HasExtraTyp, IsDefinition, IsNoDefinition, IsUnfolded, Unfolds, UnfoldsNothing}
 

@@ -25,13 +25,13 @@ use Rattle.pure_theorem.specs.Sets.{label_cmp, IsLabelSet}
 use Rattle.pure_theorem.proofs.SetLaws.{union_of_labels, no_labels, one_label}
 use Rattle.pure_unfold.specs.Unfold.{IsNoDefinition, Unfolds, UnfoldsNothing}
 use Rattle.pure_unify_laws.specs.Condition.{IsUnifyContent}
-use Rattle.pure_unify_answers.proofs.TreatmentLaws.{term_within_or_not}
-use Rattle.pure_goal_steps.specs.State.{State, theorem_of}
-use Rattle.pure_goal_steps.specs.Follows.{Outcome}
-use Rattle.pure_goal_steps.specs.Steps.{BeginsAs, RuleStep, EliminationStep, DestructionStep, EndsAs}
-use Rattle.pure_goal_steps.specs.declared.fault.StepFault.{StepFault}
-use Rattle.pure_goal_steps.specs.declared.fault.StepFault.TheVariants as fault
-use Rattle.pure_goal_steps.proofs.SoundLaws.{begins_sound}
+use Rattle.pure_resolve.proofs.UnifyAnswers.TreatmentLaws.{term_within_or_not}
+use Rattle.pure_resolve.specs.GoalSteps.State.{State, theorem_of}
+use Rattle.pure_resolve.specs.GoalSteps.Follows.{Outcome}
+use Rattle.pure_resolve.specs.GoalSteps.Steps.{BeginsAs, RuleStep, EliminationStep, DestructionStep, EndsAs}
+use Rattle.pure_resolve.specs.GoalSteps.declared.fault.StepFault.{StepFault}
+use Rattle.pure_resolve.specs.GoalSteps.declared.fault.StepFault.TheVariants as fault
+use Rattle.pure_resolve.proofs.GoalSteps.SoundLaws.{begins_sound}
 use Rattle.pure_method.specs.Facts.{theorem, IsFound, IsUnknown, named_facts, MeansPromise, AreNamed}
 use Rattle.pure_method.specs.Unfolding.{IsSmallEquation, TakesFact, ComesByFacts, UnfoldStep, chained_equation}
 use Rattle.pure_method.specs.Proof.{ByFacts, WithOne, Gives, ProofOutcome, Ending, Proved, Failed, Ends, IsProof}

@@ -10,7 +10,7 @@ use Rattle.pure_logic.specs.PureContent.{pure_content}
 use Rattle.pure_logic.specs.Derivable.{IsDerivableAlone}
 use Rattle.pure_logic.specs.Laws.Maps.{everything, generalised}
 use Rattle.pure_unify_laws.specs.Condition.{IsUnifyContent}
-use Rattle.pure_goal_steps.specs.declared.fault.StepFault.TheVariants.{NoSubgoal, SubgoalsLeft}
+use Rattle.pure_resolve.specs.GoalSteps.declared.fault.StepFault.TheVariants.{NoSubgoal, SubgoalsLeft}
 use Rattle.pure_method.specs.Proof.{ProofOutcome, IsProof}
 
 -- the variable, and the statement

@@ -13,7 +13,7 @@ use Rattle.pure_logic.specs.Laws.Maps.{everything, generalised}
 use Rattle.pure_lookup.specs.Laws.{IsInSession}
 use Rattle.pure_theorem.specs.Facts.{IsPromise}
 use Rattle.pure_unify_laws.specs.Condition.{IsUnifyContent}
-use Rattle.pure_goal_steps.specs.declared.fault.StepFault.TheVariants.{Memory}
+use Rattle.pure_resolve.specs.GoalSteps.declared.fault.StepFault.TheVariants.{Memory}
 use Rattle.pure_method.specs.Facts.{theorem}
 use Rattle.pure_method.specs.Proof.{ProofFault, ProofOutcome, IsProof}
 

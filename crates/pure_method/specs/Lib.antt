@@ -1,3 +1,5 @@
+pub use Rattle.pure_declare.specs.Theory as Theory
+pub use Rattle.pure_declare.specs as Declare
 pub mod Facts
 pub mod Unfolding
 pub mod Proof

@@ -15,13 +15,13 @@ use Rattle.pure_lookup.specs.LookUps.{Fact, IsFoundFact}
 use Rattle.pure_lookup.specs.Laws.{IsInSession}
 use Rattle.pure_unfold.specs.Unfold.{IsNoDefinition, Unfolds, UnfoldsNothing}
 use Rattle.pure_unify_laws.specs.Condition.{IsUnifyContent}
-use Rattle.pure_goal_steps.specs.State.{State}
-use Rattle.pure_goal_steps.specs.Reading.{IsRuleOf}
-use Rattle.pure_goal_steps.specs.Follows.{Outcome}
-use Rattle.pure_goal_steps.specs.Steps.{BeginsAs, RuleStep, EliminationStep, DestructionStep, AssumptionStep, PreferStep, DeferStep, ConversionStep, EndsAs}
-use Rattle.pure_goal_steps.specs.Derivability.{IsSound}
-use Rattle.pure_goal_steps.specs.declared.fault.StepFault.{StepFault}
-use Rattle.pure_goal_step_laws.specs.Laws.{IsUsed}
+use Rattle.pure_resolve.specs.GoalSteps.State.{State}
+use Rattle.pure_resolve.specs.GoalSteps.Reading.{IsRuleOf}
+use Rattle.pure_resolve.specs.GoalSteps.Follows.{Outcome}
+use Rattle.pure_resolve.specs.GoalSteps.Steps.{BeginsAs, RuleStep, EliminationStep, DestructionStep, AssumptionStep, PreferStep, DeferStep, ConversionStep, EndsAs}
+use Rattle.pure_resolve.specs.GoalSteps.Derivability.{IsSound}
+use Rattle.pure_resolve.specs.GoalSteps.declared.fault.StepFault.{StepFault}
+use Rattle.pure_resolve.specs.GoalStepLaws.Laws.{IsUsed}
 use Rattle.pure_method.specs.Facts.{IsFound}
 use Rattle.pure_method.specs.Proof.{Closes, ProofOutcome, IsProof}
 

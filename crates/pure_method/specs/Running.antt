@@ -8,9 +8,9 @@ use Rattle.pure_logic.specs.Derivable.{Theorem}
 use Rattle.pure_lookup.specs.Laws.{IsInSession}
 use Rattle.pure_theorem.specs.Sets.{IsLabelSet}
 use Rattle.pure_unify_laws.specs.Condition.{IsUnifyContent}
-use Rattle.pure_goal_steps.specs.State.{State, IsTheoremOf}
-use Rattle.pure_goal_steps.specs.Steps.{BeginsAs}
-use Rattle.pure_goal_steps.specs.declared.fault.StepFault.TheVariants.{Big}
+use Rattle.pure_resolve.specs.GoalSteps.State.{State, IsTheoremOf}
+use Rattle.pure_resolve.specs.GoalSteps.Steps.{BeginsAs}
+use Rattle.pure_resolve.specs.GoalSteps.declared.fault.StepFault.TheVariants.{Big}
 use Rattle.pure_resolve.specs.Uses.{MayStep}
 use Rattle.pure_declare.specs.Notes.{Fork}
 use Rattle.pure_declare.specs.Tidy.{IsTidy}

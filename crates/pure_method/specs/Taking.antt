@@ -12,8 +12,8 @@ use Rattle.pure_theorem.specs.Sets.{label_cmp, IsSetOf}
 use Rattle.pure_unfold.specs.Unfold.{IsNoDefinition, Unfolds, UnfoldsNothing}
 use Rattle.pure_conv.specs.declared.fault.ConvFault.{ConvFault}
 use Rattle.pure_conv.specs.declared.fault.ConvFault.TheVariants as conv
-use Rattle.pure_goal_steps.specs.declared.fault.StepFault.{StepFault}
-use Rattle.pure_goal_steps.specs.declared.fault.StepFault.TheVariants.{UnknownFact, NotDefinition, NothingToUnfold, Big, Memory}
+use Rattle.pure_resolve.specs.GoalSteps.declared.fault.StepFault.{StepFault}
+use Rattle.pure_resolve.specs.GoalSteps.declared.fault.StepFault.TheVariants.{UnknownFact, NotDefinition, NothingToUnfold, Big, Memory}
 use Rattle.pure_method.specs.Facts.{theorem, IsFound, IsUnknown}
 use Rattle.pure_method.specs.Unfolding.{IsSmallEquation, TakesFact, ComesByFacts, all_rests}
 

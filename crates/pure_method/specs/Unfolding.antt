@@ -7,11 +7,11 @@ use Rattle.pure_definitions.specs.Terms.Term.{Term, IsWithin}
 use Rattle.pure_logic.specs.Connectives.{eq}
 use Rattle.pure_logic.specs.Derivable.{Theorem}
 use Rattle.pure_unfold.specs.Unfold.{IsNoDefinition, Unfolds, UnfoldsNothing}
-use Rattle.pure_goal_steps.specs.State.{State}
-use Rattle.pure_goal_steps.specs.Follows.{Outcome}
-use Rattle.pure_goal_steps.specs.Steps.{ConversionStep}
-use Rattle.pure_goal_steps.specs.declared.fault.StepFault.{StepFault}
-use Rattle.pure_goal_steps.specs.declared.fault.StepFault.TheVariants as fault
+use Rattle.pure_resolve.specs.GoalSteps.State.{State}
+use Rattle.pure_resolve.specs.GoalSteps.Follows.{Outcome}
+use Rattle.pure_resolve.specs.GoalSteps.Steps.{ConversionStep}
+use Rattle.pure_resolve.specs.GoalSteps.declared.fault.StepFault.{StepFault}
+use Rattle.pure_resolve.specs.GoalSteps.declared.fault.StepFault.TheVariants as fault
 use Rattle.pure_method.specs.Facts.{theorem}
 
 -- The equation of two propositions is within the limits.

@@ -6,9 +6,9 @@ ghost use Rattle.pure_resolve.specs.Uses.{MayStep};
 ghost use Rattle.pure_method.specs.Closing.{CannotAssume, IsAssumed, IsClosed};
 
 use crate::step::assumed;
-use pure_goal_steps::StepFault;
+use pure_declare::theory::Theory;
 use pure_resolve::Goal;
-use pure_theory::Theory;
+use pure_resolve::goal_steps::StepFault;
 use std::alloc::{AllocError, Global};
 
 /// The goal without its first subgoal, where that is proved by assumption.

@@ -3,15 +3,15 @@ ghost use Rattle.std.specs.Prelude.{◌≡◌, ◌<◌, ◌∷◌, ◌+◌, drop
 ghost use Rattle.pure_logic.specs.Derivable.{IsDerivable};
 ghost use Rattle.pure_script.specs.Seen.{seen_step};
 ghost use Rattle.pure_theorem.specs.Sets.{IsLabelSet};
-ghost use Rattle.pure_theory.specs.Stage.{IsSound};
+ghost use Rattle.pure_declare.specs.Theory.Stage.{IsSound};
 ghost use Rattle.pure_method.specs.Facts as facts;
 
 use pure_declare::Duty;
+use pure_declare::theory::{Cthm, Theory};
 use pure_script::Step;
-use pure_stage::shared;
 use pure_term::Label;
 use pure_theorem::Thm;
-use pure_theory::{Cthm, Theory};
+use pure_theory_tables::shared;
 use std::alloc::{AllocError, Global};
 use std::sync::Arc;
 

@@ -1,16 +1,16 @@
 //! Facts by the names by which steps call them.
 ghost use Rattle.std.specs.Prelude.{◌≡◌, ◌++◌, ◌∷◌, [], IfOk, OnOk, Ok, Err, IfErr};
 ghost use Rattle.pure_lookup.specs.Laws.{IsInSession};
-ghost use Rattle.pure_theory.specs.FactView.{seen_fact};
+ghost use Rattle.pure_declare.specs.Theory.FactView.{seen_fact};
 ghost use Rattle.pure_method.specs.Facts as facts;
 ghost use Rattle.pure_method.specs.Facts.{IsFact};
 ghost use Rattle.pure_method.specs.Taking.{IsFactAnswer, AreFactsAnswer};
 
-use pure_goal_steps::StepFault;
+use pure_declare::theory::{Fact, Theory};
+use pure_resolve::goal_steps::StepFault;
 use pure_script::TextList;
 use pure_term::{Label, Term};
 use pure_theorem::{Thm, built_term};
-use pure_theory::{Fact, Theory};
 use pure_typ::NamesByBase;
 use std::alloc::{AllocError, Global};
 

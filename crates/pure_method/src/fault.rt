@@ -1,7 +1,7 @@
 //! Faults of steps.
 ghost use Rattle.std.specs.Prelude.{◌≡◌, ◌≢◌, MatchBool};
 
-use pure_goal_steps::StepFault;
+use pure_resolve::goal_steps::StepFault;
 
 /// Whether the fault is want of memory.
 pub fn is_memory(fault: StepFault) -> bool

@@ -15,4 +15,6 @@ mod unfold;
 
 pub use outcome::Outcome;
 pub use proving::{Proving, prove, start};
-pub use pure_goal_steps::StepFault;
+pub use pure_declare as declare;
+pub use pure_declare::theory;
+pub use pure_resolve::goal_steps::StepFault;

@@ -9,7 +9,7 @@ use crate::fault::is_memory;
 use crate::outcome::Outcome;
 use crate::run::{Next, Run, next_of};
 use pure_declare::Duty;
-use pure_goal_steps::StepFault;
+use pure_resolve::goal_steps::StepFault;
 use pure_typ::NamesByBase;
 use std::alloc::{AllocError, Global};
 use std::mem;

@@ -5,7 +5,7 @@ ghost use Rattle.pure_grammar.specs.Theories.TheoryText as written_steps;
 ghost use Rattle.pure_script.specs.Seen.{seen_step};
 ghost use Rattle.pure_theorem.specs.Sets.{IsLabelSet};
 ghost use Rattle.pure_unify_laws.specs.Condition.{IsUnifyContent};
-ghost use Rattle.pure_goal_steps.specs.Steps.{AssumptionStep, PreferStep, DeferStep};
+ghost use Rattle.pure_resolve.specs.GoalSteps.Steps.{AssumptionStep, PreferStep, DeferStep};
 ghost use Rattle.pure_resolve.specs.Goals.{IsStep};
 ghost use Rattle.pure_resolve.specs.Uses.{MayStep};
 ghost use Rattle.pure_method.specs.Facts.{named_facts};
@@ -14,10 +14,10 @@ ghost use Rattle.pure_method.specs.Running.{IsReady, GainsNamed};
 
 use crate::fact::{discard, discard_all, found_fact, found_facts};
 use crate::unfold::unfolded;
-use pure_goal_steps::StepFault;
+use pure_declare::theory::Theory;
 use pure_resolve::Goal;
+use pure_resolve::goal_steps::StepFault;
 use pure_script::{Step, TextList};
-use pure_theory::Theory;
 use pure_typ::NamesByBase;
 use std::alloc::Global;
 

@@ -17,11 +17,11 @@ ghost use Rattle.pure_method.specs.Taking.{IsReadyFact, IsChained, IsChain, IsLi
 
 use crate::fact::discard;
 use pure_conv::{ConvFault, then_conv, unfold};
-use pure_goal_steps::StepFault;
+use pure_declare::theory::Theory;
 use pure_resolve::Goal;
+use pure_resolve::goal_steps::StepFault;
 use pure_term::Term;
 use pure_theorem::{Thm, as_equation, as_implication, equation, prop_typ};
-use pure_theory::Theory;
 use std::alloc::{AllocError, Global};
 
 /// The fault of a step that a conversion's is.

@@ -9,16 +9,16 @@ use Rattle.pure_graph.specs.Order.{Loaded}
 use Rattle.pure_graph.specs.Session.{Shown}
 use Rattle.pure_graph.specs.SessionNames.{AreNames}
 use Rattle.pure_session.specs.ToldTheories.{AreTheoriesOf}
-use Rattle.pure_declare.specs.Notes.{Fork}
-use Rattle.pure_method.specs.Outcome.{IsProvable}
-use Rattle.pure_loaded.specs.Loaded.{IsLoadedSession}
-use Rattle.pure_loaded.proofs.OrderLaws.{loaded-in-order}
-use Rattle.pure_loaded.proofs.WellLaws.{loaded-well}
-use Rattle.pure_verdicts.specs.Statements.{notes_of, forks_of, AreStatements}
-use Rattle.pure_verdicts.proofs.ProvableLaws.{forks_provable}
-use Rattle.pure_verdicts.proofs.StatementLaws.{statements_bind_forks}
-use Rattle.pure_work.specs.Outline.{Outline}
-use Rattle.pure_work.specs.Sessions.{AreSaid}
+use Rattle.pure_theory_run.specs.Declare.Notes.{Fork}
+use Rattle.pure_theory_run.specs.Method.Outcome.{IsProvable}
+use Rattle.pure_theory_run.specs.SessionLaws.Loaded.{IsLoadedSession}
+use Rattle.pure_theory_run.proofs.SessionLaws.OrderLaws.{loaded-in-order}
+use Rattle.pure_theory_run.proofs.SessionLaws.WellLaws.{loaded-well}
+use Rattle.pure_theory_run.specs.SessionMeaning.Statements.{notes_of, forks_of, AreStatements}
+use Rattle.pure_theory_run.proofs.SessionMeaning.ProvableLaws.{forks_provable}
+use Rattle.pure_theory_run.proofs.SessionMeaning.StatementLaws.{statements_bind_forks}
+use Rattle.pure_theory_run.specs.Outline.{Outline}
+use Rattle.pure_theory_run.specs.Sessions.{AreSaid}
 
 -- What was loaded of a library is what those who check it ask.
 pub loaded_session : (told : Option (List library.File)) (theories : List Loaded) (refused : List Shown) (files : ℕ) (texts : List (List ℕ)) → AreTheoriesOf told theories refused files → AreNames theories texts → AreSessionTexts texts

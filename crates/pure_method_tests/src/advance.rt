@@ -1,10 +1,10 @@
 //! Proofs that are run to their end by one step after another, and at once.
 ghost use Rattle.pure_text.specs.Lists.{Each};
-ghost use Rattle.pure_method.specs.Outcome.{IsProvable};
+ghost use Rattle.pure_theory_run.specs.Method.Outcome.{IsProvable};
 
 use crate::outcomes::{Wanted, are_same, is_wanted};
-use pure_declare::Duty;
-use pure_method::{Outcome, prove, start};
+use pure_theory_run::declare::Duty;
+use pure_theory_run::method::{Outcome, prove, start};
 use pure_typ::NamesByBase;
 use std::alloc::{AllocError, Global};
 use std::mem;

@@ -1,8 +1,8 @@
 //! Outcomes of proofs, compared part by part.
 use pure_goal_steps::StepFault;
-use pure_method::Outcome;
 use pure_term::{Label, Term};
 use pure_theorem::{Pair, Thm};
+use pure_theory_run::method::Outcome;
 
 /// What comes of a proof: a theorem that rests on the promises of these commands, or a step's fault.
 #[derive(Clone, Copy)]

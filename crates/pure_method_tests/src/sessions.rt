@@ -1,13 +1,13 @@
 //! Theories that are loaded, and the lemmas that they bind.
 ghost use Rattle.std.specs.Prelude.{IfOk};
 ghost use Rattle.pure_session.specs.Waiting.{all_loaded};
-ghost use Rattle.pure_loaded.specs.Loaded.{IsLoadedSession};
+ghost use Rattle.pure_theory_run.specs.SessionLaws.Loaded.{IsLoadedSession};
 
 use crate::advance::{Row, first_apart};
 use pure_io::{File, MemLibrary};
 use pure_session::{Session, load};
 use pure_text::Text;
-use pure_work::Checker;
+use pure_theory_run::Checker;
 use std::alloc::{AllocError, Global};
 use std::mem;
 use std::rt::Files;

@@ -1,3 +1,4 @@
+pub use Rattle.pure_order_tables.proofs as OrderTables
 pub mod DomainLaws
 pub mod FaultLaws
 pub mod ReduceLaws

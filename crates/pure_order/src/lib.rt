@@ -9,3 +9,4 @@ mod walk;
 
 pub use fault::OrderFault;
 pub use order::Order;
+pub use pure_order_tables as order_tables;

@@ -17,7 +17,7 @@ use Rattle.std.proofs.Math.Seq.{get_or-append_seam}
 use Rattle.pure_order_tables.proofs.BelowLaws.{below-classes}
 use Rattle.pure_order_tables.specs.ArityTable.{IsPlace, IsPlaceIfBelow, IsSlot, IsArityTable, IsTable}
 use Rattle.pure_order_tables.specs.declared.slots.Slot.{Slot}
-use Rattle.pure_shelf.specs.View.{puts}
+use Rattle.pure_shared_maps.specs.View.{puts}
 use Rattle.pure_text.proofs.ListLaws.{any_some, each-append, read_in}
 use Rattle.pure_order_tables.proofs.MapLaws.{get_after, get_placed}
 use Rattle.pure_order_tables.specs.Unknown.{HasArityFor}

@@ -4,8 +4,8 @@ use Rattle.std.specs.FinMap.{FinMap, get, insert}
 use Rattle.std.specs.Ordering.{nat_cmp}
 use Rattle.std.proofs.lemmas.Bool.Decides.{eqb_tells}
 use Rattle.pure_text.specs.Lists.{IsIn}
-use Rattle.pure_shelf.specs.View.{puts}
-use Rattle.pure_shelf.proofs.GrownLaws.{insert_same, insert_other}
+use Rattle.pure_shared_maps.specs.View.{puts}
+use Rattle.pure_shared_maps.proofs.GrownLaws.{insert_same, insert_other}
 
 pub get_after : {V : Type 0} (m : FinMap nat_cmp V) (k : ℕ) (v : V) (q : ℕ) → ((q ≡ k) × (get (insert m k v) q ≡ Some v)) ⊎ ((¬ (q ≡ k)) × (get (insert m k v) q ≡ get m q))
 get_after m k v q = elim (eqb_tells q k) [

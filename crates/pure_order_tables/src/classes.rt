@@ -11,7 +11,7 @@ ghost use Rattle.pure_order_tables.specs.Rows.{Holds};
 
 use crate::names::put;
 use crate::rows::{empty_row, end_below, holds, holds_only, put_place, put_row};
-use pure_shelf::{GrownList, GrownMap};
+use pure_shared_maps::{GrownList, GrownMap};
 use pure_typ::Name;
 use std::alloc::{AllocError, Global};
 use std::marker::Model;

@@ -12,7 +12,7 @@ ghost use Rattle.pure_order_tables.specs.Exposed.{AreExposed, AreIn, AreSides, C
 use crate::names::lesser_names;
 use crate::rows::{holds, meet};
 use crate::tables::{ArityEntry, Tables};
-use pure_shelf::GrownList;
+use pure_shared_maps::GrownList;
 use pure_typ::Name;
 use std::alloc::{AllocError, Global};
 

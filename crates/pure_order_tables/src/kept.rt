@@ -7,7 +7,7 @@ ghost use Rattle.pure_order_tables.specs.Kept.{AreKeptEntries, AreKeptRows, IsKe
 use crate::rows::{empty_row, holds, put_row, within};
 use crate::sorts::{FEW, MOST};
 use crate::tables::{ArityEntry, Tables};
-use pure_shelf::GrownList;
+use pure_shared_maps::GrownList;
 use pure_typ::{Name, Sort};
 use std::alloc::{AllocError, Global};
 use std::sync::Arc;

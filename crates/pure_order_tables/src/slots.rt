@@ -1,8 +1,8 @@
 //! The places of a constructor's arities.
 ghost use Rattle.std.specs.Prelude.{◌≡◌, ℕ, List, IfOk, map};
-ghost use Rattle.pure_shelf.specs.View.{pairs_of};
+ghost use Rattle.pure_shared_maps.specs.View.{pairs_of};
 
-use pure_shelf::{Entry, GrownMap};
+use pure_shared_maps::{Entry, GrownMap};
 use pure_typ::Name;
 use std::alloc::{AllocError, Global};
 use std::sync::Arc;

@@ -17,7 +17,7 @@ ghost use Rattle.pure_order_tables.specs.Kept.{IsKeptEntry, words_in};
 
 use crate::classes::{ClassEntry, ClassTable};
 use crate::slots::{Slot, placed};
-use pure_shelf::{GrownList, GrownMap};
+use pure_shared_maps::{GrownList, GrownMap};
 use pure_typ::{Name, Sort};
 use std::alloc::{AllocError, Global};
 use std::marker::Model;

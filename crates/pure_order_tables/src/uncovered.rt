@@ -7,7 +7,7 @@ ghost use Rattle.pure_order_tables.specs.Uncovered.{Extends, IsAbovePlace, IsBel
 
 use crate::rows::{empty_row, end_below, holds_only, put_place, put_row};
 use crate::tables::{ArityEntry, Tables};
-use pure_shelf::GrownList;
+use pure_shared_maps::GrownList;
 use std::alloc::{AllocError, Global};
 
 /// Whether the places are the same.

@@ -12,7 +12,7 @@ ghost use Rattle.pure_order_tables.specs.Kept.{IsKeptEntry};
 
 use crate::classes::ClassEntry;
 use crate::tables::{ArityEntry, Tables};
-use pure_shelf::GrownList;
+use pure_shared_maps::GrownList;
 use pure_typ::{Name, Sort};
 use std::alloc::{AllocError, Global};
 

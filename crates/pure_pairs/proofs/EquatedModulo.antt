@@ -6,10 +6,10 @@ use Rattle.pure_definitions.specs.Types.Typ.{Typ, arrow}
 use Rattle.pure_definitions.specs.Terms.Term.{Term, Abs}
 use Rattle.pure_definitions.specs.Declarations.Decl.{Decl}
 use Rattle.pure_logic.specs.Derivable.{Pair}
-use Rattle.pure_equated.specs.Equated as equated
-use Rattle.pure_equated.specs.Equated.{IsTypedUnder, AreEquated, back, pair}
-use Rattle.pure_equated.proofs.SidesLaws.{equated_are_typed}
-use Rattle.pure_equated.proofs.NodesLaws.{equated_node_by_node, equated_bodies}
+use Rattle.pure_equation_laws.specs.Equated as equated
+use Rattle.pure_equation_laws.specs.Equated.{IsTypedUnder, AreEquated, back, pair}
+use Rattle.pure_equation_laws.proofs.SidesLaws.{equated_are_typed}
+use Rattle.pure_equation_laws.proofs.NodesLaws.{equated_node_by_node, equated_bodies}
 use Rattle.pure_pairs.specs.Modulo.{closed_over, AreSides, AreListedUnder, AreEqualModulo, equal, listed, bodies, applied}
 use Rattle.pure_pairs.specs.Laws.{AreSidesTyped}
 

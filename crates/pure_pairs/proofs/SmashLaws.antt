@@ -27,11 +27,11 @@ use Rattle.pure_logic.proofs.PropositionLaws.{conclusion_is_proposition}
 use Rattle.pure_logic.proofs.ProvesLaws.{assumed, weaker, chain_is_proved, end_of_chain_is_proved, derivable-proved, proved-derivable, proved_is_proposition}
 use Rattle.pure_logic.proofs.SubstitutionLaws.{instance_is_derivable}
 use Rattle.pure_logic.proofs.TheoremMapLaws.{weaker_is_derivable}
-use Rattle.pure_equated.specs.Equated.{IsTypedUnder, AreEquated, IsPairEquated, same, back, through, beta, pair, abstraction, application}
-use Rattle.pure_equated.specs.Laws.Proved.{IsCertifiedPair}
-use Rattle.pure_equated.proofs.SidesLaws.{typed-abstraction, typed-application, typed-function, typed-argument, typed-body, equated_are_typed}
-use Rattle.pure_equated.proofs.EquatedLaws.{equated_proposition_is_proved}
-use Rattle.pure_equated.proofs.PairsLaws.{pairs_are_replaced, proposition_is_replaced}
+use Rattle.pure_equation_laws.specs.Equated.{IsTypedUnder, AreEquated, IsPairEquated, same, back, through, beta, pair, abstraction, application}
+use Rattle.pure_equation_laws.specs.Laws.Proved.{IsCertifiedPair}
+use Rattle.pure_equation_laws.proofs.SidesLaws.{typed-abstraction, typed-application, typed-function, typed-argument, typed-body, equated_are_typed}
+use Rattle.pure_equation_laws.proofs.EquatedLaws.{equated_proposition_is_proved}
+use Rattle.pure_equation_laws.proofs.PairsLaws.{pairs_are_replaced, proposition_is_replaced}
 use Rattle.pure_goal_laws.proofs.PairLaws.{dropped_is_derivable}
 use Rattle.pure_goal_laws.proofs.StateLaws.{pairs_are_certified}
 use Rattle.pure_unify_definitions.specs.Fronts.{front, head, arguments, below, domains, range, is_schematic, is_flexible}

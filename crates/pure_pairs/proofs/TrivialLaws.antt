@@ -9,8 +9,8 @@ use Rattle.pure_definitions.specs.Terms.Term.{Term, term_eq}
 use Rattle.pure_definitions.specs.Models.Equality.{term_eq-same}
 use Rattle.pure_logic.specs.Content.{Content}
 use Rattle.pure_logic.specs.Derivable.{Pair, Theorem, IsDerivable}
-use Rattle.pure_equated.specs.Equated.{AreEquated, IsPairEquated}
-use Rattle.pure_equated.specs.Laws.Proved.{IsCertifiedPair}
+use Rattle.pure_equation_laws.specs.Equated.{AreEquated, IsPairEquated}
+use Rattle.pure_equation_laws.specs.Laws.Proved.{IsCertifiedPair}
 use Rattle.pure_goal_laws.proofs.PairLaws.{dropped_is_derivable}
 use Rattle.pure_goal_laws.proofs.StateLaws.{pairs_are_certified}
 use Rattle.pure_typ.specs.declared.grow.Grow.{Grow}

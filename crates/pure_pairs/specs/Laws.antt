@@ -5,7 +5,7 @@ use Rattle.pure_definitions.specs.Types.Typ.{Typ}
 use Rattle.pure_definitions.specs.Terms.Term.{Term}
 use Rattle.pure_definitions.specs.Declarations.Decl.{Decl}
 use Rattle.pure_logic.specs.Derivable.{Pair}
-use Rattle.pure_equated.specs.Equated.{IsTypedUnder, AreEquated}
+use Rattle.pure_equation_laws.specs.Equated.{IsTypedUnder, AreEquated}
 use Rattle.pure_pairs.specs.Modulo.{AreEqualModulo, DiffersAt}
 
 -- Two terms are equal modulo pairs, or differ at some place.

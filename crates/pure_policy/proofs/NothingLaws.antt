@@ -5,7 +5,7 @@ use Rattle.std.specs.List.{list_any}
 use Rattle.std.proofs.lemmas.List.Sums.{sum_by-cons}
 use Rattle.pure_text.specs.Lists.{Each}
 use Rattle.pure_graph.specs.Order.{Loaded}
-use Rattle.pure_heed.specs.Heeded.{Lot, faults, gone_in}
+use Rattle.pure_policy_laws.specs.Heeded.{Lot, faults, gone_in}
 use Rattle.pure_policy.specs.Asked.{Asked}
 use Rattle.pure_policy.specs.Heeded.{kept_of, has_come, is_licensed}
 use Rattle.pure_policy.specs.Laws.{NothingIsHeeded, NothingIsCancelled}

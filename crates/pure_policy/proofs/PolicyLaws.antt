@@ -12,8 +12,8 @@ use Rattle.pure_words.specs.declared.job.CancelWord.{CancelWord}
 use Rattle.pure_machine.specs.declared.policy.Group.{Group}
 use Rattle.pure_machine.specs.declared.policy.Group.TheVariants.{Session, Theory}
 use Rattle.pure_machine.specs.declared.policy.Cancel.{Cancel}
-use Rattle.pure_heed.specs.Heeded as heed
-use Rattle.pure_heed.specs.Heeded.{Lot, has_theory, is_kept, kept, faults}
+use Rattle.pure_policy_laws.specs.Heeded as heed
+use Rattle.pure_policy_laws.specs.Heeded.{Lot, has_theory, is_kept, kept, faults}
 use Rattle.pure_policy.specs.Asked.{Asked}
 use Rattle.pure_policy.specs.Heeded.{session_word, is_named, is_theory, is_of, kept_of, has_come, is_licensed}
 use Rattle.pure_policy.specs.Policy.{index_of, group_of, cancel_of, policy_of}

@@ -5,7 +5,7 @@ use Rattle.pure_text.specs.Lists.{Each}
 use Rattle.pure_grammar.specs.Theories.Lexeme.{same}
 use Rattle.pure_graph.specs.Order.{Loaded}
 use Rattle.pure_words.specs.declared.job.CancelWord.{CancelWord}
-use Rattle.pure_heed.specs.Heeded.{Lot, is_kept, kept, faults, gone_in}
+use Rattle.pure_policy_laws.specs.Heeded.{Lot, is_kept, kept, faults, gone_in}
 use Rattle.pure_policy.specs.Asked.{Asked}
 
 -- the word for the group of all lemmas

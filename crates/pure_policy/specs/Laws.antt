@@ -2,8 +2,8 @@
 use Rattle.std.specs.Prelude.{◌≡◌, ◌≤◌, false, List, [], map}
 use Rattle.pure_text.specs.Lists.{Each, AreDistinct}
 use Rattle.pure_graph.specs.Order.{Loaded}
-use Rattle.pure_heed.specs.Heeded as heed
-use Rattle.pure_heed.specs.Heeded.{Lot}
+use Rattle.pure_policy_laws.specs.Heeded as heed
+use Rattle.pure_policy_laws.specs.Heeded.{Lot}
 use Rattle.pure_policy.specs.Asked.{Asked}
 use Rattle.pure_policy.specs.Heeded.{IsHeeded}
 use Rattle.pure_policy.specs.Policy.{policy_of}

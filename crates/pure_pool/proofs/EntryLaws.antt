@@ -4,8 +4,8 @@ use Rattle.std.proofs.lemmas.Bool.Decides.{nat_tests}
 use Rattle.pure_machine.specs.Policy.{Opening}
 use Rattle.pure_machine.specs.State.{Event}
 use Rattle.pure_machine.specs.Step.{after}
-use Rattle.pure_seats.specs.Seats.{own, state_of}
-use Rattle.pure_seats.proofs.SplitLaws.{own-append, state-append}
+use Rattle.pure_core_runs.specs.Seats.{own, state_of}
+use Rattle.pure_core_runs.proofs.SplitLaws.{own-append, state-append}
 
 -- a test of two numbers tells whether they are equal
 pub eq-tells : (m n : ℕ) → ((nat_eq m n ≡ true) × (m ≡ n)) ⊎ ((nat_eq m n ≡ false) × (m ≢ n))

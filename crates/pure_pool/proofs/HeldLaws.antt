@@ -8,10 +8,10 @@ use Rattle.pure_machine.specs.Policy.{Opening}
 use Rattle.pure_machine.specs.State.{Progress, Waiting, Running, Closed, Promise, Standing, Ready, Event, TakeTheory, TakeProof, Fork, CloseTheory, Deliver, Stop, theory_at}
 use Rattle.pure_machine.specs.Step.{Stands, IsOver, IsClosed, IsReady, forked_once, closed_by, stops}
 use Rattle.pure_core.proofs.PlaceLaws.{theory-there}
-use Rattle.pure_seats.specs.Seats.{own, state_of, IsNumberedRun, HasNothingOpen, IsTake, IsOrderlySeat, forks_in}
+use Rattle.pure_core_runs.specs.Seats.{own, state_of, IsNumberedRun, HasNothingOpen, IsTake, IsOrderlySeat, forks_in}
 use Rattle.pure_pool.specs.Held.{Held, Nothing, Theory, Proof, IsHeld, WasCancelled, IsDone, IsSettled, Holds}
-use Rattle.pure_seats.proofs.SplitLaws.{own-append, own-in, split_in, stops-append}
-use Rattle.pure_seats.proofs.SeatLaws.{promise-keeps, closed-keeps, running-known, orderly-others, orderly-own}
+use Rattle.pure_core_runs.proofs.SplitLaws.{own-append, own-in, split_in, stops-append}
+use Rattle.pure_core_runs.proofs.SeatLaws.{promise-keeps, closed-keeps, running-known, orderly-others, orderly-own}
 use Rattle.pure_pool.proofs.EntryLaws.{eq-tells, state-entered, own-entered}
 
 -- what is in hand, as a number, so that two are told apart

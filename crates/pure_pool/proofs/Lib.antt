@@ -3,3 +3,4 @@ mod HeldLaws
 pub mod SeatedLaws
 pub mod TakenLaws
 pub mod TurnLaws
+pub mod EndLaws

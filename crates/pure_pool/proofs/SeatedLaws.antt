@@ -10,11 +10,11 @@ use Rattle.pure_machine.specs.declared.answers.Polled as polled
 use Rattle.pure_machine.specs.declared.answers.Polled.TheVariants as polled_code
 use Rattle.pure_core.proofs.KeptLaws.{cancel-keeps}
 use Rattle.pure_core.proofs.AloneLaws.{parents-may}
-use Rattle.pure_seats.specs.Seats.{events_of, own, state_of, IsNumberedRun, IsOrderlySeat, forks_in}
-use Rattle.pure_seats.proofs.SplitLaws.{own-append, in-own}
-use Rattle.pure_seats.proofs.StayLaws.{goes_on-stays}
-use Rattle.pure_seats.proofs.GroupLaws.{gone-opened, gone-after_all, over-delivered}
-use Rattle.pure_seats.proofs.SeatLaws.{run-begins, run-allows, run-kept, promise-keeps, out-known, state-opening, orderly-own}
+use Rattle.pure_core_runs.specs.Seats.{events_of, own, state_of, IsNumberedRun, IsOrderlySeat, forks_in}
+use Rattle.pure_core_runs.proofs.SplitLaws.{own-append, in-own}
+use Rattle.pure_core_runs.proofs.StayLaws.{goes_on-stays}
+use Rattle.pure_core_runs.proofs.GroupLaws.{gone-opened, gone-after_all, over-delivered}
+use Rattle.pure_core_runs.proofs.SeatLaws.{run-begins, run-allows, run-kept, promise-keeps, out-known, state-opening, orderly-own}
 use Rattle.pure_board.specs.Sight.{Plan, Sight, IsTrueSight, Sees, Enters}
 use Rattle.pure_board.specs.Taken.{IsGoalOf, state_seen}
 use Rattle.pure_pool.specs.Held.{Held, Nothing, Theory, Proof, Holds}

@@ -4,7 +4,7 @@ use Rattle.pure_text.specs.Lists.{EachTwo}
 use Rattle.pure_machine.specs.State.{parents_at}
 use Rattle.pure_machine.specs.declared.answers.Task as task
 use Rattle.pure_machine.specs.declared.answers.Task.TheVariants as task_code
-use Rattle.pure_seats.specs.Seats.{forks_in}
+use Rattle.pure_core_runs.specs.Seats.{forks_in}
 use Rattle.pure_board.specs.Sight.{Sight, IsTrueSight}
 use Rattle.pure_board.specs.Taken.{IsTaken, IsGoalOf, state_seen}
 use Rattle.pure_pool.specs.Held.{Nothing, Theory, Proof}

@@ -4,7 +4,7 @@ use Rattle.pure_text.specs.Lists.{IsIn}
 use Rattle.pure_machine.specs.Policy.{Opening}
 use Rattle.pure_machine.specs.State.{State, Progress, Promise, Cancelled, Event, TakeTheory, TakeProof, CloseTheory, Deliver, theory_at}
 use Rattle.pure_machine.specs.Step.{Stands, IsOver, IsClosed, IsOut, stops}
-use Rattle.pure_seats.specs.Seats.{own, state_of, IsNumberedRun, IsOrderlySeat, HasTheory}
+use Rattle.pure_core_runs.specs.Seats.{own, state_of, IsNumberedRun, IsOrderlySeat, HasTheory}
 
 -- what a seat took and has neither closed nor delivered, nor found cancelled
 pub data Held : Type 0 where

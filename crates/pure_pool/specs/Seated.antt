@@ -1,7 +1,7 @@
 -- Seats of a board and what their workers have in hand.
 use Rattle.std.specs.Prelude.{◌≡◌, ℕ, Bool}
 use Rattle.pure_board.specs.Sight.{Sight}
-use Rattle.pure_seats.specs.Seats.{own}
+use Rattle.pure_core_runs.specs.Seats.{own}
 use Rattle.pure_pool.specs.Held.{Held, Holds}
 use Rattle.pure_pool.specs.Served.{IsServed}
 

@@ -4,7 +4,7 @@ use Rattle.pure_text.specs.Lists.{IsIn}
 use Rattle.pure_machine.specs.Policy.{Opening}
 use Rattle.pure_machine.specs.State.{State, Event, TakeTheory, TakeProof}
 use Rattle.pure_machine.specs.Step.{IsFinished, stops}
-use Rattle.pure_seats.specs.Seats.{events_of, own, state_of, IsOrderlySeat}
+use Rattle.pure_core_runs.specs.Seats.{events_of, own, state_of, IsOrderlySeat}
 use Rattle.pure_pool.specs.Held.{WasCancelled, WasClosed, WasDelivered}
 
 -- By these events each theory that was taken was closed, and of each promise that was taken an outcome was delivered, or it is cancelled in the state.

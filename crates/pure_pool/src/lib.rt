@@ -1,9 +1,11 @@
 //! The workers of a board: one for each seat, in threads of their own.
 #![tactic(auto)]
 
+mod executed;
 mod proof_runs;
 mod rest;
 mod theory_runs;
 mod workers;
 
+pub use executed::execute;
 pub use workers::run;

@@ -2,7 +2,7 @@
 ghost use Rattle.std.specs.Prelude.{◌≡◌, ℕ, List, IfErr, MatchBool, IfOk, Some};
 ghost use Rattle.pure_text.specs.Lists.{EachTwo};
 ghost use Rattle.pure_machine.specs.State.{parents_at};
-ghost use Rattle.pure_seats.specs.Seats.{forks_in};
+ghost use Rattle.pure_core_runs.specs.Seats.{forks_in};
 ghost use Rattle.pure_pool.specs.Held.{Held, Nothing, Theory};
 ghost use Rattle.pure_pool.specs.Seated.{Has, HasSome, IsSameSeat};
 

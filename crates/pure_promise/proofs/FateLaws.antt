@@ -7,12 +7,12 @@ use Rattle.pure_text.proofs.ListLaws.{each_at, each_of, in-map, in_split, in-app
 use Rattle.pure_definitions.specs.Names.{Label}
 use Rattle.pure_theorem.specs.Sets.{label_cmp, IsLabelSet}
 use Rattle.pure_theorem.proofs.SetLaws.{no_labels}
-use Rattle.pure_fates.specs.Entries.{Own, Shown, Fault, Cancelled, Entry, Reaches, directly, through, Fate, Proved, Failed, Tainted, Gone, Unsettled, IsFate, proved, tainted, RestsOnEarlier, AreEntries}
-use Rattle.pure_fates.specs.Reach.{IsAt}
-use Rattle.pure_fates.proofs.LabelSets.{snoc_is_set}
-use Rattle.pure_fates.proofs.PlaceLaws.{in-at, at-once, at-within, places_ascend}
-use Rattle.pure_fates.proofs.FateLaws.{one_fate, became_once, shown-fault, shown-cancelled}
-use Rattle.pure_fates.proofs.ProvedLaws.{in_mapped}
+use Rattle.pure_promise_fates.specs.Entries.{Own, Shown, Fault, Cancelled, Entry, Reaches, directly, through, Fate, Proved, Failed, Tainted, Gone, Unsettled, IsFate, proved, tainted, RestsOnEarlier, AreEntries}
+use Rattle.pure_promise_fates.specs.Reach.{IsAt}
+use Rattle.pure_promise_fates.proofs.LabelSets.{snoc_is_set}
+use Rattle.pure_promise_fates.proofs.PlaceLaws.{in-at, at-once, at-within, places_ascend}
+use Rattle.pure_promise_fates.proofs.FateLaws.{one_fate, became_once, shown-fault, shown-cancelled}
+use Rattle.pure_promise_fates.proofs.ProvedLaws.{in_mapped}
 use Rattle.pure_print.specs.declared.row.Row.{Row}
 use Rattle.pure_print.specs.declared.row.RowStatus.TheVariants as status
 use Rattle.pure_promise.specs.Entries.{plain}

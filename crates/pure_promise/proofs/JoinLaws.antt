@@ -7,12 +7,12 @@ use Rattle.pure_definitions.specs.Terms.Term.{Term}
 use Rattle.pure_definitions.specs.Declarations.Decl.{PromiseDecl}
 use Rattle.pure_logic.specs.Content.{Content, IsBelow}
 use Rattle.pure_logic.specs.Derivable.{Theorem, IsDerivable, IsDerivableAlone}
-use Rattle.pure_theory.specs.Certified.{Certified}
-use Rattle.pure_fates.specs.Entries as fates
-use Rattle.pure_fates.specs.Entries.{Shown, Became, IsFate, AreEntries}
-use Rattle.pure_fates.specs.Laws.{Claim, IsShown, IsGrounded}
-use Rattle.pure_fates.proofs.FateLaws.{became_once, shown-fault, shown-cancelled}
-use Rattle.pure_fates.proofs.ProvedLaws.{in_mapped, proved_is_derivable}
+use Rattle.pure_method.specs.Theory.Certified.{Certified}
+use Rattle.pure_promise_fates.specs.Entries as fates
+use Rattle.pure_promise_fates.specs.Entries.{Shown, Became, IsFate, AreEntries}
+use Rattle.pure_promise_fates.specs.Laws.{Claim, IsShown, IsGrounded}
+use Rattle.pure_promise_fates.proofs.FateLaws.{became_once, shown-fault, shown-cancelled}
+use Rattle.pure_promise_fates.proofs.ProvedLaws.{in_mapped, proved_is_derivable}
 use Rattle.pure_promise.specs.declared.entry.Entry.{Entry}
 use Rattle.pure_promise.specs.declared.entry.Own.{Own}
 use Rattle.pure_promise.specs.declared.entry.Own.TheVariants.{Proved, Fault, Cancelled}

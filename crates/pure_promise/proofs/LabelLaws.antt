@@ -7,13 +7,13 @@ use Rattle.pure_text.proofs.ListLaws.{in-map, read_in}
 use Rattle.pure_text.proofs.LoopLaws.{in_turn}
 use Rattle.pure_definitions.specs.Names.{Label}
 use Rattle.pure_theorem.specs.Sets.{label_cmp, IsLabelSet}
-use Rattle.pure_stage.specs.Same.{label_eq}
-use Rattle.pure_stage.proofs.SameLaws.{label_same, label_itself}
-use Rattle.pure_fates.specs.Entries as fates
-use Rattle.pure_fates.specs.Reach.{IsAt}
-use Rattle.pure_fates.proofs.LabelSets.{first_below, rest_is_set, not_itself}
-use Rattle.pure_fates.proofs.PlaceLaws.{at-in, at-once, at-read}
-use Rattle.pure_fates.proofs.CodeLaws.{at-seen}
+use Rattle.pure_theory_tables.specs.Same.{label_eq}
+use Rattle.pure_theory_tables.proofs.SameLaws.{label_same, label_itself}
+use Rattle.pure_promise_fates.specs.Entries as fates
+use Rattle.pure_promise_fates.specs.Reach.{IsAt}
+use Rattle.pure_promise_fates.proofs.LabelSets.{first_below, rest_is_set, not_itself}
+use Rattle.pure_promise_fates.proofs.PlaceLaws.{at-in, at-once, at-read}
+use Rattle.pure_promise_fates.proofs.CodeLaws.{at-seen}
 use Rattle.pure_promise.specs.declared.entry.Entry.{Entry}
 use Rattle.pure_promise.specs.Seen.{seen, reported}
 use Rattle.pure_print.specs.NameText.{text_of_name}

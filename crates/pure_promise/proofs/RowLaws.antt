@@ -4,10 +4,10 @@ use Rattle.std.proofs.lemmas.List.{take_all}
 use Rattle.pure_text.specs.Lists.{EachTwo}
 use Rattle.pure_text.proofs.ListLaws.{two-append}
 use Rattle.pure_text.proofs.LoopLaws.{longer_by}
-use Rattle.pure_fates.specs.Entries.{Fate, IsFate}
-use Rattle.pure_fates.specs.Reach.{IsAt}
-use Rattle.pure_fates.proofs.PlaceLaws.{at-map, at-within, at-once, at-read}
-use Rattle.pure_fates.proofs.CodeLaws.{seen-length}
+use Rattle.pure_promise_fates.specs.Entries.{Fate, IsFate}
+use Rattle.pure_promise_fates.specs.Reach.{IsAt}
+use Rattle.pure_promise_fates.proofs.PlaceLaws.{at-map, at-within, at-once, at-read}
+use Rattle.pure_promise_fates.proofs.CodeLaws.{seen-length}
 use Rattle.pure_print.specs.declared.row.Row.{Row}
 use Rattle.pure_promise.specs.declared.entry.Entry.{Entry}
 use Rattle.pure_promise.specs.Entries.{plain}

@@ -3,8 +3,8 @@ use Rattle.std.specs.Prelude.{◌≡◌, ◌≢◌, ℕ, List, [], ◌∷◌, �
 use Rattle.pure_text.specs.Lists.{IsIn, Each}
 use Rattle.pure_definitions.specs.Names.{Label}
 use Rattle.pure_logic.specs.Content.{IsBelow}
-use Rattle.pure_stage.specs.Missing.{IsFirstMissing}
-use Rattle.pure_theory.specs.Certified.{Certified}
+use Rattle.pure_theory_tables.specs.Missing.{IsFirstMissing}
+use Rattle.pure_method.specs.Theory.Certified.{Certified}
 use Rattle.pure_promise.specs.declared.promise.Promise.{Promise}
 use Rattle.pure_promise.specs.declared.promise.AcceptFault.{AcceptFault}
 use Rattle.pure_promise.specs.declared.promise.AcceptFault.TheVariants.{BadTheory, BadProp, OpenHyps, OpenPairs, BadDependency}

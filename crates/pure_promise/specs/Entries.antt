@@ -2,7 +2,7 @@
 use Rattle.std.specs.Prelude.{ℕ, Option, Some, None, Ok, Err}
 use Rattle.pure_definitions.specs.Names.{Label}
 use Rattle.pure_definitions.specs.Terms.Term.{Term}
-use Rattle.pure_fates.specs.Entries as fates
+use Rattle.pure_promise_fates.specs.Entries as fates
 use Rattle.pure_method.specs.Proof.{ProofOutcome}
 
 -- a lemma by its label and name, with its statement and what became of it: what its proof came to, or nothing where it was cancelled

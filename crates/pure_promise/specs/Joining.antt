@@ -7,9 +7,9 @@ use Rattle.pure_definitions.specs.Declarations.Decl.{PromiseDecl}
 use Rattle.pure_logic.specs.Content.{IsContent, IsBelow}
 use Rattle.pure_logic.specs.Derivable.{IsDerivable, IsDerivableAlone}
 use Rattle.pure_theorem.specs.Sets.{IsLabelSet}
-use Rattle.pure_theory.specs.Certified.{Certified}
-use Rattle.pure_fates.specs.Entries as fates
-use Rattle.pure_fates.specs.Entries.{Shown, Became, Reaches, AreEntries}
+use Rattle.pure_method.specs.Theory.Certified.{Certified}
+use Rattle.pure_promise_fates.specs.Entries as fates
+use Rattle.pure_promise_fates.specs.Entries.{Shown, Became, Reaches, AreEntries}
 use Rattle.pure_promise.specs.Entries.{plain}
 use Rattle.pure_promise.specs.Seen.{seen}
 use Rattle.pure_promise.specs.declared.entry.Entry.{Entry}

@@ -1,8 +1,8 @@
 -- Laws of joined lemmas and of rows.
 use Rattle.std.specs.Prelude.{◌≡◌, ◌↔◌, ℕ, List, map}
 use Rattle.pure_definitions.specs.Names.{Label}
-use Rattle.pure_fates.specs.Entries as fates
-use Rattle.pure_fates.specs.Entries.{AreEntries, IsFate}
+use Rattle.pure_promise_fates.specs.Entries as fates
+use Rattle.pure_promise_fates.specs.Entries.{AreEntries, IsFate}
 use Rattle.pure_print.specs.declared.row.Row.{Row}
 use Rattle.pure_print.specs.declared.row.RowStatus.TheVariants as status
 use Rattle.pure_promise.specs.Entries.{Entry, plain}

@@ -2,10 +2,10 @@
 use Rattle.std.specs.Prelude.{ℕ, List, [], ◌∷◌, ◌++◌, Option, Some, None, Ok, Err, codes, if◌then◌else◌}
 use Rattle.std.specs.Fmt.{decimal}
 use Rattle.pure_definitions.specs.Names.{Label}
-use Rattle.pure_stage.specs.Same.{label_eq}
+use Rattle.pure_theory_tables.specs.Same.{label_eq}
 use Rattle.pure_goal_steps.specs.declared.fault.StepFault.{StepFault}
 use Rattle.pure_goal_steps.specs.declared.fault.StepFault.TheVariants as step
-use Rattle.pure_fates.specs.Entries.{Fate, Proved, Failed, Tainted, Gone, Unsettled}
+use Rattle.pure_promise_fates.specs.Entries.{Fate, Proved, Failed, Tainted, Gone, Unsettled}
 use Rattle.pure_print.specs.declared.row.Row.{Row}
 use Rattle.pure_print.specs.declared.row.RowStatus.{RowStatus}
 use Rattle.pure_print.specs.declared.row.RowStatus.TheVariants as status

@@ -1,7 +1,7 @@
 -- Which rows lemmas have.
 use Rattle.std.specs.Prelude.{◌≡◌, ℕ, List, map}
 use Rattle.pure_text.specs.Lists.{EachTwo}
-use Rattle.pure_fates.specs.Entries.{Fate, IsFate}
+use Rattle.pure_promise_fates.specs.Entries.{Fate, IsFate}
 use Rattle.pure_print.specs.declared.row.Row.{Row}
 use Rattle.pure_promise.specs.Entries.{Entry, plain}
 use Rattle.pure_promise.specs.RowText.{fate_row}

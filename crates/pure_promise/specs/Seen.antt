@@ -1,6 +1,6 @@
 -- How entries are seen.
 use Rattle.std.specs.Prelude.{List, Option, Some, None, Ok, Err, map}
-use Rattle.pure_fates.specs.Entries as fates
+use Rattle.pure_promise_fates.specs.Entries as fates
 use Rattle.pure_method.specs.Proof.{ProofOutcome}
 use Rattle.pure_promise.specs.declared.entry.Entry as code
 use Rattle.pure_promise.specs.declared.entry.Own as own

@@ -1,10 +1,10 @@
 //! Lemmas with what became of them.
 ghost use Rattle.pure_promise.specs.Joining.{IsTheorem};
 
-use pure_fates::Reported;
 use pure_goal_steps::StepFault;
+use pure_method::theory::Cthm;
+use pure_promise_fates::Reported;
 use pure_term::{Label, Name, Term};
-use pure_theory::Cthm;
 use std::sync::Arc;
 
 /// What became of a lemma by itself: its proof came to a theorem, or a step of it failed, or it was cancelled.

@@ -1,15 +1,15 @@
 //! Lemmas that are joined.
 ghost use Rattle.std.specs.Prelude.{◌≡◌, ◌↔◌, ◌<◌, ℕ, length, map, IfOk, IsTrue};
 ghost use Rattle.pure_text.specs.Lists.{Each};
-ghost use Rattle.pure_fates.specs.Entries as fates;
-ghost use Rattle.pure_fates.specs.Entries.{AreEntries, IsFate};
-ghost use Rattle.pure_fates.specs.Reach.{IsAt, AreReaches};
+ghost use Rattle.pure_promise_fates.specs.Entries as fates;
+ghost use Rattle.pure_promise_fates.specs.Entries.{AreEntries, IsFate};
+ghost use Rattle.pure_promise_fates.specs.Reach.{IsAt, AreReaches};
 ghost use Rattle.pure_promise.specs.Entries.{plain};
 ghost use Rattle.pure_promise.specs.Seen.{seen, reported};
 ghost use Rattle.pure_promise.specs.Joining.{AreJoined, MayJoin, IsSettled, IsTheorem};
 
 use crate::entry::Entry;
-use pure_fates::{Reach, is_proved, reaches};
+use pure_promise_fates::{Reach, is_proved, reaches};
 use pure_term::Label;
 use std::alloc::{AllocError, Global};
 

@@ -1,8 +1,8 @@
 //! The rows of lemmas.
 ghost use Rattle.std.specs.Prelude.{◌≡◌, ◌<◌, ℕ, length, map, IfOk};
-ghost use Rattle.pure_fates.specs.Entries as fates;
-ghost use Rattle.pure_fates.specs.Entries.{AreEntries, IsFate};
-ghost use Rattle.pure_fates.specs.Reach.{IsAt, AreReaches};
+ghost use Rattle.pure_promise_fates.specs.Entries as fates;
+ghost use Rattle.pure_promise_fates.specs.Entries.{AreEntries, IsFate};
+ghost use Rattle.pure_promise_fates.specs.Reach.{IsAt, AreReaches};
 ghost use Rattle.pure_promise.specs.declared.entry.Entry as code;
 ghost use Rattle.pure_promise.specs.Entries.{plain};
 ghost use Rattle.pure_promise.specs.Seen.{seen, seen_entry, reported};
@@ -10,8 +10,8 @@ ghost use Rattle.pure_promise.specs.Rows.{IsRowOf, AreRowsOf};
 
 use crate::entry::Entry;
 use crate::row::row_of;
-use pure_fates::{Reach, fate_of, reaches};
 use pure_print::Row;
+use pure_promise_fates::{Reach, fate_of, reaches};
 use pure_term::Names;
 use std::alloc::{AllocError, Global};
 

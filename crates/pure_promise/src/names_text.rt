@@ -2,13 +2,13 @@
 ghost use Rattle.std.specs.Prelude.{◌≡◌, ◌++◌, OnOk, IfOk, map};
 ghost use Rattle.pure_text.specs.Lists.{IsIn, Each};
 ghost use Rattle.pure_theorem.specs.Sets.{IsLabelSet};
-ghost use Rattle.pure_fates.specs.Entries as fates;
+ghost use Rattle.pure_promise_fates.specs.Entries as fates;
 ghost use Rattle.pure_promise.specs.Seen.{seen, reported};
 ghost use Rattle.pure_promise.specs.RowText as spec;
 
 use crate::entry::Entry;
-use pure_fates::place_of;
 use pure_print::push_text_of_name;
+use pure_promise_fates::place_of;
 use pure_term::{Label, Names};
 use std::alloc::AllocError;
 

@@ -3,9 +3,9 @@ ghost use Rattle.std.specs.Prelude.{◌≡◌, ◌↔◌, [], IsTrue, MatchOptio
 ghost use Rattle.pure_text.specs.Lists.{IsIn, Each};
 ghost use Rattle.pure_promise.specs.Accepting.{IsForkedBefore, IsFirstUnforked, Fulfils, IsRefusal};
 
+use pure_method::theory::{Cthm, Decl, Stage, Theory};
 use pure_term::{Label, Term};
 use pure_theorem::{Thm, are_same};
-use pure_theory::{Cthm, Decl, Stage, Theory};
 
 /// A lemma's promise: its number among all that were forked, its label, the theory that stood before it, and its statement.
 #[derive(Drop)]

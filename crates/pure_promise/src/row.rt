@@ -1,9 +1,9 @@
 //! The row of a lemma with its fate.
 ghost use Rattle.std.specs.Prelude.{◌≡◌, ◌++◌, IfOk, map};
 ghost use Rattle.pure_text.specs.Lists.{IsIn, Each};
-ghost use Rattle.pure_fates.specs.Entries as fates;
-ghost use Rattle.pure_fates.specs.Entries.{AreEntries, IsFate};
-ghost use Rattle.pure_fates.specs.Seen.{seen_fate};
+ghost use Rattle.pure_promise_fates.specs.Entries as fates;
+ghost use Rattle.pure_promise_fates.specs.Entries.{AreEntries, IsFate};
+ghost use Rattle.pure_promise_fates.specs.Seen.{seen_fate};
 ghost use Rattle.pure_theorem.specs.Sets.{IsLabelSet};
 ghost use Rattle.pure_print.specs.NameText.{text_of_name};
 ghost use Rattle.pure_print.specs.TermText.{term_text};
@@ -14,9 +14,9 @@ ghost use Rattle.pure_promise.specs.RowText as spec;
 use crate::entry::{Entry, Own};
 use crate::fault_text::fault_words;
 use crate::names_text::push_labels;
-use pure_fates::Fate;
 use pure_goal_steps::StepFault;
 use pure_print::{Row, RowStatus, print_term, push_text_of_name};
+use pure_promise_fates::Fate;
 use pure_term::{Label, Name, Names, Text};
 use std::alloc::{AllocError, Global};
 

@@ -5,9 +5,9 @@ use Rattle.pure_definitions.specs.Names.{Label}
 use Rattle.pure_definitions.specs.Terms.Term.{Term, Bound}
 use Rattle.pure_definitions.specs.Declarations.Decl.{Decl, PromiseDecl}
 use Rattle.pure_logic.specs.Content.{Content, IsContent}
-use Rattle.pure_fates.specs.Entries as fates
-use Rattle.pure_fates.specs.Entries.{Shown}
-use Rattle.pure_fates.proofs.FateLaws.{shown-fault, shown-cancelled}
+use Rattle.pure_promise_fates.specs.Entries as fates
+use Rattle.pure_promise_fates.specs.Entries.{Shown}
+use Rattle.pure_promise_fates.proofs.FateLaws.{shown-fault, shown-cancelled}
 use Rattle.pure_theory.specs.Certified.{Certified}
 use Rattle.pure_promise.specs.declared.entry.Own.{Own}
 use Rattle.pure_promise.specs.declared.entry.Own.TheVariants.{Proved, Fault, Cancelled}

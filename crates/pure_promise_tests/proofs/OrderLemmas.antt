@@ -7,9 +7,9 @@ use Rattle.pure_text.proofs.LoopLaws.{longer_by}
 use Rattle.pure_definitions.specs.Names.{Label}
 use Rattle.pure_theorem.specs.Sets.{label_cmp}
 use Rattle.pure_theorem.proofs.SetLaws.{no_labels}
-use Rattle.pure_fates.specs.Entries.{Own, Shown, Fault, Cancelled, Entry, RestsOnEarlier, AreEntries}
-use Rattle.pure_fates.proofs.LabelSets.{snoc_is_set}
-use Rattle.pure_fates.proofs.ProvedLaws.{in_mapped}
+use Rattle.pure_promise_fates.specs.Entries.{Own, Shown, Fault, Cancelled, Entry, RestsOnEarlier, AreEntries}
+use Rattle.pure_promise_fates.proofs.LabelSets.{snoc_is_set}
+use Rattle.pure_promise_fates.proofs.ProvedLaws.{in_mapped}
 
 pub no_entries : AreEntries []
 no_entries = record { ascend = no_labels; earlier = tt }

@@ -1,7 +1,7 @@
 //! Whether lemmas may be joined.
 ghost use Rattle.std.specs.Prelude.{◌≡◌, [], IsTrue, map};
 ghost use Rattle.pure_text.specs.Lists.{IsIn, Each};
-ghost use Rattle.pure_fates.specs.Entries.{AreEntries};
+ghost use Rattle.pure_promise_fates.specs.Entries.{AreEntries};
 ghost use Rattle.pure_promise.specs.Seen.{reported};
 ghost use Rattle.pure_promise.specs.Joining.{IsClosed, IsGrounded, MayJoin};
 ghost use Rattle.pure_promise_tests.specs.Grounds.{IsAlone, IsStatedIn, IsOfTheory, IsGroundedBy, IsHeld};

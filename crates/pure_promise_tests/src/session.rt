@@ -5,10 +5,10 @@ ghost use Rattle.pure_logic.specs.PureContent.{proposition_variable};
 ghost use Rattle.pure_promise_tests.specs.Earlier.{AreEarlier};
 
 use crate::names::{VARIABLE, label_at, name_at};
-use pure_stage::shared;
 use pure_term::{Term, TermNode};
 use pure_theorem::{implication, is_prop, prop_typ};
 use pure_theory::{Stage, Theory};
+use pure_theory_tables::shared;
 use std::alloc::{AllocError, Global};
 use std::test::Fail;
 

@@ -17,8 +17,8 @@ use Rattle.pure_theorem.specs.Sets.{IsSetOf}
 use Rattle.pure_theorem.specs.Within.{IsPairWithin, AreWithin}
 use Rattle.pure_unify_definitions.specs.Fronts.{head, domains, is_schematic}
 use Rattle.pure_unify_definitions.specs.Children.{IsFlexFlex}
-use Rattle.pure_pairs.specs.Smash.{with_constant, with_constants, fresh_variable, theorem_index_above, IsWithConstants, Smashes, no_pair, trivial, constants}
-use Rattle.pure_pairs.proofs.SmashLaws.{smashes-derivable, flexible-pairs}
+use Rattle.pure_goal_steps.specs.Pairs.Smash.{with_constant, with_constants, fresh_variable, theorem_index_above, IsWithConstants, Smashes, no_pair, trivial, constants}
+use Rattle.pure_goal_steps.proofs.Pairs.SmashLaws.{smashes-derivable, flexible-pairs}
 use Rattle.pure_goal_laws.proofs.StateLaws.{end_is_derivable}
 use Rattle.pure_goal_steps.specs.State.{State, theorem_of, IsTheoremOf, IsLeftPair}
 use Rattle.pure_goal_steps.specs.Steps.{EndsAs}

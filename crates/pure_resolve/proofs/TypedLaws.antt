@@ -12,7 +12,7 @@ use Rattle.pure_logic.specs.Proves.{Proves}
 use Rattle.pure_logic.proofs.PropositionLaws.{derivable_is_proposition}
 use Rattle.pure_logic.proofs.ProvesLaws.{proved_is_proposition}
 use Rattle.pure_theorem.specs.Shapes.{IsTyped}
-use Rattle.pure_equated.proofs.ReductionLaws.{long_form_is_equated}
+use Rattle.pure_equation_laws.proofs.ReductionLaws.{long_form_is_equated}
 use Rattle.pure_unify_nodes.specs.SideAnswer.{AreSidesTyped}
 use Rattle.pure_goal_laws.specs.Prefix.{Item, Hypothesis, behind, below_parameters}
 use Rattle.pure_goal_laws.specs.Lifting.{lifted_behind}

@@ -16,8 +16,8 @@ use Rattle.pure_unify_definitions.specs.LongSides.{Stop}
 use Rattle.pure_unify_definitions.specs.Search as search
 use Rattle.pure_unify_definitions.specs.Search.{Answer, Unified, Stopped, IsUnifyAnswer}
 use Rattle.pure_unify_laws.specs.Condition.{IsUnifyContent}
-use Rattle.pure_unify_answers.proofs.SolveLaws.{unifier_solves}
-use Rattle.pure_pairs.specs.Smash.{theorem_index_above}
+use Rattle.pure_goal_step_laws.proofs.UnifyAnswers.SolveLaws.{unifier_solves}
+use Rattle.pure_goal_steps.specs.Pairs.Smash.{theorem_index_above}
 use Rattle.pure_goal_laws.specs.Prefix as prefix
 use Rattle.pure_goal_laws.specs.Prefix.{behind}
 use Rattle.pure_goal_steps.specs.State.{State, IsTheoremOf, greatest_index}

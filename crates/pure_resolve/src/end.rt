@@ -7,7 +7,7 @@ ghost use Rattle.pure_resolve.specs.Ending.{IsMarked, IsUnmarked, IsEnd};
 
 use crate::state::Goal;
 use pure_goal_steps::StepFault;
-use pure_pairs::smash;
+use pure_goal_steps::pairs::smash;
 use pure_term::{Grow, is_within};
 use pure_theorem::{Base, Thm, as_application, copied_pairs, copied_terms};
 use std::alloc::{AllocError, Global};

@@ -18,5 +18,8 @@ mod stay;
 mod trial;
 
 pub use begin::start;
-pub use pure_goal_steps::StepFault;
+pub use pure_goal_step_laws as goal_step_laws;
+pub use pure_goal_step_laws::unify_answers;
+pub use pure_goal_steps as goal_steps;
+pub use pure_goal_steps::{StepFault, pairs};
 pub use state::Goal;

@@ -9,7 +9,7 @@ use Rattle.pure_logic.specs.Derivable.{Pair, Theorem}
 use Rattle.pure_theorem.specs.Shapes.{IsTyped}
 use Rattle.pure_unify_definitions.specs.LongSides.{Long, ComesTo, is_long}
 use Rattle.pure_unify_definitions.specs.Children.{IsFlexFlex}
-use Rattle.pure_goal_steps.specs.State.{IsLeftPair}
+use Rattle.pure_resolve.specs.GoalSteps.State.{IsLeftPair}
 use Rattle.pure_resolve.specs.Goals.{IsGoalTheorem, IsEquationFor}
 use Rattle.pure_resolve.proofs.ChainLaws.{IsPremise, first-premise}
 use Rattle.pure_resolve_tests.specs.Asked.{IsMarkedTerm, IsGoalProposition, HaveOneTyp, Equates, EquatesFirst}

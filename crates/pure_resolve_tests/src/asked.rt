@@ -6,7 +6,7 @@ ghost use Rattle.pure_definitions.specs.Reduction.Eta.{IsLongForm};
 ghost use Rattle.pure_logic.specs.Connectives.{protect_typ};
 ghost use Rattle.pure_theorem.specs.Shapes.{IsTyped};
 ghost use Rattle.pure_unify_definitions.specs.Children.{IsFlexFlex};
-ghost use Rattle.pure_goal_steps.specs.State.{IsLeftPair};
+ghost use Rattle.pure_resolve.specs.GoalSteps.State.{IsLeftPair};
 ghost use Rattle.pure_resolve.specs.Goals.{IsGoalTheorem, IsEquationFor};
 ghost use Rattle.pure_resolve_tests.specs.Asked.{mark, IsMarkedTerm, IsGoalProposition, HaveOneTyp, Equates, EquatesFirst};
 

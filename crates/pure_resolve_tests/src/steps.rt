@@ -3,7 +3,7 @@ ghost use Rattle.pure_resolve.specs.Goals.{IsGoalTheorem};
 
 use crate::asked::{is_equation_for, is_goal};
 use crate::shown::{Shown, Wanted, is_answer, theorem};
-use pure_pairs::{drop_trivial, smash};
+use pure_resolve::pairs::{drop_trivial, smash};
 use pure_resolve::{Goal, StepFault, start};
 use pure_term::{Grow, Label, Name, Term, typ_of};
 use pure_theorem::{Base, Thm};

@@ -4,3 +4,4 @@ pub mod SchematicLaws
 pub mod ElaboratedLaws
 pub mod StatedLaws
 pub mod NormalLaws
+pub mod JoinLaws

@@ -6,3 +6,4 @@ pub mod Statement
 pub mod Body
 pub mod ReasonText
 pub mod Rows
+pub mod Laws

@@ -3,6 +3,7 @@
 
 mod body;
 mod elaborated;
+pub mod laws;
 mod normal;
 mod quoted;
 mod reason;

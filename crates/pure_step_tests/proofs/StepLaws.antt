@@ -14,9 +14,9 @@ use Rattle.pure_theorem.specs.declared.built.Built.{Built}
 use Rattle.pure_theorem.specs.declared.built.Built.TheVariants.{Refl, Subst, Ext, Iff, Mp, Spec}
 use Rattle.pure_rules.specs.Facts.{GivesBuilt}
 use Rattle.pure_unify_laws.specs.Condition.{IsUnifyContent}
-use Rattle.pure_goal_steps.specs.State.{State}
-use Rattle.pure_goal_steps.specs.Follows.{Outcome}
-use Rattle.pure_goal_steps.specs.declared.fault.StepFault.{StepFault}
+use Rattle.pure_resolve.specs.GoalSteps.State.{State}
+use Rattle.pure_resolve.specs.GoalSteps.Follows.{Outcome}
+use Rattle.pure_resolve.specs.GoalSteps.declared.fault.StepFault.{StepFault}
 use Rattle.pure_resolve.specs.Goals.{IsOutcome, IsStep}
 use Rattle.pure_resolve.specs.Uses.{MayStep, MayUse}
 use Rattle.pure_resolve.specs.declared.state.Goal.{Goal}

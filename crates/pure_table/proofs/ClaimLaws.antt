@@ -10,13 +10,13 @@ use Rattle.pure_logic.specs.Content.{IsContent, IsBelow}
 use Rattle.pure_logic.specs.Derivable.{IsDerivable, IsDerivableAlone}
 use Rattle.pure_theorem.specs.Facts.{IsPromise}
 use Rattle.pure_theorem.specs.Sets.{label_cmp, IsLabelSet}
-use Rattle.pure_fates.specs.Entries as fates
-use Rattle.pure_fates.specs.Entries.{Shown, Fault, Cancelled, Proved, IsFate, RestsOnEarlier, AreEntries}
-use Rattle.pure_fates.specs.Laws.{Claim, IsShown, IsGrounded}
-use Rattle.pure_fates.proofs.LabelSets.{first_below, rest_is_set, not_itself}
-use Rattle.pure_fates.proofs.ProvedLaws.{in_mapped, proved_is_derivable}
-use Rattle.pure_declare.specs.Notes.{Fork}
-use Rattle.pure_method.specs.Proof.{ProofOutcome}
+use Rattle.pure_promise_fates.specs.Entries as fates
+use Rattle.pure_promise_fates.specs.Entries.{Shown, Fault, Cancelled, Proved, IsFate, RestsOnEarlier, AreEntries}
+use Rattle.pure_promise_fates.specs.Laws.{Claim, IsShown, IsGrounded}
+use Rattle.pure_promise_fates.proofs.LabelSets.{first_below, rest_is_set, not_itself}
+use Rattle.pure_promise_fates.proofs.ProvedLaws.{in_mapped, proved_is_derivable}
+use Rattle.pure_theory_run.specs.Declare.Notes.{Fork}
+use Rattle.pure_theory_run.specs.Method.Proof.{ProofOutcome}
 use Rattle.pure_promise.specs.Entries.{Entry, plain, plain_own}
 
 -- A lemma with this label and this statement comes before the other, and its content is below.

@@ -12,35 +12,35 @@ use Rattle.pure_theorem.specs.Facts.{IsPromise}
 use Rattle.pure_theorem.specs.Sets.{label_cmp}
 use Rattle.pure_unify_laws.specs.Condition.{IsUnifyContent}
 use Rattle.pure_graph.specs.Order.{Loaded}
-use Rattle.pure_fates.specs.Entries.{AreEntries}
-use Rattle.pure_fates.specs.Entries as fates
-use Rattle.pure_fates.specs.Entries.{IsFate}
+use Rattle.pure_promise_fates.specs.Entries.{AreEntries}
+use Rattle.pure_promise_fates.specs.Entries as fates
+use Rattle.pure_promise_fates.specs.Entries.{IsFate}
 use Rattle.pure_print.specs.declared.row.Row.{Row}
 use Rattle.pure_print.specs.declared.row.RowStatus.TheVariants as status
-use Rattle.pure_statement_laws.proofs.JoinLaws.{schematic-is_generalised}
-use Rattle.pure_declare.specs.Notes.{Fork, Note}
-use Rattle.pure_method.specs.Facts.{theorem}
-use Rattle.pure_method.specs.Proof.{IsProof}
-use Rattle.pure_method.specs.Outcome.{IsProvable}
-use Rattle.pure_method.proofs.ReadyLaws.{unify_content, no-schematic}
-use Rattle.pure_method.proofs.SoundLaws.{proved-derivable}
-use Rattle.pure_method.proofs.FaultLaws.{rests-promised}
+use Rattle.pure_statements.proofs.JoinLaws.{schematic-is_generalised}
+use Rattle.pure_theory_run.specs.Declare.Notes.{Fork, Note}
+use Rattle.pure_theory_run.specs.Method.Facts.{theorem}
+use Rattle.pure_theory_run.specs.Method.Proof.{IsProof}
+use Rattle.pure_theory_run.specs.Method.Outcome.{IsProvable}
+use Rattle.pure_theory_run.proofs.Method.ReadyLaws.{unify_content, no-schematic}
+use Rattle.pure_theory_run.proofs.Method.SoundLaws.{proved-derivable}
+use Rattle.pure_theory_run.proofs.Method.FaultLaws.{rests-promised}
 use Rattle.pure_promise.specs.Entries.{Entry, plain}
 use Rattle.pure_promise.specs.Rows.{IsRowOf}
 use Rattle.pure_promise.proofs.FateLaws.{proved_row}
-use Rattle.pure_loaded.specs.Loaded.{IsLoadedSession}
-use Rattle.pure_verdicts.specs.Statements.{forks_of, AreStatements}
-use Rattle.pure_verdicts.specs.Laws.{IsSomeFork, IsStanding, IsPromiseOf}
-use Rattle.pure_verdicts.proofs.OrderlyLaws.{runs_orderly}
-use Rattle.pure_verdicts.proofs.ForkLaws.{forks_stand}
-use Rattle.pure_verdicts.proofs.ProvableLaws.{forks_provable}
-use Rattle.pure_verdicts.proofs.PromiseLaws.{promises_are_forks}
-use Rattle.pure_verdicts.proofs.LabelLaws.{labels_ascend}
-use Rattle.pure_verdicts.proofs.StatementLaws.{statements_bind_forks}
+use Rattle.pure_theory_run.specs.SessionLaws.Loaded.{IsLoadedSession}
+use Rattle.pure_theory_run.specs.SessionMeaning.Statements.{forks_of, AreStatements}
+use Rattle.pure_theory_run.specs.SessionMeaning.Laws.{IsSomeFork, IsStanding, IsPromiseOf}
+use Rattle.pure_theory_run.proofs.SessionMeaning.OrderlyLaws.{runs_orderly}
+use Rattle.pure_theory_run.proofs.SessionMeaning.ForkLaws.{forks_stand}
+use Rattle.pure_theory_run.proofs.SessionMeaning.ProvableLaws.{forks_provable}
+use Rattle.pure_theory_run.proofs.SessionMeaning.PromiseLaws.{promises_are_forks}
+use Rattle.pure_theory_run.proofs.SessionMeaning.LabelLaws.{labels_ascend}
+use Rattle.pure_theory_run.proofs.SessionMeaning.StatementLaws.{statements_bind_forks}
 use Rattle.pure_table.specs.Table.{IsOwn, IsEntryOf, AreEntriesOf}
 use Rattle.pure_table.specs.Laws.{LemmasProvable, TableHasFates, TableIsDerived}
 use Rattle.pure_table.proofs.ClaimLaws.{IsEarlier, AreBound, IsShownBy, IsOf, ordered, proved_are_derivable}
-use Rattle.pure_verdicts.proofs.LabelLaws.{before-less}
+use Rattle.pure_theory_run.proofs.SessionMeaning.LabelLaws.{before-less}
 
 -- Lists of which each two elements are related, one after the other.
 two_through : {A B C : Type 0} (R : A → B → Type 0) (S : B → C → Type 0) (T : A → C → Type 0) → ((a : A) (b : B) (c : C) → R a b → S b c → T a c)

@@ -5,7 +5,7 @@ use Rattle.std.specs.List.{flat_map}
 use Rattle.std.specs.declared.alloc.Global.{Global}
 use Rattle.std.specs.declared.sync.Arc.{Arc}
 use Rattle.pure_print.specs.declared.row.Row.{Row}
-use Rattle.pure_work.specs.Outline.{Outline, outlines}
+use Rattle.pure_theory_run.specs.Outline.{Outline, outlines}
 use Rattle.pure_table.specs.Filling.{places_of, filled}
 
 abbrev Places : Type 0

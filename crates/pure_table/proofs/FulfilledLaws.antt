@@ -7,14 +7,14 @@ use Rattle.pure_definitions.specs.Names.{Label}
 use Rattle.pure_logic.specs.Content.{Content, IsBelow}
 use Rattle.pure_logic.specs.Derivable.{Theorem}
 use Rattle.pure_theorem.specs.Sets.{label_cmp, IsLabelSet}
-use Rattle.pure_theory.specs.Certified.{Certified}
-use Rattle.pure_fates.proofs.LabelSets.{not_both, not_itself, first_below, rest_is_set}
+use Rattle.pure_theory_run.specs.Theory.Certified.{Certified}
+use Rattle.pure_promise_fates.proofs.LabelSets.{not_both, not_itself, first_below, rest_is_set}
 use Rattle.pure_graph.specs.Order.{Loaded}
 use Rattle.pure_promise.specs.Accepting.{IsForkedBefore}
-use Rattle.pure_declare.specs.Notes.{Fork, Note}
-use Rattle.pure_method.specs.Facts.{theorem}
-use Rattle.pure_loaded.specs.Loaded.{IsLoadedSession}
-use Rattle.pure_verdicts.specs.Statements.{forks_of, AreStatements}
+use Rattle.pure_theory_run.specs.Declare.Notes.{Fork, Note}
+use Rattle.pure_theory_run.specs.Method.Facts.{theorem}
+use Rattle.pure_theory_run.specs.SessionLaws.Loaded.{IsLoadedSession}
+use Rattle.pure_theory_run.specs.SessionMeaning.Statements.{forks_of, AreStatements}
 use Rattle.pure_table.specs.Fulfilled.{IsResultOf, ResultsFulfil}
 use Rattle.pure_table.proofs.ClaimLaws.{IsPromised}
 use Rattle.pure_table.proofs.DerivedLaws.{bound, some_fork, shown_by}

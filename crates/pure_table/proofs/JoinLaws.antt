@@ -11,9 +11,9 @@ use Rattle.pure_graph.specs.Order.{Loaded}
 use Rattle.pure_promise.specs.declared.entry.Entry.{Entry}
 use Rattle.pure_promise.specs.Joining.{IsClosed, IsGrounded}
 use Rattle.pure_promise.specs.Seen.{seen}
-use Rattle.pure_declare.specs.Notes.{Fork, Note}
-use Rattle.pure_loaded.specs.Loaded.{IsLoadedSession}
-use Rattle.pure_verdicts.specs.Statements.{forks_of, AreStatements}
+use Rattle.pure_theory_run.specs.Declare.Notes.{Fork, Note}
+use Rattle.pure_theory_run.specs.SessionLaws.Loaded.{IsLoadedSession}
+use Rattle.pure_theory_run.specs.SessionMeaning.Statements.{forks_of, AreStatements}
 use Rattle.pure_table.specs.Table.{IsEntryOf}
 use Rattle.pure_table.specs.Fulfilled.{IsHeldFor, EntriesMayJoin}
 use Rattle.pure_table.proofs.ClaimLaws.{IsEarlier, IsPromised, one_lemma}

@@ -4,20 +4,20 @@ use Rattle.pure_text.specs.Lists.{IsIn, EachTwo}
 use Rattle.pure_definitions.specs.Names.{Label}
 use Rattle.pure_definitions.specs.Terms.Term.{Term}
 use Rattle.pure_graph.specs.Order.{Loaded}
-use Rattle.pure_fates.specs.Entries.{AreEntries}
-use Rattle.pure_fates.proofs.FateLaws.{one_fate}
+use Rattle.pure_promise_fates.specs.Entries.{AreEntries}
+use Rattle.pure_promise_fates.proofs.FateLaws.{one_fate}
 use Rattle.pure_print.specs.declared.row.Row.{Row}
-use Rattle.pure_declare.specs.Notes.{Fork, Note}
-use Rattle.pure_method.specs.Proof.{ProofOutcome, IsProof}
-use Rattle.pure_method.proofs.OnceLaws.{proof-once}
+use Rattle.pure_theory_run.specs.Declare.Notes.{Fork, Note}
+use Rattle.pure_theory_run.specs.Method.Proof.{ProofOutcome, IsProof}
+use Rattle.pure_theory_run.proofs.Method.OnceLaws.{proof-once}
 use Rattle.pure_promise.specs.Entries.{Entry, plain}
 use Rattle.pure_promise.specs.Rows.{IsRowOf, AreRowsOf}
 use Rattle.pure_promise.specs.RowText.{fate_row}
-use Rattle.pure_loaded.specs.Loaded.{IsLoadedSession}
-use Rattle.pure_verdicts.specs.Statements.{forks_of}
-use Rattle.pure_verdicts.specs.Laws.{IsSomeFork}
-use Rattle.pure_verdicts.proofs.OrderlyLaws.{runs_orderly}
-use Rattle.pure_verdicts.proofs.StatementLaws.{statements_once}
+use Rattle.pure_theory_run.specs.SessionLaws.Loaded.{IsLoadedSession}
+use Rattle.pure_theory_run.specs.SessionMeaning.Statements.{forks_of}
+use Rattle.pure_theory_run.specs.SessionMeaning.Laws.{IsSomeFork}
+use Rattle.pure_theory_run.proofs.SessionMeaning.OrderlyLaws.{runs_orderly}
+use Rattle.pure_theory_run.proofs.SessionMeaning.StatementLaws.{statements_once}
 use Rattle.pure_table.specs.Table.{Table, IsOwn, IsEntryOf, AreEntriesOf}
 use Rattle.pure_table.specs.Laws.{TableOnce}
 use Rattle.pure_table.proofs.DerivedLaws.{standing, provable, some_fork, has_fates}

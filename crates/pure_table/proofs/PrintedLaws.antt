@@ -5,11 +5,11 @@ use Rattle.pure_text.specs.Lists.{EachTwo}
 use Rattle.pure_definitions.specs.Names.{Label}
 use Rattle.pure_graph.specs.Session.{Session}
 use Rattle.pure_print.specs.declared.row.Row.{Row}
-use Rattle.pure_declare.specs.Notes.{Note, Said, Forked}
+use Rattle.pure_theory_run.specs.Declare.Notes.{Note, Said, Forked}
 use Rattle.pure_promise.specs.Rows.{AreRowsOf}
-use Rattle.pure_verdicts.specs.Verdicts.{Verdict, Barred, Ran}
-use Rattle.pure_verdicts.specs.Statements.{notes_of}
-use Rattle.pure_work.specs.Outline.{outline, row_of, rows_of}
+use Rattle.pure_theory_run.specs.SessionMeaning.Verdicts.{Verdict, Barred, Ran}
+use Rattle.pure_theory_run.specs.SessionMeaning.Statements.{notes_of}
+use Rattle.pure_theory_run.specs.Outline.{outline, row_of, rows_of}
 use Rattle.pure_table.specs.Table.{IsEntryOf, with_rows, refusal_row}
 use Rattle.pure_table.specs.Laws.{SaidAreStatements, SaidAreParts}
 use Rattle.pure_table.specs.Filling.{places_of, filled}

@@ -5,21 +5,21 @@ use Rattle.pure_text.specs.Lists.{IsIn, EachTwo}
 use Rattle.pure_text.proofs.ListLaws.{in-map}
 use Rattle.pure_definitions.specs.Names.{Label}
 use Rattle.pure_graph.specs.Order.{Loaded}
-use Rattle.pure_declare.specs.Notes.{Fork}
+use Rattle.pure_theory_run.specs.Declare.Notes.{Fork}
 use Rattle.pure_lookup.proofs.MeantLaws.{found_somehow}
-use Rattle.pure_fates.proofs.ThereLaws.{among_or_not, some_fate}
+use Rattle.pure_promise_fates.proofs.ThereLaws.{among_or_not, some_fate}
 use Rattle.pure_promise.specs.Entries.{Entry, plain}
 use Rattle.pure_promise.specs.Rows.{IsRowOf}
 use Rattle.pure_promise.specs.RowText.{fate_row}
-use Rattle.pure_method.proofs.ReadyLaws.{ready, ready-fact, no-schematic}
-use Rattle.pure_method.proofs.ValueLaws.{proof_has_a_value}
-use Rattle.pure_verdicts.proofs.OrderlyLaws.{runs_orderly}
-use Rattle.pure_loaded.specs.Loaded.{IsLoadedSession}
-use Rattle.pure_verdicts.specs.Statements.{notes_of, forks_of}
-use Rattle.pure_verdicts.specs.Laws.{IsSomeFork}
+use Rattle.pure_theory_run.proofs.Method.ReadyLaws.{ready, ready-fact, no-schematic}
+use Rattle.pure_theory_run.proofs.Method.ValueLaws.{proof_has_a_value}
+use Rattle.pure_theory_run.proofs.SessionMeaning.OrderlyLaws.{runs_orderly}
+use Rattle.pure_theory_run.specs.SessionLaws.Loaded.{IsLoadedSession}
+use Rattle.pure_theory_run.specs.SessionMeaning.Statements.{notes_of, forks_of}
+use Rattle.pure_theory_run.specs.SessionMeaning.Laws.{IsSomeFork}
 use Rattle.pure_table.specs.Table.{IsEntryOf}
 use Rattle.pure_table.specs.There.{ProofsHaveValues, TableIsThere}
-use Rattle.pure_verdicts.proofs.CloseLaws.{statements_there}
+use Rattle.pure_theory_run.proofs.SessionMeaning.CloseLaws.{statements_there}
 use Rattle.pure_table.proofs.DerivedLaws.{standing, provable, some_fork, has_fates}
 
 pub proofs_have_values : ProofsHaveValues

@@ -1,7 +1,7 @@
 -- The rows of lemmas put into the places that theories left for them.
 use Rattle.std.specs.Prelude.{List, [], ◌∷◌, ◌++◌, take, drop, Option, Some, None}
 use Rattle.pure_print.specs.declared.row.Row.{Row}
-use Rattle.pure_work.specs.Outline.{Outline, Barred, Ran}
+use Rattle.pure_theory_run.specs.Outline.{Outline, Barred, Ran}
 
 -- the rows that a theory leaves, with an open place for each lemma
 abbrev pub places_of : Outline → List (Option Row)

@@ -2,7 +2,7 @@
 use Rattle.std.specs.Prelude.{◌≡◌, ℕ, List, ◌∷◌, ◌++◌, length, map, Ok}
 use Rattle.pure_text.specs.Lists.{EachTwo}
 use Rattle.pure_definitions.specs.Names.{Label}
-use Rattle.pure_theory.specs.Certified.{Certified}
+use Rattle.pure_theory_run.specs.Theory.Certified.{Certified}
 use Rattle.pure_graph.specs.Session.{Session}
 use Rattle.pure_promise.specs.declared.promise.Promise.{Promise}
 use Rattle.pure_promise.specs.declared.entry.Entry.{Entry}
@@ -11,13 +11,13 @@ use Rattle.pure_promise.specs.declared.entry.Own.TheVariants.{Proved, Fault}
 use Rattle.pure_promise.specs.Accepting.{Fulfils}
 use Rattle.pure_promise.specs.Joining.{MayJoin}
 use Rattle.pure_promise.specs.Seen.{seen_entry}
-use Rattle.pure_declare.specs.Notes.{Fork, Note}
-use Rattle.pure_method.specs.Facts.{theorem}
-use Rattle.pure_method.specs.Proof.{IsProof}
-use Rattle.pure_method.specs.declared.outcome.Outcome.{Outcome}
-use Rattle.pure_method.specs.declared.outcome.Outcome.TheVariants as shown
-use Rattle.pure_verdicts.specs.Statements.{forks_of, AreStatements}
-use Rattle.pure_loaded.specs.Loaded.{IsLoadedSession}
+use Rattle.pure_theory_run.specs.Declare.Notes.{Fork, Note}
+use Rattle.pure_theory_run.specs.Method.Facts.{theorem}
+use Rattle.pure_theory_run.specs.Method.Proof.{IsProof}
+use Rattle.pure_theory_run.specs.Method.declared.outcome.Outcome.{Outcome}
+use Rattle.pure_theory_run.specs.Method.declared.outcome.Outcome.TheVariants as shown
+use Rattle.pure_theory_run.specs.SessionMeaning.Statements.{forks_of, AreStatements}
+use Rattle.pure_theory_run.specs.SessionLaws.Loaded.{IsLoadedSession}
 use Rattle.pure_table.specs.Table.{IsEntryOf}
 
 -- The theorem is the lemma's result: its statement over its content, resting on the promises to which its proof comes.

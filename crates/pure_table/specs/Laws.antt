@@ -4,14 +4,14 @@ use Rattle.pure_text.specs.Lists.{Each, EachTwo}
 use Rattle.pure_definitions.specs.Names.{Label}
 use Rattle.pure_graph.specs.Order.{Loaded}
 use Rattle.pure_graph.specs.Session.{Session, shown}
-use Rattle.pure_fates.specs.Entries.{AreEntries}
+use Rattle.pure_promise_fates.specs.Entries.{AreEntries}
 use Rattle.pure_promise.specs.Entries.{Entry, plain}
-use Rattle.pure_declare.specs.Notes.{Fork, Note}
-use Rattle.pure_method.specs.Outcome.{IsProvable}
-use Rattle.pure_verdicts.specs.Statements.{forks_of, AreStatements}
-use Rattle.pure_loaded.specs.Loaded.{IsLoadedSession}
-use Rattle.pure_work.specs.Outline.{Outline}
-use Rattle.pure_work.specs.Sessions.{AreSaid}
+use Rattle.pure_theory_run.specs.Declare.Notes.{Fork, Note}
+use Rattle.pure_theory_run.specs.Method.Outcome.{IsProvable}
+use Rattle.pure_theory_run.specs.SessionMeaning.Statements.{forks_of, AreStatements}
+use Rattle.pure_theory_run.specs.SessionLaws.Loaded.{IsLoadedSession}
+use Rattle.pure_theory_run.specs.Outline.{Outline}
+use Rattle.pure_theory_run.specs.Sessions.{AreSaid}
 use Rattle.pure_table.specs.Table.{Table, IsEntryOf, AreEntriesOf, IsTable, IsDerivedTable}
 use Rattle.pure_table.specs.Printed.{Parts, ArePartsOf}
 

@@ -5,9 +5,9 @@ use Rattle.pure_definitions.specs.Names.{Label}
 use Rattle.pure_graph.specs.Session.{Session, Shown, shown}
 use Rattle.pure_print.specs.declared.row.Row.{Row}
 use Rattle.pure_promise.specs.Entries.{Entry}
-use Rattle.pure_verdicts.specs.Verdicts.{Verdict}
-use Rattle.pure_verdicts.specs.Statements.{notes_of, AreVerdicts}
-use Rattle.pure_work.specs.Outline.{Outline, outline}
+use Rattle.pure_theory_run.specs.SessionMeaning.Verdicts.{Verdict}
+use Rattle.pure_theory_run.specs.SessionMeaning.Statements.{notes_of, AreVerdicts}
+use Rattle.pure_theory_run.specs.Outline.{Outline, outline}
 use Rattle.pure_table.specs.Table.{Table, AreEntriesOf, IsTable, table_rows}
 
 -- what the rows of a table are made of: the texts of names, what the theories left, the entries of the lemmas, and the refused files with their reasons

@@ -7,12 +7,12 @@ use Rattle.pure_graph.specs.Session.{Session, Shown, shown}
 use Rattle.pure_print.specs.declared.row.Row.{Row}
 use Rattle.pure_print.specs.declared.row.RowStatus.TheVariants.{Proved}
 use Rattle.pure_print.specs.RowText.{table_text}
-use Rattle.pure_declare.specs.Notes.{Fork, Note, Said, Forked}
-use Rattle.pure_method.specs.Proof.{ProofOutcome, IsProof}
+use Rattle.pure_theory_run.specs.Declare.Notes.{Fork, Note, Said, Forked}
+use Rattle.pure_theory_run.specs.Method.Proof.{ProofOutcome, IsProof}
 use Rattle.pure_promise.specs.Entries.{Entry}
 use Rattle.pure_promise.specs.Rows.{AreRowsOf}
-use Rattle.pure_verdicts.specs.Verdicts.{refused_theory}
-use Rattle.pure_verdicts.specs.Statements.{forks_of, AreStatements}
+use Rattle.pure_theory_run.specs.SessionMeaning.Verdicts.{refused_theory}
+use Rattle.pure_theory_run.specs.SessionMeaning.Statements.{forks_of, AreStatements}
 
 -- what a session comes to: the notes of its theories, an entry for each lemma, and the lemmas' rows
 pub record Table : Type 0 where

@@ -4,12 +4,12 @@ use Rattle.pure_text.specs.Lists.{IsIn}
 use Rattle.pure_definitions.specs.Names.{Label}
 use Rattle.pure_graph.specs.Order.{Loaded}
 use Rattle.pure_graph.specs.Session.{Session}
-use Rattle.pure_fates.specs.Entries as fates
-use Rattle.pure_fates.specs.Entries.{AreEntries, Fate, IsFate}
-use Rattle.pure_declare.specs.Notes.{Fork}
-use Rattle.pure_method.specs.Proof.{ProofOutcome, IsProof}
-use Rattle.pure_loaded.specs.Loaded.{IsLoadedSession}
-use Rattle.pure_verdicts.specs.Laws.{IsSomeFork}
+use Rattle.pure_promise_fates.specs.Entries as fates
+use Rattle.pure_promise_fates.specs.Entries.{AreEntries, Fate, IsFate}
+use Rattle.pure_theory_run.specs.Declare.Notes.{Fork}
+use Rattle.pure_theory_run.specs.Method.Proof.{ProofOutcome, IsProof}
+use Rattle.pure_theory_run.specs.SessionLaws.Loaded.{IsLoadedSession}
+use Rattle.pure_theory_run.specs.SessionMeaning.Laws.{IsSomeFork}
 use Rattle.pure_table.specs.Table.{Table, IsTable}
 
 -- Something comes of the proof of each lemma that is bound.

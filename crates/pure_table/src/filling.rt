@@ -2,11 +2,11 @@
 ghost use Rattle.std.specs.Prelude.{◌≡◌, ◌++◌, [], ◌∷◌, List, Option, drop, IfOk, map};
 ghost use Rattle.std.specs.List.{flat_map};
 ghost use Rattle.pure_print.specs.declared.row.Row as print;
-ghost use Rattle.pure_work.specs.Outline.{outlines};
+ghost use Rattle.pure_theory_run.specs.Outline.{outlines};
 ghost use Rattle.pure_table.specs.Filling.{places_of, filled};
 
 use pure_print::Row;
-use pure_work::Closed;
+use pure_theory_run::Closed;
 use std::alloc::{AllocError, Global};
 use std::sync::Arc;
 

@@ -7,3 +7,6 @@ mod printing;
 mod refused;
 
 pub use printing::table;
+pub use pure_promise as promise;
+pub use pure_theory_run as theory_run;
+pub use pure_theory_run::{declare, method, session_laws, session_meaning, theory};

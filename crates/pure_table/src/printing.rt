@@ -2,12 +2,12 @@
 ghost use Rattle.std.specs.Prelude.{◌≡◌, ◌++◌, List, IfOk, map};
 ghost use Rattle.std.specs.List.{flat_map};
 ghost use Rattle.pure_definitions.specs.Names.{Label};
-ghost use Rattle.pure_fates.specs.Entries.{AreEntries};
+ghost use Rattle.pure_promise_fates.specs.Entries.{AreEntries};
 ghost use Rattle.pure_graph.specs.Session as graph;
 ghost use Rattle.pure_promise.specs.Entries.{plain};
 ghost use Rattle.pure_promise.specs.Seen.{seen};
 ghost use Rattle.pure_session.specs.Refused.{all_refused};
-ghost use Rattle.pure_work.specs.Outline.{outlines};
+ghost use Rattle.pure_theory_run.specs.Outline.{outlines};
 ghost use Rattle.pure_table.specs.Filling as filling;
 ghost use Rattle.pure_table.specs.Filling.{places_of};
 ghost use Rattle.pure_table.specs.Printed.{ArePartsOf, AreTableRows};
@@ -18,8 +18,8 @@ use crate::refused::put_refused;
 use pure_print::Row;
 use pure_promise::{Entry, rows};
 use pure_session::RefusedFile;
+use pure_theory_run::Closed;
 use pure_typ::Names;
-use pure_work::Closed;
 use std::alloc::{AllocError, Global};
 use std::sync::Arc;
 

@@ -5,7 +5,7 @@ ghost use Rattle.pure_table.specs.Table.{refusal_row};
 
 use pure_print::Row;
 use pure_session::RefusedFile;
-use pure_work::refused_theory;
+use pure_theory_run::refused_theory;
 use std::alloc::{AllocError, Global};
 
 /// The row of a file that is refused.

@@ -7,15 +7,15 @@ use Rattle.std.specs.declared.sync.Arc.{Arc}
 use Rattle.pure_text.specs.Lists.{IsIn, Each, AnyOf}
 use Rattle.pure_text.proofs.ListLaws.{in_split, any_split, any-append_left, any-append_right, each_at, each_of, each_imply}
 use Rattle.pure_definitions.specs.Declarations.Decl.{Decl}
-use Rattle.pure_order_tables.specs.Others.{AreWithOthers}
-use Rattle.pure_order_tables.proofs.OtherLaws.{with_others}
+use Rattle.pure_order.specs.OrderTables.Others.{AreWithOthers}
+use Rattle.pure_order.proofs.OrderTables.OtherLaws.{with_others}
 use Rattle.pure_logic.specs.Content.{TheoryId, Content, AreNamedAlike, AreLabelledAlike, IsContent}
 use Rattle.pure_logic.specs.Beginning.{theory_eq, AreToldApart, IsNewOver}
 use Rattle.pure_logic.specs.Laws.Contents.{AreAgreed}
 use Rattle.pure_logic.proofs.AncestorLaws.{theory_eq-same, theory_eq-itself}
-use Rattle.pure_stage.specs.Named.{AreNamedOnce}
-use Rattle.pure_stage.specs.Agreement.{AreAlike, AreOnce, Fits}
-use Rattle.pure_stage.proofs.GetLaws.{take_next}
+use Rattle.pure_theory_tables.specs.Named.{AreNamedOnce}
+use Rattle.pure_theory_tables.specs.Agreement.{AreAlike, AreOnce, Fits}
+use Rattle.pure_theory_tables.proofs.GetLaws.{take_next}
 use Rattle.pure_theory.specs.Begin.{contents, AreTold, IsNewBeside}
 use Rattle.pure_theory.specs.Stage.{IsSound}
 use Rattle.pure_theory.proofs.NamesakeLaws.{named_back, labelled_back}

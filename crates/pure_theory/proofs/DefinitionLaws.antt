@@ -18,7 +18,7 @@ use Rattle.pure_logic.proofs.PropositionLaws.{typ-of_certified, eq-proposition}
 use Rattle.pure_logic.proofs.SubstitutionLaws.{certified_of-instance}
 use Rattle.pure_logic.proofs.WeakeningLaws.{typ_instance-certified}
 use Rattle.pure_theory.specs.Stage.{IsSound, with_declarations, with_decl}
-use Rattle.pure_stage.specs.Facts.{Stated, fact_decl}
+use Rattle.pure_theory_tables.specs.Facts.{Stated, fact_decl}
 use Rattle.pure_theory.specs.declared.fault.DeclFault.{DeclFault}
 use Rattle.pure_theory.specs.declared.fault.DeclFault.TheVariants.{Duplicate, UnknownClass, UnknownType, WrongCount, NotCoregular, NotClosed, ExtraType, Memory}
 use Rattle.pure_theory.specs.Refusals.{HasNamesake, IsNameRefusal}

@@ -10,16 +10,16 @@ use Rattle.pure_definitions.specs.Terms.Term.{Term}
 use Rattle.pure_definitions.specs.Declarations.Decl.{Decl, ClassDecl, ConDecl, ArityDecl, ConstDecl, AxiomDecl, PromiseDecl, classes_of, arities_of, algebra_of, IsDeclaredClass}
 use Rattle.pure_definitions.specs.Declarations.Certified.{IsCertifiedSort, IsCertifiedTyp}
 use Rattle.pure_term_laws.proofs.DeclLaws.{declared_arities}
-use Rattle.pure_order_tables.specs.Classes.{IsDeclared}
-use Rattle.pure_order_tables.specs.Arities.{IsKnown, with_class, with_arity}
-use Rattle.pure_order_tables.specs.Unknown.{HasArityFor}
+use Rattle.pure_order.specs.OrderTables.Classes.{IsDeclared}
+use Rattle.pure_order.specs.OrderTables.Arities.{IsKnown, with_class, with_arity}
+use Rattle.pure_order.specs.OrderTables.Unknown.{HasArityFor}
 use Rattle.pure_logic.specs.Content.{Content, IsSchematicTyp, IsStatement, IsWellFormed, AreNamedAlike, AreLabelledAlike}
 use Rattle.pure_certify.proofs.PartLemmas.{declared_class}
-use Rattle.pure_stage.specs.Facts.{Stated, fact_decl}
+use Rattle.pure_theory_tables.specs.Facts.{Stated, fact_decl}
 use Rattle.pure_theory.specs.Stage.{IsCertifiedDecl, IsSound, IsStage, with_decl}
 use Rattle.pure_theory.specs.Refusals.{HasNamesake, HasCon, IsLabelAbove}
 use Rattle.pure_theory.proofs.NamesakeLaws.{new_typ, new_const, new_axiom, new_promise, new_class, new_label}
-use Rattle.pure_stage.proofs.AlgebraLaws.{IsPlain, plain_algebra, class_algebra, arity_algebra}
+use Rattle.pure_theory_tables.proofs.AlgebraLaws.{IsPlain, plain_algebra, class_algebra, arity_algebra}
 use Rattle.pure_theory.proofs.StageLaws.{sound_grown}
 
 -- An arity has no name.

@@ -11,9 +11,9 @@ use Rattle.pure_definitions.specs.Types.Order.{Algebra}
 use Rattle.pure_definitions.specs.Terms.Term.{Term}
 use Rattle.pure_definitions.specs.Declarations.Decl.{Decl, classes_of, algebra_of, IsDeclaredClass}
 use Rattle.pure_term_laws.proofs.DeclLaws.{declared_classes}
-use Rattle.pure_order_tables.specs.Classes.{IsDeclared}
+use Rattle.pure_order.specs.OrderTables.Classes.{IsDeclared}
 use Rattle.pure_logic.specs.Content.{TheoryId, Content}
-use Rattle.pure_stage.specs.Facts.{Stated, fact, fact_decl}
+use Rattle.pure_theory_tables.specs.Facts.{Stated, fact, fact_decl}
 use Rattle.pure_lookup.specs.Meaning.{Space, facts, IsDeclaredIn, Meaning, Declared, Built, IsVisible, IsMeant}
 use Rattle.pure_lookup.specs.LookUps.{IsFoundName}
 use Rattle.pure_lookup.specs.Places.{IsIndexOf}

@@ -10,8 +10,8 @@ use Rattle.pure_text.proofs.ListLaws.{in_split, in-append_left, in-append_right,
 use Rattle.pure_definitions.specs.Types.Order.{Algebra, IsCoregular}
 use Rattle.pure_definitions.specs.Declarations.Decl.{Decl, ClassDecl, algebra_of}
 use Rattle.pure_term_laws.proofs.DeclLaws.{declared_classes}
-use Rattle.pure_order_tables.specs.Classes.{Agree}
-use Rattle.pure_order_tables.specs.Others.{AreOthers, none, new, AreWithOthers}
+use Rattle.pure_order.specs.OrderTables.Classes.{Agree}
+use Rattle.pure_order.specs.OrderTables.Others.{AreOthers, none, new, AreWithOthers}
 use Rattle.pure_order.specs.declared.fault.OrderFault.{OrderFault}
 use Rattle.pure_order.specs.declared.fault.OrderFault.TheVariants as order
 use Rattle.pure_order.specs.FaultView.{IsMergeFault}
@@ -21,11 +21,11 @@ use Rattle.pure_logic.specs.Beginning.{IsAdded, IsMergeAfter, IsMerge, IsBeginni
 use Rattle.pure_logic.specs.Laws.Contents.{AreAgreed}
 use Rattle.pure_logic.proofs.MergeLaws.{merge_has_declarations, merge_has_no_repeats, parents_are_below, beginning_is_content}
 use Rattle.pure_logic.proofs.AncestorLaws.{beginning_has_theories_apart}
-use Rattle.pure_stage.specs.Named.{AreNamedOnce}
-use Rattle.pure_order_tables.specs.Arities.{IsUnionInOrder}
-use Rattle.pure_stage.proofs.AlgebraLaws.{united_algebra}
-use Rattle.pure_stage.proofs.OtherLaws.{added, added_others}
-use Rattle.pure_stage.proofs.GetLaws.{take_next, split_get, all_taken, each_turn_at}
+use Rattle.pure_theory_tables.specs.Named.{AreNamedOnce}
+use Rattle.pure_order.specs.OrderTables.Arities.{IsUnionInOrder}
+use Rattle.pure_theory_tables.proofs.AlgebraLaws.{united_algebra}
+use Rattle.pure_theory_tables.proofs.OtherLaws.{added, added_others}
+use Rattle.pure_theory_tables.proofs.GetLaws.{take_next, split_get, all_taken, each_turn_at}
 use Rattle.pure_theory.specs.declared.fault.DeclFault.{DeclFault}
 use Rattle.pure_theory.specs.declared.fault.DeclFault.TheVariants.{Duplicate, UnknownClass, UnknownType, WrongCount, NotCoregular, NotClosed, ExtraType, Memory}
 use Rattle.pure_theory.specs.Refusals.{refusal_of}

@@ -11,11 +11,11 @@ use Rattle.pure_definitions.specs.Types.Order.{Class}
 use Rattle.pure_definitions.specs.Terms.Term.{Term, Bound}
 use Rattle.pure_definitions.specs.Declarations.Decl.{Decl, ClassDecl, ConDecl, ConstDecl, AxiomDecl, PromiseDecl, classes_of}
 use Rattle.pure_term_laws.proofs.DeclLaws.{declared_classes}
-use Rattle.pure_order_tables.specs.Classes.{IsDeclared}
+use Rattle.pure_order.specs.OrderTables.Classes.{IsDeclared}
 use Rattle.pure_logic.specs.Content.{AreNamedAlike, AreLabelledAlike}
 use Rattle.pure_logic.proofs.ContentLaws.{named_alike, named_alike-so}
-use Rattle.pure_stage.specs.Facts.{Stated, fact_decl}
-use Rattle.pure_stage.proofs.FactLaws.{named}
+use Rattle.pure_theory_tables.specs.Facts.{Stated, fact_decl}
+use Rattle.pure_theory_tables.proofs.FactLaws.{named}
 use Rattle.pure_theory.specs.Refusals.{HasNamesake, IsBefore, IsLabelAbove}
 
 pub named_back : (d e : Decl) → AreNamedAlike d e → AreNamedAlike e d

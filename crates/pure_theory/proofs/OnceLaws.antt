@@ -5,7 +5,7 @@ use Rattle.std.proofs.lemmas.List.Folds.{list_any_at, list_any_more}
 use Rattle.std.specs.Prelude.{Some, None, slice_get}
 use Rattle.std.specs.Option.{option_to_list}
 use Rattle.pure_text.proofs.LoopLaws.{longer_by}
-use Rattle.pure_stage.proofs.GetLaws.{take_next}
+use Rattle.pure_theory_tables.proofs.GetLaws.{take_next}
 use Rattle.std.specs.List.{list_any, flat_map}
 use Rattle.pure_logic.specs.Content.{TheoryId, Content}
 use Rattle.pure_logic.specs.Beginning.{theory_eq, without_theory, each_once, theories_of, ancestors_of}

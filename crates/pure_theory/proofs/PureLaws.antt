@@ -13,7 +13,7 @@ use Rattle.pure_logic.specs.PureContent.{pure_content, pure_declarations, any_ty
 use Rattle.pure_logic.proofs.ConnectiveLaws.{pure-below_itself, arrow-certified, prop-certified}
 use Rattle.pure_logic.proofs.ContentLaws.{pure_is_content}
 use Rattle.pure_logic.proofs.AncestorLaws.{pure_has_theories_apart}
-use Rattle.pure_stage.specs.Facts.{Stated, fact_decl}
+use Rattle.pure_theory_tables.specs.Facts.{Stated, fact_decl}
 use Rattle.pure_theory.specs.PureParts.{pure_typs, pure_to_all, pure_to_imp, pure_to_eq, pure_to_protect}
 use Rattle.pure_theory.specs.Stage.{IsSound, IsStage}
 use Rattle.pure_theory.proofs.NamesakeLaws.{named_apart, typ_fresh, const_fresh, fact_fresh}

@@ -2,9 +2,9 @@
 use Rattle.std.proofs.Common.{◌≡◌, ℕ, List, sym, subst}
 use Rattle.pure_definitions.specs.Types.Order.{Class, Arity, Algebra}
 use Rattle.pure_definitions.specs.Declarations.Decl.{Decl, ClassDecl, classes_of, algebra_of, IsDeclaredClass}
-use Rattle.pure_order_tables.specs.Classes.{IsDeclared}
-use Rattle.pure_order_tables.specs.Arities.{IsKnown}
-use Rattle.pure_order_tables.specs.Unknown.{HasArityFor}
+use Rattle.pure_order.specs.OrderTables.Classes.{IsDeclared}
+use Rattle.pure_order.specs.OrderTables.Arities.{IsKnown}
+use Rattle.pure_order.specs.OrderTables.Unknown.{HasArityFor}
 use Rattle.pure_order.specs.declared.fault.OrderFault.{OrderFault}
 use Rattle.pure_order.specs.declared.fault.OrderFault.TheVariants as order
 use Rattle.pure_order.specs.FaultView.{IsClassFault, IsArityFault}

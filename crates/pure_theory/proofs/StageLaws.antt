@@ -8,8 +8,8 @@ use Rattle.pure_definitions.specs.Declarations.Certified.{IsCertifiedSort}
 use Rattle.pure_logic.specs.Content.{Content, IsBelow, IsWellFormed, AreNamedAlike, AreLabelledAlike}
 use Rattle.pure_logic.proofs.AboveLaws.{sort-above, typ-above}
 use Rattle.pure_logic.proofs.MergeLaws.{well_formed-above}
-use Rattle.pure_stage.specs.declared.decl.Decl as outlined
-use Rattle.pure_stage.specs.Missing.{IsFirstMissing}
+use Rattle.pure_theory_tables.specs.declared.decl.Decl as outlined
+use Rattle.pure_theory_tables.specs.Missing.{IsFirstMissing}
 use Rattle.pure_theory.specs.Stage.{IsCertifiedDecl, IsSound, with_decl}
 use Rattle.pure_theory.specs.Refusals.{HasNamesake}
 use Rattle.pure_theory.proofs.NamesakeLaws.{named_back, labelled_back}

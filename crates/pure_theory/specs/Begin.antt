@@ -4,8 +4,8 @@ use Rattle.std.specs.declared.alloc.Global.{Global}
 use Rattle.std.specs.declared.sync.Arc.{Arc}
 use Rattle.pure_definitions.specs.Types.Order.{Algebra}
 use Rattle.pure_definitions.specs.Declarations.Decl.{Decl, algebra_of}
-use Rattle.pure_order_tables.specs.Arities.{IsUnion}
-use Rattle.pure_order_tables.specs.Checks.{IsLeastConflict}
+use Rattle.pure_order.specs.OrderTables.Arities.{IsUnion}
+use Rattle.pure_order.specs.OrderTables.Checks.{IsLeastConflict}
 use Rattle.pure_logic.specs.Content.{TheoryId, Content}
 use Rattle.pure_logic.specs.Beginning.{IsMerge, AreToldApart, IsNewOver, ancestors_of}
 use Rattle.pure_logic.specs.Laws.Contents.{AreAgreed}

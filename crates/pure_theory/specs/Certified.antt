@@ -3,7 +3,7 @@ use Rattle.std.specs.Prelude.{refl}
 use Rattle.std.specs.Coded.{Coded, code_by, coded×}
 use Rattle.pure_logic.specs.Content.{Content}
 use Rattle.pure_logic.specs.Derivable.{Theorem}
-use Rattle.pure_stage.specs.Missing.{IsFirstMissing}
+use Rattle.pure_theory_tables.specs.Missing.{IsFirstMissing}
 use Rattle.pure_theorem.specs.Codes.{coded_theorem}
 use Rattle.pure_theory.specs.Codes.{coded_content}
 use Rattle.pure_theory.specs.declared.cthm.TransferFault.{TransferFault}

@@ -3,7 +3,7 @@ use Rattle.std.specs.Prelude.{ℕ, List, Option, refl}
 use Rattle.std.specs.Coded.{Coded, code_by, coded×, coded_ℕ, coded_list, coded_option}
 use Rattle.pure_definitions.specs.Declarations.Decl.{Decl}
 use Rattle.pure_logic.specs.Content.{TheoryId, Content}
-use Rattle.pure_stage.specs.Codes.{coded_decl}
+use Rattle.pure_theory_tables.specs.Codes.{coded_decl}
 
 abbrev pub coded_theory : Coded TheoryId
 coded_theory = code_by (ℕ × ℕ) (coded× coded_ℕ coded_ℕ) (λ t. (t.name, t.index)) (λ p. record { name = p.0; index = p.1 }) (λ _. refl)

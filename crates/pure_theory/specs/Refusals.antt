@@ -5,10 +5,10 @@ use Rattle.pure_definitions.specs.Names.{Label}
 use Rattle.pure_definitions.specs.Types.Order.{Class, Arity, Algebra}
 use Rattle.pure_definitions.specs.Declarations.Decl.{Decl, ClassDecl, ConDecl, PromiseDecl, classes_of, algebra_of}
 use Rattle.pure_definitions.specs.Terms.Term.{Term}
-use Rattle.pure_order_tables.specs.Classes.{IsDeclared}
-use Rattle.pure_order_tables.specs.Arities.{IsKnown, with_arity}
-use Rattle.pure_order_tables.specs.Checks.{IsLeastInConflict}
-use Rattle.pure_order_tables.specs.Unknown.{IsFirstUnknown, HasArityFor, names_of}
+use Rattle.pure_order.specs.OrderTables.Classes.{IsDeclared}
+use Rattle.pure_order.specs.OrderTables.Arities.{IsKnown, with_arity}
+use Rattle.pure_order.specs.OrderTables.Checks.{IsLeastInConflict}
+use Rattle.pure_order.specs.OrderTables.Unknown.{IsFirstUnknown, HasArityFor, names_of}
 use Rattle.pure_order.specs.declared.fault.OrderFault.{OrderFault}
 use Rattle.pure_order.specs.declared.fault.OrderFault.TheVariants as order
 use Rattle.pure_logic.specs.Content.{AreNamedAlike}

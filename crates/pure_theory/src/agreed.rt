@@ -8,8 +8,8 @@ ghost use Rattle.pure_theory.specs.Begin.{contents, AreTold, IsNewBeside, MayBeg
 use crate::begin::{ancestors, is_same_theory, parent_at};
 use crate::theory::Theory;
 use crate::theory_id::Known;
-use pure_stage::Declarations;
 use pure_term::Name;
+use pure_theory_tables::Declarations;
 use std::alloc::{AllocError, Global};
 use std::sync::Arc;
 

@@ -5,7 +5,7 @@ ghost use Rattle.pure_definitions.specs.Types.Order.{IsCoregular};
 ghost use Rattle.pure_definitions.specs.Declarations.Decl.{algebra_of};
 ghost use Rattle.pure_logic.specs.Beginning.{IsAdded, IsMerge, theory_eq, theories_of, ancestors_of, IsBeginning};
 ghost use Rattle.pure_logic.specs.Laws.Contents.{AreAgreed};
-ghost use Rattle.pure_stage.specs.Named.{AreNamedOnce};
+ghost use Rattle.pure_theory_tables.specs.Named.{AreNamedOnce};
 ghost use Rattle.pure_text.specs.Lists.{Each};
 ghost use Rattle.pure_theory.specs.Stage.{IsSound};
 ghost use Rattle.pure_theory.specs.Begin.{contents, MayBegin, IsMergeRefusal, IsBeginRefusal};
@@ -15,8 +15,8 @@ use crate::fault::DeclFault;
 use crate::theory::Theory;
 use crate::theory_id::Known;
 use pure_order::Order;
-use pure_stage::{Declarations, shared};
 use pure_term::Name;
+use pure_theory_tables::{Declarations, shared};
 use std::alloc::{AllocError, Global};
 use std::marker::Model;
 use std::sync::Arc;
@@ -32,7 +32,7 @@ impl Model for Merged {
     ghost use Rattle.std.specs.Prelude.{◌≡◌, List};
     ghost use Rattle.std.specs.Coded.{coded_list};
     ghost use Rattle.pure_definitions.specs.Declarations.Decl.{Decl, algebra_of};
-    ghost use Rattle.pure_stage.specs.Codes.{coded_decl};
+    ghost use Rattle.pure_theory_tables.specs.Codes.{coded_decl};
 
     ghost Value = { List Decl };
 

@@ -4,17 +4,17 @@ ghost use Rattle.std.specs.List.Sorted.{IsStrictlyIncreasing};
 ghost use Rattle.pure_text.specs.Lists.{IsIn, Each};
 ghost use Rattle.pure_definitions.specs.Types.Order.{IsCoregular};
 ghost use Rattle.pure_definitions.specs.Declarations.Decl.{ClassDecl, ConDecl, ArityDecl, IsDeclaredClass, algebra_of};
-ghost use Rattle.pure_order_tables.specs.Classes.{IsDeclared};
-ghost use Rattle.pure_order_tables.specs.Arities.{IsKnown, with_class, with_arity};
-ghost use Rattle.pure_order_tables.specs.Unknown.{HasArityFor};
+ghost use Rattle.pure_order.specs.OrderTables.Classes.{IsDeclared};
+ghost use Rattle.pure_order.specs.OrderTables.Arities.{IsKnown, with_class, with_arity};
+ghost use Rattle.pure_order.specs.OrderTables.Unknown.{HasArityFor};
 ghost use Rattle.pure_theory.specs.Stage.{with_decl};
 ghost use Rattle.pure_theory.specs.Refusals.{HasNamesake, HasCon, IsNewArity, IsClassRefusal, IsArityRefusal, IsCountRefusal, IsGivenClassRefusal, IsGivenArityRefusal};
 
 use crate::fault::DeclFault;
 use crate::theory::Theory;
 use pure_order::Order;
-use pure_stage::shared;
 use pure_term::{Name, Sort};
+use pure_theory_tables::shared;
 use std::alloc::{AllocError, Global};
 use std::sync::Arc;
 

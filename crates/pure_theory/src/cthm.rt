@@ -5,8 +5,8 @@ ghost use Rattle.pure_logic.specs.Derivable.{IsDerivable};
 ghost use Rattle.pure_theory.specs.Certified.{IsTransferFault};
 
 use crate::theory::{Stage, Theory};
-use pure_stage::Decl;
 use pure_theorem::Thm;
+use pure_theory_tables::Decl;
 use std::alloc::AllocError;
 use std::marker::Model;
 use std::sync::Arc;

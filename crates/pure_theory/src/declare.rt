@@ -8,8 +8,8 @@ ghost use Rattle.pure_theory.specs.Refusals.{HasNamesake, IsNameRefusal, IsLabel
 
 use crate::fault::DeclFault;
 use crate::theory::Theory;
-use pure_stage::shared;
 use pure_term::{Label, Name, Term, Typ};
+use pure_theory_tables::shared;
 use std::sync::Arc;
 
 impl Theory {

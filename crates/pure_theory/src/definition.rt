@@ -12,9 +12,9 @@ use crate::pure::constant;
 use crate::schematic::{schematic_term, schematic_typ};
 use crate::theory::Theory;
 use pure_certify::{has_extra_typ, has_variable};
-use pure_stage::shared;
 use pure_term::{Name, Term, Typ};
 use pure_theorem::equation;
+use pure_theory_tables::shared;
 use std::alloc::{AllocError, Global};
 
 /// The axiom that the constant of this type is the body, with its fixed type variables made schematic.

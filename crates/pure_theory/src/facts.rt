@@ -2,7 +2,7 @@
 ghost use Rattle.std.specs.Prelude.{◌≡◌, ◌↔◌, ◌⊎◌, ℕ, IsTrue, MatchOption, IfOk};
 ghost use Rattle.std.specs.Option.{option_map};
 ghost use Rattle.pure_text.specs.Lists.{IsIn};
-ghost use Rattle.pure_stage.specs.Facts.{fact_decl};
+ghost use Rattle.pure_theory_tables.specs.Facts.{fact_decl};
 ghost use Rattle.pure_lookup.specs.Meaning.{facts, Declared, IsMeant};
 ghost use Rattle.pure_lookup.specs.Laws.{IsInSession};
 ghost use Rattle.pure_lookup.specs.LookUps.{IsFoundFact};
@@ -11,9 +11,9 @@ ghost use Rattle.pure_theory.specs.FactView.{built_place, seen_fact, IsBuiltText
 use crate::lookup::{Scoped, Space};
 use crate::theory::Theory;
 use pure_lookup::find_name;
-use pure_stage::Statement;
 use pure_term::{Label, Name, Term};
 use pure_theorem::Built;
+use pure_theory_tables::Statement;
 use pure_typ::NamesByBase;
 use std::alloc::AllocError;
 

@@ -8,9 +8,9 @@ ghost use Rattle.pure_logic.specs.Connectives as connectives;
 ghost use Rattle.pure_logic.specs.PureContent as content;
 ghost use Rattle.pure_theory.specs.PureParts.{pure_typs, pure_to_all, pure_to_imp, pure_to_eq, pure_to_protect};
 
-use pure_stage::{Declarations, shared};
 use pure_term::{Name, Sort, Term, TermNode, Typ, TypNode};
 use pure_theorem::{application, equation, prop_typ};
+use pure_theory_tables::{Declarations, shared};
 use std::alloc::{AllocError, Global};
 
 /// The schematic type variable of the empty sort that stands in Pure's constants.

@@ -1,10 +1,10 @@
 //! Which theories are below others.
 ghost use Rattle.std.specs.Prelude.{◌↔◌, IsTrue, MatchOption};
 ghost use Rattle.pure_logic.specs.Content.{IsBelow};
-ghost use Rattle.pure_stage.specs.Missing.{IsFirstMissing};
+ghost use Rattle.pure_theory_tables.specs.Missing.{IsFirstMissing};
 
 use crate::theory::Theory;
-use pure_stage::Decl;
+use pure_theory_tables::Decl;
 
 impl Theory {
     /// The first declaration of this theory that isn't one of the other; none exactly where this one is below the other.

@@ -6,15 +6,15 @@ ghost use Rattle.pure_definitions.specs.Terms.Term as terms;
 ghost use Rattle.pure_definitions.specs.Declarations.Decl.{AxiomDecl, PromiseDecl, algebra_of};
 ghost use Rattle.pure_certify.specs.Tables.{IsParams, IsConstOf, IsUnknownConst};
 ghost use Rattle.pure_logic.specs.PureContent.{pure_content};
-ghost use Rattle.pure_stage.specs.Facts.{Stated, fact_decl};
-ghost use Rattle.pure_stage.specs.View.{outline};
+ghost use Rattle.pure_theory_tables.specs.Facts.{Stated, fact_decl};
+ghost use Rattle.pure_theory_tables.specs.View.{outline};
 ghost use Rattle.pure_theory.specs.Stage.{IsSound, IsStage, with_declarations};
 
 use crate::pure::pure_declarations;
 use crate::theory_id::Known;
 use pure_order::Order;
-use pure_stage::{Decl, Declarations, Statement, shared};
 use pure_term::{Label, Name, Term, Typ};
+use pure_theory_tables::{Decl, Declarations, Statement, shared};
 use std::alloc::{AllocError, Global};
 use std::marker::Model;
 use std::sync::Arc;

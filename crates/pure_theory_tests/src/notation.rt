@@ -190,7 +190,7 @@ pub(crate) fn declared(alloc: Global, text: &[u8]) -> Result<Theory, DeclFault> 
 
 /// The theory behind a pointer.
 pub(crate) fn shared(alloc: Global, theory: Theory) -> Result<Stage, DeclFault> {
-    Ok(pure_stage::shared(alloc, theory)?)
+    Ok(pure_theory_tables::shared(alloc, theory)?)
 }
 
 /// Whether the refusal is the written one.

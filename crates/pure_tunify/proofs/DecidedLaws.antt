@@ -8,8 +8,8 @@ use Rattle.pure_definitions.specs.Types.Occurs.{OccursInTyp, OccursInTyps}
 use Rattle.pure_definitions.specs.Types.Order.{Class, Arity, Algebra, IsClassBelow, itself, along, HasClassBelow, IsSortBelow, IsOfClass, AreOfSorts, IsCoregular}
 use Rattle.pure_definitions.specs.Models.Equality.{typ_eq-same}
 use Rattle.pure_definitions.proofs.OrderLaws.{below-trans, below-more, below_same}
-use Rattle.pure_order_tables.specs.Checks.{IsDecided}
-use Rattle.pure_order_tables.proofs.CoregularLaws.{directed, greatest}
+use Rattle.pure_order.specs.OrderTables.Checks.{IsDecided}
+use Rattle.pure_order.proofs.OrderTables.CoregularLaws.{directed, greatest}
 use Rattle.pure_order.proofs.DomainLaws.{of_class_by_domains}
 use Rattle.pure_tunify.proofs.PlaceLaws.{unequal}
 

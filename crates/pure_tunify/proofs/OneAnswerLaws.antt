@@ -8,7 +8,7 @@ use Rattle.pure_definitions.specs.Types.Occurs.{OccursInTyp}
 use Rattle.pure_definitions.specs.Types.Order.{Algebra, IsClassBelow, itself, HasClassBelow, IsOfClass, IsOfSort}
 use Rattle.pure_definitions.specs.Terms.Subst.{TypBind, typ_instance}
 use Rattle.pure_definitions.proofs.OrderLaws.{below-trans}
-use Rattle.pure_order_tables.specs.Classes.{IsAntisymmetric}
+use Rattle.pure_order.specs.OrderTables.Classes.{IsAntisymmetric}
 use Rattle.pure_term_laws.proofs.SubstLaws.{typ_instance-identity}
 use Rattle.pure_term_laws.proofs.MapLaws.{typ_instance-again}
 use Rattle.pure_tunify.specs.declared.pair.TypPair.{TypPair}

@@ -4,7 +4,7 @@ use Rattle.pure_text.specs.Lists.{Each, AnyOf}
 use Rattle.pure_definitions.specs.Types.Typ.{Typ, TVar}
 use Rattle.pure_definitions.specs.Types.Order.{Algebra, IsCoregular}
 use Rattle.pure_definitions.specs.Terms.Subst.{TypBind}
-use Rattle.pure_order_tables.specs.Classes.{IsAntisymmetric}
+use Rattle.pure_order.specs.OrderTables.Classes.{IsAntisymmetric}
 use Rattle.pure_tunify.specs.declared.pair.TypPair.{TypPair}
 use Rattle.pure_definitions.specs.Terms.Limits.{IsWithinTyp}
 use Rattle.pure_tunify.specs.Unifiers.{IsFresh, IsOldPair, IsUnifier, IsMostGeneral}

@@ -22,10 +22,10 @@ use Rattle.pure_logic.specs.Proves.{Proves}
 use Rattle.pure_logic.proofs.ProvesLaws.{derivable_is_proves}
 use Rattle.pure_logic.proofs.EqualityLaws.{left-of, right-of}
 use Rattle.pure_logic.proofs.TheoremMapLaws.{instantiated_is_derivable}
-use Rattle.pure_equated.specs.Equated.{IsTypedUnder, AreEquated, AreEqualModulo}
-use Rattle.pure_equated.specs.Laws.Proved.{IsPairProved}
-use Rattle.pure_equated.proofs.NodesLaws.{equated_node_by_node}
-use Rattle.pure_equated.proofs.EquatedLaws.{equated_is_proved}
+use Rattle.pure_equation_laws.specs.Equated.{IsTypedUnder, AreEquated, AreEqualModulo}
+use Rattle.pure_equation_laws.specs.Laws.Proved.{IsPairProved}
+use Rattle.pure_equation_laws.proofs.NodesLaws.{equated_node_by_node}
+use Rattle.pure_equation_laws.proofs.EquatedLaws.{equated_is_proved}
 use Rattle.pure_certify.specs.Matching.{schematics, all_schematics}
 use Rattle.pure_certify.proofs.MatchLemmas.{agree-typ}
 use Rattle.pure_unfold.specs.Replaced.{IsReplaced, HasReplaced}

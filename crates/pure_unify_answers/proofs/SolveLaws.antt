@@ -25,8 +25,8 @@ use Rattle.pure_logic.specs.Concludes.{AreRespecting}
 use Rattle.pure_logic.specs.Derivable.{Pair}
 use Rattle.pure_logic.specs.Laws.Substitution.{pair_instance}
 use Rattle.pure_logic.proofs.ConnectiveLaws.{certified_of}
-use Rattle.pure_equated.specs.Equated.{AreEquated, IsPairEquated}
-use Rattle.pure_equated.proofs.KeptLaws.{equated_of_instance}
+use Rattle.pure_equation_laws.specs.Equated.{AreEquated, IsPairEquated}
+use Rattle.pure_equation_laws.proofs.KeptLaws.{equated_of_instance}
 use Rattle.pure_tunify.specs.Unifiers.{IsFresh, IsSubstitution}
 use Rattle.pure_tunify.specs.Settings.{composed}
 use Rattle.pure_tunify.proofs.MapLaws.{identity_is_substitution, after_is_substitution}

@@ -13,8 +13,8 @@ use Rattle.pure_definitions.specs.Declarations.Decl.{algebra_of}
 use Rattle.pure_term_laws.proofs.SubstLaws.{typ_instance-identity}
 use Rattle.pure_logic.specs.Content.{Content}
 use Rattle.pure_logic.specs.Derivable.{Pair}
-use Rattle.pure_equated.specs.Equated.{IsTypedUnder}
-use Rattle.pure_equated.proofs.KeptLaws.{typed-instance}
+use Rattle.pure_equation_laws.specs.Equated.{IsTypedUnder}
+use Rattle.pure_equation_laws.proofs.KeptLaws.{typed-instance}
 use Rattle.pure_tunify.specs.Unifiers.{IsFresh, IsOld}
 use Rattle.pure_tunify.specs.Settings.{composed}
 use Rattle.pure_tunify.specs.Procedure.{Unified}

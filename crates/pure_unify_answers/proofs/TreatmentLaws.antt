@@ -18,9 +18,9 @@ use Rattle.pure_eta.proofs.EtaFormLaws.{eta_form-is}
 use Rattle.pure_eta.proofs.LongLaws.{long_form-is}
 use Rattle.pure_logic.specs.Derivable.{Pair}
 use Rattle.pure_tunify.proofs.DecidedLaws.{same_or_not}
-use Rattle.pure_equated.specs.Equated.{IsTypedUnder}
-use Rattle.pure_equated.proofs.SidesLaws.{equated_are_typed}
-use Rattle.pure_equated.proofs.ReductionLaws.{beta_normal_form_is_equated}
+use Rattle.pure_equation_laws.specs.Equated.{IsTypedUnder}
+use Rattle.pure_equation_laws.proofs.SidesLaws.{equated_are_typed}
+use Rattle.pure_equation_laws.proofs.ReductionLaws.{beta_normal_form_is_equated}
 use Rattle.pure_unify_definitions.specs.Fronts.{head, is_schematic, is_flexible}
 use Rattle.pure_unify_definitions.specs.Firm.{occurs_firmly}
 use Rattle.pure_unify_definitions.specs.Node.{bind}

@@ -10,8 +10,8 @@ use Rattle.pure_logic.specs.Content.{Content}
 use Rattle.pure_logic.specs.Concludes.{AreRespecting}
 use Rattle.pure_logic.specs.Derivable.{Pair}
 use Rattle.pure_logic.specs.Laws.Substitution.{pair_instance}
-use Rattle.pure_equated.specs.Equated.{IsPairEquated}
-use Rattle.pure_equated.specs.Laws.Proved.{IsCertifiedPair}
+use Rattle.pure_equation_laws.specs.Equated.{IsPairEquated}
+use Rattle.pure_equation_laws.specs.Laws.Proved.{IsCertifiedPair}
 use Rattle.pure_unify_definitions.specs.Children.{IsFlexFlex}
 use Rattle.pure_unify_definitions.specs.Search.{Unifier}
 

@@ -14,8 +14,8 @@ use Rattle.pure_term_laws.proofs.SubstLaws.{identity-respects_sorts, entries-res
 use Rattle.pure_logic.specs.Content.{Content, IsBelow}
 use Rattle.pure_logic.specs.PureContent.{pure_content}
 use Rattle.pure_logic.proofs.ConnectiveLaws.{arrow-certified}
-use Rattle.pure_equated.specs.Equated.{IsTypedUnder}
-use Rattle.pure_equated.proofs.SidesLaws.{typed-abstraction, typed-application, typed-function, typed-body}
+use Rattle.pure_equation_laws.specs.Equated.{IsTypedUnder}
+use Rattle.pure_equation_laws.proofs.SidesLaws.{typed-abstraction, typed-application, typed-function, typed-body}
 use Rattle.pure_unify_definitions.specs.Fronts.{front, head, below, domains, range, function_typ, applied, bounds}
 use Rattle.pure_unify_definitions.specs.Node.{Single}
 use Rattle.pure_unify_definitions.specs.Children.{new_arguments, image_of, imitations, projections, images}

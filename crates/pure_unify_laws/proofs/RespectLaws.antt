@@ -12,7 +12,7 @@ use Rattle.pure_logic.specs.Content.{Content, IsBelow}
 use Rattle.pure_logic.specs.PureContent.{pure_content}
 use Rattle.pure_logic.specs.Derivable.{Pair}
 use Rattle.pure_logic.proofs.PartsLaws.{typ-certified}
-use Rattle.pure_equated.specs.Equated.{IsTypedUnder, IsPairEquated}
+use Rattle.pure_equation_laws.specs.Equated.{IsTypedUnder, IsPairEquated}
 use Rattle.pure_tunify.specs.Settings.{composed}
 use Rattle.pure_tunify.specs.Procedure.{Unified}
 use Rattle.pure_tunify.specs.Closed.{AreClosed}

@@ -12,10 +12,10 @@ use Rattle.pure_logic.specs.PureContent.{pure_content}
 use Rattle.pure_logic.specs.Derivable.{Pair}
 use Rattle.pure_logic.specs.Laws.Substitution.{pair_instance}
 use Rattle.pure_tunify.specs.Settings.{composed}
-use Rattle.pure_equated.specs.Equated.{IsTypedUnder, AreEquated}
-use Rattle.pure_equated.proofs.SidesLaws.{equated_are_typed}
-use Rattle.pure_equated.proofs.KeptLaws.{equated_of_instance, equated_modulo_others}
-use Rattle.pure_equated.proofs.ReductionLaws.{beta_normal_form_is_equated, long_form_is_equated}
+use Rattle.pure_equation_laws.specs.Equated.{IsTypedUnder, AreEquated}
+use Rattle.pure_equation_laws.proofs.SidesLaws.{equated_are_typed}
+use Rattle.pure_equation_laws.proofs.KeptLaws.{equated_of_instance, equated_modulo_others}
+use Rattle.pure_equation_laws.proofs.ReductionLaws.{beta_normal_form_is_equated, long_form_is_equated}
 use Rattle.pure_unify_definitions.specs.Fronts.{pair}
 use Rattle.pure_unify_definitions.specs.Node.{Setting, Typs, Single, with_setting, with_setting_put, term_after}
 use Rattle.pure_unify_definitions.specs.LongSides.{Long, ComesTo, is_long}

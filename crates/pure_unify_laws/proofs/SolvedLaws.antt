@@ -19,11 +19,11 @@ use Rattle.pure_term_laws.proofs.OccursLaws.{agreeing_instance}
 use Rattle.pure_logic.specs.Content.{Content, IsContent, IsBelow}
 use Rattle.pure_logic.specs.PureContent.{pure_content}
 use Rattle.pure_logic.specs.Derivable.{Pair}
-use Rattle.pure_equated.specs.Equated.{IsTypedUnder, AreEquated, IsPairEquated}
-use Rattle.pure_equated.proofs.SidesLaws.{equated_are_typed}
-use Rattle.pure_equated.proofs.KeptLaws.{typed-instance, equated_modulo_others}
+use Rattle.pure_equation_laws.specs.Equated.{IsTypedUnder, AreEquated, IsPairEquated}
+use Rattle.pure_equation_laws.proofs.SidesLaws.{equated_are_typed}
+use Rattle.pure_equation_laws.proofs.KeptLaws.{typed-instance, equated_modulo_others}
 use Rattle.pure_tunify.specs.Settings.{composed}
-use Rattle.pure_equated.proofs.ReductionLaws.{eta_normal_form_is_equated}
+use Rattle.pure_equation_laws.proofs.ReductionLaws.{eta_normal_form_is_equated}
 use Rattle.pure_unify_definitions.specs.Fronts.{head, range, pair, argument_pairs}
 use Rattle.pure_unify_definitions.specs.Node.{Setting, Typs, Single, Node, root, bind, with_setting, with_setting_put, term_after}
 use Rattle.pure_unify_definitions.specs.LongSides.{Long, ComesTo, is_long, AllLong, AreLong, no_more, both_long}

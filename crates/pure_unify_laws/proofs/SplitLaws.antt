@@ -12,9 +12,9 @@ use Rattle.pure_definitions.specs.Declarations.Decl.{Decl}
 use Rattle.pure_definitions.specs.Declarations.Certified.{IsCertifiedTyp}
 use Rattle.pure_term_laws.proofs.TypingLaws.{typed-once}
 use Rattle.pure_logic.specs.Derivable.{Pair}
-use Rattle.pure_equated.specs.Equated.{IsTypedUnder, AreEquated, IsPairEquated, AreEqualModulo}
-use Rattle.pure_equated.proofs.SidesLaws.{equated_are_typed, typed-abstraction, typed-function, typed-argument, typed-body}
-use Rattle.pure_equated.proofs.NodesLaws.{equated_bodies, equated_node_by_node}
+use Rattle.pure_equation_laws.specs.Equated.{IsTypedUnder, AreEquated, IsPairEquated, AreEqualModulo}
+use Rattle.pure_equation_laws.proofs.SidesLaws.{equated_are_typed, typed-abstraction, typed-function, typed-argument, typed-body}
+use Rattle.pure_equation_laws.proofs.NodesLaws.{equated_bodies, equated_node_by_node}
 use Rattle.pure_unify_definitions.specs.Fronts.{abstractions, term_body, front, arguments, head, below, pair, pairs_below, argument_pairs}
 use Rattle.pure_unify_definitions.specs.Node.{Setting, term_after}
 use Rattle.pure_unify_laws.specs.Reached.{pair_after}

@@ -6,7 +6,7 @@ use Rattle.pure_definitions.specs.Terms.Term.{Term, Var}
 use Rattle.pure_definitions.specs.Terms.Bounds.{Occurs}
 use Rattle.pure_term_laws.specs.LawsOccurs.{TypOccurs}
 use Rattle.pure_definitions.specs.Declarations.Decl.{algebra_of}
-use Rattle.pure_equated.specs.Equated.{IsPairEquated}
+use Rattle.pure_equation_laws.specs.Equated.{IsPairEquated}
 use Rattle.pure_unify_definitions.specs.Node.{Node}
 use Rattle.pure_logic.specs.Content.{Content, IsContent, IsBelow}
 use Rattle.pure_logic.specs.PureContent.{pure_content}

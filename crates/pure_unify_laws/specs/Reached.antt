@@ -12,7 +12,7 @@ use Rattle.pure_logic.specs.Concludes.{AreRespecting}
 use Rattle.pure_logic.specs.Derivable.{Pair}
 use Rattle.pure_tunify.specs.Unifiers.{IsSubstitution}
 use Rattle.pure_tunify.specs.Settings.{composed}
-use Rattle.pure_equated.specs.Equated.{IsTypedUnder, IsPairEquated}
+use Rattle.pure_equation_laws.specs.Equated.{IsTypedUnder, IsPairEquated}
 use Rattle.pure_unify_definitions.specs.Fronts.{pair}
 use Rattle.pure_unify_definitions.specs.Node.{Setting, Typs, Single, Node, root, term_after}
 use Rattle.pure_unify_definitions.specs.Simplification.{Simple, Visits}

@@ -7,7 +7,7 @@ use Rattle.pure_definitions.specs.Terms.Term.{Term}
 use Rattle.pure_logic.specs.Connectives.{eq, chain}
 use Rattle.pure_logic.specs.Content.{Content}
 use Rattle.pure_logic.specs.Derivable.{Theorem, IsDerivable}
-use Rattle.pure_equated.specs.Equated.{AreEquated}
+use Rattle.pure_equation_laws.specs.Equated.{AreEquated}
 use Rattle.pure_goal_laws.specs.Prefix.{Item, Hypothesis, behind, hypotheses}
 use Rattle.pure_goal_laws.specs.Lifting.{lifted_behind}
 use Rattle.pure_goal_laws.specs.GoalStep.{IsGoalStep, AreMatched, IsFactFor, IsRuleFor, lifted_premises, destructed_premises, IsEliminated}

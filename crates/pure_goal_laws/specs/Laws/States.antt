@@ -9,8 +9,8 @@ use Rattle.pure_logic.specs.Content.{Content, IsProposition}
 use Rattle.pure_logic.specs.Concludes.{AreRespecting}
 use Rattle.pure_logic.specs.Derivable.{Pair, Theorem, IsDerivable, IsDerivableAlone}
 use Rattle.pure_logic.specs.Laws.Substitution.{pair_instance}
-use Rattle.pure_equated.specs.Equated.{AreEquated, IsPairEquated}
-use Rattle.pure_equated.specs.Laws.Proved.{IsCertifiedPair}
+use Rattle.pure_equation_laws.specs.Equated.{AreEquated, IsPairEquated}
+use Rattle.pure_equation_laws.specs.Laws.Proved.{IsCertifiedPair}
 use Rattle.pure_goal_laws.specs.Laws.Scope.{Above}
 
 -- The subgoals of a derivable goal are propositions, and the sides of a derivable theorem's pairs are certified, of one type.

@@ -1,8 +1,8 @@
 use Rattle.std.proofs.Common.{◌≡◌, ◌++◌, length, List, []}
 use Rattle.pure_text.specs.Lists.{Each}
 use Rattle.pure_machine.specs.Policy.{Opening}
-use Rattle.pure_desk.specs.Names.{desk_id}
-use Rattle.pure_desk.specs.Seats.{view_of}
+use Rattle.pure_board_lock.specs.Names.{desk_id}
+use Rattle.pure_board_lock.specs.Seats.{view_of}
 use Rattle.pure_board.specs.Boards.{HasTaken}
 use Rattle.pure_board.proofs.closing.gather.Given as goal
 

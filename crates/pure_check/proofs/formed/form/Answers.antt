@@ -1,5 +1,5 @@
 use Rattle.std.proofs.Common.{ap, ◌∙◌}
-use Rattle.pure_work.specs.Outline.{outlines}
+use Rattle.pure_check_work.specs.TheoryRun.Outline.{outlines}
 use Rattle.pure_check.proofs.FormedLemmas.{said-has_fates, said-formed}
 use Rattle.pure_check.proofs.formed.form.Goals as goal
 

@@ -1,7 +1,7 @@
 use Rattle.std.proofs.Common.{◌≡◌, List}
 use Rattle.pure_definitions.specs.Names.{Label}
 use Rattle.pure_definitions.specs.Declarations.Decl.{algebra_of}
-use Rattle.pure_goal_steps.specs.Steps.{AssumptionStep}
+use Rattle.pure_resolve.specs.GoalSteps.Steps.{AssumptionStep}
 use Rattle.pure_method.proofs.StepAnswers.{goes_on}
 use Rattle.pure_method.proofs.step.assumed.Goals as goal
 

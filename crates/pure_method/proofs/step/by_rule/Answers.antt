@@ -1,8 +1,8 @@
 use Rattle.std.proofs.Common.{◌∷◌, [], ◌++◌}
 use Rattle.pure_definitions.specs.Declarations.Decl.{algebra_of}
 use Rattle.pure_theorem.specs.Sets.{label_cmp, IsSetOf}
-use Rattle.pure_goal_steps.specs.State.{State}
-use Rattle.pure_goal_steps.specs.Steps.{RuleStep}
+use Rattle.pure_resolve.specs.GoalSteps.State.{State}
+use Rattle.pure_resolve.specs.GoalSteps.Steps.{RuleStep}
 use Rattle.pure_method.specs.Proof.{WithOne}
 use Rattle.pure_method.specs.Running.{GainsNamed}
 use Rattle.pure_method.proofs.ReadyLaws.{ready-fact}

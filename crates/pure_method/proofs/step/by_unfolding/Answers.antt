@@ -3,7 +3,7 @@ use Rattle.pure_text.specs.Lists.{Each}
 use Rattle.pure_definitions.specs.Declarations.Decl.{algebra_of}
 use Rattle.pure_logic.specs.Derivable.{Theorem}
 use Rattle.pure_theorem.specs.Sets.{label_cmp, IsSetOf}
-use Rattle.pure_goal_steps.specs.State.{State}
+use Rattle.pure_resolve.specs.GoalSteps.State.{State}
 use Rattle.pure_resolve.specs.Goals.{IsStep}
 use Rattle.pure_method.specs.Unfolding.{UnfoldStep, all_rests}
 use Rattle.pure_method.specs.Running.{GainsNamed}

@@ -1,7 +1,7 @@
 use Rattle.std.proofs.Common.{◌≡◌, List}
 use Rattle.pure_definitions.specs.Names.{Label}
-use Rattle.pure_goal_steps.specs.State.{State}
-use Rattle.pure_goal_steps.specs.Steps.{PreferStep}
+use Rattle.pure_resolve.specs.GoalSteps.State.{State}
+use Rattle.pure_resolve.specs.GoalSteps.Steps.{PreferStep}
 use Rattle.pure_method.proofs.StepAnswers.{goes_on}
 use Rattle.pure_method.proofs.step.preferred.Goals as goal
 

@@ -2,8 +2,8 @@ use Rattle.std.proofs.Common.{ap, sym, ◌∙◌}
 use Rattle.pure_definitions.specs.Declarations.Decl.{algebra_of}
 use Rattle.pure_grammar.specs.Theories.TheoryText as tree
 use Rattle.pure_script.specs.Seen.{seen_step}
-use Rattle.pure_goal_steps.specs.State.{State}
-use Rattle.pure_goal_steps.specs.Steps.{AssumptionStep, PreferStep, DeferStep}
+use Rattle.pure_resolve.specs.GoalSteps.State.{State}
+use Rattle.pure_resolve.specs.GoalSteps.Steps.{AssumptionStep, PreferStep, DeferStep}
 use Rattle.pure_method.proofs.StepAnswers.{step-as, kept-step}
 use Rattle.pure_method.proofs.step.stepped.Goals as goal
 

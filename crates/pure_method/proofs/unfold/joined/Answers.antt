@@ -1,7 +1,7 @@
 use Rattle.std.proofs.Common.{sym, subst}
 use Rattle.std.specs.Prelude.{Result}
 use Rattle.pure_logic.specs.Derivable.{Theorem}
-use Rattle.pure_goal_steps.specs.declared.fault.StepFault.{StepFault}
+use Rattle.pure_resolve.specs.GoalSteps.declared.fault.StepFault.{StepFault}
 use Rattle.pure_method.specs.Taking.{IsJoin}
 use Rattle.pure_method.proofs.ReadyLaws.{theory_content}
 use Rattle.pure_method.proofs.ChainedLaws.{join}

@@ -4,7 +4,7 @@ use Rattle.pure_definitions.specs.Types.Typ.{prop}
 use Rattle.pure_definitions.specs.Terms.Term.{Term}
 use Rattle.pure_logic.specs.Content.{IsProposition}
 use Rattle.pure_logic.specs.Derivable.{Theorem}
-use Rattle.pure_goal_steps.specs.declared.fault.StepFault.{StepFault}
+use Rattle.pure_resolve.specs.GoalSteps.declared.fault.StepFault.{StepFault}
 use Rattle.pure_method.specs.Taking.{IsLinked, step_answer}
 use Rattle.pure_method.proofs.ReadyLaws.{theory_content}
 use Rattle.pure_method.proofs.ChainedLaws.{come-to, now-proposition, linked}

@@ -1,4 +1,4 @@
-use Rattle.pure_method.specs.Running.{Proves, steps_left}
+use Rattle.pure_theory_run.specs.Method.Running.{Proves, steps_left}
 use Rattle.pure_method_tests.proofs.advance.by_steps.Given as goal
 
 abbrev pub invariant-loop-proving : goal.invariant-loop-proving

@@ -1,5 +1,5 @@
 use Rattle.pure_text.proofs.ListLaws.{each_read}
-use Rattle.pure_method.specs.Outcome.{IsProvable}
+use Rattle.pure_theory_run.specs.Method.Outcome.{IsProvable}
 use Rattle.pure_method_tests.proofs.advance.first_apart.Goals as goal
 
 pub is_row-requires : goal.is_row-requires

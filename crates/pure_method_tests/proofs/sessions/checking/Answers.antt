@@ -1,6 +1,6 @@
 use Rattle.std.proofs.Common.{sym, subst}
-use Rattle.pure_loaded.specs.Loaded.{IsLoadedSession}
-use Rattle.pure_work.specs.Checked.{Checked}
+use Rattle.pure_theory_run.specs.SessionLaws.Loaded.{IsLoadedSession}
+use Rattle.pure_theory_run.specs.Checked.{Checked}
 use Rattle.pure_method_tests.proofs.sessions.checking.Goals as goal
 
 pub returns : goal.returns

@@ -1,6 +1,6 @@
 use Rattle.std.proofs.Common.{ℕ, List, sym, subst}
 use Rattle.pure_text.specs.Lists.{Each}
-use Rattle.pure_method.specs.Outcome.{IsProvable}
+use Rattle.pure_theory_run.specs.Method.Outcome.{IsProvable}
 use Rattle.pure_method_tests.proofs.SessionLaws.{all_provable}
 use Rattle.pure_method_tests.proofs.sessions.first_apart_of.Goals as goal
 

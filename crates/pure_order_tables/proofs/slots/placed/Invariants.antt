@@ -1,5 +1,5 @@
 use Rattle.std.proofs.Common.{◌≡◌, ℕ, map, take}
-use Rattle.pure_shelf.specs.View.{pairs_of}
+use Rattle.pure_shared_maps.specs.View.{pairs_of}
 use Rattle.pure_order_tables.proofs.slots.placed.Given as goal
 
 abbrev pub invariant-loop-class : goal.invariant-loop-class

@@ -1,4 +1,4 @@
-use Rattle.pure_seats.specs.Seats.{forks_in}
+use Rattle.pure_core_runs.specs.Seats.{forks_in}
 use Rattle.pure_pool.specs.Held.{Theory}
 use Rattle.pure_pool.specs.Seated.{Has, IsSameSeat}
 use Rattle.pure_pool.proofs.theory_runs.run_theory.Given as goal

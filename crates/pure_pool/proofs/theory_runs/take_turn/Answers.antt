@@ -1,5 +1,5 @@
 use Rattle.std.proofs.Common.{sym, subst}
-use Rattle.pure_seats.specs.Seats.{forks_in}
+use Rattle.pure_core_runs.specs.Seats.{forks_in}
 use Rattle.pure_core.proofs.TaskLaws.{turn-forked}
 use Rattle.pure_pool.specs.Held.{Theory}
 use Rattle.pure_pool.proofs.SeatedLaws.{sees-hand, forks-theory, closes-theory}

@@ -1,5 +1,5 @@
 use Rattle.std.proofs.Common.{subst, sym}
-use Rattle.pure_fates.specs.Entries.{AreEntries}
+use Rattle.pure_promise_fates.specs.Entries.{AreEntries}
 use Rattle.pure_promise.specs.Joining.{AreJoined}
 use Rattle.pure_promise.proofs.RowLaws.{reported-plain}
 use Rattle.pure_promise.proofs.JoinLaws.{joined_are_settled}

@@ -1,6 +1,6 @@
 use Rattle.std.proofs.Common.{◌≡◌, ◌∙◌, ◌+◌, [], ◌∷◌, ◌++◌, map, subst, sym, length, arith}
-use Rattle.pure_fates.proofs.PlaceLaws.{at-map}
-use Rattle.pure_fates.proofs.CodeLaws.{at-seen, seen-length}
+use Rattle.pure_promise_fates.proofs.PlaceLaws.{at-map}
+use Rattle.pure_promise_fates.proofs.CodeLaws.{at-seen, seen-length}
 use Rattle.pure_promise.specs.declared.entry.Entry.{Entry}
 use Rattle.pure_promise.specs.Seen.{reported}
 use Rattle.pure_promise.proofs.RowLaws.{at_place}

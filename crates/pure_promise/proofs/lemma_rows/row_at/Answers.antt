@@ -1,5 +1,5 @@
-use Rattle.pure_fates.specs.Seen.{seen_fate}
-use Rattle.pure_fates.proofs.CodeLaws.{at-seen}
+use Rattle.pure_promise_fates.specs.Seen.{seen_fate}
+use Rattle.pure_promise_fates.proofs.CodeLaws.{at-seen}
 use Rattle.pure_promise.specs.Seen.{reported}
 use Rattle.pure_promise.proofs.RowLaws.{row_there}
 use Rattle.pure_promise.proofs.lemma_rows.row_at.Goals as goal

@@ -1,5 +1,5 @@
 use Rattle.std.proofs.Common.{subst}
-use Rattle.pure_fates.specs.Entries.{AreEntries}
+use Rattle.pure_promise_fates.specs.Entries.{AreEntries}
 use Rattle.pure_promise.proofs.RowLaws.{reported-plain, next_row, all_rows}
 use Rattle.pure_promise.proofs.lemma_rows.rows.Goals as goal
 

@@ -1,7 +1,7 @@
 use Rattle.std.proofs.Common.{map}
 use Rattle.pure_text.specs.Lists.{IsIn}
 use Rattle.pure_text.proofs.ListLaws.{each_read}
-use Rattle.pure_fates.specs.Entries as fates
+use Rattle.pure_promise_fates.specs.Entries as fates
 use Rattle.pure_promise.specs.Seen.{reported}
 use Rattle.pure_promise.proofs.names_text.push_more_labels.Goals as goal
 

@@ -1,6 +1,6 @@
 use Rattle.std.proofs.Common.{map, subst}
-use Rattle.pure_fates.specs.Entries.{IsFate}
-use Rattle.pure_fates.specs.Seen.{seen_fate}
+use Rattle.pure_promise_fates.specs.Entries.{IsFate}
+use Rattle.pure_promise_fates.specs.Seen.{seen_fate}
 use Rattle.pure_promise.specs.Seen.{reported}
 use Rattle.pure_promise.proofs.FateLaws.{tainted_stand}
 use Rattle.pure_promise.proofs.row.tail_of.Goals as goal

@@ -1,6 +1,6 @@
 use Rattle.std.proofs.Common.{map, take, subst}
 use Rattle.pure_text.specs.Lists.{IsIn, Each}
-use Rattle.pure_fates.specs.Entries.{Entry}
+use Rattle.pure_promise_fates.specs.Entries.{Entry}
 use Rattle.pure_promise.specs.Seen.{reported}
 use Rattle.pure_promise_tests.proofs.OrderLemmas.{no_entries, one_turn}
 use Rattle.pure_promise_tests.proofs.GroundLemmas.{shown_rests}

@@ -1,5 +1,5 @@
 use Rattle.std.proofs.Common.{map, take}
-use Rattle.pure_fates.specs.Entries.{AreEntries}
+use Rattle.pure_promise_fates.specs.Entries.{AreEntries}
 use Rattle.pure_promise.specs.Seen.{reported}
 use Rattle.pure_promise_tests.proofs.order.are_in_order.Given as goal
 

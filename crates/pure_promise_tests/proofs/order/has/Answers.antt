@@ -1,8 +1,8 @@
 use Rattle.std.proofs.Common.{subst, map}
 use Rattle.pure_text.specs.Lists.{IsIn}
 use Rattle.pure_text.proofs.ListLaws.{read_in, in-map}
-use Rattle.pure_stage.proofs.SameLaws.{label_same}
-use Rattle.pure_fates.specs.Entries.{Entry}
+use Rattle.pure_theory_tables.proofs.SameLaws.{label_same}
+use Rattle.pure_promise_fates.specs.Entries.{Entry}
 use Rattle.pure_promise.specs.Seen.{reported}
 use Rattle.pure_promise_tests.proofs.order.has.Goals as goal
 

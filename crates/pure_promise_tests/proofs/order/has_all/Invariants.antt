@@ -1,6 +1,6 @@
 use Rattle.std.proofs.Common.{map, take}
 use Rattle.pure_text.specs.Lists.{IsIn, Each}
-use Rattle.pure_fates.specs.Entries.{Entry}
+use Rattle.pure_promise_fates.specs.Entries.{Entry}
 use Rattle.pure_promise.specs.Seen.{reported}
 use Rattle.pure_promise_tests.proofs.order.has_all.Given as goal
 

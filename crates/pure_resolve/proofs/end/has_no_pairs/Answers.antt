@@ -1,6 +1,6 @@
 use Rattle.std.proofs.Common.{length, ap, sym, ◌∙◌}
 use Rattle.pure_logic.specs.Derivable.{Theorem}
-use Rattle.pure_pairs.proofs.SmashLaws.{no-pairs}
+use Rattle.pure_goal_steps.proofs.Pairs.SmashLaws.{no-pairs}
 use Rattle.pure_resolve.proofs.end.has_no_pairs.Goals as goal
 
 pub returns-in-None : goal.returns-in-None

@@ -1,6 +1,6 @@
 use Rattle.std.proofs.Common.{◌≡◌, List}
 use Rattle.pure_definitions.specs.Names.{Label}
-use Rattle.pure_goal_steps.specs.Steps.{DeferStep}
+use Rattle.pure_resolve.specs.GoalSteps.Steps.{DeferStep}
 use Rattle.pure_step_tests.proofs.StepLaws.{goes_on}
 use Rattle.pure_step_tests.proofs.steps.deferred.Goals as goal
 

@@ -1,6 +1,6 @@
 use Rattle.std.proofs.Common.{◌≡◌, List, []}
 use Rattle.pure_definitions.specs.Names.{Label}
-use Rattle.pure_goal_steps.specs.Steps.{BeginsAs}
+use Rattle.pure_resolve.specs.GoalSteps.Steps.{BeginsAs}
 use Rattle.pure_step_tests.proofs.StepLaws.{theory_content, begun, proposition}
 use Rattle.pure_step_tests.proofs.steps.started.Goals as goal
 

@@ -1,7 +1,7 @@
 use Rattle.std.proofs.Common.{◌≡◌, ◌++◌, List, Option, drop}
 use Rattle.std.specs.List.{flat_map}
 use Rattle.pure_print.specs.declared.row.Row as print
-use Rattle.pure_work.specs.Outline.{outlines}
+use Rattle.pure_theory_run.specs.Outline.{outlines}
 use Rattle.pure_table.specs.Filling.{places_of, filled}
 use Rattle.pure_table.proofs.filling.filled.Given as goal
 

@@ -1,6 +1,6 @@
 use Rattle.pure_promise.specs.Seen.{seen}
 use Rattle.pure_session.specs.Refused.{all_refused}
-use Rattle.pure_work.specs.Outline.{outlines}
+use Rattle.pure_theory_run.specs.Outline.{outlines}
 use Rattle.pure_table.proofs.PrintedLaws.{table-rows}
 use Rattle.pure_table.proofs.printing.table.Goals as goal
 

@@ -1,4 +1,4 @@
-use Rattle.pure_seats.specs.Seats.{state_of}
+use Rattle.pure_core_runs.specs.Seats.{state_of}
 use Rattle.pure_board.specs.Taken.{IsGoalOf}
 use Rattle.pure_board.proofs.SeatLaws.{tells-seats, may-tokens}
 use Rattle.pure_board.proofs.board.Board.deliver.Goals as goal

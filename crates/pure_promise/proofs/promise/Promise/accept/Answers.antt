@@ -1,5 +1,5 @@
 use Rattle.pure_text.proofs.AnswerLaws.{test_fails}
-use Rattle.pure_theory.proofs.CertifiedLaws.{below_same}
+use Rattle.pure_method.proofs.Theory.CertifiedLaws.{below_same}
 use Rattle.pure_promise.proofs.promise.Promise.accept.Goals as goal
 
 pub returns-then-not-is_of_prop : goal.returns-then-not-is_of_prop

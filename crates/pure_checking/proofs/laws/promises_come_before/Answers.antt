@@ -1,5 +1,0 @@
-use Rattle.pure_checking.proofs.EarlierLaws.{promises_come_before as law}
-use Rattle.pure_checking.proofs.laws.promises_come_before.Goals as goal
-
-pub returns : goal.returns
-returns c = law

@@ -1,9 +1,0 @@
-pub mod Relations
-pub mod Attempts
-pub mod Turns
-pub mod Cancelled
-pub mod Said
-pub mod Laws
-pub mod Earlier
-pub mod Boards
-pub mod Heeded

@@ -1,0 +1,5 @@
+use Rattle.pure_core_runs.proofs.SeatLaws.{enter-fork}
+use Rattle.pure_core_runs.proofs.laws.fork_may_enter.Goals as goal
+
+pub returns : goal.returns
+returns g c = enter-fork (g.W.Work.forks c.args.work.now) (g.W.Work.closes c.args.work.now) (g.W.Work.may c.args.work.now) (g.W.Work.faults c.args.work.now)

@@ -1,8 +1,0 @@
-use Rattle.pure_equated.proofs.RedexExamples.{proposition_example, pairs_example}
-use Rattle.pure_equated.proofs.examples.derivable_example.Goals as goal
-
-pub returns-clause-proposition : goal.returns-clause-proposition
-returns-clause-proposition c = proposition_example
-
-pub returns-clause-pairs : goal.returns-clause-pairs
-returns-clause-pairs c = pairs_example

@@ -1,5 +1,0 @@
-use Rattle.pure_fates.proofs.FateLaws.{one_fate as once}
-use Rattle.pure_fates.proofs.laws.one_fate.Goals as goal
-
-pub returns : goal.returns
-returns c = once

@@ -1,5 +1,0 @@
-use Rattle.pure_heed.proofs.ExampleLaws.{out_of_order}
-use Rattle.pure_heed.proofs.examples.out_of_order_is_refused.Goals as goal
-
-pub returns : goal.returns
-returns c = out_of_order

@@ -1,5 +1,0 @@
-use Rattle.pure_heed.proofs.ExampleLaws.{second_fault}
-use Rattle.pure_heed.proofs.examples.second_fault_is_refused.Goals as goal
-
-pub returns : goal.returns
-returns c = second_fault

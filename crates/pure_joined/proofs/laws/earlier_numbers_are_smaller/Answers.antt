@@ -1,5 +1,0 @@
-use Rattle.pure_joined.proofs.BeforeLaws.{smaller-numbers}
-use Rattle.pure_joined.proofs.laws.earlier_numbers_are_smaller.Goals as goal
-
-pub returns : goal.returns
-returns g c = smaller-numbers (g.W.Work.shape c.args.work.now) (g.W.Work.forks c.args.work.now) (g.W.Work.closes c.args.work.now) (g.W.Work.may c.args.work.now) (g.W.Work.faults c.args.work.now)

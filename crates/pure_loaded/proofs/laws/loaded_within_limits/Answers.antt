@@ -1,5 +1,0 @@
-use Rattle.pure_loaded.proofs.LimitLaws.{loaded-within_limits}
-use Rattle.pure_loaded.proofs.laws.loaded_within_limits.Goals as goal
-
-pub returns : goal.returns
-returns c = loaded-within_limits

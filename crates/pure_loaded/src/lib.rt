@@ -1,4 +1,0 @@
-//! What a session gives with its loaded theories.
-#![tactic(auto)]
-
-pub mod laws;

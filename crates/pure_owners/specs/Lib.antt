@@ -1,4 +1,0 @@
-pub mod Owned
-pub mod Ended
-pub mod Laws
-pub mod Kept

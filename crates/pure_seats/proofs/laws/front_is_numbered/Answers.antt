@@ -1,5 +1,0 @@
-use Rattle.pure_seats.proofs.SeatLaws.{run-begins}
-use Rattle.pure_seats.proofs.laws.front_is_numbered.Goals as goal
-
-pub returns : goal.returns
-returns g c = run-begins (g.W.Work.forks c.args.work.now) (g.W.Work.closes c.args.work.now) (g.W.Work.may c.args.work.now) (g.W.Work.faults c.args.work.now)

@@ -1,5 +1,0 @@
-use Rattle.pure_seats.proofs.SeatLaws.{orderly-front}
-use Rattle.pure_seats.proofs.laws.front_is_orderly.Goals as goal
-
-pub returns : goal.returns
-returns g c = orderly-front

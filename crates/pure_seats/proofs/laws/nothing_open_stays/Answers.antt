@@ -1,5 +1,0 @@
-use Rattle.pure_seats.proofs.SeatLaws.{open-keeps}
-use Rattle.pure_seats.proofs.laws.nothing_open_stays.Goals as goal
-
-pub returns : goal.returns
-returns g c = open-keeps (g.W.Work.forks c.args.work.now) (g.W.Work.closes c.args.work.now) (g.W.Work.may c.args.work.now) (g.W.Work.faults c.args.work.now)

@@ -1,5 +1,0 @@
-use Rattle.pure_seats.proofs.SeatLaws.{run-legal, state-history, state-opening}
-use Rattle.pure_seats.proofs.laws.numbered_is_legal.Goals as goal
-
-pub returns : goal.returns
-returns g c = λ o acts r. (run-legal (g.W.Work.forks c.args.work.now) (g.W.Work.closes c.args.work.now) (g.W.Work.may c.args.work.now) (g.W.Work.faults c.args.work.now) o acts r, state-history o acts, state-opening o acts)

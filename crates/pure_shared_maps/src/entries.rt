@@ -1,0 +1,104 @@
+//! The entries of a run: the one with a key, and the entries of two runs.
+ghost use Rattle.std.specs.Prelude.{◌≡◌, ◌∷◌, [], ◌++◌, ◌≤◌, ◌<◌, ℕ, IfOk, OnOk, None, Some, MatchOption, length, drop};
+ghost use Rattle.std.specs.Ordering.{nat_cmp};
+ghost use Rattle.std.specs.FinMap.{find};
+ghost use Rattle.pure_shared_maps.specs.Pairs.{Ascends, HasSame, IsPlaceOf};
+ghost use Rattle.pure_shared_maps.specs.View.{pair_of, pairs_of};
+
+use std::alloc::{AllocError, Global};
+use std::sync::Arc;
+
+/// A key with its value, which other runs share.
+#[derive(Drop)]
+pub struct Entry<V> {
+    pub key: u32,
+    pub value: Arc<V>,
+}
+
+/// An entry with the same key and value.
+pub(crate) fn shared_entry<V: Drop>(entry: &Entry<V>) -> Result<Entry<V>, AllocError>
+    ensures { IfOk result (λ e. pair_of e ≡ pair_of entry.now) }
+{
+    let value = Arc::try_clone(&entry.value)?;
+    Ok(Entry {
+        key: entry.key,
+        value,
+    })
+}
+
+/// Appends an entry with the same key and value.
+fn push_shared<V: Drop>(run: &mut Vec<Entry<V>>, entry: &Entry<V>) -> Result<(), AllocError>
+    ensures { OnOk result (pairs_of run.new.items ≡ pairs_of run.old.items ++ pair_of entry.now ∷ []) }
+{
+    let entry = shared_entry(entry)?;
+    run.push(entry)?;
+    Ok(())
+}
+
+/// Appends entries with the same keys and values, from this place on.
+fn push_rest<V: Drop>(
+    run: &mut Vec<Entry<V>>,
+    entries: &[Entry<V>],
+    from: usize,
+) -> Result<(), AllocError>
+    ensures { OnOk result (pairs_of run.new.items ≡ pairs_of run.old.items ++ pairs_of (drop from entries.now)) }
+{
+    for place in from..entries.len() {
+        push_shared(run, &entries[place])?;
+    }
+    Ok(())
+}
+
+/// The entries of both runs, in the order of their keys.
+pub(crate) fn merged<V: Drop>(
+    alloc: Global,
+    first: &[Entry<V>],
+    second: &[Entry<V>],
+) -> Result<Vec<Entry<V>>, AllocError>
+    requires first_ascends { Ascends (pairs_of first.now) }
+    requires second_ascends { Ascends (pairs_of second.now) }
+    ensures ascends { IfOk result (λ run. Ascends (pairs_of run.items)) }
+    ensures same { IfOk result (λ run. HasSame (pairs_of run.items) (pairs_of first.now ++ pairs_of second.now)) }
+{
+    let mut run = Vec::new(alloc);
+    let mut of_first = 0;
+    let mut of_second = 0;
+    while of_first < first.len() && of_second < second.len() {
+        let left = &first[of_first];
+        let right = &second[of_second];
+        if right.key < left.key {
+            push_shared(&mut run, right)?;
+            of_second += 1;
+        } else {
+            push_shared(&mut run, left)?;
+            of_first += 1;
+        }
+    }
+    push_rest(&mut run, first, of_first)?;
+    push_rest(&mut run, second, of_second)?;
+    Ok(run)
+}
+
+/// The place of the first entry whose key isn't less.
+fn place_of<V>(entries: &[Entry<V>], key: u32) -> usize
+    requires { Ascends (pairs_of entries.now) }
+    ensures { IsPlaceOf (pairs_of entries.now) key result }
+{
+    entries.partition_point(|entry| entry.key < key)
+}
+
+/// The value at a key.
+pub(crate) fn found<V>(entries: &[Entry<V>], key: u32) -> Option<&V>
+    requires { Ascends (pairs_of entries.now) }
+    ensures { MatchOption result (find nat_cmp key (pairs_of entries.now) ≡ None) (λ v. find nat_cmp key (pairs_of entries.now) ≡ Some v.now) }
+{
+    let place = place_of(entries, key);
+    if place >= entries.len() {
+        return None;
+    }
+    let entry = &entries[place];
+    if entry.key != key {
+        return None;
+    }
+    Some(&*entry.value)
+}

@@ -1,0 +1,129 @@
+//! Lists that share their front with the lists that they grow from.
+ghost use Rattle.std.specs.Prelude.{◌≡◌, ◌∷◌, [], ◌++◌, ◌<◌, IfOk, OnOk, OnErr, length, get_or};
+ghost use Rattle.pure_shared_maps.specs.View.{front_values, values_of};
+
+use std::alloc::{AllocError, Global};
+use std::marker::Model;
+use std::sync::Arc;
+
+/// With so many elements behind its front a list makes a new front of all of them.
+const MOST: usize = 32;
+
+/// A list, which contracts see as such. Its front stands behind a pointer that the lists which grow from it share; few elements stand behind the front.
+#[derive(Drop)]
+pub struct GrownList<T> {
+    front: Option<Arc<Vec<Arc<T>>>>,
+    rest: Vec<Arc<T>>,
+}
+
+impl<T> Model for GrownList<T> {
+    ghost use Rattle.std.specs.Prelude.{List, ◌++◌};
+    ghost use Rattle.std.specs.Coded.{coded_list};
+    ghost use Rattle.pure_shared_maps.specs.View.{front_values, values_of};
+
+    ghost Value = { List T };
+
+    ghost coded = { coded_list T.code };
+
+    ghost view = { λ l. front_values l.front ++ values_of l.rest.items };
+}
+
+/// The pointers of a front.
+fn pointers<T>(front: &Option<Arc<Vec<Arc<T>>>>) -> &[Arc<T>]
+    ensures { values_of result.now ≡ front_values front.now }
+{
+    match front {
+        None => &[],
+        Some(front) => front.as_slice(),
+    }
+}
+
+/// Pointers to the same values.
+fn shared<T: Drop>(alloc: Global, items: &[Arc<T>]) -> Result<Vec<Arc<T>>, AllocError>
+    ensures { IfOk result (λ copies. values_of copies.items ≡ values_of items.now) }
+{
+    let copies = Vec::from_clones(alloc, items)?;
+    Ok(copies)
+}
+
+/// A pointer to the same front.
+fn shared_front<T: Drop>(
+    front: &Option<Arc<Vec<Arc<T>>>>,
+) -> Result<Option<Arc<Vec<Arc<T>>>>, AllocError>
+    ensures { IfOk result (λ same. front_values same ≡ front_values front.now) }
+{
+    match front {
+        None => Ok(None),
+        Some(front) => {
+            let same = Arc::try_clone(front)?;
+            Ok(Some(same))
+        }
+    }
+}
+
+impl<T: Drop> GrownList<T> {
+    /// The list without an element.
+    pub fn empty(alloc: Global) -> GrownList<T>
+        ensures { result ≡ [] }
+    {
+        GrownList {
+            front: None,
+            rest: Vec::new(alloc),
+        }
+    }
+
+    /// The same list, which shares all elements.
+    pub fn share(&self, alloc: Global) -> Result<GrownList<T>, AllocError>
+        ensures { IfOk result (λ same. same ≡ self.now) }
+    {
+        let front = shared_front(&self.front)?;
+        let rest = shared(alloc, self.rest.as_slice())?;
+        Ok(GrownList { front, rest })
+    }
+
+    /// The count of elements.
+    pub fn len(&self) -> usize
+        ensures { result ≡ length self.now }
+    {
+        let rest = self.rest.as_slice();
+        pointers(&self.front).len() + rest.len()
+    }
+
+    /// The element at a place.
+    pub fn get(&self, place: usize) -> &T
+        requires { place < length self.now }
+        ensures { result.now ≡ get_or self.now place result.now }
+    {
+        let front = pointers(&self.front);
+        let rest = self.rest.as_slice();
+        if place < front.len() {
+            return &*front[place];
+        }
+        &*rest[place - front.len()]
+    }
+
+    /// Makes a front of all elements.
+    fn fold(&mut self, alloc: Global) -> Result<(), AllocError>
+        ensures { self.new ≡ self.old }
+    {
+        let mut all = shared(alloc, pointers(&self.front))?;
+        let mut rest = shared(alloc, self.rest.as_slice())?;
+        all.append(&mut rest)?;
+        let all = Arc::new(alloc, all)?;
+        self.front = Some(all);
+        self.rest.clear();
+        Ok(())
+    }
+
+    /// Appends an element.
+    pub fn push(&mut self, alloc: Global, item: Arc<T>) -> Result<(), AllocError>
+        ensures ok { OnOk result (self.new ≡ self.old ++ item.value ∷ []) }
+        ensures err { OnErr result (self.new ≡ self.old) }
+    {
+        if self.rest.len() >= MOST {
+            self.fold(alloc)?;
+        }
+        self.rest.push(item)?;
+        Ok(())
+    }
+}

@@ -1,5 +1,0 @@
-use Rattle.pure_shelf.proofs.GrownLaws.{values_same}
-use Rattle.pure_shelf.proofs.list.shared.Goals as goal
-
-pub returns : goal.returns
-returns g c = values_same _ _ c.in_ok-copies.ensures.items

@@ -1,5 +1,0 @@
-use Rattle.pure_shelf.proofs.GrownLaws.{cloned_map}
-use Rattle.pure_shelf.proofs.map.copied_front.Goals as goal
-
-pub returns-in_ok-copy-in-Some : goal.returns-in_ok-copy-in-Some
-returns-in_ok-copy-in-Some g c = cloned_map c.args.front.now c.in-Some.front c.deref.result.now c.in_ok-copy-in-Some.copy c.in-Some.is c.deref.ensures c.in_ok-copy-in-Some.ensures.cases

@@ -1,9 +1,0 @@
-use Rattle.std.proofs.Common.{◌≡◌, drop}
-use Rattle.std.specs.Ordering.{nat_cmp}
-use Rattle.std.specs.FinMap.{find}
-use Rattle.pure_shelf.specs.Pairs.{joined}
-use Rattle.pure_shelf.specs.View.{runs_of}
-use Rattle.pure_shelf.proofs.runs.found_in.Given as goal
-
-abbrev pub invariant-loop-pointer : goal.invariant-loop-pointer
-invariant-loop-pointer g l = find nat_cmp l.key (joined (runs_of l.runs)) ≡ find nat_cmp l.key (joined (runs_of (drop l.pointer-index l.runs)))

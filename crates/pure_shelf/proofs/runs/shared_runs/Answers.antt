@@ -1,5 +1,0 @@
-use Rattle.pure_shelf.proofs.RunLaws.{runs_same}
-use Rattle.pure_shelf.proofs.runs.shared_runs.Goals as goal
-
-pub returns : goal.returns
-returns g c = runs_same _ _ c.in_ok-copies.ensures.items

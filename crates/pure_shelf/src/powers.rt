@@ -1,7 +1,0 @@
-//! What the powers of two are that sum to a number.
-ghost use Rattle.pure_shelf.specs.Powers.{ArePowers};
-
-/// Each number of 32 bits is the sum of its powers of two, the greatest first.
-pub fn powers_law()
-    ensures { ArePowers }
-{}

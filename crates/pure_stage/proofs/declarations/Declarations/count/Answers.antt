@@ -1,5 +1,0 @@
-use Rattle.std.proofs.Common.{◌∙◌, sym}
-use Rattle.pure_stage.proofs.declarations.Declarations.count.Goals as goal
-
-pub returns : goal.returns
-returns c = rw (← c.self.view_is) (c.count.ensures ∙ sym c.self.invariant.listed.long)

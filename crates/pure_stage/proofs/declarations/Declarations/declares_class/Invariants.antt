@@ -1,7 +1,0 @@
-use Rattle.std.proofs.Common.{take}
-use Rattle.pure_definitions.specs.Declarations.Decl.{IsDeclaredClass}
-use Rattle.pure_stage.proofs.declarations.Declarations.declares_class.Given as goal
-
--- the class isn't among those so far
-abbrev pub invariant-loop-place : goal.invariant-loop-place
-invariant-loop-place l = ¬ IsDeclaredClass (take l.place l.self) l.name

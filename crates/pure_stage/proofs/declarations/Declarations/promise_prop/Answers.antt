@@ -1,4 +1,0 @@
-use Rattle.pure_stage.proofs.declarations.Declarations.promise_prop.Goals as goal
-
-pub returns : goal.returns
-returns c = rw (← c.self.view_is) (c.promise_prop.ensures _ c.self.invariant.indexed)

@@ -1,9 +1,0 @@
-use Rattle.pure_stage.specs.Facts.{fact_decl}
-use Rattle.pure_stage.proofs.TableLaws.{fresh}
-use Rattle.pure_stage.proofs.declarations.Declarations.with_axiom.Goals as goal
-
-pub with_axiom-requires : goal.with_axiom-requires
-with_axiom-requires c = fresh fact_decl c.self.inside.index.facts _ c.args.name c.self.invariant.indexed.facts (rw (← c.self.view_is) at c.requires)
-
-pub grown-requires : goal.grown-requires
-grown-requires c = rw (← c.self.view_is, ← c.in_ok-same.ensures) (c.in_ok-index.ensures _ c.self.invariant.indexed)

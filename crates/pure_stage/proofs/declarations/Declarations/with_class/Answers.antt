@@ -1,4 +1,0 @@
-use Rattle.pure_stage.proofs.declarations.Declarations.with_class.Goals as goal
-
-pub grown-requires : goal.grown-requires
-grown-requires c = rw (← c.self.view_is) (c.in_ok-index.ensures.other _ _ tt c.self.invariant.indexed)

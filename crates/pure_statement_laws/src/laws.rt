@@ -1,7 +1,0 @@
-//! Laws of statements: each is the contract of a function that does nothing.
-ghost use Rattle.pure_statement_laws.specs.Laws.{SchematicIsGeneralised};
-
-/// The variables of a statement are made schematic as those of a theorem are.
-pub fn schematic_is_generalised()
-    ensures { SchematicIsGeneralised }
-{}

@@ -1,4 +1,0 @@
-//! Laws of statements.
-#![tactic(auto)]
-
-pub mod laws;

@@ -1,0 +1,37 @@
+-- What one turn of a run gives.
+use Rattle.std.specs.Prelude.{◌≡◌, ◌<◌, ℕ, List, [], ◌∷◌, ◌++◌}
+use Rattle.pure_print.specs.declared.row.Row.{Row}
+use Rattle.pure_graph.specs.Order.{Loaded}
+use Rattle.pure_session_meaning.specs.Declare.Notes.{Note, Said, Forked}
+use Rattle.pure_session_meaning.specs.Verdicts.{Verdict, Closes}
+use Rattle.pure_session_meaning.specs.Statements.{notes_of, forks_of}
+use Rattle.pure_theory_run.specs.Outline.{Outline, outline}
+use Rattle.pure_theory_run.specs.Runs.{IsGoing, IsRunOf, turns_left}
+use Rattle.pure_theory_run.specs.declared.run.Going.{Going}
+use Rattle.pure_theory_run.specs.declared.run.Run.{Run}
+use Rattle.pure_theory_run.specs.declared.run.Turn.{Turn}
+use Rattle.pure_theory_run.specs.declared.run.Turn.TheVariants.{Declared, Forked as Forks, Closed}
+
+-- The theory with this index closes with this value, and the lemmas that it bound are those of these notes.
+pub record ClosesWith (texts : List (List ℕ)) (theories : List Loaded) (index : ℕ) (notes : List Note) (value : Outline) : Type 0 where
+  pub verdict : Verdict
+  pub closes : Closes texts theories index verdict
+  pub value_is : value ≡ outline verdict
+  pub forks : forks_of (notes_of verdict) ≡ forks_of notes
+
+-- A turn that declares leaves a row more, one that forks a lemma leaves this, and both leave fewer commands; one that closes comes where no command is left, and gives what is left of what became of the theory.
+abbrev pub IsTurn : (texts : List (List ℕ)) → (theories : List Loaded) → (index : ℕ) → (notes : List Note) → (old new : Run) → Turn → Type 0
+IsTurn texts theories index notes old new Declared = (row : Row) × IsRunOf texts theories index (notes ++ Said row ∷ []) new × (turns_left new < turns_left old)
+IsTurn texts theories index notes old new (Forks goal) = IsRunOf texts theories index (notes ++ Forked goal ∷ []) new × (turns_left new < turns_left old)
+IsTurn texts theories index notes old new (Closed value) = (turns_left old ≡ 0) × ClosesWith texts theories index notes value
+
+-- the same of a theory that wasn't refused when it began
+abbrev pub IsGoingTurn : (texts : List (List ℕ)) → (theories : List Loaded) → (index : ℕ) → (notes : List Note) → (old new : Going) → Turn → Type 0
+IsGoingTurn texts theories index notes old new Declared = (row : Row) × IsGoing texts theories index (notes ++ Said row ∷ []) new × (new.left < old.left)
+IsGoingTurn texts theories index notes old new (Forks goal) = IsGoing texts theories index (notes ++ Forked goal ∷ []) new × (new.left < old.left)
+IsGoingTurn texts theories index notes old new (Closed value) = (old.left ≡ 0) × ClosesWith texts theories index notes value
+
+-- the turn of a command that leaves this note
+abbrev pub turn_of : Note → Turn
+turn_of (Said row) = Declared
+turn_of (Forked goal) = Forks goal

@@ -1,5 +1,0 @@
-use Rattle.pure_verdicts.proofs.ParentLaws.{contents_merge_or_not as law}
-use Rattle.pure_verdicts.proofs.laws.contents_merge_or_not.Goals as goal
-
-pub returns : goal.returns
-returns c = law

@@ -1,5 +1,0 @@
-use Rattle.pure_verdicts.proofs.StepLaws.{run_goes_on}
-use Rattle.pure_verdicts.proofs.laws.run_goes_on.Goals as goal
-
-pub returns : goal.returns
-returns c = run_goes_on

@@ -1,5 +1,0 @@
-use Rattle.pure_verdicts.proofs.OwnerLaws.{theories_may_begin}
-use Rattle.pure_verdicts.proofs.laws.theories_may_begin.Goals as goal
-
-pub returns : goal.returns
-returns c = theories_may_begin

@@ -1,8 +1,0 @@
-use Rattle.std.proofs.Common.{◌≡◌, take}
-use Rattle.pure_theory.specs.Begin.{contents}
-use Rattle.pure_work.specs.Outline.{outlines, lasts}
-use Rattle.pure_work.proofs.parents.last_stages.Given as goal
-
--- the last stages of those so far
-abbrev pub invariant-loop-parent : goal.invariant-loop-parent
-invariant-loop-parent l = contents l.stages.items ≡ lasts (take l.parent-index (outlines l.parents))
