@@ -13,14 +13,14 @@ ghost use Rattle.std.specs.Prelude.{◌≡◌, IfOk};
 ghost use Rattle.pure_text.specs.Lists.{Each};
 ghost use Rattle.pure_method.specs.Outcome.{IsProvable};
 ghost use Rattle.pure_session.specs.Waiting.{all_loaded};
-ghost use Rattle.pure_loaded.specs.Loaded.{IsLoadedSession};
+ghost use Rattle.pure_session_laws.specs.Loaded.{IsLoadedSession};
 
 use pure_declare::Duty;
 use pure_io::DirLibrary;
 use pure_method::{Outcome, prove};
 use pure_session::{Session, load};
 use pure_typ::NamesByBase;
-use pure_work::{Checker, Statements};
+use pure_theory_run::{Checker, Statements};
 use std::alloc::Global;
 use std::rt::{Clock, Files};
 use std::test::Fail;
@@ -114,8 +114,8 @@ pub returns-in-Ok : goal.returns-in-Ok
 returns-in-Ok g c = loaded_session _ _ _ _ _ c.in-Ok.ensures.told c.in-Ok.ensures.named c.are_session_texts.ensures
 """
 CHECKER = """use Rattle.std.proofs.Common.{subst, sym}
-use Rattle.pure_work.specs.Checked.{Checked}
-use Rattle.pure_loaded.specs.Loaded.{IsLoadedSession}
+use Rattle.pure_theory_run.specs.Checked.{Checked}
+use Rattle.pure_session_laws.specs.Loaded.{IsLoadedSession}
 use Rattle.bench_phases.proofs.checker.Goals as goal
 
 pub returns : goal.returns
@@ -151,7 +151,7 @@ use Rattle.bench_phases.proofs.proved.Goals as goal
 pub counted-requires : goal.counted-requires
 counted-requires c = subst (λ (texts : List (List ℕ)). Each (IsProvable texts) c.args.duties.items) (sym c.names-names.ensures.value) c.requires
 """
-CRATES = ["pure_check", "pure_declare", "pure_io", "pure_method", "pure_loaded", "pure_session", "pure_table", "pure_text", "pure_typ", "pure_work"]
+CRATES = ["pure_check", "pure_declare", "pure_io", "pure_method", "pure_session_laws", "pure_session", "pure_table", "pure_text", "pure_typ", "pure_theory_run"]
 
 
 def theory(front, commands):
