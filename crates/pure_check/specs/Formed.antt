@@ -21,7 +21,7 @@ use Rattle.pure_check_work.specs.TheoryRun.Outline.{Outline}
 use Rattle.pure_machine.specs.State.{Promise}
 use Rattle.pure_core_end.specs.Promises.{AreInOrder}
 use Rattle.pure_board.specs.Boards.{Ending}
-use Rattle.pure_policy.specs.Heeded.{IsHeeded}
+use Rattle.pure_policy.specs.Heeded.{IsPolicyHeeded}
 use Rattle.pure_check_work.specs.Cancelled.{cancelled_labels, entries_of}
 use Rattle.pure_check_work.specs.Heeded.{lot_of, gone_labels}
 use Rattle.pure_check.specs.Asked.{asked_of}
@@ -61,7 +61,7 @@ pub record IsFormed (S : Session) (promises : List (Promise Fork Outcome)) (exte
 -- The session was checked as the job asks: this is its table, the lemmas that are cancelled in it are so as the job asks, this is the board on which that came about, and this is what the job has written of the table's text.
 pub record IsChecked (job : Job) (board : Ending Checked Fork Outline Outcome) (S : Session) (t : Table) (text : List ℕ) : Type 0 where
   pub table : IsTable S (gone_labels t.entries) t
-  pub heeded : IsHeeded S.theories (asked_of job) (map lot_of t.entries)
+  pub heeded : IsPolicyHeeded S.theories (asked_of job) (map lot_of t.entries)
   pub run_of : IsRunOf S (asked_of job) t board
   pub text_is : text ≡ text_for job S t
 

@@ -23,7 +23,7 @@ use Rattle.pure_machine.specs.State.{Promise}
 use Rattle.pure_core_end.specs.Promises.{AreInOrder}
 use Rattle.pure_board.specs.Boards.{Ending}
 use Rattle.pure_policy.specs.Asked.{Asked}
-use Rattle.pure_policy.specs.Heeded.{IsHeeded}
+use Rattle.pure_policy.specs.Heeded.{IsPolicyHeeded}
 use Rattle.pure_policy.specs.Policy.{policy_of}
 use Rattle.pure_check_work.specs.Boards.{IsBoardOf}
 use Rattle.pure_check_work.specs.Cancelled.{lemmas_of, entries_of}
@@ -66,7 +66,7 @@ pub record IsMeant (told : Option (List library.File)) (words : List (List ℕ))
   pub session : IsToldSession (files_for job told) S
   pub loaded : IsLoadedSession S.names S.theories
   pub table : IsTable S (gone_labels t.entries) t
-  pub heeded : IsHeeded S.theories (asked_of job) (map lot_of t.entries)
+  pub heeded : IsPolicyHeeded S.theories (asked_of job) (map lot_of t.entries)
   pub derived : IsDerivedTable t
   pub board : Ending Checked Fork Outline Outcome
   pub is_run : run ≡ Some board

@@ -5,7 +5,7 @@ use Rattle.pure_table.specs.Declare.Notes.{Fork}
 use Rattle.pure_table.specs.Method.Proof.{ProofOutcome}
 use Rattle.pure_table.specs.Method.declared.outcome.Outcome.{Outcome}
 use Rattle.pure_table.specs.Method.declared.outcome.Outcome.TheVariants.{Proved, Fault}
-use Rattle.pure_table.specs.Promise.Entries.{Entry}
+use Rattle.pure_table.specs.Promise.Entries.{LemmaEntry}
 use Rattle.pure_table.specs.Promise.Seen.{seen_entry}
 use Rattle.pure_table.specs.Promise.declared.entry.Entry as code
 use Rattle.pure_table.specs.Promise.declared.entry.Own.{Own}
@@ -33,10 +33,10 @@ own_of (Settled outcome) = Some (seen_outcome outcome)
 own_of _ = None
 
 -- the lemma's entry
-abbrev pub entry_of : Promise Fork Outcome → Entry
+abbrev pub entry_of : Promise Fork Outcome → LemmaEntry
 entry_of p = record { label = (p.goal).label; name = (p.goal).name; prop = (p.goal).prop; own = own_of p.standing }
 
-abbrev pub entries_of : List (Promise Fork Outcome) → List Entry
+abbrev pub entries_of : List (Promise Fork Outcome) → List LemmaEntry
 entries_of = map entry_of
 
 -- what became of a lemma, as the program holds it: what its proof came to where its promise is settled, and else it is cancelled

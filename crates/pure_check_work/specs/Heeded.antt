@@ -6,7 +6,7 @@ use Rattle.pure_graph.specs.Order.{Loaded}
 use Rattle.pure_table.specs.Declare.Notes.{Fork}
 use Rattle.pure_table.specs.Method.Proof.{ProofOutcome}
 use Rattle.pure_table.specs.Method.declared.outcome.Outcome.{Outcome}
-use Rattle.pure_table.specs.Promise.Entries.{Entry}
+use Rattle.pure_table.specs.Promise.Entries.{LemmaEntry}
 use Rattle.pure_table.specs.SessionLaws.Loaded.{IsLoadedSession}
 use Rattle.pure_table.specs.TheoryRun.Checked.{Checked}
 use Rattle.pure_table.specs.TheoryRun.Outline.{Outline}
@@ -30,7 +30,7 @@ is_at_fault (Some (Ok labels)) = false
 is_at_fault (Some (Err fault)) = true
 
 -- the lemma of an entry, as a policy sees it
-abbrev pub lot_of : Entry → Lot
+abbrev pub lot_of : LemmaEntry → Lot
 lot_of e = record { theory = e.label.theory; gone = is_gone e.own; fault = is_at_fault e.own }
 
 -- the label, where the lemma is cancelled
@@ -39,11 +39,11 @@ label_if_gone label None = Some label
 label_if_gone label (Some outcome) = None
 
 -- the label of an entry whose lemma is cancelled
-abbrev pub gone_label : Entry → Option Label
+abbrev pub gone_label : LemmaEntry → Option Label
 gone_label e = label_if_gone e.label e.own
 
 -- the labels of the lemmas that are cancelled
-abbrev pub gone_labels : List Entry → List Label
+abbrev pub gone_labels : List LemmaEntry → List Label
 gone_labels entries = filter_map gone_label entries
 
 -- Of the board on which a loaded session was checked, the promises, in load order, are cancelled as its policy asks for; and those that are cancelled are the ones whose entries say so.

@@ -7,7 +7,7 @@ use Rattle.pure_graph.specs.Session.{Session, shown}
 use Rattle.pure_table.specs.Declare.Notes.{Fork}
 use Rattle.pure_table.specs.Method.Outcome.{IsOutcomeOf}
 use Rattle.pure_table.specs.Method.declared.outcome.Outcome.{Outcome}
-use Rattle.pure_table.specs.Promise.Entries.{Entry, plain}
+use Rattle.pure_table.specs.Promise.Entries.{LemmaEntry, plain}
 use Rattle.pure_table.specs.SessionLaws.Loaded.{IsLoadedSession}
 use Rattle.pure_table.specs.SessionMeaning.Statements.{IsFork}
 use Rattle.pure_table.specs.TheoryRun.Outline.{Outline}

@@ -4,7 +4,7 @@ use Rattle.pure_text.specs.Lists.{EachTwo}
 use Rattle.pure_definitions.specs.Names.{Label}
 use Rattle.pure_graph.specs.Order.{Loaded}
 use Rattle.pure_table.specs.Declare.Notes.{Fork}
-use Rattle.pure_table.specs.Promise.Entries.{Entry}
+use Rattle.pure_table.specs.Promise.Entries.{LemmaEntry}
 use Rattle.pure_table.specs.Promise.Seen.{seen}
 use Rattle.pure_table.specs.Promise.declared.entry.Entry as code
 use Rattle.pure_table.specs.TheoryRun.Outline.{Outline}
@@ -17,7 +17,7 @@ use Rattle.pure_core_end.specs.Promises.{AreInOrder}
 use Rattle.pure_check_work.specs.Cancelled.{lemmas_of, cancelled_labels, entries_of}
 
 -- All theories closed with these values, and these are the entries of the lemmas that they bound, in order, where those with these labels are cancelled.
-pub record AreLeft (texts : List (List ℕ)) (theories : List Loaded) (cancelled : List Label) (values : List Outline) (rows : List Entry) : Type 0 where
+pub record AreLeft (texts : List (List ℕ)) (theories : List Loaded) (cancelled : List Label) (values : List Outline) (rows : List LemmaEntry) : Type 0 where
   pub lemmas : List Fork
   pub said : AreSaid texts theories values lemmas
   pub entries : EachTwo (IsEntryOf texts cancelled) lemmas rows

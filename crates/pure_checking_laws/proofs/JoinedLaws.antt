@@ -21,7 +21,7 @@ use Rattle.pure_check_work.specs.Method.Facts.{theorem}
 use Rattle.pure_check_work.specs.Method.Outcome.{IsOutcomeOf}
 use Rattle.pure_check_work.specs.Method.declared.outcome.Outcome.{Outcome}
 use Rattle.pure_check_work.specs.Method.declared.outcome.Outcome.TheVariants.{Proved, Fault}
-use Rattle.pure_check_work.specs.Promise.Entries.{Entry, plain, plain_own}
+use Rattle.pure_check_work.specs.Promise.Entries.{LemmaEntry, plain, plain_own}
 use Rattle.pure_check_work.specs.Promise.Joining.{IsShown}
 use Rattle.pure_check_work.specs.SessionLaws.Loaded.{IsLoadedSession}
 use Rattle.pure_check_work.specs.SessionMeaning.Statements.{IsFork}
@@ -83,12 +83,12 @@ module _ (texts : List (List ℕ)) (theories : List Loaded) (loaded : IsLoadedSe
       let e = in_mapped plain b.entry (entries_of s.promises) b.stands in
       let p = in_mapped entry_of e.0 s.promises e.1 in
       let at = in-at p.0 s.promises p.1 in
-      let by = settled-by (p.0).standing rests (ap (λ (x : Entry). plain_own x.own) p.2 ∙ ap (λ (x : fates.Entry). x.own) e.2 ∙ b.own_is) in
+      let by = settled-by (p.0).standing rests (ap (λ (x : LemmaEntry). plain_own x.own) p.2 ∙ ap (λ (x : fates.Entry). x.own) e.2 ∙ b.own_is) in
       record {
         number = at.0;
         promise = p.0;
         stands = at.1;
-        label = ap (λ (x : Entry). x.label) p.2 ∙ ap (λ (x : fates.Entry). x.label) e.2 ∙ b.of_label;
+        label = ap (λ (x : LemmaEntry). x.label) p.2 ∙ ap (λ (x : fates.Entry). x.label) e.2 ∙ b.of_label;
         proved = by.0;
         settled = by.1;
         rests_are = by.2;

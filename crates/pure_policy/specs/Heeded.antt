@@ -40,7 +40,7 @@ is_licensed theories asked ls l = (asked.fail_fast && nat_le 1 (faults ls)) || l
 
 -- The lemmas, in order of their labels, are cancelled as was asked: each that is cancelled might be; where the first fault cancels all, one kept lemma at most is at fault; of a group that is cancelled after some number no more are kept;
 -- in each theory fewer cancelled lemmas than there are workers stand before a kept one; and with one worker a lemma is cancelled exactly where it might be by those before it.
-pub record IsHeeded (theories : List Loaded) (asked : Asked) (ls : List Lot) : Type 0 where
+pub record IsPolicyHeeded (theories : List Loaded) (asked : Asked) (ls : List Lot) : Type 0 where
   pub licensed : Each (λ l. IsTrue l.gone → IsTrue (is_licensed theories asked ls l)) ls
   pub one_fault : IsTrue asked.fail_fast → faults ls ≤ 1
   pub obeyed : Each (λ (c : CancelWord). kept_of theories c.group ls ≤ c.after) asked.cancels

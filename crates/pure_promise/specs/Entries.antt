@@ -6,7 +6,7 @@ use Rattle.pure_promise_fates.specs.Entries as fates
 use Rattle.pure_method.specs.Proof.{ProofOutcome}
 
 -- a lemma by its label and name, with its statement and what became of it: what its proof came to, or nothing where it was cancelled
-pub record Entry : Type 0 where
+pub record LemmaEntry : Type 0 where
   pub label : Label
   pub name : ℕ
   pub prop : Term
@@ -19,5 +19,5 @@ plain_own (Some (Ok rests)) = fates.Shown rests
 plain_own (Some (Err fault)) = fates.Fault
 
 -- the lemma as fates see it
-abbrev pub plain : Entry → fates.Entry
+abbrev pub plain : LemmaEntry → fates.Entry
 plain e = record { label = e.label; own = plain_own e.own }

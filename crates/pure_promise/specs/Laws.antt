@@ -5,13 +5,13 @@ use Rattle.pure_promise_fates.specs.Entries as fates
 use Rattle.pure_promise_fates.specs.Entries.{AreEntries, IsFate}
 use Rattle.pure_print.specs.declared.row.Row.{Row}
 use Rattle.pure_print.specs.declared.row.RowStatus.TheVariants as status
-use Rattle.pure_promise.specs.Entries.{Entry, plain}
+use Rattle.pure_promise.specs.Entries.{LemmaEntry, plain}
 use Rattle.pure_promise.specs.Joining.{IsJoined}
 use Rattle.pure_promise.specs.Rows.{IsRowOf}
 
 -- The row says that a lemma is proved exactly where its fate is so.
 abbrev pub ProvedRow : Type 0
-ProvedRow = (texts : List (List ℕ)) (es : List Entry) → AreEntries (map plain es) → (e : Entry) (row : Row) → IsRowOf texts es e row
+ProvedRow = (texts : List (List ℕ)) (es : List LemmaEntry) → AreEntries (map plain es) → (e : LemmaEntry) (row : Row) → IsRowOf texts es e row
     → (row.status ≡ status.Proved) ↔ IsFate (map plain es) e.label fates.Proved
 
 -- A lemma is joined exactly where its fate is that it is proved.

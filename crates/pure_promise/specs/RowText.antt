@@ -12,7 +12,7 @@ use Rattle.pure_print.specs.declared.row.RowStatus.TheVariants as status
 use Rattle.pure_print.specs.NameText.{text_of_name}
 use Rattle.pure_print.specs.TermText.{term_text}
 use Rattle.pure_method.specs.Proof.{ProofOutcome}
-use Rattle.pure_promise.specs.Entries.{Entry}
+use Rattle.pure_promise.specs.Entries.{LemmaEntry}
 
 -- the text of a fault of a proof; want of memory is none, and has no text
 unfoldable pub fault_text : StepFault → List ℕ
@@ -43,17 +43,17 @@ unfoldable pub by_word : List ℕ
 by_word = codes ": by "
 
 -- the name of the lemma with this label
-abbrev pub label_text : (texts : List (List ℕ)) → List Entry → Label → List ℕ
+abbrev pub label_text : (texts : List (List ℕ)) → List LemmaEntry → Label → List ℕ
 label_text texts [] l = []
 label_text texts (e ∷ es) l = if label_eq e.label l then text_of_name texts e.name else label_text texts es l
 
 -- the names of the lemmas with these labels, each behind a comma
-abbrev pub more_labels_text : (texts : List (List ℕ)) → List Entry → List Label → List ℕ
+abbrev pub more_labels_text : (texts : List (List ℕ)) → List LemmaEntry → List Label → List ℕ
 more_labels_text texts es [] = []
 more_labels_text texts es (l ∷ ls) = comma ++ (label_text texts es l ++ more_labels_text texts es ls)
 
 -- the names of the lemmas with these labels, with a comma between each two
-abbrev pub labels_text : (texts : List (List ℕ)) → List Entry → List Label → List ℕ
+abbrev pub labels_text : (texts : List (List ℕ)) → List LemmaEntry → List Label → List ℕ
 labels_text texts es [] = []
 labels_text texts es (l ∷ ls) = label_text texts es l ++ more_labels_text texts es ls
 
@@ -64,7 +64,7 @@ failed_tail (Some (Ok rests)) = []
 failed_tail None = []
 
 -- what stands behind the name: of a proved lemma its statement, of a failed one its fault, of a tainted one the failed lemmas that it reaches
-abbrev pub tail_text : (texts : List (List ℕ)) → List Entry → Entry → Fate → List ℕ
+abbrev pub tail_text : (texts : List (List ℕ)) → List LemmaEntry → LemmaEntry → Fate → List ℕ
 tail_text texts es e Proved = colon ++ term_text texts e.prop
 tail_text texts es e Failed = failed_tail e.own
 tail_text texts es e (Tainted faults) = by_word ++ labels_text texts es faults
@@ -80,5 +80,5 @@ status_of Gone = status.Cancelled
 status_of Unsettled = status.Unsettled
 
 -- the row of a lemma with this fate, among these lemmas
-abbrev pub fate_row : (texts : List (List ℕ)) → List Entry → Entry → Fate → Row
+abbrev pub fate_row : (texts : List (List ℕ)) → List LemmaEntry → LemmaEntry → Fate → Row
 fate_row texts es e fate = record { status = status_of fate; head = text_of_name texts e.name; tail = tail_text texts es e fate }

@@ -17,7 +17,7 @@ use Rattle.pure_promise_fates.proofs.LabelSets.{first_below, rest_is_set, not_it
 use Rattle.pure_promise_fates.proofs.ProvedLaws.{in_mapped, proved_is_derivable}
 use Rattle.pure_theory_run.specs.Declare.Notes.{Fork}
 use Rattle.pure_theory_run.specs.Method.Proof.{ProofOutcome}
-use Rattle.pure_promise.specs.Entries.{Entry, plain, plain_own}
+use Rattle.pure_promise.specs.Entries.{LemmaEntry, plain, plain_own}
 
 -- A lemma with this label and this statement comes before the other, and its content is below.
 pub record IsEarlier (fs : List Fork) (f : Fork) (l : Label) (A : Term) : Type 0 where
@@ -44,7 +44,7 @@ pub record IsShownBy (f : Fork) (rests : List Label) : Type 0 where
   pub promised : Each (IsPromised f) rests
 
 -- The entry is that of the lemma: where a proof came to it, it shows the lemma.
-pub record IsOf (f : Fork) (e : Entry) : Type 0 where
+pub record IsOf (f : Fork) (e : LemmaEntry) : Type 0 where
   pub label : e.label ≡ f.label
   pub shown : (rests : List Label) → e.own ≡ Some (Ok rests) → IsShownBy f rests
 
@@ -62,21 +62,21 @@ own-shown None rests h = absurd cc
 own-shown (Some (Ok ls)) rests h = (let e : ls ≡ rests = cc in ap (λ ks. Some (Ok ks)) e)
 own-shown (Some (Err f)) rests h = absurd cc
 
-abbrev claim : Fork → Entry → Claim
+abbrev claim : Fork → LemmaEntry → Claim
 claim f e = record { entry = plain e; prop = f.prop; content = f.content }
 
-abbrev claims : List Fork → List Entry → List Claim
+abbrev claims : List Fork → List LemmaEntry → List Claim
 claims [] es = []
 claims (f ∷ fs) [] = []
 claims (f ∷ fs) (e ∷ es) = claim f e ∷ claims fs es
 
-claims-entries : (fs : List Fork) (es : List Entry) → EachTwo IsOf fs es → map Claim.entry (claims fs es) ≡ map plain es
+claims-entries : (fs : List Fork) (es : List LemmaEntry) → EachTwo IsOf fs es → map Claim.entry (claims fs es) ≡ map plain es
 claims-entries [] [] h = refl
 claims-entries [] (e ∷ es) h = absurd h
 claims-entries (f ∷ fs) [] h = absurd h
 claims-entries (f ∷ fs) (e ∷ es) h = ap (λ ps. plain e ∷ ps) (claims-entries fs es h.1)
 
-claims-labels : (fs : List Fork) (es : List Entry) → EachTwo IsOf fs es → map fates.Entry.label (map plain es) ≡ map Fork.label fs
+claims-labels : (fs : List Fork) (es : List LemmaEntry) → EachTwo IsOf fs es → map fates.Entry.label (map plain es) ≡ map Fork.label fs
 claims-labels [] [] h = refl
 claims-labels [] (e ∷ es) h = absurd h
 claims-labels (f ∷ fs) [] h = absurd h
@@ -85,12 +85,12 @@ claims-labels (f ∷ fs) (e ∷ es) h = λ i. h.0.label i ∷ claims-labels fs e
 -- a claim is that of a lemma and its entry
 record IsClaim (fs : List Fork) (c : Claim) : Type 0 where
   lemma : Fork
-  entry : Entry
+  entry : LemmaEntry
   stands : IsIn lemma fs
   of : IsOf lemma entry
   is : c ≡ claim lemma entry
 
-of_claim : (fs : List Fork) (es : List Entry) → EachTwo IsOf fs es → (c : Claim) → IsIn c (claims fs es) → IsClaim fs c
+of_claim : (fs : List Fork) (es : List LemmaEntry) → EachTwo IsOf fs es → (c : Claim) → IsIn c (claims fs es) → IsClaim fs c
 of_claim [] es h c m = absurd m
 of_claim (f ∷ fs) [] h c m = absurd m
 of_claim (f ∷ fs) (e ∷ es) h c (inl same) = record { lemma = f; entry = e; stands = inl refl; of = h.0; is = same }
@@ -98,7 +98,7 @@ of_claim (f ∷ fs) (e ∷ es) h c (inr m) =
     let found = of_claim fs es h.1 c m in
     record { lemma = found.lemma; entry = found.entry; stands = inr found.stands; of = found.of; is = found.is }
 
-module _ (fs : List Fork) (es : List Entry) (bound : AreBound fs) (two : EachTwo IsOf fs es) where
+module _ (fs : List Fork) (es : List LemmaEntry) (bound : AreBound fs) (two : EachTwo IsOf fs es) where
   abbrev cs : List Claim
   cs = claims fs es
 
@@ -158,16 +158,16 @@ module _ (fs : List Fork) (es : List Entry) (bound : AreBound fs) (two : EachTwo
   pub ordered : AreEntries (map plain es)
   ordered = rw (← claims-entries fs es two) claims_ordered
 
-  derived : (f : Fork) (e : Entry) → IsIn (claim f e) cs → IsFate (map plain es) e.label Proved → IsDerivableAlone f.content f.prop
+  derived : (f : Fork) (e : LemmaEntry) → IsIn (claim f e) cs → IsFate (map plain es) e.label Proved → IsDerivableAlone f.content f.prop
   derived f e m fate = proved_is_derivable cs claims_ordered shown grounded (claim f e) m (rw (claims-entries fs es two) fate)
 
-  each_derived : (gs : List Fork) (ds : List Entry) → ((c : Claim) → IsIn c (claims gs ds) → IsIn c cs) → EachTwo IsOf gs ds
-      → EachTwo (λ (f : Fork) (e : Entry). IsFate (map plain es) e.label Proved → IsDerivableAlone f.content f.prop) gs ds
+  each_derived : (gs : List Fork) (ds : List LemmaEntry) → ((c : Claim) → IsIn c (claims gs ds) → IsIn c cs) → EachTwo IsOf gs ds
+      → EachTwo (λ (f : Fork) (e : LemmaEntry). IsFate (map plain es) e.label Proved → IsDerivableAlone f.content f.prop) gs ds
   each_derived [] [] inside h = tt
   each_derived [] (d ∷ ds) inside h = absurd h
   each_derived (g ∷ gs) [] inside h = absurd h
   each_derived (g ∷ gs) (d ∷ ds) inside h = (derived g d (inside (claim g d) (inl refl)), each_derived gs ds (λ c m. inside c (inr m)) h.1)
 
   -- what is proved is derivable, of each lemma
-  pub proved_are_derivable : EachTwo (λ (f : Fork) (e : Entry). IsFate (map plain es) e.label Proved → IsDerivableAlone f.content f.prop) fs es
+  pub proved_are_derivable : EachTwo (λ (f : Fork) (e : LemmaEntry). IsFate (map plain es) e.label Proved → IsDerivableAlone f.content f.prop) fs es
   proved_are_derivable = each_derived fs es (λ c m. m) two

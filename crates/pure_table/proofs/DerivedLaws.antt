@@ -25,7 +25,7 @@ use Rattle.pure_theory_run.specs.Method.Outcome.{IsProvable}
 use Rattle.pure_theory_run.proofs.Method.ReadyLaws.{unify_content, no-schematic}
 use Rattle.pure_theory_run.proofs.Method.SoundLaws.{proved-derivable}
 use Rattle.pure_theory_run.proofs.Method.FaultLaws.{rests-promised}
-use Rattle.pure_promise.specs.Entries.{Entry, plain}
+use Rattle.pure_promise.specs.Entries.{LemmaEntry, plain}
 use Rattle.pure_promise.specs.Rows.{IsRowOf}
 use Rattle.pure_promise.proofs.FateLaws.{proved_row}
 use Rattle.pure_theory_run.specs.SessionLaws.Loaded.{IsLoadedSession}
@@ -82,7 +82,7 @@ module _ (texts : List (List ℕ)) (theories : List Loaded) (loaded : IsLoadedSe
         promised = rests-promised texts f.content f.fixed f.script rests proof;
       }
 
-  entry-of : (cancelled : List Label) (f : Fork) (e : Entry) → IsSomeFork texts theories f → IsEntryOf texts cancelled f e → IsOf f e
+  entry-of : (cancelled : List Label) (f : Fork) (e : LemmaEntry) → IsSomeFork texts theories f → IsEntryOf texts cancelled f e → IsOf f e
   entry-of cancelled f e some is = record {
     label = is.label;
     shown = λ rests own. shown_by f some rests (subst (IsOwn texts cancelled f) own is.own).1;
@@ -110,10 +110,10 @@ module _ (texts : List (List ℕ)) (theories : List Loaded) (loaded : IsLoadedSe
     pub bound : AreBound (forks_of notes)
     bound = record { ascend = labels_ascend texts theories loaded notes statements; promises = earlier }
 
-    entries_of : (cancelled : List Label) (es : List Entry) → AreEntriesOf texts cancelled notes es → EachTwo IsOf (forks_of notes) es
+    entries_of : (cancelled : List Label) (es : List LemmaEntry) → AreEntriesOf texts cancelled notes es → EachTwo IsOf (forks_of notes) es
     entries_of cancelled es h = two_from (IsEntryOf texts cancelled) IsOf (IsSomeFork texts theories) (λ f e some is. entry-of cancelled f e some is) (forks_of notes) es some_fork h
 
-    pub has_fates : (cancelled : List Label) (es : List Entry) → AreEntriesOf texts cancelled notes es → AreEntries (map plain es)
+    pub has_fates : (cancelled : List Label) (es : List LemmaEntry) → AreEntriesOf texts cancelled notes es → AreEntries (map plain es)
     has_fates cancelled es h = ordered (forks_of notes) es bound (entries_of cancelled es h)
 
 pub lemmas_provable : LemmasProvable
@@ -128,7 +128,7 @@ table_is_derived S loaded cancelled t table =
     let two = entries_of S.names S.theories loaded t.notes table.statements cancelled t.entries table.entries in
     let b = bound S.names S.theories loaded t.notes table.statements in
     two_through
-    (λ (f : Fork) (e : Entry). IsFate (map plain t.entries) e.label fates.Proved → IsDerivableAlone f.content f.prop)
+    (λ (f : Fork) (e : LemmaEntry). IsFate (map plain t.entries) e.label fates.Proved → IsDerivableAlone f.content f.prop)
     (IsRowOf S.names t.entries)
     (λ (f : Fork) (row : Row). row.status ≡ status.Proved → IsDerivableAlone f.content f.prop)
     (λ f e row derived is proved. derived ((proved_row S.names t.entries (ordered (forks_of t.notes) t.entries b two) e row is).0 proved))

@@ -10,7 +10,7 @@ use Rattle.pure_print.specs.declared.row.Row.{Row}
 use Rattle.pure_theory_run.specs.Declare.Notes.{Fork, Note}
 use Rattle.pure_theory_run.specs.Method.Proof.{ProofOutcome, IsProof}
 use Rattle.pure_theory_run.proofs.Method.OnceLaws.{proof-once}
-use Rattle.pure_promise.specs.Entries.{Entry, plain}
+use Rattle.pure_promise.specs.Entries.{LemmaEntry, plain}
 use Rattle.pure_promise.specs.Rows.{IsRowOf, AreRowsOf}
 use Rattle.pure_promise.specs.RowText.{fate_row}
 use Rattle.pure_theory_run.specs.SessionLaws.Loaded.{IsLoadedSession}
@@ -36,10 +36,10 @@ same_lists P R once (a ∷ xs) (b ∷ ys) (c ∷ zs) each h k =
     λ i. first i ∷ rest i
 
 pub same_entry : (l m : Label) (x y : ℕ) (A B : Term) (o p : Option ProofOutcome) → l ≡ m → x ≡ y → A ≡ B → o ≡ p
-    → ◌≡◌ {A = Entry} (record { label = l; name = x; prop = A; own = o }) (record { label = m; name = y; prop = B; own = p })
+    → ◌≡◌ {A = LemmaEntry} (record { label = l; name = x; prop = A; own = o }) (record { label = m; name = y; prop = B; own = p })
 same_entry l m x y A B o p a b c d = λ i. record { label = a i; name = b i; prop = c i; own = d i }
 
-same_table : (n m : List Note) (es ds : List Entry) (rs ss : List Row) → n ≡ m → es ≡ ds → rs ≡ ss
+same_table : (n m : List Note) (es ds : List LemmaEntry) (rs ss : List Row) → n ≡ m → es ≡ ds → rs ≡ ss
     → ◌≡◌ {A = Table} (record { notes = n; entries = es; lemmas = rs }) (record { notes = m; entries = ds; lemmas = ss })
 same_table n m es ds rs ss a b c = λ i. record { notes = a i; entries = b i; lemmas = c i }
 
@@ -56,15 +56,15 @@ module _ (texts : List (List ℕ)) (theories : List Loaded) (loaded : IsLoadedSe
   own_once cancelled f some (Some o) None h k = absurd (h.0 k)
   own_once cancelled f some (Some o) (Some p) h k = ap Some (proof_once f some o p h.1 k.1)
 
-  entry_once : (cancelled : List Label) (f : Fork) (d e : Entry) → IsSomeFork texts theories f → IsEntryOf texts cancelled f d → IsEntryOf texts cancelled f e → d ≡ e
+  entry_once : (cancelled : List Label) (f : Fork) (d e : LemmaEntry) → IsSomeFork texts theories f → IsEntryOf texts cancelled f d → IsEntryOf texts cancelled f e → d ≡ e
   entry_once cancelled f d e some h k =
       same_entry d.label e.label d.name e.name d.prop e.prop d.own e.own (h.label ∙ sym k.label) (h.name ∙ sym k.name) (h.prop ∙ sym k.prop) (own_once cancelled f some d.own e.own h.own k.own)
 
 -- each lemma has one row at most
-row_once : (texts : List (List ℕ)) (es : List Entry) → AreEntries (map plain es) → (e : Entry) (r s : Row) → IsRowOf texts es e r → IsRowOf texts es e s → r ≡ s
+row_once : (texts : List (List ℕ)) (es : List LemmaEntry) → AreEntries (map plain es) → (e : LemmaEntry) (r s : Row) → IsRowOf texts es e r → IsRowOf texts es e s → r ≡ s
 row_once texts es entries e r s h k = h.2 ∙ ap (fate_row texts es e) (one_fate (map plain es) entries e.label h.0 k.0 h.1 k.1) ∙ sym k.2
 
-rows_once : (texts : List (List ℕ)) (es : List Entry) → AreEntries (map plain es) → (rs ss : List Row) → AreRowsOf texts es rs → AreRowsOf texts es ss → rs ≡ ss
+rows_once : (texts : List (List ℕ)) (es : List LemmaEntry) → AreEntries (map plain es) → (rs ss : List Row) → AreRowsOf texts es rs → AreRowsOf texts es ss → rs ≡ ss
 rows_once texts es entries rs ss h k = same_lists (λ e. Unit {0}) (IsRowOf texts es) (λ e r s all. row_once texts es entries e r s) es rs ss (λ e m. tt) h k
 
 pub table_once : TableOnce

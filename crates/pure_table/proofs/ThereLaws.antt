@@ -8,7 +8,7 @@ use Rattle.pure_graph.specs.Order.{Loaded}
 use Rattle.pure_theory_run.specs.Declare.Notes.{Fork}
 use Rattle.pure_lookup.proofs.MeantLaws.{found_somehow}
 use Rattle.pure_promise_fates.proofs.ThereLaws.{among_or_not, some_fate}
-use Rattle.pure_promise.specs.Entries.{Entry, plain}
+use Rattle.pure_promise.specs.Entries.{LemmaEntry, plain}
 use Rattle.pure_promise.specs.Rows.{IsRowOf}
 use Rattle.pure_promise.specs.RowText.{fate_row}
 use Rattle.pure_theory_run.proofs.Method.ReadyLaws.{ready, ready-fact, no-schematic}
@@ -37,7 +37,7 @@ beside R [] f = ([], tt)
 beside R (x ∷ xs) f = (let one = f x (inl refl) in let rest = beside R xs (λ y m. f y (inr m)) in (one.0 ∷ rest.0, (one.1, rest.1)))
 
 module _ (texts : List (List ℕ)) (theories : List Loaded) (loaded : IsLoadedSession texts theories) (cancelled : List Label) where
-  entry_there : (f : Fork) → IsSomeFork texts theories f → (e : Entry) × IsEntryOf texts cancelled f e
+  entry_there : (f : Fork) → IsSomeFork texts theories f → (e : LemmaEntry) × IsEntryOf texts cancelled f e
   entry_there f some = elim (among_or_not f.label cancelled) [
     | inl gone ↦ (record { label = f.label; name = f.name; prop = f.prop; own = None }, record { label = refl; name = refl; prop = refl; own = gone })
     | inr stays ↦ (let w = proofs_have_values texts theories loaded f some in

@@ -5,7 +5,7 @@ use Rattle.pure_definitions.specs.Names.{Label}
 use Rattle.pure_graph.specs.Order.{Loaded}
 use Rattle.pure_graph.specs.Session.{Session, shown}
 use Rattle.pure_promise_fates.specs.Entries.{AreEntries}
-use Rattle.pure_promise.specs.Entries.{Entry, plain}
+use Rattle.pure_promise.specs.Entries.{LemmaEntry, plain}
 use Rattle.pure_theory_run.specs.Declare.Notes.{Fork, Note}
 use Rattle.pure_theory_run.specs.Method.Outcome.{IsProvable}
 use Rattle.pure_theory_run.specs.SessionMeaning.Statements.{forks_of, AreStatements}
@@ -31,7 +31,7 @@ LemmasProvable = (S : Session) → IsLoadedSession S.names S.theories → (notes
 
 -- The entries of a session's lemmas are in order, and proofs rest on earlier ones alone; so each has a fate.
 abbrev pub TableHasFates : Type 0
-TableHasFates = (S : Session) → IsLoadedSession S.names S.theories → (cancelled : List Label) (notes : List Note) (entries : List Entry)
+TableHasFates = (S : Session) → IsLoadedSession S.names S.theories → (cancelled : List Label) (notes : List Note) (entries : List LemmaEntry)
     → AreStatements S.names S.theories notes → AreEntriesOf S.names cancelled notes entries → AreEntries (map plain entries)
 
 -- What is printed as proved is derivable.

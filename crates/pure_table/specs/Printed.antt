@@ -4,7 +4,7 @@ use Rattle.std.specs.List.{flat_map}
 use Rattle.pure_definitions.specs.Names.{Label}
 use Rattle.pure_graph.specs.Session.{Session, Shown, shown}
 use Rattle.pure_print.specs.declared.row.Row.{Row}
-use Rattle.pure_promise.specs.Entries.{Entry}
+use Rattle.pure_promise.specs.Entries.{LemmaEntry}
 use Rattle.pure_theory_run.specs.SessionMeaning.Verdicts.{Verdict}
 use Rattle.pure_theory_run.specs.SessionMeaning.Statements.{notes_of, AreVerdicts}
 use Rattle.pure_theory_run.specs.Outline.{Outline, outline}
@@ -14,7 +14,7 @@ use Rattle.pure_table.specs.Table.{Table, AreEntriesOf, IsTable, table_rows}
 pub record Parts : Type 0 where
   pub texts : List (List ℕ)
   pub values : List Outline
-  pub entries : List Entry
+  pub entries : List LemmaEntry
   pub refused : List Shown
 
 -- They are those of the session, where the lemmas with these labels are cancelled.
@@ -28,5 +28,5 @@ pub record ArePartsOf (S : Session) (cancelled : List Label) (p : Parts) : Type 
   pub refused : p.refused ≡ map shown S.refused
 
 -- They are the rows of the table to which the session comes, with these entries of its lemmas.
-abbrev pub AreTableRows : Session → (cancelled : List Label) → List Entry → List Row → Type 0
+abbrev pub AreTableRows : Session → (cancelled : List Label) → List LemmaEntry → List Row → Type 0
 AreTableRows S cancelled entries rows = (t : Table) × IsTable S cancelled t × (t.entries ≡ entries) × (rows ≡ table_rows S t)

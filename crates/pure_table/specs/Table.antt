@@ -9,7 +9,7 @@ use Rattle.pure_print.specs.declared.row.RowStatus.TheVariants.{Proved}
 use Rattle.pure_print.specs.RowText.{table_text}
 use Rattle.pure_theory_run.specs.Declare.Notes.{Fork, Note, Said, Forked}
 use Rattle.pure_theory_run.specs.Method.Proof.{ProofOutcome, IsProof}
-use Rattle.pure_promise.specs.Entries.{Entry}
+use Rattle.pure_promise.specs.Entries.{LemmaEntry}
 use Rattle.pure_promise.specs.Rows.{AreRowsOf}
 use Rattle.pure_theory_run.specs.SessionMeaning.Verdicts.{refused_theory}
 use Rattle.pure_theory_run.specs.SessionMeaning.Statements.{forks_of, AreStatements}
@@ -17,7 +17,7 @@ use Rattle.pure_theory_run.specs.SessionMeaning.Statements.{forks_of, AreStateme
 -- what a session comes to: the notes of its theories, an entry for each lemma, and the lemmas' rows
 pub record Table : Type 0 where
   pub notes : List Note
-  pub entries : List Entry
+  pub entries : List LemmaEntry
   pub lemmas : List Row
 
 -- What became of the lemma: it is cancelled where its label is among these; else this is what its proof comes to.
@@ -26,14 +26,14 @@ IsOwn texts cancelled f None = IsIn f.label cancelled
 IsOwn texts cancelled f (Some outcome) = (¬ IsIn f.label cancelled) × IsProof texts f.content f.fixed f.script outcome
 
 -- The entry is that of the lemma.
-pub record IsEntryOf (texts : List (List ℕ)) (cancelled : List Label) (f : Fork) (e : Entry) : Type 0 where
+pub record IsEntryOf (texts : List (List ℕ)) (cancelled : List Label) (f : Fork) (e : LemmaEntry) : Type 0 where
   pub label : e.label ≡ f.label
   pub name : e.name ≡ f.name
   pub prop : e.prop ≡ f.prop
   pub own : IsOwn texts cancelled f e.own
 
 -- Each lemma that is bound has its entry, in order.
-abbrev pub AreEntriesOf : (texts : List (List ℕ)) → (cancelled : List Label) → List Note → List Entry → Type 0
+abbrev pub AreEntriesOf : (texts : List (List ℕ)) → (cancelled : List Label) → List Note → List LemmaEntry → Type 0
 AreEntriesOf texts cancelled notes entries = EachTwo (IsEntryOf texts cancelled) (forks_of notes) entries
 
 -- The session comes to this, where the lemmas with these labels are cancelled: its statements leave the notes, each lemma that is bound has its entry, and each entry its row.

@@ -8,7 +8,7 @@ use Rattle.pure_graph.specs.Session.{shown}
 use Rattle.pure_print.specs.declared.row.Row.{Row}
 use Rattle.pure_table.specs.Declare.Notes.{Fork, Note, Said, Forked}
 use Rattle.pure_table.specs.Method.Proof.{ProofOutcome}
-use Rattle.pure_table.specs.Promise.Entries.{Entry}
+use Rattle.pure_table.specs.Promise.Entries.{LemmaEntry}
 use Rattle.pure_table.specs.SessionLaws.Loaded.{IsLoadedSession}
 use Rattle.pure_table.specs.SessionMeaning.Statements.{forks_of}
 use Rattle.pure_table.specs.SessionMeaning.Laws.{IsSomeFork}
@@ -37,7 +37,7 @@ module _ (texts : List (List ℕ)) (theories : List Loaded) (loaded : IsLoadedSe
     own_kept f some (Some o) None h k tried = absurd (h.0 (within f.label k))
     own_kept f some (Some o) (Some p) h k tried = ap Some (proof_once texts theories loaded f some o p h.1 k.1)
 
-    entry_kept : (f : Fork) (e d : Entry) → IsSomeFork texts theories f → IsEntryOf texts cancelled f e → IsEntryOf texts fewer f d → IsKept e d
+    entry_kept : (f : Fork) (e d : LemmaEntry) → IsSomeFork texts theories f → IsEntryOf texts cancelled f e → IsEntryOf texts fewer f d → IsKept e d
     entry_kept f e d some h k tried =
         same_entry e.label d.label e.name d.name e.prop d.prop e.own d.own (h.label ∙ sym k.label) (h.name ∙ sym k.name) (h.prop ∙ sym k.prop) (own_kept f some e.own d.own h.own k.own tried)
 
