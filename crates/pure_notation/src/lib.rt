@@ -16,11 +16,13 @@
 //! `A.k/1 A.k/1 A.k/1 T`.
 #![tactic(auto)]
 
+mod fault;
 mod names;
 mod reader;
 mod terms;
 mod types;
 mod words;
 
+pub use fault::NotationFault;
 pub use names::session;
 pub use reader::{Parts, read, read_term, read_typ};

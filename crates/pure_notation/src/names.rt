@@ -1,10 +1,10 @@
 //! The names of the notation.
 ghost use Rattle.std.specs.Prelude.{◌≡◌, IfOk, map};
 
+use crate::fault::NotationFault;
 use crate::words::number;
 use pure_typ::{Name, Names, Text};
 use std::alloc::{AllocError, Global};
-use std::test::Fail;
 
 /// The texts of the names by their numbers, Pure's own first and the others in byte order; and how many arguments of type
 /// `i` the constant or variable of that name takes to give one of type `i`.
@@ -63,7 +63,7 @@ pub fn session(alloc: Global) -> Result<Names, AllocError> {
 }
 
 /// The name with the text, or a number above the table.
-pub(crate) fn name(text: &[u8]) -> Result<Name, Fail> {
+pub(crate) fn name(text: &[u8]) -> Result<Name, NotationFault> {
     if let [b'#', digits @ ..] = text {
         return Ok(Name(number(digits).saturating_add(NAMES.len() as u32)));
     }
@@ -72,7 +72,7 @@ pub(crate) fn name(text: &[u8]) -> Result<Name, Fail> {
             return Ok(Name(place as u32));
         }
     }
-    Err("no such name".into())
+    Err(NotationFault::UnknownName)
 }
 
 /// How many arguments the constant or variable of that name takes.

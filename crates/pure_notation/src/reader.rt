@@ -1,10 +1,10 @@
 //! Texts of words.
+use crate::fault::NotationFault;
 use crate::terms::{pop as pop_term, term_of_word};
 use crate::types::{pop as pop_typ, typ_of_word};
 use pure_term::Term;
 use pure_typ::Typ;
 use std::alloc::Global;
-use std::test::Fail;
 
 /// The types and the terms of a text that no operator takes, in their order.
 #[derive(Drop)]
@@ -14,7 +14,7 @@ pub struct Parts {
 }
 
 /// The types and the terms of a text. A text that isn't in the notation is a failure, as is want of memory.
-pub fn read(alloc: Global, text: &[u8]) -> Result<Parts, Fail> {
+pub fn read(alloc: Global, text: &[u8]) -> Result<Parts, NotationFault> {
     let mut found = Parts {
         typs: Vec::new(alloc),
         terms: Vec::new(alloc),
@@ -38,21 +38,21 @@ pub fn read(alloc: Global, text: &[u8]) -> Result<Parts, Fail> {
 }
 
 /// The type that the text writes, which is a failure where it writes more, or none.
-pub fn read_typ(alloc: Global, text: &[u8]) -> Result<Typ, Fail> {
+pub fn read_typ(alloc: Global, text: &[u8]) -> Result<Typ, NotationFault> {
     let mut found = read(alloc, text)?;
     let typ = pop_typ(&mut found.typs)?;
     if !found.typs.is_empty() || !found.terms.is_empty() {
-        return Err("more than a type".into());
+        return Err(NotationFault::TooMany);
     }
     Ok(typ)
 }
 
 /// The term that the text writes, which is a failure where it writes more, or none.
-pub fn read_term(alloc: Global, text: &[u8]) -> Result<Term, Fail> {
+pub fn read_term(alloc: Global, text: &[u8]) -> Result<Term, NotationFault> {
     let mut found = read(alloc, text)?;
     let term = pop_term(&mut found.terms)?;
     if !found.typs.is_empty() || !found.terms.is_empty() {
-        return Err("more than a term".into());
+        return Err(NotationFault::TooMany);
     }
     Ok(term)
 }
@@ -69,7 +69,7 @@ fn makes_typ(word: &[u8]) -> bool {
 }
 
 /// Reads a word, with what it takes of what was read before.
-fn read_word(alloc: Global, found: &mut Parts, word: &[u8]) -> Result<(), Fail> {
+fn read_word(alloc: Global, found: &mut Parts, word: &[u8]) -> Result<(), NotationFault> {
     if makes_typ(word) {
         let typ = typ_of_word(alloc, &mut found.typs, word)?;
         found.typs.push(typ)?;

@@ -1,11 +1,11 @@
 //! Terms.
+use crate::fault::NotationFault;
 use crate::names::{argument_count, name};
 use crate::types::{base, functions, pop as pop_typ};
 use crate::words::{cut, number, repetition};
 use pure_term::{Term, TermNode};
 use pure_typ::Typ;
 use std::alloc::{AllocError, Global};
-use std::test::Fail;
 
 /// The bound variable with this number.
 fn bound(place: u32) -> Term {
@@ -60,7 +60,7 @@ fn doubled(alloc: Global, function: &Term, argument: Term, times: u32) -> Result
 }
 
 /// The type that the table gives the name.
-fn typ_of_name(alloc: Global, text: &[u8]) -> Result<Typ, Fail> {
+fn typ_of_name(alloc: Global, text: &[u8]) -> Result<Typ, NotationFault> {
     let base = base(alloc, b"i")?;
     let range = base.copy(alloc)?;
     Ok(functions(alloc, argument_count(text), &base, range)?)
@@ -72,7 +72,7 @@ fn typ_of_leaf(
     typs: &mut Vec<Typ>,
     is_given: bool,
     text: &[u8],
-) -> Result<Typ, Fail> {
+) -> Result<Typ, NotationFault> {
     if is_given {
         pop_typ(typs)
     } else {
@@ -81,8 +81,8 @@ fn typ_of_leaf(
 }
 
 /// The last of the terms that were read.
-pub(crate) fn pop(terms: &mut Vec<Term>) -> Result<Term, Fail> {
-    Ok(terms.pop().ok_or("too few terms")?)
+pub(crate) fn pop(terms: &mut Vec<Term>) -> Result<Term, NotationFault> {
+    Ok(terms.pop().ok_or(NotationFault::TooFewTerms)?)
 }
 
 /// The function applied to the term, or to it twice, so often.
@@ -106,7 +106,7 @@ fn abstracted(
     typs: &mut Vec<Typ>,
     terms: &mut Vec<Term>,
     word: &[u8],
-) -> Result<Term, Fail> {
+) -> Result<Term, NotationFault> {
     let (operator, times) = cut(word, b'*');
     let typ = typ_of_leaf(alloc, typs, operator.len() == 2, b"i")?;
     let body = pop(terms)?;
@@ -114,7 +114,11 @@ fn abstracted(
 }
 
 /// The application of the last of the terms to the one before, or to it twice, as often as the word says.
-fn application_of_word(alloc: Global, terms: &mut Vec<Term>, word: &[u8]) -> Result<Term, Fail> {
+fn application_of_word(
+    alloc: Global,
+    terms: &mut Vec<Term>,
+    word: &[u8],
+) -> Result<Term, NotationFault> {
     let (operator, times) = cut(word, b'*');
     let function = pop(terms)?;
     let argument = pop(terms)?;
@@ -123,7 +127,7 @@ fn application_of_word(alloc: Global, terms: &mut Vec<Term>, word: &[u8]) -> Res
 }
 
 /// The constant, the fixed or the schematic variable of the word behind its mark.
-fn leaf(alloc: Global, typs: &mut Vec<Typ>, mark: u8, word: &[u8]) -> Result<Term, Fail> {
+fn leaf(alloc: Global, typs: &mut Vec<Typ>, mark: u8, word: &[u8]) -> Result<Term, NotationFault> {
     let (variable, _) = cut(word, b':');
     let (text, index) = cut(variable, b'^');
     let name = name(text)?;
@@ -143,9 +147,9 @@ pub(crate) fn term_of_word(
     typs: &mut Vec<Typ>,
     terms: &mut Vec<Term>,
     word: &[u8],
-) -> Result<Term, Fail> {
+) -> Result<Term, NotationFault> {
     let Some((mark, rest)) = word.split_first() else {
-        return Err("no word".into());
+        return Err(NotationFault::NoWord);
     };
     match *mark {
         b'%' => abstracted(alloc, typs, terms, word),

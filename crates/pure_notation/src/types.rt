@@ -1,12 +1,12 @@
 //! Types.
+use crate::fault::NotationFault;
 use crate::names::name;
 use crate::words::{cut, number, repetition};
 use pure_typ::{Name, Sort, Typ, TypNode};
 use std::alloc::{AllocError, Global};
-use std::test::Fail;
 
 /// The constructor of this text without arguments.
-pub(crate) fn base(alloc: Global, text: &[u8]) -> Result<Typ, Fail> {
+pub(crate) fn base(alloc: Global, text: &[u8]) -> Result<Typ, NotationFault> {
     let name = name(text)?;
     let args = Vec::new(alloc);
     Ok(Typ {
@@ -29,7 +29,7 @@ pub(crate) fn functions(
 }
 
 /// The sort of the classes behind a colon, at most two.
-fn sort(alloc: Global, classes: &[u8]) -> Result<Sort, Fail> {
+fn sort(alloc: Global, classes: &[u8]) -> Result<Sort, NotationFault> {
     if classes.is_empty() {
         return Ok(Sort::make(Vec::new(alloc)));
     }
@@ -40,13 +40,13 @@ fn sort(alloc: Global, classes: &[u8]) -> Result<Sort, Fail> {
     }
     let upper = name(second)?;
     if lower.0 >= upper.0 {
-        return Err("the classes don't ascend".into());
+        return Err(NotationFault::ClassOrder);
     }
     Ok(Sort::make(vec![in alloc; lower, upper]?))
 }
 
 /// The fixed type variable of the word behind its mark.
-fn fixed(alloc: Global, word: &[u8]) -> Result<Typ, Fail> {
+fn fixed(alloc: Global, word: &[u8]) -> Result<Typ, NotationFault> {
     let (text, classes) = cut(word, b':');
     let name = name(text)?;
     let sort = sort(alloc, classes)?;
@@ -56,7 +56,7 @@ fn fixed(alloc: Global, word: &[u8]) -> Result<Typ, Fail> {
 }
 
 /// The schematic type variable of the word.
-fn schematic(alloc: Global, word: &[u8]) -> Result<Typ, Fail> {
+fn schematic(alloc: Global, word: &[u8]) -> Result<Typ, NotationFault> {
     let (_, rest) = cut(word, b'\'');
     let (variable, classes) = cut(rest, b':');
     let (text, index) = cut(variable, b'^');
@@ -69,12 +69,12 @@ fn schematic(alloc: Global, word: &[u8]) -> Result<Typ, Fail> {
 }
 
 /// The last of the types that were read.
-pub(crate) fn pop(typs: &mut Vec<Typ>) -> Result<Typ, Fail> {
-    Ok(typs.pop().ok_or("too few types")?)
+pub(crate) fn pop(typs: &mut Vec<Typ>) -> Result<Typ, NotationFault> {
+    Ok(typs.pop().ok_or(NotationFault::TooFewTypes)?)
 }
 
 /// So many of the types that were read.
-fn pop_many(alloc: Global, typs: &mut Vec<Typ>, count: u32) -> Result<Vec<Typ>, Fail> {
+fn pop_many(alloc: Global, typs: &mut Vec<Typ>, count: u32) -> Result<Vec<Typ>, NotationFault> {
     let mut args = Vec::new(alloc);
     for _ in 0..count {
         args.push(pop(typs)?)?;
@@ -104,14 +104,19 @@ fn put_round(alloc: Global, name: Name, inside: Typ, times: u32) -> Result<Typ, 
 }
 
 /// The constructor put round the last of the types so often.
-fn nested(alloc: Global, typs: &mut Vec<Typ>, text: &[u8], times: u32) -> Result<Typ, Fail> {
+fn nested(
+    alloc: Global,
+    typs: &mut Vec<Typ>,
+    text: &[u8],
+    times: u32,
+) -> Result<Typ, NotationFault> {
     let name = name(text)?;
     let inside = pop(typs)?;
     Ok(put_round(alloc, name, inside, times)?)
 }
 
 /// The arguments of a constructor: so many copies of the last of the types behind a second stroke, and else so many types.
-fn arguments(alloc: Global, typs: &mut Vec<Typ>, count: &[u8]) -> Result<Vec<Typ>, Fail> {
+fn arguments(alloc: Global, typs: &mut Vec<Typ>, count: &[u8]) -> Result<Vec<Typ>, NotationFault> {
     let (types, copied) = cut(count, b'/');
     if copied.is_empty() {
         return pop_many(alloc, typs, number(types));
@@ -121,7 +126,7 @@ fn arguments(alloc: Global, typs: &mut Vec<Typ>, count: &[u8]) -> Result<Vec<Typ
 }
 
 /// The constructor of the word, with its arguments from the types that were read.
-fn constructed(alloc: Global, typs: &mut Vec<Typ>, word: &[u8]) -> Result<Typ, Fail> {
+fn constructed(alloc: Global, typs: &mut Vec<Typ>, word: &[u8]) -> Result<Typ, NotationFault> {
     let (repeated, times) = cut(word, b'*');
     if !times.is_empty() {
         return nested(alloc, typs, repeated, number(times));
@@ -135,7 +140,7 @@ fn constructed(alloc: Global, typs: &mut Vec<Typ>, word: &[u8]) -> Result<Typ, F
 }
 
 /// The type of functions of the last two types, the domain taken as often as the word says.
-fn arrow(alloc: Global, typs: &mut Vec<Typ>, word: &[u8]) -> Result<Typ, Fail> {
+fn arrow(alloc: Global, typs: &mut Vec<Typ>, word: &[u8]) -> Result<Typ, NotationFault> {
     let (_, times) = cut(word, b'*');
     let domain = pop(typs)?;
     let range = pop(typs)?;
@@ -143,7 +148,11 @@ fn arrow(alloc: Global, typs: &mut Vec<Typ>, word: &[u8]) -> Result<Typ, Fail> {
 }
 
 /// The type that the word makes of the types that were read.
-pub(crate) fn typ_of_word(alloc: Global, typs: &mut Vec<Typ>, word: &[u8]) -> Result<Typ, Fail> {
+pub(crate) fn typ_of_word(
+    alloc: Global,
+    typs: &mut Vec<Typ>,
+    word: &[u8],
+) -> Result<Typ, NotationFault> {
     match word.first() {
         Some(b'>') => arrow(alloc, typs, word),
         Some(b'\'') => fixed(alloc, &word[1..]),
