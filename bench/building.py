@@ -1,50 +1,33 @@
-"""Builds a bench's small program over copies of the crates that it stands on, and runs it."""
+"""Builds a bench's small program over the crates that it stands on, and runs it."""
 import os
 import resource
-import shutil
 import subprocess
+import sys
 
-TOP = os.path.dirname(os.path.dirname(os.path.abspath(__file__)))
+import crates
 
-
-def lines_of_crates():
-    """Each crate's own line of crates.txt, by its name."""
-    with open(os.path.join(TOP, "crates.txt")) as text:
-        lines = [line.strip() for line in text if ":" in line and not line.startswith("#")]
-    return {line.split(":")[0].split()[0]: line for line in lines}
+TOP = crates.TOP
 
 
-def below(names, lines):
-    """These crates and all that they stand on."""
-    found, open_ones = [], list(names)
-    while open_ones:
-        name = open_ones.pop()
-        if name in lines and name not in found:
-            found.append(name)
-            open_ones += lines[name].split(":")[1].split()
-    return found
-
-
-def build(folder, name, crates, files, words):
-    """Makes the crate `name` over these crates from its files, builds it by a run with these words, and answers the program's path."""
-    lines = lines_of_crates()
-    needed = below(crates, lines)
-    os.makedirs(os.path.join(folder, "crates"))
-    for crate in needed:
-        shutil.copytree(os.path.join(TOP, "crates", crate), os.path.join(folder, "crates", crate), symlinks=True)
-    with open(os.path.join(folder, "crates.txt"), "w") as out:
-        out.write("\n".join([lines[crate] for crate in needed] + [f"{name}: {' '.join(sorted(needed))}"]) + "\n")
-    shutil.copy(os.path.join(TOP, "HANDLES"), folder)
-    home = os.path.join(folder, "crates", name)
+def build(folder, name, libraries, files, words):
+    """Makes the crate `name` over these libraries and all below from its files, runs it once with these words, and answers the program's path."""
+    if subprocess.run([sys.executable, "-B", os.path.join(TOP, "bench", "build.py"), *libraries], stdin=subprocess.DEVNULL).returncode:
+        raise SystemExit(1)
+    home = crates.home(name, folder)
+    os.makedirs(os.path.join(home, "out"))
     for path, text in files.items():
         path = os.path.join(home, path)
         os.makedirs(os.path.dirname(path), exist_ok=True)
         with open(path, "w") as out:
             out.write(text)
-    done = subprocess.run(["rt", "run", "--", *words], cwd=home, stdout=subprocess.PIPE, stderr=subprocess.STDOUT)
+    named, kit = crates.crates(), crates.toolchain()
+    named[name] = sorted(crates.below(libraries, named))
     program = os.path.join(home, "out", name)
-    if not os.path.exists(program):
-        raise SystemExit(done.stdout.decode()[-4000:])
+    proved = [f"{kit}/bin/rattle", "build", *crates.words(kit, name, named, "src/main.rt"), "--jobs", str(crates.lanes()), *crates.program_words(kit, name)]
+    for command in (proved, crates.link_words(kit, name), [program, *words]):
+        done = subprocess.run(command, cwd=home, stdin=subprocess.DEVNULL, stdout=subprocess.PIPE, stderr=subprocess.STDOUT)
+        if done.returncode and command[0] != program:
+            raise SystemExit(done.stdout.decode()[-4000:])
     return program
 
 
