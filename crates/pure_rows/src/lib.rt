@@ -5,10 +5,19 @@
 #![tactic(auto)]
 
 mod escapes;
+mod fault;
+mod glossary;
+mod outcome;
+mod parts;
 mod row;
+mod run;
 mod short;
 mod tally;
 
+pub use fault::Fault;
+pub use glossary::{Glossary, read_glossary};
+pub use outcome::Outcome;
 pub use row::{Row, number_of, read_row};
+pub use run::{Subject, hold_rows, read_file, run_rows};
 pub use short::text_of;
-pub use tally::{Outcome, Subject, Tally, read_file, run_rows};
+pub use tally::Tally;

@@ -1,59 +1,17 @@
-//! A file of rows, held against what they speak of, and what is printed of it.
+//! How many rows of a file were held against their subject, and how many of them don't hold.
+ghost use Rattle.std.specs.Prelude.{◌≡◌, ◌↔◌, ◌≤◌, true, false, IsTrue, IsNone, IfSome};
+ghost use Rattle.std.specs.Process.{exit_status};
+ghost use Rattle.pure_rows.specs.Fields.{IsRow};
+ghost use Rattle.pure_rows.specs.Counts as spec;
+
+use crate::outcome::Outcome;
 use crate::row::{Row, read_row};
-use std::alloc::{AllocError, Global};
-use std::fs;
+use std::alloc::Global;
+use std::marker::Model;
 use std::process::ExitCode;
 use std::rt::Files;
 
-/// What comes of a row.
-#[derive(Clone, Copy, Debug, PartialEq, Eq)]
-pub enum Outcome {
-    /// What the row says is so.
-    Holds,
-    /// It isn't.
-    Differs,
-    /// The row says nothing that the subject can read.
-    Unreadable,
-    /// There was no memory to tell.
-    Memory,
-}
-
-impl Outcome {
-    /// The outcome of a test.
-    pub fn of(holds: bool) -> Outcome {
-        if holds {
-            Outcome::Holds
-        } else {
-            Outcome::Differs
-        }
-    }
-
-    /// The outcome of a test that may want memory.
-    pub fn of_answer(answer: Result<bool, AllocError>) -> Outcome {
-        match answer {
-            Ok(holds) => Outcome::of(holds),
-            Err(_) => Outcome::Memory,
-        }
-    }
-
-    /// What is printed of the row, unless it holds.
-    fn complaint(self) -> Option<&'static str> {
-        match self {
-            Outcome::Holds => None,
-            Outcome::Differs => Some("differs"),
-            Outcome::Unreadable => Some("can't be read"),
-            Outcome::Memory => Some("out of memory"),
-        }
-    }
-}
-
-/// What rows speak of.
-pub trait Subject {
-    /// What comes of the row.
-    fn outcome<R: Files + Print + AllocGlobal>(&self, rt: &R, alloc: Global, row: &Row) -> Outcome;
-}
-
-/// How many rows of a file were held against their subject, and how many of them don't hold.
+/// The rows of a file that were held against their subject. Contracts see the counts of lines, of rows and of those that failed.
 #[derive(Drop)]
 pub struct Tally<'n> {
     file: &'n str,
@@ -62,9 +20,29 @@ pub struct Tally<'n> {
     failed: u64,
 }
 
+impl<'n> Model for Tally<'n> {
+    ghost use Rattle.pure_rows.specs.Counts.{Counts};
+
+    ghost Value = { Counts };
+
+    ghost view = { λ t. record { line = t.line; rows = t.rows; failed = t.failed } };
+}
+
+/// Whether the line is no row: it is empty or a comment.
+fn is_passed(line: &[u8]) -> bool
+    ensures { result ≡ spec.is_passed line.now }
+{
+    match line.first() {
+        Some(first) => *first == b'#',
+        None => true,
+    }
+}
+
 impl<'n> Tally<'n> {
     /// Of the file with this name, before its first line.
-    pub fn begin(file: &'n str) -> Tally<'n> {
+    pub fn begin(file: &'n str) -> Tally<'n>
+        ensures { result ≡ record { line = 0; rows = 0; failed = 0 } }
+    {
         Tally {
             file,
             line: 0,
@@ -79,9 +57,13 @@ impl<'n> Tally<'n> {
         rt: &R,
         alloc: Global,
         line: &[u8],
-    ) -> Option<Row> {
+    ) -> Option<Row>
+        ensures passed { spec.is_passed line.now ≡ true → IsNone result × (self.new ≡ spec.next_line self.old) }
+        ensures read { IfSome result (λ row. IsRow line.now row × (self.new ≡ spec.next_line self.old)) }
+        ensures unread { spec.is_passed line.now ≡ false → IsNone result → self.new ≡ spec.counted (spec.next_line self.old) Outcome.Unreadable }
+    {
         self.line = self.line.saturating_add(1);
-        if line.is_empty() || line.starts_with(b"#") {
+        if is_passed(line) {
             return None;
         }
         match read_row(alloc, line) {
@@ -93,7 +75,9 @@ impl<'n> Tally<'n> {
     }
 
     /// Counts the row of the last line; prints its line where it doesn't hold.
-    pub fn add<R: Files + Print + AllocGlobal>(&mut self, rt: &R, outcome: Outcome) {
+    pub fn add<R: Files + Print + AllocGlobal>(&mut self, rt: &R, outcome: Outcome)
+        ensures { self.new ≡ spec.counted self.old outcome }
+    {
         self.rows = self.rows.saturating_add(1);
         if let Some(complaint) = outcome.complaint() {
             self.failed = self.failed.saturating_add(1);
@@ -101,43 +85,22 @@ impl<'n> Tally<'n> {
         }
     }
 
-    /// Prints how many rows were held against their subject. Fails where one doesn't hold, or there was none.
-    pub fn end<R: Files + Print + AllocGlobal>(self, rt: &R) -> ExitCode {
-        let told = println!(rt; "{}: {} rows, {} failed", self.file, self.rows, self.failed);
-        if told.is_ok() && self.rows > 0 && self.failed == 0 {
+    /// The exit code, where the last line was printed or wasn't.
+    fn exit_code(&self, is_printed: bool) -> ExitCode
+        ensures { (exit_status result ≡ 0) ↔ (IsTrue is_printed × (1 ≤ self.now.rows) × (self.now.failed ≡ 0)) }
+    {
+        if is_printed && self.rows > 0 && self.failed == 0 {
             ExitCode::SUCCESS
         } else {
             ExitCode::FAILURE
         }
     }
-}
 
-/// The text of the file; where it can't be read, that is printed.
-pub fn read_file<R: Files + Print + AllocGlobal>(rt: &R, file: &str) -> Option<Vec<u8>> {
-    match fs::read(rt, file) {
-        Ok(text) => Some(text),
-        Err(_) => {
-            let _ = println!(rt; "{file}: can't be read");
-            None
-        }
+    /// Prints how many rows were held against their subject. Fails where one doesn't hold, or there was none.
+    pub fn end<R: Files + Print + AllocGlobal>(self, rt: &R) -> ExitCode
+        ensures { exit_status result ≡ 0 → (1 ≤ self.entry.rows) × (self.entry.failed ≡ 0) }
+    {
+        let told = println!(rt; "{}: {} rows, {} failed", self.file, self.rows, self.failed);
+        self.exit_code(told.is_ok())
     }
-}
-
-/// Holds each row of the file against the subject. Fails where one doesn't hold, where there is none, or the file can't be read.
-pub fn run_rows<R: Files + Print + AllocGlobal, S: Subject>(
-    rt: &R,
-    file: &str,
-    subject: &S,
-) -> ExitCode {
-    let alloc = rt.alloc();
-    let Some(text) = read_file(rt, file) else {
-        return ExitCode::FAILURE;
-    };
-    let mut tally = Tally::begin(file);
-    for line in text.split(|byte| *byte == b'\n') {
-        if let Some(row) = tally.next_row(rt, alloc, line) {
-            tally.add(rt, subject.outcome(rt, alloc, &row));
-        }
-    }
-    tally.end(rt)
 }
