@@ -1,8 +1,8 @@
 //! The call that certifies a term against its answers, by hand from the rules.
 use crate::listed::Listed;
 use pure_certify::{CertFault, certify};
-use pure_notation::{read_term, read_typ};
 use pure_order::{Order, OrderFault};
+use pure_test_notation::{read_term, read_typ};
 use pure_typ::{Name, Sort, Typ};
 use std::alloc::{AllocError, Global};
 use std::test::Fail;

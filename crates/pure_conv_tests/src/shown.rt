@@ -3,8 +3,8 @@ ghost use Rattle.std.specs.Prelude.{IfOk};
 ghost use Rattle.pure_theorem.specs.Sets.{IsTermSet, IsLabelSet};
 
 use pure_conv::ConvFault;
-use pure_notation::{read, read_term};
 use pure_term::{Label, Term};
+use pure_test_notation::{read, read_term};
 use pure_theorem::{Pair, Thm, set_of_terms, united_labels};
 use std::alloc::{AllocError, Global};
 use std::test::Fail;

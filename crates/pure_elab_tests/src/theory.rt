@@ -3,8 +3,8 @@ ghost use Rattle.std.specs.Prelude.{◌≡◌, option_map};
 ghost use Rattle.pure_elab_tests.specs.Theory.{name_among, count_among, typ_among};
 
 use pure_elab::Language;
-use pure_notation::read_typ;
 use pure_order::{Order, OrderFault};
+use pure_test_notation::read_typ;
 use pure_typ::{Name, Sort, Text, Typ};
 use std::alloc::{AllocError, Global};
 use std::test::Fail;

@@ -2,8 +2,8 @@
 //! steps to `@@*n =p =a`.
 use crate::asked::is_closed;
 use pure_norm::{NormFault, beta_norm};
-use pure_notation::read_term;
 use pure_term::Term;
+use pure_test_notation::read_term;
 use std::alloc::Global;
 use std::process::Abort;
 use std::test::Fail;

@@ -1,8 +1,8 @@
 //! Eta-normal forms and long forms, by hand from the rules.
 use crate::asked::is_normal;
 use pure_eta::{eta_norm, long_form};
-use pure_notation::read_term;
 use pure_term::{Grow, Term, depth, size, typ_of};
+use pure_test_notation::read_term;
 use std::alloc::Global;
 use std::test::Fail;
 

@@ -1,6 +1,6 @@
 //! Equality modulo pairs, by hand from the definition: places count the nodes of terms in preorder.
-use pure_notation::read_term;
 use pure_pairs::{PairDiffers, equal_modulo};
+use pure_test_notation::read_term;
 use pure_theorem::Pair;
 use std::alloc::Global;
 use std::test::Fail;

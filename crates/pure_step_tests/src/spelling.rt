@@ -6,8 +6,8 @@
 //! `^` quantifies over functions from `'a` to `'a`; 0 is then the variable, and 1 the one of the binder around it, applied to what follows, as are the functions
 //! g and k. E is a relation of two elements, R one of a function and an element, q a function of two elements. U, V and W are the second variables of facts that
 //! were used one after the other: U and W functions that are applied, V an element; Z is a first variable, applied to two parameters.
-use pure_notation::read_term;
 use pure_term::Term;
+use pure_test_notation::read_term;
 use std::alloc::{AllocError, Global};
 use std::test::Fail;
 

@@ -1,10 +1,10 @@
 //! Each call on terms against its answers, by hand from the rules, and on both sides of its limits.
 use crate::asked::{can_lift, can_put, is_variable};
-use pure_notation::{Parts, read, read_term, read_typ};
 use pure_term::{
     Grow, Term, TermBind, TermMap, TermNode, Typ, TypBind, TypMap, TypNode, TypeFault,
     abstract_over, depth, inst_term, inst_typ, lift, occurs, size, subst_bound, typ_of,
 };
+use pure_test_notation::{Parts, read, read_term, read_typ};
 use std::alloc::{AllocError, Global};
 use std::process::Abort;
 use std::test::Fail;

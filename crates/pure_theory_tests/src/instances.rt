@@ -1,9 +1,9 @@
 //! An axiom of a theory, instantiated before and after an arity is declared.
 use crate::definitions::define;
 use pure_inst::{InstFault, instantiate};
-use pure_notation::read_term;
 use pure_rules::axiom;
 use pure_term::{Name, Sort, Term, TermMap, Typ, TypBind, TypMap, TypNode};
+use pure_test_notation::read_term;
 use pure_theorem::Thm;
 use pure_theory::{DeclFault, Theory};
 use std::alloc::{AllocError, Global};

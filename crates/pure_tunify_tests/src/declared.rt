@@ -1,7 +1,7 @@
 //! Orders in the notation of types: `'d:c` is the class d below c, and `> 'c k/2 'x:d 'x` the arity of k for c whose
 //! domains are {d} and the sort without a class.
-use pure_notation::read;
 use pure_order::Order;
+use pure_test_notation::read;
 use pure_typ::{Name, Sort, Typ, TypNode};
 use std::alloc::Global;
 use std::test::Fail;

@@ -2,7 +2,7 @@
 //! next `Pure.prop`, and the index above those of the pairs.
 use crate::asked::{unifier, unifier_from};
 use crate::declared::order;
-use pure_notation::read;
+use pure_test_notation::read;
 use pure_tunify::{TypFault, TypPair};
 use pure_typ::{Typ, TypMap, TypNode};
 use std::alloc::Global;

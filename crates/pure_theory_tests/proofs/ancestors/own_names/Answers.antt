@@ -1,5 +1,5 @@
 use Rattle.std.proofs.Common.{refl, arith}
-use Rattle.pure_notation.proofs.SessionLemmas.{session-texts}
+use Rattle.pure_test_notation.proofs.SessionLemmas.{session-texts}
 use Rattle.pure_theory_tests.proofs.ancestors.own_names.Goals as goal
 
 pub make-requires : goal.make-requires

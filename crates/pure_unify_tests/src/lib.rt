@@ -1,7 +1,0 @@
-//! Unifiers of terms against answers that were written by hand.
-#![tactic(auto)]
-
-#[cfg(test)]
-mod asked;
-#[cfg(test)]
-mod rows;

@@ -1,4 +1,0 @@
-use Rattle.pure_visits_tests.proofs.asked.is_typed.Goals as goal
-
-pub returns-in-Ok : goal.returns-in-Ok
-returns-in-Ok c = (c.in-Ok.typ, c.in-Ok.ensures)
