@@ -1,7 +1,0 @@
-use Rattle.std.proofs.Common.{◌≡◌, drop}
-use Rattle.pure_elab_tests.specs.Theory.{typ_among}
-use Rattle.pure_elab_tests.proofs.theory.find_typ.Given as goal
-
--- what the rest of the table has is what the whole has
-abbrev pub invariant-loop-entry : goal.invariant-loop-entry
-invariant-loop-entry l = typ_among (drop l.entry-index l.entries) l.fn.name ≡ typ_among l.entries l.fn.name

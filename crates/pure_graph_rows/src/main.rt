@@ -1,0 +1,31 @@
+//! Holds the rows of `graph.rows` against loading: directories and the sessions that they make.
+#![tactic(auto)]
+
+mod dangling;
+mod directories;
+mod numbered;
+mod words;
+mod written;
+
+use crate::words::outcome_of;
+use pure_rows::{Outcome, Row, Subject, run_rows};
+use std::alloc::Global;
+use std::process::ExitCode;
+use std::rt::Files;
+
+/// Loading of directories.
+#[derive(Drop)]
+struct Loading;
+
+impl Subject for Loading {
+    fn outcome<R: Files + Print + AllocGlobal>(&self, rt: &R, alloc: Global, row: &Row) -> Outcome {
+        match outcome_of(rt, alloc, row) {
+            Ok(outcome) => outcome,
+            Err(_) => Outcome::Memory,
+        }
+    }
+}
+
+fn main(rt: HostRuntime) -> ExitCode {
+    run_rows(&rt, "graph.rows", &Loading)
+}

@@ -1,7 +1,0 @@
-use Rattle.std.proofs.Common.{take}
-use Rattle.pure_text.specs.Lists.{Each}
-use Rattle.pure_resolve.specs.GoalSteps.State.{IsLeftPair}
-use Rattle.pure_resolve_tests.proofs.asked.are_left.Given as goal
-
-abbrev pub invariant-loop-pair : goal.invariant-loop-pair
-invariant-loop-pair l = Each IsLeftPair (take l.pair-index l.pairs)
