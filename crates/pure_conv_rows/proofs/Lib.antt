@@ -1,2 +1,1 @@
-mod DeclaredLaws
 pub mod EquationLemmas

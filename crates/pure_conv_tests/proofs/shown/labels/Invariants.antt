@@ -1,5 +1,0 @@
-use Rattle.pure_theorem.specs.Sets.{IsLabelSet}
-use Rattle.pure_conv_tests.proofs.shown.labels.Given as goal
-
-abbrev pub invariant-loop-digit : goal.invariant-loop-digit
-invariant-loop-digit l = IsLabelSet l.set.items

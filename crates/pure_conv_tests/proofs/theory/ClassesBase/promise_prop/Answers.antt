@@ -1,5 +1,0 @@
-use Rattle.pure_conv_tests.proofs.DeclaredLaws.{no_promise}
-use Rattle.pure_conv_tests.proofs.theory.ClassesBase.promise_prop.Goals as goal
-
-pub returns : goal.returns
-returns c = λ A m. no_promise c.args.self.now.order m.0 c.args._label A m.1
