@@ -93,7 +93,7 @@ class Costs(threading.Thread):
             for name in sorted(told, key=lambda name: (-sum(told[name].values()), name)):
                 out.write(row(name, (f"{told[name][kind]:.1f}" for kind in KINDS)))
             out.write(row("all", (f"{sums[kind]:.1f}" for kind in KINDS)))
-            rest = total - self.own - sum(sums.values())
+            rest = max(total - self.own - sum(sums.values()), 0.0)
             out.write(f"{time.time() - self.began:.0f} seconds with RT_JOBS={lanes}; {total:.0f} processor seconds, {self.own:.0f} of them of rt itself and {rest:.0f} that were seen with no crate\n")
 
 

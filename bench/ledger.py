@@ -114,7 +114,7 @@ def look():
     faults += [f"bench/more_edits/ledger: there is no edit {it}" for it in ledger if it not in there]
     print("".join(f"{it}\n" for it in faults), end="")
     wait = [f"{name} {count}" for name, count in waiting.items() if count]
-    says = f"; to be tried again since their crates changed, {sum(waiting.values())}: {', '.join(wait)}" if wait else ""
+    says = f"; to be tried, since their crates changed or they are new, {sum(waiting.values())}: {', '.join(wait)}" if wait else ""
     print(f"{len(there)} edits, {len(faults)} faults{says}")
     return int(bool(faults))
 
