@@ -175,8 +175,9 @@ def main():
     for it in (signal.SIGTERM, signal.SIGHUP):
         signal.signal(it, lambda number, _: sys.exit(128 + number))
     path = os.path.join(crates.TOP, "build.log")
-    if not crates.toolchain():
-        say("there is no rt on the path")
+    unknown = [it for it in sys.argv[1:] if it not in crates.crates()]
+    if unknown or not crates.toolchain():
+        say(f"crates.txt has no crate {unknown[0]}" if unknown else "there is no rt on the path")
         return FAILED
     try:
         build = Build(sys.argv[1:])

@@ -121,7 +121,11 @@ def look():
 
 def place():
     """Prints which edits stand in the wrong place by costs.txt."""
-    rows = [line.split() for line in text_of(os.path.join(crates.TOP, "costs.txt")).splitlines()[1:-2]]
+    costs = os.path.join(crates.TOP, "costs.txt")
+    if not os.path.isfile(costs):
+        print("there is no costs.txt: ./test writes it")
+        return 1
+    rows = [line.split() for line in text_of(costs).splitlines()[1:-2]]
     for name, proof in sorted((row[0], float(row[1])) for row in rows):
         gate, more = map(len, edits_of(name))
         room = MOST if proof < DEAR else 0
