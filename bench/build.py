@@ -173,7 +173,8 @@ def lock(names):
 
 def main():
     for it in (signal.SIGTERM, signal.SIGHUP):
-        signal.signal(it, lambda number, _: sys.exit(128 + number))
+        if signal.getsignal(it) is not signal.SIG_IGN:
+            signal.signal(it, lambda number, _: sys.exit(128 + number))
     path = os.path.join(crates.TOP, "build.log")
     unknown = [it for it in sys.argv[1:] if it not in crates.crates()]
     if unknown or not crates.toolchain():
