@@ -9,3 +9,4 @@ pub mod BindLemmas
 pub mod InstanceLemmas
 pub mod NormalLemmas
 pub mod EntryLemmas
+pub mod MeasureLemmas

@@ -5,3 +5,4 @@ pub mod Bounds
 pub mod Conditions
 pub mod Typing
 pub mod Subst
+pub mod Measures

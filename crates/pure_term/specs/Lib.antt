@@ -1,4 +1,5 @@
 pub mod TermView
+pub mod TermKept
 pub mod TermFalls
 pub mod Grown
 pub mod Scope

@@ -6,10 +6,11 @@ ghost use Rattle.pure_definitions.specs.Terms.Conditions.{IsLiftable, IsPuttable
 ghost use Rattle.pure_definitions.specs.Terms.Limits.{cut_off, Leaves};
 ghost use Rattle.pure_term.specs.Grown.{IsGrown};
 
-use crate::measure::{are_same, depth, is_within, size, term_leaves};
+use crate::measure::{are_same, depth, is_within, loose_above_of, size, term_leaves};
 use crate::term::{Term, TermNode, copied};
 use pure_typ::{Grow, MAX_DEPTH, MAX_SIZE, Typ, node_leaves, typ_leaves};
 use std::alloc::{AllocError, Global};
+use std::sync::Arc;
 
 /// The term with `by` added to each loose bound variable at or above `from`.
 pub fn lift(alloc: Global, t: &Term, by: u32, from: u32) -> Result<Term, Grow>
@@ -19,34 +20,38 @@ pub fn lift(alloc: Global, t: &Term, by: u32, from: u32) -> Result<Term, Grow>
     if !is_within(t) {
         return Err(Grow::Big);
     }
-    Ok(Box::into_inner(lift_under(alloc, t, by, u64::from(from))?))
+    let t = copied(alloc, t)?;
+    let lifted = lift_under(alloc, &t, by, u64::from(from))?;
+    Ok(lifted.copy(alloc)?)
 }
 
-/// The same in a block of its own, under binders of the term.
-fn lift_under(alloc: Global, t: &Term, by: u32, from: u64) -> Result<Box<Term>, AllocError>
-    requires liftable { IsLiftable by from t.now }
-    requires shallow { from + term_depth t.now < 2 ^ 64 }
-    ensures { IfOk result (λ u. u.value ≡ lift_term by from t.now) }
+/// The same of a part, under binders of the term. A part in which nothing is loose at `from` or above is handed back as it is.
+pub fn lift_under(alloc: Global, t: &Arc<Term>, by: u32, from: u64) -> Result<Arc<Term>, AllocError>
+    requires liftable { IsLiftable by from t.now.value }
+    requires shallow { from + term_depth t.now.value < 2 ^ 64 }
+    ensures { IfOk result (λ u. u.value ≡ lift_term by from t.now.value) }
 {
-    let node = match &t.node {
+    let whole: &Term = t;
+    if loose_above_of(whole) <= from {
+        return Arc::try_clone(t);
+    }
+    match &whole.node {
         TermNode::Bound { place } => {
-            if u64::from(*place) < from {
-                TermNode::Bound { place: *place }
-            } else {
-                TermNode::Bound { place: *place + by }
-            }
+            let node = TermNode::Bound { place: *place + by };
+            Ok(Arc::new(alloc, Term { node })?)
         }
-        TermNode::Abs { typ, body } => TermNode::Abs {
-            typ: typ.copy(alloc)?,
-            body: lift_under(alloc, body, by, from + 1)?,
-        },
-        TermNode::App { fun, arg } => TermNode::App {
-            fun: lift_under(alloc, fun, by, from)?,
-            arg: lift_under(alloc, arg, by, from)?,
-        },
-        _ => return copied(alloc, t),
-    };
-    Ok(Box::new(alloc, Term { node })?)
+        TermNode::Abs { typ, body, .. } => {
+            let typ = typ.copy(alloc)?;
+            let body = lift_under(alloc, body, by, from + 1)?;
+            Ok(Arc::new(alloc, Term::abs(typ, body))?)
+        }
+        TermNode::App { fun, arg, .. } => {
+            let fun = lift_under(alloc, fun, by, from)?;
+            let arg = lift_under(alloc, arg, by, from)?;
+            Ok(Arc::new(alloc, Term::app(fun, arg))?)
+        }
+        _ => Arc::try_clone(t),
+    }
 }
 
 /// The body with the argument in place of bound variable 0, and the other loose bound variables lowered by one.
@@ -59,7 +64,9 @@ pub fn subst_bound(alloc: Global, body: &Term, arg: &Term) -> Result<Term, Grow>
     let Some(_) = subst_leaves(body, 0, arg, arg_size, arg_depth, MAX_SIZE, MAX_DEPTH) else {
         return Err(Grow::Big);
     };
-    Ok(Box::into_inner(put_under(alloc, body, 0, arg)?))
+    let (body, arg) = (copied(alloc, body)?, copied(alloc, arg)?);
+    let put = put_under(alloc, &body, 0, &arg)?;
+    Ok(put.copy(alloc)?)
 }
 
 /// What is left of room when the body with the argument put in place of bound variable `place` is put in.
@@ -78,6 +85,9 @@ fn subst_leaves(
     requires low { room ≤ MAX_DEPTH }
     ensures { Leaves left room (term_size (subst_under place arg.now body.now)) (term_depth (subst_under place arg.now body.now)) result }
 {
+    if loose_above_of(body) <= u64::from(place) {
+        return term_leaves(body, left, room);
+    }
     match &body.node {
         TermNode::Bound { place: bound } => {
             if *bound == place {
@@ -86,7 +96,7 @@ fn subst_leaves(
                 node_leaves(left, room, 1, 1)
             }
         }
-        TermNode::Abs { typ, body } => {
+        TermNode::Abs { typ, body, .. } => {
             if left == 0 || room == 0 {
                 return None;
             }
@@ -95,7 +105,11 @@ fn subst_leaves(
             };
             subst_leaves(body, place + 1, arg, arg_size, arg_depth, rest, room - 1)
         }
-        TermNode::App { fun, arg: inner } => {
+        TermNode::App {
+            fun,
+            arg: inner,
+            ..
+        } => {
             if left == 0 || room == 0 {
                 return None;
             }
@@ -109,33 +123,45 @@ fn subst_leaves(
     }
 }
 
-/// The body with the argument put in place of bound variable `place`.
-fn put_under(alloc: Global, body: &Term, place: u32, arg: &Term) -> Result<Box<Term>, AllocError>
-    requires puttable { IsPuttable place arg.now body.now }
-    requires few { place + term_size (subst_under place arg.now body.now) ≤ MAX_SIZE }
-    ensures { IfOk result (λ u. u.value ≡ subst_under place arg.now body.now) }
+/// The body with the argument put in place of bound variable `place`. A part in which nothing is loose there or above is handed back as it is.
+pub fn put_under(
+    alloc: Global,
+    body: &Arc<Term>,
+    place: u32,
+    arg: &Arc<Term>,
+) -> Result<Arc<Term>, AllocError>
+    requires puttable { IsPuttable place arg.now.value body.now.value }
+    requires few { place + term_size (subst_under place arg.now.value body.now.value) ≤ MAX_SIZE }
+    ensures { IfOk result (λ u. u.value ≡ subst_under place arg.now.value body.now.value) }
 {
-    let node = match &body.node {
+    let whole: &Term = body;
+    if loose_above_of(whole) <= u64::from(place) {
+        return Arc::try_clone(body);
+    }
+    match &whole.node {
         TermNode::Bound { place: bound } => {
-            if *bound < place {
-                TermNode::Bound { place: *bound }
-            } else if *bound == place {
+            if *bound == place {
                 return lift_under(alloc, arg, place, 0);
-            } else {
-                TermNode::Bound { place: *bound - 1 }
             }
+            let node = TermNode::Bound { place: *bound - 1 };
+            Ok(Arc::new(alloc, Term { node })?)
         }
-        TermNode::Abs { typ, body } => TermNode::Abs {
-            typ: typ.copy(alloc)?,
-            body: put_under(alloc, body, place + 1, arg)?,
-        },
-        TermNode::App { fun, arg: inner } => TermNode::App {
-            fun: put_under(alloc, fun, place, arg)?,
-            arg: put_under(alloc, inner, place, arg)?,
-        },
-        _ => return copied(alloc, body),
-    };
-    Ok(Box::new(alloc, Term { node })?)
+        TermNode::Abs { typ, body, .. } => {
+            let typ = typ.copy(alloc)?;
+            let body = put_under(alloc, body, place + 1, arg)?;
+            Ok(Arc::new(alloc, Term::abs(typ, body))?)
+        }
+        TermNode::App {
+            fun,
+            arg: inner,
+            ..
+        } => {
+            let fun = put_under(alloc, fun, place, arg)?;
+            let inner = put_under(alloc, inner, place, arg)?;
+            Ok(Arc::new(alloc, Term::app(fun, inner))?)
+        }
+        _ => Arc::try_clone(body),
+    }
 }
 
 /// The abstraction of the term over a fixed or schematic variable.
@@ -162,9 +188,7 @@ fn abstraction(alloc: Global, t: &Term, v: &Term, typ: &Typ) -> Result<Term, All
 {
     let typ = typ.copy(alloc)?;
     let body = bind(alloc, t, 0, v)?;
-    Ok(Term {
-        node: TermNode::Abs { typ, body },
-    })
+    Ok(Term::abs(typ, body))
 }
 
 /// The type that is written with a variable.
@@ -188,7 +212,7 @@ fn bind_leaves(t: &Term, v: &Term, left: u32, room: u32) -> Option<u32>
         TermNode::Free { .. } => variable_leaves(t, v, left, room),
         TermNode::Var { .. } => variable_leaves(t, v, left, room),
         TermNode::Bound { .. } => node_leaves(left, room, 1, 1),
-        TermNode::Abs { typ, body } => {
+        TermNode::Abs { typ, body, .. } => {
             if left == 0 || room == 0 {
                 return None;
             }
@@ -197,7 +221,7 @@ fn bind_leaves(t: &Term, v: &Term, left: u32, room: u32) -> Option<u32>
             };
             bind_leaves(body, v, rest, room - 1)
         }
-        TermNode::App { fun, arg } => {
+        TermNode::App { fun, arg, .. } => {
             if left == 0 || room == 0 {
                 return None;
             }
@@ -222,43 +246,44 @@ fn variable_leaves(t: &Term, v: &Term, left: u32, room: u32) -> Option<u32>
 }
 
 /// A variable, bound where it is the one that is abstracted over.
-fn bind_variable(alloc: Global, t: &Term, place: u32, v: &Term) -> Result<Box<Term>, AllocError>
+fn bind_variable(alloc: Global, t: &Term, place: u32, v: &Term) -> Result<Arc<Term>, AllocError>
     requires { IsVariable t.now }
     ensures { IfOk result (λ u. u.value ≡ bind_under place v.now t.now) }
 {
     if are_same(v, t) {
         let node = TermNode::Bound { place };
-        Ok(Box::new(alloc, Term { node })?)
+        Ok(Arc::new(alloc, Term { node })?)
     } else {
         copied(alloc, t)
     }
 }
 
 /// The term with the variable bound, under `place` binders of the term.
-fn bind(alloc: Global, t: &Term, place: u32, v: &Term) -> Result<Box<Term>, AllocError>
+fn bind(alloc: Global, t: &Term, place: u32, v: &Term) -> Result<Arc<Term>, AllocError>
     requires liftable { IsLiftable 1 place t.now }
     requires few { place + term_size (bind_under place v.now t.now) ≤ MAX_SIZE }
     ensures { IfOk result (λ u. u.value ≡ bind_under place v.now t.now) }
 {
-    let node = match &t.node {
-        TermNode::Const { .. } => return copied(alloc, t),
-        TermNode::Free { .. } => return bind_variable(alloc, t, place, v),
-        TermNode::Var { .. } => return bind_variable(alloc, t, place, v),
+    match &t.node {
+        TermNode::Const { .. } => copied(alloc, t),
+        TermNode::Free { .. } => bind_variable(alloc, t, place, v),
+        TermNode::Var { .. } => bind_variable(alloc, t, place, v),
         TermNode::Bound { place: bound } => {
             if *bound < place {
-                TermNode::Bound { place: *bound }
-            } else {
-                TermNode::Bound { place: *bound + 1 }
+                return copied(alloc, t);
             }
+            let node = TermNode::Bound { place: *bound + 1 };
+            Ok(Arc::new(alloc, Term { node })?)
         }
-        TermNode::Abs { typ, body } => TermNode::Abs {
-            typ: typ.copy(alloc)?,
-            body: bind(alloc, body, place + 1, v)?,
-        },
-        TermNode::App { fun, arg } => TermNode::App {
-            fun: bind(alloc, fun, place, v)?,
-            arg: bind(alloc, arg, place, v)?,
-        },
-    };
-    Ok(Box::new(alloc, Term { node })?)
+        TermNode::Abs { typ, body, .. } => {
+            let typ = typ.copy(alloc)?;
+            let body = bind(alloc, body, place + 1, v)?;
+            Ok(Arc::new(alloc, Term::abs(typ, body))?)
+        }
+        TermNode::App { fun, arg, .. } => {
+            let fun = bind(alloc, fun, place, v)?;
+            let arg = bind(alloc, arg, place, v)?;
+            Ok(Arc::new(alloc, Term::app(fun, arg))?)
+        }
+    }
 }

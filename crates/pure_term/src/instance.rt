@@ -6,12 +6,13 @@ ghost use Rattle.pure_definitions.specs.Terms.Limits.{Leaves};
 ghost use Rattle.pure_term.specs.Grown.{IsGrown};
 
 use crate::maps::TermMap;
-use crate::measure::term_leaves;
+use crate::measure::{index_above_of, term_leaves};
 use crate::term::{Term, TermNode, copied};
 use pure_typ::{
     Grow, MAX_DEPTH, MAX_SIZE, TypMap, instance_leaves, instance_of, node_leaves, typ_leaves,
 };
 use std::alloc::{AllocError, Global};
+use std::sync::Arc;
 
 /// The term under a type map: each variable in its types replaced, all at once.
 pub fn inst_typ(alloc: Global, t: &Term, map: &TypMap) -> Result<Term, Grow>
@@ -20,12 +21,17 @@ pub fn inst_typ(alloc: Global, t: &Term, map: &TypMap) -> Result<Term, Grow>
     let Some(_) = inst_typ_leaves(t, map, MAX_SIZE, MAX_DEPTH) else {
         return Err(Grow::Big);
     };
-    Ok(Box::into_inner(retyped(alloc, t, map)?))
+    let t = copied(alloc, t)?;
+    let made = retyped(alloc, &t, map)?;
+    Ok(made.copy(alloc)?)
 }
 
 fn inst_typ_leaves(t: &Term, binds: &TypMap, left: u32, room: u32) -> Option<u32>
     ensures { Leaves left room (term_size (inst_typ (typ_image binds.now) t.now)) (term_depth (inst_typ (typ_image binds.now) t.now)) result }
 {
+    if index_above_of(t) == 0 {
+        return term_leaves(t, left, room);
+    }
     if left == 0 {
         return None;
     }
@@ -37,13 +43,13 @@ fn inst_typ_leaves(t: &Term, binds: &TypMap, left: u32, room: u32) -> Option<u32
         TermNode::Free { typ, .. } => instance_leaves(typ, binds, left - 1, room - 1),
         TermNode::Var { typ, .. } => instance_leaves(typ, binds, left - 1, room - 1),
         TermNode::Bound { .. } => Some(left - 1),
-        TermNode::Abs { typ, body } => {
+        TermNode::Abs { typ, body, .. } => {
             let Some(rest) = instance_leaves(typ, binds, left - 1, room - 1) else {
                 return None;
             };
             inst_typ_leaves(body, binds, rest, room - 1)
         }
-        TermNode::App { fun, arg } => {
+        TermNode::App { fun, arg, .. } => {
             let Some(rest) = inst_typ_leaves(fun, binds, left - 1, room - 1) else {
                 return None;
             };
@@ -52,19 +58,24 @@ fn inst_typ_leaves(t: &Term, binds: &TypMap, left: u32, room: u32) -> Option<u32
     }
 }
 
-fn retyped(alloc: Global, t: &Term, binds: &TypMap) -> Result<Box<Term>, AllocError>
-    ensures { IfOk result (λ u. u.value ≡ inst_typ (typ_image binds.now) t.now) }
+/// A part under a type map; one without schematic variables is handed back as it is.
+pub fn retyped(alloc: Global, t: &Arc<Term>, binds: &TypMap) -> Result<Arc<Term>, AllocError>
+    ensures { IfOk result (λ u. u.value ≡ inst_typ (typ_image binds.now) t.now.value) }
 {
-    match &t.node {
+    let whole: &Term = t;
+    if index_above_of(whole) == 0 {
+        return Arc::try_clone(t);
+    }
+    match &whole.node {
         TermNode::Const { name, typ } => {
             let typ = instance_of(alloc, typ, binds)?;
             let node = TermNode::Const { name: *name, typ };
-            Ok(Box::new(alloc, Term { node })?)
+            Ok(Arc::new(alloc, Term { node })?)
         }
         TermNode::Free { name, typ } => {
             let typ = instance_of(alloc, typ, binds)?;
             let node = TermNode::Free { name: *name, typ };
-            Ok(Box::new(alloc, Term { node })?)
+            Ok(Arc::new(alloc, Term { node })?)
         }
         TermNode::Var { name, index, typ } => {
             let typ = instance_of(alloc, typ, binds)?;
@@ -73,20 +84,18 @@ fn retyped(alloc: Global, t: &Term, binds: &TypMap) -> Result<Box<Term>, AllocEr
                 index: *index,
                 typ,
             };
-            Ok(Box::new(alloc, Term { node })?)
+            Ok(Arc::new(alloc, Term { node })?)
         }
-        TermNode::Bound { .. } => copied(alloc, t),
-        TermNode::Abs { typ, body } => {
+        TermNode::Bound { .. } => Arc::try_clone(t),
+        TermNode::Abs { typ, body, .. } => {
             let typ = instance_of(alloc, typ, binds)?;
             let body = retyped(alloc, body, binds)?;
-            let node = TermNode::Abs { typ, body };
-            Ok(Box::new(alloc, Term { node })?)
+            Ok(Arc::new(alloc, Term::abs(typ, body))?)
         }
-        TermNode::App { fun, arg } => {
+        TermNode::App { fun, arg, .. } => {
             let fun = retyped(alloc, fun, binds)?;
             let arg = retyped(alloc, arg, binds)?;
-            let node = TermNode::App { fun, arg };
-            Ok(Box::new(alloc, Term { node })?)
+            Ok(Arc::new(alloc, Term::app(fun, arg))?)
         }
     }
 }
@@ -98,12 +107,17 @@ pub fn inst_term(alloc: Global, t: &Term, map: &TermMap) -> Result<Term, Grow>
     let Some(_) = inst_term_leaves(t, map, MAX_SIZE, MAX_DEPTH) else {
         return Err(Grow::Big);
     };
-    Ok(Box::into_inner(replaced(alloc, t, map)?))
+    let t = copied(alloc, t)?;
+    let made = replaced(alloc, &t, map)?;
+    Ok(made.copy(alloc)?)
 }
 
 fn inst_term_leaves(t: &Term, binds: &TermMap, left: u32, room: u32) -> Option<u32>
     ensures { Leaves left room (term_size (inst_term (term_image binds.now) t.now)) (term_depth (inst_term (term_image binds.now) t.now)) result }
 {
+    if index_above_of(t) == 0 {
+        return term_leaves(t, left, room);
+    }
     match &t.node {
         TermNode::Const { .. } => term_leaves(t, left, room),
         TermNode::Free { .. } => term_leaves(t, left, room),
@@ -112,7 +126,7 @@ fn inst_term_leaves(t: &Term, binds: &TermMap, left: u32, room: u32) -> Option<u
             None => term_leaves(t, left, room),
         },
         TermNode::Bound { .. } => node_leaves(left, room, 1, 1),
-        TermNode::Abs { typ, body } => {
+        TermNode::Abs { typ, body, .. } => {
             if left == 0 || room == 0 {
                 return None;
             }
@@ -121,7 +135,7 @@ fn inst_term_leaves(t: &Term, binds: &TermMap, left: u32, room: u32) -> Option<u
             };
             inst_term_leaves(body, binds, rest, room - 1)
         }
-        TermNode::App { fun, arg } => {
+        TermNode::App { fun, arg, .. } => {
             if left == 0 || room == 0 {
                 return None;
             }
@@ -133,27 +147,31 @@ fn inst_term_leaves(t: &Term, binds: &TermMap, left: u32, room: u32) -> Option<u
     }
 }
 
-fn replaced(alloc: Global, t: &Term, binds: &TermMap) -> Result<Box<Term>, AllocError>
-    ensures { IfOk result (λ u. u.value ≡ inst_term (term_image binds.now) t.now) }
+/// A part under a term map; one without schematic variables is handed back as it is.
+pub fn replaced(alloc: Global, t: &Arc<Term>, binds: &TermMap) -> Result<Arc<Term>, AllocError>
+    ensures { IfOk result (λ u. u.value ≡ inst_term (term_image binds.now) t.now.value) }
 {
-    let node = match &t.node {
-        TermNode::Const { .. } => return copied(alloc, t),
-        TermNode::Free { .. } => return copied(alloc, t),
-        TermNode::Var { name, index, typ } => {
-            return match binds.find(*name, *index, typ) {
-                Some(image) => copied(alloc, image),
-                None => copied(alloc, t),
-            };
+    let whole: &Term = t;
+    if index_above_of(whole) == 0 {
+        return Arc::try_clone(t);
+    }
+    match &whole.node {
+        TermNode::Const { .. } => Arc::try_clone(t),
+        TermNode::Free { .. } => Arc::try_clone(t),
+        TermNode::Var { name, index, typ } => match binds.find(*name, *index, typ) {
+            Some(image) => copied(alloc, image),
+            None => Arc::try_clone(t),
+        },
+        TermNode::Bound { .. } => Arc::try_clone(t),
+        TermNode::Abs { typ, body, .. } => {
+            let typ = typ.copy(alloc)?;
+            let body = replaced(alloc, body, binds)?;
+            Ok(Arc::new(alloc, Term::abs(typ, body))?)
         }
-        TermNode::Bound { place } => TermNode::Bound { place: *place },
-        TermNode::Abs { typ, body } => TermNode::Abs {
-            typ: typ.copy(alloc)?,
-            body: replaced(alloc, body, binds)?,
-        },
-        TermNode::App { fun, arg } => TermNode::App {
-            fun: replaced(alloc, fun, binds)?,
-            arg: replaced(alloc, arg, binds)?,
-        },
-    };
-    Ok(Box::new(alloc, Term { node })?)
+        TermNode::App { fun, arg, .. } => {
+            let fun = replaced(alloc, fun, binds)?;
+            let arg = replaced(alloc, arg, binds)?;
+            Ok(Arc::new(alloc, Term::app(fun, arg))?)
+        }
+    }
 }

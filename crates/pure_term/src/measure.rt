@@ -1,41 +1,116 @@
 //! The size and depth of terms, and which occur in which.
 ghost use Rattle.std.specs.Prelude.{◌≡◌, ◌↔◌, IsTrue};
-ghost use Rattle.pure_definitions.specs.Terms.Term.{term_size, term_depth, IsWithin};
+ghost use Rattle.pure_definitions.specs.Terms.Term.{Abs, App, term_size, term_depth, IsWithin};
+ghost use Rattle.pure_definitions.specs.Terms.Measures.{kept_count, term_index_above, loose_above};
 ghost use Rattle.pure_definitions.specs.Terms.Limits.{cut_off, Leaves};
 ghost use Rattle.pure_definitions.specs.Terms.Typing.{node_count};
 ghost use Rattle.pure_definitions.specs.Terms.Bounds.{Occurs};
+ghost use Rattle.pure_term.specs.TermKept.{AreMeasures};
 
-use crate::term::{Term, TermNode};
-use pure_typ::{MAX_DEPTH, MAX_SIZE, depth_of_typ, size_of_typ, typ_leaves};
+use crate::term::{Kept, Term, TermNode};
+use pure_typ::{
+    MAX_DEPTH, MAX_SIZE, Typ, cut, index_above_of_typ, kept_leaves, whole_depth_of_typ,
+    whole_size_of_typ,
+};
+
+/// The count of the term's nodes and of those of the types in it, cut off at `u64::MAX`.
+pub fn whole_size(t: &Term) -> u64
+    ensures { result ≡ kept_count (term_size t.now) }
+{
+    match &t.node {
+        TermNode::Const { typ, .. } => whole_size_of_typ(typ).saturating_add(1),
+        TermNode::Free { typ, .. } => whole_size_of_typ(typ).saturating_add(1),
+        TermNode::Var { typ, .. } => whole_size_of_typ(typ).saturating_add(1),
+        TermNode::Bound { .. } => 1,
+        TermNode::Abs { kept, .. } => kept.size,
+        TermNode::App { kept, .. } => kept.size,
+    }
+}
+
+/// The count of nodes on the longest path from the root, into the types too, cut off at `u64::MAX`.
+pub fn whole_depth(t: &Term) -> u64
+    ensures { result ≡ kept_count (term_depth t.now) }
+{
+    match &t.node {
+        TermNode::Const { typ, .. } => whole_depth_of_typ(typ).saturating_add(1),
+        TermNode::Free { typ, .. } => whole_depth_of_typ(typ).saturating_add(1),
+        TermNode::Var { typ, .. } => whole_depth_of_typ(typ).saturating_add(1),
+        TermNode::Bound { .. } => 1,
+        TermNode::Abs { kept, .. } => kept.depth,
+        TermNode::App { kept, .. } => kept.depth,
+    }
+}
+
+/// One above the greatest index of a schematic variable of the term, those of types among them, or 0.
+pub fn index_above_of(t: &Term) -> u64
+    ensures { result ≡ term_index_above t.now }
+{
+    match &t.node {
+        TermNode::Const { typ, .. } => index_above_of_typ(typ),
+        TermNode::Free { typ, .. } => index_above_of_typ(typ),
+        TermNode::Var { index, typ, .. } => (u64::from(*index) + 1).max(index_above_of_typ(typ)),
+        TermNode::Bound { .. } => 0,
+        TermNode::Abs { kept, .. } => kept.above,
+        TermNode::App { kept, .. } => kept.above,
+    }
+}
+
+/// One above the greatest bound variable that is loose in the term, or 0.
+pub fn loose_above_of(t: &Term) -> u64
+    ensures { result ≡ loose_above t.now }
+{
+    match &t.node {
+        TermNode::Const { .. } => 0,
+        TermNode::Free { .. } => 0,
+        TermNode::Var { .. } => 0,
+        TermNode::Bound { place } => u64::from(*place) + 1,
+        TermNode::Abs { kept, .. } => kept.loose,
+        TermNode::App { kept, .. } => kept.loose,
+    }
+}
+
+/// The measures of an abstraction.
+pub fn abs_measures(typ: &Typ, body: &Term) -> Kept
+    ensures { AreMeasures (Abs typ.now body.now) result }
+{
+    Kept {
+        size: whole_size_of_typ(typ)
+            .saturating_add(whole_size(body))
+            .saturating_add(1),
+        depth: whole_depth_of_typ(typ)
+            .max(whole_depth(body))
+            .saturating_add(1),
+        above: index_above_of_typ(typ).max(index_above_of(body)),
+        loose: loose_above_of(body).saturating_sub(1),
+    }
+}
+
+/// The measures of an application.
+pub fn app_measures(fun: &Term, arg: &Term) -> Kept
+    ensures { AreMeasures (App fun.now arg.now) result }
+{
+    Kept {
+        size: whole_size(fun)
+            .saturating_add(whole_size(arg))
+            .saturating_add(1),
+        depth: whole_depth(fun).max(whole_depth(arg)).saturating_add(1),
+        above: index_above_of(fun).max(index_above_of(arg)),
+        loose: loose_above_of(fun).max(loose_above_of(arg)),
+    }
+}
 
 /// The count of the term's nodes and of those of the types in it, cut off at `u32::MAX`.
 pub fn size(t: &Term) -> u32
     ensures { result ≡ cut_off (term_size t.now) }
 {
-    let inside = match &t.node {
-        TermNode::Const { typ, .. } => size_of_typ(typ),
-        TermNode::Free { typ, .. } => size_of_typ(typ),
-        TermNode::Var { typ, .. } => size_of_typ(typ),
-        TermNode::Bound { .. } => 0,
-        TermNode::Abs { typ, body } => size_of_typ(typ).saturating_add(size(body)),
-        TermNode::App { fun, arg } => size(fun).saturating_add(size(arg)),
-    };
-    inside.saturating_add(1)
+    cut(whole_size(t))
 }
 
 /// The count of nodes on the longest path from the root, into the types too, cut off at `u32::MAX`.
 pub fn depth(t: &Term) -> u32
     ensures { result ≡ cut_off (term_depth t.now) }
 {
-    let inside = match &t.node {
-        TermNode::Const { typ, .. } => depth_of_typ(typ),
-        TermNode::Free { typ, .. } => depth_of_typ(typ),
-        TermNode::Var { typ, .. } => depth_of_typ(typ),
-        TermNode::Bound { .. } => 0,
-        TermNode::Abs { typ, body } => depth_of_typ(typ).max(depth(body)),
-        TermNode::App { fun, arg } => depth(fun).max(depth(arg)),
-    };
-    inside.saturating_add(1)
+    cut(whole_depth(t))
 }
 
 /// Whether the term is within the limits.
@@ -54,7 +129,7 @@ pub fn node_count_of(t: &Term) -> u32
 {
     match &t.node {
         TermNode::Abs { body, .. } => node_count_of(body).saturating_add(1),
-        TermNode::App { fun, arg } => node_count_of(fun)
+        TermNode::App { fun, arg, .. } => node_count_of(fun)
             .saturating_add(node_count_of(arg))
             .saturating_add(1),
         _ => 1,
@@ -74,7 +149,7 @@ pub fn occurs(v: &Term, t: &Term) -> bool
 {
     match &t.node {
         TermNode::Abs { body, .. } => are_same(v, t) || occurs(v, body),
-        TermNode::App { fun, arg } => are_same(v, t) || occurs(v, fun) || occurs(v, arg),
+        TermNode::App { fun, arg, .. } => are_same(v, t) || occurs(v, fun) || occurs(v, arg),
         _ => are_same(v, t),
     }
 }
@@ -83,28 +158,5 @@ pub fn occurs(v: &Term, t: &Term) -> bool
 pub fn term_leaves(t: &Term, left: u32, room: u32) -> Option<u32>
     ensures { Leaves left room (term_size t.now) (term_depth t.now) result }
 {
-    if left == 0 {
-        return None;
-    }
-    if room == 0 {
-        return None;
-    }
-    match &t.node {
-        TermNode::Const { typ, .. } => typ_leaves(typ, left - 1, room - 1),
-        TermNode::Free { typ, .. } => typ_leaves(typ, left - 1, room - 1),
-        TermNode::Var { typ, .. } => typ_leaves(typ, left - 1, room - 1),
-        TermNode::Bound { .. } => Some(left - 1),
-        TermNode::Abs { typ, body } => {
-            let Some(rest) = typ_leaves(typ, left - 1, room - 1) else {
-                return None;
-            };
-            term_leaves(body, rest, room - 1)
-        }
-        TermNode::App { fun, arg } => {
-            let Some(rest) = term_leaves(fun, left - 1, room - 1) else {
-                return None;
-            };
-            term_leaves(arg, rest, room - 1)
-        }
-    }
+    kept_leaves(left, room, whole_size(t), whole_depth(t))
 }

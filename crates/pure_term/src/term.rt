@@ -2,14 +2,16 @@
 ghost use Rattle.std.specs.Prelude.{◌≡◌, IfOk, refl};
 ghost use Rattle.std.specs.Cmp.{partial_equiv_from_equiv, po};
 ghost use Rattle.std.specs.Ordering.{as_partial_cmp};
-ghost use Rattle.pure_definitions.specs.Terms.Term.{term_eq};
+ghost use Rattle.pure_definitions.specs.Terms.Term.{Abs, App, term_eq};
 ghost use Rattle.pure_definitions.specs.Models.Equality.{term_eq-equiv};
 ghost use Rattle.pure_definitions.specs.Models.Comparison.{term_rank, term_cmp, term_cmp-total, term_cmp-ties};
 
+use crate::measure::{abs_measures, app_measures};
 use pure_typ::{Name, Typ};
 use std::alloc::{AllocError, Global};
 use std::cmp::Ordering;
 use std::marker::Model;
+use std::sync::Arc;
 
 /// A term.
 #[cycle(term)]
@@ -18,16 +20,45 @@ pub struct Term {
     pub node: TermNode,
 }
 
-/// A constant, a fixed variable or a schematic one, each with its type; a bound variable; an abstraction; or an application.
+/// A constant, a fixed variable or a schematic one, each with its type; a bound variable; an abstraction; or an application. The last two share their parts, and keep their measures.
 #[cycle(term)]
 #[derive(Debug, Drop)]
 pub enum TermNode {
-    Const { name: Name, typ: Typ },
-    Free { name: Name, typ: Typ },
-    Var { name: Name, index: u32, typ: Typ },
-    Bound { place: u32 },
-    Abs { typ: Typ, body: Box<Term> },
-    App { fun: Box<Term>, arg: Box<Term> },
+    Const {
+        name: Name,
+        typ: Typ,
+    },
+    Free {
+        name: Name,
+        typ: Typ,
+    },
+    Var {
+        name: Name,
+        index: u32,
+        typ: Typ,
+    },
+    Bound {
+        place: u32,
+    },
+    Abs {
+        typ: Typ,
+        body: Arc<Term>,
+        kept: Kept,
+    },
+    App {
+        fun: Arc<Term>,
+        arg: Arc<Term>,
+        kept: Kept,
+    },
+}
+
+/// The measures of a term: its size and its depth, cut off at `u64::MAX`; one above the greatest index of a schematic variable, those of types among them, or 0; and one above the greatest loose bound variable, or 0.
+#[derive(Clone, Copy, Debug)]
+pub struct Kept {
+    pub size: u64,
+    pub depth: u64,
+    pub above: u64,
+    pub loose: u64,
 }
 
 impl Model for Term {
@@ -39,8 +70,11 @@ impl Model for Term {
     ghost coded = { coded_term };
 
     ghost use Rattle.pure_term.specs.TermView.{view_term};
+    ghost use Rattle.pure_term.specs.TermKept.{IsNodeMeasured};
 
     ghost view = { λ t. view_term t.node };
+
+    ghost invariant = { λ t. IsNodeMeasured t.node };
 
     ghost size = { tree.term_depth };
 
@@ -50,43 +84,73 @@ impl Model for Term {
 }
 
 impl Term {
-    /// An equal term.
+    /// An abstraction.
+    pub fn abs(typ: Typ, body: Arc<Term>) -> Term
+        ensures { result ≡ Abs typ body.value }
+    {
+        let kept = abs_measures(&typ, &body);
+        Term {
+            node: TermNode::Abs { typ, body, kept },
+        }
+    }
+
+    /// An application.
+    pub fn app(fun: Arc<Term>, arg: Arc<Term>) -> Term
+        ensures { result ≡ App fun.value arg.value }
+    {
+        let kept = app_measures(&fun, &arg);
+        Term {
+            node: TermNode::App { fun, arg, kept },
+        }
+    }
+
+    /// An equal term, whose parts are the same ones.
     pub fn copy(&self, alloc: Global) -> Result<Term, AllocError>
         ensures { IfOk result (λ t. t ≡ self.now) }
     {
-        Ok(Box::into_inner(copied(alloc, self)?))
+        match &self.node {
+            TermNode::Const { name, typ } => {
+                let typ = typ.copy(alloc)?;
+                Ok(Term {
+                    node: TermNode::Const { name: *name, typ },
+                })
+            }
+            TermNode::Free { name, typ } => {
+                let typ = typ.copy(alloc)?;
+                Ok(Term {
+                    node: TermNode::Free { name: *name, typ },
+                })
+            }
+            TermNode::Var { name, index, typ } => {
+                let typ = typ.copy(alloc)?;
+                Ok(Term {
+                    node: TermNode::Var {
+                        name: *name,
+                        index: *index,
+                        typ,
+                    },
+                })
+            }
+            TermNode::Bound { place } => Ok(Term {
+                node: TermNode::Bound { place: *place },
+            }),
+            TermNode::Abs { typ, body, .. } => {
+                let typ = typ.copy(alloc)?;
+                Ok(Term::abs(typ, Arc::try_clone(body)?))
+            }
+            TermNode::App { fun, arg, .. } => {
+                let fun = Arc::try_clone(fun)?;
+                Ok(Term::app(fun, Arc::try_clone(arg)?))
+            }
+        }
     }
 }
 
-/// An equal term, in a block of its own.
-pub fn copied(alloc: Global, t: &Term) -> Result<Box<Term>, AllocError>
+/// An equal term, whose parts are the same ones, in a block of its own.
+pub fn copied(alloc: Global, t: &Term) -> Result<Arc<Term>, AllocError>
     ensures { IfOk result (λ u. u.value ≡ t.now) }
 {
-    let node = match &t.node {
-        TermNode::Const { name, typ } => TermNode::Const {
-            name: *name,
-            typ: typ.copy(alloc)?,
-        },
-        TermNode::Free { name, typ } => TermNode::Free {
-            name: *name,
-            typ: typ.copy(alloc)?,
-        },
-        TermNode::Var { name, index, typ } => TermNode::Var {
-            name: *name,
-            index: *index,
-            typ: typ.copy(alloc)?,
-        },
-        TermNode::Bound { place } => TermNode::Bound { place: *place },
-        TermNode::Abs { typ, body } => TermNode::Abs {
-            typ: typ.copy(alloc)?,
-            body: copied(alloc, body)?,
-        },
-        TermNode::App { fun, arg } => TermNode::App {
-            fun: copied(alloc, fun)?,
-            arg: copied(alloc, arg)?,
-        },
-    };
-    Ok(Box::new(alloc, Term { node })?)
+    Ok(Arc::new(alloc, t.copy(alloc)?)?)
 }
 
 /// The place of the term's kind among the kinds.
@@ -127,18 +191,28 @@ fn compare_terms(t: &Term, u: &Term) -> Ordering
             },
         ) => x.cmp(y).then(i.cmp(j).then(t.cmp(u))),
         (TermNode::Bound { place: m }, TermNode::Bound { place: n }) => m.cmp(n),
-        (TermNode::Abs { typ: t, body: b }, TermNode::Abs { typ: u, body: c }) => match t.cmp(u) {
+        (
+            TermNode::Abs {
+                typ: t,
+                body: b,
+                ..
+            },
+            TermNode::Abs {
+                typ: u,
+                body: c,
+                ..
+            },
+        ) => match t.cmp(u) {
             Ordering::Less => Ordering::Less,
             Ordering::Greater => Ordering::Greater,
             Ordering::Equal => compare_terms(b, c),
         },
-        (TermNode::App { fun: f, arg: a }, TermNode::App { fun: g, arg: b }) => match compare_terms(
-            f, g,
-        ) {
-            Ordering::Less => Ordering::Less,
-            Ordering::Greater => Ordering::Greater,
-            Ordering::Equal => compare_terms(a, b),
-        },
+        (TermNode::App { fun: f, arg: a, .. }, TermNode::App { fun: g, arg: b, .. }) =>
+            match compare_terms(f, g) {
+                Ordering::Less => Ordering::Less,
+                Ordering::Greater => Ordering::Greater,
+                Ordering::Equal => compare_terms(a, b),
+            },
         _ => term_rank_of(t).cmp(&term_rank_of(u)),
     }
 }

@@ -1,5 +1,5 @@
 //! The type of a term, or the place of its first node at fault.
-ghost use Rattle.std.specs.Prelude.{◌≡◌, ◌↔◌, IsTrue, List, [], ◌∷◌, MatchBool, MatchOption, IfOk};
+ghost use Rattle.std.specs.Prelude.{◌≡◌, ◌↔◌, IsTrue, List, [], ◌∷◌, MatchOption, IfOk};
 ghost use Rattle.pure_definitions.specs.Types.Typ as tree;
 ghost use Rattle.pure_definitions.specs.Types.Typ.{arrow};
 ghost use Rattle.pure_definitions.specs.Terms.Term as term_tree;
@@ -50,6 +50,7 @@ fn takes(function: &Typ, argument: &Typ) -> bool
             if args.len() != 2 {
                 return false;
             }
+            let args = args.as_slice();
             let domain = &args[0];
             domain == argument
         }
@@ -69,6 +70,7 @@ fn lent_range<'t>(function: &'t Typ, argument: &Typ) -> Option<&'t Typ>
             if args.len() != 2 {
                 return None;
             }
+            let args = args.as_slice();
             let range = &args[1];
             Some(range)
         }
@@ -76,45 +78,13 @@ fn lent_range<'t>(function: &'t Typ, argument: &Typ) -> Option<&'t Typ>
     }
 }
 
-/// Puts a type in the place of another.
-fn put(old: &mut Typ, new: Typ)
-    ensures { old.new ≡ new }
-{
-    *old = new;
-}
-
-/// Takes the last argument off a type, which of a type of functions is the range.
-fn popped(function: &mut Typ) -> Option<Typ>
-    ensures { (a : tree.Typ) → Takes function.old a → MatchOption result (¬ Takes function.old a) (λ range. function.old ≡ arrow a range) }
-{
-    match &mut function.node {
-        TypNode::Con { args, .. } => args.pop(),
-        _ => None,
-    }
-}
-
-/// Whether functions of the first type take arguments of the second; if so, the range takes the place of the type.
-fn keeps_range(function: &mut Typ, argument: &Typ) -> bool
-    ensures { MatchBool result (function.old ≡ arrow argument.now function.new) (¬ Takes function.old argument.now) }
-{
-    if !takes(function, argument) {
-        return false;
-    }
-    let Some(range) = popped(function) else {
-        return false;
-    };
-    put(function, range);
-    true
-}
-
 /// What a function of the first type gives for arguments of the second, where the type was made.
-fn made_range(mut function: Box<Typ>, argument: &Typ) -> Option<Box<Typ>>
-    ensures { MatchOption result (¬ Takes function.value argument.now) (λ range. function.value ≡ arrow argument.now range.value) }
+fn made_range(alloc: Global, function: &Typ, argument: &Typ) -> Result<Option<Box<Typ>>, AllocError>
+    ensures { IfOk result (λ found. MatchOption found (¬ Takes function.now argument.now) (λ range. function.now ≡ arrow argument.now range.value)) }
 {
-    if keeps_range(&mut function, argument) {
-        Some(function)
-    } else {
-        None
+    match lent_range(function, argument) {
+        Some(range) => Ok(Some(Box::new(alloc, range.copy(alloc)?)?)),
+        None => Ok(None),
     }
 }
 
@@ -140,17 +110,21 @@ fn owned(alloc: Global, found: Found) -> Result<Typ, AllocError>
 
 /// The type of the results of a function of the first type for arguments of the second.
 #[inline(never)]
-fn range_of<'t>(function: Found<'t>, argument: &Typ) -> Option<Found<'t>>
-    ensures { MatchOption result (¬ Takes (found_typ function.entry) argument.now) (λ range. found_typ function.entry ≡ arrow argument.now (found_typ range)) }
+fn range_of<'t>(
+    alloc: Global,
+    function: Found<'t>,
+    argument: &Typ,
+) -> Result<Option<Found<'t>>, AllocError>
+    ensures { IfOk result (λ found. MatchOption found (¬ Takes (found_typ function.entry) argument.now) (λ range. found_typ function.entry ≡ arrow argument.now (found_typ range))) }
 {
     match function {
         Found::Lent(typ) => match lent_range(typ, argument) {
-            Some(range) => Some(Found::Lent(range)),
-            None => None,
+            Some(range) => Ok(Some(Found::Lent(range))),
+            None => Ok(None),
         },
-        Found::Made(typ) => match made_range(typ, argument) {
-            Some(range) => Some(Found::Made(range)),
-            None => None,
+        Found::Made(typ) => match made_range(alloc, &typ, argument)? {
+            Some(range) => Ok(Some(Found::Made(range))),
+            None => Ok(None),
         },
     }
 }
@@ -208,6 +182,7 @@ fn answer_at_abs<'t>(
 /// The answer for an application of this function, from those for the function and for its argument.
 #[inline(never)]
 fn answer_at_app<'t>(
+    alloc: Global,
     fun: &Term,
     function: Result<Found<'t>, TypeFault>,
     argument: Result<Found<'t>, TypeFault>,
@@ -222,7 +197,7 @@ fn answer_at_app<'t>(
         Ok(argument) => argument,
         Err(fault) => return Err(deeper(fault, node_count_of(fun).saturating_add(1))),
     };
-    match range_of(function, lent(&argument)) {
+    match range_of(alloc, function, lent(&argument))? {
         Some(range) => Ok(range),
         None => Err(TypeFault::NotTyped { place: 0 }),
     }
@@ -241,14 +216,14 @@ fn typ_under<'s, 't>(
         TermNode::Free { typ, .. } => Ok(Found::Lent(typ)),
         TermNode::Var { typ, .. } => Ok(Found::Lent(typ)),
         TermNode::Bound { place } => answer_at_bound(scope, *place),
-        TermNode::Abs { typ, body } => {
+        TermNode::Abs { typ, body, .. } => {
             let range = typ_under(alloc, body, &Scope::Under(typ, scope));
             answer_at_abs(alloc, typ, range)
         }
-        TermNode::App { fun, arg } => {
+        TermNode::App { fun, arg, .. } => {
             let function = typ_under(alloc, fun, scope);
             let argument = typ_under(alloc, arg, scope);
-            answer_at_app(fun, function, argument)
+            answer_at_app(alloc, fun, function, argument)
         }
     }
 }

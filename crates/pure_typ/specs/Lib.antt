@@ -1,5 +1,6 @@
 pub mod NameTexts
 pub mod TypView
+pub mod TypKept
 pub mod TypFalls
 pub mod TypGrown
 pub mod SortUnion

@@ -2,6 +2,8 @@
 use Rattle.std.specs.Prelude.{◌+◌, ◌≤◌, max, List, [], ◌∷◌}
 use Rattle.std.proofs.Common.{arith}
 use denote.Param.Weighed.{most}
+use Rattle.pure_typ.specs.declared.typ.Args.{Args}
+use Rattle.pure_typ.specs.declared.typ.Args.TheVariants.{Nullary, Shared}
 use Rattle.pure_typ.specs.declared.typ.TypNode.{TypNode}
 use Rattle.pure_typ.specs.declared.typ.TypNode.TheVariants.{TFree, TVar, Con}
 use Rattle.pure_typ.specs.declared.typ.Typ.TheDeep.{deep-TypNode}
@@ -16,4 +18,5 @@ most_le-typs_depth (t ∷ ts) = omega (arith, most_le-typs_depth ts)
 pub depth_le-typ_depth : (n : TypNode) → max (deep-TypNode n) 0 ≤ typ_depth (view_typ n)
 depth_le-typ_depth (TFree x s) = omega arith
 depth_le-typ_depth (TVar x i s) = omega arith
-depth_le-typ_depth (Con k args) = omega (arith, most_le-typs_depth args.items)
+depth_le-typ_depth (Con k Nullary) = omega arith
+depth_le-typ_depth (Con k (Shared list)) = omega (arith, most_le-typs_depth list.value.types.items)

@@ -7,7 +7,7 @@ ghost use Rattle.pure_typ.specs.TypGrown.{IsTypGrown};
 
 use crate::grow::Grow;
 use crate::maps::TypMap;
-use crate::measure::{MAX_DEPTH, MAX_SIZE, typ_leaves};
+use crate::measure::{MAX_DEPTH, MAX_SIZE, index_above_of_typ, typ_leaves};
 use crate::typ::{Typ, TypNode};
 use std::alloc::{AllocError, Global};
 
@@ -25,6 +25,9 @@ pub fn instance_of_typ(alloc: Global, t: &Typ, map: &TypMap) -> Result<Typ, Grow
 pub fn instance_leaves(t: &Typ, binds: &TypMap, left: u32, room: u32) -> Option<u32>
     ensures { Leaves left room (typ_size (typ_instance (typ_image binds.now) t.now)) (typ_depth (typ_instance (typ_image binds.now) t.now)) result }
 {
+    if index_above_of_typ(t) == 0 {
+        return typ_leaves(t, left, room);
+    }
     match &t.node {
         TypNode::TFree { .. } => typ_leaves(t, left, room),
         TypNode::TVar { name, index, sort } => match binds.find(*name, *index, sort) {
@@ -38,6 +41,7 @@ pub fn instance_leaves(t: &Typ, binds: &TypMap, left: u32, room: u32) -> Option<
             if room == 0 {
                 return None;
             }
+            let args = args.as_slice();
             let mut rest = left - 1;
             for arg in args {
                 let Some(less) = instance_leaves(arg, binds, rest, room - 1) else {
@@ -50,10 +54,13 @@ pub fn instance_leaves(t: &Typ, binds: &TypMap, left: u32, room: u32) -> Option<
     }
 }
 
-/// The instance of the type.
+/// The instance of the type: a type without schematic variables is handed back as it is.
 pub fn instance_of(alloc: Global, t: &Typ, binds: &TypMap) -> Result<Typ, AllocError>
     ensures { IfOk result (λ u. u ≡ typ_instance (typ_image binds.now) t.now) }
 {
+    if index_above_of_typ(t) == 0 {
+        return t.copy(alloc);
+    }
     match &t.node {
         TypNode::TFree { .. } => t.copy(alloc),
         TypNode::TVar { name, index, sort } => match binds.find(*name, *index, sort) {
@@ -61,16 +68,12 @@ pub fn instance_of(alloc: Global, t: &Typ, binds: &TypMap) -> Result<Typ, AllocE
             None => t.copy(alloc),
         },
         TypNode::Con { name, args } => {
+            let args = args.as_slice();
             let mut images = Vec::with_capacity(alloc, args.len())?;
             for arg in args {
                 images.push(instance_of(alloc, arg, binds)?)?;
             }
-            Ok(Typ {
-                node: TypNode::Con {
-                    name: *name,
-                    args: images,
-                },
-            })
+            Typ::constructed(alloc, *name, images)
         }
     }
 }

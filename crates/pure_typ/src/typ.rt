@@ -2,7 +2,7 @@
 ghost use Rattle.std.specs.Prelude.{◌≡◌, ℕ, IfOk, refl, MatchOption};
 ghost use Rattle.std.specs.Cmp.{partial_equiv_from_equiv, po};
 ghost use Rattle.std.specs.Ordering.{as_partial_cmp};
-ghost use Rattle.pure_definitions.specs.Types.Typ.{typ_eq, typs_of, arrow, IsNoArrow};
+ghost use Rattle.pure_definitions.specs.Types.Typ.{Con, typ_eq, typs_of, arrow, IsNoArrow};
 ghost use Rattle.pure_definitions.specs.Models.Equality.{typ_eq-equiv};
 ghost use Rattle.pure_definitions.specs.Models.Comparison.{typ_rank, typ_cmp, typs_cmp, typ_cmp-total, typ_cmp-ties};
 
@@ -11,6 +11,7 @@ use crate::sort::Sort;
 use std::alloc::{AllocError, Global};
 use std::cmp::Ordering;
 use std::marker::Model;
+use std::sync::Arc;
 
 /// A type.
 #[cycle(typ)]
@@ -25,7 +26,32 @@ pub struct Typ {
 pub enum TypNode {
     TFree { name: Name, sort: Sort },
     TVar { name: Name, index: u32, sort: Sort },
-    Con { name: Name, args: Vec<Typ> },
+    Con { name: Name, args: Args },
+}
+
+/// What a constructor is applied to: nothing, or types that are shared.
+#[cycle(typ)]
+#[derive(Debug, Drop)]
+pub enum Args {
+    Nullary,
+    Shared(Arc<ArgList>),
+}
+
+/// Types with their measures.
+#[cycle(typ)]
+#[derive(Debug, Drop)]
+pub struct ArgList {
+    pub types: Vec<Typ>,
+    pub kept: ArgsKept,
+}
+
+/// The measures of types: their size, the greatest depth, one above the greatest index, or 0, and whether all are ground. Size and depth are cut off at `u64::MAX`.
+#[derive(Clone, Copy, Debug)]
+pub struct ArgsKept {
+    pub size: u64,
+    pub depth: u64,
+    pub above: u64,
+    pub ground: bool,
 }
 
 impl Model for Typ {
@@ -37,8 +63,11 @@ impl Model for Typ {
     ghost coded = { coded_typ };
 
     ghost use Rattle.pure_typ.specs.TypView.{view_typ};
+    ghost use Rattle.pure_typ.specs.TypKept.{IsNodeMeasured};
 
     ghost view = { λ t. view_typ t.node };
+
+    ghost invariant = { λ t. IsNodeMeasured t.node };
 
     ghost size = { tree.typ_depth };
 
@@ -48,17 +77,24 @@ impl Model for Typ {
 }
 
 impl Typ {
+    /// A constructor applied to types.
+    pub fn constructed(alloc: Global, name: Name, types: Vec<Typ>) -> Result<Typ, AllocError>
+        ensures { IfOk result (λ t. t ≡ Con name (typs_of types.items)) }
+    {
+        let args = Args::make(alloc, types)?;
+        Ok(Typ {
+            node: TypNode::Con { name, args },
+        })
+    }
+
     /// The type of functions from one type to another.
     pub fn arrow(alloc: Global, domain: Typ, range: Typ) -> Result<Typ, AllocError>
         ensures { IfOk result (λ t. t ≡ arrow domain range) }
     {
-        let mut args = Vec::with_capacity(alloc, 2)?;
-        args.push(domain)?;
-        args.push(range)?;
-        let name = Name::FUN;
-        Ok(Typ {
-            node: TypNode::Con { name, args },
-        })
+        let mut types = Vec::with_capacity(alloc, 2)?;
+        types.push(domain)?;
+        types.push(range)?;
+        Typ::constructed(alloc, Name::FUN, types)
     }
 
     /// The domain and the range of a type of functions; none exactly where the type isn't one.
@@ -78,40 +114,35 @@ impl Typ {
         Some((&args[0], &args[1]))
     }
 
-    /// An equal type.
-    #[cycle(copied_typ)]
+    /// An equal type, whose arguments are the same ones.
     pub fn copy(&self, alloc: Global) -> Result<Typ, AllocError>
         ensures { IfOk result (λ t. t ≡ self.now) }
     {
-        let node = match &self.node {
-            TypNode::TFree { name, sort } => TypNode::TFree {
-                name: *name,
-                sort: sort.copy(alloc)?,
-            },
-            TypNode::TVar { name, index, sort } => TypNode::TVar {
-                name: *name,
-                index: *index,
-                sort: sort.copy(alloc)?,
-            },
-            TypNode::Con { name, args } => TypNode::Con {
-                name: *name,
-                args: copied_types(alloc, args.as_slice())?,
-            },
-        };
-        Ok(Typ { node })
+        match &self.node {
+            TypNode::TFree { name, sort } => {
+                let sort = sort.copy(alloc)?;
+                Ok(Typ {
+                    node: TypNode::TFree { name: *name, sort },
+                })
+            }
+            TypNode::TVar { name, index, sort } => {
+                let sort = sort.copy(alloc)?;
+                Ok(Typ {
+                    node: TypNode::TVar {
+                        name: *name,
+                        index: *index,
+                        sort,
+                    },
+                })
+            }
+            TypNode::Con { name, args } => {
+                let args = args.copy()?;
+                Ok(Typ {
+                    node: TypNode::Con { name: *name, args },
+                })
+            }
+        }
     }
-}
-
-/// Equal types.
-#[cycle(copied_typ)]
-fn copied_types(alloc: Global, types: &[Typ]) -> Result<Vec<Typ>, AllocError>
-    ensures { IfOk result (λ ts. ts.items ≡ types.now) }
-{
-    let mut copied = Vec::with_capacity(alloc, types.len())?;
-    for typ in types {
-        copied.push(typ.copy(alloc)?)?;
-    }
-    Ok(copied)
 }
 
 /// The place of the type's kind among the kinds.

@@ -4,4 +4,4 @@ use Rattle.pure_definitions.proofs.LeavesLemmas.{HasPut}
 use Rattle.pure_typ.proofs.instance.+instance_leaves.Given as goal
 
 abbrev pub invariant-loop-arg : goal.invariant-loop-arg
-invariant-loop-arg l = HasPut (map (typ_instance (typ_image l.binds)) l.arg-items) l.left l.room l.arg-index l.rest
+invariant-loop-arg l = HasPut (map (typ_instance (typ_image l.binds)) l.args) l.left l.room l.arg-index l.rest

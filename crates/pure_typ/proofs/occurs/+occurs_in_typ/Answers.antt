@@ -24,7 +24,7 @@ occurs_in_typ-returns-then-eq t c =
 
 pub occurs_in_typ-returns-in-Con : goal.occurs_in_typ-returns-in-Con
 occurs_in_typ-returns-in-Con t c =
-    let con : c.args.t.now ≡ Con c.in-Con.name (typs_of c.as_slice.result.now) = rw (← c.t.view_is, c.in-Con.is, c.as_slice.ensures.value) refl in
+    let con : c.args.t.now ≡ Con c.in-Con.name (typs_of c.as_slice.result.now) = rw (← c.t.view_is, c.in-Con.is, c.as_slice.ensures) refl in
     let inside = occurs-con c.args.v.now c.args.t.now c.in-Con.name (typs_of c.as_slice.result.now) con
     (λ e. true≢false (sym ((typ_eq-is_equality c.args.v.now c.args.t.now).1 e) ∙ (sym c.eq.ensures ∙ c.if-eq.false))) in
     (λ h. inside.1 (c.occurs_in_some.ensures.0 h), λ o. c.occurs_in_some.ensures.1 (inside.0 o))
