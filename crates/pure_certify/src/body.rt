@@ -15,7 +15,7 @@ pub fn has_variable(t: &Term) -> bool
         TermNode::Var { .. } => true,
         TermNode::Bound { .. } => false,
         TermNode::Abs { body, .. } => has_variable(body),
-        TermNode::App { fun, arg } => has_variable(fun) || has_variable(arg),
+        TermNode::App { fun, arg, .. } => has_variable(fun) || has_variable(arg),
     }
 }
 
@@ -46,7 +46,7 @@ pub fn has_extra_typ(typ: &Typ, t: &Term) -> bool
         TermNode::Free { typ: own, .. } => has_extra(typ, own),
         TermNode::Var { typ: own, .. } => has_extra(typ, own),
         TermNode::Bound { .. } => false,
-        TermNode::Abs { typ: own, body } => has_extra(typ, own) || has_extra_typ(typ, body),
-        TermNode::App { fun, arg } => has_extra_typ(typ, fun) || has_extra_typ(typ, arg),
+        TermNode::Abs { typ: own, body, .. } => has_extra(typ, own) || has_extra_typ(typ, body),
+        TermNode::App { fun, arg, .. } => has_extra_typ(typ, fun) || has_extra_typ(typ, arg),
     }
 }

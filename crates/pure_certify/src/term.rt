@@ -46,11 +46,11 @@ pub fn fault_of_term<D: Tables>(
         TermNode::Free { typ, .. } => Ok(fault_of_typ(tables, typ)),
         TermNode::Var { typ, .. } => Ok(fault_of_typ(tables, typ)),
         TermNode::Bound { .. } => Ok(None),
-        TermNode::Abs { typ, body } => match fault_of_typ(tables, typ) {
+        TermNode::Abs { typ, body, .. } => match fault_of_typ(tables, typ) {
             Some(fault) => Ok(Some(fault)),
             None => fault_of_term(alloc, tables, body),
         },
-        TermNode::App { fun, arg } => match fault_of_term(alloc, tables, fun)? {
+        TermNode::App { fun, arg, .. } => match fault_of_term(alloc, tables, fun)? {
             Some(fault) => Ok(Some(fault)),
             None => fault_of_term(alloc, tables, arg),
         },

@@ -135,11 +135,11 @@ fn converted<B: Base, F: Fn(&B, &Term) -> Result<Option<Thm>, ConvFault>>(
         TermNode::Free { .. } => Ok(kept(alloc, t)?),
         TermNode::Var { .. } => Ok(kept(alloc, t)?),
         TermNode::Bound { .. } => Ok(kept(alloc, t)?),
-        TermNode::Abs { typ, body } => {
+        TermNode::Abs { typ, body, .. } => {
             let inside = converted(alloc, thy, f, body)?;
             Ok(under(alloc, typ, inside)?)
         }
-        TermNode::App { fun, arg } => {
+        TermNode::App { fun, arg, .. } => {
             let first = converted(alloc, thy, f, fun)?;
             let second = converted(alloc, thy, f, arg)?;
             Ok(joined(alloc, first, second)?)

@@ -46,7 +46,7 @@ fn unfolds_some(alloc: Global, rule: &Rule, t: &Term) -> Result<bool, AllocError
         TermNode::Var { .. } => Ok(false),
         TermNode::Bound { .. } => Ok(false),
         TermNode::Abs { body, .. } => unfolds_some(alloc, rule, body),
-        TermNode::App { fun, arg } => {
+        TermNode::App { fun, arg, .. } => {
             let first = unfolds_some(alloc, rule, fun)?;
             let second = unfolds_some(alloc, rule, arg)?;
             Ok(first || second)
@@ -118,13 +118,13 @@ fn leaves(
     }
     match &t.node {
         TermNode::Const { name, typ } => constant_leaves(alloc, rule, t, *name, typ, left, room),
-        TermNode::Abs { typ, body } => {
+        TermNode::Abs { typ, body, .. } => {
             let Some(rest) = typ_leaves(typ, left - 1, room - 1) else {
                 return Ok(None);
             };
             leaves(alloc, rule, body, rest, room - 1)
         }
-        TermNode::App { fun, arg } => {
+        TermNode::App { fun, arg, .. } => {
             let Some(rest) = leaves(alloc, rule, fun, left - 1, room - 1)? else {
                 return Ok(None);
             };
@@ -195,11 +195,11 @@ fn put(alloc: Global, rule: &Rule, t: &Term) -> Result<Box<Term>, Grow>
 {
     match &t.node {
         TermNode::Const { name, typ } => put_constant(alloc, rule, t, *name, typ),
-        TermNode::Abs { typ, body } => {
+        TermNode::Abs { typ, body, .. } => {
             let body = put(alloc, rule, body)?;
             Ok(abstraction(alloc, typ, body)?)
         }
-        TermNode::App { fun, arg } => {
+        TermNode::App { fun, arg, .. } => {
             let fun = put(alloc, rule, fun)?;
             let arg = put(alloc, rule, arg)?;
             Ok(applied(alloc, fun, arg)?)

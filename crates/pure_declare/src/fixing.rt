@@ -53,11 +53,11 @@ fn fixed_block(alloc: Global, t: &Term) -> Result<Box<Term>, AllocError>
             typ: fixed_typ(alloc, typ)?,
         },
         TermNode::Bound { place } => TermNode::Bound { place: *place },
-        TermNode::Abs { typ, body } => TermNode::Abs {
+        TermNode::Abs { typ, body, .. } => TermNode::Abs {
             typ: fixed_typ(alloc, typ)?,
             body: fixed_block(alloc, body)?,
         },
-        TermNode::App { fun, arg } => TermNode::App {
+        TermNode::App { fun, arg, .. } => TermNode::App {
             fun: fixed_block(alloc, fun)?,
             arg: fixed_block(alloc, arg)?,
         },

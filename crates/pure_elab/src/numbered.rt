@@ -82,12 +82,12 @@ pub(crate) fn number_term(
             Ok(())
         }
         TermNode::Bound { .. } => Ok(()),
-        TermNode::Abs { typ, body } => {
+        TermNode::Abs { typ, body, .. } => {
             number_typ(alloc, numbering, first, numbers, typ)?;
             number_term(alloc, numbering, first, numbers, body)?;
             Ok(())
         }
-        TermNode::App { fun, arg } => {
+        TermNode::App { fun, arg, .. } => {
             number_term(alloc, numbering, first, numbers, fun)?;
             number_term(alloc, numbering, first, numbers, arg)?;
             Ok(())

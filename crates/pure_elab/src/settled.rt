@@ -115,7 +115,7 @@ fn settle_term(
             Ok(found)
         }
         TermNode::Bound { .. } => Ok(Some(left - 1)),
-        TermNode::Abs { typ, body } => {
+        TermNode::Abs { typ, body, .. } => {
             let domain = settle_typ(settings, alloc, typ, left - 1, room - 1)?;
             let Some(rest) = domain else {
                 return Ok(None);
@@ -123,7 +123,7 @@ fn settle_term(
             let found = settle_term(settings, alloc, body, rest, room - 1)?;
             Ok(found)
         }
-        TermNode::App { fun, arg } => {
+        TermNode::App { fun, arg, .. } => {
             let function = settle_term(settings, alloc, fun, left - 1, room - 1)?;
             let Some(rest) = function else {
                 return Ok(None);

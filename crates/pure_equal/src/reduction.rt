@@ -21,7 +21,7 @@ fn as_abstraction(t: &Term) -> Option<(&Typ, &Term)>
     ensures { MatchOption result (IsNoAbstraction t.now) (λ parts. t.now ≡ tree.Abs parts.0.now parts.1.now) }
 {
     match &t.node {
-        TermNode::Abs { typ, body } => Some((typ, &**body)),
+        TermNode::Abs { typ, body, .. } => Some((typ, &**body)),
         _ => None,
     }
 }
@@ -86,7 +86,7 @@ fn is_closed_under(t: &Term, binders: u32) -> Result<bool, AllocError>
             };
             is_closed_under(body, under)
         }
-        TermNode::App { fun, arg } => {
+        TermNode::App { fun, arg, .. } => {
             if !is_closed_under(fun, binders)? {
                 return Ok(false);
             }

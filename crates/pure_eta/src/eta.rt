@@ -28,16 +28,16 @@ fn reduced(alloc: Global, t: &Term) -> Result<Bare, AllocError>
     ensures { IfOk result (λ bare. IsBare (eta_form t.now) bare.term bare.gone bare.free) }
 {
     let term = match &t.node {
-        TermNode::Abs { typ, body } => {
+        TermNode::Abs { typ, body, .. } => {
             let b: &Term = body;
-            if let TermNode::App { fun, arg } = &b.node {
+            if let TermNode::App { fun, arg, .. } = &b.node {
                 let function = reduced(alloc, fun)?;
                 let argument = lowered(reduced(alloc, arg)?)?;
                 return contract_application(alloc, typ, function, argument);
             }
             contract(alloc, typ, lowered(reduced(alloc, body)?)?)?
         }
-        TermNode::App { fun, arg } => {
+        TermNode::App { fun, arg, .. } => {
             let function = lowered(reduced(alloc, fun)?)?;
             let argument = lowered(reduced(alloc, arg)?)?;
             application(alloc, function, argument)?
@@ -87,7 +87,7 @@ fn lower(t: &mut Term, by: u32, from: u32) -> Result<(), AllocError>
             };
             lower(body, by, under)
         }
-        TermNode::App { fun, arg } => {
+        TermNode::App { fun, arg, .. } => {
             lower(fun, by, from)?;
             lower(arg, by, from)
         }
@@ -113,7 +113,7 @@ fn free_from(t: &Term, from: u32) -> Result<u32, AllocError>
             };
             free_from(body, under)
         }
-        TermNode::App { fun, arg } => {
+        TermNode::App { fun, arg, .. } => {
             let function = free_from(fun, from)?;
             let argument = free_from(arg, from)?;
             Ok(function.min(argument))
@@ -163,7 +163,7 @@ fn contract(alloc: Global, typ: &Typ, body: Term) -> Result<Term, AllocError>
 {
     let Term { node } = body;
     let node = match node {
-        TermNode::App { fun, arg } => {
+        TermNode::App { fun, arg, .. } => {
             if is_bound_0(&arg) && !is_loose_at(&fun, 0)? {
                 let mut function = Box::into_inner(fun);
                 lower(&mut function, 1, 0)?;
@@ -202,7 +202,7 @@ fn is_loose_at(t: &Term, place: u32) -> Result<bool, AllocError>
             };
             is_loose_at(body, under)
         }
-        TermNode::App { fun, arg } => {
+        TermNode::App { fun, arg, .. } => {
             if is_loose_at(fun, place)? {
                 return Ok(true);
             }

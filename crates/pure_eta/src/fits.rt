@@ -129,7 +129,7 @@ pub fn long_fits(t: &Term, scope: &Scope, is_applied: bool, left: u32) -> Option
         TermNode::Free { typ, .. } => leaf_fits(typ, t, scope, is_applied, left),
         TermNode::Var { typ, .. } => leaf_fits(typ, t, scope, is_applied, left),
         TermNode::Bound { .. } => front_fits(t, scope, is_applied, left, 0),
-        TermNode::Abs { typ, body } => {
+        TermNode::Abs { typ, body, .. } => {
             let Some(binder) = typ_fits(typ, left) else {
                 return None;
             };
@@ -139,7 +139,7 @@ pub fn long_fits(t: &Term, scope: &Scope, is_applied: bool, left: u32) -> Option
             };
             node_fits(under.left, binder.depth.max(under.depth))
         }
-        TermNode::App { fun, arg } => {
+        TermNode::App { fun, arg, .. } => {
             let Some(function) = long_fits(fun, scope, true, left) else {
                 return None;
             };

@@ -45,11 +45,11 @@ fn lengthen(alloc: Global, t: &Term, scope: &Scope, is_applied: bool) -> Result<
     ensures { IfOk result (λ u. u ≡ long_term is_applied (scope_typs scope.now) t.now) }
 {
     let front = match &t.node {
-        TermNode::Abs { typ, body } => {
+        TermNode::Abs { typ, body, .. } => {
             let body = lengthen(alloc, body, &Scope::Under(typ, &*scope), false)?;
             return abstraction(alloc, typ, body);
         }
-        TermNode::App { fun, arg } => {
+        TermNode::App { fun, arg, .. } => {
             let function = lengthen(alloc, fun, scope, true)?;
             let argument = lengthen(alloc, arg, scope, false)?;
             application(alloc, function, argument)?
@@ -154,7 +154,7 @@ fn raise(t: &mut Term, by: u32, from: u32) -> Result<(), AllocError>
             };
             raise(body, by, under)
         }
-        TermNode::App { fun, arg } => {
+        TermNode::App { fun, arg, .. } => {
             raise(fun, by, from)?;
             raise(arg, by, from)
         }

@@ -35,7 +35,7 @@ fn own_front_typ<'t>(t: &'t Term, scope: &Scope<'_, 't>) -> Option<&'t Typ>
             Some(typ)
         }
         TermNode::Abs { .. } => None,
-        TermNode::App { fun, arg } => {
+        TermNode::App { fun, arg, .. } => {
             let Some(typ) = own_front_typ(fun, &*scope) else {
                 return None;
             };
@@ -56,7 +56,7 @@ fn is_long_under(t: &Term, scope: &Scope) -> bool
     ensures { OnTrue result (IsOwnLong (scope_typs scope.now) t.now) }
 {
     match &t.node {
-        TermNode::Abs { typ, body } => is_long_under(body, &Scope::Under(typ, &*scope)),
+        TermNode::Abs { typ, body, .. } => is_long_under(body, &Scope::Under(typ, &*scope)),
         _ => match own_front_typ(&*t, &*scope) {
             Some(typ) => is_base(typ),
             None => false,

@@ -88,14 +88,14 @@ fn lifted_box(alloc: Global, items: &[Item], under: u32, t: &Term) -> Result<Box
         TermNode::Var { name, index, typ } => {
             lifted_variable(alloc, items, under, *name, *index, typ)
         }
-        TermNode::Abs { typ, body } => {
+        TermNode::Abs { typ, body, .. } => {
             let deeper = one_more(under)?;
             let typ = typ.copy(alloc)?;
             let body = lifted_box(alloc, items, deeper, body)?;
             let node = TermNode::Abs { typ, body };
             Ok(Box::new(alloc, Term { node })?)
         }
-        TermNode::App { fun, arg } => {
+        TermNode::App { fun, arg, .. } => {
             let fun = lifted_box(alloc, items, under, fun)?;
             let arg = lifted_box(alloc, items, under, arg)?;
             let node = TermNode::App { fun, arg };

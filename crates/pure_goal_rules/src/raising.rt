@@ -74,13 +74,13 @@ fn raised_box(alloc: Global, by: u32, t: &Term) -> Result<Box<Term>, AllocError>
             let node = TermNode::Bound { place: *place };
             Ok(Box::new(alloc, Term { node })?)
         }
-        TermNode::Abs { typ, body } => {
+        TermNode::Abs { typ, body, .. } => {
             let typ = raised_typ(alloc, by, typ)?;
             let body = raised_box(alloc, by, body)?;
             let node = TermNode::Abs { typ, body };
             Ok(Box::new(alloc, Term { node })?)
         }
-        TermNode::App { fun, arg } => {
+        TermNode::App { fun, arg, .. } => {
             let fun = raised_box(alloc, by, fun)?;
             let arg = raised_box(alloc, by, arg)?;
             let node = TermNode::App { fun, arg };

@@ -17,7 +17,7 @@ pub fn as_quantified(t: &Term) -> Option<(&Typ, &Term)>
         return None;
     };
     match &function.node {
-        TermNode::Abs { typ, body } => {
+        TermNode::Abs { typ, body, .. } => {
             if are_same_typs(domain, typ) {
                 Some((domain, &**body))
             } else {

@@ -42,14 +42,14 @@ fn lifted_box(alloc: Global, by: u32, from: u32, t: &Term) -> Result<Box<Term>, 
             let node = TermNode::Bound { place };
             Ok(Box::new(alloc, Term { node })?)
         }
-        TermNode::Abs { typ, body } => {
+        TermNode::Abs { typ, body, .. } => {
             let under = one_more(from)?;
             let typ = typ.copy(alloc)?;
             let body = lifted_box(alloc, by, under, body)?;
             let node = TermNode::Abs { typ, body };
             Ok(Box::new(alloc, Term { node })?)
         }
-        TermNode::App { fun, arg } => {
+        TermNode::App { fun, arg, .. } => {
             let fun = lifted_box(alloc, by, from, fun)?;
             let arg = lifted_box(alloc, by, from, arg)?;
             let node = TermNode::App { fun, arg };

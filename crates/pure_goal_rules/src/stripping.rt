@@ -40,14 +40,14 @@ fn put_variable(alloc: Global, under: u32, v: &Term, t: &Term) -> Result<Box<Ter
 {
     match &t.node {
         TermNode::Bound { place } => at_place(alloc, under, v, *place),
-        TermNode::Abs { typ, body } => {
+        TermNode::Abs { typ, body, .. } => {
             let deeper = one_more(under)?;
             let typ = typ.copy(alloc)?;
             let body = put_variable(alloc, deeper, v, body)?;
             let node = TermNode::Abs { typ, body };
             Ok(Box::new(alloc, Term { node })?)
         }
-        TermNode::App { fun, arg } => {
+        TermNode::App { fun, arg, .. } => {
             let fun = put_variable(alloc, under, v, fun)?;
             let arg = put_variable(alloc, under, v, arg)?;
             let node = TermNode::App { fun, arg };

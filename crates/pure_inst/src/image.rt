@@ -144,13 +144,13 @@ fn leaves(t: &Term, typs: &TypMap, terms: &TermMap, left: u32, room: u32) -> Opt
             image_leaves(*name, *index, typ, typs, terms, left, room)
         }
         TermNode::Bound { .. } => Some(left - 1),
-        TermNode::Abs { typ, body } => {
+        TermNode::Abs { typ, body, .. } => {
             let Some(rest) = instance_leaves(typ, typs, left - 1, room - 1) else {
                 return None;
             };
             leaves(body, typs, terms, rest, room - 1)
         }
-        TermNode::App { fun, arg } => {
+        TermNode::App { fun, arg, .. } => {
             let Some(rest) = leaves(fun, typs, terms, left - 1, room - 1) else {
                 return None;
             };
@@ -209,13 +209,13 @@ fn put(alloc: Global, t: &Term, typs: &TypMap, terms: &TermMap) -> Result<Box<Te
             let node = TermNode::Bound { place: *place };
             Ok(Box::new(alloc, Term { node })?)
         }
-        TermNode::Abs { typ, body } => {
+        TermNode::Abs { typ, body, .. } => {
             let typ = instance_of(alloc, typ, typs)?;
             let body = put(alloc, body, typs, terms)?;
             let node = TermNode::Abs { typ, body };
             Ok(Box::new(alloc, Term { node })?)
         }
-        TermNode::App { fun, arg } => {
+        TermNode::App { fun, arg, .. } => {
             let fun = put(alloc, fun, typs, terms)?;
             let arg = put(alloc, arg, typs, terms)?;
             let node = TermNode::App { fun, arg };

@@ -50,8 +50,8 @@ fn lacks(t: &Term, tfrees: &[Name], frees: &[Name]) -> bool
         TermNode::Free { name, typ } => !is_named(frees, *name) && lacks_typs(typ, tfrees),
         TermNode::Var { typ, .. } => lacks_typs(typ, tfrees),
         TermNode::Bound { .. } => true,
-        TermNode::Abs { typ, body } => lacks_typs(typ, tfrees) && lacks(body, tfrees, frees),
-        TermNode::App { fun, arg } => lacks(fun, tfrees, frees) && lacks(arg, tfrees, frees),
+        TermNode::Abs { typ, body, .. } => lacks_typs(typ, tfrees) && lacks(body, tfrees, frees),
+        TermNode::App { fun, arg, .. } => lacks(fun, tfrees, frees) && lacks(arg, tfrees, frees),
     }
 }
 

@@ -211,13 +211,13 @@ fn renamed_box(alloc: Global, renaming: &Renaming, t: &Term) -> Result<Box<Term>
             let node = TermNode::Bound { place: *place };
             Ok(Box::new(alloc, Term { node })?)
         }
-        TermNode::Abs { typ, body } => {
+        TermNode::Abs { typ, body, .. } => {
             let typ = renamed_typ(alloc, renaming, typ)?;
             let body = renamed_box(alloc, renaming, body)?;
             let node = TermNode::Abs { typ, body };
             Ok(Box::new(alloc, Term { node })?)
         }
-        TermNode::App { fun, arg } => {
+        TermNode::App { fun, arg, .. } => {
             let fun = renamed_box(alloc, renaming, fun)?;
             let arg = renamed_box(alloc, renaming, arg)?;
             let node = TermNode::App { fun, arg };

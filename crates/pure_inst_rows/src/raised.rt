@@ -40,8 +40,8 @@ fn is_raisable(t: &Term, by: u32) -> bool
         TermNode::Free { typ, .. } => is_raisable_typ(typ, by),
         TermNode::Var { index, typ, .. } => { *index <= u32::MAX - by && is_raisable_typ(typ, by) }
         TermNode::Bound { .. } => true,
-        TermNode::Abs { typ, body } => is_raisable_typ(typ, by) && is_raisable(body, by),
-        TermNode::App { fun, arg } => is_raisable(fun, by) && is_raisable(arg, by),
+        TermNode::Abs { typ, body, .. } => is_raisable_typ(typ, by) && is_raisable(body, by),
+        TermNode::App { fun, arg, .. } => is_raisable(fun, by) && is_raisable(arg, by),
     }
 }
 

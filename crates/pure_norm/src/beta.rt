@@ -65,7 +65,7 @@ fn is_normal(t: &Term) -> bool
 {
     match &t.node {
         TermNode::Abs { body, .. } => is_normal(body),
-        TermNode::App { fun, arg } => !is_abs(fun) && is_normal(fun) && is_normal(arg),
+        TermNode::App { fun, arg, .. } => !is_abs(fun) && is_normal(fun) && is_normal(arg),
         _ => true,
     }
 }

@@ -50,11 +50,11 @@ pub fn push_cells(
             binders,
             above,
         })?,
-        TermNode::Abs { typ, body } => {
+        TermNode::Abs { typ, body, .. } => {
             push_cells(body, binders + 1, above + 1, cells)?;
             cells.push(other(typ, above))?;
         }
-        TermNode::App { fun, arg } => {
+        TermNode::App { fun, arg, .. } => {
             let start = cells.as_slice().len();
             push_cells(fun, binders, above + 1, cells)?;
             let front = cells.as_slice().len().saturating_sub(start);

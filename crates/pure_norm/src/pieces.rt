@@ -42,8 +42,8 @@ pub fn form_of<'t>(t: &Piece<'t>) -> Form<'t>
     let term = t.term;
     match &term.node {
         TermNode::Bound { place } => Form::Bound { place: *place },
-        TermNode::Abs { typ, body } => abstraction(t, typ, body),
-        TermNode::App { fun, arg } => application(t, fun, arg),
+        TermNode::Abs { typ, body, .. } => abstraction(t, typ, body),
+        TermNode::App { fun, arg, .. } => application(t, fun, arg),
         _ => Form::Leaf,
     }
 }

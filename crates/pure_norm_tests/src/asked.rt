@@ -12,7 +12,7 @@ pub(crate) fn is_closed(t: &Term, binders: u32) -> bool
     match &t.node {
         TermNode::Bound { place } => *place < binders,
         TermNode::Abs { body, .. } => binders < u32::MAX && is_closed(body, binders + 1),
-        TermNode::App { fun, arg } => is_closed(fun, binders) && is_closed(arg, binders),
+        TermNode::App { fun, arg, .. } => is_closed(fun, binders) && is_closed(arg, binders),
         _ => true,
     }
 }
@@ -33,7 +33,7 @@ pub(crate) fn is_normal(t: &Term) -> bool
 {
     match &t.node {
         TermNode::Abs { body, .. } => is_normal(body),
-        TermNode::App { fun, arg } => !is_abs(fun) && is_normal(fun) && is_normal(arg),
+        TermNode::App { fun, arg, .. } => !is_abs(fun) && is_normal(fun) && is_normal(arg),
         _ => true,
     }
 }

@@ -90,13 +90,13 @@ fn with_constant(
                 boxed(alloc, t)
             }
         }
-        TermNode::Abs { typ: binder, body } => {
+        TermNode::Abs { typ: binder, body, .. } => {
             let binder = binder.copy(alloc)?;
             let body = with_constant(alloc, v, typ, c, body)?;
             let node = TermNode::Abs { typ: binder, body };
             Ok(Box::new(alloc, Term { node })?)
         }
-        TermNode::App { fun, arg } => match left_over(v, typ, fun) {
+        TermNode::App { fun, arg, .. } => match left_over(v, typ, fun) {
             Some(rest) => constant_function(alloc, after_argument(rest), c),
             None => {
                 let fun = with_constant(alloc, v, typ, c, fun)?;

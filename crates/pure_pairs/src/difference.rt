@@ -15,7 +15,7 @@ fn node_count(t: &Term) -> u32
 {
     match &t.node {
         TermNode::Abs { body, .. } => node_count(body).saturating_add(1),
-        TermNode::App { fun, arg } => node_count(fun)
+        TermNode::App { fun, arg, .. } => node_count(fun)
             .saturating_add(node_count(arg))
             .saturating_add(1),
         _ => 1,

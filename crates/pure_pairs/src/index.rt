@@ -31,8 +31,8 @@ fn term_index_above(t: &Term) -> u64
         TermNode::Free { typ, .. } => typ_index_above(typ),
         TermNode::Var { index, typ, .. } => (*index as u64 + 1).max(typ_index_above(typ)),
         TermNode::Bound { .. } => 0,
-        TermNode::Abs { typ, body } => typ_index_above(typ).max(term_index_above(body)),
-        TermNode::App { fun, arg } => term_index_above(fun).max(term_index_above(arg)),
+        TermNode::Abs { typ, body, .. } => typ_index_above(typ).max(term_index_above(body)),
+        TermNode::App { fun, arg, .. } => term_index_above(fun).max(term_index_above(arg)),
     }
 }
 

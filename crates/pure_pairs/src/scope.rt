@@ -13,7 +13,7 @@ fn body_of<'t>(t: &'t Term, typ: &Typ) -> Option<&'t Term>
     ensures { MatchOption result (IsNotOver (typ.now ∷ []) t.now) (λ b. t.now ≡ closed_over (typ.now ∷ []) b.now) }
 {
     match &t.node {
-        TermNode::Abs { typ: own, body } => { if *own == *typ { Some(body) } else { None } }
+        TermNode::Abs { typ: own, body, .. } => { if *own == *typ { Some(body) } else { None } }
         _ => None,
     }
 }

@@ -58,7 +58,7 @@ impl<'t> Form<'t> {
             },
             TermNode::Bound { place } => Form::Bound { place: *place },
             TermNode::Abs { body, .. } => Form::Lambda { body },
-            TermNode::App { fun, arg } => applied(fun, arg),
+            TermNode::App { fun, arg, .. } => applied(fun, arg),
         }
     }
 

@@ -48,7 +48,7 @@ pub fn stays(typs: &TypMap, terms: &TermMap, t: &Term) -> bool
         TermNode::Free { typ, .. } => stays_typ(typs, typ),
         TermNode::Var { name, index, typ } => stays_variable(typs, terms, *name, *index, typ),
         TermNode::Bound { .. } => true,
-        TermNode::Abs { typ, body } => stays_typ(typs, typ) && stays(typs, terms, body),
-        TermNode::App { fun, arg } => stays(typs, terms, fun) && stays(typs, terms, arg),
+        TermNode::Abs { typ, body, .. } => stays_typ(typs, typ) && stays(typs, terms, body),
+        TermNode::App { fun, arg, .. } => stays(typs, terms, fun) && stays(typs, terms, arg),
     }
 }

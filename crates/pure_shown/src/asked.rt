@@ -12,7 +12,7 @@ pub fn is_closed_under(t: &Term, binders: u32) -> bool
     match &t.node {
         TermNode::Bound { place } => *place < binders,
         TermNode::Abs { body, .. } => binders < u32::MAX && is_closed_under(body, binders + 1),
-        TermNode::App { fun, arg } => is_closed_under(fun, binders)
+        TermNode::App { fun, arg, .. } => is_closed_under(fun, binders)
             && is_closed_under(arg, binders),
         _ => true,
     }

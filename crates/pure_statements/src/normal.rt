@@ -52,7 +52,7 @@ fn has_no_redex(t: &Term) -> bool
 {
     match &t.node {
         TermNode::Abs { body, .. } => has_no_redex(body),
-        TermNode::App { fun, arg } => !is_abs(fun) && has_no_redex(fun) && has_no_redex(arg),
+        TermNode::App { fun, arg, .. } => !is_abs(fun) && has_no_redex(fun) && has_no_redex(arg),
         _ => true,
     }
 }

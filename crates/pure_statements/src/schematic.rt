@@ -59,11 +59,11 @@ fn generalised_block(alloc: Global, t: &Term) -> Result<Box<Term>, AllocError>
             typ: schematic_typ(alloc, typ)?,
         },
         TermNode::Bound { place } => TermNode::Bound { place: *place },
-        TermNode::Abs { typ, body } => TermNode::Abs {
+        TermNode::Abs { typ, body, .. } => TermNode::Abs {
             typ: schematic_typ(alloc, typ)?,
             body: generalised_block(alloc, body)?,
         },
-        TermNode::App { fun, arg } => TermNode::App {
+        TermNode::App { fun, arg, .. } => TermNode::App {
             fun: generalised_block(alloc, fun)?,
             arg: generalised_block(alloc, arg)?,
         },

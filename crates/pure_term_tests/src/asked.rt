@@ -11,7 +11,7 @@ pub(crate) fn can_lift(t: &Term, by: u32, from: u32) -> bool
     match &t.node {
         TermNode::Bound { place } => *place < from || place.checked_add(by).is_some(),
         TermNode::Abs { body, .. } => from < u32::MAX && can_lift(body, by, from + 1),
-        TermNode::App { fun, arg } => can_lift(fun, by, from) && can_lift(arg, by, from),
+        TermNode::App { fun, arg, .. } => can_lift(fun, by, from) && can_lift(arg, by, from),
         _ => true,
     }
 }
@@ -23,7 +23,7 @@ pub(crate) fn can_put(place: u32, arg: &Term, body: &Term) -> bool
     match &body.node {
         TermNode::Bound { place: bound } => *bound != place || can_lift(arg, place, 0),
         TermNode::Abs { body, .. } => place < u32::MAX && can_put(place + 1, arg, body),
-        TermNode::App { fun, arg: inner } => can_put(place, arg, fun) && can_put(place, arg, inner),
+        TermNode::App { fun, arg: inner, .. } => can_put(place, arg, fun) && can_put(place, arg, inner),
         _ => true,
     }
 }

@@ -103,7 +103,7 @@ pub fn as_application(t: &Term) -> Option<(&Term, &Term)>
     ensures { MatchOption result (IsNoApplication t.now) (λ parts. t.now ≡ tree.App parts.0.now parts.1.now) }
 {
     match &t.node {
-        TermNode::App { fun, arg } => Some((&**fun, &**arg)),
+        TermNode::App { fun, arg, .. } => Some((&**fun, &**arg)),
         _ => None,
     }
 }

@@ -56,11 +56,11 @@ pub(crate) fn schematic_term(alloc: Global, t: &Term) -> Result<Box<Term>, Alloc
             typ: schematic_typ(alloc, typ)?,
         },
         TermNode::Bound { place } => TermNode::Bound { place: *place },
-        TermNode::Abs { typ, body } => TermNode::Abs {
+        TermNode::Abs { typ, body, .. } => TermNode::Abs {
             typ: schematic_typ(alloc, typ)?,
             body: schematic_term(alloc, body)?,
         },
-        TermNode::App { fun, arg } => TermNode::App {
+        TermNode::App { fun, arg, .. } => TermNode::App {
             fun: schematic_term(alloc, fun)?,
             arg: schematic_term(alloc, arg)?,
         },

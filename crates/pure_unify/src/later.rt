@@ -90,13 +90,13 @@ fn leaves_later(
             }
         }
         TermNode::Bound { .. } => Some(left - 1),
-        TermNode::Abs { typ, body } => {
+        TermNode::Abs { typ, body, .. } => {
             let Some(rest) = instance_leaves(typ, typs, left - 1, room - 1) else {
                 return None;
             };
             leaves_later(settings, typs, terms, body, rest, room - 1)
         }
-        TermNode::App { fun, arg } => {
+        TermNode::App { fun, arg, .. } => {
             let Some(rest) = leaves_later(settings, typs, terms, fun, left - 1, room - 1) else {
                 return None;
             };
@@ -162,13 +162,13 @@ fn made_later(
             let node = TermNode::Bound { place: *place };
             Ok(Box::new(alloc, Term { node })?)
         }
-        TermNode::Abs { typ, body } => {
+        TermNode::Abs { typ, body, .. } => {
             let typ = instance_of(alloc, typ, typs)?;
             let body = made_later(alloc, settings, typs, terms, body)?;
             let node = TermNode::Abs { typ, body };
             Ok(Box::new(alloc, Term { node })?)
         }
-        TermNode::App { fun, arg } => {
+        TermNode::App { fun, arg, .. } => {
             let fun = made_later(alloc, settings, typs, terms, fun)?;
             let arg = made_later(alloc, settings, typs, terms, arg)?;
             let node = TermNode::App { fun, arg };

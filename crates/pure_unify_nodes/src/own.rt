@@ -36,7 +36,7 @@ fn front_typ<'t>(t: &'t Term, scope: &Scope<'_, 't>) -> Option<&'t Typ>
             Some(typ)
         }
         TermNode::Abs { .. } => None,
-        TermNode::App { fun, arg } => {
+        TermNode::App { fun, arg, .. } => {
             let Some(typ) = front_typ(fun, &*scope) else {
                 return None;
             };
@@ -57,7 +57,7 @@ fn is_long_under(t: &Term, scope: &Scope) -> bool
     ensures { OnTrue result (IsLongUnder (scope_typs scope.now) t.now) }
 {
     match &t.node {
-        TermNode::Abs { typ, body } => is_long_under(body, &Scope::Under(typ, &*scope)),
+        TermNode::Abs { typ, body, .. } => is_long_under(body, &Scope::Under(typ, &*scope)),
         _ => match front_typ(&*t, &*scope) {
             Some(typ) => is_base(typ),
             None => false,

@@ -26,7 +26,7 @@ fn stands_in(v: &Term, inner: u32, t: &Term) -> bool
 {
     match &t.node {
         TermNode::Abs { body, .. } => stands_in(v, inner + 1, body),
-        TermNode::App { fun, arg } => {
+        TermNode::App { fun, arg, .. } => {
             *v == *front(fun)
                 || (is_firm_head(inner, front(fun))
                     && (stands_in_arguments(v, inner, fun) || stands_in(v, inner, arg)))
@@ -42,7 +42,7 @@ fn stands_in_arguments(v: &Term, inner: u32, t: &Term) -> bool
     ensures { result ≡ firm.stands_in_arguments v.now inner t.now }
 {
     match &t.node {
-        TermNode::App { fun, arg } => {
+        TermNode::App { fun, arg, .. } => {
             stands_in_arguments(v, inner, fun) || stands_in(v, inner, arg)
         }
         _ => false,

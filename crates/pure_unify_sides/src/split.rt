@@ -13,7 +13,7 @@ fn boxed_below(alloc: Global, side: &Term, part: &Term) -> Result<Box<Term>, All
     ensures { IfOk result (λ t. t.value ≡ fronts.below (fronts.abstractions side.now) part.now) }
 {
     match &side.node {
-        TermNode::Abs { typ, body } => {
+        TermNode::Abs { typ, body, .. } => {
             let node = TermNode::Abs {
                 typ: typ.copy(alloc)?,
                 body: boxed_below(alloc, body, part)?,

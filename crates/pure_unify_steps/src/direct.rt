@@ -49,7 +49,7 @@ fn is_contracted(t: &Term) -> bool
 {
     match &t.node {
         TermNode::Abs { body, .. } => is_other_body(body) && is_contracted(body),
-        TermNode::App { fun, arg } => is_contracted(fun) && is_contracted(arg),
+        TermNode::App { fun, arg, .. } => is_contracted(fun) && is_contracted(arg),
         _ => true,
     }
 }

@@ -30,7 +30,7 @@ fn push_variables(alloc: Global, list: &mut Vec<Term>, t: &Term) -> Result<(), A
             push_variables(alloc, list, body)?;
             Ok(())
         }
-        TermNode::App { fun, arg } => {
+        TermNode::App { fun, arg, .. } => {
             push_variables(alloc, list, fun)?;
             push_variables(alloc, list, arg)?;
             Ok(())

@@ -29,7 +29,7 @@ fn is_touched(map: &TermMap, t: &Term) -> bool
         },
         TermNode::Bound { .. } => false,
         TermNode::Abs { body, .. } => is_touched(map, body),
-        TermNode::App { fun, arg } => is_touched(map, fun) || is_touched(map, arg),
+        TermNode::App { fun, arg, .. } => is_touched(map, fun) || is_touched(map, arg),
     }
 }
 
