@@ -19,15 +19,15 @@ pub loop-arg-preserved : goal.loop-arg-preserved
 loop-arg-preserved t c =
     let found : IsResolved c.args.settings.now.sets c.arg-item.result c.loop-arg.rest (c.args.room - 1) (Some c.in-Some.image) = rw c.in-Some.is at c.in_ok-found-in-Con.ensures in
     record {
-      put = instance-goes_on (composed c.args.settings.now.sets) c.deref-arg-items.result.now c.args.left c.args.room c.loop-arg.arg-index c.loop-arg.rest c.in-Some.image.left c.arg-item.result c.loop-arg.invariant.put c.loop-arg-test.true c.arg-item.is found.1;
-      images = images-more (composed c.args.settings.now.sets) c.deref-arg-items.result.now c.loop-arg.images.items c.push.new.self.items c.loop-arg.arg-index c.arg-item.result c.in-Some.image.typ c.loop-arg.invariant.images c.in_ok-push-in-Con.ensures.items found.0 c.loop-arg-test.true c.arg-item.is;
+      put = instance-goes_on (composed c.args.settings.now.sets) c.as_slice-args.result.now c.args.left c.args.room c.loop-arg.arg-index c.loop-arg.rest c.in-Some.image.left c.arg-item.result c.loop-arg.invariant.put c.loop-arg-test.true c.arg-item.is found.1;
+      images = images-more (composed c.args.settings.now.sets) c.as_slice-args.result.now c.loop-arg.images.items c.push.new.self.items c.loop-arg.arg-index c.arg-item.result c.in-Some.image.typ c.loop-arg.invariant.images c.in_ok-push-in-Con.ensures.items found.0 c.loop-arg-test.true c.arg-item.is;
     }
 
 pub returns-in_default : goal.returns-in_default
 returns-in_default t c =
     let none : IsResolved c.args.settings.now.sets c.arg-item.result c.loop-arg.rest (c.args.room - 1) None = rw c.in_default.is at c.in_ok-found-in-Con.ensures in
-    rw (← c.in_ok-top.ensures.same, ← c.top.view_is, c.in-Con.is, ← c.deref-arg-items.ensures.value)
-    (instance-stops (composed c.args.settings.now.sets) c.deref-arg-items.result.now c.args.left c.args.room c.loop-arg.arg-index c.loop-arg.rest c.arg-item.result c.loop-arg.invariant.put c.loop-arg-test.true c.arg-item.is none)
+    rw (← c.in_ok-top.ensures.same, ← c.top.view_is, c.in-Con.is, ← c.as_slice-args.ensures)
+    (instance-stops (composed c.args.settings.now.sets) c.as_slice-args.result.now c.args.left c.args.room c.loop-arg.arg-index c.loop-arg.rest c.arg-item.result c.loop-arg.invariant.put c.loop-arg-test.true c.arg-item.is none)
 
 pub returns-in_ok-typ-in-TFree : goal.returns-in_ok-typ-in-TFree
 returns-in_ok-typ-in-TFree t c =
@@ -41,9 +41,9 @@ returns-in_ok-typ-in-TVar t c =
 
 pub returns-after-loop-arg : goal.returns-after-loop-arg
 returns-after-loop-arg t c =
-    let all = take_all c.loop-arg.arg-index c.deref-arg-items.result.now c.loop-arg-test.false in
+    let all = take_all c.loop-arg.arg-index c.as_slice-args.result.now c.loop-arg-test.false in
     let images = rw all at c.loop-arg.invariant.images in
-    rw (← c.in_ok-top.ensures.same, ← c.top.view_is, c.in-Con.is, ← c.deref-arg-items.ensures.value) (
-      rw images (ap (Con c.in-Con.name) (sym (typs_instance-of (composed c.args.settings.now.sets) c.deref-arg-items.result.now))),
-      instance-all (composed c.args.settings.now.sets) c.deref-arg-items.result.now c.args.left c.args.room c.loop-arg.arg-index c.loop-arg.rest c.loop-arg.invariant.put c.loop-arg-test.false,
+    rw (← c.in_ok-top.ensures.same, ← c.top.view_is, c.in-Con.is, ← c.as_slice-args.ensures) (
+      rw images (ap (Con c.in-Con.name) (sym (typs_instance-of (composed c.args.settings.now.sets) c.as_slice-args.result.now))),
+      instance-all (composed c.args.settings.now.sets) c.as_slice-args.result.now c.args.left c.args.room c.loop-arg.arg-index c.loop-arg.rest c.loop-arg.invariant.put c.loop-arg-test.false,
     )

@@ -7,12 +7,12 @@ use Rattle.pure_tunify.proofs.settings.+leaves_of.Goals as goal
 
 pub returns-in_default : goal.returns-in_default
 returns-in_default t c =
-    rw (← c.t.view_is, c.in-Con.is, ← c.deref-arg-items.ensures.value)
-    (instance-stops (typ_image c.args.stored.now) c.deref-arg-items.result.now c.args.left c.args.room c.loop-arg.arg-index c.loop-arg.rest c.arg-item.result c.loop-arg.invariant c.loop-arg-test.true c.arg-item.is c.in_default.ensures)
+    rw (← c.t.view_is, c.in-Con.is, ← c.as_slice-args.ensures)
+    (instance-stops (typ_image c.args.stored.now) c.as_slice-args.result.now c.args.left c.args.room c.loop-arg.arg-index c.loop-arg.rest c.arg-item.result c.loop-arg.invariant c.loop-arg-test.true c.arg-item.is c.in_default.ensures)
 
 pub loop-arg-preserved : goal.loop-arg-preserved
 loop-arg-preserved t c =
-    instance-goes_on (typ_image c.args.stored.now) c.deref-arg-items.result.now c.args.left c.args.room c.loop-arg.arg-index c.loop-arg.rest c.in-Some-leaves_of.less c.arg-item.result c.loop-arg.invariant c.loop-arg-test.true c.arg-item.is c.in-Some-leaves_of.ensures
+    instance-goes_on (typ_image c.args.stored.now) c.as_slice-args.result.now c.args.left c.args.room c.loop-arg.arg-index c.loop-arg.rest c.in-Some-leaves_of.less c.arg-item.result c.loop-arg.invariant c.loop-arg-test.true c.arg-item.is c.in-Some-leaves_of.ensures
 
 pub returns-in-TFree : goal.returns-in-TFree
 returns-in-TFree t c =
@@ -21,5 +21,5 @@ returns-in-TFree t c =
 
 pub returns-after-loop-arg : goal.returns-after-loop-arg
 returns-after-loop-arg t c =
-    rw (← c.t.view_is, c.in-Con.is, ← c.deref-arg-items.ensures.value)
-    (instance-all (typ_image c.args.stored.now) c.deref-arg-items.result.now c.args.left c.args.room c.loop-arg.arg-index c.loop-arg.rest c.loop-arg.invariant c.loop-arg-test.false)
+    rw (← c.t.view_is, c.in-Con.is, ← c.as_slice-args.ensures)
+    (instance-all (typ_image c.args.stored.now) c.as_slice-args.result.now c.args.left c.args.room c.loop-arg.arg-index c.loop-arg.rest c.loop-arg.invariant c.loop-arg-test.false)
