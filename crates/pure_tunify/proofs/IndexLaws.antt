@@ -1,7 +1,7 @@
 -- The index above those of types is that of no variable of them.
 use Rattle.std.proofs.Common.{◌≡◌, ℕ, ◌+◌, ◌<◌, ◌≤◌, List, [], ◌∷◌, length, get_or, take, zero, suc, max, inl, inr, arith}
 use Rattle.pure_text.specs.Lists.{Each}
-use Rattle.pure_definitions.specs.Types.Typ.{Typ, TFree, TVar, Con, Typs, none, also, typs_of}
+use Rattle.pure_definitions.specs.Types.Typ.{Typ, TFree, TVar, Con, Typs, none, also}
 use Rattle.pure_definitions.specs.Types.Occurs.{OccursInTyp, OccursInTyps}
 use Rattle.pure_definitions.specs.Terms.Measures.{typ_index_above, typs_index_above}
 use Rattle.pure_tunify.specs.declared.pair.TypPair.{TypPair}
@@ -13,7 +13,7 @@ same_index : (x i y j : ℕ) (s r : List ℕ) → TVar x i s ≡ TVar y j r → 
 same_index x i y j s r e = cc
 
 mutual
-  below_index : (x i : ℕ) (s : List ℕ) (t : Typ) → OccursInTyp (TVar x i s) t → i < typ_index_above t
+  pub below_index : (x i : ℕ) (s : List ℕ) (t : Typ) → OccursInTyp (TVar x i s) t → i < typ_index_above t
   below_index x i s (TFree y r) o = absurd (variable_fixed x i y s r o)
   below_index x i s (TVar y j r) o = let same : i ≡ j = same_index x i y j s r o in omega arith
   below_index x i s (Con k ts) (inl e) = absurd (variable_constructor x i k s ts e)

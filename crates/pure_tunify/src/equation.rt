@@ -49,19 +49,20 @@ fn unknown(alloc: Global, number: u32) -> Typ
 fn push_parts(
     alloc: Global,
     work: &mut Vec<TypPair>,
-    left: (&Typ, &Typ),
+    first: &Typ,
+    last: &Typ,
     domain: Typ,
     range: Typ,
 ) -> Result<(), AllocError>
-    ensures { OnOk result (reverse work.new.items ≡ pair left.0.now domain ∷ pair left.1.now range ∷ reverse work.old.items) }
+    ensures { OnOk result (reverse work.new.items ≡ pair first.now domain ∷ pair last.now range ∷ reverse work.old.items) }
 {
-    let (first, last) = (left.0.copy(alloc)?, left.1.copy(alloc)?);
+    let (left, right) = (first.copy(alloc)?, last.copy(alloc)?);
     work.push(TypPair {
-        left: last,
+        left: right,
         right: range,
     })?;
     work.push(TypPair {
-        left: first,
+        left,
         right: domain,
     })?;
     Ok(())
@@ -81,7 +82,7 @@ fn push_applied(
     let range = unknown(alloc, number);
     match fun.as_arrow() {
         Some(parts) => {
-            push_parts(alloc, work, parts, arg, range)?;
+            push_parts(alloc, work, parts.0, parts.1, arg, range)?;
             Ok(())
         }
         None => {

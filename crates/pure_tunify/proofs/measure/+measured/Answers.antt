@@ -1,8 +1,11 @@
+use Rattle.std.proofs.Common.{arith}
 use Rattle.pure_definitions.specs.Types.Typ.{TFree}
 use Rattle.pure_definitions.specs.Terms.Limits.{IsWithinTyp}
 use Rattle.pure_definitions.specs.Terms.Subst.{typ_instance}
+use Rattle.pure_definitions.proofs.MeasureLemmas.{typ_stays}
 use Rattle.pure_tunify.specs.Settings.{composed}
 use Rattle.pure_tunify.specs.Measures.{IsMeasured}
+use Rattle.pure_tunify.proofs.SettingLaws.{composed-fixed}
 use Rattle.pure_tunify.proofs.WrittenLaws.{fixed_absent}
 use Rattle.pure_tunify.proofs.MeasureLaws.{unset_measured, measured_more, part_beyond, whole_beyond, measured_all}
 use Rattle.pure_tunify.proofs.measure.+measured.Goals as goal
@@ -33,3 +36,8 @@ pub returns-after-loop-arg : goal.returns-after-loop-arg
 returns-after-loop-arg t c =
     rw (← c.t.view_is, c.in-Con.is, ← c.as_slice-args.ensures)
     (measured_all (composed c.args.settings.now.sets) c.as_slice-args.result.now c.loop-arg.arg-index c.in-Con.name c.loop-arg.whole c.loop-arg.invariant c.loop-arg-test.false)
+
+pub returns-then-index_above_of_typ-eq0 : goal.returns-then-index_above_of_typ-eq0
+returns-then-index_above_of_typ-eq0 t c =
+    let sets = c.args.settings.now.sets in
+    rw (typ_stays (composed sets) (composed-fixed sets) c.args.t.now (omega arith)) c.measure_of.ensures

@@ -4,8 +4,10 @@ use Rattle.pure_definitions.specs.Terms.Subst.{typ_instance}
 use Rattle.pure_definitions.specs.Terms.Limits.{Leaves}
 use Rattle.pure_definitions.proofs.TypsLemmas.{typ_size-some, typ_depth-some}
 use Rattle.pure_definitions.proofs.InstanceLemmas.{instance-stops, instance-goes_on, instance-all}
+use Rattle.pure_definitions.proofs.MeasureLemmas.{typ_stays}
 use Rattle.pure_term_laws.specs.LawsOccurs.{IsTypVariable}
 use Rattle.pure_tunify.specs.Settings.{composed}
+use Rattle.pure_tunify.proofs.SettingLaws.{composed-fixed}
 use Rattle.pure_tunify.proofs.WrittenLaws.{leaf_left}
 use Rattle.pure_tunify.proofs.resolve.+resolved_leaves.Goals as goal
 
@@ -40,3 +42,8 @@ pub returns-after-loop-arg : goal.returns-after-loop-arg
 returns-after-loop-arg t c =
     rw (← c.in_ok-top.ensures.same, ← c.top.view_is, c.in-Con.is, ← c.as_slice-args.ensures)
     (instance-all (composed c.args.settings.now.sets) c.as_slice-args.result.now c.args.left c.args.room c.loop-arg.arg-index c.loop-arg.rest c.loop-arg.invariant c.loop-arg-test.false)
+
+pub returns-then-index_above_of_typ-eq0 : goal.returns-then-index_above_of_typ-eq0
+returns-then-index_above_of_typ-eq0 t c =
+    let sets = c.args.settings.now.sets in
+    rw (← c.in_ok-top.ensures.same, typ_stays (composed sets) (composed-fixed sets) c.in_ok-top.top.now (omega arith)) c.typ_leaves.ensures
