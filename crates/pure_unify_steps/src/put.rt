@@ -11,7 +11,9 @@ ghost use Rattle.pure_unify_nodes.specs.Long.{IsLongSide, IsLongPair};
 
 use crate::node::Setting;
 use pure_norm::NormFault;
-use pure_term::{Grow, Term, TermBind, TermMap, TermNode, TypMap, index_above_of, inst_term, inst_typ};
+use pure_term::{
+    Grow, Term, TermBind, TermMap, TermNode, TypMap, index_above_of, inst_term, inst_typ,
+};
 use pure_theorem::Pair;
 use pure_unify_nodes::owned_long_side;
 use std::alloc::{AllocError, Global};
