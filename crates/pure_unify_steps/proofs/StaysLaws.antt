@@ -14,7 +14,7 @@ use Rattle.pure_tunify.specs.Settings.{composed}
 use Rattle.pure_tunify.proofs.SettingLaws.{composed-fixed}
 use Rattle.pure_unify_definitions.specs.Fronts.{variables}
 use Rattle.pure_unify_definitions.specs.Node as node
-use Rattle.pure_unify_definitions.specs.Node.{Typs, Single, with_setting}
+use Rattle.pure_unify_definitions.specs.Node.{Single, with_setting}
 use Rattle.pure_unify_steps.specs.declared.node.Setting.{Setting}
 use Rattle.pure_unify_steps.specs.declared.node.Setting.TheVariants.{OfTyps, OfTerm}
 use Rattle.pure_unify_steps.specs.Held.{IsSetting}
@@ -62,7 +62,7 @@ pub ground_stays : (map : List TypBind) (t : Term) → term_index_above t ≡ 0 
 ground_stays map t lacks setting e s k = by s (subst (λ (x : Setting). IsSetting x s) e k)
   where
     by : (s : node.Setting) → IsSetting (OfTyps map) s → with_setting s t ≡ t
-    by (Typs sets) w = term_stays (composed sets) (retyped_variable (composed sets)) (composed-fixed sets) (λ x T. refl) t lacks
+    by (node.Typs sets) w = term_stays (composed sets) (retyped_variable (composed sets)) (composed-fixed sets) (λ x T. refl) t lacks
     by (Single b) w = absurd w
 
 no_variables : (t : Term) → term_index_above t ≡ 0 → variables t ≡ []
