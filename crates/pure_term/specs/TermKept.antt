@@ -5,7 +5,7 @@ use Rattle.pure_definitions.specs.Terms.Term.{Term, term_size, term_depth}
 use Rattle.pure_definitions.specs.Terms.Measures.{kept_count, term_index_above, loose_above}
 use Rattle.pure_term.specs.declared.term.Kept.{Kept}
 use Rattle.pure_term.specs.declared.term.TermNode.{TermNode}
-use Rattle.pure_term.specs.declared.term.TermNode.TheVariants.{Const, Free, Var, Bound, Abs, App}
+use Rattle.pure_term.specs.declared.term.TermNode.TheVariants.{Abs, App}
 
 -- The measures are those of the term.
 pub record AreMeasures (t : Term) (kept : Kept) : Type 0 where

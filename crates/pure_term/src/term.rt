@@ -134,13 +134,19 @@ impl Term {
             TermNode::Bound { place } => Ok(Term {
                 node: TermNode::Bound { place: *place },
             }),
-            TermNode::Abs { typ, body, .. } => {
+            TermNode::Abs { typ, body, kept } => {
                 let typ = typ.copy(alloc)?;
-                Ok(Term::abs(typ, Arc::try_clone(body)?))
+                let (body, kept) = (Arc::try_clone(body)?, *kept);
+                Ok(Term {
+                    node: TermNode::Abs { typ, body, kept },
+                })
             }
-            TermNode::App { fun, arg, .. } => {
+            TermNode::App { fun, arg, kept } => {
                 let fun = Arc::try_clone(fun)?;
-                Ok(Term::app(fun, Arc::try_clone(arg)?))
+                let (arg, kept) = (Arc::try_clone(arg)?, *kept);
+                Ok(Term {
+                    node: TermNode::App { fun, arg, kept },
+                })
             }
         }
     }

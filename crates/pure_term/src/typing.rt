@@ -47,10 +47,10 @@ fn takes(function: &Typ, argument: &Typ) -> bool
             if name.0 != 0 {
                 return false;
             }
+            let args = args.as_slice();
             if args.len() != 2 {
                 return false;
             }
-            let args = args.as_slice();
             let domain = &args[0];
             domain == argument
         }
@@ -67,10 +67,10 @@ fn lent_range<'t>(function: &'t Typ, argument: &Typ) -> Option<&'t Typ>
     }
     match &function.node {
         TypNode::Con { args, .. } => {
+            let args = args.as_slice();
             if args.len() != 2 {
                 return None;
             }
-            let args = args.as_slice();
             let range = &args[1];
             Some(range)
         }

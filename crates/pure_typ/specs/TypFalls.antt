@@ -2,7 +2,6 @@
 use Rattle.std.specs.Prelude.{◌+◌, ◌≤◌, max, List, [], ◌∷◌}
 use Rattle.std.proofs.Common.{arith}
 use denote.Param.Weighed.{most}
-use Rattle.pure_typ.specs.declared.typ.Args.{Args}
 use Rattle.pure_typ.specs.declared.typ.Args.TheVariants.{Nullary, Shared}
 use Rattle.pure_typ.specs.declared.typ.TypNode.{TypNode}
 use Rattle.pure_typ.specs.declared.typ.TypNode.TheVariants.{TFree, TVar, Con}

@@ -7,7 +7,7 @@ use Rattle.pure_order.proofs.WalkLaws.{grown_answer, have_domain, so_far_turn, d
 use Rattle.pure_order.proofs.walk.+is_of_domain.Goals as goal
 
 pub is_of_domain-returns-then-put_all_greatest : goal.is_of_domain-returns-then-put_all_greatest
-is_of_domain-returns-then-put_all_greatest t c = rw (← c.t.view_is, c.in-Con.is, ← c.as_slice-args.ensures.value) (grown_answer c.args.tables.now _ (λ ts. IsOfDomain c.args.tables.now c.args.places.now c.args.index (Con c.in-Con.name (typs_of ts))) c.empty-next.result c.put_all_greatest.new.next
+is_of_domain-returns-then-put_all_greatest t c = rw (← c.t.view_is, c.in-Con.is, ← c.as_slice-args.ensures) (grown_answer c.args.tables.now _ (λ ts. IsOfDomain c.args.tables.now c.args.places.now c.args.index (Con c.in-Con.name (typs_of ts))) c.empty-next.result c.put_all_greatest.new.next
     c.as_slice-args.result.now c.are_of_domains.result c.empty-next.ensures c.if-put_all_greatest.ensures c.are_of_domains.ensures)
 
 pub are_of_domains-is_of_domain-requires : goal.are_of_domains-is_of_domain-requires

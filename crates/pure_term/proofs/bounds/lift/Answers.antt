@@ -8,5 +8,5 @@ returns-then-not-is_within c = λ w. let yes = c.is_within.ensures.1 (within-of_
 
 pub returns : goal.returns
 returns c =
-    let lifted : c.into_inner.result ≡ lift_term c.args.by c.from.result c.args.t.now = c.into_inner.ensures ∙ c.in_ok-lift_under.ensures in
-    (rw c.from.ensures at lifted, within-lift c.args.by c.args.from c.args.t.now (c.is_within.ensures.0 c.if-not-is_within.false))
+    let lifted : c.in_ok-copy.field-0 ≡ lift_term c.args.by c.from.result c.in_ok-t.t.value = c.in_ok-copy.ensures ∙ (c.deref.ensures ∙ c.in_ok-lifted.ensures) in
+    (rw (c.from.ensures, c.in_ok-t.ensures) at lifted, within-lift c.args.by c.args.from c.args.t.now (c.is_within.ensures.0 c.if-not-is_within.false))

@@ -1,9 +1,10 @@
-use Rattle.std.proofs.Common.{◌≡◌, ◌+◌, max, refl, arith}
+use Rattle.std.proofs.Common.{◌≡◌, ◌+◌, max, ap, refl, arith}
 use Rattle.pure_definitions.specs.Types.Typ.{typ_size, typ_depth}
 use Rattle.pure_definitions.specs.Terms.Term.{term_size, term_depth}
 use Rattle.pure_definitions.specs.Terms.Subst.{typ_image, typ_instance, inst_typ}
 use Rattle.pure_definitions.proofs.TermLemmas.{term_size-some, term_depth-some}
 use Rattle.pure_definitions.proofs.GrownLemmas.{leaves-equal, leaves-abs, leaves-node, leaves-part_none}
+use Rattle.pure_term.proofs.StaysLemmas.{inst_typ_stays}
 use Rattle.pure_term.proofs.instance.+inst_typ_leaves.Goals as goal
 
 pub returns-then-left-eq0 : goal.returns-then-left-eq0
@@ -42,3 +43,8 @@ returns-in-Some t c =
     let depth : term_depth (inst_typ (typ_image c.args.binds.now) c.args.t.now) ≡ 1 + max (typ_depth (typ_instance (typ_image c.args.binds.now) c.in-Abs.typ)) (term_depth (inst_typ (typ_image c.args.binds.now) c.deref.result.now)) = rw (← c.t.view_is, c.in-Abs.is, c.deref.ensures) refl in
     leaves-equal c.args.left c.args.room _ _ _ _ c.inst_typ_leaves.result size depth
     (leaves-abs c.args.left c.args.room c.in-Some.rest _ _ _ _ c.inst_typ_leaves.result c.if-left-eq0.false c.if-room-eq0.false c.in-Some.ensures c.inst_typ_leaves.ensures)
+
+pub returns-then-index_above_of-eq0 : goal.returns-then-index_above_of-eq0
+returns-then-index_above_of-eq0 t c =
+    let stays = inst_typ_stays c.args.binds.now c.args.t.now (omega arith) in
+    leaves-equal c.args.left c.args.room (term_size c.args.t.now) (term_depth c.args.t.now) _ _ c.term_leaves.result (ap term_size stays) (ap term_depth stays) c.term_leaves.ensures

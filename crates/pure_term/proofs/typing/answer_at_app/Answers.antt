@@ -16,5 +16,5 @@ returns-in-Err-argument c = λ bs arg h k.
 
 pub returns : goal.returns
 returns c = λ bs arg h k.
-    let none : ¬ Takes (found_typ c.in-Ok.function) (found_typ c.in-Ok-argument.argument) = rw (← c.lent.ensures) c.in-None.ensures in
+    let none : ¬ Takes (found_typ c.in-Ok.function) (found_typ c.in-Ok-argument.argument) = rw (← c.lent.ensures) (rw c.in-None.is at c.in_ok-range.ensures) in
     fault-application bs c.args.fun.now arg c.args.function c.args.argument c.in-Ok.function c.in-Ok-argument.argument c.in-Ok.is c.in-Ok-argument.is none h k
