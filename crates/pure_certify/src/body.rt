@@ -3,7 +3,7 @@ ghost use Rattle.std.specs.Prelude.{◌↔◌, IsTrue};
 ghost use Rattle.pure_certify.specs.Bodies.{HasVariable, HasExtra, HasExtraTyp};
 
 use pure_term::{Term, TermNode};
-use pure_typ::{Typ, TypNode, occurs_in_typ};
+use pure_typ::{Typ, TypNode, is_ground_typ, occurs_in_typ};
 
 /// Whether the term has a fixed or a schematic variable.
 pub fn has_variable(t: &Term) -> bool
@@ -19,14 +19,18 @@ pub fn has_variable(t: &Term) -> bool
     }
 }
 
-/// Whether the second type has a type variable that the first lacks.
+/// Whether the second type has a type variable that the first lacks. A part without type variables isn't looked through.
 fn has_extra(typ: &Typ, t: &Typ) -> bool
     ensures { IsTrue result ↔ HasExtra typ.now t.now }
 {
+    if is_ground_typ(t) {
+        return false;
+    }
     match &t.node {
         TypNode::TFree { .. } => !occurs_in_typ(t, typ),
         TypNode::TVar { .. } => !occurs_in_typ(t, typ),
         TypNode::Con { args, .. } => {
+            let args = args.as_slice();
             for arg in args {
                 if has_extra(typ, arg) {
                     return true;

@@ -58,9 +58,7 @@ fn applied(alloc: Global, sort: Sort) -> Result<Typ, AllocError> {
         name: Name(0),
         sort,
     };
-    let args = vec![in alloc; Typ { node }]?;
-    let node = TypNode::Con { name: K, args };
-    Ok(Typ { node })
+    Typ::constructed(alloc, K, vec![in alloc; Typ { node }]?)
 }
 
 fn reduces_to(

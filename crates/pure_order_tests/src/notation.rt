@@ -137,11 +137,7 @@ fn take_args(alloc: Global, reader: &mut Reader, con: u8, count: u32) -> Result<
             args.push(typ)?;
         }
     }
-    let node = TypNode::Con {
-        name: name(con),
-        args,
-    };
-    Ok(Typ { node })
+    Typ::constructed(alloc, name(con), args)
 }
 
 /// The type variable with the classes that were read.

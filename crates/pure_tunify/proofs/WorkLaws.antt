@@ -1,7 +1,7 @@
 -- The list of pairs that are left, whose last is the first to be looked at.
-use Rattle.std.proofs.Common.{◌≡◌, ℕ, ◌+◌, ◌-◌, List, [], ◌∷◌, ◌++◌, length, take, refl, ap, sym, subst, ◌∙◌, arith, Bool, true, false, append_assoc}
+use Rattle.std.proofs.Common.{◌≡◌, ℕ, ◌-◌, ◌<◌, ◌≤◌, List, [], ◌∷◌, ◌++◌, length, get_or, take, drop, drop-cons, suc, refl, ap, sym, subst, ◌∙◌, arith, Bool, true, false}
 use Rattle.std.specs.Prelude.{reverse, MatchBool}
-use Rattle.std.proofs.lemmas.List.{append-nil, length-append, reverse-append}
+use Rattle.std.proofs.lemmas.List.{append-nil, reverse-append, drop_all}
 use Rattle.pure_text.specs.Lists.{Each}
 use Rattle.pure_definitions.specs.Types.Typ.{Typ}
 use Rattle.pure_definitions.specs.Types.Order.{Algebra}
@@ -19,36 +19,27 @@ use Rattle.pure_tunify.proofs.UnifyLaws.{equalised_at_end}
 pub last_first : (old new : List TypPair) (p : TypPair) → old ≡ new ++ p ∷ [] → reverse old ≡ p ∷ reverse new
 last_first old new p e = ap reverse e ∙ reverse-append new (p ∷ [])
 
-pairs-snoc : (ts us : List Typ) (t u : Typ) → length ts ≡ length us → pairs_along (ts ++ t ∷ []) (us ++ u ∷ []) ≡ pairs_along ts us ++ pair t u ∷ []
-pairs-snoc [] [] t u same = refl
-pairs-snoc [] (v ∷ us) t u same = absurd (omega arith)
-pairs-snoc (w ∷ ts) [] t u same = absurd (omega arith)
-pairs-snoc (w ∷ ts) (v ∷ us) t u same = ap (λ ps. pair w v ∷ ps) (pairs-snoc ts us t u (omega arith))
+-- The pairs of the last arguments stand on top: at first of none, then of one more each time, and at last of all.
+pub pushed_start : (ts us : List Typ) (rest : ℕ) (before : List TypPair) → rest ≡ length ts → length ts ≡ length us → reverse before ≡ pairs_along (drop rest ts) (drop rest us) ++ reverse before
+pushed_start ts us rest before whole same =
+    let none : drop rest ts ≡ [] = drop_all rest ts (omega arith) in
+    rw none refl
 
--- One pair of arguments more is put on top.
-pub pushed_turn : (ts us ts' us' : List Typ) (t u : Typ) (work work' target : List TypPair) → ts ≡ ts' ++ t ∷ [] → us ≡ us' ++ u ∷ [] → length ts ≡ length us → work' ≡ work ++ pair t u ∷ []
-    → pairs_along ts us ++ reverse work ≡ target → (length ts' ≡ length us') × (pairs_along ts' us' ++ reverse work' ≡ target)
-pushed_turn ts us ts' us' t u work work' target e f same g h = (
-  shorter,
-  ap (λ ps. pairs_along ts' us' ++ ps) (last_first work' work (pair t u) g)
-      ∙ (sym (append_assoc (pairs_along ts' us') (pair t u ∷ []) (reverse work))
-      ∙ (ap (λ ps. ps ++ reverse work) (sym (pairs-snoc ts' us' t u shorter) ∙ (λ l. pairs_along (sym e l) (sym f l))) ∙ h)),
-)
+pub pushed_next : (ts us : List Typ) (rest : ℕ) (t u : Typ) (before work more : List TypPair) → 0 < rest → rest ≤ length ts → length ts ≡ length us → t ≡ get_or ts (rest - 1) t → u ≡ get_or us (rest - 1) u → reverse more ≡ pair t u ∷ reverse work
+    → reverse work ≡ pairs_along (drop rest ts) (drop rest us) ++ reverse before → reverse more ≡ pairs_along (drop (rest - 1) ts) (drop (rest - 1) us) ++ reverse before
+pushed_next ts us rest t u before work more some short same first second put so_far =
+    put ∙ (ap (λ ps. pair t u ∷ ps) so_far ∙ (λ l. pairs_along (sym (from ts t (omega arith) first) l) (sym (from us u (omega arith) second) l) ++ reverse before))
   where
-    shorter : length ts' ≡ length us'
-    shorter =
-        let a : length ts ≡ length ts' + 1 = ap length e ∙ length-append ts' (t ∷ []) in
-        let b : length us ≡ length us' + 1 = ap length f ∙ length-append us' (u ∷ []) in
-        omega arith
+    next : suc (rest - 1) ≡ rest
+    next = omega arith
 
-pub pushed_end : (ts us : List Typ) (work target : List TypPair) → ts ≡ [] → pairs_along ts us ++ reverse work ≡ target → reverse work ≡ target
-pushed_end ts us work target e h = subst (λ (xs : List Typ). pairs_along xs us ++ reverse work ≡ target) e h
+    from : (xs : List Typ) (x : Typ) → rest - 1 < length xs → x ≡ get_or xs (rest - 1) x → drop (rest - 1) xs ≡ x ∷ drop rest xs
+    from xs x inside e = drop-cons xs (rest - 1) x inside ∙ rw (← e, next) refl
 
-pub none_left : (ts us us' ts' : List Typ) (t : Typ) → ts ≡ ts' ++ t ∷ [] → us ≡ [] → length ts ≡ length us → ⊥
-none_left ts us us' ts' t e f same =
-    let a : length ts ≡ length ts' + 1 = ap length e ∙ length-append ts' (t ∷ []) in
-    let b : length us ≡ 0 = ap length f in
-    absurd (omega arith)
+pub pushed_end : (ts us : List Typ) (rest : ℕ) (before work : List TypPair) → rest ≤ 0 → reverse work ≡ pairs_along (drop rest ts) (drop rest us) ++ reverse before → reverse work ≡ pairs_along ts us ++ reverse before
+pushed_end ts us rest before work none h =
+    let zero : rest ≡ 0 = omega arith in
+    rw zero at h
 
 -- What is left, turn by turn.
 module _ (A : Algebra) (first : Progress) (before : List TypPair) where

@@ -1,5 +1,5 @@
 -- Types with all set variables replaced, and the settings written out as one map.
-use Rattle.std.proofs.Common.{◌≡◌, ℕ, ◌-◌, ◌<◌, ◌≤◌, List, [], ◌∷◌, ◌++◌, map, length, take, take_all, Some, None, inl, inr, ◌⊎◌, refl, ap, sym, subst, ◌∙◌, arith, Bool, true, false, cond}
+use Rattle.std.proofs.Common.{◌≡◌, ℕ, ◌-◌, ◌<◌, ◌≤◌, List, [], ◌∷◌, ◌++◌, map, length, take, take_all, Option, Some, None, inl, inr, ◌⊎◌, refl, ap, sym, subst, ◌∙◌, arith, Bool, true, false, cond}
 use Rattle.std.proofs.lemmas.List.{append_assoc}
 use Rattle.std.proofs.Math.Nat.{le_trans}
 use Rattle.pure_text.specs.Lists.{IsIn, Each, AnyOf}
@@ -13,10 +13,11 @@ use Rattle.pure_definitions.proofs.TypsLemmas.{occurs-itself}
 use Rattle.pure_term_laws.specs.LawsOccurs.{IsTypVariable}
 use Rattle.pure_term_laws.proofs.OccursLaws.{typ_instances-agree}
 use Rattle.pure_term_laws.proofs.MapLaws.{typ_instance-again}
+use Rattle.pure_tunify.specs.declared.resolve.Resolved.{Resolved}
 use Rattle.pure_tunify.specs.Unifiers.{IsOld}
 use Rattle.pure_tunify.specs.Procedure.{IsSchematic}
 use Rattle.pure_tunify.specs.Settings.{composed, AreTriangular, Progress, IsTidy}
-use Rattle.pure_tunify.specs.Working.{HasImagesWithin, IsSmall}
+use Rattle.pure_tunify.specs.Working.{IsPutIn, IsResolved, HasImagesWithin, IsSmall}
 use Rattle.pure_tunify.proofs.DecidedLaws.{same_or_not}
 use Rattle.pure_tunify.proofs.SizeLaws.{size-grows, depth-grows}
 use Rattle.pure_tunify.proofs.SettingLaws.{other_variable, as_variable, composed-image, composed-absent, image-old}
@@ -68,6 +69,11 @@ pub leaf_resolved : (sets : List TypBind) (t top u : Typ) (left room : ℕ) → 
 leaf_resolved sets t top u left room same is absent e a b =
     let whole : top ≡ typ_instance (composed sets) t = sym (leaf_same sets top is absent) ∙ same in
     (e ∙ whole, subst (λ (T : Typ). Leaves left room (typ_size T) (typ_depth T) (Some (left - 1))) whole (leaf_leaves top left room is a b))
+
+-- What is put in as it stands is resolved, where no variable of it is set.
+pub put_resolved : (sets : List TypBind) (t top : Typ) (left room : ℕ) (o : Option Resolved) → typ_instance (composed sets) top ≡ typ_instance (composed sets) t → typ_instance (composed sets) top ≡ top → IsPutIn top left room o → IsResolved sets t left room o
+put_resolved sets t top left room None same stays h = subst (λ (T : Typ). Leaves left room (typ_size T) (typ_depth T) None) (sym stays ∙ same) h
+put_resolved sets t top left room (Some r) same stays h = subst (λ (T : Typ). (r.typ ≡ T) × Leaves left room (typ_size T) (typ_depth T) (Some r.left)) (sym stays ∙ same) h
 
 -- the entry with its image written out
 abbrev pub written_entry : List TypBind → TypBind → TypBind

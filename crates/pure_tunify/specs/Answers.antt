@@ -1,8 +1,9 @@
 -- What calls that unify answer.
-use Rattle.std.specs.Prelude.{◌≡◌, ℕ, ◌+◌, max, List, [], ◌∷◌, ◌++◌, map}
-use Rattle.pure_definitions.specs.Types.Typ.{Typ, TFree, TVar, Con, Typs, none, also}
+use Rattle.std.specs.Prelude.{◌≡◌, ℕ, max, List, [], ◌∷◌, ◌++◌, map}
+use Rattle.pure_definitions.specs.Types.Typ.{Typ, TVar}
 use Rattle.pure_definitions.specs.Types.Order.{Algebra}
 use Rattle.pure_definitions.specs.Terms.Subst.{TypBind, typ_variable, typ_image, typ_instance}
+use Rattle.pure_definitions.specs.Terms.Measures.{typ_index_above}
 use Rattle.pure_tunify.specs.declared.pair.TypPair.{TypPair}
 use Rattle.pure_tunify.specs.declared.fault.TypFault.{TypFault}
 use Rattle.pure_tunify.specs.declared.meeting.Turned.{Turned}
@@ -81,18 +82,7 @@ IsReason A index from pairs (NoTyping k) = IsFirstWithout A index from pairs k
 IsReason A index from pairs (Big k) = IsBeyond A index from pairs k
 IsReason A index from pairs Memory = Unit {0}
 
--- one above the greatest index of a schematic variable of a type, or 0
-abbrev mutual
-  pub index_above : Typ → ℕ
-  index_above (TFree x s) = 0
-  index_above (TVar x i s) = i + 1
-  index_above (Con k ts) = index_above_all ts
-
-  pub index_above_all : Typs → ℕ
-  index_above_all none = 0
-  index_above_all (also t ts) = max (index_above t) (index_above_all ts)
-
--- the same of pairs of types
+-- one above the greatest index of a schematic variable of pairs of types, or 0
 abbrev pub index_above_pairs : List TypPair → ℕ
 index_above_pairs [] = 0
-index_above_pairs (p ∷ ps) = max (max (index_above p.left) (index_above p.right)) (index_above_pairs ps)
+index_above_pairs (p ∷ ps) = max (max (typ_index_above p.left) (typ_index_above p.right)) (index_above_pairs ps)

@@ -15,6 +15,11 @@ use Rattle.pure_tunify.specs.Steps.{pair, instance_pair}
 use Rattle.pure_tunify.specs.Settings.{composed, bind, Progress}
 use Rattle.pure_tunify.specs.Procedure.{sooner, place_of, Narrows, Equalises, Blocks}
 
+-- The type, and the room that it leaves; none exactly where it doesn't fit.
+abbrev pub IsPutIn : Typ → (left room : ℕ) → Option Resolved → Type 0
+IsPutIn t left room None = Leaves left room (typ_size t) (typ_depth t) None
+IsPutIn t left room (Some r) = (r.typ ≡ t) × Leaves left room (typ_size t) (typ_depth t) (Some r.left)
+
 -- The type with all set variables replaced, and the room that it leaves; none exactly where it doesn't fit.
 abbrev pub IsResolved : List TypBind → Typ → (left room : ℕ) → Option Resolved → Type 0
 IsResolved sets t left room None = Leaves left room (typ_size (typ_instance (composed sets) t)) (typ_depth (typ_instance (composed sets) t)) None

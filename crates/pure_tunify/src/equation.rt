@@ -1,12 +1,10 @@
 //! Equations of types, as they are handed to be solved once.
 ghost use Rattle.std.specs.Prelude.{◌≡◌, ◌∷◌, [], reverse, IfOk, OnOk};
-ghost use Rattle.std.specs.Bool.{OnTrue};
 ghost use Rattle.pure_definitions.specs.Types.Typ as tree;
 ghost use Rattle.pure_tunify.specs.Steps.{pair};
 ghost use Rattle.pure_tunify.specs.Meeting.{StandsFor};
 ghost use Rattle.pure_tunify.specs.Equations.{unknown_range};
 
-use crate::meeting::arguments;
 use crate::pair::TypPair;
 use pure_typ::{Name, Sort, Typ, TypNode};
 use std::alloc::{AllocError, Global};
@@ -49,19 +47,16 @@ fn unknown(alloc: Global, number: u32) -> Typ
 /// Puts the pairs of the two parts of types of functions on top of the pairs that are left, that of the domains on the very
 /// top.
 fn push_parts(
+    alloc: Global,
     work: &mut Vec<TypPair>,
-    mut parts: Vec<Typ>,
+    first: &Typ,
+    last: &Typ,
     domain: Typ,
     range: Typ,
 ) -> Result<(), AllocError>
-    ensures { OnOk result ((t u : tree.Typ) → parts.items ≡ t ∷ u ∷ [] → reverse work.new.items ≡ pair t domain ∷ pair u range ∷ reverse work.old.items) }
+    ensures { OnOk result (reverse work.new.items ≡ pair first.now domain ∷ pair last.now range ∷ reverse work.old.items) }
 {
-    let Some(right) = parts.pop() else {
-        return Err(AllocError);
-    };
-    let Some(left) = parts.pop() else {
-        return Err(AllocError);
-    };
+    let (left, right) = (first.copy(alloc)?, last.copy(alloc)?);
     work.push(TypPair {
         left: right,
         right: range,
@@ -71,16 +66,6 @@ fn push_parts(
         right: domain,
     })?;
     Ok(())
-}
-
-/// Whether the type is one of functions.
-fn has_parts(t: &Typ) -> bool
-    ensures { OnTrue result ((domain range : tree.Typ) × (t.now ≡ tree.arrow domain range)) }
-{
-    match t.as_arrow() {
-        None => false,
-        Some(_) => true,
-    }
 }
 
 /// Puts what stands for the pair of a type and a type of functions to an unknown into the list, which is empty.
@@ -95,14 +80,17 @@ fn push_applied(
     ensures { OnOk result (StandsFor (pair fun (tree.arrow arg (unknown_range number))) (reverse work.new.items)) }
 {
     let range = unknown(alloc, number);
-    if has_parts(&fun) {
-        let parts = arguments(alloc, fun);
-        push_parts(work, parts, arg, range)?;
-        return Ok(());
+    match fun.as_arrow() {
+        Some(parts) => {
+            push_parts(alloc, work, parts.0, parts.1, arg, range)?;
+            Ok(())
+        }
+        None => {
+            let right = Typ::arrow(alloc, arg, range)?;
+            work.push(TypPair { left: fun, right })?;
+            Ok(())
+        }
     }
-    let right = Typ::arrow(alloc, arg, range)?;
-    work.push(TypPair { left: fun, right })?;
-    Ok(())
 }
 
 impl Equation {

@@ -7,17 +7,21 @@ ghost use Rattle.pure_tunify.specs.Working.{IsUntouched};
 
 use crate::occurs::variable_occurs;
 use crate::settings::Settings;
-use pure_typ::{Typ, TypNode};
+use pure_typ::{Typ, TypNode, index_above_of_typ, is_typ_within};
 
-/// The most nodes of a type that is looked through.
+/// The most nodes of a type that is looked through, a part without schematic variables counted as one.
 const FEW: u32 = 64;
 
-/// What is left of so many nodes when those of the type are counted; none where a variable of it is set, or it has more.
+/// What is left of so many nodes when those of the type are counted; none where a variable of it is set, or it has more. A
+/// part without schematic variables is one node here.
 fn free_leaves(settings: &Settings, t: &Typ, left: u32) -> Option<u32>
     ensures { MatchOption result (Unit {0}) (λ _. typ_instance (composed settings.now.sets) t.now ≡ t.now) }
 {
     if left == 0 {
         return None;
+    }
+    if index_above_of_typ(t) == 0 {
+        return Some(left - 1);
     }
     match &t.node {
         TypNode::TFree { .. } => Some(left - 1),
@@ -26,6 +30,7 @@ fn free_leaves(settings: &Settings, t: &Typ, left: u32) -> Option<u32>
             None => Some(left - 1),
         },
         TypNode::Con { args, .. } => {
+            let args = args.as_slice();
             let mut rest = left - 1;
             for arg in args {
                 let Some(less) = free_leaves(settings, arg, rest) else {
@@ -38,10 +43,14 @@ fn free_leaves(settings: &Settings, t: &Typ, left: u32) -> Option<u32>
     }
 }
 
-/// Whether the variable doesn't occur in the type, nor one that is set, where the type has few nodes.
+/// Whether the variable doesn't occur in the type, nor one that is set, where few nodes of the type are looked through and it
+/// is within the limits.
 pub fn is_free(settings: &Settings, variable: &Typ, t: &Typ) -> bool
     ensures { OnTrue result (IsUntouched settings.now.sets variable.now t.now) }
 {
+    if !is_typ_within(t) {
+        return false;
+    }
     match free_leaves(settings, t, FEW) {
         None => false,
         Some(_) => !variable_occurs(variable, t),

@@ -9,7 +9,10 @@ ghost use Rattle.pure_tunify.specs.Measures.{IsMeasured, IsMeasureOf, IsJoined, 
 use crate::reached::variable_of;
 use crate::resolve::are_images_small;
 use crate::settings::Settings;
-use pure_typ::{MAX_DEPTH, MAX_SIZE, Typ, TypBind, TypNode};
+use pure_typ::{
+    MAX_DEPTH, MAX_SIZE, Typ, TypBind, TypNode, depth_of_typ, index_above_of_typ, is_typ_within,
+    size_of_typ,
+};
 use std::alloc::{AllocError, Global};
 use std::collections::BTreeMap;
 
@@ -60,6 +63,19 @@ fn measured_variable(
     }
 }
 
+/// The measure of a type as it stands; none exactly where it isn't within the limits.
+fn measure_of(t: &Typ) -> Option<Measure>
+    ensures { IsMeasureOf t.now result }
+{
+    if !is_typ_within(t) {
+        return None;
+    }
+    Some(Measure {
+        size: size_of_typ(t),
+        depth: depth_of_typ(t),
+    })
+}
+
 /// The measure of a type with all set variables replaced; none exactly where it isn't within the limits.
 fn measured(
     settings: &Settings,
@@ -69,6 +85,9 @@ fn measured(
     requires { AreMeasures settings.now.sets known.now }
     ensures { IfOk result (IsMeasureOf (typ_instance (composed settings.now.sets) t.now)) }
 {
+    if index_above_of_typ(t) == 0 {
+        return Ok(measure_of(t));
+    }
     match &t.node {
         TypNode::TFree { .. } => Ok(Some(NODE)),
         TypNode::TVar { .. } => {
@@ -76,6 +95,7 @@ fn measured(
             Ok(Some(measure))
         }
         TypNode::Con { args, .. } => {
+            let args = args.as_slice();
             let mut whole = NODE;
             for arg in args {
                 let found = measured(settings, known, arg)?;

@@ -1,5 +1,5 @@
 //! How two types meet at a place, and the arguments of constructors.
-ghost use Rattle.std.specs.Prelude.{◌≡◌, ◌++◌, ◌↔◌, ℕ, List, length, reverse, IsTrue, OnOk, MatchBool};
+ghost use Rattle.std.specs.Prelude.{◌≡◌, ◌∷◌, ◌++◌, ◌↔◌, ℕ, List, length, reverse, IsTrue, OnOk, MatchBool};
 ghost use Rattle.pure_definitions.specs.Types.Typ as tree;
 ghost use Rattle.pure_definitions.specs.Types.Typ.{typs_of};
 ghost use Rattle.pure_tunify.specs.Procedure.{IsSchematic};
@@ -106,14 +106,13 @@ pub fn meeting_of(left: &Typ, right: &Typ) -> Meeting
 }
 
 /// The arguments of a constructor; of a variable none.
-pub fn arguments(alloc: Global, t: Typ) -> Vec<Typ>
-    ensures { (k : ℕ) (ts : List tree.Typ) → t ≡ tree.Con k (typs_of ts) → result.items ≡ ts }
+pub fn arguments(t: &Typ) -> &[Typ]
+    ensures { (k : ℕ) (ts : List tree.Typ) → t.now ≡ tree.Con k (typs_of ts) → result.now ≡ ts }
 {
-    let Typ { node } = t;
-    match node {
-        TypNode::Con { args, .. } => args,
-        TypNode::TFree { .. } => Vec::new(alloc),
-        TypNode::TVar { .. } => Vec::new(alloc),
+    match &t.node {
+        TypNode::Con { args, .. } => args.as_slice(),
+        TypNode::TFree { .. } => &[],
+        TypNode::TVar { .. } => &[],
     }
 }
 
@@ -136,23 +135,34 @@ pub fn put_back(
     }
 }
 
+/// Puts the pair of two types on top of the pairs that are left.
+pub fn push_pair(
+    alloc: Global,
+    work: &mut Vec<TypPair>,
+    left: &Typ,
+    right: &Typ,
+) -> Result<(), AllocError>
+    ensures { OnOk result (reverse work.new.items ≡ pair left.now right.now ∷ reverse work.old.items) }
+{
+    let (left, right) = (left.copy(alloc)?, right.copy(alloc)?);
+    work.push(TypPair { left, right })?;
+    Ok(())
+}
+
 /// Puts the pairs of arguments on top of the pairs that are left, the first on the very top.
 pub fn push_arguments(
+    alloc: Global,
     work: &mut Vec<TypPair>,
-    mut left: Vec<Typ>,
-    mut right: Vec<Typ>,
+    left: &[Typ],
+    right: &[Typ],
 ) -> Result<(), AllocError>
-    requires { length left.items ≡ length right.items }
-    ensures { OnOk result (reverse work.new.items ≡ pairs_along left.items right.items ++ reverse work.old.items) }
+    requires { length left.now ≡ length right.now }
+    ensures { OnOk result (reverse work.new.items ≡ pairs_along left.now right.now ++ reverse work.old.items) }
 {
-    while let Some(first) = left.pop() {
-        let Some(second) = right.pop() else {
-            return Ok(());
-        };
-        work.push(TypPair {
-            left: first,
-            right: second,
-        })?;
+    let mut rest = left.len();
+    while rest > 0 {
+        rest -= 1;
+        push_pair(alloc, work, &left[rest], &right[rest])?;
     }
     Ok(())
 }

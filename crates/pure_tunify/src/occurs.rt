@@ -3,12 +3,15 @@ ghost use Rattle.std.specs.Prelude.{◌↔◌, IsTrue};
 ghost use Rattle.pure_definitions.specs.Types.Typ as tree;
 ghost use Rattle.pure_definitions.specs.Types.Occurs.{OccursInTyp};
 
-use pure_typ::{Name, Sort, Typ, TypNode, occurs_in_typ};
+use pure_typ::{Name, Sort, Typ, TypNode, index_above_of_typ, occurs_in_typ};
 
-/// Whether the schematic variable occurs in the type.
+/// Whether the schematic variable occurs in the type. A part whose variables have lower indexes isn't looked through.
 fn occurs_schematic(name: Name, index: u32, sort: &Sort, t: &Typ) -> bool
     ensures { IsTrue result ↔ OccursInTyp (tree.TVar name index sort.now) t.now }
 {
+    if index_above_of_typ(t) <= u64::from(index) {
+        return false;
+    }
     match &t.node {
         TypNode::TFree { .. } => false,
         TypNode::TVar {
@@ -17,6 +20,7 @@ fn occurs_schematic(name: Name, index: u32, sort: &Sort, t: &Typ) -> bool
             sort: own,
         } => name == *other && index == *number && *sort == *own,
         TypNode::Con { args, .. } => {
+            let args = args.as_slice();
             for arg in args {
                 if occurs_schematic(name, index, sort, arg) {
                     return true;

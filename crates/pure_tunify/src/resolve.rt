@@ -5,10 +5,12 @@ ghost use Rattle.pure_definitions.specs.Terms.Subst.{IsTypMap, typ_instance};
 ghost use Rattle.pure_definitions.specs.Types.Typ.{typ_size, typ_depth};
 ghost use Rattle.pure_definitions.specs.Terms.Limits.{Leaves, IsWithinTyp};
 ghost use Rattle.pure_tunify.specs.Settings.{composed};
-ghost use Rattle.pure_tunify.specs.Working.{IsResolved, HasImagesWithin, IsSmall, IsWrittenInOrder};
+ghost use Rattle.pure_tunify.specs.Working.{IsPutIn, IsResolved, HasImagesWithin, IsSmall, IsWrittenInOrder};
 
 use crate::settings::Settings;
-use pure_typ::{MAX_DEPTH, MAX_SIZE, Typ, TypBind, TypMap, TypNode};
+use pure_typ::{
+    MAX_DEPTH, MAX_SIZE, Typ, TypBind, TypMap, TypNode, index_above_of_typ, typ_leaves,
+};
 use std::alloc::{AllocError, Global};
 
 /// A type in which all set variables are replaced, and the room for nodes that it leaves.
@@ -18,8 +20,21 @@ pub struct Resolved {
     pub left: u32,
 }
 
+/// The type as it stands, in a room for so many nodes on paths of so many; none exactly where it doesn't fit.
+fn put_in(alloc: Global, t: &Typ, left: u32, room: u32) -> Result<Option<Resolved>, AllocError>
+    ensures { IfOk result (IsPutIn t.now left room) }
+{
+    match typ_leaves(t, left, room) {
+        None => Ok(None),
+        Some(rest) => {
+            let typ = t.copy(alloc)?;
+            Ok(Some(Resolved { typ, left: rest }))
+        }
+    }
+}
+
 /// The type with all set variables replaced, in a room for so many nodes on paths of so many; none exactly where it
-/// doesn't fit.
+/// doesn't fit. A part without schematic variables is handed back as it is.
 pub fn resolve(
     settings: &Settings,
     alloc: Global,
@@ -36,6 +51,10 @@ pub fn resolve(
         return Ok(None);
     }
     let top = settings.head(t)?;
+    if index_above_of_typ(top) == 0 {
+        let found = put_in(alloc, top, left, room)?;
+        return Ok(found);
+    }
     match &top.node {
         TypNode::TFree { .. } => {
             let typ = top.copy(alloc)?;
@@ -52,6 +71,7 @@ pub fn resolve(
             }))
         }
         TypNode::Con { name, args } => {
+            let args = args.as_slice();
             let mut images = Vec::with_capacity(alloc, args.len())?;
             let mut rest = left - 1;
             for arg in args {
@@ -63,12 +83,7 @@ pub fn resolve(
                 rest = less;
                 images.push(typ)?;
             }
-            let typ = Typ {
-                node: TypNode::Con {
-                    name: *name,
-                    args: images,
-                },
-            };
+            let typ = Typ::constructed(alloc, *name, images)?;
             Ok(Some(Resolved { typ, left: rest }))
         }
     }
@@ -90,10 +105,14 @@ pub fn resolved_leaves(
         return Ok(None);
     }
     let top = settings.head(t)?;
+    if index_above_of_typ(top) == 0 {
+        return Ok(typ_leaves(top, left, room));
+    }
     match &top.node {
         TypNode::TFree { .. } => Ok(Some(left - 1)),
         TypNode::TVar { .. } => Ok(Some(left - 1)),
         TypNode::Con { args, .. } => {
+            let args = args.as_slice();
             let mut rest = left - 1;
             for arg in args {
                 let found = resolved_leaves(settings, arg, rest, room - 1)?;

@@ -9,7 +9,7 @@ ghost use Rattle.pure_tunify.specs.Unifiers.{IsOld};
 ghost use Rattle.pure_tunify.specs.Settings.{composed, IsTidy};
 
 use crate::stored::Stored;
-use pure_typ::{Typ, TypBind, TypNode, typ_leaves};
+use pure_typ::{Typ, TypBind, TypNode, index_above_of_typ, typ_leaves};
 use std::alloc::{AllocError, Global};
 use std::marker::Model;
 
@@ -41,6 +41,9 @@ impl Model for Settings {
 fn leaves_of(stored: &Stored, t: &Typ, left: u32, room: u32) -> Option<u32>
     ensures { Leaves left room (typ_size (typ_instance (typ_image stored.now) t.now)) (typ_depth (typ_instance (typ_image stored.now) t.now)) result }
 {
+    if index_above_of_typ(t) == 0 {
+        return typ_leaves(t, left, room);
+    }
     match &t.node {
         TypNode::TFree { .. } => typ_leaves(t, left, room),
         TypNode::TVar { name, index, sort } => match stored.find(*name, *index, sort) {
@@ -54,6 +57,7 @@ fn leaves_of(stored: &Stored, t: &Typ, left: u32, room: u32) -> Option<u32>
             if room == 0 {
                 return None;
             }
+            let args = args.as_slice();
             let mut rest = left - 1;
             for arg in args {
                 let Some(less) = leaves_of(stored, arg, rest, room - 1) else {

@@ -232,8 +232,8 @@ fn meet(
             Ok(turned)
         }
         Meeting::Arguments => {
-            let (lefts, rights) = (arguments(alloc, left), arguments(alloc, right));
-            push_arguments(work, lefts, rights)?;
+            let (lefts, rights) = (arguments(&left), arguments(&right));
+            push_arguments(alloc, work, lefts, rights)?;
             Ok(Turned::Further)
         }
     }

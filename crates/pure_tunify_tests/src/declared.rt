@@ -28,7 +28,7 @@ fn declare_arity(alloc: Global, order: &mut Order, class: Name, t: &Typ) -> Resu
         return Err("no constructor".into());
     };
     let mut domains = Vec::new(alloc);
-    for arg in args {
+    for arg in args.as_slice() {
         domains.push(sort_of(alloc, arg)?)?;
     }
     order.add_arity(alloc, *name, domains, class)?;

@@ -16,12 +16,12 @@ match_typ-returns-in_ok-fits-in-TVar t c =
 
 pub match_typ-returns-in-None : goal.match_typ-returns-in-None
 match_typ-returns-in-None t c =
-    let con : c.args.declared.now ≡ Con c.in-Con.name (typs_of c.as_slice-args.result.now) = rw (← c.declared.view_is, c.in-Con.is, c.as_slice-args.ensures.value) refl in
+    let con : c.args.declared.now ≡ Con c.in-Con.name (typs_of c.as_slice-args.result.now) = rw (← c.declared.view_is, c.in-Con.is, c.as_slice-args.ensures) refl in
     excluded-by_constructor c.args.declared.now c.args.typ.now c.in-Con.name (typs_of c.as_slice-args.result.now) c.args.binds.now con c.in-None.ensures
 
 pub match_typ-returns-in_ok-matches-in-Some : goal.match_typ-returns-in_ok-matches-in-Some
 match_typ-returns-in_ok-matches-in-Some t c =
-    let con : c.args.declared.now ≡ Con c.in-Con.name (typs_of c.as_slice-args.result.now) = rw (← c.declared.view_is, c.in-Con.is, c.as_slice-args.ensures.value) refl in
+    let con : c.args.declared.now ≡ Con c.in-Con.name (typs_of c.as_slice-args.result.now) = rw (← c.declared.view_is, c.in-Con.is, c.as_slice-args.ensures) refl in
     walked-at_con c.args.declared.now c.args.typ.now c.in-Con.name (typs_of c.as_slice-args.result.now) (typs_of c.in-Some.types.now) c.args.binds.now c.match_types.new.binds c.in_ok-matches-in-Some.matches
     con c.in-Some.ensures c.in_ok-matches-in-Some.ensures
 

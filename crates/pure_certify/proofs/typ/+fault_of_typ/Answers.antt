@@ -7,13 +7,13 @@ use Rattle.pure_certify.proofs.typ.+fault_of_typ.Goals as goal
 pub fault_of_typ-returns-in-Some : goal.fault_of_typ-returns-in-Some
 fault_of_typ-returns-in-Some g t c =
     let items = c.as_slice-args.result.now in
-    let con : c.args.t.now ≡ Con c.in-Con.name (typs_of items) = rw (← c.t.view_is, c.in-Con.is, c.as_slice-args.ensures.value) refl in
+    let con : c.args.t.now ≡ Con c.in-Con.name (typs_of items) = rw (← c.t.view_is, c.in-Con.is, c.as_slice-args.ensures) refl in
     rw con (fault-at_con (g.D.Tables.declarations c.args.tables.now) c.in-Con.name (length items) (typs_of items) c.in-Some.fault (sym (typs_count-of items)) c.in-Some.ensures)
 
 pub fault_of_typ-returns-in_default : goal.fault_of_typ-returns-in_default
 fault_of_typ-returns-in_default g t c =
     let items = c.as_slice-args.result.now in
-    let con : c.args.t.now ≡ Con c.in-Con.name (typs_of items) = rw (← c.t.view_is, c.in-Con.is, c.as_slice-args.ensures.value) refl in
+    let con : c.args.t.now ≡ Con c.in-Con.name (typs_of items) = rw (← c.t.view_is, c.in-Con.is, c.as_slice-args.ensures) refl in
     answer-at_con (g.D.Tables.declarations c.args.tables.now) c.args.t.now c.in-Con.name (length items) (typs_of items) c.fault_of_types.result con (sym (typs_count-of items)) c.in_default.ensures c.fault_of_types.ensures
 
 pub fault_of_types-returns-in-Some : goal.fault_of_types-returns-in-Some

@@ -18,7 +18,7 @@ ask-returns-in_ok-push-in-TVar t c = rw (← c.t.view_is, c.in-TVar.is) (ask_sch
 pub ask-returns-in-None : goal.ask-returns-in-None
 ask-returns-in-None t c =
     let no_such : HasNoSuchArguments c.args.order.now c.in-Con.name c.args.sort.now (length c.as_slice-args.result.now) = rw c.in-None.is at c.in_ok-found-in-Con.ensures in
-    rw (← c.t.view_is, c.in-Con.is, ← c.as_slice-args.ensures.value) (ask_none c.args.order.now c.in-Con.name c.args.sort.now c.as_slice-args.result.now no_such)
+    rw (← c.t.view_is, c.in-Con.is, ← c.as_slice-args.ensures) (ask_none c.args.order.now c.in-Con.name c.args.sort.now c.as_slice-args.result.now no_such)
 
 pub ask-returns-in_ok-can-in-Some : goal.ask-returns-in_ok-can-in-Some
 ask-returns-in_ok-can-in-Some t c =
@@ -26,7 +26,7 @@ ask-returns-in_ok-can-in-Some t c =
     let each : MatchBool c.in_ok-can-in-Some.can (AllAskMore c.args.order.now c.as_slice-args.result.now c.in-Some.sorts.items c.args.asked.now.items c.ask_each.new.asked.items
     × (map asked_variable c.ask_each.new.asked.items ≡ map asked_variable c.args.asked.now.items ++ schematics_of (typs_of c.as_slice-args.result.now))) (HaveNoInstances c.args.order.now c.as_slice-args.result.now c.in-Some.sorts.items) =
     rw c.as_slice.ensures.value at c.in_ok-can-in-Some.ensures in
-    rw (← c.t.view_is, c.in-Con.is, ← c.as_slice-args.ensures.value) (ask_constructor c.args.order.now c.in-Con.name c.args.sort.now c.as_slice-args.result.now c.in-Some.sorts.items c.args.asked.now.items c.ask_each.new.asked.items c.in_ok-can-in-Some.can found each)
+    rw (← c.t.view_is, c.in-Con.is, ← c.as_slice-args.ensures) (ask_constructor c.args.order.now c.in-Con.name c.args.sort.now c.as_slice-args.result.now c.in-Some.sorts.items c.args.asked.now.items c.ask_each.new.asked.items c.in_ok-can-in-Some.can found each)
 
 pub ask_each-ask-requires : goal.ask_each-ask-requires
 ask_each-ask-requires t c =

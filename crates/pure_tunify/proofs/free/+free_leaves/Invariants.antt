@@ -5,4 +5,4 @@ use Rattle.pure_tunify.proofs.free.+free_leaves.Given as goal
 
 -- those so far are their own instances
 abbrev pub invariant-loop-arg : goal.invariant-loop-arg
-invariant-loop-arg l = map (typ_instance (composed l.settings.sets)) (take l.arg-index l.arg-items) ≡ take l.arg-index l.arg-items
+invariant-loop-arg l = map (typ_instance (composed l.settings.sets)) (take l.arg-index l.args) ≡ take l.arg-index l.args

@@ -5,4 +5,4 @@ use Rattle.pure_tunify.proofs.MeasureLaws.{HasMeasured}
 use Rattle.pure_tunify.proofs.measure.+measured.Given as goal
 
 abbrev pub invariant-loop-arg : goal.invariant-loop-arg
-invariant-loop-arg l = HasMeasured (map (typ_instance (composed l.settings.sets)) l.arg-items) l.arg-index l.whole
+invariant-loop-arg l = HasMeasured (map (typ_instance (composed l.settings.sets)) l.args) l.arg-index l.whole

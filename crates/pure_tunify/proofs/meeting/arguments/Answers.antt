@@ -1,6 +1,8 @@
-use Rattle.std.proofs.Common.{◌∙◌}
+use Rattle.std.proofs.Common.{sym, ◌∙◌}
+use Rattle.pure_definitions.specs.Types.Typ.{Typ}
+use Rattle.pure_typ.specs.TypView.{args_list}
 use Rattle.pure_tunify.proofs.MeetingLaws.{arguments_are}
 use Rattle.pure_tunify.proofs.meeting.arguments.Goals as goal
 
 pub returns-in-Con : goal.returns-in-Con
-returns-in-Con c = λ k ts e. arguments_are c.in-Con.name k c.in-Con.args.items ts ((rw c.in-Con.is at c.t.view_is) ∙ e)
+returns-in-Con c = λ k ts e. c.as_slice.ensures ∙ arguments_are c.in-Con.name k (args_list c.in-Con.args) ts ((rw c.in-Con.is at c.t.view_is) ∙ e)

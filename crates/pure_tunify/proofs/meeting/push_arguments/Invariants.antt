@@ -1,13 +1,14 @@
-use Rattle.std.proofs.Common.{◌≡◌, ◌++◌, length, vec_len}
+use Rattle.std.proofs.Common.{◌≡◌, ◌≤◌, ◌++◌, length, drop}
 use Rattle.std.specs.Prelude.{reverse}
 use Rattle.pure_tunify.specs.Working.{pairs_along}
 use Rattle.pure_tunify.proofs.meeting.push_arguments.Given as goal
 
-abbrev pub invariant-loop-first : goal.invariant-loop-first
-invariant-loop-first l = record {
-  many : length l.left.items ≡ length l.right.items;
-  pushed : pairs_along l.left.items l.right.items ++ reverse l.work.items ≡ pairs_along l.initial.left.items l.initial.right.items ++ reverse l.initial.work.items;
+-- the pairs of the last arguments stand on top
+abbrev pub invariant-loop-rest : goal.invariant-loop-rest
+invariant-loop-rest l = record {
+  short : l.rest ≤ length l.left;
+  pushed : reverse l.work.items ≡ pairs_along (drop l.rest l.left) (drop l.rest l.right) ++ reverse l.initial.work.items;
 }
 
-abbrev pub decreases-loop-first : goal.decreases-loop-first
-decreases-loop-first l = vec_len l.left
+abbrev pub decreases-loop-rest : goal.decreases-loop-rest
+decreases-loop-rest l = l.rest

@@ -5,4 +5,4 @@ use Rattle.pure_tunify.proofs.occurs.+occurs_schematic.Given as goal
 
 -- it occurs in none so far
 abbrev pub invariant-loop-arg : goal.invariant-loop-arg
-invariant-loop-arg l = ¬ OccursInTyps (TVar l.name l.index l.sort) (typs_of (take l.arg-index l.arg-items))
+invariant-loop-arg l = ¬ OccursInTyps (TVar l.name l.index l.sort) (typs_of (take l.arg-index l.args))

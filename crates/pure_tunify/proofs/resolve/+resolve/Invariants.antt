@@ -9,6 +9,6 @@ decreases-resolve l = l.room
 
 abbrev pub invariant-loop-arg : goal.invariant-loop-arg
 invariant-loop-arg l = record {
-  put : HasPut (map (typ_instance (composed l.settings.sets)) l.arg-items) l.left l.room l.arg-index l.rest;
-  images : l.images.items ≡ map (typ_instance (composed l.settings.sets)) (take l.arg-index l.arg-items);
+  put : HasPut (map (typ_instance (composed l.settings.sets)) l.args) l.left l.room l.arg-index l.rest;
+  images : l.images.items ≡ map (typ_instance (composed l.settings.sets)) (take l.arg-index l.args);
 }

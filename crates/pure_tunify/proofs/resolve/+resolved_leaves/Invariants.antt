@@ -8,4 +8,4 @@ abbrev pub decreases-resolved_leaves : goal.decreases-resolved_leaves
 decreases-resolved_leaves l = l.room
 
 abbrev pub invariant-loop-arg : goal.invariant-loop-arg
-invariant-loop-arg l = HasPut (map (typ_instance (composed l.settings.sets)) l.arg-items) l.left l.room l.arg-index l.rest
+invariant-loop-arg l = HasPut (map (typ_instance (composed l.settings.sets)) l.args) l.left l.room l.arg-index l.rest
