@@ -11,14 +11,15 @@ ghost use Rattle.pure_theorem.specs.Shapes.{IsTyped, IsNoEquation};
 ghost use Rattle.pure_conv.specs.Bottom.{ReturnsAt, IsRightSide, IsConstant, AreEquations, IsConverted, AreDerivable, IsRefused, IsEquated, IsBottomAnswer};
 
 use crate::fault::ConvFault;
-use pure_term::{Label, Term, TermNode, Typ};
+use pure_term::{Label, Term, TermNode, Typ, copied};
 use pure_theorem::{Base, Thm, as_equation, equation, typ_of_typed, united_labels};
 use std::alloc::{AllocError, Global};
+use std::sync::Arc;
 
 /// What a term becomes, and the promises on which the equation rests.
 #[derive(Drop)]
 struct Becoming {
-    term: Box<Term>,
+    term: Arc<Term>,
     rests: Vec<Label>,
 }
 
@@ -31,13 +32,12 @@ fn no_labels(alloc: Global) -> Vec<Label>
 }
 
 /// The term as it is.
-fn kept(alloc: Global, t: &Term) -> Result<Becoming, AllocError>
-    ensures term { IfOk result (λ made. made.term.value ≡ t.now) }
+fn kept(alloc: Global, t: &Arc<Term>) -> Result<Becoming, AllocError>
+    ensures term { IfOk result (λ made. made.term.value ≡ t.now.value) }
     ensures rests { IfOk result (λ made. made.rests.items ≡ []) }
     ensures set { IfOk result (λ made. IsLabelSet made.rests.items) }
 {
-    let copy = t.copy(alloc)?;
-    let term = Box::new(alloc, copy)?;
+    let term = Arc::try_clone(t)?;
     let rests = no_labels(alloc);
     Ok(Becoming { term, rests })
 }
@@ -60,8 +60,7 @@ fn right_side(alloc: Global, th: &Thm) -> Result<Option<Becoming>, AllocError>
     let Some(right) = right_of(&th.prop) else {
         return Ok(None);
     };
-    let copy = right.copy(alloc)?;
-    let term = Box::new(alloc, copy)?;
+    let term = copied(alloc, right)?;
     let rests = Vec::from_slice(alloc, &th.rests)?;
     Ok(Some(Becoming { term, rests }))
 }
@@ -71,15 +70,16 @@ fn asked<B: Base, F: Fn(&B, &Term) -> Result<Option<Thm>, ConvFault>>(
     alloc: Global,
     thy: &B,
     f: &F,
-    t: &Term,
+    t: &Arc<Term>,
 ) -> Result<Becoming, ConvFault>
     requires callable { F.IsAlwaysCallable f.now }
-    requires constant { IsConstant t.now }
+    requires constant { IsConstant t.now.value }
     requires equations { AreEquations (ReturnsAt F.Fn f.now thy.now) }
-    ensures becomes { MatchResult result (λ made. IsConverted (ReturnsAt F.Fn f.now thy.now) t.now made.term.value made.rests.items) (IsRefused (ReturnsAt F.Fn f.now thy.now) t.now) }
+    ensures becomes { MatchResult result (λ made. IsConverted (ReturnsAt F.Fn f.now thy.now) t.now.value made.term.value made.rests.items) (IsRefused (ReturnsAt F.Fn f.now thy.now) t.now.value) }
     ensures set { IfOk result (λ made. IsLabelSet made.rests.items) }
 {
-    let found = match f(thy, t) {
+    let whole: &Term = t;
+    let found = match f(thy, whole) {
         Ok(found) => found,
         Err(fault) => return Err(fault),
     };
@@ -99,8 +99,7 @@ fn under(alloc: Global, typ: &Typ, inside: Becoming) -> Result<Becoming, AllocEr
 {
     let typ = typ.copy(alloc)?;
     let Becoming { term: body, rests } = inside;
-    let node = TermNode::Abs { typ, body };
-    let term = Box::new(alloc, Term { node })?;
+    let term = Arc::new(alloc, Term::abs(typ, body))?;
     Ok(Becoming { term, rests })
 }
 
@@ -112,25 +111,24 @@ fn joined(alloc: Global, first: Becoming, second: Becoming) -> Result<Becoming, 
     ensures rests { IfOk result (λ made. IsSetOf label_cmp (first.rests.items ++ second.rests.items) made.rests.items) }
 {
     let rests = united_labels(alloc, &first.rests, &second.rests)?;
-    let (fun, arg) = (first.term, second.term);
-    let node = TermNode::App { fun, arg };
-    let term = Box::new(alloc, Term { node })?;
+    let term = Arc::new(alloc, Term::app(first.term, second.term))?;
     Ok(Becoming { term, rests })
 }
 
-/// What the term becomes by the function's answers for its constants, each asked once, in preorder.
+/// What the term becomes by the function's answers for its constants, each asked once, in preorder. Leaves that stay are handed back.
 fn converted<B: Base, F: Fn(&B, &Term) -> Result<Option<Thm>, ConvFault>>(
     alloc: Global,
     thy: &B,
     f: &F,
-    t: &Term,
+    t: &Arc<Term>,
 ) -> Result<Becoming, ConvFault>
     requires callable { F.IsAlwaysCallable f.now }
     requires equations { AreEquations (ReturnsAt F.Fn f.now thy.now) }
-    ensures becomes { MatchResult result (λ made. IsConverted (ReturnsAt F.Fn f.now thy.now) t.now made.term.value made.rests.items) (IsRefused (ReturnsAt F.Fn f.now thy.now) t.now) }
+    ensures becomes { MatchResult result (λ made. IsConverted (ReturnsAt F.Fn f.now thy.now) t.now.value made.term.value made.rests.items) (IsRefused (ReturnsAt F.Fn f.now thy.now) t.now.value) }
     ensures set { IfOk result (λ made. IsLabelSet made.rests.items) }
 {
-    match &t.node {
+    let whole: &Term = t;
+    match &whole.node {
         TermNode::Const { .. } => asked(alloc, thy, f, t),
         TermNode::Free { .. } => Ok(kept(alloc, t)?),
         TermNode::Var { .. } => Ok(kept(alloc, t)?),
@@ -154,7 +152,7 @@ fn theorem(alloc: Global, typ: &Typ, t: &Term, made: Becoming) -> Result<Thm, Al
 {
     let left = t.copy(alloc)?;
     let Becoming { term, rests } = made;
-    let prop = equation(alloc, typ, left, Box::into_inner(term))?;
+    let prop = equation(alloc, typ, left, term.copy(alloc)?)?;
     Ok(Thm {
         hyps: Vec::new(alloc),
         pairs: Vec::new(alloc),
@@ -191,7 +189,8 @@ pub fn bottom<B: Base, F: Fn(&B, &Term) -> Result<Option<Thm>, ConvFault>>(
     ensures answer { IsBottomAnswer (ReturnsAt F.Fn f.now thy.now) t.now result }
     ensures derivable { let Q = B.content thy.now in IsTheoryContent Q → AreDerivable Q (ReturnsAt F.Fn f.now thy.now) → IsCertified Q.declarations t.now → IfOk result (IsDerivable Q) }
 {
-    match converted(alloc, thy, f, t) {
+    let whole = copied(alloc, t)?;
+    match converted(alloc, thy, f, &whole) {
         Ok(made) => concluded(alloc, t, made),
         Err(fault) => Err(fault),
     }

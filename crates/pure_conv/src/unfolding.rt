@@ -20,11 +20,12 @@ use crate::fault::{ConvFault, conv_answer};
 use crate::rule::{Rule, instance_for, rule_of};
 use pure_inst::Ordered;
 use pure_term::{
-    Grow, MAX_DEPTH, MAX_SIZE, Name, Term, TermNode, Typ, TypMap, inst_typ, term_leaves,
+    Grow, MAX_DEPTH, MAX_SIZE, Name, Term, TermNode, Typ, TypMap, copied, inst_typ, term_leaves,
 };
 use pure_theorem::{Thm, equation, from_one, typ_of_typed};
 use pure_typ::typ_leaves;
 use std::alloc::{AllocError, Global};
+use std::sync::Arc;
 
 /// Whether the constant of this name and type is unfolded.
 fn unfolds(alloc: Global, rule: &Rule, name: Name, typ: &Typ) -> Result<bool, AllocError>
@@ -136,64 +137,49 @@ fn leaves(
     }
 }
 
-/// The term in a block of its own.
-fn block(alloc: Global, t: Term) -> Result<Box<Term>, AllocError>
-    ensures { IfOk result (λ u. u.value ≡ t) }
-{
-    Ok(Box::new(alloc, t)?)
-}
-
-/// A copy of the term in a block of its own.
-fn copied(alloc: Global, t: &Term) -> Result<Box<Term>, AllocError>
-    ensures { IfOk result (λ u. u.value ≡ t.now) }
-{
-    block(alloc, t.copy(alloc)?)
-}
-
 /// The abstraction over a variable of the type.
-fn abstraction(alloc: Global, typ: &Typ, body: Box<Term>) -> Result<Box<Term>, AllocError>
+fn abstraction(alloc: Global, typ: &Typ, body: Arc<Term>) -> Result<Arc<Term>, AllocError>
     ensures { IfOk result (λ u. u.value ≡ tree.Abs typ.now body.value) }
 {
     let typ = typ.copy(alloc)?;
-    let node = TermNode::Abs { typ, body };
-    block(alloc, Term { node })
+    Ok(Arc::new(alloc, Term::abs(typ, body))?)
 }
 
 /// The application of the function to the argument.
-fn applied(alloc: Global, fun: Box<Term>, arg: Box<Term>) -> Result<Box<Term>, AllocError>
+fn applied(alloc: Global, fun: Arc<Term>, arg: Arc<Term>) -> Result<Arc<Term>, AllocError>
     ensures { IfOk result (λ u. u.value ≡ tree.App fun.value arg.value) }
 {
-    let node = TermNode::App { fun, arg };
-    block(alloc, Term { node })
+    Ok(Arc::new(alloc, Term::app(fun, arg))?)
 }
 
-/// What stands for the constant, in a block of its own.
+/// What stands for the constant.
 fn put_constant(
     alloc: Global,
     rule: &Rule,
-    t: &Term,
+    t: &Arc<Term>,
     name: Name,
     typ: &Typ,
-) -> Result<Box<Term>, Grow>
+) -> Result<Arc<Term>, Grow>
     requires defining { IsDefining rule.now }
-    requires constant { t.now ≡ tree.Const name typ.now }
-    ensures { MatchResult result (λ u. IsReplaced (puts rule.now) t.now u.value) (IsTooLarge (puts rule.now) t.now) }
+    requires constant { t.now.value ≡ tree.Const name typ.now }
+    ensures { MatchResult result (λ u. IsReplaced (puts rule.now) t.now.value u.value) (IsTooLarge (puts rule.now) t.now.value) }
 {
     match instance_for(alloc, rule, name, typ)? {
         Some(binds) => {
             let body = inst_typ(alloc, rule.body, &binds)?;
-            Ok(block(alloc, body)?)
+            Ok(copied(alloc, &body)?)
         }
-        None => Ok(copied(alloc, t)?),
+        None => Ok(Arc::try_clone(t)?),
     }
 }
 
-/// What the term becomes, in a block of its own.
-fn put(alloc: Global, rule: &Rule, t: &Term) -> Result<Box<Term>, Grow>
+/// What the term becomes. Leaves that stay are handed back.
+fn put(alloc: Global, rule: &Rule, t: &Arc<Term>) -> Result<Arc<Term>, Grow>
     requires defining { IsDefining rule.now }
-    ensures { MatchResult result (λ u. IsReplaced (puts rule.now) t.now u.value) (IsTooLarge (puts rule.now) t.now) }
+    ensures { MatchResult result (λ u. IsReplaced (puts rule.now) t.now.value u.value) (IsTooLarge (puts rule.now) t.now.value) }
 {
-    match &t.node {
+    let whole: &Term = t;
+    match &whole.node {
         TermNode::Const { name, typ } => put_constant(alloc, rule, t, *name, typ),
         TermNode::Abs { typ, body, .. } => {
             let body = put(alloc, rule, body)?;
@@ -204,9 +190,9 @@ fn put(alloc: Global, rule: &Rule, t: &Term) -> Result<Box<Term>, Grow>
             let arg = put(alloc, rule, arg)?;
             Ok(applied(alloc, fun, arg)?)
         }
-        TermNode::Free { .. } => Ok(copied(alloc, t)?),
-        TermNode::Var { .. } => Ok(copied(alloc, t)?),
-        TermNode::Bound { .. } => Ok(copied(alloc, t)?),
+        TermNode::Free { .. } => Ok(Arc::try_clone(t)?),
+        TermNode::Var { .. } => Ok(Arc::try_clone(t)?),
+        TermNode::Bound { .. } => Ok(Arc::try_clone(t)?),
     }
 }
 
@@ -218,7 +204,8 @@ fn unfolded(alloc: Global, rule: &Rule, typ: &Typ, t: &Term) -> Result<Term, Gro
     let Some(_) = leaves(alloc, rule, t, MAX_SIZE, MAX_DEPTH)? else {
         return Err(Grow::Big);
     };
-    let right = Box::into_inner(put(alloc, rule, t)?);
+    let whole = copied(alloc, t)?;
+    let right = put(alloc, rule, &whole)?.copy(alloc)?;
     let left = t.copy(alloc)?;
     Ok(equation(alloc, typ, left, right)?)
 }

@@ -12,7 +12,7 @@ ghost use Rattle.pure_theorem.specs.Shapes.{IsTyped};
 ghost use Rattle.pure_equal.specs.Reduction.{GivesBeta, IsNoRedex, RefusesBeta, GivesEta, RefusesEta, IsRedex, IsNoAbstraction, IsApplied, IsNotApplied};
 
 use crate::equivalence::equation_of;
-use pure_term::{Grow, Term, TermNode, Typ, subst_bound};
+use pure_term::{Grow, Term, TermNode, Typ, loose_above_of, subst_bound};
 use pure_theorem::{Base, RuleFault, Thm, alone, as_application, equation, typ_of_typed};
 use std::alloc::{AllocError, Global};
 
@@ -74,26 +74,11 @@ fn is_bound_0(t: &Term) -> bool
     }
 }
 
-/// Whether no bound variable of the term is loose under so many binders. Below 2 ^ 32 of them, which no memory holds, it is want of memory.
-fn is_closed_under(t: &Term, binders: u32) -> Result<bool, AllocError>
-    ensures { IfOk result (λ closed. IsTrue closed ↔ IsClosedUnder binders t.now) }
+/// Whether no bound variable of the term is loose under so many binders.
+fn is_closed_under(t: &Term, binders: u32) -> bool
+    ensures { IsTrue result ↔ IsClosedUnder binders t.now }
 {
-    match &t.node {
-        TermNode::Bound { place } => Ok(*place < binders),
-        TermNode::Abs { body, .. } => {
-            let Some(under) = binders.checked_add(1) else {
-                return Err(AllocError);
-            };
-            is_closed_under(body, under)
-        }
-        TermNode::App { fun, arg, .. } => {
-            if !is_closed_under(fun, binders)? {
-                return Ok(false);
-            }
-            is_closed_under(arg, binders)
-        }
-        _ => Ok(true),
-    }
+    loose_above_of(t) <= u64::from(binders)
 }
 
 /// What is applied to the bound variable in an abstraction: of `%x. f x` the f, under the binder.
@@ -124,7 +109,7 @@ pub fn eta<B: Base>(alloc: Global, thy: &B, t: &Term) -> Result<Thm, RuleFault>
     let Some(function) = as_applied(t) else {
         return Err(RuleFault::NotEta);
     };
-    if !is_closed_under(function, 0)? {
+    if !is_closed_under(function, 0) {
         return Err(RuleFault::NotEta);
     }
     let typ = typ_of_typed(alloc, t)?;

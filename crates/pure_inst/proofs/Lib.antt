@@ -1,8 +1,9 @@
-pub mod RenamingLaws
-pub mod NamedLaws
+pub mod DerivedLaws
 pub mod FailingLaws
-pub mod ReplacedLaws
 pub mod ImageLaws
 pub mod InstanceLaws
 pub mod MapAnswerLaws
-pub mod DerivedLaws
+pub mod NamedLaws
+pub mod RenamingLaws
+pub mod ReplacedLaws
+pub mod StaysLaws

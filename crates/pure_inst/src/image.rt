@@ -11,11 +11,12 @@ ghost use Rattle.pure_logic.specs.Laws.Maps.{instantiated};
 
 use pure_term::{
     MAX_DEPTH, MAX_SIZE, Name, Sort, Term, TermBind, TermMap, TermNode, Typ, TypMap, TypNode,
-    term_leaves,
+    copied, index_above_of, term_leaves,
 };
 use pure_theorem::are_same_typs;
 use pure_typ::{instance_leaves, instance_of};
 use std::alloc::{AllocError, Global};
+use std::sync::Arc;
 
 /// Whether the image of the schematic type variable `t` is this type.
 fn is_image(t: &Typ, name: Name, index: u32, sort: &Sort, typs: &TypMap, other: &Typ) -> bool
@@ -131,6 +132,9 @@ fn image_leaves(
 fn leaves(t: &Term, typs: &TypMap, terms: &TermMap, left: u32, room: u32) -> Option<u32>
     ensures { let u = instantiated typs.now terms.now t.now in Leaves left room (term_size u) (term_depth u) result }
 {
+    if index_above_of(t) == 0 {
+        return term_leaves(t, left, room);
+    }
     if left == 0 {
         return None;
     }
@@ -177,49 +181,52 @@ fn put_image(
     typ: &Typ,
     typs: &TypMap,
     terms: &TermMap,
-) -> Result<Box<Term>, AllocError>
+) -> Result<Arc<Term>, AllocError>
     ensures { IfOk result (λ u. u.value ≡ term_image terms.now (tree.Var name index (typ_instance (typ_image typs.now) typ.now))) }
 {
     if let Some(image) = image_of(terms, typs, name, index, typ) {
-        let copy = image.copy(alloc)?;
-        return Ok(Box::new(alloc, copy)?);
+        return copied(alloc, image);
     }
     let typ = instance_of(alloc, typ, typs)?;
     let node = TermNode::Var { name, index, typ };
-    Ok(Box::new(alloc, Term { node })?)
+    Ok(Arc::new(alloc, Term { node })?)
 }
 
-/// The term with types and terms put in, in a block of its own.
-fn put(alloc: Global, t: &Term, typs: &TypMap, terms: &TermMap) -> Result<Box<Term>, AllocError>
-    ensures { IfOk result (λ u. u.value ≡ instantiated typs.now terms.now t.now) }
+/// The term with types and terms put in. A part without schematic variables is handed back as it is.
+fn put(
+    alloc: Global,
+    t: &Arc<Term>,
+    typs: &TypMap,
+    terms: &TermMap,
+) -> Result<Arc<Term>, AllocError>
+    ensures { IfOk result (λ u. u.value ≡ instantiated typs.now terms.now t.now.value) }
 {
-    match &t.node {
+    let whole: &Term = t;
+    if index_above_of(whole) == 0 {
+        return Arc::try_clone(t);
+    }
+    match &whole.node {
         TermNode::Const { name, typ } => {
             let typ = instance_of(alloc, typ, typs)?;
             let node = TermNode::Const { name: *name, typ };
-            Ok(Box::new(alloc, Term { node })?)
+            Ok(Arc::new(alloc, Term { node })?)
         }
         TermNode::Free { name, typ } => {
             let typ = instance_of(alloc, typ, typs)?;
             let node = TermNode::Free { name: *name, typ };
-            Ok(Box::new(alloc, Term { node })?)
+            Ok(Arc::new(alloc, Term { node })?)
         }
         TermNode::Var { name, index, typ } => { put_image(alloc, *name, *index, typ, typs, terms) }
-        TermNode::Bound { place } => {
-            let node = TermNode::Bound { place: *place };
-            Ok(Box::new(alloc, Term { node })?)
-        }
+        TermNode::Bound { .. } => Arc::try_clone(t),
         TermNode::Abs { typ, body, .. } => {
             let typ = instance_of(alloc, typ, typs)?;
             let body = put(alloc, body, typs, terms)?;
-            let node = TermNode::Abs { typ, body };
-            Ok(Box::new(alloc, Term { node })?)
+            Ok(Arc::new(alloc, Term::abs(typ, body))?)
         }
         TermNode::App { fun, arg, .. } => {
             let fun = put(alloc, fun, typs, terms)?;
             let arg = put(alloc, arg, typs, terms)?;
-            let node = TermNode::App { fun, arg };
-            Ok(Box::new(alloc, Term { node })?)
+            Ok(Arc::new(alloc, Term::app(fun, arg))?)
         }
     }
 }
@@ -233,5 +240,7 @@ pub fn instantiated(
 ) -> Result<Term, AllocError>
     ensures { IfOk result (λ u. u ≡ instantiated typs.now terms.now t.now) }
 {
-    Ok(Box::into_inner(put(alloc, t, typs, terms)?))
+    let t = copied(alloc, t)?;
+    let made = put(alloc, &t, typs, terms)?;
+    made.copy(alloc)
 }

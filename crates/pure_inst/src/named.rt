@@ -7,7 +7,7 @@ ghost use Rattle.pure_theorem.specs.First.{IsFirstWith};
 ghost use Rattle.pure_inst.specs.Named.{is_named, LacksTyps, Lacks};
 ghost use Rattle.pure_inst.specs.Schematic.{generalisation};
 
-use pure_term::{Name, Term, TermNode, Typ, TypNode};
+use pure_term::{Name, Term, TermNode, Typ, TypNode, is_ground_typ};
 
 /// Whether the name is one of these.
 pub fn is_named(names: &[Name], name: Name) -> bool
@@ -21,6 +21,9 @@ pub fn is_named(names: &[Name], name: Name) -> bool
 fn lacks_typs(t: &Typ, names: &[Name]) -> bool
     ensures { IsTrue result ↔ LacksTyps names.now t.now }
 {
+    if is_ground_typ(t) {
+        return true;
+    }
     match &t.node {
         TypNode::TFree { name, .. } => !is_named(names, *name),
         TypNode::TVar { .. } => true,

@@ -1,5 +1,5 @@
 //! Types and terms with variables renamed.
-ghost use Rattle.std.specs.Prelude.{◌≡◌, ◌+◌, ◌<◌, [], IfOk, map};
+ghost use Rattle.std.specs.Prelude.{◌≡◌, ◌↔◌, ◌+◌, ◌<◌, [], IsTrue, IfOk, map};
 ghost use Rattle.pure_text.specs.Lists.{Each};
 ghost use Rattle.pure_definitions.specs.Types.Typ as typ_tree;
 ghost use Rattle.pure_definitions.specs.Terms.Term as tree;
@@ -9,10 +9,14 @@ ghost use Rattle.pure_inst.specs.Renaming.{renamed_typs, renamed_terms, renamed,
 ghost use Rattle.pure_inst.specs.Image.{pair_image};
 
 use crate::named::is_named;
-use pure_term::{Name, Sort, Term, TermNode, Typ, TypNode};
+use pure_term::{
+    Name, Sort, Term, TermNode, Typ, TypNode, copied, index_above_of, index_above_of_typ,
+    is_ground_typ,
+};
 use pure_theorem::Pair;
 use std::alloc::{AllocError, Global};
 use std::marker::Model;
+use std::sync::Arc;
 
 /// What becomes of variables: fixed ones of these names become schematic with the index, and indexes of schematic ones are raised by so much.
 #[derive(Debug, Drop)]
@@ -79,6 +83,13 @@ impl Renaming {
         is_named(&self.terms, name)
     }
 
+    /// Whether no name is given, so that fixed variables stay fixed.
+    fn keeps_fixed(&self) -> bool
+        ensures { IsTrue result ↔ ((self.now.typs ≡ []) × (self.now.terms ≡ [])) }
+    {
+        self.typs.is_empty() && self.terms.is_empty()
+    }
+
     /// The index of those that become schematic.
     fn index(&self) -> u32
         ensures { result ≡ self.now.index }
@@ -137,27 +148,39 @@ fn renamed_schematic_typ(
     })
 }
 
-/// The type, renamed.
+/// Whether the kept measures tell that the type stays as it is.
+fn typ_stays(renaming: &Renaming, t: &Typ) -> bool
+    ensures { IsTrue result → typ_instance (renamed_typs renaming.now) t.now ≡ t.now }
+{
+    if is_ground_typ(t) {
+        return true;
+    }
+    if !renaming.keeps_fixed() {
+        return false;
+    }
+    index_above_of_typ(t) == 0
+}
+
+/// The type, renamed. One that stays as it is is shared.
 pub fn renamed_typ(alloc: Global, renaming: &Renaming, t: &Typ) -> Result<Typ, AllocError>
     requires { IsRaisableTyp renaming.now.by t.now }
     ensures { IfOk result (λ u. u ≡ typ_instance (renamed_typs renaming.now) t.now) }
 {
+    if typ_stays(renaming, t) {
+        return t.copy(alloc);
+    }
     match &t.node {
         TypNode::TFree { name, sort } => renamed_fixed_typ(alloc, renaming, *name, sort),
         TypNode::TVar { name, index, sort } => {
             renamed_schematic_typ(alloc, renaming, *name, *index, sort)
         }
         TypNode::Con { name, args } => {
+            let args = args.as_slice();
             let mut images = Vec::with_capacity(alloc, args.len())?;
             for arg in args {
                 images.push(renamed_typ(alloc, renaming, arg)?)?;
             }
-            Ok(Typ {
-                node: TypNode::Con {
-                    name: *name,
-                    args: images,
-                },
-            })
+            Typ::constructed(alloc, *name, images)
         }
     }
 }
@@ -188,40 +211,49 @@ fn renamed_schematic(renaming: &Renaming, name: Name, index: u32, typ: Typ) -> T
     }
 }
 
-/// The term, renamed, in a block of its own.
-fn renamed_box(alloc: Global, renaming: &Renaming, t: &Term) -> Result<Box<Term>, AllocError>
-    requires { IsRaisable renaming.now.by t.now }
-    ensures { IfOk result (λ u. u.value ≡ renamed renaming.now t.now) }
+/// Whether the kept measures tell that the term stays as it is.
+fn stays(renaming: &Renaming, t: &Term) -> bool
+    ensures { IsTrue result → renamed renaming.now t.now ≡ t.now }
 {
-    match &t.node {
+    if !renaming.keeps_fixed() {
+        return false;
+    }
+    index_above_of(t) == 0
+}
+
+/// The term, renamed. A part that stays as it is is handed back.
+fn renamed_part(alloc: Global, renaming: &Renaming, t: &Arc<Term>) -> Result<Arc<Term>, AllocError>
+    requires { IsRaisable renaming.now.by t.now.value }
+    ensures { IfOk result (λ u. u.value ≡ renamed renaming.now t.now.value) }
+{
+    let whole: &Term = t;
+    if stays(renaming, whole) {
+        return Arc::try_clone(t);
+    }
+    match &whole.node {
         TermNode::Const { name, typ } => {
             let typ = renamed_typ(alloc, renaming, typ)?;
             let node = TermNode::Const { name: *name, typ };
-            Ok(Box::new(alloc, Term { node })?)
+            Ok(Arc::new(alloc, Term { node })?)
         }
         TermNode::Free { name, typ } => {
             let typ = renamed_typ(alloc, renaming, typ)?;
-            Ok(Box::new(alloc, renamed_fixed(renaming, *name, typ))?)
+            Ok(Arc::new(alloc, renamed_fixed(renaming, *name, typ))?)
         }
         TermNode::Var { name, index, typ } => {
             let typ = renamed_typ(alloc, renaming, typ)?;
-            Ok(Box::new(alloc, renamed_schematic(renaming, *name, *index, typ))?)
+            Ok(Arc::new(alloc, renamed_schematic(renaming, *name, *index, typ))?)
         }
-        TermNode::Bound { place } => {
-            let node = TermNode::Bound { place: *place };
-            Ok(Box::new(alloc, Term { node })?)
-        }
+        TermNode::Bound { .. } => Arc::try_clone(t),
         TermNode::Abs { typ, body, .. } => {
             let typ = renamed_typ(alloc, renaming, typ)?;
-            let body = renamed_box(alloc, renaming, body)?;
-            let node = TermNode::Abs { typ, body };
-            Ok(Box::new(alloc, Term { node })?)
+            let body = renamed_part(alloc, renaming, body)?;
+            Ok(Arc::new(alloc, Term::abs(typ, body))?)
         }
         TermNode::App { fun, arg, .. } => {
-            let fun = renamed_box(alloc, renaming, fun)?;
-            let arg = renamed_box(alloc, renaming, arg)?;
-            let node = TermNode::App { fun, arg };
-            Ok(Box::new(alloc, Term { node })?)
+            let fun = renamed_part(alloc, renaming, fun)?;
+            let arg = renamed_part(alloc, renaming, arg)?;
+            Ok(Arc::new(alloc, Term::app(fun, arg))?)
         }
     }
 }
@@ -231,7 +263,9 @@ pub fn renamed(alloc: Global, renaming: &Renaming, t: &Term) -> Result<Term, All
     requires { IsRaisable renaming.now.by t.now }
     ensures { IfOk result (λ u. u ≡ renamed renaming.now t.now) }
 {
-    Ok(Box::into_inner(renamed_box(alloc, renaming, t)?))
+    let t = copied(alloc, t)?;
+    let made = renamed_part(alloc, renaming, &t)?;
+    made.copy(alloc)
 }
 
 /// The terms, renamed.

@@ -6,6 +6,7 @@ use crate::words::{cut, number, repetition};
 use pure_term::{Term, TermNode};
 use pure_typ::Typ;
 use std::alloc::{AllocError, Global};
+use std::sync::Arc;
 
 /// The bound variable with this number.
 fn bound(place: u32) -> Term {
@@ -16,19 +17,15 @@ fn bound(place: u32) -> Term {
 
 /// An abstraction over the type.
 fn abstraction(alloc: Global, typ: Typ, body: Term) -> Result<Term, AllocError> {
-    let body = Box::new(alloc, body)?;
-    Ok(Term {
-        node: TermNode::Abs { typ, body },
-    })
+    let body = Arc::new(alloc, body)?;
+    Ok(Term::abs(typ, body))
 }
 
 /// An application.
 fn application(alloc: Global, function: Term, argument: Term) -> Result<Term, AllocError> {
-    let fun = Box::new(alloc, function)?;
-    let arg = Box::new(alloc, argument)?;
-    Ok(Term {
-        node: TermNode::App { fun, arg },
-    })
+    let fun = Arc::new(alloc, function)?;
+    let arg = Arc::new(alloc, argument)?;
+    Ok(Term::app(fun, arg))
 }
 
 /// The term under so many abstractions over the type.

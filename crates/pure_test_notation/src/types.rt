@@ -8,10 +8,7 @@ use std::test::Fail;
 /// The constructor of this text without arguments.
 pub(crate) fn base(alloc: Global, text: &[u8]) -> Result<Typ, Fail> {
     let name = name(text)?;
-    let args = Vec::new(alloc);
-    Ok(Typ {
-        node: TypNode::Con { name, args },
-    })
+    Ok(Typ::constructed(alloc, name, Vec::new(alloc))?)
 }
 
 /// The type of functions that take so many arguments of one type and give the other.
@@ -96,9 +93,7 @@ fn put_round(alloc: Global, name: Name, inside: Typ, times: u32) -> Result<Typ, 
     let mut typ = inside;
     for _ in 0..times {
         let args = vec![in alloc; typ]?;
-        typ = Typ {
-            node: TypNode::Con { name, args },
-        };
+        typ = Typ::constructed(alloc, name, args)?;
     }
     Ok(typ)
 }
@@ -129,9 +124,7 @@ fn constructed(alloc: Global, typs: &mut Vec<Typ>, word: &[u8]) -> Result<Typ, F
     let (text, count) = cut(word, b'/');
     let name = name(text)?;
     let args = arguments(alloc, typs, count)?;
-    Ok(Typ {
-        node: TypNode::Con { name, args },
-    })
+    Ok(Typ::constructed(alloc, name, args)?)
 }
 
 /// The type of functions of the last two types, the domain taken as often as the word says.

@@ -11,6 +11,7 @@ ghost use Rattle.pure_theorem.specs.Built.{built_proposition};
 use crate::connective::{all_of, application, equation, implication, prop_typ};
 use pure_term::{Name, Sort, Term, TermNode, Typ, TypNode};
 use std::alloc::{AllocError, Global};
+use std::sync::Arc;
 
 /// A built fact: reflexivity, substitution, extensionality of functions and of propositions, modus ponens, and specialisation.
 #[derive(Clone, Copy, Debug, PartialEq, Eq)]
@@ -81,10 +82,8 @@ fn for_all(alloc: Global, body: Term) -> Result<Term, AllocError>
     ensures { IfOk result (λ t. t ≡ all any_typ body) }
 {
     let typ = typ_variable(alloc, 0);
-    let body = Box::new(alloc, body)?;
-    let function = Term {
-        node: TermNode::Abs { typ, body },
-    };
+    let body = Arc::new(alloc, body)?;
+    let function = Term::abs(typ, body);
     all_of(alloc, &typ_variable(alloc, 0), function)
 }
 

@@ -7,14 +7,15 @@ ghost use Rattle.pure_logic.specs.Connectives.{imp_typ, eq_typ, all_typ, imp, eq
 ghost use Rattle.pure_theorem.specs.Shapes.{IsNoApplication, IsNoConstTyped, IsNoEqTyp, IsNoAllTyp, IsNoImplication, IsNoEquation, IsNoQuantification};
 
 use crate::same::are_same_typs;
-use pure_term::{Name, Term, TermNode, Typ, TypNode};
+use pure_term::{Args, Name, Term, TermNode, Typ, TypNode};
 use std::alloc::{AllocError, Global};
+use std::sync::Arc;
 
 /// The type of propositions. It takes no memory.
-pub fn prop_typ(alloc: Global) -> Typ
+pub fn prop_typ(_alloc: Global) -> Typ
     ensures { result ≡ prop }
 {
-    let (name, args) = (Name::PROP, Vec::new(alloc));
+    let (name, args) = (Name::PROP, Args::Nullary);
     Typ {
         node: TypNode::Con { name, args },
     }
@@ -175,11 +176,9 @@ fn constant(name: Name, typ: Typ) -> Term
 pub fn application(alloc: Global, function: Term, argument: Term) -> Result<Term, AllocError>
     ensures { IfOk result (λ t. t ≡ tree.App function argument) }
 {
-    let fun = Box::new(alloc, function)?;
-    let arg = Box::new(alloc, argument)?;
-    Ok(Term {
-        node: TermNode::App { fun, arg },
-    })
+    let fun = Arc::new(alloc, function)?;
+    let arg = Arc::new(alloc, argument)?;
+    Ok(Term::app(fun, arg))
 }
 
 /// The constant of implication.

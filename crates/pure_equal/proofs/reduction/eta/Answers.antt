@@ -12,15 +12,15 @@ use Rattle.pure_equal.proofs.reduction.eta.Goals as goal
 pub returns-in_default-clause-answer : goal.returns-in_default-clause-answer
 returns-in_default-clause-answer g c = not_applied-no_expansion c.args.t.now c.in_default.ensures
 
-pub returns-then-not-branch-clause-answer : goal.returns-then-not-branch-clause-answer
-returns-then-not-branch-clause-answer g c =
-    let loose = test_fails (IsClosed c.in-Some.function.now) c.in_ok-is_closed_under.field-0 c.in_ok-is_closed_under.ensures c.if-not-branch.true in
+pub returns-then-not-is_closed_under-clause-answer : goal.returns-then-not-is_closed_under-clause-answer
+returns-then-not-is_closed_under-clause-answer g c =
+    let loose = test_fails (IsClosed c.in-Some.function.now) c.is_closed_under.result c.is_closed_under.ensures c.if-not-is_closed_under.true in
     is_no_expansion c.args.t.now c.in-Some.function.now (typed-closed c.args.t.now c.requires.0 c.requires.1) c.in-Some.ensures loose
 
 pub returns-clause-answer : goal.returns-clause-answer
 returns-clause-answer g c =
     let B = c.in_ok-equation_of.field-0 in
-    let closed = c.in_ok-is_closed_under.ensures.0 c.if-not-branch.false in
+    let closed = c.is_closed_under.ensures.0 c.if-not-is_closed_under.false in
     answer-along (λ (th : Theorem). th ≡ record { hyps = []; pairs = []; prop = B; rests = [] }) (GivesEta c.args.t.now) (RefusesEta c.args.t.now)
     (λ th e. record {
       typ = c.in_ok-typ.typ;

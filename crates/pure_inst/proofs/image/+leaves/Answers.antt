@@ -6,7 +6,13 @@ use Rattle.pure_definitions.proofs.TermLemmas.{term_size-some, term_depth-some}
 use Rattle.pure_definitions.proofs.GrownLemmas.{leaves-equal, leaves-abs, leaves-part_none}
 use Rattle.pure_definitions.proofs.InstanceLemmas.{term_image-fixed}
 use Rattle.pure_logic.specs.Laws.Maps.{instantiated}
+use Rattle.pure_inst.proofs.StaysLaws.{instantiated_stays}
 use Rattle.pure_inst.proofs.image.+leaves.Goals as goal
+
+pub returns-then-index_above_of-eq0 : goal.returns-then-index_above_of-eq0
+returns-then-index_above_of-eq0 t c =
+    let stays = instantiated_stays c.args.typs.now c.args.terms.now c.args.t.now (omega arith) in
+    leaves-equal c.args.left c.args.room (term_size c.args.t.now) (term_depth c.args.t.now) _ _ c.term_leaves.result (ap term_size stays) (ap term_depth stays) c.term_leaves.ensures
 
 pub returns-then-left-eq0 : goal.returns-then-left-eq0
 returns-then-left-eq0 t c = λ h. let some = term_size-some (instantiated c.args.typs.now c.args.terms.now c.args.t.now) in absurd (omega arith)

@@ -7,6 +7,7 @@ use Rattle.pure_definitions.specs.Types.Typ.{Con, typs_of}
 use Rattle.pure_definitions.proofs.TypsLemmas.{typ_depth-item}
 use Rattle.pure_inst.specs.Named.{LacksTyps}
 use Rattle.pure_inst.proofs.NamedLaws.{each_lacks}
+use Rattle.pure_inst.proofs.StaysLaws.{ground_lacks}
 use Rattle.pure_inst.proofs.named.+lacks_typs.Goals as goal
 
 pub all_lack_typs-lacks_typs-requires : goal.all_lack_typs-lacks_typs-requires
@@ -31,3 +32,6 @@ lacks_typs-returns-in-Con t c =
     let con : c.args.t.now ≡ Con c.in-Con.name (typs_of c.as_slice.result.now) = rw (← c.t.view_is, c.in-Con.is, c.as_slice.ensures.value) refl in
     let each = each_lacks c.args.names.now c.as_slice.result.now in
     (λ h. subst (LacksTyps c.args.names.now) (sym con) (each.0 (c.all_lack_typs.ensures.0 h)), λ h. c.all_lack_typs.ensures.1 (each.1 (subst (LacksTyps c.args.names.now) con h)))
+
+pub lacks_typs-returns-then-is_ground_typ : goal.lacks_typs-returns-then-is_ground_typ
+lacks_typs-returns-then-is_ground_typ t c = yes_as (LacksTyps c.args.names.now c.args.t.now) (ground_lacks c.args.names.now c.args.t.now (cc))

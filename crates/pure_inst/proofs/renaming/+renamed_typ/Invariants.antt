@@ -8,4 +8,4 @@ abbrev pub decreases-renamed_typ : goal.decreases-renamed_typ
 decreases-renamed_typ l = typ_depth l.t.now
 
 abbrev pub invariant-loop-arg : goal.invariant-loop-arg
-invariant-loop-arg l = l.images.items ≡ map (typ_instance (renamed_typs l.renaming)) (take l.arg-index l.arg-items)
+invariant-loop-arg l = l.images.items ≡ map (typ_instance (renamed_typs l.renaming)) (take l.arg-index l.args)
