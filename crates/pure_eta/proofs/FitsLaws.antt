@@ -4,38 +4,10 @@ use Rattle.std.specs.Prelude.{Option, Some, None}
 use Rattle.pure_definitions.specs.Types.Typ.{Typ, Con, none, also, typ_size, typs_size, typ_depth, typs_depth, typs_of, arrow}
 use Rattle.pure_definitions.specs.Terms.Term.{Term, Bound, App, term_size, term_depth, IsWithin}
 use Rattle.pure_definitions.specs.Terms.Bounds.{lift_term}
-use Rattle.pure_definitions.proofs.TypsLemmas.{typs_size-take, typs_depth-take, typs_size-take-le, typs_depth-take-le}
 use Rattle.pure_definitions.proofs.TermLemmas.{term_size-lift, term_depth-lift}
 use Rattle.pure_eta.specs.LongTerm.{expanded, expanded_at}
 use Rattle.pure_eta.specs.Fits.{Fits, added_size, expanded_depth, added_at, depth_at}
 use Rattle.pure_eta.specs.declared.fits.Room.{Room}
-
--- After i types of the list so many nodes are left, and the deepest of them is so deep.
-pub record HasPut (ts : List Typ) (left i rest inside : ℕ) : Type 0 where
-  pub size : rest + (1 + typs_size (typs_of (take i ts))) ≡ left
-  pub depth : inside ≡ typs_depth (typs_of (take i ts))
-  pub low : inside ≤ 2000
-
-pub put-stops : (ts : List Typ) (left i rest inside : ℕ) (t : Typ) → HasPut ts left i rest inside → i < length ts → t ≡ get_or ts i t → Fits rest (typ_size t) (typ_depth t) None
-    → Fits left (1 + typs_size (typs_of ts)) (1 + typs_depth (typs_of ts)) None
-put-stops ts left i rest inside t h k e stops = λ fits.
-    let size = typs_size-take ts i t k e in
-    let depth = typs_depth-take ts i t k e in
-    let within = typs_size-take-le ts (i + 1) in
-    let below = typs_depth-take-le ts (i + 1) in
-    let small : typ_size t ≤ rest = omega arith in
-    let deep : 2000 < typ_depth t = stops small in
-    omega arith
-
-pub put-goes_on : (ts : List Typ) (left i rest inside : ℕ) (t : Typ) (room : Room) → HasPut ts left i rest inside → i < length ts → t ≡ get_or ts i t → Fits rest (typ_size t) (typ_depth t) (Some room)
-    → HasPut ts left (i + 1) room.left (max inside room.depth)
-put-goes_on ts left i rest inside t room h k e some =
-    let size = typs_size-take ts i t k e in
-    let depth = typs_depth-take ts i t k e in
-    let a = some.0 in
-    let b = some.1 in
-    let c = some.2 in
-    record { size = omega arith; depth = omega arith; low = omega arith }
 
 -- An expanded term isn't less deep.
 pub expanded_depth-ge : (T : Typ) (d : ℕ) → d ≤ expanded_depth T d

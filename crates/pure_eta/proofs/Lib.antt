@@ -1,5 +1,6 @@
 pub mod LooseLaws
 pub mod BareLaws
+pub mod StaysLaws
 pub mod EtaStepLaws
 pub mod EtaFormLaws
 pub mod FitsLaws

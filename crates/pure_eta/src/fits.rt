@@ -7,7 +7,8 @@ ghost use Rattle.pure_eta.specs.LongTerm.{front_typ, long_term};
 ghost use Rattle.pure_eta.specs.Fits.{Fits, added_size, expanded_depth, added_at, depth_at};
 
 use crate::front::front_typ_of;
-use pure_term::{MAX_DEPTH, Scope, Term, TermNode, Typ, TypNode};
+use pure_term::{MAX_DEPTH, Scope, Term, TermNode, Typ};
+use pure_typ::{depth_of_typ, typ_leaves};
 
 /// How many nodes are left when something was put in, and how deep that is.
 #[derive(Clone, Copy)]
@@ -36,26 +37,12 @@ fn node_fits(left: u32, depth: u32) -> Option<Room>
 fn typ_fits(t: &Typ, left: u32) -> Option<Room>
     ensures { Fits left (typ_size t.now) (typ_depth t.now) result }
 {
-    if left == 0 {
+    let Some(rest) = typ_leaves(t, left, MAX_DEPTH) else {
         return None;
-    }
-    let mut rest = left - 1;
-    let mut inside: u32 = 0;
-    if let TypNode::Con { args, .. } = &t.node {
-        for arg in args {
-            let Some(room) = typ_fits(arg, rest) else {
-                return None;
-            };
-            rest = room.left;
-            inside = inside.max(room.depth);
-        }
-    }
-    if inside >= MAX_DEPTH {
-        return None;
-    }
+    };
     Some(Room {
         left: rest,
-        depth: inside + 1,
+        depth: depth_of_typ(t),
     })
 }
 

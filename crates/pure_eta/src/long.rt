@@ -12,8 +12,9 @@ ghost use Rattle.pure_eta.specs.Answer.{IsLongAnswer};
 
 use crate::fits::long_fits;
 use crate::front::front_typ_of;
-use pure_term::{Grow, MAX_SIZE, Scope, Term, TermNode, Typ};
+use pure_term::{Grow, MAX_SIZE, Scope, Term, TermNode, Typ, copied, loose_above_of};
 use std::alloc::{AllocError, Global};
+use std::sync::Arc;
 
 /// The long form of a beta-normal term that has a type under no binders: the beta-normal form in which every subterm that isn't applied has as many abstractions as its type has arrows.
 /// `Big` where it isn't within the limits, which is found before it is made.
@@ -26,7 +27,9 @@ pub fn long_form(alloc: Global, t: &Term) -> Result<Term, Grow>
     let Some(_) = long_fits(t, &scope, false, MAX_SIZE) else {
         return Err(Grow::Big);
     };
-    Ok(lengthen(alloc, t, &scope, false)?)
+    let t = copied(alloc, t)?;
+    let long = lengthen(alloc, &t, &scope, false)?;
+    Ok(long.copy(alloc)?)
 }
 
 /// The long form of a beta-normal term that has a type under no binders. It isn't limited.
@@ -36,15 +39,22 @@ pub fn lengthened(alloc: Global, t: &Term) -> Result<Term, AllocError>
     ensures { IfOk result (IsLongForm t.now) }
 {
     let scope = Scope::Empty;
-    let long = lengthen(alloc, t, &scope, false)?;
-    Ok(long)
+    let t = copied(alloc, t)?;
+    let long = lengthen(alloc, &t, &scope, false)?;
+    Ok(long.copy(alloc)?)
 }
 
 /// The long form of the term in its scope, as a function that is applied or not.
-fn lengthen(alloc: Global, t: &Term, scope: &Scope, is_applied: bool) -> Result<Term, AllocError>
-    ensures { IfOk result (λ u. u ≡ long_term is_applied (scope_typs scope.now) t.now) }
+fn lengthen(
+    alloc: Global,
+    t: &Arc<Term>,
+    scope: &Scope,
+    is_applied: bool,
+) -> Result<Arc<Term>, AllocError>
+    ensures { IfOk result (λ u. u.value ≡ long_term is_applied (scope_typs scope.now) t.now.value) }
 {
-    let front = match &t.node {
+    let whole: &Term = t;
+    let front = match &whole.node {
         TermNode::Abs { typ, body, .. } => {
             let body = lengthen(alloc, body, &Scope::Under(typ, &*scope), false)?;
             return abstraction(alloc, typ, body);
@@ -54,49 +64,46 @@ fn lengthen(alloc: Global, t: &Term, scope: &Scope, is_applied: bool) -> Result<
             let argument = lengthen(alloc, arg, scope, false)?;
             application(alloc, function, argument)?
         }
-        _ => t.copy(alloc)?,
+        _ => Arc::try_clone(t)?,
     };
     if is_applied {
         return Ok(front);
     }
-    match front_typ_of(&*t, &*scope) {
+    match front_typ_of(whole, &*scope) {
         Some(typ) => expand(alloc, typ, front),
         None => Ok(front),
     }
 }
 
 /// The abstraction of the body over the type.
-fn abstraction(alloc: Global, typ: &Typ, body: Term) -> Result<Term, AllocError>
-    ensures { IfOk result (λ u. u ≡ term.Abs typ.now body) }
+fn abstraction(alloc: Global, typ: &Typ, body: Arc<Term>) -> Result<Arc<Term>, AllocError>
+    ensures { IfOk result (λ u. u.value ≡ term.Abs typ.now body.value) }
 {
     let typ = typ.copy(alloc)?;
-    let body = Box::new(alloc, body)?;
-    Ok(Term {
-        node: TermNode::Abs { typ, body },
-    })
+    Ok(Arc::new(alloc, Term::abs(typ, body))?)
 }
 
 /// The application of the function.
-pub fn application(alloc: Global, function: Term, argument: Term) -> Result<Term, AllocError>
-    ensures { IfOk result (λ u. u ≡ term.App function argument) }
+pub fn application(
+    alloc: Global,
+    function: Arc<Term>,
+    argument: Arc<Term>,
+) -> Result<Arc<Term>, AllocError>
+    ensures { IfOk result (λ u. u.value ≡ term.App function.value argument.value) }
 {
-    let fun = Box::new(alloc, function)?;
-    let arg = Box::new(alloc, argument)?;
-    Ok(Term {
-        node: TermNode::App { fun, arg },
-    })
+    Ok(Arc::new(alloc, Term::app(function, argument))?)
 }
 
 /// The term under an abstraction for each arrow of the type, and applied to their variables, each expanded at its own type.
-fn expand(alloc: Global, typ: &Typ, mut t: Term) -> Result<Term, AllocError>
-    ensures { IfOk result (λ u. u ≡ expanded typ.now t) }
+fn expand(alloc: Global, typ: &Typ, t: Arc<Term>) -> Result<Arc<Term>, AllocError>
+    ensures { IfOk result (λ u. u.value ≡ expanded typ.now t.value) }
 {
     let arrows = count_arrows(typ)?;
     if arrows == 0 {
         return Ok(t);
     }
-    raise(&mut t, arrows, 0)?;
-    Ok(wrap(alloc, typ, t, arrows)?)
+    let raised = raise(alloc, &t, arrows, 0)?;
+    Ok(wrap(alloc, typ, raised, arrows)?)
 }
 
 /// How many arrows the type has. 2 ^ 32, which no memory holds, are want of memory.
@@ -113,9 +120,9 @@ fn count_arrows(typ: &Typ) -> Result<u32, AllocError>
 }
 
 /// The term, which was raised over all abstractions that come, under them and applied to their variables. A variable is raised as it is made.
-fn wrap(alloc: Global, typ: &Typ, t: Term, left: u32) -> Result<Term, AllocError>
+fn wrap(alloc: Global, typ: &Typ, t: Arc<Term>, left: u32) -> Result<Arc<Term>, AllocError>
     requires { left ≡ arrow_count typ.now }
-    ensures { IfOk result (λ u. u ≡ wrapped typ.now left t) }
+    ensures { IfOk result (λ u. u.value ≡ wrapped typ.now left t.value) }
 {
     let Some((domain, range)) = typ.as_arrow() else {
         return Ok(t);
@@ -124,40 +131,44 @@ fn wrap(alloc: Global, typ: &Typ, t: Term, left: u32) -> Result<Term, AllocError
     let Some(place) = inside.checked_add(left - 1) else {
         return Err(AllocError);
     };
-    let variable = Term {
-        node: TermNode::Bound { place },
-    };
+    let node = TermNode::Bound { place };
+    let variable = Arc::new(alloc, Term { node })?;
     let argument = wrap(alloc, domain, variable, inside)?;
     let applied = application(alloc, t, argument)?;
     let body = wrap(alloc, range, applied, left - 1)?;
     abstraction(alloc, domain, body)
 }
 
-/// Raises each loose bound variable from this place on by so much. Below 2 ^ 32 binders, which no memory holds, it is want of memory.
-fn raise(t: &mut Term, by: u32, from: u32) -> Result<(), AllocError>
-    ensures { IfOk result (λ _. t.new ≡ lift_term by from t.old) }
+/// The term with each loose bound variable from this place on raised by so much. A part in which none is loose there or above is handed back as it is. Beyond 2 ^ 32 binders, which no memory holds, it is want of memory.
+fn raise(alloc: Global, t: &Arc<Term>, by: u32, from: u64) -> Result<Arc<Term>, AllocError>
+    ensures { IfOk result (λ u. u.value ≡ lift_term by from t.now.value) }
 {
-    match &mut t.node {
+    let whole: &Term = t;
+    if loose_above_of(whole) <= from {
+        return Arc::try_clone(t);
+    }
+    match &whole.node {
         TermNode::Bound { place } => {
-            if *place < from {
-                return Ok(());
-            }
-            let Some(raised) = place.checked_add(by) else {
+            let Some(place) = place.checked_add(by) else {
                 return Err(AllocError);
             };
-            *place = raised;
-            Ok(())
+            Ok(Arc::new(
+                alloc,
+                Term {
+                    node: TermNode::Bound { place },
+                },
+            )?)
         }
-        TermNode::Abs { body, .. } => {
-            let Some(under) = from.checked_add(1) else {
-                return Err(AllocError);
-            };
-            raise(body, by, under)
+        TermNode::Abs { typ, body, .. } => {
+            let typ = typ.copy(alloc)?;
+            let body = raise(alloc, body, by, from + 1)?;
+            Ok(Arc::new(alloc, Term::abs(typ, body))?)
         }
         TermNode::App { fun, arg, .. } => {
-            raise(fun, by, from)?;
-            raise(arg, by, from)
+            let fun = raise(alloc, fun, by, from)?;
+            let arg = raise(alloc, arg, by, from)?;
+            Ok(Arc::new(alloc, Term::app(fun, arg))?)
         }
-        _ => Ok(()),
+        _ => Arc::try_clone(t),
     }
 }

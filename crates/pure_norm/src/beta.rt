@@ -56,7 +56,7 @@ fn reduced(alloc: Global, whole: &Piece<'_>, room: u32) -> Result<Term, NormFaul
     };
     let scope = empty_scope(alloc)?;
     let u = normal_form(alloc, whole, &scope, 0, &mut walk)?;
-    Ok(Box::into_inner(u))
+    Ok(u.copy(alloc)?)
 }
 
 /// Whether there is no redex. A term that has none needs no row.

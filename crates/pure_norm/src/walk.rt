@@ -12,15 +12,16 @@ use crate::fault::NormFault;
 use crate::held::{Found, find};
 use crate::pieces::{Form, Piece, form_of};
 use crate::scope::{Closure, Scope, scope_under};
-use pure_term::{Term, TermNode, Typ};
+use pure_term::{Term, TermNode, Typ, copied};
 use std::alloc::{AllocError, Global};
 use std::rc::Rc;
+use std::sync::Arc;
 
 /// What a walk to an abstraction finds: one, or else a normal form.
 #[derive(Drop)]
 pub enum Head<'t> {
     Function(Function<'t>),
-    Reduced(Box<Term>),
+    Reduced(Arc<Term>),
 }
 
 /// A turn of the walk: it is over, or goes on at a term in a scope.
@@ -38,7 +39,7 @@ pub fn normal_form<'t>(
     scope: &Rc<Scope<'t>>,
     deep: u32,
     walk: &mut Walk,
-) -> Result<Box<Term>, NormFault>
+) -> Result<Arc<Term>, NormFault>
     requires piece { IsPiece t.now }
     requires can { CanWalk deep walk.old (meant scope.now.value t.now.term.now) }
     ensures walked { IfOk result (λ u. Walked Normal deep walk.old walk.new (meant scope.now.value t.now.term.now) u.value) }
@@ -166,7 +167,7 @@ fn leaf<'t>(alloc: Global, t: &Term) -> Result<Head<'t>, AllocError>
     ensures found { IfOk result (λ head. head_term head ≡ t.now) }
     ensures over { IfOk result (λ head. IsHead head) }
 {
-    Ok(Head::Reduced(Box::new(alloc, t.copy(alloc)?)?))
+    Ok(Head::Reduced(copied(alloc, t)?))
 }
 
 /// The turn at a bound variable: it is over where the variable stays, and else goes on at the term that it stands for.
@@ -184,26 +185,24 @@ fn at_bound<'t>(alloc: Global, place: u32, scope: &Rc<Scope<'t>>) -> Result<Turn
 }
 
 /// A bound variable.
-fn bound(alloc: Global, place: u32) -> Result<Box<Term>, AllocError>
+fn bound(alloc: Global, place: u32) -> Result<Arc<Term>, AllocError>
     ensures { IfOk result (λ t. t.value ≡ tree.Bound place) }
 {
     let node = TermNode::Bound { place };
-    Ok(Box::new(alloc, Term { node })?)
+    Ok(Arc::new(alloc, Term { node })?)
 }
 
 /// The application of the function to the argument.
-fn applied(alloc: Global, fun: Box<Term>, arg: Box<Term>) -> Result<Box<Term>, AllocError>
+fn applied(alloc: Global, fun: Arc<Term>, arg: Arc<Term>) -> Result<Arc<Term>, AllocError>
     ensures { IfOk result (λ t. t.value ≡ tree.App fun.value arg.value) }
 {
-    let node = TermNode::App { fun, arg };
-    Ok(Box::new(alloc, Term { node })?)
+    Ok(Arc::new(alloc, Term::app(fun, arg))?)
 }
 
 /// The abstraction of the body over a variable of this type.
-fn abstracted(alloc: Global, typ: &Typ, body: Box<Term>) -> Result<Box<Term>, AllocError>
+fn abstracted(alloc: Global, typ: &Typ, body: Arc<Term>) -> Result<Arc<Term>, AllocError>
     ensures { IfOk result (λ t. t.value ≡ tree.Abs typ.now body.value) }
 {
     let typ = typ.copy(alloc)?;
-    let node = TermNode::Abs { typ, body };
-    Ok(Box::new(alloc, Term { node })?)
+    Ok(Arc::new(alloc, Term::abs(typ, body))?)
 }

@@ -99,11 +99,11 @@ fn applied<'t>(function: &'t Term, argument: &'t Term) -> Form<'t>
         (TermNode::Const { name, .. }, TermNode::Abs { body, .. }) if *name == Name::ALL => {
             Form::ForAll { body }
         }
-        (TermNode::App { fun, arg }, _) if is_constant(fun, Name::IMP) => Form::Implies {
+        (TermNode::App { fun, arg, .. }, _) if is_constant(fun, Name::IMP) => Form::Implies {
             left: arg,
             right: argument,
         },
-        (TermNode::App { fun, arg }, _) if is_constant(fun, Name::EQ) => Form::Equal {
+        (TermNode::App { fun, arg, .. }, _) if is_constant(fun, Name::EQ) => Form::Equal {
             left: arg,
             right: argument,
         },

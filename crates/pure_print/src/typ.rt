@@ -31,7 +31,7 @@ fn is_arrow(t: &Typ) -> bool
     match &t.node {
         TypNode::TFree { .. } => false,
         TypNode::TVar { .. } => false,
-        TypNode::Con { name, args } => is_arrow_of(*name, args),
+        TypNode::Con { name, args } => is_arrow_of(*name, args.as_slice()),
     }
 }
 
@@ -50,7 +50,7 @@ fn push_typ(text: &mut Vec<u8>, names: &Names, t: &Typ) -> Result<(), AllocError
             push_index(text, *index)?;
             push_sort(text, names, sort.classes())
         }
-        TypNode::Con { name, args } => push_applied(text, names, *name, args),
+        TypNode::Con { name, args } => push_applied(text, names, *name, args.as_slice()),
     }
 }
 

@@ -28,6 +28,7 @@ pub(crate) fn is_own(
             TermNode::App {
                 fun: function,
                 arg: argument,
+                ..
             },
         ) => {
             if !is_own(alloc, names, binders, fun, function)? {
@@ -82,6 +83,7 @@ pub(crate) fn is_own_typ(
                 args: types,
             },
         ) => {
+            let types = types.as_slice();
             if args.len() != types.len() {
                 return Ok(false);
             }
