@@ -6,19 +6,18 @@ ghost use Rattle.pure_goal_laws.specs.Prefix as prefix;
 ghost use Rattle.pure_goal_rules.specs.Shown.{seen, shown};
 
 use crate::item::Item;
-use pure_term::{Term, TermNode, Typ};
+use pure_term::{Term, Typ};
 use pure_theorem::{all_of, implication};
 use std::alloc::{AllocError, Global};
+use std::sync::Arc;
 
 /// `%x. b`, over variables of the type.
 fn abstraction(alloc: Global, typ: &Typ, body: Term) -> Result<Term, AllocError>
     ensures { IfOk result (λ t. t ≡ tree.Abs typ.now body) }
 {
-    let body = Box::new(alloc, body)?;
+    let body = Arc::new(alloc, body)?;
     let typ = typ.copy(alloc)?;
-    Ok(Term {
-        node: TermNode::Abs { typ, body },
-    })
+    Ok(Term::abs(typ, body))
 }
 
 /// `!!x. B`, over variables of the type.

@@ -7,8 +7,9 @@ ghost use Rattle.pure_goal_rules.specs.Shown.{seen, shown};
 
 use crate::build::{count_parameters, one_more};
 use crate::item::Item;
-use pure_term::{Name, Term, TermNode, Typ};
+use pure_term::{Name, Term, TermNode, Typ, copied, index_above_of};
 use std::alloc::{AllocError, Global};
+use std::sync::Arc;
 
 /// The type of functions from the item's type, where it is a parameter.
 fn function_of_one(alloc: Global, item: &Item, range: Typ) -> Result<Typ, AllocError>
@@ -39,8 +40,8 @@ fn applied_to_bounds(
     alloc: Global,
     count: u32,
     last: u32,
-    function: Box<Term>,
-) -> Result<Box<Term>, AllocError>
+    function: Arc<Term>,
+) -> Result<Arc<Term>, AllocError>
     ensures { IfOk result (λ t. t.value ≡ lifting.applied_to_bounds count last function.value) }
 {
     if count == 0 {
@@ -48,10 +49,9 @@ fn applied_to_bounds(
     }
     let above = one_more(last)?;
     let fun = applied_to_bounds(alloc, count - 1, above, function)?;
-    let bound = TermNode::Bound { place: last };
-    let arg = Box::new(alloc, Term { node: bound })?;
-    let node = TermNode::App { fun, arg };
-    Ok(Box::new(alloc, Term { node })?)
+    let node = TermNode::Bound { place: last };
+    let arg = Arc::new(alloc, Term { node })?;
+    Ok(Arc::new(alloc, Term::app(fun, arg))?)
 }
 
 /// A schematic variable, lifted.
@@ -62,46 +62,45 @@ fn lifted_variable(
     name: Name,
     index: u32,
     typ: &Typ,
-) -> Result<Box<Term>, AllocError>
+) -> Result<Arc<Term>, AllocError>
     ensures { IfOk result (λ t. t.value ≡ lifting.lifted_under (parameters (shown items.now)) under (tree.Var name index typ.now)) }
 {
     let count = count_parameters(items)?;
     let typ = function_typ(alloc, items, typ)?;
     let node = TermNode::Var { name, index, typ };
-    let variable = Box::new(alloc, Term { node })?;
+    let variable = Arc::new(alloc, Term { node })?;
     applied_to_bounds(alloc, count, under, variable)
 }
 
-/// An equal term, in a block of its own.
-fn boxed(alloc: Global, t: &Term) -> Result<Box<Term>, AllocError>
-    ensures { IfOk result (λ u. u.value ≡ t.now) }
+/// The term under so many binders, lifted. A part without schematic variables is handed back as it is.
+fn lifted_under(
+    alloc: Global,
+    items: &[Item],
+    under: u32,
+    t: &Arc<Term>,
+) -> Result<Arc<Term>, AllocError>
+    ensures { IfOk result (λ u. u.value ≡ lifting.lifted_under (parameters (shown items.now)) under t.now.value) }
 {
-    let copy = t.copy(alloc)?;
-    Ok(Box::new(alloc, copy)?)
-}
-
-/// The term under so many binders, lifted.
-fn lifted_box(alloc: Global, items: &[Item], under: u32, t: &Term) -> Result<Box<Term>, AllocError>
-    ensures { IfOk result (λ u. u.value ≡ lifting.lifted_under (parameters (shown items.now)) under t.now) }
-{
-    match &t.node {
+    let whole: &Term = t;
+    if index_above_of(whole) == 0 {
+        return Arc::try_clone(t);
+    }
+    match &whole.node {
         TermNode::Var { name, index, typ } => {
             lifted_variable(alloc, items, under, *name, *index, typ)
         }
         TermNode::Abs { typ, body, .. } => {
             let deeper = one_more(under)?;
             let typ = typ.copy(alloc)?;
-            let body = lifted_box(alloc, items, deeper, body)?;
-            let node = TermNode::Abs { typ, body };
-            Ok(Box::new(alloc, Term { node })?)
+            let body = lifted_under(alloc, items, deeper, body)?;
+            Ok(Arc::new(alloc, Term::abs(typ, body))?)
         }
         TermNode::App { fun, arg, .. } => {
-            let fun = lifted_box(alloc, items, under, fun)?;
-            let arg = lifted_box(alloc, items, under, arg)?;
-            let node = TermNode::App { fun, arg };
-            Ok(Box::new(alloc, Term { node })?)
+            let fun = lifted_under(alloc, items, under, fun)?;
+            let arg = lifted_under(alloc, items, under, arg)?;
+            Ok(Arc::new(alloc, Term::app(fun, arg))?)
         }
-        _ => boxed(alloc, t),
+        _ => Arc::try_clone(t),
     }
 }
 
@@ -109,5 +108,7 @@ fn lifted_box(alloc: Global, items: &[Item], under: u32, t: &Term) -> Result<Box
 pub fn lifted(alloc: Global, items: &[Item], t: &Term) -> Result<Term, AllocError>
     ensures { IfOk result (λ u. u ≡ lifting.lifted_behind (shown items.now) t.now) }
 {
-    Ok(Box::into_inner(lifted_box(alloc, items, 0, t)?))
+    let whole = copied(alloc, t)?;
+    let lifted = lifted_under(alloc, items, 0, &whole)?;
+    lifted.copy(alloc)
 }

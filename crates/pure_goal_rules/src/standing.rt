@@ -8,8 +8,9 @@ ghost use Rattle.pure_goal_rules.specs.Shown.{shown, seen_place};
 
 use crate::build::{count_parameters, one_more};
 use crate::item::{Item, Spot};
-use pure_term::{Term, TermNode};
+use pure_term::{Term, TermNode, copied, loose_above_of};
 use std::alloc::{AllocError, Global};
+use std::sync::Arc;
 
 /// The place of a bound variable, raised where it is at or above `from`. A place beyond 32 bits is want of memory.
 fn lifted_place(by: u32, from: u32, place: u32) -> Result<u32, AllocError>
@@ -24,38 +25,32 @@ fn lifted_place(by: u32, from: u32, place: u32) -> Result<u32, AllocError>
     }
 }
 
-/// An equal term, in a block of its own.
-fn boxed(alloc: Global, t: &Term) -> Result<Box<Term>, AllocError>
-    ensures { IfOk result (λ u. u.value ≡ t.now) }
+/// The part with `by` added to each loose bound variable at or above `from`. One in which none is loose there is handed back as it is.
+fn lifted_part(alloc: Global, by: u32, from: u32, t: &Arc<Term>) -> Result<Arc<Term>, AllocError>
+    ensures { IfOk result (λ u. u.value ≡ lift_term by from t.now.value) }
 {
-    let copy = t.copy(alloc)?;
-    Ok(Box::new(alloc, copy)?)
-}
-
-/// The term with `by` added to each loose bound variable at or above `from`.
-fn lifted_box(alloc: Global, by: u32, from: u32, t: &Term) -> Result<Box<Term>, AllocError>
-    ensures { IfOk result (λ u. u.value ≡ lift_term by from t.now) }
-{
-    match &t.node {
+    let whole: &Term = t;
+    if loose_above_of(whole) <= u64::from(from) {
+        return Arc::try_clone(t);
+    }
+    match &whole.node {
         TermNode::Bound { place } => {
             let place = lifted_place(by, from, *place)?;
             let node = TermNode::Bound { place };
-            Ok(Box::new(alloc, Term { node })?)
+            Ok(Arc::new(alloc, Term { node })?)
         }
         TermNode::Abs { typ, body, .. } => {
             let under = one_more(from)?;
             let typ = typ.copy(alloc)?;
-            let body = lifted_box(alloc, by, under, body)?;
-            let node = TermNode::Abs { typ, body };
-            Ok(Box::new(alloc, Term { node })?)
+            let body = lifted_part(alloc, by, under, body)?;
+            Ok(Arc::new(alloc, Term::abs(typ, body))?)
         }
         TermNode::App { fun, arg, .. } => {
-            let fun = lifted_box(alloc, by, from, fun)?;
-            let arg = lifted_box(alloc, by, from, arg)?;
-            let node = TermNode::App { fun, arg };
-            Ok(Box::new(alloc, Term { node })?)
+            let fun = lifted_part(alloc, by, from, fun)?;
+            let arg = lifted_part(alloc, by, from, arg)?;
+            Ok(Arc::new(alloc, Term::app(fun, arg))?)
         }
-        _ => boxed(alloc, t),
+        _ => Arc::try_clone(t),
     }
 }
 
@@ -64,6 +59,7 @@ pub fn standing(alloc: Global, spot: &Spot) -> Result<Term, AllocError>
     ensures { IfOk result (λ t. t ≡ reading.standing (seen_place spot.now)) }
 {
     let by = count_parameters(spot.after)?;
-    let lifted = lifted_box(alloc, by, 0, spot.hypothesis)?;
-    Ok(Box::into_inner(lifted))
+    let whole = copied(alloc, spot.hypothesis)?;
+    let lifted = lifted_part(alloc, by, 0, &whole)?;
+    lifted.copy(alloc)
 }

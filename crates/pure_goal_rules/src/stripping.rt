@@ -8,52 +8,52 @@ ghost use Rattle.pure_goal_rules.specs.Rules.{IsStrippedOn};
 
 use crate::build::one_more;
 use crate::read::as_quantified;
-use pure_term::{Name, Term, TermNode, Typ};
+use pure_term::{Name, Term, TermNode, Typ, copied, loose_above_of};
 use pure_theorem::as_implication;
 use std::alloc::{AllocError, Global};
-
-/// An equal term, in a block of its own.
-fn boxed(alloc: Global, t: &Term) -> Result<Box<Term>, AllocError>
-    ensures { IfOk result (λ u. u.value ≡ t.now) }
-{
-    let copy = t.copy(alloc)?;
-    Ok(Box::new(alloc, copy)?)
-}
+use std::sync::Arc;
 
 /// A bound variable under so many binders, where the variable is put for the next one.
-fn at_place(alloc: Global, under: u32, v: &Term, place: u32) -> Result<Box<Term>, AllocError>
-    requires { IsVariable v.now }
-    ensures { IfOk result (λ u. u.value ≡ bounds.place_at under v.now place) }
+fn at_place(alloc: Global, under: u32, v: &Arc<Term>, place: u32) -> Result<Arc<Term>, AllocError>
+    requires { IsVariable v.now.value }
+    ensures { IfOk result (λ u. u.value ≡ bounds.place_at under v.now.value place) }
 {
     if place == under {
-        return boxed(alloc, v);
+        return Arc::try_clone(v);
     }
     let place = if place < under { place } else { place - 1 };
     let node = TermNode::Bound { place };
-    Ok(Box::new(alloc, Term { node })?)
+    Ok(Arc::new(alloc, Term { node })?)
 }
 
-/// The term with the variable put for the bound variable that stands above so many binders.
-fn put_variable(alloc: Global, under: u32, v: &Term, t: &Term) -> Result<Box<Term>, AllocError>
-    requires { IsVariable v.now }
-    ensures { IfOk result (λ u. u.value ≡ subst_under under v.now t.now) }
+/// The part with the variable put for the bound variable that stands above so many binders. One in which none is loose there is handed back as it is.
+fn put_variable(
+    alloc: Global,
+    under: u32,
+    v: &Arc<Term>,
+    t: &Arc<Term>,
+) -> Result<Arc<Term>, AllocError>
+    requires { IsVariable v.now.value }
+    ensures { IfOk result (λ u. u.value ≡ subst_under under v.now.value t.now.value) }
 {
-    match &t.node {
+    let whole: &Term = t;
+    if loose_above_of(whole) <= u64::from(under) {
+        return Arc::try_clone(t);
+    }
+    match &whole.node {
         TermNode::Bound { place } => at_place(alloc, under, v, *place),
         TermNode::Abs { typ, body, .. } => {
             let deeper = one_more(under)?;
             let typ = typ.copy(alloc)?;
             let body = put_variable(alloc, deeper, v, body)?;
-            let node = TermNode::Abs { typ, body };
-            Ok(Box::new(alloc, Term { node })?)
+            Ok(Arc::new(alloc, Term::abs(typ, body))?)
         }
         TermNode::App { fun, arg, .. } => {
             let fun = put_variable(alloc, under, v, fun)?;
             let arg = put_variable(alloc, under, v, arg)?;
-            let node = TermNode::App { fun, arg };
-            Ok(Box::new(alloc, Term { node })?)
+            Ok(Arc::new(alloc, Term::app(fun, arg))?)
         }
-        _ => boxed(alloc, t),
+        _ => Arc::try_clone(t),
     }
 }
 
@@ -70,8 +70,10 @@ fn specialised(
     let typ = typ.copy(alloc)?;
     let name = Name(name);
     let node = TermNode::Var { name, index, typ };
-    let v = Term { node };
-    Ok(Box::into_inner(put_variable(alloc, 0, &v, body)?))
+    let v = Arc::new(alloc, Term { node })?;
+    let body = copied(alloc, body)?;
+    let put = put_variable(alloc, 0, &v, &body)?;
+    put.copy(alloc)
 }
 
 /// Lets the term go.

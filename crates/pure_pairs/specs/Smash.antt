@@ -1,32 +1,15 @@
 -- Theorems whose pairs are smashed: the heads of the sides become constant functions (Isabelle/Isar Implementation manual, section 2.4).
 use Rattle.std.specs.Prelude.{◌≡◌, ◌≢◌, ℕ, ◌+◌, max, List, [], ◌∷◌, map, length, drop, if◌then◌else◌}
-use Rattle.pure_definitions.specs.Types.Typ.{Typ, TFree, TVar, Con, Typs, none, also}
+use Rattle.pure_definitions.specs.Types.Typ.{Typ}
 use Rattle.pure_definitions.specs.Terms.Term.{Term, Const, Free, Var, Bound, Abs, App, term_eq}
 use Rattle.pure_definitions.specs.Terms.Conditions.{variable_typ}
+pub use Rattle.pure_definitions.specs.Terms.Measures.{typ_index_above, typs_index_above, term_index_above}
 use Rattle.pure_definitions.specs.Models.Comparison.{term_cmp}
 use Rattle.pure_logic.specs.Derivable.{Pair, Theorem}
 use Rattle.pure_theorem.specs.Sets.{IsSetOf}
 use Rattle.pure_unify_definitions.specs.Fronts.{front, arguments, head, below, domains, range, pair}
 
--- one above the greatest index of a schematic variable of a type, of a term, of terms, of pairs and of a theorem, those of types among them; or 0
-abbrev mutual
-  pub typ_index_above : Typ → ℕ
-  typ_index_above (TFree x s) = 0
-  typ_index_above (TVar x i s) = i + 1
-  typ_index_above (Con k ts) = typs_index_above ts
-
-  pub typs_index_above : Typs → ℕ
-  typs_index_above none = 0
-  typs_index_above (also t ts) = max (typ_index_above t) (typs_index_above ts)
-
-abbrev pub term_index_above : Term → ℕ
-term_index_above (Const c T) = typ_index_above T
-term_index_above (Free x T) = typ_index_above T
-term_index_above (Var x i T) = max (i + 1) (typ_index_above T)
-term_index_above (Bound n) = 0
-term_index_above (Abs T b) = max (typ_index_above T) (term_index_above b)
-term_index_above (App f a) = max (term_index_above f) (term_index_above a)
-
+-- one above the greatest index of a schematic variable of terms, of pairs and of a theorem, those of types among them; or 0
 abbrev pub terms_index_above : List Term → ℕ
 terms_index_above [] = 0
 terms_index_above (t ∷ ts) = max (term_index_above t) (terms_index_above ts)

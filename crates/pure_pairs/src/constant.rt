@@ -6,10 +6,11 @@ ghost use Rattle.pure_definitions.specs.Terms.Conditions.{variable_typ};
 ghost use Rattle.pure_unify_definitions.specs.Fronts as fronts;
 ghost use Rattle.pure_pairs.specs.Smash as smashing;
 
-use pure_term::{Term, TermNode, Typ};
+use pure_term::{Term, TermNode, Typ, copied, index_above_of};
 use pure_theorem::{Pair, prop_typ};
 use pure_unify_sides::head;
 use std::alloc::{AllocError, Global};
+use std::sync::Arc;
 
 /// The type that is written with a variable; of any other term that of propositions, which is handed in.
 pub fn written_typ<'t>(v: &'t Term, propositions: &'t Typ) -> &'t Typ
@@ -47,71 +48,61 @@ fn left_over<'t>(v: &Term, typ: &'t Typ, t: &Term) -> Option<&'t Typ>
 }
 
 /// The constant function that takes what functions of the type take, and gives the term.
-fn constant_function(alloc: Global, typ: &Typ, c: &Term) -> Result<Box<Term>, AllocError>
+fn constant_function(alloc: Global, typ: &Typ, c: &Term) -> Result<Arc<Term>, AllocError>
     ensures { IfOk result (λ u. u.value ≡ fronts.below (fronts.domains typ.now) c.now) }
 {
     match typ.as_arrow() {
         Some((domain, range)) => {
             let body = constant_function(alloc, range, c)?;
             let typ = domain.copy(alloc)?;
-            let node = TermNode::Abs { typ, body };
-            Ok(Box::new(alloc, Term { node })?)
+            Ok(Arc::new(alloc, Term::abs(typ, body))?)
         }
-        None => {
-            let copy = c.copy(alloc)?;
-            Ok(Box::new(alloc, copy)?)
-        }
+        None => copied(alloc, c),
     }
 }
 
-/// An equal term, in a block of its own.
-fn boxed(alloc: Global, t: &Term) -> Result<Box<Term>, AllocError>
-    ensures { IfOk result (λ u. u.value ≡ t.now) }
-{
-    let copy = t.copy(alloc)?;
-    Ok(Box::new(alloc, copy)?)
-}
-
-/// The term with the variable of the type become the constant function that gives `c`.
+/// The term with the variable of the type become the constant function that gives `c`. A part whose indexes are all below one of the variable's is handed back as it is.
 fn with_constant(
     alloc: Global,
     v: &Term,
     typ: &Typ,
     c: &Term,
-    t: &Term,
-) -> Result<Box<Term>, AllocError>
-    ensures { IfOk result (λ u. u.value ≡ smashing.with_constant v.now (fronts.domains typ.now) c.now t.now) }
+    t: &Arc<Term>,
+) -> Result<Arc<Term>, AllocError>
+    ensures { IfOk result (λ u. u.value ≡ smashing.with_constant v.now (fronts.domains typ.now) c.now t.now.value) }
 {
-    match &t.node {
+    let whole: &Term = t;
+    if index_above_of(whole) < index_above_of(v) {
+        return Arc::try_clone(t);
+    }
+    match &whole.node {
         TermNode::Var { .. } => {
-            if *v == *t {
+            if *v == *whole {
                 constant_function(alloc, typ, c)
             } else {
-                boxed(alloc, t)
+                Arc::try_clone(t)
             }
         }
         TermNode::Abs { typ: binder, body, .. } => {
             let binder = binder.copy(alloc)?;
             let body = with_constant(alloc, v, typ, c, body)?;
-            let node = TermNode::Abs { typ: binder, body };
-            Ok(Box::new(alloc, Term { node })?)
+            Ok(Arc::new(alloc, Term::abs(binder, body))?)
         }
         TermNode::App { fun, arg, .. } => match left_over(v, typ, fun) {
             Some(rest) => constant_function(alloc, after_argument(rest), c),
             None => {
                 let fun = with_constant(alloc, v, typ, c, fun)?;
                 let arg = with_constant(alloc, v, typ, c, arg)?;
-                let node = TermNode::App { fun, arg };
-                Ok(Box::new(alloc, Term { node })?)
+                Ok(Arc::new(alloc, Term::app(fun, arg))?)
             }
         },
-        _ => boxed(alloc, t),
+        _ => Arc::try_clone(t),
     }
 }
 
 /// The term with the variable become the constant function that gives `c`.
-fn with_head(alloc: Global, v: &Term, c: &Term, t: &Term) -> Result<Box<Term>, AllocError>
-    ensures { IfOk result (λ u. u.value ≡ smashing.with_constant v.now (fronts.domains (variable_typ v.now)) c.now t.now) }
+fn with_head(alloc: Global, v: &Term, c: &Term, t: &Arc<Term>) -> Result<Arc<Term>, AllocError>
+    ensures { IfOk result (λ u. u.value ≡ smashing.with_constant v.now (fronts.domains (variable_typ v.now)) c.now t.now.value) }
 {
     let propositions = prop_typ(alloc);
     let typ = written_typ(v, &propositions);
@@ -122,7 +113,8 @@ fn with_head(alloc: Global, v: &Term, c: &Term, t: &Term) -> Result<Box<Term>, A
 pub fn with_constants(alloc: Global, pair: &Pair, c: &Term, t: &Term) -> Result<Term, AllocError>
     ensures { IfOk result (λ u. u ≡ smashing.with_constants pair.now c.now t.now) }
 {
-    let first = with_head(alloc, head(&pair.left), c, t)?;
+    let whole = copied(alloc, t)?;
+    let first = with_head(alloc, head(&pair.left), c, &whole)?;
     let second = with_head(alloc, head(&pair.right), c, &first)?;
-    Ok(Box::into_inner(second))
+    second.copy(alloc)
 }

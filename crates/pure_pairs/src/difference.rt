@@ -78,10 +78,11 @@ pub fn difference<'s, 't>(
 {
     match (&t.node, &u.node) {
         (
-            TermNode::Abs { typ, body },
+            TermNode::Abs { typ, body, .. },
             TermNode::Abs {
                 typ: other,
                 body: second,
+                ..
             },
         ) => {
             if *typ == *other {
@@ -92,10 +93,11 @@ pub fn difference<'s, 't>(
             }
         }
         (
-            TermNode::App { fun, arg },
+            TermNode::App { fun, arg, .. },
             TermNode::App {
                 fun: other,
                 arg: second,
+                ..
             },
         ) => {
             match difference(pairs, scope, fun, other) {

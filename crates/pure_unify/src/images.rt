@@ -6,9 +6,10 @@ ghost use Rattle.pure_unify_definitions.specs.Fronts as fronts;
 ghost use Rattle.pure_unify_definitions.specs.Children as children;
 ghost use Rattle.pure_unify.specs.Images.{projection, HasCountable};
 
-use pure_term::{Name, Term, TermNode, Typ};
+use pure_term::{Name, Term, TermNode, Typ, copied};
 use pure_unify_sides::{applied_to_bounds, function_to, range_of};
 use std::alloc::{AllocError, Global};
+use std::sync::Arc;
 
 /// How many arguments functions of the type take.
 fn count_of(t: &Typ) -> u32
@@ -28,7 +29,7 @@ fn new_argument(
     range: &Typ,
     name: u32,
     index: u32,
-) -> Result<Box<Term>, AllocError>
+) -> Result<Arc<Term>, AllocError>
     requires { length (fronts.domains typ.now) < 2 ^ 32 }
     ensures { IfOk result (λ t. t.value ≡ fronts.applied (tree.Var name index (fronts.function_typ (fronts.domains typ.now) range.now)) (fronts.bounds (length (fronts.domains typ.now)))) }
 {
@@ -39,7 +40,7 @@ fn new_argument(
         index,
         typ,
     };
-    let variable = Box::new(alloc, Term { node })?;
+    let variable = Arc::new(alloc, Term { node })?;
     let done = applied_to_bounds(alloc, variable, count)?;
     Ok(done)
 }
@@ -48,11 +49,11 @@ fn new_argument(
 fn applied_to_new(
     alloc: Global,
     typ: &Typ,
-    function: Box<Term>,
+    function: Arc<Term>,
     rest: &Typ,
     name: u32,
     index: u32,
-) -> Result<Box<Term>, AllocError>
+) -> Result<Arc<Term>, AllocError>
     requires few { length (fronts.domains typ.now) < 2 ^ 32 }
     requires names { name + length (fronts.domains rest.now) < 2 ^ 32 }
     ensures { IfOk result (λ t. t.value ≡ fronts.applied function.value (children.new_arguments index (fronts.domains typ.now) name (fronts.domains rest.now))) }
@@ -60,8 +61,7 @@ fn applied_to_new(
     match rest.as_arrow() {
         Some((domain, more)) => {
             let arg = new_argument(alloc, typ, domain, name, index)?;
-            let node = TermNode::App { fun: function, arg };
-            let next = Box::new(alloc, Term { node })?;
+            let next = Arc::new(alloc, Term::app(function, arg))?;
             let done = applied_to_new(alloc, typ, next, more, name + 1, index)?;
             Ok(done)
         }
@@ -70,15 +70,14 @@ fn applied_to_new(
 }
 
 /// The term below abstractions of the types of the arguments that functions of the type take.
-fn below_domains(alloc: Global, typ: &Typ, body: Box<Term>) -> Result<Box<Term>, AllocError>
+fn below_domains(alloc: Global, typ: &Typ, body: Arc<Term>) -> Result<Arc<Term>, AllocError>
     ensures { IfOk result (λ t. t.value ≡ fronts.below (fronts.domains typ.now) body.value) }
 {
     match typ.as_arrow() {
         Some((domain, rest)) => {
             let inside = below_domains(alloc, rest, body)?;
             let typ = domain.copy(alloc)?;
-            let node = TermNode::Abs { typ, body: inside };
-            let done = Box::new(alloc, Term { node })?;
+            let done = Arc::new(alloc, Term::abs(typ, inside))?;
             Ok(done)
         }
         None => Ok(body),
@@ -89,7 +88,7 @@ fn below_domains(alloc: Global, typ: &Typ, body: Box<Term>) -> Result<Box<Term>,
 fn image_with(
     alloc: Global,
     typ: &Typ,
-    head: Box<Term>,
+    head: Arc<Term>,
     head_typ: &Typ,
     index: u32,
 ) -> Result<Term, AllocError>
@@ -99,7 +98,7 @@ fn image_with(
 {
     let body = applied_to_new(alloc, typ, head, head_typ, 0, index)?;
     let image = below_domains(alloc, typ, body)?;
-    Ok(Box::into_inner(image))
+    Ok(image.copy(alloc)?)
 }
 
 /// Puts the imitation of the head behind the images of the list, where there is one.
@@ -132,15 +131,6 @@ fn push_imitation(
     }
 }
 
-/// A copy in a block of its own.
-fn copied(alloc: Global, t: &Term) -> Result<Box<Term>, AllocError>
-    ensures { IfOk result (λ u. u.value ≡ t.now) }
-{
-    let copy = t.copy(alloc)?;
-    let done = Box::new(alloc, copy)?;
-    Ok(done)
-}
-
 /// Puts the projection to the argument at one place behind the images of the list, where the argument ends in the type in which the variable does.
 fn push_projection(
     alloc: Global,
@@ -160,7 +150,7 @@ fn push_projection(
     }
     let place = count_of(typ) - (from + 1);
     let node = TermNode::Bound { place };
-    let head = Box::new(alloc, Term { node })?;
+    let head = Arc::new(alloc, Term { node })?;
     list.push(image_with(alloc, typ, head, domain, index)?)?;
     Ok(())
 }

@@ -11,11 +11,13 @@ ghost use Rattle.pure_unify.specs.Later.{typ_later, term_later, term_entries, Is
 
 use crate::comes::comes_to;
 use pure_term::{
-    Grow, MAX_DEPTH, MAX_SIZE, Name, Term, TermBind, TermMap, TermNode, Typ, TypMap, term_leaves,
+    Grow, MAX_DEPTH, MAX_SIZE, Name, Term, TermBind, TermNode, Typ, TypMap, copied, index_above_of,
+    term_leaves,
 };
 use pure_typ::{instance_leaves, instance_of};
 use pure_unify_steps::Setting;
 use std::alloc::{AllocError, Global};
+use std::sync::Arc;
 
 /// Whether the entry replaces the variable under the settings before it.
 fn replaces(before: &[Setting], bind: &TermBind, name: Name, index: u32, typ: &Typ) -> bool
@@ -74,6 +76,9 @@ fn leaves_later(
     requires terms { terms.now ≡ reverse (term_entries settings.now) }
     ensures { Leaves left room (term_size (term_later settings.now t.now)) (term_depth (term_later settings.now t.now)) result }
 {
+    if index_above_of(t) == 0 {
+        return term_leaves(t, left, room);
+    }
     if left == 0 {
         return None;
     }
@@ -105,7 +110,7 @@ fn leaves_later(
     }
 }
 
-/// The variable under the settings, in a block of its own.
+/// The variable under the settings.
 fn variable_later(
     alloc: Global,
     settings: &[Setting],
@@ -130,49 +135,48 @@ fn variable_later(
     }
 }
 
-/// The term under the settings, in a block of its own.
+/// A part under the settings. One without schematic variables is handed back as it is.
 fn made_later(
     alloc: Global,
     settings: &[Setting],
     typs: &TypMap,
     terms: &[TermBind],
-    t: &Term,
-) -> Result<Box<Term>, AllocError>
+    t: &Arc<Term>,
+) -> Result<Arc<Term>, AllocError>
     requires singles { Each IsSingle settings.now }
     requires typs { (T : types.Typ) → typ_later settings.now T ≡ typ_instance (typ_image typs.now) T }
     requires terms { terms.now ≡ reverse (term_entries settings.now) }
-    ensures { IfOk result (λ u. u.value ≡ term_later settings.now t.now) }
+    ensures { IfOk result (λ u. u.value ≡ term_later settings.now t.now.value) }
 {
-    match &t.node {
+    let whole: &Term = t;
+    if index_above_of(whole) == 0 {
+        return Arc::try_clone(t);
+    }
+    match &whole.node {
         TermNode::Const { name, typ } => {
             let typ = instance_of(alloc, typ, typs)?;
             let node = TermNode::Const { name: *name, typ };
-            Ok(Box::new(alloc, Term { node })?)
+            Ok(Arc::new(alloc, Term { node })?)
         }
         TermNode::Free { name, typ } => {
             let typ = instance_of(alloc, typ, typs)?;
             let node = TermNode::Free { name: *name, typ };
-            Ok(Box::new(alloc, Term { node })?)
+            Ok(Arc::new(alloc, Term { node })?)
         }
         TermNode::Var { name, index, typ } => {
             let made = variable_later(alloc, settings, typs, terms, *name, *index, typ)?;
-            Ok(Box::new(alloc, made)?)
+            Ok(Arc::new(alloc, made)?)
         }
-        TermNode::Bound { place } => {
-            let node = TermNode::Bound { place: *place };
-            Ok(Box::new(alloc, Term { node })?)
-        }
+        TermNode::Bound { .. } => Arc::try_clone(t),
         TermNode::Abs { typ, body, .. } => {
             let typ = instance_of(alloc, typ, typs)?;
             let body = made_later(alloc, settings, typs, terms, body)?;
-            let node = TermNode::Abs { typ, body };
-            Ok(Box::new(alloc, Term { node })?)
+            Ok(Arc::new(alloc, Term::abs(typ, body))?)
         }
         TermNode::App { fun, arg, .. } => {
             let fun = made_later(alloc, settings, typs, terms, fun)?;
             let arg = made_later(alloc, settings, typs, terms, arg)?;
-            let node = TermNode::App { fun, arg };
-            Ok(Box::new(alloc, Term { node })?)
+            Ok(Arc::new(alloc, Term::app(fun, arg))?)
         }
     }
 }
@@ -193,5 +197,7 @@ pub fn image_within(
     let Some(_) = leaves_later(settings, typs, terms, t, MAX_SIZE, MAX_DEPTH) else {
         return Err(Grow::Big);
     };
-    Ok(Box::into_inner(made_later(alloc, settings, typs, terms, t)?))
+    let t = copied(alloc, t)?;
+    let made = made_later(alloc, settings, typs, terms, &t)?;
+    Ok(made.copy(alloc)?)
 }

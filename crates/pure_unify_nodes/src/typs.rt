@@ -56,10 +56,11 @@ fn have_one_typ_under(l: &Term, r: &Term, scope: &Scope) -> bool
 {
     match (&l.node, &r.node) {
         (
-            TermNode::Abs { typ, body },
+            TermNode::Abs { typ, body, .. },
             TermNode::Abs {
                 typ: other,
                 body: second,
+                ..
             },
         ) => {
             if !are_same_typs(typ, other) {

@@ -4,13 +4,14 @@ ghost use Rattle.pure_unify_definitions.specs.Fronts as fronts;
 
 use pure_term::{Term, TermNode, Typ};
 use std::alloc::{AllocError, Global};
+use std::sync::Arc;
 
 /// The function applied to so many bound variables, of which the last is bound variable 0.
 pub fn applied_to_bounds(
     alloc: Global,
-    function: Box<Term>,
+    function: Arc<Term>,
     count: u32,
-) -> Result<Box<Term>, AllocError>
+) -> Result<Arc<Term>, AllocError>
     ensures { IfOk result (λ t. t.value ≡ fronts.applied function.value (fronts.bounds count)) }
 {
     if count == 0 {
@@ -18,9 +19,8 @@ pub fn applied_to_bounds(
     }
     let place = count - 1;
     let bound = TermNode::Bound { place };
-    let arg = Box::new(alloc, Term { node: bound })?;
-    let node = TermNode::App { fun: function, arg };
-    let more = Box::new(alloc, Term { node })?;
+    let arg = Arc::new(alloc, Term { node: bound })?;
+    let more = Arc::new(alloc, Term::app(function, arg))?;
     let done = applied_to_bounds(alloc, more, place)?;
     Ok(done)
 }

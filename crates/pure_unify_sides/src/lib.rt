@@ -11,4 +11,4 @@ pub use firm::occurs_firmly;
 pub use fronts::{front, head, is_flexible, is_schematic, term_body};
 pub use heads::{Heads, compared_heads};
 pub use images::{applied_to_bounds, function_to, range_of};
-pub use split::{move_argument_pairs, push_argument_pairs};
+pub use split::push_argument_pairs;

@@ -1,39 +1,44 @@
 //! The pairs of the arguments of two sides.
-ghost use Rattle.std.specs.Prelude.{◌≡◌, ◌++◌, [], length, IfOk, OnOk};
-ghost use Rattle.std.specs.Bool.{OnTrue};
+ghost use Rattle.std.specs.Prelude.{◌≡◌, ◌++◌, length, IfOk, OnOk};
 ghost use Rattle.pure_unify_definitions.specs.Fronts as fronts;
 
 use crate::fronts::term_body;
 use pure_term::{Term, TermNode};
 use pure_theorem::Pair;
 use std::alloc::{AllocError, Global};
+use std::sync::Arc;
 
-/// The part below the abstractions of the side, in a block of its own.
-fn boxed_below(alloc: Global, side: &Term, part: &Term) -> Result<Box<Term>, AllocError>
-    ensures { IfOk result (λ t. t.value ≡ fronts.below (fronts.abstractions side.now) part.now) }
+/// The part below the abstractions of the side: where there are none, the same part.
+fn block_below(alloc: Global, side: &Term, part: &Arc<Term>) -> Result<Arc<Term>, AllocError>
+    ensures { IfOk result (λ t. t.value ≡ fronts.below (fronts.abstractions side.now) part.now.value) }
 {
     match &side.node {
         TermNode::Abs { typ, body, .. } => {
-            let node = TermNode::Abs {
-                typ: typ.copy(alloc)?,
-                body: boxed_below(alloc, body, part)?,
-            };
-            Ok(Box::new(alloc, Term { node })?)
+            let typ = typ.copy(alloc)?;
+            let body = block_below(alloc, body, part)?;
+            Ok(Arc::new(alloc, Term::abs(typ, body))?)
         }
-        _ => Ok(Box::new(alloc, part.copy(alloc)?)?),
+        _ => Arc::try_clone(part),
     }
 }
 
 /// The part below the abstractions of the side.
-fn below_abstractions(alloc: Global, side: &Term, part: &Term) -> Result<Term, AllocError>
-    ensures { IfOk result (λ t. t ≡ fronts.below (fronts.abstractions side.now) part.now) }
+fn below_abstractions(alloc: Global, side: &Term, part: &Arc<Term>) -> Result<Term, AllocError>
+    ensures { IfOk result (λ t. t ≡ fronts.below (fronts.abstractions side.now) part.now.value) }
 {
-    Ok(Box::into_inner(boxed_below(alloc, side, part)?))
+    let whole = block_below(alloc, side, part)?;
+    Ok(whole.copy(alloc)?)
 }
 
 /// The pair of an argument of each side, below the abstractions.
-fn argument_pair(alloc: Global, l: &Term, r: &Term, a: &Term, b: &Term) -> Result<Pair, AllocError>
-    ensures { IfOk result (λ p. p ≡ fronts.pair (fronts.below (fronts.abstractions l.now) a.now) (fronts.below (fronts.abstractions r.now) b.now)) }
+fn argument_pair(
+    alloc: Global,
+    l: &Term,
+    r: &Term,
+    a: &Arc<Term>,
+    b: &Arc<Term>,
+) -> Result<Pair, AllocError>
+    ensures { IfOk result (λ p. p ≡ fronts.pair (fronts.below (fronts.abstractions l.now) a.now.value) (fronts.below (fronts.abstractions r.now) b.now.value)) }
 {
     let left = below_abstractions(alloc, l, a)?;
     let right = below_abstractions(alloc, r, b)?;
@@ -54,10 +59,11 @@ fn push_pairs(
 {
     match (&f.node, &g.node) {
         (
-            TermNode::App { fun, arg },
+            TermNode::App { fun, arg, .. },
             TermNode::App {
                 fun: other,
                 arg: second,
+                ..
             },
         ) => {
             push_pairs(alloc, pairs, l, r, fun, other)?;
@@ -79,58 +85,5 @@ pub fn push_argument_pairs(
     ensures { OnOk result (pairs.new.items ≡ pairs.old.items ++ fronts.argument_pairs l.now r.now) }
 {
     push_pairs(alloc, pairs, l, r, term_body(l), term_body(r))?;
-    Ok(())
-}
-
-/// Takes two applications apart, which have as many arguments, and puts the pairs of these behind those of the list.
-fn move_pairs(pairs: &mut Vec<Pair>, f: Term, g: Term) -> Result<(), AllocError>
-    requires { length (fronts.arguments f) ≡ length (fronts.arguments g) }
-    ensures { OnOk result (pairs.new.items ≡ pairs.old.items ++ fronts.pairs_below [] [] (fronts.arguments f) (fronts.arguments g)) }
-{
-    let Term { node: first } = f;
-    let Term { node: second } = g;
-    match (first, second) {
-        (
-            TermNode::App { fun, arg },
-            TermNode::App {
-                fun: other,
-                arg: last,
-            },
-        ) => {
-            move_pairs(pairs, Box::into_inner(fun), Box::into_inner(other))?;
-            let left = Box::into_inner(arg);
-            let right = Box::into_inner(last);
-            pairs.push(Pair { left, right })?;
-            Ok(())
-        }
-        _ => Ok(()),
-    }
-}
-
-/// Whether the side is no abstraction.
-fn is_open(t: &Term) -> bool
-    ensures { OnTrue result ((fronts.abstractions t.now ≡ []) × (fronts.term_body t.now ≡ t.now)) }
-{
-    match &t.node {
-        TermNode::Abs { .. } => false,
-        _ => true,
-    }
-}
-
-/// The same of the sides of a pair that is handed over: arguments that don't stand below abstractions aren't copied.
-pub fn move_argument_pairs(
-    alloc: Global,
-    pairs: &mut Vec<Pair>,
-    pair: Pair,
-) -> Result<(), AllocError>
-    requires { length (fronts.arguments (fronts.term_body pair.left)) ≡ length (fronts.arguments (fronts.term_body pair.right)) }
-    ensures { OnOk result (pairs.new.items ≡ pairs.old.items ++ fronts.argument_pairs pair.left pair.right) }
-{
-    let Pair { left, right } = pair;
-    if !is_open(&left) || !is_open(&right) {
-        push_argument_pairs(alloc, pairs, &left, &right)?;
-        return Ok(());
-    }
-    move_pairs(pairs, left, right)?;
     Ok(())
 }

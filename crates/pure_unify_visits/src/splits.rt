@@ -14,7 +14,7 @@ ghost use Rattle.pure_unify_visits.specs.Scanned.{IsScan, IsAt, IsReady, IsTurne
 use crate::scan::{Scan, Turn, move_back};
 use pure_norm::NormFault;
 use pure_theorem::Pair;
-use pure_unify_sides::move_argument_pairs;
+use pure_unify_sides::push_argument_pairs;
 use pure_unify_steps::Node;
 use std::alloc::{AllocError, Global};
 
@@ -24,7 +24,7 @@ fn parted(alloc: Global, pair: Pair) -> Result<Vec<Pair>, AllocError>
     ensures { IfOk result (λ made. made.items ≡ argument_pairs pair.left pair.right) }
 {
     let mut made = Vec::new(alloc);
-    move_argument_pairs(alloc, &mut made, pair)?;
+    push_argument_pairs(alloc, &mut made, &pair.left, &pair.right)?;
     Ok(made)
 }
 
