@@ -158,7 +158,10 @@ fn typ_stays(renaming: &Renaming, t: &Typ) -> bool
     if !renaming.keeps_fixed() {
         return false;
     }
-    index_above_of_typ(t) == 0
+    if index_above_of_typ(t) != 0 {
+        return false;
+    }
+    true
 }
 
 /// The type, renamed. One that stays as it is is shared.
@@ -218,7 +221,10 @@ fn stays(renaming: &Renaming, t: &Term) -> bool
     if !renaming.keeps_fixed() {
         return false;
     }
-    index_above_of(t) == 0
+    if index_above_of(t) != 0 {
+        return false;
+    }
+    true
 }
 
 /// The term, renamed. A part that stays as it is is handed back.

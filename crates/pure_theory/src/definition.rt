@@ -22,7 +22,7 @@ fn definition_axiom(alloc: Global, name: Name, typ: &Typ, body: &Term) -> Result
     ensures { IfOk result (λ t. t ≡ eq typ.now (Const name typ.now) (inst_typ schematic_typ_variable body.now)) }
 {
     let left = constant(name, typ.copy(alloc)?);
-    let right = Box::into_inner(schematic_term(alloc, body)?);
+    let right = schematic_term(alloc, body)?.copy(alloc)?;
     let axiom = equation(alloc, typ, left, right)?;
     Ok(axiom)
 }

@@ -5,4 +5,4 @@ use Rattle.pure_declare.proofs.fixing.+fixed_typ.Given as goal
 
 -- what is made so far
 abbrev pub invariant-loop-arg : goal.invariant-loop-arg
-invariant-loop-arg l = l.images.items ≡ map (typ_instance fixed_typ_variable) (take l.arg-index l.arg-items)
+invariant-loop-arg l = l.images.items ≡ map (typ_instance fixed_typ_variable) (take l.arg-index l.args)

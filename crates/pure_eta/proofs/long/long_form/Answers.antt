@@ -12,4 +12,4 @@ returns-in_default c =
 pub returns : goal.returns
 returns c =
     let t = c.args.t.now in
-    rw c.in_ok-lengthen.ensures (long_form-is t c.requires.typed.0 c.requires.typed.1 c.requires.normal, room-within (long_term false [] t) c.in-Some.field-0 c.in-Some.ensures)
+    rw (c.in_ok-copy.ensures, c.deref.ensures, c.in_ok-long.ensures, c.in_ok-t.ensures) (long_form-is t c.requires.typed.0 c.requires.typed.1 c.requires.normal, room-within (long_term false [] t) c.in-Some.field-0 c.in-Some.ensures)
