@@ -29,10 +29,11 @@ use crate::settled::settled;
 use crate::sorts::{VariableSort, sorts_of_term, sorts_of_typ};
 use crate::written::written_typ;
 use pure_read::{Raw, RawNode, RawTyp};
-use pure_term::{Grow, Term};
+use pure_term::Term;
 use pure_tunify::{Settings, TypFault, pairs_of, settle, settle_given};
-use pure_typ::{Name, Typ, TypNode};
+use pure_typ::{Args, Name, Typ, TypNode};
 use std::alloc::{AllocError, Global};
+use std::sync::Arc;
 
 /// The index of the fresh variables of unification.
 const FRESH_INDEX: u32 = 2;
@@ -44,13 +45,13 @@ const FIRST_ROOM: usize = 8;
 const SHORT: u32 = 200;
 
 /// The type of propositions. It takes no memory.
-fn prop(alloc: Global) -> Typ
+fn prop() -> Typ
     ensures { result ≡ tree.prop }
 {
     Typ {
         node: TypNode::Con {
             name: Name::PROP,
-            args: Vec::new(alloc),
+            args: Args::Nullary,
         },
     }
 }
@@ -73,7 +74,7 @@ fn check_names<L: Language>(alloc: Global, language: &L, raw: &Raw) -> Result<()
     ensures ok { OnOk result (term_faults (L.vocabulary language.now) [] raw.now ≡ []) }
     ensures fault { IfErr result (λ f. IsNameRefusal (term_faults (L.vocabulary language.now) [] raw.now) f) }
 {
-    let typ = prop(alloc);
+    let typ = prop();
     let scope = Scope::Empty;
     let found = with_term(language, &typ, &scope, raw, None)?;
     match found {
@@ -83,30 +84,30 @@ fn check_names<L: Language>(alloc: Global, language: &L, raw: &Raw) -> Result<()
 }
 
 /// Makes the term's schematic type variables fixed.
-fn fixed<L: Language>(alloc: Global, language: &L, term: Term) -> Result<Term, AllocError>
-    ensures { IfOk result (λ t. t ≡ with_fixed (L.vocabulary language.now).fresh term) }
+fn fixed<L: Language>(alloc: Global, language: &L, term: &Arc<Term>) -> Result<Term, AllocError>
+    ensures { IfOk result (λ t. t ≡ with_fixed (L.vocabulary language.now).fresh term.now.value) }
 {
-    let mut fixed = term;
     let mut numbers = no_numbers(alloc);
     let first = language.first_fresh();
-    number_term(alloc, Numbering::Fixed, first, &mut numbers, &mut fixed)?;
-    Ok(fixed)
+    let fixed = number_term(alloc, Numbering::Fixed, first, &mut numbers, term)?;
+    let copy = fixed.copy(alloc)?;
+    Ok(copy)
 }
 
 /// The draft's term under the settings, with the unknowns that are left made fixed.
 fn finished<L: Language>(
     alloc: Global,
     language: &L,
-    term: Term,
+    term: Arc<Term>,
     settings: &Settings,
 ) -> Result<Term, ElabFault>
-    ensures { IsFinished (L.vocabulary language.now) (inst_typ (composed settings.now.sets) term) result }
+    ensures { IsFinished (L.vocabulary language.now) (inst_typ (composed settings.now.sets) term.value) result }
 {
-    match settled(settings, alloc, term) {
-        Err(Grow::Big) => Err(ElabFault::Big),
-        Err(Grow::Memory) => Err(ElabFault::Memory),
-        Ok(term) => {
-            let term = fixed(alloc, language, term)?;
+    let found = settled(settings, alloc, &term)?;
+    match found {
+        None => Err(ElabFault::Big),
+        Some(term) => {
+            let term = fixed(alloc, language, &term)?;
             Ok(term)
         }
     }
@@ -130,12 +131,12 @@ fn typing_fault(places: &[u32], fault: TypFault) -> ElabFault
 fn typed<L: Language>(
     alloc: Global,
     language: &L,
-    term: Term,
+    term: Arc<Term>,
     constraints: Constraints,
 ) -> Result<Term, ElabFault>
     requires { Each (IsOldPair fresh_index 0) constraints.pairs.items }
-    ensures ok { IfOk result (λ t. (d : drafts.Draft) → HasConstraintsOf d term constraints → IsTyped (L.vocabulary language.now) d t) }
-    ensures fault { IfErr result (λ f. (d : drafts.Draft) → HasConstraintsOf d term constraints → IsTypingFault (L.vocabulary language.now) d f) }
+    ensures ok { IfOk result (λ t. (d : drafts.Draft) → HasConstraintsOf d term.value constraints → IsTyped (L.vocabulary language.now) d t) }
+    ensures fault { IfErr result (λ f. (d : drafts.Draft) → HasConstraintsOf d term.value constraints → IsTypingFault (L.vocabulary language.now) d f) }
 {
     let Constraints { pairs, places, .. } = constraints;
     let pairs = pairs_of(alloc, pairs)?;
@@ -153,7 +154,7 @@ fn whole_draft<L: Language>(
     sorts: &[VariableSort],
     raw: &Raw,
     typ: Typ,
-) -> Result<(Box<Term>, Constraints), AllocError>
+) -> Result<(Arc<Term>, Constraints), AllocError>
     ensures draft { IfOk result (λ found. HasConstraintsOf (drafts.whole_draft (L.vocabulary language.now) (sort_among sorts.now) raw.now typ) found.0.value found.1) }
     ensures sound { OnOk result (term_faults (L.vocabulary language.now) [] raw.now ≡ []) }
 {
@@ -176,7 +177,7 @@ fn text_draft<L: Language>(
     language: &L,
     raw: &Raw,
     typ: Typ,
-) -> Result<(Box<Term>, Constraints), AllocError>
+) -> Result<(Arc<Term>, Constraints), AllocError>
     ensures { IfOk result (λ found. (d : drafts.Draft) × IsDraftOf (L.vocabulary language.now) raw.now typ d × HasConstraintsOf d found.0.value found.1) }
 {
     let sorts = sorts_of_term(alloc, language, raw)?;
@@ -188,11 +189,11 @@ fn text_draft<L: Language>(
 fn typed_soon<L: Language>(
     alloc: Global,
     language: &L,
-    term: Term,
+    term: Arc<Term>,
     constraints: Constraints,
 ) -> Result<Term, ElabFault>
     requires { Each (IsOldPair fresh_index 0) constraints.pairs.items }
-    ensures { IfOk result (λ t. (d : drafts.Draft) → HasConstraintsOf d term constraints → IsTyped (L.vocabulary language.now) d t) }
+    ensures { IfOk result (λ t. (d : drafts.Draft) → HasConstraintsOf d term.value constraints → IsTyped (L.vocabulary language.now) d t) }
 {
     let Constraints { pairs, .. } = constraints;
     let settings = settle_given(alloc, language.order(), pairs, FRESH_INDEX, 0)?;
@@ -210,7 +211,7 @@ fn elaborate_soon<L: Language>(
     ensures { IfOk result (IsElaborated (L.vocabulary language.now) raw.now typ) }
 {
     let found = text_draft(alloc, language, raw, typ)?;
-    typed_soon(alloc, language, Box::into_inner(found.0), found.1)
+    typed_soon(alloc, language, found.0, found.1)
 }
 
 /// The term that the text says at this type, or its fault. The pairs of its constraints are kept, so that a reason is found.
@@ -225,7 +226,7 @@ fn elaborate_again<L: Language>(
     ensures fault { IfErr result (IsElabFault (L.vocabulary language.now) raw.now typ) }
 {
     match text_draft(alloc, language, raw, typ) {
-        Ok(found) => typed(alloc, language, Box::into_inner(found.0), found.1),
+        Ok(found) => typed(alloc, language, found.0, found.1),
         Err(_) => {
             check_names(alloc, language, raw)?;
             Err(ElabFault::Memory)
@@ -278,7 +279,7 @@ pub fn elaborate<L: Language>(alloc: Global, language: &L, raw: &Raw) -> Result<
     ensures general { IfOk result (IsMostGeneralTerm (L.vocabulary language.now) raw.now tree.prop) }
     ensures certified { IfOk result (λ t. (Q : Content) → IsSoundVocabulary Q.declarations (L.vocabulary language.now) → IsProposition Q t) }
 {
-    let typ = prop(alloc);
+    let typ = prop();
     elaborate_to(alloc, language, raw, typ)
 }
 

@@ -15,6 +15,7 @@ use crate::faults::with_typ;
 use crate::language::Language;
 use crate::meaning::Meaning;
 use crate::names::meaning_of;
+use crate::nodes::{abstraction, application};
 use crate::numbered::number_typ;
 use crate::numbers::{Numbering, Numbers, further, next_number, restart};
 use crate::scope::{Scope, bound_typ};
@@ -27,11 +28,12 @@ use pure_text::Text;
 use pure_tunify::Equation;
 use pure_typ::{Name, Sort, Typ, TypNode};
 use std::alloc::{AllocError, Global};
+use std::sync::Arc;
 
 /// A term and its type, both with unknowns.
 #[derive(Debug, Drop)]
 pub struct Drafted {
-    pub term: Box<Term>,
+    pub term: Arc<Term>,
     pub typ: Typ,
 }
 
@@ -102,11 +104,10 @@ fn with_unknowns(
     ensures typ { IfOk result (λ t. t ≡ (spec.constant_draft 0 declared.now constraints.old.next).typ) }
     ensures added { OnOk result (AreAdded [] (spec.constant_draft 0 declared.now constraints.old.next).next constraints.old constraints.new) }
 {
-    let mut typ = declared.copy(alloc)?;
     let first = constraints.next;
     let numbers = &mut constraints.numbers;
     restart(alloc, numbers);
-    number_typ(alloc, Numbering::Unknowns, first, numbers, &mut typ)?;
+    let typ = number_typ(alloc, Numbering::Unknowns, first, numbers, declared)?;
     let next = next_number(first, numbers)?;
     constraints.next = next;
     Ok(typ)
@@ -124,7 +125,7 @@ fn draft_constant(
     let typ = with_unknowns(alloc, constraints, declared)?;
     let copy = typ.copy(alloc)?;
     let node = TermNode::Const { name, typ: copy };
-    let term = Box::new(alloc, Term { node })?;
+    let term = Arc::new(alloc, Term { node })?;
     Ok(Drafted { term, typ })
 }
 
@@ -134,7 +135,7 @@ fn draft_fixed(alloc: Global, name: Name) -> Result<Drafted, AllocError>
 {
     let typ = fixed_unknown(alloc, name);
     let node = TermNode::Free { name, typ };
-    let term = Box::new(alloc, Term { node })?;
+    let term = Arc::new(alloc, Term { node })?;
     let typ = fixed_unknown(alloc, name);
     Ok(Drafted { term, typ })
 }
@@ -145,7 +146,7 @@ fn draft_bound(alloc: Global, place: u32, typ: &Typ) -> Result<Drafted, AllocErr
 {
     let typ = typ.copy(alloc)?;
     let node = TermNode::Bound { place };
-    let term = Box::new(alloc, Term { node })?;
+    let term = Arc::new(alloc, Term { node })?;
     Ok(Drafted { term, typ })
 }
 
@@ -257,14 +258,6 @@ fn constrain_application(
     Ok(unknown(alloc, number))
 }
 
-/// An application of terms.
-fn applied(alloc: Global, fun: Box<Term>, arg: Box<Term>) -> Result<Box<Term>, AllocError>
-    ensures { IfOk result (λ t. t.value ≡ term_tree.App fun.value arg.value) }
-{
-    let node = TermNode::App { fun, arg };
-    Ok(Box::new(alloc, Term { node })?)
-}
-
 /// An application, with its argument at this place.
 fn draft_application(
     alloc: Global,
@@ -278,7 +271,7 @@ fn draft_application(
     ensures added { OnOk result (AreAdded (record { at = at; left = fun.typ; right = tree.arrow arg.typ (spec.unknown constraints.old.next) } ∷ []) (constraints.old.next + 1) constraints.old constraints.new) }
 {
     let typ = constrain_application(alloc, constraints, at, fun.typ, arg.typ)?;
-    let term = applied(alloc, fun.term, arg.term)?;
+    let term = application(alloc, fun.term, arg.term)?;
     Ok(Drafted { term, typ })
 }
 
@@ -289,11 +282,7 @@ fn abstracted(alloc: Global, typ: Typ, body: Drafted) -> Result<Drafted, AllocEr
 {
     let copy = typ.copy(alloc)?;
     let arrow = Typ::arrow(alloc, copy, body.typ)?;
-    let node = TermNode::Abs {
-        typ,
-        body: body.term,
-    };
-    let term = Box::new(alloc, Term { node })?;
+    let term = abstraction(alloc, typ, body.term)?;
     Ok(Drafted { term, typ: arrow })
 }
 

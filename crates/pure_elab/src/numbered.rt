@@ -1,41 +1,47 @@
-//! Type variables that are numbered by first occurrence, and replaced in place.
-ghost use Rattle.std.specs.Prelude.{◌≡◌, OnOk};
+//! Type variables that are numbered by first occurrence, and replaced.
+ghost use Rattle.std.specs.Prelude.{◌≡◌, IfOk, OnOk};
 ghost use Rattle.pure_definitions.specs.Types.Typ as tree;
+ghost use Rattle.pure_definitions.specs.Terms.Term as term_tree;
 ghost use Rattle.pure_tunify.specs.Occurrences.{schematics, schematics_of};
 ghost use Rattle.pure_elab.specs.Numbered as spec;
 ghost use Rattle.pure_elab.specs.Numbering.{image_of};
 ghost use Rattle.pure_elab.specs.Numbers.{entries, IsNumberedTyp, AreNumberedTyps, IsTermNumbered};
 
+use crate::nodes::{abstraction, application};
 use crate::numbers::{Numbering, Numbers, image_in};
-use crate::place::put;
-use pure_term::{Term, TermNode};
-use pure_typ::{Sort, Typ, TypNode};
+use pure_term::{Term, TermNode, index_above_of};
+use pure_typ::{Name, Typ, TypNode, index_above_of_typ};
 use std::alloc::{AllocError, Global};
-use std::mem;
+use std::sync::Arc;
 
-/// Numbers the variables of a type, and puts their images in their places.
+/// Numbers the variables of a type: the type with their images in their places. One without schematic variables is handed
+/// back as it is.
 #[cycle(number_typ)]
 pub(crate) fn number_typ(
     alloc: Global,
     numbering: Numbering,
     first: u32,
     numbers: &mut Numbers,
-    t: &mut Typ,
-) -> Result<(), AllocError>
-    ensures added { OnOk result (entries (image_of numbering) first numbers.new ≡ spec.numbered (image_of numbering) first (entries (image_of numbering) first numbers.old) (schematics t.old)) }
-    ensures typ { OnOk result (IsNumberedTyp (image_of numbering) first (entries (image_of numbering) first numbers.new) t.old t.new) }
+    t: &Typ,
+) -> Result<Typ, AllocError>
+    ensures added { OnOk result (entries (image_of numbering) first numbers.new ≡ spec.numbered (image_of numbering) first (entries (image_of numbering) first numbers.old) (schematics t.now)) }
+    ensures typ { IfOk result (IsNumberedTyp (image_of numbering) first (entries (image_of numbering) first numbers.new) t.now) }
 {
-    match &mut t.node {
-        TypNode::TFree { .. } => Ok(()),
+    if index_above_of_typ(t) == 0 {
+        let same = t.copy(alloc)?;
+        return Ok(same);
+    }
+    match &t.node {
+        TypNode::TFree { .. } => t.copy(alloc),
         TypNode::TVar { name, index, sort } => {
-            let own = mem::replace(sort, Sort::make(Vec::new(alloc)));
+            let own = sort.copy(alloc)?;
             let image = image_in(alloc, numbering, first, numbers, *name, *index, own)?;
-            put(t, image);
-            Ok(())
+            Ok(image)
         }
-        TypNode::Con { args, .. } => {
-            number_typs(alloc, numbering, first, numbers, args.as_mut_slice())?;
-            Ok(())
+        TypNode::Con { name, args } => {
+            let images = number_typs(alloc, numbering, first, numbers, args.as_slice())?;
+            let typ = Typ::constructed(alloc, *name, images)?;
+            Ok(typ)
         }
     }
 }
@@ -47,15 +53,69 @@ fn number_typs(
     numbering: Numbering,
     first: u32,
     numbers: &mut Numbers,
-    types: &mut [Typ],
-) -> Result<(), AllocError>
-    ensures added { OnOk result (entries (image_of numbering) first numbers.new ≡ spec.numbered (image_of numbering) first (entries (image_of numbering) first numbers.old) (schematics_of (tree.typs_of types.old))) }
-    ensures typs { OnOk result (AreNumberedTyps (image_of numbering) first (entries (image_of numbering) first numbers.new) types.old types.new) }
+    types: &[Typ],
+) -> Result<Vec<Typ>, AllocError>
+    ensures added { OnOk result (entries (image_of numbering) first numbers.new ≡ spec.numbered (image_of numbering) first (entries (image_of numbering) first numbers.old) (schematics_of (tree.typs_of types.now))) }
+    ensures typs { IfOk result (λ us. AreNumberedTyps (image_of numbering) first (entries (image_of numbering) first numbers.new) types.now us.items) }
 {
-    for typ in types.iter_mut() {
-        number_typ(alloc, numbering, first, numbers, typ)?;
+    let mut images = Vec::with_capacity(alloc, types.len())?;
+    for typ in types {
+        let image = number_typ(alloc, numbering, first, numbers, typ)?;
+        images.push(image)?;
     }
-    Ok(())
+    Ok(images)
+}
+
+/// The same for the type of a constant.
+#[inline(never)]
+fn number_constant(
+    alloc: Global,
+    numbering: Numbering,
+    first: u32,
+    numbers: &mut Numbers,
+    name: Name,
+    typ: &Typ,
+) -> Result<Arc<Term>, AllocError>
+    ensures { IfOk result (λ u. IsTermNumbered (image_of numbering) first (entries (image_of numbering) first numbers.old) (entries (image_of numbering) first numbers.new) (term_tree.Const name typ.now) u.value) }
+{
+    let typ = number_typ(alloc, numbering, first, numbers, typ)?;
+    let node = TermNode::Const { name, typ };
+    Ok(Arc::new(alloc, Term { node })?)
+}
+
+/// The same for the type of a fixed variable.
+#[inline(never)]
+fn number_fixed(
+    alloc: Global,
+    numbering: Numbering,
+    first: u32,
+    numbers: &mut Numbers,
+    name: Name,
+    typ: &Typ,
+) -> Result<Arc<Term>, AllocError>
+    ensures { IfOk result (λ u. IsTermNumbered (image_of numbering) first (entries (image_of numbering) first numbers.old) (entries (image_of numbering) first numbers.new) (term_tree.Free name typ.now) u.value) }
+{
+    let typ = number_typ(alloc, numbering, first, numbers, typ)?;
+    let node = TermNode::Free { name, typ };
+    Ok(Arc::new(alloc, Term { node })?)
+}
+
+/// The same for the type of a schematic variable.
+#[inline(never)]
+fn number_schematic(
+    alloc: Global,
+    numbering: Numbering,
+    first: u32,
+    numbers: &mut Numbers,
+    name: Name,
+    index: u32,
+    typ: &Typ,
+) -> Result<Arc<Term>, AllocError>
+    ensures { IfOk result (λ u. IsTermNumbered (image_of numbering) first (entries (image_of numbering) first numbers.old) (entries (image_of numbering) first numbers.new) (term_tree.Var name index typ.now) u.value) }
+{
+    let typ = number_typ(alloc, numbering, first, numbers, typ)?;
+    let node = TermNode::Var { name, index, typ };
+    Ok(Arc::new(alloc, Term { node })?)
 }
 
 /// The same for the types of a term.
@@ -64,33 +124,35 @@ pub(crate) fn number_term(
     numbering: Numbering,
     first: u32,
     numbers: &mut Numbers,
-    t: &mut Term,
-) -> Result<(), AllocError>
-    ensures { OnOk result (IsTermNumbered (image_of numbering) first (entries (image_of numbering) first numbers.old) (entries (image_of numbering) first numbers.new) t.old t.new) }
+    t: &Arc<Term>,
+) -> Result<Arc<Term>, AllocError>
+    ensures { IfOk result (λ u. IsTermNumbered (image_of numbering) first (entries (image_of numbering) first numbers.old) (entries (image_of numbering) first numbers.new) t.now.value u.value) }
 {
-    match &mut t.node {
-        TermNode::Const { typ, .. } => {
-            number_typ(alloc, numbering, first, numbers, typ)?;
-            Ok(())
+    let whole: &Term = t;
+    if index_above_of(whole) == 0 {
+        let same = Arc::try_clone(t)?;
+        return Ok(same);
+    }
+    match &whole.node {
+        TermNode::Const { name, typ } => {
+            number_constant(alloc, numbering, first, numbers, *name, typ)
         }
-        TermNode::Free { typ, .. } => {
-            number_typ(alloc, numbering, first, numbers, typ)?;
-            Ok(())
+        TermNode::Free { name, typ } => number_fixed(alloc, numbering, first, numbers, *name, typ),
+        TermNode::Var { name, index, typ } => {
+            number_schematic(alloc, numbering, first, numbers, *name, *index, typ)
         }
-        TermNode::Var { typ, .. } => {
-            number_typ(alloc, numbering, first, numbers, typ)?;
-            Ok(())
-        }
-        TermNode::Bound { .. } => Ok(()),
+        TermNode::Bound { .. } => Arc::try_clone(t),
         TermNode::Abs { typ, body, .. } => {
-            number_typ(alloc, numbering, first, numbers, typ)?;
-            number_term(alloc, numbering, first, numbers, body)?;
-            Ok(())
+            let typ = number_typ(alloc, numbering, first, numbers, typ)?;
+            let body = number_term(alloc, numbering, first, numbers, body)?;
+            let made = abstraction(alloc, typ, body)?;
+            Ok(made)
         }
         TermNode::App { fun, arg, .. } => {
-            number_term(alloc, numbering, first, numbers, fun)?;
-            number_term(alloc, numbering, first, numbers, arg)?;
-            Ok(())
+            let fun = number_term(alloc, numbering, first, numbers, fun)?;
+            let arg = number_term(alloc, numbering, first, numbers, arg)?;
+            let made = application(alloc, fun, arg)?;
+            Ok(made)
         }
     }
 }

@@ -1,147 +1,227 @@
 //! The draft's term under the settings that unification has found.
-ghost use Rattle.std.specs.Prelude.{◌≡◌, IfOk};
-ghost use Rattle.pure_definitions.specs.Terms.Subst.{inst_typ};
-ghost use Rattle.pure_term.specs.Grown.{IsGrown};
+ghost use Rattle.std.specs.Prelude.{◌≡◌, IfOk, MatchOption};
+ghost use Rattle.pure_definitions.specs.Terms.Term.{Const, Free, Var, Abs, App, IsWithin};
+ghost use Rattle.pure_definitions.specs.Terms.Subst.{typ_instance, inst_typ};
 ghost use Rattle.pure_tunify.specs.Settings.{composed};
-ghost use Rattle.pure_elab.specs.PutIn.{IsTypPutIn, AreArgumentsPutIn, IsPutIn};
+ghost use Rattle.pure_elab.specs.PutIn.{IsLeafPutIn, IsNodeOver, IsPutIn};
 
-use crate::place::put;
-use pure_term::{Grow, Term, TermNode};
+use crate::nodes::{abstraction, application};
+use pure_term::{Term, TermNode, index_above_of, term_leaves};
 use pure_tunify::{Resolved, Settings, resolved_in_room};
-use pure_typ::{MAX_DEPTH, MAX_SIZE, Typ, TypNode, typ_leaves};
+use pure_typ::{MAX_DEPTH, MAX_SIZE, Name, Typ};
 use std::alloc::{AllocError, Global};
+use std::sync::Arc;
 
-/// Replaces the variable that the type is, where it is set, as below.
-fn settle_variable(
+/// A part of a term in which all set variables are replaced, and the room for nodes that it leaves.
+#[derive(Debug, Drop)]
+pub(crate) struct SettledPart {
+    pub term: Arc<Term>,
+    pub left: u32,
+}
+
+/// A constant with all set variables of its type replaced, where the type has a room for so many nodes on paths of so many.
+#[inline(never)]
+fn settle_constant(
     settings: &Settings,
     alloc: Global,
-    t: &mut Typ,
+    name: Name,
+    typ: &Typ,
     left: u32,
     room: u32,
-) -> Result<Option<u32>, AllocError>
-    ensures { IfOk result (IsTypPutIn (composed settings.now.sets) t.old t.new left room) }
+) -> Result<Option<SettledPart>, AllocError>
+    ensures { IfOk result (IsLeafPutIn (Const name) (typ_instance (composed settings.now.sets) typ.now) left room) }
 {
-    let found = resolved_in_room(settings, alloc, t, left, room)?;
+    let found = resolved_in_room(settings, alloc, typ, left, room)?;
     match found {
         None => Ok(None),
         Some(image) => {
             let Resolved { typ, left: rest } = image;
-            put(t, typ);
-            Ok(Some(rest))
+            let node = TermNode::Const { name, typ };
+            let term = Arc::new(alloc, Term { node })?;
+            Ok(Some(SettledPart { term, left: rest }))
         }
     }
 }
 
-/// Replaces all set variables in the type, in a room for so many nodes on paths of so many: what is left of it, or none
-/// exactly where the type doesn't fit. What has no variables stays as it is, and takes no memory.
-#[cycle(settle_typ)]
-fn settle_typ(
+/// The same of a fixed variable.
+#[inline(never)]
+fn settle_fixed(
     settings: &Settings,
     alloc: Global,
-    t: &mut Typ,
+    name: Name,
+    typ: &Typ,
     left: u32,
     room: u32,
-) -> Result<Option<u32>, AllocError>
-    ensures { IfOk result (IsTypPutIn (composed settings.now.sets) t.old t.new left room) }
+) -> Result<Option<SettledPart>, AllocError>
+    ensures { IfOk result (IsLeafPutIn (Free name) (typ_instance (composed settings.now.sets) typ.now) left room) }
 {
-    match &mut t.node {
-        TypNode::TFree { .. } => Ok(typ_leaves(t, left, room)),
-        TypNode::TVar { .. } => {
-            let found = settle_variable(settings, alloc, t, left, room)?;
-            Ok(found)
-        }
-        TypNode::Con { args, .. } => {
-            let found = settle_typs(settings, alloc, args.as_mut_slice(), left, room)?;
-            Ok(found)
+    let found = resolved_in_room(settings, alloc, typ, left, room)?;
+    match found {
+        None => Ok(None),
+        Some(image) => {
+            let Resolved { typ, left: rest } = image;
+            let node = TermNode::Free { name, typ };
+            let term = Arc::new(alloc, Term { node })?;
+            Ok(Some(SettledPart { term, left: rest }))
         }
     }
 }
 
-/// The same for the arguments of a constructor, in the room for the whole.
-#[cycle(settle_typ)]
-fn settle_typs(
+/// The same of a schematic variable.
+#[inline(never)]
+fn settle_schematic(
     settings: &Settings,
     alloc: Global,
-    types: &mut [Typ],
+    name: Name,
+    index: u32,
+    typ: &Typ,
     left: u32,
     room: u32,
-) -> Result<Option<u32>, AllocError>
-    ensures { IfOk result (AreArgumentsPutIn (composed settings.now.sets) types.old types.new left room) }
+) -> Result<Option<SettledPart>, AllocError>
+    ensures { IfOk result (IsLeafPutIn (Var name index) (typ_instance (composed settings.now.sets) typ.now) left room) }
 {
-    if left == 0 {
-        return Ok(None);
+    let found = resolved_in_room(settings, alloc, typ, left, room)?;
+    match found {
+        None => Ok(None),
+        Some(image) => {
+            let Resolved { typ, left: rest } = image;
+            let node = TermNode::Var { name, index, typ };
+            let term = Arc::new(alloc, Term { node })?;
+            Ok(Some(SettledPart { term, left: rest }))
+        }
     }
-    if room == 0 {
-        return Ok(None);
-    }
-    let mut rest = left - 1;
-    for typ in types.iter_mut() {
-        let found = settle_typ(settings, alloc, typ, rest, room - 1)?;
-        let Some(less) = found else {
-            return Ok(None);
-        };
-        rest = less;
-    }
-    Ok(Some(rest))
 }
 
-/// Replaces all set variables in the term, in a room as above.
+/// The abstraction over this type, where its body fits.
+#[inline(never)]
+fn settled_abstraction(
+    alloc: Global,
+    typ: Typ,
+    body: Option<SettledPart>,
+) -> Result<Option<SettledPart>, AllocError>
+    ensures { IfOk result (IsNodeOver (Abs typ) body) }
+{
+    match body {
+        None => Ok(None),
+        Some(body) => {
+            let term = abstraction(alloc, typ, body.term)?;
+            Ok(Some(SettledPart {
+                term,
+                left: body.left,
+            }))
+        }
+    }
+}
+
+/// The application of this function, where its argument fits.
+#[inline(never)]
+fn settled_application(
+    alloc: Global,
+    fun: Arc<Term>,
+    arg: Option<SettledPart>,
+) -> Result<Option<SettledPart>, AllocError>
+    ensures { IfOk result (IsNodeOver (App fun.value) arg) }
+{
+    match arg {
+        None => Ok(None),
+        Some(arg) => {
+            let term = application(alloc, fun, arg.term)?;
+            Ok(Some(SettledPart {
+                term,
+                left: arg.left,
+            }))
+        }
+    }
+}
+
+/// A part without schematic variables, which stays as it is, where it fits.
+#[inline(never)]
+fn stays(t: &Arc<Term>, left: u32, room: u32) -> Result<Option<SettledPart>, AllocError>
+    ensures { IfOk result (IsPutIn t.now.value left room) }
+{
+    match term_leaves(t, left, room) {
+        None => Ok(None),
+        Some(rest) => {
+            let term = Arc::try_clone(t)?;
+            Ok(Some(SettledPart { term, left: rest }))
+        }
+    }
+}
+
+/// The part with all set variables replaced, in a room for so many nodes on paths of so many; none exactly where it doesn't
+/// fit. What has no schematic variables is handed back as it is.
 fn settle_term(
     settings: &Settings,
     alloc: Global,
-    t: &mut Term,
+    t: &Arc<Term>,
     left: u32,
     room: u32,
-) -> Result<Option<u32>, AllocError>
-    ensures { IfOk result (IsPutIn (composed settings.now.sets) t.old t.new left room) }
+) -> Result<Option<SettledPart>, AllocError>
+    ensures { IfOk result (IsPutIn (inst_typ (composed settings.now.sets) t.now.value) left room) }
 {
+    let whole: &Term = t;
+    if index_above_of(whole) == 0 {
+        let found = stays(t, left, room)?;
+        return Ok(found);
+    }
     if left == 0 {
         return Ok(None);
     }
     if room == 0 {
         return Ok(None);
     }
-    match &mut t.node {
-        TermNode::Const { typ, .. } => {
-            let found = settle_typ(settings, alloc, typ, left - 1, room - 1)?;
+    match &whole.node {
+        TermNode::Const { name, typ } => {
+            let found = settle_constant(settings, alloc, *name, typ, left - 1, room - 1)?;
             Ok(found)
         }
-        TermNode::Free { typ, .. } => {
-            let found = settle_typ(settings, alloc, typ, left - 1, room - 1)?;
+        TermNode::Free { name, typ } => {
+            let found = settle_fixed(settings, alloc, *name, typ, left - 1, room - 1)?;
             Ok(found)
         }
-        TermNode::Var { typ, .. } => {
-            let found = settle_typ(settings, alloc, typ, left - 1, room - 1)?;
+        TermNode::Var { name, index, typ } => {
+            let found = settle_schematic(settings, alloc, *name, *index, typ, left - 1, room - 1)?;
             Ok(found)
         }
-        TermNode::Bound { .. } => Ok(Some(left - 1)),
+        TermNode::Bound { .. } => {
+            let found = stays(t, left, room)?;
+            Ok(found)
+        }
         TermNode::Abs { typ, body, .. } => {
-            let domain = settle_typ(settings, alloc, typ, left - 1, room - 1)?;
-            let Some(rest) = domain else {
+            let domain = resolved_in_room(settings, alloc, typ, left - 1, room - 1)?;
+            let Some(image) = domain else {
                 return Ok(None);
             };
-            let found = settle_term(settings, alloc, body, rest, room - 1)?;
+            let Resolved { typ, left: rest } = image;
+            let body = settle_term(settings, alloc, body, rest, room - 1)?;
+            let found = settled_abstraction(alloc, typ, body)?;
             Ok(found)
         }
         TermNode::App { fun, arg, .. } => {
             let function = settle_term(settings, alloc, fun, left - 1, room - 1)?;
-            let Some(rest) = function else {
+            let Some(front) = function else {
                 return Ok(None);
             };
-            let found = settle_term(settings, alloc, arg, rest, room - 1)?;
+            let argument = settle_term(settings, alloc, arg, front.left, room - 1)?;
+            let found = settled_application(alloc, front.term, argument)?;
             Ok(found)
         }
     }
 }
 
-/// The term with all set variables replaced. It is measured as it is made, and never made beyond the limits.
-pub(crate) fn settled(settings: &Settings, alloc: Global, term: Term) -> Result<Term, Grow>
-    ensures { IsGrown (inst_typ (composed settings.now.sets) term) result }
+/// The term with all set variables replaced; none exactly where it isn't within the limits. It is measured as it is made,
+/// and never made beyond the limits.
+pub(crate) fn settled(
+    settings: &Settings,
+    alloc: Global,
+    term: &Arc<Term>,
+) -> Result<Option<Arc<Term>>, AllocError>
+    ensures { IfOk result (λ o. MatchOption o (¬ IsWithin (inst_typ (composed settings.now.sets) term.now.value))
+        (λ u. (u.value ≡ inst_typ (composed settings.now.sets) term.now.value) × IsWithin (inst_typ (composed settings.now.sets) term.now.value))) }
 {
-    let mut settled = term;
-    let found = settle_term(settings, alloc, &mut settled, MAX_SIZE, MAX_DEPTH)?;
-    let Some(_) = found else {
-        return Err(Grow::Big);
-    };
-    Ok(settled)
+    let found = settle_term(settings, alloc, term, MAX_SIZE, MAX_DEPTH)?;
+    match found {
+        None => Ok(None),
+        Some(settled) => Ok(Some(settled.term)),
+    }
 }

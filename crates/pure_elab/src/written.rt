@@ -49,9 +49,7 @@ pub(crate) fn written_typ<L: Language>(
             None => Err(AllocError),
             Some(name) => {
                 let args = written_typs(alloc, language, sorts, args.as_slice())?;
-                Ok(Typ {
-                    node: TypNode::Con { name, args },
-                })
+                Typ::constructed(alloc, name, args)
             }
         },
     }

@@ -4,25 +4,14 @@ ghost use Rattle.pure_elab.specs.Answers.{IsFixedTyp};
 
 use crate::read::typ_of;
 use pure_rows::Outcome;
-use pure_typ::{Typ, TypNode};
+use pure_typ::{Typ, index_above_of_typ};
 use std::alloc::Global;
 
 /// Whether no schematic type variable occurs in the type.
 fn is_fixed(typ: &Typ) -> bool
     ensures { IsTrue result → IsFixedTyp typ.now }
 {
-    match &typ.node {
-        TypNode::TFree { .. } => true,
-        TypNode::TVar { .. } => false,
-        TypNode::Con { args, .. } => {
-            for arg in args {
-                if !is_fixed(arg) {
-                    return false;
-                }
-            }
-            true
-        }
-    }
+    index_above_of_typ(typ) == 0
 }
 
 /// The type of the notation, if no schematic type variable occurs in it.

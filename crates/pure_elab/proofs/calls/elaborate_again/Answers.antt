@@ -1,6 +1,3 @@
-use Rattle.std.proofs.Common.{sym, subst}
-use Rattle.pure_definitions.specs.Terms.Term.{Term}
-use Rattle.pure_elab.specs.Finished.{HasConstraintsOf}
 use Rattle.pure_elab.proofs.CallLaws.{pairs_are_old, elaborated_ok, elaborated_err}
 use Rattle.pure_elab.proofs.calls.elaborate_again.Goals as goal
 
@@ -14,12 +11,10 @@ pub returns-in-Ok-clause-ok : goal.returns-in-Ok-clause-ok
 returns-in-Ok-clause-ok g c =
     let V = g.L.Language.vocabulary c.args.language.now in
     let h = c.in-Ok.ensures in
-    let has : HasConstraintsOf h.0 c.into_inner.result c.in-Ok.found.1 = subst (λ (u : Term). HasConstraintsOf h.0 u c.in-Ok.found.1) (sym c.into_inner.ensures) h.2 in
-    elaborated_ok V c.args.raw.now c.args.typ h.0 c.into_inner.result c.in-Ok.found.1 c.typed.result h.1 has c.typed.ensures.ok
+    elaborated_ok V c.args.raw.now c.args.typ h.0 c.in-Ok.found.0.value c.in-Ok.found.1 c.typed.result h.1 h.2 c.typed.ensures.ok
 
 pub returns-in-Ok-clause-fault : goal.returns-in-Ok-clause-fault
 returns-in-Ok-clause-fault g c =
     let V = g.L.Language.vocabulary c.args.language.now in
     let h = c.in-Ok.ensures in
-    let has : HasConstraintsOf h.0 c.into_inner.result c.in-Ok.found.1 = subst (λ (u : Term). HasConstraintsOf h.0 u c.in-Ok.found.1) (sym c.into_inner.ensures) h.2 in
-    elaborated_err V c.args.raw.now c.args.typ h.0 c.into_inner.result c.in-Ok.found.1 c.typed.result h.1 has c.typed.ensures.fault
+    elaborated_err V c.args.raw.now c.args.typ h.0 c.in-Ok.found.0.value c.in-Ok.found.1 c.typed.result h.1 h.2 c.typed.ensures.fault

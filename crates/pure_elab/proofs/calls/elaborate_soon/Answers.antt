@@ -1,6 +1,3 @@
-use Rattle.std.proofs.Common.{sym, subst}
-use Rattle.pure_definitions.specs.Terms.Term.{Term}
-use Rattle.pure_elab.specs.Finished.{HasConstraintsOf}
 use Rattle.pure_elab.proofs.CallLaws.{pairs_are_old, elaborated_ok}
 use Rattle.pure_elab.proofs.calls.elaborate_soon.Goals as goal
 
@@ -14,5 +11,4 @@ pub returns : goal.returns
 returns g c =
     let V = g.L.Language.vocabulary c.args.language.now in
     let h = c.in_ok-found.ensures in
-    let has : HasConstraintsOf h.0 c.into_inner.result c.in_ok-found.found.1 = subst (λ (u : Term). HasConstraintsOf h.0 u c.in_ok-found.found.1) (sym c.into_inner.ensures) h.2 in
-    elaborated_ok V c.args.raw.now c.args.typ h.0 c.into_inner.result c.in_ok-found.found.1 c.typed_soon.result h.1 has c.typed_soon.ensures
+    elaborated_ok V c.args.raw.now c.args.typ h.0 c.in_ok-found.found.0.value c.in_ok-found.found.1 c.typed_soon.result h.1 h.2 c.typed_soon.ensures

@@ -1,22 +1,27 @@
+use Rattle.std.proofs.Common.{sym, ap, ◌∙◌}
+use Rattle.pure_definitions.specs.Terms.Measures.{term_index_above}
 use Rattle.pure_elab.specs.Numbering.{image_of}
 use Rattle.pure_elab.specs.Numbers.{entries}
-use Rattle.pure_elab.proofs.ReplacedLaws.{const_done, free_done, var_done, bound_done, abs_done, app_done}
-use Rattle.pure_elab.proofs.numbered.+number_term.Goals.{in-Const+in_ok-number_typ-in-Const, in-Free+in_ok-number_typ-in-Free, in-Var+in_ok-number_typ-in-Var, in-Bound, in-Abs+in_ok-number_typ-in-Abs+in_ok-number_term-in-Abs, in-App+in_ok-number_term-in-App+in_ok-number_term-in-App-2}
+use Rattle.pure_elab.proofs.ReplacedLaws.{term_unchanged, abs_done, app_done}
 use Rattle.pure_elab.proofs.numbered.+number_term.Goals as goal
 
-pub returns : goal.returns
-returns t c = elim c.match-t.branch [
-  | in-Const+in_ok-number_typ-in-Const w ↦ rw (w.result-is, w.numbers-is, w.t-inside-is, ← c.t.view_is, w.in-Const.is)
-      (const_done (image_of c.args.numbering) c.args.first _ _ w.in-Const.name w.in-Const.typ w.number_typ.new.t w.in_ok-number_typ-in-Const.ensures.added w.in_ok-number_typ-in-Const.ensures.typ)
-  | in-Free+in_ok-number_typ-in-Free w ↦ rw (w.result-is, w.numbers-is, w.t-inside-is, ← c.t.view_is, w.in-Free.is)
-      (free_done (image_of c.args.numbering) c.args.first _ _ w.in-Free.name w.in-Free.typ w.number_typ-in-Free.new.t w.in_ok-number_typ-in-Free.ensures.added w.in_ok-number_typ-in-Free.ensures.typ)
-  | in-Var+in_ok-number_typ-in-Var w ↦ rw (w.result-is, w.numbers-is, w.t-inside-is, ← c.t.view_is, w.in-Var.is)
-      (var_done (image_of c.args.numbering) c.args.first _ _ w.in-Var.name w.in-Var.index w.in-Var.typ w.number_typ-in-Var.new.t w.in_ok-number_typ-in-Var.ensures.added w.in_ok-number_typ-in-Var.ensures.typ)
-  | in-Bound w ↦ rw (w.result-is, w.numbers-is, w.t-inside-is, ← c.t.view_is, w.in-Bound.is) (bound_done (image_of c.args.numbering) c.args.first _ w.in-Bound.place)
-  | in-Abs+in_ok-number_typ-in-Abs+in_ok-number_term-in-Abs w ↦ rw (w.result-is, w.numbers-is, w.t-inside-is, ← c.t.view_is, w.in-Abs.is)
-      (abs_done (image_of c.args.numbering) c.args.first _ (entries (image_of c.args.numbering) c.args.first w.number_typ-in-Abs.new.numbers) _ w.in-Abs.typ w.number_typ-in-Abs.new.t w.in-Abs.body.value _ w.number_term.new.t
-      w.deref_mut.ensures.value w.in_ok-number_typ-in-Abs.ensures.added w.in_ok-number_typ-in-Abs.ensures.typ w.in_ok-number_term-in-Abs.ensures)
-  | in-App+in_ok-number_term-in-App+in_ok-number_term-in-App-2 w ↦ rw (w.result-is, w.numbers-is, w.t-inside-is, ← c.t.view_is, w.in-App.is)
-      (app_done (image_of c.args.numbering) c.args.first _ (entries (image_of c.args.numbering) c.args.first w.number_term-in-App.new.numbers) _ w.in-App.fun.value _ w.number_term-in-App.new.t w.in-App.arg.value _ w.number_term-in-App-2.new.t
-      w.deref_mut-in-App.ensures.value w.deref_mut-in-App-2.ensures.value w.in_ok-number_term-in-App.ensures w.in_ok-number_term-in-App-2.ensures)
-]
+pub returns-then-index_above_of-eq0 : goal.returns-then-index_above_of-eq0
+returns-then-index_above_of-eq0 t c =
+    let bare = ap term_index_above (sym c.deref-whole.ensures) ∙ sym c.index_above_of.ensures ∙ c.if-index_above_of-eq0.true in
+    term_unchanged (image_of c.args.numbering) c.args.first (entries (image_of c.args.numbering) c.args.first c.args.numbers.now) c.args.t.now.value c.in_ok-same.same.value c.in_ok-same.ensures bare
+
+pub returns-in_ok-made-in-Abs : goal.returns-in_ok-made-in-Abs
+returns-in_ok-made-in-Abs t c =
+    let image = image_of c.args.numbering in
+    let now = entries image c.args.first c.number_typ.new.numbers in
+    rw (← c.deref-whole.ensures, ← c.whole.view_is, c.in-Abs.is)
+    (abs_done image c.args.first (entries image c.args.first c.args.numbers.now) now (entries image c.args.first c.number_term.new.numbers) c.in-Abs.typ c.in_ok-typ-in-Abs.typ c.in-Abs.body.value c.in_ok-body-in-Abs.body.value c.in_ok-made-in-Abs.made.value
+    c.in_ok-made-in-Abs.ensures c.in_ok-typ-in-Abs.ensures.added c.in_ok-typ-in-Abs.ensures.typ c.in_ok-body-in-Abs.ensures)
+
+pub returns-in_ok-made-in-App : goal.returns-in_ok-made-in-App
+returns-in_ok-made-in-App t c =
+    let image = image_of c.args.numbering in
+    let now = entries image c.args.first c.number_term-in-App.new.numbers in
+    rw (← c.deref-whole.ensures, ← c.whole.view_is, c.in-App.is)
+    (app_done image c.args.first (entries image c.args.first c.args.numbers.now) now (entries image c.args.first c.number_term-in-App-2.new.numbers) c.in-App.fun.value c.in_ok-fun-in-App.fun.value c.in-App.arg.value c.in_ok-arg-in-App.arg.value c.in_ok-made-in-App.made.value
+    c.in_ok-made-in-App.ensures c.in_ok-fun-in-App.ensures c.in_ok-arg-in-App.ensures)

@@ -5,4 +5,4 @@ use Rattle.pure_statements.proofs.schematic.+schematic_typ.Given as goal
 
 -- what is made so far
 abbrev pub invariant-loop-arg : goal.invariant-loop-arg
-invariant-loop-arg l = l.images.items ≡ map (typ_instance schematic_typ_variable) (take l.arg-index l.arg-items)
+invariant-loop-arg l = l.images.items ≡ map (typ_instance schematic_typ_variable) (take l.arg-index l.args)
