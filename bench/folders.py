@@ -27,7 +27,7 @@ def write(folder, files):
 
 
 class Ended:
-    """How a run ended: its status, or the name of the signal that ended it, its seconds of processor time, its largest memory and stack in MB, and what it wrote."""
+    """How a run ended: its status, or the name of the signal that ended it, its seconds of processor time, its largest memory and stack in MB as last seen before it wrote, and what it wrote."""
 
     def __init__(self, code, seconds, memory, stack, text):
         self.code, self.seconds, self.memory, self.stack, self.text = code, seconds, memory, stack, text
@@ -55,12 +55,12 @@ def run(program, folder, words=(), stack=None, memory=None, timeout=None):
     source, full = full_pipe()
     running = subprocess.Popen([program, *words], cwd=folder, stdout=full, stderr=subprocess.DEVNULL, preexec_fn=limits)
     os.close(full)
-    figures = until_it_writes(running.pid)
+    stack_seen, memory_seen = until_it_writes(running.pid)
     with os.fdopen(source, "rb") as written:
         text = written.read()[FILLED:].decode(errors="replace")
     _, code, usage = os.wait4(running.pid, 0)
     running.returncode = os.waitstatus_to_exitcode(code)
-    return Ended(running.returncode, usage.ru_utime + usage.ru_stime, usage.ru_maxrss / 1024, figures / 1024, text)
+    return Ended(running.returncode, usage.ru_utime + usage.ru_stime, memory_seen / 1024, stack_seen / 1024, text)
 
 
 FILLED = 4096
@@ -75,17 +75,17 @@ def full_pipe():
 
 
 def until_it_writes(process):
-    """Waits until the process waits or ends, and answers its largest stack in KB as last seen; a main thread's stack never shrinks."""
-    stack, pause = 0, 0.0005
+    """Waits until the process waits or ends, and answers its largest stack and memory in KB as last seen; a main thread's stack never shrinks. What the system tells of a process that has ended would count the memory of the one that started it, too."""
+    figures, pause = (0, 0), 0.0005
     while True:
         with open(f"/proc/{process}/status") as status:
             lines = dict(line.split(":", 1) for line in status)
         if "VmStk" in lines:
-            stack = int(lines["VmStk"].split()[0])
+            figures = int(lines["VmStk"].split()[0]), int(lines["VmHWM"].split()[0])
         if lines["State"].split()[0] in "ZX":
-            return stack
+            return figures
         if lines["State"].split()[0] == "S" and waits_to_write(process):
-            return stack
+            return figures
         time.sleep(pause)
         pause = min(pause * 2, 0.02)
 

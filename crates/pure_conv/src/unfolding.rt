@@ -196,6 +196,16 @@ fn put(alloc: Global, rule: &Rule, t: &Arc<Term>) -> Result<Arc<Term>, Grow>
     }
 }
 
+/// The same of a term that isn't shared yet.
+fn becoming(alloc: Global, rule: &Rule, t: &Term) -> Result<Term, Grow>
+    requires { IsDefining rule.now }
+    ensures { MatchResult result (IsReplaced (puts rule.now) t.now) (IsTooLarge (puts rule.now) t.now) }
+{
+    let whole = copied(alloc, t)?;
+    let made = put(alloc, rule, &whole)?;
+    Ok(made.copy(alloc)?)
+}
+
 /// The equation of the term and what it becomes.
 fn unfolded(alloc: Global, rule: &Rule, typ: &Typ, t: &Term) -> Result<Term, Grow>
     requires { IsDefining rule.now }
@@ -204,8 +214,7 @@ fn unfolded(alloc: Global, rule: &Rule, typ: &Typ, t: &Term) -> Result<Term, Gro
     let Some(_) = leaves(alloc, rule, t, MAX_SIZE, MAX_DEPTH)? else {
         return Err(Grow::Big);
     };
-    let whole = copied(alloc, t)?;
-    let right = put(alloc, rule, &whole)?.copy(alloc)?;
+    let right = becoming(alloc, rule, t)?;
     let left = t.copy(alloc)?;
     Ok(equation(alloc, typ, left, right)?)
 }

@@ -2,3 +2,4 @@ pub mod PrefixLaws
 pub mod RuleLaws
 pub mod AttemptLaws
 pub mod OwnLongLaws
+pub mod StayLaws

@@ -1,48 +1,16 @@
 //! Tests of what `incr_indexes` asks of the theorem that it is given.
 ghost use Rattle.std.specs.Prelude.{IsTrue};
 ghost use Rattle.pure_text.specs.Lists.{Each};
-ghost use Rattle.pure_inst.specs.Renaming.{IsRaisableTyp, IsRaisable, IsPairRaisable, AreRaisable};
+ghost use Rattle.pure_inst.specs.Renaming.{IsRaisable, IsPairRaisable, AreRaisable};
 
-use pure_term::{Term, TermNode, Typ, TypNode};
+use pure_term::{Term, index_above_of};
 use pure_theorem::{Pair, Thm};
-
-/// Whether each index in the type can be raised.
-#[cycle(is_raisable_typ)]
-fn is_raisable_typ(t: &Typ, by: u32) -> bool
-    ensures { IsTrue result → IsRaisableTyp by t.now }
-{
-    match &t.node {
-        TypNode::TFree { .. } => true,
-        TypNode::TVar { index, .. } => *index <= u32::MAX - by,
-        TypNode::Con { args, .. } => are_raisable_typs(args.as_slice(), by),
-    }
-}
-
-/// Whether each index in the types can be raised.
-#[cycle(is_raisable_typ)]
-fn are_raisable_typs(types: &[Typ], by: u32) -> bool
-    ensures { IsTrue result → Each (IsRaisableTyp by) types.now }
-{
-    for typ in types {
-        if !is_raisable_typ(typ, by) {
-            return false;
-        }
-    }
-    true
-}
 
 /// Whether each index in the term and its types can be raised.
 fn is_raisable(t: &Term, by: u32) -> bool
     ensures { IsTrue result → IsRaisable by t.now }
 {
-    match &t.node {
-        TermNode::Const { typ, .. } => is_raisable_typ(typ, by),
-        TermNode::Free { typ, .. } => is_raisable_typ(typ, by),
-        TermNode::Var { index, typ, .. } => { *index <= u32::MAX - by && is_raisable_typ(typ, by) }
-        TermNode::Bound { .. } => true,
-        TermNode::Abs { typ, body, .. } => is_raisable_typ(typ, by) && is_raisable(body, by),
-        TermNode::App { fun, arg, .. } => is_raisable(fun, by) && is_raisable(arg, by),
-    }
+    index_above_of(t) <= 4294967296 - u64::from(by)
 }
 
 /// Whether each index in the terms can be raised.

@@ -83,7 +83,11 @@ fn with_constant(
                 Arc::try_clone(t)
             }
         }
-        TermNode::Abs { typ: binder, body, .. } => {
+        TermNode::Abs {
+            typ: binder,
+            body,
+            ..
+        } => {
             let binder = binder.copy(alloc)?;
             let body = with_constant(alloc, v, typ, c, body)?;
             Ok(Arc::new(alloc, Term::abs(binder, body))?)

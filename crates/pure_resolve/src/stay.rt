@@ -5,13 +5,18 @@ ghost use Rattle.pure_definitions.specs.Terms.Term as tree;
 ghost use Rattle.pure_definitions.specs.Terms.Subst.{typ_image, typ_instance, term_image};
 ghost use Rattle.pure_logic.specs.Laws.Maps.{instantiated};
 
-use pure_term::{Name, Term, TermMap, TermNode, Typ, TypMap, TypNode};
+use pure_term::{
+    Name, Term, TermMap, TermNode, Typ, TypMap, TypNode, index_above_of, index_above_of_typ,
+};
 
-/// Whether the map sets no variable of the type, which then stays as it is.
+/// Whether the map sets no variable of the type, which then stays as it is. One without schematic variables isn't walked.
 #[cycle(stays_typ)]
 fn stays_typ(typs: &TypMap, t: &Typ) -> bool
     ensures { IsTrue result → typ_instance (typ_image typs.now) t.now ≡ t.now }
 {
+    if index_above_of_typ(t) == 0 {
+        return true;
+    }
     match &t.node {
         TypNode::TFree { .. } => true,
         TypNode::TVar { name, index, sort } => typs.find(*name, *index, sort).is_none(),
@@ -39,10 +44,13 @@ fn stays_variable(typs: &TypMap, terms: &TermMap, name: Name, index: u32, typ: &
     stays_typ(typs, typ) && terms.find(name, index, typ).is_none()
 }
 
-/// Whether the maps set no variable of the term, which then stays as it is.
+/// Whether the maps set no variable of the term, which then stays as it is. A part without schematic variables isn't walked.
 pub fn stays(typs: &TypMap, terms: &TermMap, t: &Term) -> bool
     ensures { IsTrue result → instantiated typs.now terms.now t.now ≡ t.now }
 {
+    if index_above_of(t) == 0 {
+        return true;
+    }
     match &t.node {
         TermNode::Const { typ, .. } => stays_typ(typs, typ),
         TermNode::Free { typ, .. } => stays_typ(typs, typ),

@@ -3,19 +3,13 @@ ghost use Rattle.std.specs.Prelude.{IsTrue};
 ghost use Rattle.pure_definitions.specs.Terms.Bounds.{IsClosedUnder};
 ghost use Rattle.pure_definitions.specs.Terms.Conditions.{IsVariable};
 
-use pure_term::{Term, TermNode};
+use pure_term::{Term, TermNode, loose_above_of};
 
 /// Whether no bound variable is loose under so many binders.
 pub fn is_closed_under(t: &Term, binders: u32) -> bool
     ensures { IsTrue result → IsClosedUnder binders t.now }
 {
-    match &t.node {
-        TermNode::Bound { place } => *place < binders,
-        TermNode::Abs { body, .. } => binders < u32::MAX && is_closed_under(body, binders + 1),
-        TermNode::App { fun, arg, .. } => is_closed_under(fun, binders)
-            && is_closed_under(arg, binders),
-        _ => true,
-    }
+    loose_above_of(t) <= u64::from(binders)
 }
 
 /// Whether the term is a free or schematic variable.

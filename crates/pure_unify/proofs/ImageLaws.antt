@@ -5,8 +5,8 @@ use Rattle.std.proofs.lemmas.List.{append-nil, reverse-append}
 use Rattle.std.proofs.lemmas.Grind.{reverse_onto}
 use Rattle.pure_definitions.specs.Types.Typ.{Typ, Con, none, also, typ_depth, typ_eq, arrow}
 use Rattle.pure_definitions.specs.Terms.Term.{Term, Const, Free, Var, Bound, Abs, App}
-use Rattle.pure_unify_definitions.specs.Fronts.{domains, range}
-use Rattle.pure_unify_definitions.specs.Children.{imitations, projections, images, image_of}
+use Rattle.pure_unify_definitions.specs.Fronts.{domains, range, applied, bounds, function_typ}
+use Rattle.pure_unify_definitions.specs.Children.{imitations, projections, images, image_of, new_arguments}
 use Rattle.pure_unify.specs.Images.{projection}
 
 -- A type has no more arrows than it is deep.
@@ -16,6 +16,12 @@ domains-deep _ = omega arith
 
 pub domains_few : (T : Typ) (n : ℕ) → typ_depth T < n → length (domains T) < n
 domains_few T n h = let deep = domains-deep T in omega arith
+
+-- One more new argument.
+pub applied_one_more : (index name : ℕ) (Ts : List Typ) (rest domain more : Typ) (f arg next done : Term) → rest ≡ arrow domain more → arg ≡ applied (Var name index (function_typ Ts domain)) (bounds (length Ts)) → next ≡ App f arg
+    → done ≡ applied next (new_arguments index Ts (name + 1) (domains more)) → done ≡ applied f (new_arguments index Ts name (domains rest))
+applied_one_more index name Ts rest domain more f arg next done e a n h =
+    h ∙ (ap (λ (u : Term). applied u (new_arguments index Ts (name + 1) (domains more))) (n ∙ ap (App f) a) ∙ ap (λ (T : Typ). applied f (new_arguments index Ts name (domains T))) (sym e))
 
 -- One more projection, behind the later ones.
 with_projection : (b : Bool) (t : Term) (more : List Term) → reverse (if b then (t ∷ more) else more) ≡ reverse more ++ (if b then (t ∷ []) else [])

@@ -7,7 +7,9 @@ use Rattle.pure_definitions.specs.Types.Typ.{Typ}
 use Rattle.pure_definitions.specs.Terms.Term.{Term, Const, Free, Var, Bound, Abs, App, term_eq}
 use Rattle.pure_definitions.specs.Models.Equality.{term_eq-itself, term_eq-same}
 use Rattle.pure_definitions.specs.Terms.Subst.{TypBind, TermBind, term_variable, typ_image, term_image, typ_instance, inst_typ, inst_term}
+use Rattle.pure_definitions.specs.Terms.Measures.{term_index_above}
 use Rattle.pure_definitions.proofs.InstanceLemmas.{term_image-fixed}
+use Rattle.pure_term.proofs.StaysLemmas.{inst_typ_stays, inst_term_stays}
 use Rattle.pure_unify_steps.specs.declared.node.Setting.{Setting}
 use Rattle.pure_unify_steps.specs.declared.node.Setting.TheVariants.{OfTyps, OfTerm}
 use Rattle.pure_unify_steps.proofs.GatherLaws.{drop_here, drop_all}
@@ -38,6 +40,12 @@ pub later-app : (hs : List Setting) (f a : Term) → term_later hs (App f a) ≡
 later-app [] f a = refl
 later-app (OfTyps binds ∷ rest) f a = later-app rest (inst_typ (typ_image binds) f) (inst_typ (typ_image binds) a)
 later-app (OfTerm binds ∷ rest) f a = later-app rest (inst_term (term_image binds) f) (inst_term (term_image binds) a)
+
+-- A term without schematic variables stays under settings.
+pub later-stays : (hs : List Setting) (t : Term) → term_index_above t ≡ 0 → term_later hs t ≡ t
+later-stays [] t e = refl
+later-stays (OfTyps binds ∷ rest) t e = ap (term_later rest) (inst_typ_stays binds t e) ∙ later-stays rest t e
+later-stays (OfTerm binds ∷ rest) t e = ap (term_later rest) (inst_term_stays binds t e) ∙ later-stays rest t e
 
 -- A variable along the settings, as far as a loop has come: it isn't replaced yet, and so many entries are those of the settings still to come.
 pub record IsKept (hs : List Setting) (x i : ℕ) (T : Typ) (at left : ℕ) : Type 0 where

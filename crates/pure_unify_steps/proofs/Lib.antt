@@ -6,3 +6,4 @@ pub mod GatherLaws
 pub mod RetypeLaws
 pub mod LoopLaws
 pub mod DirectLaws
+pub mod StaysLaws

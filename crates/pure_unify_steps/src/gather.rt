@@ -9,7 +9,7 @@ ghost use Rattle.pure_unify_steps.specs.Held.{IsSetting};
 ghost use Rattle.pure_unify_steps.specs.Gathered.{gathered, IsSameAs, HasSame};
 
 use crate::node::Setting;
-use pure_term::{Term, TermBind, TermMap, TermNode, TypMap};
+use pure_term::{Term, TermBind, TermMap, TermNode, TypMap, index_above_of};
 use pure_theorem::{Pair, are_same};
 use pure_typ::instance_of;
 use std::alloc::{AllocError, Global};
@@ -18,6 +18,9 @@ use std::alloc::{AllocError, Global};
 fn push_variables(alloc: Global, list: &mut Vec<Term>, t: &Term) -> Result<(), AllocError>
     ensures { OnOk result (list.new.items ≡ list.old.items ++ fronts.variables t.now) }
 {
+    if index_above_of(t) == 0 {
+        return Ok(());
+    }
     match &t.node {
         TermNode::Const { .. } => Ok(()),
         TermNode::Free { .. } => Ok(()),

@@ -1,5 +1,5 @@
 //! Settings put into pairs, whose sides are brought to long form.
-ghost use Rattle.std.specs.Prelude.{◌≡◌, ◌++◌, ◌∷◌, [], IfOk, IfErr, OnOk};
+ghost use Rattle.std.specs.Prelude.{◌≡◌, ◌≤◌, ◌++◌, ◌∷◌, [], IfOk, IfErr, OnOk};
 ghost use Rattle.std.specs.Bool.{OnFalse, OnTrue};
 ghost use Rattle.pure_text.specs.Lists.{Each};
 ghost use Rattle.pure_definitions.specs.Terms.Subst.{AreTypeRespecting, typ_image, term_image, inst_typ, inst_term};
@@ -11,15 +11,40 @@ ghost use Rattle.pure_unify_nodes.specs.Long.{IsLongSide, IsLongPair};
 
 use crate::node::Setting;
 use pure_norm::NormFault;
-use pure_term::{Grow, Term, TermMap, TermNode, TypMap, inst_term, inst_typ};
+use pure_term::{
+    Grow, Term, TermBind, TermMap, TermNode, TypMap, index_above_of, inst_term, inst_typ,
+};
 use pure_theorem::Pair;
 use pure_unify_nodes::owned_long_side;
 use std::alloc::{AllocError, Global};
 
-/// Whether an entry replaces a variable of the term.
-fn is_touched(map: &TermMap, t: &Term) -> bool
+/// The index of the variable that the entry replaces.
+fn index_of(bind: &TermBind) -> u64
+    ensures { result ≡ bind.now.index }
+{
+    u64::from(bind.index)
+}
+
+/// The least index of a variable that an entry replaces. A part whose schematic variables all have lower ones stays as it is.
+fn least_index(map: &TermMap) -> u64
+    ensures { Each (λ b. result ≤ b.index) map.now }
+{
+    let binds = map.binds();
+    let mut least = u64::MAX;
+    for bind in binds {
+        least = least.min(index_of(bind));
+    }
+    least
+}
+
+/// Whether an entry replaces a variable of the term, where none replaces one of an index below `least`.
+fn is_touched(map: &TermMap, least: u64, t: &Term) -> bool
+    requires { Each (λ b. least ≤ b.index) map.now }
     ensures { OnFalse result (inst_term (term_image map.now) t.now ≡ t.now) }
 {
+    if index_above_of(t) <= least {
+        return false;
+    }
     match &t.node {
         TermNode::Const { .. } => false,
         TermNode::Free { .. } => false,
@@ -28,8 +53,10 @@ fn is_touched(map: &TermMap, t: &Term) -> bool
             None => false,
         },
         TermNode::Bound { .. } => false,
-        TermNode::Abs { body, .. } => is_touched(map, body),
-        TermNode::App { fun, arg, .. } => is_touched(map, fun) || is_touched(map, arg),
+        TermNode::Abs { body, .. } => is_touched(map, least, body),
+        TermNode::App { fun, arg, .. } => {
+            is_touched(map, least, fun) || is_touched(map, least, arg)
+        }
     }
 }
 
@@ -58,14 +85,19 @@ fn put_terms(alloc: Global, map: &TermMap, t: &Term) -> Result<Term, NormFault>
     }
 }
 
-/// Whether the side is known to stay as it is: no entry replaces a variable of it.
+/// Whether the side is known to stay as it is: no entry replaces a variable of it, or it has no schematic ones.
 fn stays(setting: &Setting, t: &Term) -> bool
     ensures { OnTrue result ((s : node.Setting) → IsSetting setting.now s → node.with_setting s t.now ≡ t.now) }
 {
     match setting {
-        Setting::OfTyps(_) => false,
+        Setting::OfTyps(_) => {
+            if index_above_of(t) > 0 {
+                return false;
+            }
+            true
+        }
         Setting::OfTerm(map) => {
-            if is_touched(map, t) {
+            if is_touched(map, least_index(map), t) {
                 return false;
             }
             true

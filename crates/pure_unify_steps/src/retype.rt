@@ -17,7 +17,7 @@ use crate::node::{Path, Setting};
 use crate::put::put_pairs;
 use pure_norm::NormFault;
 use pure_order::Order;
-use pure_term::{Typ, TypMap, TypNode};
+use pure_term::{Typ, TypMap, TypNode, index_above_of_typ};
 use pure_theorem::Pair;
 use pure_tunify::{TypFault, TypPair, unify_from};
 use std::alloc::{AllocError, Global};
@@ -30,11 +30,14 @@ pub struct Retyping {
     pub next: u32,
 }
 
-/// Whether the type has no fresh variables.
+/// Whether the type has no fresh variables. Where it has no index as high as theirs, it needs no walk.
 #[cycle(is_old)]
 fn is_old(t: &Typ, index: u32, from: u32) -> bool
     ensures { MatchBool result (HasNoFresh index from t.now) (¬ HasNoFresh index from t.now) }
 {
+    if index_above_of_typ(t) <= u64::from(index) {
+        return true;
+    }
     match &t.node {
         TypNode::TFree { .. } => true,
         TypNode::TVar {

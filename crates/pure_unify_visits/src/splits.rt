@@ -23,8 +23,9 @@ fn parted(alloc: Global, pair: Pair) -> Result<Vec<Pair>, AllocError>
     requires { HasAsMany pair }
     ensures { IfOk result (λ made. made.items ≡ argument_pairs pair.left pair.right) }
 {
+    let Pair { left, right } = pair;
     let mut made = Vec::new(alloc);
-    push_argument_pairs(alloc, &mut made, &pair.left, &pair.right)?;
+    push_argument_pairs(alloc, &mut made, &left, &right)?;
     Ok(made)
 }
 

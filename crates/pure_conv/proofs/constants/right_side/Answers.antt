@@ -7,6 +7,6 @@ use Rattle.pure_conv.proofs.constants.right_side.Goals as goal
 pub returns-clause-side : goal.returns-clause-side
 returns-clause-side c =
     let found = c.in-Some.ensures in (
-      (found.0, found.1, ap (λ (th : Theorem). th.prop) (sym c.th.view_is) ∙ found.2 ∙ ap (λ (u : Term). eq found.0 found.1 u) (sym (c.in_ok-term.ensures.ok ∙ c.in_ok-copy.ensures))),
+      (found.0, found.1, ap (λ (th : Theorem). th.prop) (sym c.th.view_is) ∙ found.2 ∙ ap (λ (u : Term). eq found.0 found.1 u) (sym c.in_ok-term.ensures)),
       c.in_ok-rests.ensures.items ∙ c.deref.ensures.value ∙ ap (λ (th : Theorem). th.rests) c.th.view_is,
     )

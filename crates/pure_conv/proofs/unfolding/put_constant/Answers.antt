@@ -9,5 +9,5 @@ pub returns-in_err-body-in-Some : goal.returns-in_err-body-in-Some
 returns-in_err-body-in-Some c =
     let once = unfolded-once c.args.rule.now.order.now c.args.rule.now.name c.args.rule.now.typ.now c.args.rule.now.body.now c.requires.defining.0 c.requires.defining.1 in
     let found = rw c.in-Some.is at c.in_ok-binds.ensures in
-    put-large (puts c.args.rule.now) once (λ u. IsReplaced (puts c.args.rule.now) c.args.t.now u.value) c.args.t.now c.args.name c.args.typ.now (inst_typ (typ_image c.in-Some.binds) c.args.rule.now.body.now) c.in_err-body-in-Some.field-0.0
+    put-large (puts c.args.rule.now) once (λ u. IsReplaced (puts c.args.rule.now) c.args.t.now.value u.value) c.args.t.now.value c.args.name c.args.typ.now (inst_typ (typ_image c.in-Some.binds) c.args.rule.now.body.now) c.in_err-body-in-Some.field-0.0
     c.from_residual-in_err-body-in-Some.result c.from_residual-in_err-body-in-Some.ensures.1 c.requires.constant found c.in_err-body-in-Some.ensures

@@ -38,7 +38,7 @@ is_instance-returns-in-TFree t c =
     rw fixed c.are_same_typs.ensures
 
 pub is_instance-returns-in-Con : goal.is_instance-returns-in-Con
-is_instance-returns-in-Con t c = rw (← c.t.view_is, c.in-Con.is, ← c.as_slice.ensures.value) c.con_is_instance.ensures
+is_instance-returns-in-Con t c = rw (← c.t.view_is, c.in-Con.is, ← c.as_slice.ensures) c.con_is_instance.ensures
 
 pub con_is_instance-returns-in-TFree : goal.con_is_instance-returns-in-TFree
 con_is_instance-returns-in-TFree t c =
@@ -50,7 +50,7 @@ con_is_instance-returns-in-TVar t c =
 
 pub con_is_instance-returns-then-eq : goal.con_is_instance-returns-then-eq
 con_is_instance-returns-then-eq t c =
-    let is : c.args.other.now ≡ Con c.in-Con.own (typs_of c.as_slice.result.now) = rw (← c.other.view_is, c.in-Con.is, c.as_slice.ensures.value) refl in
+    let is : c.args.other.now ≡ Con c.in-Con.own (typs_of c.as_slice.result.now) = rw (← c.other.view_is, c.in-Con.is, c.as_slice.ensures) refl in
     let name : c.args.name ≡ c.in-Con.own = (test_eq c.args.name c.in-Con.own c.eq.result c.eq.ensures).0 c.if-eq.true in
     let same = con-instances (typ_image c.args.typs.now) c.args.name c.in-Con.own c.args.args.now c.as_slice.result.now name in
     rw is (λ h. same.0 (c.are_instances.ensures.0 h), λ e. c.are_instances.ensures.1 (same.1 e))

@@ -29,7 +29,7 @@ all_lack_typs-returns t c = yes_as (Each (LacksTyps c.args.names.now) c.args.typ
 
 pub lacks_typs-returns-in-Con : goal.lacks_typs-returns-in-Con
 lacks_typs-returns-in-Con t c =
-    let con : c.args.t.now ≡ Con c.in-Con.name (typs_of c.as_slice.result.now) = rw (← c.t.view_is, c.in-Con.is, c.as_slice.ensures.value) refl in
+    let con : c.args.t.now ≡ Con c.in-Con.name (typs_of c.as_slice.result.now) = rw (← c.t.view_is, c.in-Con.is, c.as_slice.ensures) refl in
     let each = each_lacks c.args.names.now c.as_slice.result.now in
     (λ h. subst (LacksTyps c.args.names.now) (sym con) (each.0 (c.all_lack_typs.ensures.0 h)), λ h. c.all_lack_typs.ensures.1 (each.1 (subst (LacksTyps c.args.names.now) con h)))
 

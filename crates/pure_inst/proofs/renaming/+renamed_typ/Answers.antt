@@ -10,7 +10,7 @@ use Rattle.pure_inst.proofs.renaming.+renamed_typ.Goals as goal
 pub renamed_typ-requires : goal.renamed_typ-requires
 renamed_typ-requires t c =
     let inside = typ_depth-item c.as_slice-args.result.now c.loop-arg.arg-index c.arg-item.result c.loop-arg-test.true c.arg-item.is in
-    let con : c.args.t.now ≡ Con c.in-Con.name (typs_of c.as_slice-args.result.now) = rw (← c.t.view_is, c.in-Con.is, c.as_slice-args.ensures.value) refl in
+    let con : c.args.t.now ≡ Con c.in-Con.name (typs_of c.as_slice-args.result.now) = rw (← c.t.view_is, c.in-Con.is, c.as_slice-args.ensures) refl in
     let deep : typ_depth c.args.t.now ≡ 1 + typs_depth (typs_of c.as_slice-args.result.now) = ap typ_depth con in
     let all : AreRaisableTyps c.args.renaming.now.by (typs_of c.as_slice-args.result.now) = subst (IsRaisableTyp c.args.renaming.now.by) con c.requires in
     (omega (arith, inside, deep), raisable-item c.args.renaming.now.by c.as_slice-args.result.now c.loop-arg.arg-index c.arg-item.result all c.loop-arg-test.true c.arg-item.is)
@@ -24,4 +24,4 @@ pub returns-after-loop-arg : goal.returns-after-loop-arg
 returns-after-loop-arg t c =
     let all = take_all c.loop-arg.arg-index c.as_slice-args.result.now c.loop-arg-test.false in
     let images = rw all at c.loop-arg.invariant in
-    rw (← c.t.view_is, c.in-Con.is, ← c.as_slice-args.ensures.value, images) (ap (Con c.in-Con.name) (sym (typs_instance-of (renamed_typs c.args.renaming.now) c.as_slice-args.result.now)))
+    rw (← c.t.view_is, c.in-Con.is, ← c.as_slice-args.ensures, typs_instance-of (renamed_typs c.args.renaming.now) c.as_slice-args.result.now, ← images) c.constructed.ensures

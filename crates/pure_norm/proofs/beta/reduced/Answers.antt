@@ -12,6 +12,6 @@ returns-in_err-u c =
 pub returns : goal.returns
 returns c =
     let begins = beginning c.args.room c.args.whole.now.term.now c.requires.within in
-    rw c.into_inner.ensures
+    rw (c.in_ok-copy.ensures, c.deref.ensures)
     (walked-answer (record { steps = 10000; room = c.args.room }) c.normal_form.new.walk c.args.whole.now.term.now c.in_ok-u.u.value begins
     (rw c.in_ok-scope.ensures at c.in_ok-u.ensures.walked) c.in_ok-u.ensures.over)

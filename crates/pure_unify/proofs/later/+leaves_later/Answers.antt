@@ -1,11 +1,18 @@
 use Rattle.std.proofs.Common.{◌≡◌, refl, ap, arith}
 use Rattle.pure_definitions.specs.Terms.Term.{Const, Free, Bound, Abs, App, term_size, term_depth}
+use Rattle.pure_definitions.specs.Terms.Measures.{term_index_above}
 use Rattle.pure_definitions.specs.Terms.Subst.{typ_image}
 use Rattle.pure_definitions.proofs.TermLemmas.{term_size-some, term_depth-some}
 use Rattle.pure_definitions.proofs.GrownLemmas.{leaves-equal, leaves-abs, leaves-node, leaves-part_none}
 use Rattle.pure_unify.specs.Later.{term_later}
-use Rattle.pure_unify.proofs.LaterLaws.{is_const, is_free, is_bound, is_abs, is_app}
+use Rattle.pure_unify.proofs.LaterLaws.{is_const, is_free, is_bound, is_abs, is_app, later-stays}
 use Rattle.pure_unify.proofs.later.+leaves_later.Goals as goal
+
+pub returns-then-index_above_of-eq0 : goal.returns-then-index_above_of-eq0
+returns-then-index_above_of-eq0 t c =
+    let ground : term_index_above c.args.t.now ≡ 0 = omega arith in
+    let stays = later-stays c.args.settings.now c.args.t.now ground in
+    leaves-equal c.args.left c.args.room (term_size c.args.t.now) (term_depth c.args.t.now) _ _ c.term_leaves.result (ap term_size stays) (ap term_depth stays) c.term_leaves.ensures
 
 pub returns-then-left-eq0 : goal.returns-then-left-eq0
 returns-then-left-eq0 t c = λ h. let some = term_size-some (term_later c.args.settings.now c.args.t.now) in absurd (omega arith)

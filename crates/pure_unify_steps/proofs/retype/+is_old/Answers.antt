@@ -1,7 +1,11 @@
 use Rattle.std.proofs.Common.{arith}
 use Rattle.pure_definitions.proofs.TypsLemmas.{typ_depth-item}
 use Rattle.pure_unify_steps.proofs.LoopLaws.{none_fresh_more, some_fresh}
+use Rattle.pure_unify_steps.proofs.StaysLaws.{none_fresh_below}
 use Rattle.pure_unify_steps.proofs.retype.+is_old.Goals as goal
+
+pub is_old-returns-then-index_above_of_typ-from : goal.is_old-returns-then-index_above_of_typ-from
+is_old-returns-then-index_above_of_typ-from t c = none_fresh_below c.args.index c.args.from c.args.t.now (omega arith)
 
 pub are_old-is_old-requires : goal.are_old-is_old-requires
 are_old-is_old-requires t c =

@@ -1,0 +1,23 @@
+-- A part without schematic variables stays as it is, lifted over parameters or with its indexes raised.
+use Rattle.std.proofs.Common.{◌≡◌, ℕ, ◌+◌, List, refl, ap, arith}
+use Rattle.pure_definitions.specs.Types.Typ.{Typ}
+use Rattle.pure_definitions.specs.Terms.Term.{Term, Const, Free, Var, Bound, Abs, App}
+use Rattle.pure_definitions.specs.Terms.Subst.{typ_instance, term_instance}
+use Rattle.pure_definitions.specs.Terms.Measures.{typ_index_above, term_index_above}
+use Rattle.pure_definitions.proofs.MeasureLemmas.{typ_stays, term_stays}
+use Rattle.pure_logic.specs.Laws.Maps.{raised_typs, raised_terms}
+use Rattle.pure_goal_laws.specs.Lifting.{lifted_under}
+
+pub lifted_stays : (Ts : List Typ) (n : ℕ) (t : Term) → term_index_above t ≡ 0 → lifted_under Ts n t ≡ t
+lifted_stays Ts n (Const c T) e = refl
+lifted_stays Ts n (Free x T) e = refl
+lifted_stays Ts n (Var x i T) e = absurd (omega arith)
+lifted_stays Ts n (Bound p) e = refl
+lifted_stays Ts n (Abs T b) e = ap (Abs T) (lifted_stays Ts (n + 1) b (omega arith))
+lifted_stays Ts n (App f a) e = λ l. App (lifted_stays Ts n f (omega arith) l) (lifted_stays Ts n a (omega arith) l)
+
+pub raised_typ_stays : (by : ℕ) (T : Typ) → typ_index_above T ≡ 0 → typ_instance (raised_typs by) T ≡ T
+raised_typ_stays by T e = typ_stays (raised_typs by) (λ x s. refl) T e
+
+pub raised_stays : (by : ℕ) (t : Term) → term_index_above t ≡ 0 → term_instance (raised_typs by) (raised_terms by) t ≡ t
+raised_stays by t e = term_stays (raised_typs by) (raised_terms by) (λ x s. refl) (λ x T. refl) t e
