@@ -32,10 +32,10 @@ typ_sync : IsSync typ.the_row
 typ_sync = search (types, sort_sync, crosses, sendable) depth 20
 
 term_send : IsSend term.the_row
-term_send = search (terms, typ_send, crosses, sendable) depth 20
+term_send = search (terms, typ_send, typ_sync, crosses, sendable) depth 20
 
 term_sync : IsSync term.the_row
-term_sync = search (terms, typ_sync, crosses, sendable) depth 20
+term_sync = search (terms, typ_send, typ_sync, crosses, sendable) depth 20
 
 statement_send : IsSend statement.the_row
 statement_send = search (term_send, term_sync, crosses, sendable) depth 20

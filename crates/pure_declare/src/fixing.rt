@@ -4,7 +4,7 @@ ghost use Rattle.pure_definitions.specs.Terms.Subst.{typ_instance};
 ghost use Rattle.pure_declare.specs.Fixing.{fixed_typ_variable};
 ghost use Rattle.pure_declare.specs.Fixing as spec;
 
-use pure_term::{Term, TermNode, copied, index_above_of};
+use pure_term::{Term, TermNode, index_above_of};
 use pure_typ::{Typ, TypNode, index_above_of_typ};
 use std::alloc::{AllocError, Global};
 use std::sync::Arc;
@@ -74,10 +74,9 @@ fn fixed_part(alloc: Global, t: &Arc<Term>) -> Result<Arc<Term>, AllocError>
 }
 
 /// The term with its schematic variables and its schematic type variables fixed.
-pub(crate) fn fixed_again(alloc: Global, t: &Term) -> Result<Term, AllocError>
-    ensures { IfOk result (λ u. u ≡ spec.fixed_again t.now) }
+pub(crate) fn fixed_again(alloc: Global, t: &Arc<Term>) -> Result<Term, AllocError>
+    ensures { IfOk result (λ u. u ≡ spec.fixed_again t.now.value) }
 {
-    let t = copied(alloc, t)?;
-    let made = fixed_part(alloc, &t)?;
+    let made = fixed_part(alloc, t)?;
     made.copy(alloc)
 }

@@ -43,7 +43,7 @@ impl Duty {
     pub fn fixed(&self, alloc: Global) -> Result<Term, AllocError>
         ensures { IfOk result (λ t. t ≡ self.now.fixed) }
     {
-        fixed_again(alloc, &*self.prop)
+        fixed_again(alloc, &self.prop)
     }
 }
 

@@ -5,6 +5,7 @@ use pure_term::{Name, Sort, Term, TermNode, Typ, TypNode};
 use pure_theory::{DeclFault, Theory};
 use std::alloc::{AllocError, Global};
 use std::process::Abort;
+use std::sync::Arc;
 use std::test::Fail;
 
 /// Declarations, how many there are with Pure's own, the names of the constant and of its axiom, the body, and why the definition is refused, if it is.
@@ -58,15 +59,11 @@ fn fixed(alloc: Global) -> Term {
 /// The quantification of the term over `'a`.
 fn quantified(alloc: Global, inner: Term) -> Result<Term, AllocError> {
     let typ = Typ::arrow(alloc, predicate_typ(alloc)?, prop(alloc))?;
-    let body = Box::new(alloc, inner)?;
-    let node = TermNode::Abs {
-        typ: fixed_typ(alloc),
-        body,
-    };
-    let fun = Box::new(alloc, constant(Name::ALL, typ))?;
-    let arg = Box::new(alloc, Term { node })?;
-    let node = TermNode::App { fun, arg };
-    Ok(Term { node })
+    let body = Arc::new(alloc, inner)?;
+    let abs = Term::abs(fixed_typ(alloc), body);
+    let fun = Arc::new(alloc, constant(Name::ALL, typ))?;
+    let arg = Arc::new(alloc, abs)?;
+    Ok(Term::app(fun, arg))
 }
 
 /// The body for a letter: `f` itself, a fixed variable, a schematic one, the quantification of `f`, or that of a fixed variable.

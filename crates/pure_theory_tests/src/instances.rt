@@ -2,7 +2,7 @@
 use crate::definitions::define;
 use pure_inst::{InstFault, instantiate};
 use pure_rules::axiom;
-use pure_term::{Name, Sort, Term, TermMap, Typ, TypBind, TypMap, TypNode};
+use pure_term::{Name, Sort, Term, TermMap, Typ, TypBind, TypMap};
 use pure_test_notation::read_term;
 use pure_theorem::Thm;
 use pure_theory::{DeclFault, Theory};
@@ -82,16 +82,13 @@ fn sort(alloc: Global) -> Result<Sort, AllocError> {
 
 /// `?'a` of the class A.c, and A.i for it.
 fn bind(alloc: Global) -> Result<TypBind, AllocError> {
-    let node = TypNode::Con {
-        name: CON,
-        args: Vec::new(alloc),
-    };
+    let image = Typ::constructed(alloc, CON, Vec::new(alloc))?;
     let sort = sort(alloc)?;
     Ok(TypBind {
         name: Name(14),
         index: 0,
         sort,
-        image: Typ { node },
+        image,
     })
 }
 

@@ -10,7 +10,8 @@ ghost use Rattle.std.specs.List.Sorted.{IsStrictlyIncreasing};
 ghost use Rattle.pure_definitions.specs.Types.Typ.{prop};
 ghost use Rattle.pure_logic.specs.PureContent.{proposition_variable};
 
-use pure_term::{Name, Sort, Term, TermNode, Typ, TypNode};
+use pure_term::{Name, Sort, Term, TermNode, Typ};
+use pure_theorem::prop_typ;
 use pure_theory::{DeclFault, Stage, Theory};
 use std::alloc::{AllocError, Global};
 use std::sync::Arc;
@@ -69,11 +70,7 @@ fn arity_parts(alloc: Global, text: &[u8]) -> Result<(Vec<Sort>, Vec<Name>), All
 pub(crate) fn prop(alloc: Global) -> Typ
     ensures { result ≡ prop }
 {
-    let node = TypNode::Con {
-        name: Name::PROP,
-        args: Vec::new(alloc),
-    };
-    Typ { node }
+    prop_typ(alloc)
 }
 
 /// The statement `?A`.
