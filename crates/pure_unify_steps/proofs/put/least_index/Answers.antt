@@ -6,7 +6,7 @@ use Rattle.pure_unify_steps.proofs.StaysLaws.{least_more}
 use Rattle.pure_unify_steps.proofs.put.least_index.Goals as goal
 
 pub loop-bind-preserved : goal.loop-bind-preserved
-loop-bind-preserved c = least_more c.binds-binds.result.now c.loop-bind.bind-index c.loop-bind.least c.min.result c.bind-item.result c.loop-bind-test.true c.bind-item.is c.loop-bind.invariant (omega arith) (omega arith)
+loop-bind-preserved c = least_more c.binds-binds.result.now c.loop-bind.bind-index c.loop-bind.least c.min-least.result c.bind-item.result c.loop-bind-test.true c.bind-item.is c.loop-bind.invariant (omega arith) (omega arith)
 
 pub returns : goal.returns
 returns c =
