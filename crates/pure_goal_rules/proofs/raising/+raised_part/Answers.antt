@@ -1,5 +1,5 @@
 use Rattle.std.proofs.Common.{◌≡◌, ◌∙◌, ap, arith}
-use Rattle.pure_definitions.specs.Terms.Term.{Const, Free, Var}
+use Rattle.pure_definitions.specs.Terms.Term.{Const, Free, Var, Abs}
 use Rattle.pure_goal_rules.proofs.StayLaws.{raised_stays}
 use Rattle.pure_goal_rules.proofs.raising.+raised_part.Goals as goal
 
@@ -14,3 +14,7 @@ returns-in_ok-new-in-Free t c = rw (← c.deref-whole.ensures, ← c.whole.view_
 
 pub returns-in_ok-new-in-Var : goal.returns-in_ok-new-in-Var
 returns-in_ok-new-in-Var t c = rw (← c.deref-whole.ensures, ← c.whole.view_is, c.in-Var.is) (c.in_ok-new-in-Var.ensures.ok ∙ (λ i. Var c.in-Var.name (c.in_ok-index-in-Var.ensures i) (c.in_ok-typ-in-Var.ensures i)))
+
+pub returns-in_ok-new-in-Abs : goal.returns-in_ok-new-in-Abs
+returns-in_ok-new-in-Abs t c =
+    rw (← c.deref-whole.ensures, ← c.whole.view_is, c.in-Abs.is) (c.in_ok-new-in-Abs.ensures.ok ∙ c.abs.ensures ∙ (λ i. Abs (c.in_ok-typ-in-Abs.ensures i) (c.in_ok-body-in-Abs.ensures i)))
