@@ -6,3 +6,4 @@ pub mod Goals
 pub mod Ending
 pub mod Settled
 pub mod Uses
+pub mod Below

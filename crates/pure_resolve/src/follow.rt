@@ -20,7 +20,7 @@ use crate::close::concluded;
 use crate::open::put_premises;
 use crate::settle::{all_settled, both_settled, instance_of};
 use crate::state::Goal;
-use crate::stay::stays;
+use crate::stay::{least_set, stays};
 use pure_goal_rules::Attempt;
 use pure_goal_steps::StepFault;
 use pure_inst::Ordered;
@@ -167,7 +167,8 @@ fn with_unifier<B: Ordered>(
     let Some((_, rest)) = as_implication(&goal.prop) else {
         unreachable!();
     };
-    if stays(&unifier.typs, &unifier.terms, rest) {
+    let least = least_set(&unifier.typs, &unifier.terms);
+    if stays(&unifier.typs, &unifier.terms, least, rest) {
         return before_rest(alloc, thy, premises, rest, unifier, rests);
     }
     with_instances(alloc, thy, goal, premises, unifier, rests)

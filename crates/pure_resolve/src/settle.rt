@@ -8,11 +8,12 @@ ghost use Rattle.pure_inst.specs.Image.{IsMapAnswer};
 ghost use Rattle.pure_inst.specs.Instance.{GivesInstance, RefusesInstance};
 ghost use Rattle.pure_theorem.specs.Shapes.{IsTyped};
 ghost use Rattle.pure_unify_definitions.specs.LongSides.{Long, ComesTo};
+ghost use Rattle.pure_resolve.specs.Below.{IsBelowSet};
 ghost use Rattle.pure_resolve.specs.Goals.{IsLongSubgoal};
 ghost use Rattle.pure_resolve.specs.Settled.{IsInstanceAnswer, IsComeAnswer, IsComeBehind};
 
 use crate::begin::long_given;
-use crate::stay::stays;
+use crate::stay::{least_set, stays};
 use pure_goal_steps::StepFault;
 use pure_inst::{InstFault, Ordered, instantiate};
 use pure_term::{Term, TermMap, TypMap, is_within};
@@ -89,7 +90,7 @@ fn settled<B: Ordered>(
     requires { IsTyped t }
     ensures { IsLongSubgoal (instantiated typs.now terms.now t) result }
 {
-    if stays(typs, terms, &t) {
+    if stays(typs, terms, least_set(typs, terms), &t) {
         return long_given(alloc, t);
     }
     match instance_of(alloc, thy, typs, terms, t) {
@@ -129,11 +130,12 @@ pub fn all_settled<B: Ordered>(
 }
 
 /// Whether the maps leave the term, which is in long form, as it is, so that it is the long form of its instance.
-fn is_kept(typs: &TypMap, terms: &TermMap, t: &Term) -> bool
-    requires { IsLongForm t.now t.now }
+fn is_kept(typs: &TypMap, terms: &TermMap, least: u64, t: &Term) -> bool
+    requires below { IsBelowSet typs.now terms.now least }
+    requires long { IsLongForm t.now t.now }
     ensures { IsTrue result → ComesTo (instantiated typs.now terms.now t.now) (Long t.now) }
 {
-    if !stays(typs, terms, t) {
+    if !stays(typs, terms, least, t) {
         return false;
     }
     is_within(t)
@@ -145,12 +147,14 @@ fn kept_or_settled<B: Ordered>(
     thy: &B,
     typs: &TypMap,
     terms: &TermMap,
+    least: u64,
     t: Term,
 ) -> Result<Term, StepFault>
-    requires { IsLongForm t t }
+    requires below { IsBelowSet typs.now terms.now least }
+    requires long { IsLongForm t t }
     ensures { IsLongSubgoal (instantiated typs.now terms.now t) result }
 {
-    if is_kept(typs, terms, &t) {
+    if is_kept(typs, terms, least, &t) {
         return Ok(t);
     }
     settled(alloc, thy, typs, terms, t)
@@ -169,9 +173,10 @@ fn others_settled<B: Ordered>(
     ensures long { IfOk result (λ made. IsComeBehind (instantiated typs.now terms.now) front.items others.items (Ok made.items)) }
     ensures fault { IfErr result (λ fault. IsComeBehind (instantiated typs.now terms.now) front.items others.items (Err fault)) }
 {
+    let least = least_set(typs, terms);
     let mut made = front;
     for other in others {
-        match kept_or_settled(alloc, thy, typs, terms, other) {
+        match kept_or_settled(alloc, thy, typs, terms, least, other) {
             Ok(long) => put(&mut made, long)?,
             Err(fault) => return Err(fault),
         }

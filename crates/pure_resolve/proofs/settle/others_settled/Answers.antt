@@ -8,8 +8,8 @@ use Rattle.pure_resolve.proofs.settle.others_settled.Goals as goal
 pub loop-other-init : goal.loop-other-init
 loop-other-init g c = others_none (λ A. IsLongForm A A) (instantiated c.args.typs.now c.args.terms.now) c.args.front.items c.args.others.items (into_iter_items c.into_iter-other-iterator.result) c.into_iter-other-iterator.ensures.into_iter_gives.0 c.requires
 
-pub kept_or_settled-requires : goal.kept_or_settled-requires
-kept_or_settled-requires g c = next_with (λ A. IsLongForm A A) (instantiated c.args.typs.now c.args.terms.now) c.args.front.items c.args.others.items (into_iter_items c.loop-other.other-iterator) (into_iter_items c.next.new.self) c.loop-other.made.items c.in-Some.other c.in-Some.ensures.steps.0 c.loop-other.invariant
+pub kept_or_settled-requires-clause-long : goal.kept_or_settled-requires-clause-long
+kept_or_settled-requires-clause-long g c = next_with (λ A. IsLongForm A A) (instantiated c.args.typs.now c.args.terms.now) c.args.front.items c.args.others.items (into_iter_items c.loop-other.other-iterator) (into_iter_items c.next.new.self) c.loop-other.made.items c.in-Some.other c.in-Some.ensures.steps.0 c.loop-other.invariant
 
 pub loop-other-preserved : goal.loop-other-preserved
 loop-other-preserved g c =

@@ -3,11 +3,11 @@ use Rattle.pure_definitions.specs.Types.Typ.{Typ}
 use Rattle.pure_definitions.specs.Terms.Term.{Const, Free, Abs}
 use Rattle.pure_definitions.specs.Terms.Subst.{term_image}
 use Rattle.pure_definitions.proofs.InstanceLemmas.{term_image-fixed}
-use Rattle.pure_resolve.proofs.StayLaws.{instantiated_stays}
+use Rattle.pure_resolve.proofs.StayLaws.{low_term_stays}
 use Rattle.pure_resolve.proofs.stay.+stays.Goals as goal
 
-pub returns-then-index_above_of-eq0 : goal.returns-then-index_above_of-eq0
-returns-then-index_above_of-eq0 t c = λ _. instantiated_stays c.args.typs.now c.args.terms.now c.args.t.now (omega arith)
+pub returns-then-index_above_of-least : goal.returns-then-index_above_of-least
+returns-then-index_above_of-least t c = λ _. low_term_stays c.args.typs.now c.args.terms.now c.args.least c.requires c.args.t.now (omega arith)
 
 pub returns-in-Const : goal.returns-in-Const
 returns-in-Const t c = λ h. rw (← c.t.view_is, c.in-Const.is) (ap (Const c.in-Const.name) (c.stays_typ.ensures h))

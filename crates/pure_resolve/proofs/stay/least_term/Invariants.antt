@@ -1,0 +1,7 @@
+use Rattle.std.proofs.Common.{◌≤◌, take}
+use Rattle.pure_text.specs.Lists.{Each}
+use Rattle.pure_definitions.specs.Terms.Subst.{TermBind}
+use Rattle.pure_resolve.proofs.stay.least_term.Given as goal
+
+abbrev pub invariant-loop-bind : goal.invariant-loop-bind
+invariant-loop-bind l = Each (λ (b : TermBind). l.least ≤ b.index) (take l.bind-index l.binds)
