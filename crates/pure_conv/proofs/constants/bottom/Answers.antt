@@ -16,5 +16,5 @@ returns-in-Ok-clause-derivable g c q derivable certified =
     answered-derivable (IsDerivable Q) Answers c.args.t.now c.concluded.result (converted-derivable Q q Answers c.requires.equations derivable c.args.t.now certified)
     (concluded Answers c.args.t.now c.in-Ok.made.term.value c.in-Ok.made.rests.items c.concluded.result (rw c.in_ok-whole.ensures at c.in-Ok.ensures.becomes) c.concluded.ensures)
 
-pub returns-in-Err-clause-answer : goal.returns-in-Err-clause-answer
-returns-in-Err-clause-answer g c = inl (rw c.in_ok-whole.ensures at c.in-Err.ensures)
+pub returns-clause-answer : goal.returns-clause-answer
+returns-clause-answer g c = inl (rw c.in_ok-whole.ensures at c.in-Err.ensures.becomes)
