@@ -23,7 +23,11 @@ pub(crate) fn can_put(place: u32, arg: &Term, body: &Term) -> bool
     match &body.node {
         TermNode::Bound { place: bound } => *bound != place || can_lift(arg, place, 0),
         TermNode::Abs { body, .. } => place < u32::MAX && can_put(place + 1, arg, body),
-        TermNode::App { fun, arg: inner, .. } => can_put(place, arg, fun) && can_put(place, arg, inner),
+        TermNode::App {
+            fun,
+            arg: inner,
+            ..
+        } => can_put(place, arg, fun) && can_put(place, arg, inner),
         _ => true,
     }
 }
