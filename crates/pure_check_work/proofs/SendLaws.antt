@@ -24,6 +24,7 @@ use Rattle.pure_table.specs.TheoryRun.contracts.closed.Closed as closed
 use Rattle.pure_table.specs.TheoryRun.contracts.run.Run as run
 use Rattle.pure_table.specs.TheoryRun.contracts.checker.Checker as checker
 use Rattle.pure_check_work.specs.contracts.checking.Checking as checking
+use Rattle.pure_check_work.specs.contracts.attempt.Attempt as attempt
 
 typ_send : IsSend typ.the_row
 typ_send = search (types, sort_send, crosses, sendable) depth 20
@@ -108,3 +109,9 @@ checking_send = search (checker_send, crosses, sendable) depth 60
 
 pub checking_sync : IsSync checking.the_row
 checking_sync = search (checker_sync, crosses, sendable) depth 60
+
+pub attempt_send : IsSend attempt.the_row
+attempt_send = search (thm_send, crosses, sendable) depth 60
+
+pub attempt_sync : IsSync attempt.the_row
+attempt_sync = search (thm_sync, crosses, sendable) depth 60

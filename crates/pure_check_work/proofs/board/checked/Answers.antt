@@ -1,7 +1,7 @@
 use Rattle.std.proofs.Common.{subst, sym}
 use denote.Param.Send.{sendable}
 use Rattle.std.proofs.Crossing.{crosses}
-use Rattle.pure_check_work.proofs.SendLaws.{checking_send, checking_sync, duty_send, duty_sync, closed_send, closed_sync, outcome_send, outcome_sync, run_send, run_sync}
+use Rattle.pure_check_work.proofs.SendLaws.{checking_send, checking_sync, duty_send, duty_sync, closed_send, closed_sync, outcome_send, outcome_sync, run_send, run_sync, attempt_send, attempt_sync}
 use Rattle.pure_machine.specs.Step.{IsShape}
 use Rattle.pure_check_work.proofs.RunLaws.{shape-formed}
 use Rattle.pure_check_work.proofs.BoardLaws.{board-of}
@@ -42,3 +42,9 @@ execute-requires-sync-W-Outcome g c = search (outcome_sync, crosses, sendable) d
 
 pub execute-requires-sync-W-Run : goal.execute-requires-sync-W-Run
 execute-requires-sync-W-Run g c = search (run_sync, crosses, sendable) depth 60
+
+pub execute-requires-send-W-Proving : goal.execute-requires-send-W-Proving
+execute-requires-send-W-Proving g c = search (attempt_send, crosses, sendable) depth 60
+
+pub execute-requires-sync-W-Proving : goal.execute-requires-sync-W-Proving
+execute-requires-sync-W-Proving g c = search (attempt_sync, crosses, sendable) depth 60

@@ -1,7 +1,7 @@
 use Rattle.std.proofs.Common.{ap}
 use denote.Param.Send.{sendable}
 use Rattle.std.proofs.Crossing.{crosses}
-use Rattle.pure_check_work.proofs.SendLaws.{checking_send, checking_sync, duty_send, duty_sync, closed_send, closed_sync, outcome_send, outcome_sync, run_send, run_sync}
+use Rattle.pure_check_work.proofs.SendLaws.{checking_send, checking_sync, duty_send, duty_sync, closed_send, closed_sync, outcome_send, outcome_sync, run_send, run_sync, attempt_send, attempt_sync}
 use Rattle.pure_table.specs.Declare.Notes.{Fork}
 use Rattle.pure_table.specs.Method.declared.outcome.Outcome.{Outcome}
 use Rattle.pure_table.specs.TheoryRun.Outline.{Outline}
@@ -105,3 +105,21 @@ join_core-requires-sync-W-Outcome c = search (outcome_sync, crosses, sendable) d
 
 pub join_core-requires-sync-W-Run : goal.join_core-requires-sync-W-Run
 join_core-requires-sync-W-Run c = search (run_sync, crosses, sendable) depth 60
+
+pub known-requires-send-W-Proving : goal.known-requires-send-W-Proving
+known-requires-send-W-Proving c = search (attempt_send, crosses, sendable) depth 60
+
+pub known-requires-sync-W-Proving : goal.known-requires-sync-W-Proving
+known-requires-sync-W-Proving c = search (attempt_sync, crosses, sendable) depth 60
+
+pub core-requires-send-W-Proving : goal.core-requires-send-W-Proving
+core-requires-send-W-Proving c = search (attempt_send, crosses, sendable) depth 60
+
+pub core-requires-sync-W-Proving : goal.core-requires-sync-W-Proving
+core-requires-sync-W-Proving c = search (attempt_sync, crosses, sendable) depth 60
+
+pub join_core-requires-send-W-Proving : goal.join_core-requires-send-W-Proving
+join_core-requires-send-W-Proving c = search (attempt_send, crosses, sendable) depth 60
+
+pub join_core-requires-sync-W-Proving : goal.join_core-requires-sync-W-Proving
+join_core-requires-sync-W-Proving c = search (attempt_sync, crosses, sendable) depth 60
