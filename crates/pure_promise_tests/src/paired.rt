@@ -48,12 +48,31 @@ fn is_proposition(theory: &Theory, t: &Term) -> bool
     }
 }
 
-/// The theorem with a pair more in front.
-fn with_pair(alloc: Global, pair: Pair, th: &Thm) -> Result<Thm, AllocError>
-    ensures { IfOk result (λ new. new ≡ record th.now { pairs = pair ∷ th.now.pairs }) }
+/// Whether it is a proposition of the theory that the sides of the pair are equal. What it ensures is there for `under`.
+fn is_equation(alloc: Global, theory: &Theory, pair: &Pair) -> Result<bool, AllocError>
+    ensures { IfOk result (λ yes. IsTrue yes → IsProposition theory.now (eq prop pair.now.left pair.now.right)) }
 {
+    let equation = sides_equal(alloc, pair)?;
+    let yes = is_proposition(theory, &equation);
+    Ok(yes)
+}
+
+/// An equal pair.
+fn copied_pair(alloc: Global, pair: &Pair) -> Result<Pair, AllocError>
+    ensures { IfOk result (λ same. same ≡ pair.now) }
+{
+    let left = pair.left.copy(alloc)?;
+    let right = pair.right.copy(alloc)?;
+    Ok(Pair { left, right })
+}
+
+/// The theorem with a pair more in front.
+fn with_pair(alloc: Global, pair: &Pair, th: &Thm) -> Result<Thm, AllocError>
+    ensures { IfOk result (λ new. new ≡ record th.now { pairs = pair.now ∷ th.now.pairs }) }
+{
+    let first = copied_pair(alloc, pair)?;
     let mut pairs = Vec::new(alloc);
-    pairs.push(pair)?;
+    pairs.push(first)?;
     extend_pairs(alloc, &mut pairs, &th.pairs)?;
     let hyps = copied_terms(alloc, &th.hyps)?;
     let prop = th.prop.copy(alloc)?;
@@ -67,12 +86,11 @@ fn with_pair(alloc: Global, pair: Pair, th: &Thm) -> Result<Thm, AllocError>
 }
 
 /// The theorem under the pair.
-fn under(alloc: Global, theory: &Theory, pair: Pair, th: &Thm) -> Result<Thm, Fail>
+fn under(alloc: Global, theory: &Theory, pair: &Pair, th: &Thm) -> Result<Thm, Fail>
     requires { IsDerivable theory.now th.now }
     ensures { IfOk result (IsDerivable theory.now) }
 {
-    let equation = sides_equal(alloc, &pair)?;
-    if !is_proposition(theory, &equation) {
+    if !is_equation(alloc, theory, pair)? {
         return Err("no equation of propositions".into());
     }
     if !is_proposition(theory, &pair.left) {
@@ -86,5 +104,6 @@ pub(crate) fn paired(alloc: Global, theory: &Theory, th: &Thm) -> Result<Thm, Fa
     requires { IsDerivable theory.now th.now }
     ensures { IfOk result (IsDerivable theory.now) }
 {
-    under(alloc, theory, flexible(alloc), th)
+    let pair = flexible(alloc);
+    under(alloc, theory, &pair, th)
 }
