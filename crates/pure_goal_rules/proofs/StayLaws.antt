@@ -1,5 +1,5 @@
 -- A part without schematic variables stays as it is, lifted over parameters or with its indexes raised.
-use Rattle.std.proofs.Common.{◌≡◌, ℕ, ◌+◌, List, refl, ap, arith}
+use Rattle.std.proofs.Common.{◌≡◌, ℕ, ◌+◌, List, [], ◌∷◌, length, refl, ap, arith}
 use Rattle.pure_definitions.specs.Types.Typ.{Typ}
 use Rattle.pure_definitions.specs.Terms.Term.{Term, Const, Free, Var, Bound, Abs, App}
 use Rattle.pure_definitions.specs.Terms.Subst.{typ_instance, term_instance}
@@ -21,3 +21,16 @@ raised_typ_stays by T e = typ_stays (raised_typs by) (λ x s. refl) T e
 
 pub raised_stays : (by : ℕ) (t : Term) → term_index_above t ≡ 0 → term_instance (raised_typs by) (raised_terms by) t ≡ t
 raised_stays by t e = term_stays (raised_typs by) (raised_terms by) (λ x s. refl) (λ x T. refl) t e
+
+-- Over no parameters a term is lifted to itself.
+lifted-over-none : (n : ℕ) (t : Term) → lifted_under [] n t ≡ t
+lifted-over-none n (Const c T) = refl
+lifted-over-none n (Free x T) = refl
+lifted-over-none n (Var x i T) = refl
+lifted-over-none n (Bound k) = refl
+lifted-over-none n (Abs T b) = ap (Abs T) (lifted-over-none (n + 1) b)
+lifted-over-none n (App f a) = λ i. App (lifted-over-none n f i) (lifted-over-none n a i)
+
+pub lifted_nowhere : (Ts : List Typ) (t : Term) → length Ts ≡ 0 → lifted_under Ts 0 t ≡ t
+lifted_nowhere [] t e = lifted-over-none 0 t
+lifted_nowhere (T ∷ Ts) t e = absurd (omega arith)

@@ -108,6 +108,9 @@ fn lifted_under(
 pub fn lifted(alloc: Global, items: &[Item], t: &Term) -> Result<Term, AllocError>
     ensures { IfOk result (λ u. u ≡ lifting.lifted_behind (shown items.now) t.now) }
 {
+    if count_parameters(items)? == 0 {
+        return t.copy(alloc);
+    }
     let whole = copied(alloc, t)?;
     let lifted = lifted_under(alloc, items, 0, &whole)?;
     lifted.copy(alloc)
