@@ -190,6 +190,30 @@ fn imp_constant(alloc: Global) -> Result<Term, AllocError>
     Ok(constant(Name::IMP, typ))
 }
 
+/// The constant of implication, to be shared.
+pub fn implication_constant(alloc: Global) -> Result<Arc<Term>, AllocError>
+    ensures { IfOk result (λ t. t.value ≡ tree.Const imp_name imp_typ) }
+{
+    let connective = imp_constant(alloc)?;
+    Ok(Arc::new(alloc, connective)?)
+}
+
+/// `A ==> B`, by this constant of implication.
+pub fn implication_by(
+    alloc: Global,
+    connective: &Arc<Term>,
+    premise: Term,
+    conclusion: Term,
+) -> Result<Term, AllocError>
+    requires { connective.now.value ≡ tree.Const imp_name imp_typ }
+    ensures { IfOk result (λ t. t ≡ imp premise conclusion) }
+{
+    let premise = Arc::new(alloc, premise)?;
+    let function = Arc::new(alloc, Term::app(Arc::try_clone(connective)?, premise))?;
+    let conclusion = Arc::new(alloc, conclusion)?;
+    Ok(Term::app(function, conclusion))
+}
+
 /// `A ==> B`
 pub fn implication(alloc: Global, premise: Term, conclusion: Term) -> Result<Term, AllocError>
     ensures { IfOk result (λ t. t ≡ imp premise conclusion) }

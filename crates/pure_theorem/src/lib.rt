@@ -18,7 +18,7 @@ pub use base::Base;
 pub use built::{Built, built_term};
 pub use connective::{
     all_of, application, as_all, as_application, as_equation, as_implication, equation,
-    implication, is_prop, prop_typ,
+    implication, implication_by, implication_constant, is_prop, prop_typ,
 };
 pub use fault::RuleFault;
 pub use fresh::{first_pair_with, first_with};
