@@ -138,6 +138,7 @@ fn leaves(
 }
 
 /// The abstraction over a variable of the type.
+#[inline(never)]
 fn abstraction(alloc: Global, typ: &Typ, body: Arc<Term>) -> Result<Arc<Term>, AllocError>
     ensures { IfOk result (λ u. u.value ≡ tree.Abs typ.now body.value) }
 {
@@ -146,6 +147,7 @@ fn abstraction(alloc: Global, typ: &Typ, body: Arc<Term>) -> Result<Arc<Term>, A
 }
 
 /// The application of the function to the argument.
+#[inline(never)]
 fn applied(alloc: Global, fun: Arc<Term>, arg: Arc<Term>) -> Result<Arc<Term>, AllocError>
     ensures { IfOk result (λ u. u.value ≡ tree.App fun.value arg.value) }
 {
@@ -153,6 +155,7 @@ fn applied(alloc: Global, fun: Arc<Term>, arg: Arc<Term>) -> Result<Arc<Term>, A
 }
 
 /// What stands for the constant.
+#[inline(never)]
 fn put_constant(
     alloc: Global,
     rule: &Rule,

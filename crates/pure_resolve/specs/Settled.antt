@@ -1,5 +1,5 @@
 -- Terms under a unifier: their instances, and these in long form.
-use Rattle.std.specs.Prelude.{◌≡◌, List, ◌∷◌, ◌++◌, map, Result, Ok, Err}
+use Rattle.std.specs.Prelude.{◌≡◌, ℕ, List, ◌∷◌, ◌++◌, map, length, Result, Ok, Err}
 use Rattle.pure_text.specs.Lists.{Each}
 use Rattle.pure_definitions.specs.Terms.Term.{Term, IsWithin}
 use Rattle.pure_definitions.specs.Terms.Subst.{TypBind, TermBind, AreTypeRespecting}
@@ -54,12 +54,31 @@ pub record HasFirst (goal : Theorem) : Type 0 where
   pub stand : state.subgoals ≡ first ∷ others
   pub long : Each (λ A. IsLongForm A A) others
 
--- The state's subgoals are the instances of the new ones by the unifier, and before the statement others in long form, which are the rest of a goal; its pairs are those that the unifier left.
-pub record IsBefore (u : Unifier) (premises : List Term) (rest : Term) (made : State) : Type 0 where
+-- Behind so many of a goal's subgoals the maps leave the goal as it is: no variable that they set is in those that are left, nor in the statement.
+pub record StaysBehind (typs : List TypBind) (terms : List TermBind) (count : ℕ) (As : List Term) (C : Term) : Type 0 where
+  pub front : List Term
   pub others : List Term
-  pub subgoals : made.subgoals ≡ map (instantiated u.typs u.terms) premises ++ others
+  pub stand : As ≡ front ++ others
+  pub counted : count ≡ length front
+  pub stays : instantiated typs terms (chain others (protect C)) ≡ chain others (protect C)
+
+-- The rest of a goal has at least so many subgoals, and each of these is in long form.
+pub record HasLongFront (rest : Term) (count : ℕ) : Type 0 where
+  pub front : List Term
+  pub others : List Term
+  pub statement : Term
+  pub stand : rest ≡ chain (front ++ others) (protect statement)
+  pub counted : count ≡ length front
+  pub long : Each (λ A. IsLongForm A A) front
+
+-- The rest of a goal has so many subgoals in front of others. The state's subgoals are the instances by the unifier of the new ones and of those in front, and then the others as they stand, in long form; its pairs are those that the unifier left.
+pub record IsBefore (u : Unifier) (premises : List Term) (rest : Term) (count : ℕ) (made : State) : Type 0 where
+  pub front : List Term
+  pub others : List Term
+  pub subgoals : made.subgoals ≡ map (instantiated u.typs u.terms) (premises ++ front) ++ others
   pub long : Each (λ A. IsLongForm A A) others
-  pub stand : rest ≡ chain others (protect made.statement)
+  pub stand : rest ≡ chain (front ++ others) (protect made.statement)
+  pub counted : count ≡ length front
   pub pairs : made.pairs ≡ u.flexflex.items
 
 -- The attempt may be made on the goal: what is unified is typed, and so are the new subgoals.

@@ -9,15 +9,19 @@ use crate::limits::is_small;
 use crate::state::Goal;
 use pure_goal_steps::StepFault;
 use pure_term::{Label, Term};
-use pure_theorem::{Pair, Thm, implication};
+use pure_theorem::{Pair, Thm, implication_by, implication_constant};
 use std::alloc::{AllocError, Global};
 
 /// The premises, in order, before the conclusion.
 fn chained(alloc: Global, mut premises: Vec<Term>, mut conclusion: Term) -> Result<Term, AllocError>
     ensures { IfOk result (λ t. t ≡ chain premises.items conclusion) }
 {
+    if premises.is_empty() {
+        return Ok(conclusion);
+    }
+    let connective = implication_constant(alloc)?;
     while let Some(premise) = premises.pop() {
-        conclusion = implication(alloc, premise, conclusion)?;
+        conclusion = implication_by(alloc, &connective, premise, conclusion)?;
     }
     Ok(conclusion)
 }

@@ -14,13 +14,13 @@ ghost use Rattle.pure_goal_steps.specs.Follows as follows;
 ghost use Rattle.pure_goal_rules.specs.Attempts.{seen_attempt};
 ghost use Rattle.pure_resolve.specs.Goals.{IsConcluded, IsOutcome};
 ghost use Rattle.pure_resolve.specs.Settled as settling;
-ghost use Rattle.pure_resolve.specs.Settled.{HasFirst, MayAttempt, IsBefore};
+ghost use Rattle.pure_resolve.specs.Settled.{HasFirst, HasLongFront, MayAttempt, IsBefore};
 
 use crate::close::concluded;
-use crate::open::put_premises;
-use crate::settle::{all_settled, both_settled, instance_of};
+use crate::open::{put_first, put_premises};
+use crate::settle::{both_settled, instance_of};
 use crate::state::Goal;
-use crate::stay::{least_set, stays};
+use crate::stay::{count_set, least_set};
 use pure_goal_rules::Attempt;
 use pure_goal_steps::StepFault;
 use pure_inst::Ordered;
@@ -129,27 +129,31 @@ fn with_rest(
     concluded(alloc, subgoals, rest, flexflex, rests)
 }
 
-/// The goal with the new subgoals, and the unifier put into them, before the rest of the old goal as it stands.
+/// The goal with the new subgoals and so many of the rest, the unifier put into them, before what is left of the old goal as it stands.
 fn before_rest<B: Ordered>(
     alloc: Global,
     thy: &B,
     premises: Vec<Term>,
     rest: &Term,
+    count: usize,
     unifier: Unifier,
     rests: Vec<Label>,
 ) -> Result<Goal, StepFault>
     requires typed { Each IsTyped premises.items }
+    requires front { HasLongFront rest.now count }
     requires left { Each IsLeftOver unifier.flexflex.items }
     requires set { IsLabelSet rests.items }
-    ensures { (made : State) → IsBefore unifier premises.items rest.now made → IsOutcome (follows.Becomes made) (λ all. all ≡ rests.items) result }
+    ensures { (made : State) → IsBefore unifier premises.items rest.now count made → IsOutcome (follows.Becomes made) (λ all. all ≡ rests.items) result }
 {
-    match all_settled(alloc, thy, &unifier.typs, &unifier.terms, premises) {
-        Ok(subgoals) => with_rest(alloc, unifier, subgoals, rest, rests),
+    let mut front = Vec::new(alloc);
+    let tail = put_first(alloc, rest, count, &mut front)?;
+    match both_settled(alloc, thy, &unifier.typs, &unifier.terms, premises, front) {
+        Ok(subgoals) => with_rest(alloc, unifier, subgoals, tail, rests),
         Err(fault) => Err(fault),
     }
 }
 
-/// The goal with the new subgoals in place of the first, and the unifier put into all. What it leaves as it is behind the first subgoal is in long form and stays as it stands.
+/// The goal with the new subgoals in place of the first, and the unifier put into all. Behind the last subgoal in which it sets a variable the old goal is in long form and stays as it stands.
 fn with_unifier<B: Ordered>(
     alloc: Global,
     thy: &B,
@@ -168,10 +172,10 @@ fn with_unifier<B: Ordered>(
         unreachable!();
     };
     let least = least_set(&unifier.typs, &unifier.terms);
-    if stays(&unifier.typs, &unifier.terms, least, rest) {
-        return before_rest(alloc, thy, premises, rest, unifier, rests);
+    match count_set(&unifier.typs, &unifier.terms, least, rest) {
+        Some(count) => before_rest(alloc, thy, premises, rest, count, unifier, rests),
+        None => with_instances(alloc, thy, goal, premises, unifier, rests),
     }
-    with_instances(alloc, thy, goal, premises, unifier, rests)
 }
 
 /// What follows from the attempt on the goal.

@@ -1,5 +1,5 @@
 //! A goal's proposition taken apart: its subgoals, and the marked statement.
-ghost use Rattle.std.specs.Prelude.{◌≡◌, ◌∷◌, ◌++◌, List, IfOk};
+ghost use Rattle.std.specs.Prelude.{◌≡◌, ◌∷◌, ◌++◌, List, length, IfOk};
 ghost use Rattle.pure_definitions.specs.Terms.Term as tree;
 ghost use Rattle.pure_logic.specs.Connectives.{imp, chain, protect};
 
@@ -24,6 +24,25 @@ pub fn put_premises(alloc: Global, t: &Term, premises: &mut Vec<Term>) -> Result
     };
     premises.push(premise.copy(alloc)?)?;
     put_premises(alloc, rest, premises)
+}
+
+/// Puts so many premises behind those of the list, and gives what is behind them.
+pub fn put_first<'t>(
+    alloc: Global,
+    t: &'t Term,
+    count: usize,
+    premises: &mut Vec<Term>,
+) -> Result<&'t Term, AllocError>
+    ensures { (front others : List tree.Term) → (C : tree.Term) → t.now ≡ chain (front ++ others) (protect C) → count ≡ length front → IfOk result (λ rest. (premises.new.items ≡ premises.old.items ++ front) × (rest.now ≡ chain others (protect C))) }
+{
+    if count == 0 {
+        return Ok(t);
+    }
+    let Some((premise, rest)) = as_implication(t) else {
+        return Ok(t);
+    };
+    premises.push(premise.copy(alloc)?)?;
+    put_first(alloc, rest, count - 1, premises)
 }
 
 /// The subgoals and the marked statement of a goal's proposition.

@@ -108,7 +108,7 @@ fn put(list: &mut Vec<Term>, t: Term) -> Result<(), AllocError>
 }
 
 /// The instances of the subgoals by the unifier's maps, each in long form, in order.
-pub fn all_settled<B: Ordered>(
+fn all_settled<B: Ordered>(
     alloc: Global,
     thy: &B,
     typs: &TypMap,

@@ -1,16 +1,19 @@
 //! Terms that the maps of a unifier leave as they are.
-ghost use Rattle.std.specs.Prelude.{◌≡◌, ◌≤◌, IsTrue};
+ghost use Rattle.std.specs.Prelude.{◌≡◌, ◌≤◌, List, IsTrue, IfSome, MatchOption};
 ghost use Rattle.pure_text.specs.Lists.{Each};
 ghost use Rattle.pure_definitions.specs.Terms.Term as tree;
 ghost use Rattle.pure_definitions.specs.Terms.Subst.{typ_image, typ_instance, term_image};
 ghost use Rattle.pure_definitions.specs.Terms.Subst as maps;
+ghost use Rattle.pure_logic.specs.Connectives.{chain, protect};
 ghost use Rattle.pure_logic.specs.Laws.Maps.{instantiated};
 ghost use Rattle.pure_resolve.specs.Below.{IsBelowSet};
+ghost use Rattle.pure_resolve.specs.Settled.{StaysBehind};
 
 use pure_term::{
     Name, Term, TermBind, TermMap, TermNode, Typ, TypBind, TypMap, TypNode, index_above_of,
     index_above_of_typ,
 };
+use pure_theorem::as_implication;
 
 /// A number that is at most the index of each variable that the map sets.
 fn least_typ(binds: &[TypBind]) -> u64
@@ -108,4 +111,33 @@ pub fn stays(typs: &TypMap, terms: &TermMap, least: u64, t: &Term) -> bool
             stays(typs, terms, least, fun) && stays(typs, terms, least, arg)
         }
     }
+}
+
+/// No premise, where nothing behind them is set.
+fn count_of(stays: bool) -> Option<usize>
+    ensures { MatchOption result (Unit {0}) (λ n. IsTrue stays × (n ≡ 0)) }
+{
+    if stays { Some(0) } else { None }
+}
+
+/// The count of the premises before a mark up to the last in which a variable is set; none where one is behind the mark.
+pub fn count_set(typs: &TypMap, terms: &TermMap, least: u64, t: &Term) -> Option<usize>
+    requires { IsBelowSet typs.now terms.now least }
+    ensures { (As : List tree.Term) → (C : tree.Term) → t.now ≡ chain As (protect C) → IfSome result (λ n. StaysBehind typs.now terms.now n As C) }
+{
+    if index_above_of(t) <= least {
+        return Some(0);
+    }
+    let Some((premise, rest)) = as_implication(t) else {
+        return count_of(stays(typs, terms, least, t));
+    };
+    let Some(behind) = count_set(typs, terms, least, rest) else {
+        return None;
+    };
+    if behind == 0 {
+        if stays(typs, terms, least, premise) {
+            return Some(0);
+        }
+    }
+    behind.checked_add(1)
 }

@@ -21,6 +21,7 @@ pub struct Resolved {
 }
 
 /// The type as it stands, in a room for so many nodes on paths of so many; none exactly where it doesn't fit.
+#[inline(never)]
 fn put_in(alloc: Global, t: &Typ, left: u32, room: u32) -> Result<Option<Resolved>, AllocError>
     ensures { IfOk result (IsPutIn t.now left room) }
 {

@@ -131,6 +131,7 @@ impl Settings {
     }
 
     /// The type itself, or what stands for it where it is a variable that is set: no variable that is set.
+    #[inline(never)]
     pub fn head<'t>(&'t self, t: &'t Typ) -> Result<&'t Typ, AllocError>
         ensures same { IfOk result (λ h. typ_instance (composed self.now.sets) h.now ≡ typ_instance (composed self.now.sets) t.now) }
         ensures free { IfOk result (λ h. IsTypVariable h.now → ¬ IsIn h.now (map typ_variable self.now.sets)) }
