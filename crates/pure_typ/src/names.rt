@@ -115,11 +115,11 @@ impl Names {
     fn find_joined(&self, a: &[u8], b: &[u8], c: &[u8]) -> Option<Name>
         ensures { IsFound (name_texts self.now) (a.now ++ (b.now ++ c.now)) result }
     {
-        if let Some(index) = find_text(&self.texts, a, b, c) {
-            return Some(Name(index as u32 + BUILTIN_COUNT));
+        if let Some(number) = find_builtin(a, b, c) {
+            return Some(Name(number));
         }
-        match find_builtin(a, b, c) {
-            Some(number) => Some(Name(number)),
+        match find_text(&self.texts, a, b, c) {
+            Some(index) => Some(Name(index as u32 + BUILTIN_COUNT)),
             None => None,
         }
     }
