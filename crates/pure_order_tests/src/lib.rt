@@ -1,9 +1,0 @@
-//! The calls on orders against answers that were written by hand.
-#![tactic(auto)]
-
-#[cfg(test)]
-mod calls;
-#[cfg(test)]
-mod counts;
-#[cfg(test)]
-mod notation;

@@ -1,9 +1,0 @@
-//! The calls on terms against answers that were written by hand.
-#![tactic(auto)]
-
-#[cfg(test)]
-mod asked;
-#[cfg(test)]
-mod bases;
-#[cfg(test)]
-mod calls;
