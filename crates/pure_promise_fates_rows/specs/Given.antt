@@ -2,7 +2,7 @@
 use Rattle.std.specs.Prelude.{ℕ, zero, suc, List}
 use Rattle.pure_definitions.specs.Names.{Label}
 use Rattle.pure_promise_fates.specs.Entries.{Own, Shown, Fault, Cancelled, Entry}
-use Rattle.pure_promise_fates_tests.specs.declared.lemma.Lemma.{Lemma}
+use Rattle.pure_promise_fates_rows.specs.declared.lemma.Lemma.{Lemma}
 
 -- what became of a lemma, by a number: 0 for one that is shown, 1 for a fault
 abbrev pub own_of : ℕ → List Label → Own

@@ -4,7 +4,7 @@ ghost use Rattle.std.specs.declared.cmp.Ordering.TheVariants.{Less};
 ghost use Rattle.pure_text.specs.Lists.{IsIn, Each};
 ghost use Rattle.pure_theorem.specs.Sets.{label_cmp};
 ghost use Rattle.pure_promise_fates.specs.Entries.{Entry, AreEntries};
-ghost use Rattle.pure_promise_fates_tests.specs.Given.{seen_lemma};
+ghost use Rattle.pure_promise_fates_rows.specs.Given.{seen_lemma};
 
 use crate::lemma::Lemma;
 use pure_typ::Label;

@@ -1,6 +1,6 @@
-use Rattle.pure_promise_fates_tests.specs.Given.{seen_lemma}
-use Rattle.pure_promise_fates_tests.proofs.OrderLemmas.{no_entries, one_turn, shown_rests}
-use Rattle.pure_promise_fates_tests.proofs.order.are_in_order.Goals as goal
+use Rattle.pure_promise_fates_rows.specs.Given.{seen_lemma}
+use Rattle.pure_promise_fates_rows.proofs.OrderLemmas.{no_entries, one_turn, shown_rests}
+use Rattle.pure_promise_fates_rows.proofs.order.are_in_order.Goals as goal
 
 pub loop-place-init : goal.loop-place-init
 loop-place-init c = no_entries

@@ -13,7 +13,7 @@ use Rattle.pure_promise_fates.specs.Entries.{Own, Shown, Fault, Cancelled, Entry
 use Rattle.pure_promise_fates.proofs.LabelSets.{snoc_is_set}
 use Rattle.pure_promise_fates.proofs.FateLaws.{shown-fault, shown-cancelled}
 use Rattle.pure_promise_fates.proofs.ProvedLaws.{in_mapped}
-use Rattle.pure_promise_fates_tests.specs.Given.{own_of}
+use Rattle.pure_promise_fates_rows.specs.Given.{own_of}
 
 pub no_entries : AreEntries []
 no_entries = record { ascend = no_labels; earlier = tt }

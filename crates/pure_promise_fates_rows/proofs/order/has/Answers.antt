@@ -2,9 +2,9 @@ use Rattle.std.proofs.Common.{subst, map}
 use Rattle.pure_text.specs.Lists.{IsIn}
 use Rattle.pure_text.proofs.ListLaws.{read_in, in-map}
 use Rattle.pure_promise_fates.specs.Entries.{Entry}
-use Rattle.pure_promise_fates_tests.specs.Given.{seen_lemma}
-use Rattle.pure_promise_fates_tests.proofs.OrderLemmas.{label_told}
-use Rattle.pure_promise_fates_tests.proofs.order.has.Goals as goal
+use Rattle.pure_promise_fates_rows.specs.Given.{seen_lemma}
+use Rattle.pure_promise_fates_rows.proofs.OrderLemmas.{label_told}
+use Rattle.pure_promise_fates_rows.proofs.order.has.Goals as goal
 
 pub returns-then-eq : goal.returns-then-eq
 returns-then-eq c = λ yes_found.

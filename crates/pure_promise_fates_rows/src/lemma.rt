@@ -11,7 +11,7 @@ pub(crate) struct Lemma {
 }
 
 impl Reported for Lemma {
-    ghost use Rattle.pure_promise_fates_tests.specs.Given.{seen_lemma};
+    ghost use Rattle.pure_promise_fates_rows.specs.Given.{seen_lemma};
 
     ghost entry = { seen_lemma };
 
