@@ -1,14 +1,15 @@
 //! Two workers of which each runs a proof while the other does: a gate holds the first proofs until that is seen.
-use crate::cases::add_theories;
-use crate::policies::RESTING;
-use crate::world::{Answer, World, add_line, empty_world, expect, run_through};
-use pure_check::Status;
-use pure_io::Gate;
+use crate::files::files_of;
+use crate::texts::text_of;
+use crate::wanted::{Wanted, Written, is_shown};
+use crate::words::status_named;
+use crate::world::{World, run};
+use pure_io::{File, Gate};
+use pure_rows::{Fault, Row};
 use std::alloc::{AllocError, Global};
-use std::process::Abort;
+use std::rt::Files;
 use std::sync::Wait;
 use std::sync::atomic::{AtomicU64, Ordering};
-use std::test::Fail;
 use std::thread::{Threads, yield_now};
 
 /// How often a call that holds a proof looks before it gives up.
@@ -133,35 +134,45 @@ impl Gate for HoldingGate {
     }
 }
 
-/// What is written of the theory.
-const WRITTEN: &[u8] = b"failed A.bad: step 1: no hypothesis
-tainted A.u: by A.bad
-tainted A.v: by A.bad
-proved A.ok: ?A ==> ?A
-total: 1 theories, 0 declared, 0 refused, 1 proved, 1 failed, 2 tainted, 0 cancelled, 0 unsettled
-";
-
-/// Makes the world one with this theory, which two workers check.
-fn fill(alloc: Global, world: &mut World) -> Result<(), AllocError> {
-    add_line(alloc, world, b"check -j 2")?;
-    add_theories(alloc, world, RESTING)
-}
-
-/// Looks at the answer and at the gate.
-fn look<R: Abort>(rt: &R, got: &Answer, gate: &HoldingGate) {
-    expect(rt, got, Status::Rows, WRITTEN);
-    assert!(rt;
-        gate.was_passed(),
-        "two proofs never ran at once, or a call of the gate was wanting"
-    );
-}
-
-#[test]
-fn runs_two_proofs_at_once(rt: HostRuntime) -> Result<(), Fail> {
+/// Whether a run on these files, with the words of the line, answers what is wanted, and passes the gate.
+fn passes<R: Files + Print + AllocGlobal + Threads + Wait + Sync>(
+    rt: &R,
+    alloc: Global,
+    files: &[File],
+    line: &[u8],
+    wanted: Wanted,
+) -> Result<bool, AllocError> {
     let gate = HoldingGate::make();
-    let mut world = empty_world(rt.alloc());
-    fill(rt.alloc(), &mut world)?;
-    let answer = run_through(&rt, rt.alloc(), world, &gate)?;
-    look(&rt, &answer, &gate);
-    Ok(())
+    let got = run(rt, alloc, World::of_files(files), line, &gate)?;
+    Ok(is_shown(rt, wanted, &got) && gate.was_passed())
+}
+
+/// Whether the files of these fields are checked so.
+fn holds_files<R: Files + Print + AllocGlobal + Threads + Wait + Sync>(
+    rt: &R,
+    alloc: Global,
+    fields: &[Vec<u8>],
+    line: &[u8],
+    wanted: Wanted,
+) -> Result<bool, Fault> {
+    let files = files_of(alloc, fields)?;
+    Ok(passes(rt, alloc, &files, line, wanted)?)
+}
+
+/// Whether the row `holds WORDS STATUS TEXT NAME TEXT ..` holds.
+pub(crate) fn holds<R: Files + Print + AllocGlobal + Threads + Wait + Sync>(
+    rt: &R,
+    alloc: Global,
+    row: &Row,
+) -> Result<bool, Fault> {
+    let [_, line, status, text, ..] = row.fields_from(0) else {
+        return Err(Fault::Unreadable);
+    };
+    let status = status_named(status)?;
+    let text = text_of(alloc, text)?;
+    let wanted = Wanted {
+        status,
+        written: Written::Whole(&text),
+    };
+    holds_files(rt, alloc, row.fields_from(4), line, wanted)
 }
