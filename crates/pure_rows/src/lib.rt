@@ -17,7 +17,7 @@ mod tally;
 pub use fault::Fault;
 pub use glossary::{Glossary, read_glossary};
 pub use outcome::Outcome;
-pub use row::{Row, number_of, read_row};
+pub use row::{Row, named, number_of, read_row};
 pub use run::{Subject, hold_rows, read_file, run_rows};
 pub use short::text_of;
 pub use tally::Tally;

@@ -2,6 +2,7 @@
 ghost use Rattle.std.specs.Prelude.{◌≡◌, [], length, get_or, drop, map, IfOk, MatchOption, option_map};
 ghost use Rattle.pure_rows.specs.Fields.{IsRow, IsNoRow};
 ghost use Rattle.pure_rows.specs.Escapes.{fields_of};
+ghost use Rattle.pure_rows.specs.Names.{meant_by};
 ghost use Rattle.pure_rows.specs.Numbers as spec;
 
 use crate::escapes::unescaped;
@@ -98,4 +99,16 @@ pub fn read_row(alloc: Global, line: &[u8]) -> Result<Option<Row>, AllocError>
         Some(fields) => Ok(Some(Row { fields })),
         None => Ok(None),
     }
+}
+
+/// What the word stands for in the table of names, or none where it is no name there.
+pub fn named<T: Copy>(names: &[(&[u8], T)], word: &[u8]) -> Option<T>
+    ensures { result ≡ meant_by (map (λ entry. (entry.0.now, entry.1)) names.now) word.now }
+{
+    for (name, meant) in names {
+        if *name == word {
+            return Some(*meant);
+        }
+    }
+    None
 }

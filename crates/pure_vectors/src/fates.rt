@@ -1,14 +1,10 @@
 //! A session whose lemmas may be cancelled, and its table for each choice of those that are.
-use crate::cases::table_of;
+//!
+//! A session has a line for each row of its table: the name of a lemma, the row that it has where it rests on nothing that failed or was cancelled, and the lemmas that its proof cites, with `|` between them. A row that no policy changes has neither a name nor lemmas.
+use crate::marks::{is_blank, is_line_feed};
+use crate::tables::table_of;
+use crate::texts::part;
 use std::alloc::{AllocError, Global};
-
-/// A session: its theories, each of which begins a line, how many they are, and a line for each row of its table. A line is the name of a lemma, the row that it has where it rests on nothing that failed or was cancelled, and the lemmas that its proof cites, with `|` between them. A row that no policy changes has neither a name nor lemmas.
-#[derive(Drop)]
-pub(crate) struct Session {
-    pub(crate) theories: &'static [u8],
-    pub(crate) count: usize,
-    pub(crate) lines: &'static [u8],
-}
 
 /// A set of places of lines, each below 64.
 #[derive(Clone, Copy, Debug, PartialEq, Eq)]
@@ -48,16 +44,6 @@ impl Places {
     }
 }
 
-/// The part of a line with the place.
-fn part(line: &[u8], wanted: usize) -> &[u8] {
-    for (place, part) in line.split(|byte| *byte == b'|').enumerate() {
-        if place == wanted {
-            return part;
-        }
-    }
-    b""
-}
-
 /// The name of the lemma that has the line, or nothing.
 pub(crate) fn name_of(line: &[u8]) -> &[u8] {
     part(line, 0)
@@ -79,13 +65,13 @@ pub(crate) fn is_fault(line: &[u8]) -> bool {
 /// The place of the line of the lemma with the name.
 pub(crate) fn place_of(lines: &[u8], name: &[u8]) -> Option<usize> {
     lines
-        .split(|byte| *byte == b'\n')
+        .split(is_line_feed)
         .position(|line| name_of(line) == name)
 }
 
 /// The line with the place.
 fn line_at(lines: &[u8], wanted: usize) -> &[u8] {
-    for (place, line) in lines.split(|byte| *byte == b'\n').enumerate() {
+    for (place, line) in lines.split(is_line_feed).enumerate() {
         if place == wanted {
             return line;
         }
@@ -96,7 +82,7 @@ fn line_at(lines: &[u8], wanted: usize) -> &[u8] {
 /// The lemmas that the rows print as cancelled.
 pub(crate) fn cancelled_in(lines: &[u8], rows: &[u8]) -> Places {
     let mut cancelled = Places::none();
-    for row in rows.split(|byte| *byte == b'\n') {
+    for row in rows.split(is_line_feed) {
         let name = row.strip_prefix(b"cancelled ");
         if let Some(place) = name.and_then(|name| place_of(lines, name)) {
             cancelled = cancelled.with(place);
@@ -119,7 +105,7 @@ fn reached_by(lines: &[u8], cancelled: Places, reached: &[Places], cited: usize)
 /// The failed and cancelled lemmas that the line's proof reaches, by what those of the lines before it reach.
 fn reach(lines: &[u8], cancelled: Places, reached: &[Places], line: &[u8]) -> Places {
     let mut places = Places::none();
-    for name in cited_in(line).split(|byte| *byte == b' ') {
+    for name in cited_in(line).split(is_blank) {
         if let Some(cited) = place_of(lines, name) {
             places = places.joined(reached_by(lines, cancelled, reached, cited));
         }
@@ -135,7 +121,7 @@ fn push_blame(
     reached: Places,
 ) -> Result<(), AllocError> {
     let mut between: &[u8] = b": by ";
-    for (place, line) in lines.split(|byte| *byte == b'\n').enumerate() {
+    for (place, line) in lines.split(is_line_feed).enumerate() {
         if reached.has(place) && !cancelled.has(place) {
             text.extend_from_slice(between)?;
             text.extend_from_slice(name_of(line))?;
@@ -196,7 +182,7 @@ fn push_rows(
     lines: &[u8],
     cancelled: Places,
 ) -> Result<(), AllocError> {
-    for (place, line) in lines.split(|byte| *byte == b'\n').enumerate() {
+    for (place, line) in lines.split(is_line_feed).enumerate() {
         if place > 0 {
             text.push(b'\n')?;
         }

@@ -1,5 +1,0 @@
-use Rattle.std.proofs.Common.{length}
-use Rattle.pure_core_tests.proofs.shape.+is_shape_from.Given as goal
-
-abbrev pub decreases-is_shape_from : goal.decreases-is_shape_from
-decreases-is_shape_from l = length l.shape.now

@@ -1,0 +1,70 @@
+//! Boards that are opened, run by the pool, and closed.
+ghost use Rattle.std.specs.Prelude.{◌≡◌, ◌<◌, ◌-◌, ◌^◌, vec_len, IfOk};
+ghost use Rattle.pure_text.specs.Lists.{Each};
+ghost use Rattle.pure_machine.specs.Policy.{Opening};
+ghost use Rattle.pure_machine.specs.Step.{IsShape};
+ghost use Rattle.pure_board.specs.Boards.{AreAll};
+ghost use Rattle.pure_plays.specs.Seen.{BeginAlike};
+
+use pure_board::{Board, Closed, Opened, Seat};
+use pure_core::{Node, Policy, Work};
+use pure_io::Gate;
+use pure_trials::{Session, shape_of};
+use std::alloc::{AllocError, Global};
+use std::sync::Wait;
+use std::thread::Threads;
+
+/// Closes a board, to which all its seats are given back: of what two of them saw the longer begins with the shorter.
+pub(crate) fn close<W: Work>(board: Board<W>, seats: Vec<Seat<W>>) -> Closed<W>
+    requires board { Each (λ s. s.plan ≡ board) seats.items }
+    requires opened { (o : Opening) × (0 < o.workers) × Each (λ s. s.opening ≡ o) seats.items × AreAll o.workers seats.items }
+    ensures session { result.session ≡ board.session }
+    ensures seen { BeginAlike seats.items }
+{
+    board.close(seats)
+}
+
+/// The work, run by so many workers of the pool on a board that is opened so and closed at the end.
+///
+/// # Errors
+///
+/// Want of memory at the opening.
+pub fn run_closed<R: Threads + Wait + Sync, W: Work, G: Gate>(
+    rt: &R,
+    alloc: Global,
+    work: &W,
+    shape: Vec<Node>,
+    policy: Policy,
+    workers: u32,
+    gate: &G,
+) -> Result<Closed<W>, AllocError>
+    requires session { shape.items ≡ W.shape work.now }
+    requires formed { IsShape shape.items }
+    requires few { vec_len shape < 2 ^ 32 - 1 }
+    requires some { 0 < workers }
+    ensures { IfOk result (λ closed. closed.session ≡ work.now) }
+{
+    let Opened { board, mut seats } = Board::open(alloc, work, shape, policy, workers)?;
+    pure_pool::run(rt, alloc, &board, work, gate, seats.as_mut_slice());
+    Ok(close(board, seats))
+}
+
+/// The session, run so.
+///
+/// # Errors
+///
+/// Want of memory at the opening, and a session that is none.
+pub fn run_session<R: Threads + Wait + Sync, G: Gate>(
+    rt: &R,
+    alloc: Global,
+    session: &Session,
+    policy: Policy,
+    workers: u32,
+    gate: &G,
+) -> Result<Closed<Session>, AllocError>
+    requires some { 0 < workers }
+    ensures { IfOk result (λ closed. closed.session ≡ session.now) }
+{
+    let shape = shape_of(alloc, session)?;
+    run_closed(rt, alloc, session, shape, policy, workers, gate)
+}

@@ -1,0 +1,12 @@
+//! Plays on boards: calls at their seats in threads, and runs of the pool, with gates that see whether proofs run at once.
+#![tactic(auto)]
+
+mod boards;
+mod gates;
+mod hands;
+mod plays;
+
+pub use boards::{run_closed, run_session};
+pub use gates::Meeting;
+pub use hands::{Answer, Call, Hand, Reply, make};
+pub use plays::{Played, Turn, play_closed};
