@@ -7,7 +7,7 @@ use Rattle.pure_definitions.specs.Types.Typ.{Typ}
 use Rattle.pure_definitions.specs.Types.Order.{Class, Arity, Algebra}
 use Rattle.pure_definitions.specs.Declarations.Decl.{Decl, ClassDecl, ConDecl, ArityDecl, ConstDecl, classes_of, arities_of, algebra_of}
 use Rattle.pure_certify.specs.Tables.{IsParams, IsConstOf, IsUnknownConst}
-use Rattle.pure_certify_tests.specs.Lists.{class_decls, arity_decls, named_decls, decls}
+use Rattle.pure_sorts_rows.specs.Lists.{class_decls, arity_decls, named_decls, decls}
 
 -- The classes and arities are those of the algebra.
 classes-of_cons : (name : ℕ) (ns : List ℕ) (ds : List Decl) → classes_of (named_decls ConDecl name ns ds) ≡ classes_of ds

@@ -1,7 +1,9 @@
-//! Tables for the tests.
+//! Tables that rows declare.
 use pure_certify::Tables;
 use pure_order::Order;
 use pure_typ::{Name, Typ};
+use std::alloc::Global;
+use std::mem;
 
 /// Classes and arities; and for each name below a bound how many arguments the constructor takes, and the type of the constant.
 #[derive(Drop)]
@@ -11,8 +13,24 @@ pub(crate) struct Listed {
     pub(crate) consts: Vec<Typ>,
 }
 
+impl Listed {
+    /// Tables that declare nothing.
+    pub(crate) fn empty(alloc: Global) -> Listed {
+        Listed {
+            order: Order::empty(alloc),
+            cons: Vec::new(alloc),
+            consts: Vec::new(alloc),
+        }
+    }
+
+    /// Puts another order in. The one before isn't let go: that would be proved of all its tables once more.
+    pub(crate) fn put_order(&mut self, order: Order) {
+        mem::forget(mem::replace(&mut self.order, order));
+    }
+}
+
 impl Tables for Listed {
-    ghost use Rattle.pure_certify_tests.specs.Lists.{decls};
+    ghost use Rattle.pure_sorts_rows.specs.Lists.{decls};
 
     ghost declarations = { λ l. decls l.order l.cons.items l.consts.items };
 
