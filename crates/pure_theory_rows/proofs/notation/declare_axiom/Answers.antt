@@ -2,7 +2,7 @@ use Rattle.pure_definitions.specs.Types.Typ.{prop}
 use Rattle.pure_logic.specs.PureContent.{pure_content, proposition_variable}
 use Rattle.pure_logic.proofs.AboveLaws.{certified_of-above}
 use Rattle.pure_logic.proofs.ChainLaws.{variable_is_proposition}
-use Rattle.pure_theory_tests.proofs.notation.declare_axiom.Goals as goal
+use Rattle.pure_theory_rows.proofs.notation.declare_axiom.Goals as goal
 
 pub declare_axiom-requires : goal.declare_axiom-requires
 declare_axiom-requires c =

@@ -1,0 +1,67 @@
+//! Definitions of constants.
+use crate::declarations::{declared, is_answered};
+use crate::kept::{Kept, last};
+use crate::notation::{answer_of, given, name_of, number};
+use crate::stop::Stop;
+use pure_notation::{NotationFault, read_term};
+use pure_rows::{Outcome, Row};
+use pure_term::{Name, Term};
+use pure_theory::{CertFault, Theory};
+use std::alloc::Global;
+
+/// The term of the notation.
+pub(crate) fn term_of(alloc: Global, text: &[u8]) -> Result<Term, Stop> {
+    match read_term(alloc, text) {
+        Ok(term) => Ok(term),
+        Err(NotationFault::Memory) => Err(Stop::Memory),
+        Err(_) => Err(Stop::Unreadable),
+    }
+}
+
+/// The theory with the definition; the body has to be certified.
+pub(crate) fn define(
+    theory: &Theory,
+    constant: Name,
+    fact: Name,
+    body: &Term,
+) -> Result<Theory, Stop> {
+    match theory.certify(body) {
+        Ok(typ) => theory
+            .declare_definition(constant, fact, &typ, body)
+            .map_err(Stop::of),
+        Err(CertFault::Memory) => Err(Stop::Memory),
+        Err(_) => Err(Stop::Unreadable),
+    }
+}
+
+/// The theory with the definition of the written body.
+pub(crate) fn defined(
+    alloc: Global,
+    theory: &Theory,
+    constant: Name,
+    fact: Name,
+    body: &[u8],
+) -> Result<Theory, Stop> {
+    let body = term_of(alloc, body)?;
+    define(theory, constant, fact, &body)
+}
+
+/// Whether the theory has the constant and an axiom of the other name.
+fn has_both(theory: &Theory, constant: Name, fact: Name) -> bool {
+    theory.const_typ(constant).is_some() && theory.axiom_prop(fact).is_some()
+}
+
+/// `define`: declarations, how many they are, a constant, its axiom, its body, and the answer.
+pub(crate) fn define_row(alloc: Global, kept: &mut Kept, row: &Row) -> Result<Outcome, Stop> {
+    let count = number(row, 2)?;
+    let constant = name_of(row.field(3))?;
+    let fact = name_of(row.field(4))?;
+    let wanted = answer_of(row.field(6))?;
+    let stages = &mut kept.stages;
+    declared(alloc, stages, given(row, 1))?;
+    let made = defined(alloc, last(stages)?, constant, fact, row.field(5));
+    let counts = (count, count.saturating_add(2));
+    let answered = is_answered(alloc, stages, made, wanted, counts)?;
+    let there = wanted.is_some() || has_both(last(stages)?, constant, fact);
+    Ok(Outcome::of(answered && there))
+}
