@@ -19,4 +19,5 @@ pub mod ProcedureLaws
 pub mod Answers
 pub mod Passes
 pub mod Laws
+pub mod Graphs
 pub mod Examples
