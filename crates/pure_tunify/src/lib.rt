@@ -19,6 +19,7 @@ mod reached;
 mod resolve;
 mod settings;
 mod solve;
+mod sorted;
 mod stored;
 mod turn;
 mod unifier;
