@@ -40,3 +40,4 @@ pub mod SortLaws
 pub mod DeclaredLaws
 pub mod ClosedLaws
 pub mod CertifiedLaws
+pub mod GraphUnifier
