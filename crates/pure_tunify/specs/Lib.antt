@@ -20,4 +20,5 @@ pub mod Answers
 pub mod Passes
 pub mod Laws
 pub mod Graphs
+pub mod GraphCode
 pub mod Examples
