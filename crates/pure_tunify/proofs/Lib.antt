@@ -44,3 +44,4 @@ pub mod DeclaredLaws
 pub mod ClosedLaws
 pub mod CertifiedLaws
 pub mod GraphUnifier
+pub mod GraphSettings

@@ -24,6 +24,7 @@ mod reached;
 mod resolve;
 mod settings;
 mod solve;
+mod sorted;
 mod stored;
 mod turn;
 mod unifiable;
