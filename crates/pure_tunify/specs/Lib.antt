@@ -13,7 +13,6 @@ pub mod Working
 pub mod NarrowingStep
 pub mod Measures
 pub mod Meeting
-pub mod LargeTypes
 pub mod Reached
 pub mod ProcedureLaws
 pub mod Answers

@@ -1,0 +1,150 @@
+-- Classes of nodes that have one value: what the steps that make them keep.
+use Rattle.std.proofs.Common.{◌≡◌, ◌≢◌, ℕ, zero, suc, ◌+◌, ◌<◌, ◌≤◌, List, [], ◌∷◌, ◌++◌, map, length, get_or, Option, Some, None, inl, inr, refl, ap, sym, subst, ◌∙◌, arith, Bool, true, false}
+use Rattle.std.specs.Prelude.{slice_get, MatchBool}
+use Rattle.std.proofs.lemmas.Option.{slice_get-map}
+use Rattle.pure_text.specs.Lists.{IsIn, Each, EachTwo}
+use Rattle.pure_text.proofs.ListLaws.{each-append, each-left, each-right, each_read, two_long, two_read, any_of, each_of}
+use Rattle.pure_definitions.specs.Types.Typ.{Typ, TFree, TVar, Con, Typs, none, also, typs_of}
+use Rattle.pure_definitions.specs.Types.Order.{Algebra, HasClassBelow, IsClassBelow, IsOfClass, AreOfSorts, IsOfSort}
+use Rattle.pure_order.proofs.DomainLaws.{are_of_sorts}
+use Rattle.pure_tunify.specs.Graphs.{Part, fixed, variable, made, Fits, FitsAll}
+use Rattle.pure_tunify.specs.declared.graph.Node.{Node}
+use Rattle.pure_tunify.specs.declared.classes.Couple.{Couple}
+use Rattle.pure_tunify.specs.declared.classes.Classes.{Classes}
+use Rattle.pure_tunify.specs.declared.demands.Demand.{Demand}
+use Rattle.pure_tunify.specs.GraphCode.{part_of, KeepsValues, AreCoupled, IsKept, AreNodesMet, AreJoined, AreClosed, AreDemanded, IsDemanding, IsAsking, AreNeverMet}
+
+typs_same : (ts us : List Typ) → typs_of ts ≡ typs_of us → ts ≡ us
+typs_same [] [] e = refl
+typs_same [] (u ∷ us) e = absurd (cc)
+typs_same (t ∷ ts) [] e = absurd (cc)
+typs_same (t ∷ ts) (u ∷ us) e = λ l. first_of t u (typs_of ts) (typs_of us) e l ∷ typs_same ts us (rest_of t u (typs_of ts) (typs_of us) e) l
+  where
+    first_of : (t u : Typ) (ts us : Typs) → also t ts ≡ also u us → t ≡ u
+    first_of t u ts us e = cc
+
+    rest_of : (t u : Typ) (ts us : Typs) → also t ts ≡ also u us → ts ≡ us
+    rest_of t u ts us e = cc
+
+con_name : (k l : ℕ) (ts us : Typs) → Con k ts ≡ Con l us → k ≡ l
+con_name k l ts us e = cc
+
+con_args : (k l : ℕ) (ts us : Typs) → Con k ts ≡ Con l us → ts ≡ us
+con_args k l ts us e = cc
+
+map-long : (v : ℕ → Typ) (js : List ℕ) → length (map v js) ≡ length js
+map-long v [] = refl
+map-long v (j ∷ js) = ap suc (map-long v js)
+
+map_read : (v : ℕ → Typ) (js ks : List ℕ) (i j k : ℕ) → map v js ≡ map v ks → i < length js → j ≡ get_or js i j → k ≡ get_or ks i k → v j ≡ v k
+map_read v [] ks i j k e less rj rk = absurd (omega arith)
+map_read v (x ∷ js) [] i j k e less rj rk = absurd (cc)
+map_read v (x ∷ js) (y ∷ ks) zero j k e less rj rk = ap v rj ∙ (heads ∙ sym (ap v rk))
+  where
+    heads : v x ≡ v y
+    heads = cc
+map_read v (x ∷ js) (y ∷ ks) (suc i) j k e less rj rk = map_read v js ks i j k tails (omega arith) rj rk
+  where
+    tails : map v js ≡ map v ks
+    tails = cc
+
+-- Couples that are put behind others, and taken from behind.
+pub coupled_more : (v : ℕ → Typ) (old new : List Couple) (c : Couple) → new ≡ old ++ c ∷ [] → AreCoupled v old → v c.left ≡ v c.right → AreCoupled v new
+coupled_more v old new c e each same = subst (AreCoupled v) (sym e) (each-append (λ (d : Couple). v d.left ≡ v d.right) old (c ∷ []) each (same, tt))
+
+pub coupled_left : (v : ℕ → Typ) (old new : List Couple) (c : Couple) → old ≡ new ++ c ∷ [] → AreCoupled v old → AreCoupled v new × (v c.left ≡ v c.right)
+coupled_left v old new c e each =
+    let all = subst (AreCoupled v) e each in
+    (each-left (λ (d : Couple). v d.left ≡ v d.right) new (c ∷ []) all, (each-right (λ (d : Couple). v d.left ≡ v d.right) new (c ∷ []) all).0)
+
+pub coupled_turn : (v : ℕ → Typ) (lefts rights : List ℕ) (i l r : ℕ) (old new : List Couple) (c : Couple) → i < length lefts → l ≡ get_or lefts i l → r ≡ get_or rights i r → c.left ≡ l → c.right ≡ r → new ≡ old ++ c ∷ []
+    → map v lefts ≡ map v rights → AreCoupled v old → AreCoupled v new
+coupled_turn v lefts rights i l r old new c less rl rr cl cr e same each = coupled_more v old new c e each (ap v cl ∙ (map_read v lefts rights i l r same less rl rr ∙ sym (ap v cr)))
+
+-- Two nodes that have one value: their heads are the same, and their arguments have one value each.
+module _ (old new : List Couple) where
+  pub made_apart : (k l : ℕ) (ks ls : List ℕ) → (k ≡ l → ⊥) → AreNodesMet (made k ks) (made l ls) old new false
+  made_apart k l ks ls apart A v t f g each = apart (con_name k l _ _ (sym f ∙ g))
+
+  pub made_longer : (k l : ℕ) (ks ls : List ℕ) → (length ks ≡ length ls → ⊥) → AreNodesMet (made k ks) (made l ls) old new false
+  made_longer k l ks ls apart A v t f g each =
+      apart (sym (map-long v ks) ∙ (ap length (typs_same (map v ks) (map v ls) (con_args k l _ _ (sym f ∙ g))) ∙ map-long v ls))
+
+  pub made_met : (k l : ℕ) (ks ls : List ℕ) → ((v : ℕ → Typ) → AreCoupled v old → map v ks ≡ map v ls → AreCoupled v new) → AreNodesMet (made k ks) (made l ls) old new true
+  made_met k l ks ls more A v t f g each = more v each (typs_same (map v ks) (map v ls) (con_args k l _ _ (sym f ∙ g)))
+
+  pub fixed_met : (x y : ℕ) (s r : List ℕ) (same : Bool) → new ≡ old → (same ≡ false → (x ≡ y) × (s ≡ r) → ⊥) → AreNodesMet (fixed x s) (fixed y r) old new same
+  fixed_met x y s r true e apart A v t f g each = subst (AreCoupled v) (sym e) each
+  fixed_met x y s r false e apart A v t f g each = apart refl (names, sorts)
+    where
+      both : TFree x s ≡ TFree y r
+      both = sym f ∙ g
+
+      names : x ≡ y
+      names = cc
+
+      sorts : s ≡ r
+      sorts = cc
+
+  pub fixed_made : (x k : ℕ) (s ks : List ℕ) → AreNodesMet (fixed x s) (made k ks) old new false
+  fixed_made x k s ks A v t f g each = absurd (let e = sym f ∙ g in differ (typs_of (map v ks)) e)
+    where
+      differ : (ts : Typs) → TFree x s ≡ Con k ts → ⊥
+      differ ts e = cc
+
+  pub made_fixed : (x k : ℕ) (s ks : List ℕ) → AreNodesMet (made k ks) (fixed x s) old new false
+  made_fixed x k s ks A v t f g each = fixed_made x k s ks A v t g f each
+
+  pub nothing_met : (p q : Part) → new ≡ old → AreNodesMet p q old new true
+  nothing_met p q e A v t f g each = subst (AreCoupled v) (sym e) each
+
+-- What sorts ask.
+pub demanded_more : (A : Algebra) (v : ℕ → Typ) (old new : List Demand) (d : Demand) → new ≡ old ++ d ∷ [] → AreDemanded A v old → IsOfClass A (v d.node) d.class → AreDemanded A v new
+demanded_more A v old new d e each of = subst (AreDemanded A v) (sym e) (each-append (λ (x : Demand). IsOfClass A (v x.node) x.class) old (d ∷ []) each (of, tt))
+
+pub demanded_left : (A : Algebra) (v : ℕ → Typ) (old new : List Demand) (d : Demand) → old ≡ new ++ d ∷ [] → AreDemanded A v old → AreDemanded A v new × IsOfClass A (v d.node) d.class
+demanded_left A v old new d e each =
+    let all = subst (AreDemanded A v) e each in
+    (each-left (λ (x : Demand). IsOfClass A (v x.node) x.class) new (d ∷ []) all, (each-right (λ (x : Demand). IsOfClass A (v x.node) x.class) new (d ∷ []) all).0)
+
+pub sort_turn : (A : Algebra) (v : ℕ → Typ) (sort : List ℕ) (i c node : ℕ) (old new : List Demand) (d : Demand) → i < length sort → c ≡ get_or sort i c → d.node ≡ node → d.class ≡ c → new ≡ old ++ d ∷ []
+    → IsOfSort A (v node) sort → AreDemanded A v old → AreDemanded A v new
+sort_turn A v sort i c node old new d less read dn dc e of each =
+    demanded_more A v old new d e each (subst (λ (n : ℕ). IsOfClass A (v n) d.class) (sym dn) (subst (IsOfClass A (v node)) (sym dc) (each_read (IsOfClass A (v node)) sort i c less read of)))
+
+map_get : (v : ℕ → Typ) (js : List ℕ) (i j : ℕ) → i < length js → j ≡ get_or js i j → v j ≡ get_or (map v js) i (v j)
+map_get v [] i j less read = absurd (omega arith)
+map_get v (k ∷ js) zero j less read = ap v read
+map_get v (k ∷ js) (suc i) j less read = map_get v js i j (omega arith) read
+
+pub kid_of_sort : (A : Algebra) (v : ℕ → Typ) (kids : List ℕ) (domains : List (List ℕ)) (i kid : ℕ) (sort : List ℕ) → i < length kids → kid ≡ get_or kids i kid → sort ≡ get_or domains i sort
+    → AreOfSorts A (typs_of (map v kids)) domains → IsOfSort A (v kid) sort
+kid_of_sort A v kids domains i kid sort less rk rs of =
+    two_read (IsOfSort A) (map v kids) domains i (v kid) sort (let m = map-long v kids in omega arith) (map_get v kids i kid less rk) rs ((are_of_sorts A (map v kids) domains).0 of)
+
+pub long_domains : (A : Algebra) (v : ℕ → Typ) (kids : List ℕ) (domains : List (List ℕ)) → AreOfSorts A (typs_of (map v kids)) domains → length kids ≡ length domains
+long_domains A v kids domains of = sym (map-long v kids) ∙ two_long (IsOfSort A) (map v kids) domains ((are_of_sorts A (map v kids) domains).0 of)
+
+module _ (A : Algebra) (old new : List Demand) (c : ℕ) where
+  pub fixed_demand : (x : ℕ) (s : List ℕ) (can : Bool) → new ≡ old → MatchBool can (HasClassBelow A s c) (¬ HasClassBelow A s c) → IsDemanding A (fixed x s) c old new can
+  fixed_demand x s true e h v t f of each = subst (AreDemanded A v) (sym e) each
+  fixed_demand x s false e h v t f of each = h (subst (λ (T : Typ). IsOfClass A T c) f of)
+
+  pub variable_demand : (p : Part) → new ≡ old → IsDemanding A p c old new true
+  variable_demand p e v t f of each = subst (AreDemanded A v) (sym e) each
+
+  pub none_demand : (k : ℕ) (kids : List ℕ) → ((ts : Typs) → ¬ IsOfClass A (Con k ts) c) → IsDemanding A (made k kids) c old new false
+  none_demand k kids none v t f of each = none (typs_of (map v kids)) (subst (λ (T : Typ). IsOfClass A T c) f of)
+
+  module _ (k : ℕ) (kids : List ℕ) (domains : List (List ℕ)) (exact : (ts : Typs) → (IsOfClass A (Con k ts) c → AreOfSorts A ts domains) × (AreOfSorts A ts domains → IsOfClass A (Con k ts) c)) where
+    pub long_demand : (length kids ≡ length domains → ⊥) → IsDemanding A (made k kids) c old new false
+    long_demand apart v t f of each = apart (long_domains A v kids domains ((exact (typs_of (map v kids))).0 (subst (λ (T : Typ). IsOfClass A T c) f of)))
+
+    pub made_demand : ((B : Algebra) (v : ℕ → Typ) → AreDemanded B v old → AreOfSorts B (typs_of (map v kids)) domains → AreDemanded B v new) → IsDemanding A (made k kids) c old new true
+    made_demand more v t f of each = more A v each ((exact (typs_of (map v kids))).0 (subst (λ (T : Typ). IsOfClass A T c) f of))
+
+-- Reading nodes as parts.
+pub part_read : (nodes : List Node) (i : ℕ) (n : Node) → slice_get nodes i ≡ Some n → slice_get (map part_of nodes) i ≡ Some (part_of n)
+part_read [] i n e = absurd (cc)
+part_read (m ∷ nodes) zero n e = ap Some (ap part_of (let same : m ≡ n = cc in same))
+part_read (m ∷ nodes) (suc i) n e = part_read nodes i n e
