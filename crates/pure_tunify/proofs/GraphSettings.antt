@@ -1,6 +1,6 @@
 -- Settings as pairs: what unifies them and pairs unifies the pairs in which the set variables are replaced; and the other way round, where the images are of their sorts.
 use Rattle.std.proofs.Common.{◌≡◌, ℕ, List, [], ◌∷◌, ◌++◌, map, inl, inr, refl, ap, sym, subst, ◌∙◌, Bool, true, false, cond}
-use Rattle.std.specs.Prelude.{reverse, MatchBool}
+use Rattle.std.specs.Prelude.{reverse, MatchBool, Result, Ok, Err, IfOk}
 use Rattle.std.proofs.lemmas.List.{reverse-reverse}
 use Rattle.std.proofs.lemmas.Grind.{reverse_onto}
 use Rattle.pure_text.specs.Lists.{IsIn, Each}
@@ -16,7 +16,7 @@ use Rattle.pure_term_laws.specs.LawsOccurs.{IsTypVariable}
 use Rattle.pure_term_laws.proofs.OccursLaws.{typ_instances-agree}
 use Rattle.pure_term_laws.proofs.MapLaws.{typ_instance-again}
 use Rattle.pure_tunify.specs.declared.pair.TypPair.{TypPair}
-use Rattle.pure_tunify.specs.Unifiers.{IsSubstitution, Equates, IsUnifier}
+use Rattle.pure_tunify.specs.Unifiers.{IsSubstitution, Equates, IsUnifier, HasUnifier, HasNoUnifier}
 use Rattle.pure_tunify.specs.Steps.{pair, instance_pair}
 use Rattle.pure_tunify.specs.Settings.{composed, AreTriangular}
 use Rattle.pure_tunify.proofs.MapLaws.{after_is_substitution, equates-back}
@@ -106,7 +106,7 @@ module _ (A : Algebra) (sets : List TypBind) (ps : List TypPair) (tri : AreTrian
     )
 
 -- Settings and pairs as one pair, of two constructors' types.
-abbrev pub settings_pair : ℕ → List TypBind → List TypPair → TypPair
+abbrev settings_pair : ℕ → List TypBind → List TypPair → TypPair
 settings_pair k sets work = pair (Con k (typs_of (map typ_variable sets ++ map (λ p. p.left) work))) (Con k (typs_of (map (λ b. b.image) sets ++ map (λ p. p.right) work)))
 
 first_same : (t u : Typ) (ts us : Typs) → also t ts ≡ also u us → t ≡ u
@@ -139,9 +139,9 @@ each_reversed P [] each = tt
 each_reversed P (x ∷ xs) each = subst (Each P) (sym (reverse_onto xs x [])) (each-append P (reverse xs) (x ∷ []) (each_reversed P xs each.1) (each.0, tt))
 
 -- Whether the replaced pairs have a unifier, by whether settings and pairs as one pair have one.
-pub solvable_answer : (A : Algebra) (sets : List TypBind) (work : List TypPair) (k : ℕ) (can : Bool) → AreTriangular sets → IsTypMap sets → Each (λ b. IsOfSort A b.image b.sort) sets
-    → MatchBool can ((typs : Typ → Typ) × IsUnifier A (settings_pair k sets work ∷ []) typs) ((typs : Typ → Typ) → ¬ IsUnifier A (settings_pair k sets work ∷ []) typs)
-    → MatchBool can ((typs : Typ → Typ) × IsUnifier A (map (instance_pair (composed sets)) (reverse work)) typs) ((typs : Typ → Typ) → ¬ IsUnifier A (map (instance_pair (composed sets)) (reverse work)) typs)
+solvable_answer : (A : Algebra) (sets : List TypBind) (work : List TypPair) (k : ℕ) (can : Bool) → AreTriangular sets → IsTypMap sets → Each (λ b. IsOfSort A b.image b.sort) sets
+    → MatchBool can (HasUnifier A (settings_pair k sets work ∷ [])) (HasNoUnifier A (settings_pair k sets work ∷ []))
+    → MatchBool can (HasUnifier A (map (instance_pair (composed sets)) (reverse work))) (HasNoUnifier A (map (instance_pair (composed sets)) (reverse work)))
 solvable_answer A sets work k true tri distinct sorts h =
     let all = all_there h.0 sets work (same_arguments k k _ _ h.1.equates.0) in
     (but_set sets h.0, replaced_unifier A sets (reverse work) tri h.0 h.1.substitution all.0 (each_reversed (Equates h.0) work all.1))
@@ -152,3 +152,12 @@ solvable_answer A sets work k false tri distinct sorts h = λ typs u.
       substitution = found.0;
       equates = (ap (Con k) (all_back (λ v. typ_instance typs (composed sets v)) sets work found.1 each), tt);
     })
+
+pub solvable_result : {E : Type 0} (A : Algebra) (sets : List TypBind) (work : List TypPair) (k : ℕ) (left right : Typ) (lefts rights : List Typ) (answer : Result Bool E) → AreTriangular sets → IsTypMap sets → Each (λ b. IsOfSort A b.image b.sort) sets
+    → lefts ≡ map typ_variable sets ++ map (λ p. p.left) work → rights ≡ map (λ b. b.image) sets ++ map (λ p. p.right) work → left ≡ Con k (typs_of lefts) → right ≡ Con k (typs_of rights)
+    → IfOk answer (λ can. MatchBool can (HasUnifier A (pair left right ∷ [])) (HasNoUnifier A (pair left right ∷ [])))
+    → IfOk answer (λ can. MatchBool can (HasUnifier A (map (instance_pair (composed sets)) (reverse work))) (HasNoUnifier A (map (instance_pair (composed sets)) (reverse work))))
+solvable_result A sets work k left right lefts rights (Ok can) tri distinct sorts at_lefts at_rights at_left at_right h =
+    let same : pair left right ≡ settings_pair k sets work = λ l. pair ((at_left ∙ ap (λ ts. Con k (typs_of ts)) at_lefts) l) ((at_right ∙ ap (λ ts. Con k (typs_of ts)) at_rights) l) in
+    solvable_answer A sets work k can tri distinct sorts (subst (λ (p : TypPair). MatchBool can (HasUnifier A (p ∷ [])) (HasNoUnifier A (p ∷ []))) same h)
+solvable_result A sets work k left right lefts rights (Err e) tri distinct sorts at_lefts at_rights at_left at_right h = tt

@@ -38,8 +38,8 @@ pub fn are_of_their_sorts(order: &Order, alloc: Global, settings: &Settings) -> 
     ensures { IfOk result (λ all. OnTrue all (Each (λ b. IsOfSort order.now b.image b.sort) settings.now.sets)) }
 {
     for bind in settings.binds() {
-        let is = is_of_sort(order, alloc, &bind.image, &bind.sort)?;
-        if !is {
+        let fits = is_of_sort(order, alloc, &bind.image, &bind.sort)?;
+        if !fits {
             return Ok(false);
         }
     }
