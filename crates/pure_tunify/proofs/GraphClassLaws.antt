@@ -2,7 +2,9 @@
 use Rattle.std.proofs.Common.{◌≡◌, ◌≢◌, ℕ, zero, suc, ◌+◌, ◌<◌, ◌≤◌, List, [], ◌∷◌, ◌++◌, map, length, get_or, Option, Some, None, inl, inr, refl, ap, sym, subst, ◌∙◌, arith, Bool, true, false}
 use Rattle.std.specs.Prelude.{slice_get, MatchBool}
 use Rattle.std.proofs.lemmas.Option.{slice_get-map}
-use Rattle.pure_text.specs.Lists.{IsIn, Each, EachTwo}
+use Rattle.std.specs.declared.alloc.Global.{Global}
+use Rattle.std.specs.declared.vec.Vec.{Vec}
+use Rattle.pure_text.specs.Lists.{IsIn, Each, AnyOf, EachTwo}
 use Rattle.pure_text.proofs.ListLaws.{each-append, each-left, each-right, each_read, two_long, two_read, any_of, each_of}
 use Rattle.pure_definitions.specs.Types.Typ.{Typ, TFree, TVar, Con, Typs, none, also, typs_of}
 use Rattle.pure_definitions.specs.Types.Order.{Algebra, HasClassBelow, IsClassBelow, IsOfClass, AreOfSorts, IsOfSort}
@@ -57,9 +59,9 @@ coupled_left v old new c e each =
     let all = subst (AreCoupled v) e each in
     (each-left (λ (d : Couple). v d.left ≡ v d.right) new (c ∷ []) all, (each-right (λ (d : Couple). v d.left ≡ v d.right) new (c ∷ []) all).0)
 
-pub coupled_turn : (v : ℕ → Typ) (lefts rights : List ℕ) (i l r : ℕ) (old new : List Couple) (c : Couple) → i < length lefts → l ≡ get_or lefts i l → r ≡ get_or rights i r → c.left ≡ l → c.right ≡ r → new ≡ old ++ c ∷ []
+pub coupled_turn : (v : ℕ → Typ) (lefts rights : List ℕ) (i l r : ℕ) (old new : List Couple) → i < length lefts → l ≡ get_or lefts i l → r ≡ get_or rights i r → new ≡ old ++ record { left = l; right = r } ∷ []
     → map v lefts ≡ map v rights → AreCoupled v old → AreCoupled v new
-coupled_turn v lefts rights i l r old new c less rl rr cl cr e same each = coupled_more v old new c e each (ap v cl ∙ (map_read v lefts rights i l r same less rl rr ∙ sym (ap v cr)))
+coupled_turn v lefts rights i l r old new less rl rr e same each = coupled_more v old new (record { left = l; right = r }) e each (map_read v lefts rights i l r same less rl rr)
 
 -- Two nodes that have one value: their heads are the same, and their arguments have one value each.
 module _ (old new : List Couple) where
@@ -107,10 +109,9 @@ demanded_left A v old new d e each =
     let all = subst (AreDemanded A v) e each in
     (each-left (λ (x : Demand). IsOfClass A (v x.node) x.class) new (d ∷ []) all, (each-right (λ (x : Demand). IsOfClass A (v x.node) x.class) new (d ∷ []) all).0)
 
-pub sort_turn : (A : Algebra) (v : ℕ → Typ) (sort : List ℕ) (i c node : ℕ) (old new : List Demand) (d : Demand) → i < length sort → c ≡ get_or sort i c → d.node ≡ node → d.class ≡ c → new ≡ old ++ d ∷ []
+pub sort_turn : (A : Algebra) (v : ℕ → Typ) (sort : List ℕ) (i c node : ℕ) (old new : List Demand) → i < length sort → c ≡ get_or sort i c → new ≡ old ++ record { node = node; class = c } ∷ []
     → IsOfSort A (v node) sort → AreDemanded A v old → AreDemanded A v new
-sort_turn A v sort i c node old new d less read dn dc e of each =
-    demanded_more A v old new d e each (subst (λ (n : ℕ). IsOfClass A (v n) d.class) (sym dn) (subst (IsOfClass A (v node)) (sym dc) (each_read (IsOfClass A (v node)) sort i c less read of)))
+sort_turn A v sort i c node old new less read e of each = demanded_more A v old new (record { node = node; class = c }) e each (each_read (IsOfClass A (v node)) sort i c less read of)
 
 map_get : (v : ℕ → Typ) (js : List ℕ) (i j : ℕ) → i < length js → j ≡ get_or js i j → v j ≡ get_or (map v js) i (v j)
 map_get v [] i j less read = absurd (omega arith)
@@ -148,3 +149,76 @@ pub part_read : (nodes : List Node) (i : ℕ) (n : Node) → slice_get nodes i �
 part_read [] i n e = absurd (cc)
 part_read (m ∷ nodes) zero n e = ap Some (ap part_of (let same : m ≡ n = cc in same))
 part_read (m ∷ nodes) (suc i) n e = part_read nodes i n e
+
+pub node_at : (nodes : List Node) (i : ℕ) (n : Node) → i < length nodes → n ≡ get_or nodes i n → slice_get (map part_of nodes) i ≡ Some (part_of n)
+node_at [] i n less read = absurd (omega arith)
+node_at (m ∷ nodes) zero n less read = ap (λ k. Some (part_of k)) (sym read)
+node_at (m ∷ nodes) (suc i) n less read = node_at nodes i n (omega arith) read
+
+pub none_any : {X : Type 0} (P : X → Type 0) (xs : List X) → Each (λ x. ¬ P x) xs → ¬ AnyOf P xs
+none_any P [] each m = m
+none_any P (x ∷ xs) each (inl p) = each.0 p
+none_any P (x ∷ xs) each (inr m) = none_any P xs each.1 m
+
+-- What stands behind a number.
+pub keeps_read : (v : ℕ → Typ) (xs ys : List ℕ) (i n : ℕ) → KeepsValues v xs → ys ≡ xs → n ≡ get_or ys i i → v i ≡ v n
+keeps_read v xs ys i n kept e read = kept i ∙ sym (ap v (read ∙ ap (λ zs. get_or zs i i) e))
+
+-- Two classes made one.
+module _ (parts : List Part) where
+  pub joined : (old new : Classes) (low high first second : ℕ) (p q : Part) (can : Bool) → slice_get parts first ≡ Some p → slice_get parts second ≡ Some q
+      → ((v : ℕ → Typ) → KeepsValues v old.shape.items → (v low ≡ v first) × (v high ≡ v second))
+      → ((v : ℕ → Typ) → KeepsValues v old.parent.items → v high ≡ v low → KeepsValues v new.parent.items)
+      → ((v : ℕ → Typ) → KeepsValues v old.shape.items → v low ≡ v second → KeepsValues v new.shape.items)
+      → AreNodesMet p q old.work.items new.work.items can → AreJoined parts old new low high can
+  joined old new low high first second p q can at_first at_second shapes hung chosen met A v fits kept e = by can (met A v (v first) (fits first p at_first) (subst (Fits A v q) (sym second_first) (fits second q at_second)) kept.work)
+    where
+      low_second : v low ≡ v second
+      low_second = e ∙ (shapes v kept.shape).1
+
+      second_first : v first ≡ v second
+      second_first = sym (shapes v kept.shape).0 ∙ low_second
+
+      by : (b : Bool) → MatchBool b (AreCoupled v new.work.items) ⊥ → MatchBool b (IsKept v new) ⊥
+      by true work = record { parent = hung v kept.parent (sym e); shape = chosen v kept.shape low_second; work = work }
+      by false never = never
+
+  pub joined_roots : (old mid new : Classes) (first : List ℕ) (i j a b : ℕ) (can : Bool) → ((v : ℕ → Typ) → KeepsValues v old.parent.items → KeepsValues v first × (v i ≡ v a))
+      → ((v : ℕ → Typ) → KeepsValues v first → KeepsValues v mid.parent.items × (v j ≡ v b)) → mid.shape ≡ old.shape → mid.work ≡ old.work → AreJoined parts mid new a b can → AreJoined parts old new i j can
+  joined_roots old mid new first i j a b can to_a to_b shape work join A v fits kept e =
+      let one = to_a v kept.parent in
+      let two = to_b v one.0 in
+      join A v fits
+      (record {
+        parent = two.0;
+        shape = subst (λ (s : Vec ℕ Global). KeepsValues v s.items) (sym shape) kept.shape;
+        work = subst (λ (w : Vec Couple Global). AreCoupled v w.items) (sym work) kept.work;
+      })
+      (sym one.1 ∙ (e ∙ two.1))
+
+  pub turned_round : (old new : Classes) (i j : ℕ) (can : Bool) → AreJoined parts old new i j can → AreJoined parts old new j i can
+  turned_round old new i j can join A v fits kept e = join A v fits kept (sym e)
+
+  pub closing : (now mid new : Classes) (c : Couple) (can : Bool) → mid.parent ≡ now.parent → mid.shape ≡ now.shape → now.work.items ≡ mid.work.items ++ c ∷ [] → AreJoined parts mid new c.left c.right can → AreClosed parts now new can
+  closing now mid new c can parent shape work join A v fits kept =
+      let left = coupled_left v now.work.items mid.work.items c work kept.work in
+      join A v fits
+      (record {
+        parent = subst (λ (s : Vec ℕ Global). KeepsValues v s.items) (sym parent) kept.parent;
+        shape = subst (λ (s : Vec ℕ Global). KeepsValues v s.items) (sym shape) kept.shape;
+        work = left.0;
+      })
+      left.1
+
+  pub closed_false : (old new : Classes) (can : Bool) → AreClosed parts old new can → can ≡ false → (A : Algebra) (v : ℕ → Typ) → FitsAll A parts v → IsKept v old → ⊥
+  closed_false old new can h e A v fits kept = subst (λ (b : Bool). MatchBool b (IsKept v new) ⊥) e (h A v fits kept)
+
+  pub closed_true : (old new : Classes) (can : Bool) → AreClosed parts old new can → can ≡ true → (A : Algebra) (v : ℕ → Typ) → FitsAll A parts v → IsKept v old → IsKept v new
+  closed_true old new can h e A v fits kept = subst (λ (b : Bool). MatchBool b (IsKept v new) ⊥) e (h A v fits kept)
+
+-- What is asked of all nodes.
+module _ (A : Algebra) (parts : List Part) (roots shapes : List ℕ) where
+  pub asking : (node class root first : ℕ) (p : Part) (old new : List Demand) (can : Bool) → root ≡ get_or roots node node → first ≡ get_or shapes root root → slice_get parts first ≡ Some p → IsDemanding A p class old new can
+      → IsAsking A parts roots shapes node class old new can
+  asking node class root first p old new can is_root is_first at demands v fits by_root by_shape of each =
+      demands v (v first) (fits first p at) (subst (λ (T : Typ). IsOfClass A T class) (by_root node ∙ (sym (ap v is_root) ∙ (by_shape root ∙ sym (ap v is_first)))) of) each

@@ -82,8 +82,11 @@ fn couple_each(
     ensures { OnOk result ((v : ℕ → tree.Typ) → AreCoupled v work.old.items → map v lefts.now ≡ map v rights.now → AreCoupled v work.new.items) }
 {
     for i in 0..lefts.len() {
-        let (left, right) = (lefts[i], rights[i]);
-        work.push(Couple { left, right })?;
+        let (left, right) = (&lefts[i], &rights[i]);
+        work.push(Couple {
+            left: *left,
+            right: *right,
+        })?;
     }
     Ok(())
 }
@@ -114,7 +117,16 @@ fn meet(left: &Node, right: &Node, work: &mut Vec<Couple>) -> Result<bool, Alloc
     }
 }
 
-/// Makes two classes one, with these nodes of theirs as shapes.
+/// Takes the second node as a class's shape, where the first one is a schematic variable.
+fn choose(nodes: &[Node], shape: &mut Vec<usize>, class: usize, first: usize, second: usize)
+    ensures { (v : ℕ → tree.Typ) → KeepsValues v shape.old.items → v class ≡ v second → KeepsValues v shape.new.items }
+{
+    if is_variable_at(nodes, first) {
+        set_at(shape, class, second);
+    }
+}
+
+/// Makes two classes one, and adds the couples of their shapes' arguments; false where they never have one value.
 fn unite(
     nodes: &[Node],
     classes: &mut Classes,
@@ -126,13 +138,15 @@ fn unite(
     let first = number_at(classes.shape.as_slice(), low);
     let second = number_at(classes.shape.as_slice(), high);
     set_at(&mut classes.parent, high, low);
-    if is_variable_at(nodes, first) {
-        set_at(&mut classes.shape, low, second);
-    }
-    match (nodes.get(first), nodes.get(second)) {
-        (Some(left), Some(right)) => meet(left, right, &mut classes.work),
-        (_, _) => Err(AllocError),
-    }
+    choose(nodes, &mut classes.shape, low, first, second);
+    let Some(left) = nodes.get(first) else {
+        return Err(AllocError);
+    };
+    let Some(right) = nodes.get(second) else {
+        return Err(AllocError);
+    };
+    let can = meet(left, right, &mut classes.work)?;
+    Ok(can)
 }
 
 /// Makes the classes of two nodes one; false where they never have one value.
@@ -145,10 +159,11 @@ fn join(nodes: &[Node], classes: &mut Classes, couple: Couple) -> Result<bool, A
         return Ok(true);
     }
     if left < right {
-        unite(nodes, classes, left, right)
-    } else {
-        unite(nodes, classes, right, left)
+        let can = unite(nodes, classes, left, right)?;
+        return Ok(can);
     }
+    let can = unite(nodes, classes, right, left)?;
+    Ok(can)
 }
 
 /// Makes the nodes of all couples that are left one; false where they never have one value.

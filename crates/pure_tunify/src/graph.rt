@@ -216,7 +216,8 @@ pub fn add(graph: &mut Graph, alloc: Global, t: &Typ) -> Result<usize, AllocErro
                 let kid = add(graph, alloc, arg)?;
                 kids.push(kid)?;
             }
-            add_made(graph, alloc, *name, kids)
+            let at = add_made(graph, alloc, *name, kids)?;
+            Ok(at)
         }
     }
 }
