@@ -151,3 +151,13 @@ unifiable_answer A first second third left right i j false empty a b h = λ typs
     let none : AreBefore first = subst AreBefore (sym empty) (λ n k kids at. absurd (cc)) in
     let w = unifier_values A third (b.grown.before (a.grown.before none)) typs u.substitution in
     h w.0 w.1 (w.2 i left (stands_on second third b.grown i left a.stands) ∙ (u.equates.0 ∙ sym (w.2 j right b.stands)))
+
+-- What is said of the numbers that stand at places of a list without a rank.
+pub stuck_turn : (P : ℕ → Type 0) (ranks : List ℕ) (n : ℕ) → ((r : ℕ) → r < n → slice_get ranks r ≡ Some 0 → P r) → (slice_get ranks n ≡ Some 0 → P n) → (r : ℕ) → r < n + 1 → slice_get ranks r ≡ Some 0 → P r
+stuck_turn P ranks n each here r less = elim (cases_lt r n) [
+  | inl lower ↦ each r lower
+  | inr up ↦ subst (λ (k : ℕ). slice_get ranks k ≡ Some 0 → P k) (let same : n ≡ r = omega arith in same) here
+]
+
+pub stuck_all : (P : ℕ → Type 0) (ranks : List ℕ) (n : ℕ) → length ranks ≤ n → ((r : ℕ) → r < n → slice_get ranks r ≡ Some 0 → P r) → (r : ℕ) → slice_get ranks r ≡ Some 0 → P r
+stuck_all P ranks n full each r at = each r (let within = slice_get_within ranks r 0 at in omega arith) at

@@ -99,7 +99,9 @@ fn are_sorts_asked(
         return false;
     }
     for i in 0..kids.len() {
-        if !is_sort_asked(asked, number_at(roots, kids[i]), &domains[i]) {
+        let (kid, domain) = (&kids[i], &domains[i]);
+        let root = number_at(roots, *kid);
+        if !is_sort_asked(asked, root, domain) {
             return false;
         }
     }
@@ -117,7 +119,11 @@ fn is_met(order: &Order, roots: &[usize], asked: &[Vec<Name>], class: Name, shap
             let Some(domains) = order.domains(*name, class) else {
                 return false;
             };
-            are_sorts_asked(roots, asked, kids.as_slice(), domains)
+            let kids = kids.as_slice();
+            if !are_sorts_asked(roots, asked, kids, domains) {
+                return false;
+            }
+            true
         }
     }
 }
@@ -156,7 +162,8 @@ pub fn all_met(
     ensures { OnTrue result (AllMet order.now (map part_of nodes.now) roots.now shapes.now asked.now) }
 {
     for root in 0..asked.len() {
-        let classes = asked[root].as_slice();
+        let own = &asked[root];
+        let classes = own.as_slice();
         if !are_met(order, nodes, roots, shapes, asked, root, classes) {
             return false;
         }
