@@ -1,7 +1,7 @@
 -- Classes of nodes that have one value: what the steps that make them keep.
 use Rattle.std.proofs.Common.{◌≡◌, ◌≢◌, ℕ, zero, suc, ◌+◌, ◌<◌, ◌≤◌, List, [], ◌∷◌, ◌++◌, map, length, get_or, Option, Some, None, inl, inr, refl, ap, sym, subst, ◌∙◌, arith, Bool, true, false}
 use Rattle.std.specs.Prelude.{slice_get, MatchBool}
-use Rattle.std.proofs.lemmas.Option.{slice_get-map}
+use Rattle.std.proofs.lemmas.Option.{same_Some, none-some}
 use Rattle.std.specs.declared.alloc.Global.{Global}
 use Rattle.std.specs.declared.vec.Vec.{Vec}
 use Rattle.pure_text.specs.Lists.{IsIn, Each, AnyOf, EachTwo}
@@ -16,10 +16,13 @@ use Rattle.pure_tunify.specs.declared.classes.Classes.{Classes}
 use Rattle.pure_tunify.specs.declared.demands.Demand.{Demand}
 use Rattle.pure_tunify.specs.GraphCode.{part_of, KeepsValues, AreCoupled, IsKept, AreNodesMet, AreJoined, AreClosed, AreDemanded, IsDemanding, IsAsking, AreNeverMet}
 
+none_also : (t : Typ) (ts : Typs) → none ≡ also t ts → ⊥
+none_also t ts e = cc
+
 typs_same : (ts us : List Typ) → typs_of ts ≡ typs_of us → ts ≡ us
 typs_same [] [] e = refl
-typs_same [] (u ∷ us) e = absurd (cc)
-typs_same (t ∷ ts) [] e = absurd (cc)
+typs_same [] (u ∷ us) e = absurd (none_also u (typs_of us) e)
+typs_same (t ∷ ts) [] e = absurd (none_also t (typs_of ts) (sym e))
 typs_same (t ∷ ts) (u ∷ us) e = λ l. first_of t u (typs_of ts) (typs_of us) e l ∷ typs_same ts us (rest_of t u (typs_of ts) (typs_of us) e) l
   where
     first_of : (t u : Typ) (ts us : Typs) → also t ts ≡ also u us → t ≡ u
@@ -38,17 +41,20 @@ map-long : (v : ℕ → Typ) (js : List ℕ) → length (map v js) ≡ length js
 map-long v [] = refl
 map-long v (j ∷ js) = ap suc (map-long v js)
 
+some_nothing : (t : Typ) (ts : List Typ) → t ∷ ts ≡ [] → ⊥
+some_nothing t ts e = cc
+
+head_same : (t u : Typ) (ts us : List Typ) → t ∷ ts ≡ u ∷ us → t ≡ u
+head_same t u ts us e = cc
+
+tail_same : (t u : Typ) (ts us : List Typ) → t ∷ ts ≡ u ∷ us → ts ≡ us
+tail_same t u ts us e = cc
+
 map_read : (v : ℕ → Typ) (js ks : List ℕ) (i j k : ℕ) → map v js ≡ map v ks → i < length js → j ≡ get_or js i j → k ≡ get_or ks i k → v j ≡ v k
 map_read v [] ks i j k e less rj rk = absurd (omega arith)
-map_read v (x ∷ js) [] i j k e less rj rk = absurd (cc)
-map_read v (x ∷ js) (y ∷ ks) zero j k e less rj rk = ap v rj ∙ (heads ∙ sym (ap v rk))
-  where
-    heads : v x ≡ v y
-    heads = cc
-map_read v (x ∷ js) (y ∷ ks) (suc i) j k e less rj rk = map_read v js ks i j k tails (omega arith) rj rk
-  where
-    tails : map v js ≡ map v ks
-    tails = cc
+map_read v (x ∷ js) [] i j k e less rj rk = absurd (some_nothing (v x) (map v js) e)
+map_read v (x ∷ js) (y ∷ ks) zero j k e less rj rk = ap v rj ∙ (head_same (v x) (v y) (map v js) (map v ks) e ∙ sym (ap v rk))
+map_read v (x ∷ js) (y ∷ ks) (suc i) j k e less rj rk = map_read v js ks i j k (tail_same (v x) (v y) (map v js) (map v ks) e) (omega arith) rj rk
 
 -- Couples that are put behind others, and taken from behind.
 pub coupled_more : (v : ℕ → Typ) (old new : List Couple) (c : Couple) → new ≡ old ++ c ∷ [] → AreCoupled v old → v c.left ≡ v c.right → AreCoupled v new
@@ -74,31 +80,6 @@ module _ (old new : List Couple) where
 
   pub made_met : (k l : ℕ) (ks ls : List ℕ) → ((v : ℕ → Typ) → AreCoupled v old → map v ks ≡ map v ls → AreCoupled v new) → AreNodesMet (made k ks) (made l ls) old new true
   made_met k l ks ls more A v t f g each = more v each (typs_same (map v ks) (map v ls) (con_args k l _ _ (sym f ∙ g)))
-
-  pub fixed_met : (x y : ℕ) (s r : List ℕ) (same : Bool) → new ≡ old → (same ≡ false → (x ≡ y) × (s ≡ r) → ⊥) → AreNodesMet (fixed x s) (fixed y r) old new same
-  fixed_met x y s r true e apart A v t f g each = subst (AreCoupled v) (sym e) each
-  fixed_met x y s r false e apart A v t f g each = apart refl (names, sorts)
-    where
-      both : TFree x s ≡ TFree y r
-      both = sym f ∙ g
-
-      names : x ≡ y
-      names = cc
-
-      sorts : s ≡ r
-      sorts = cc
-
-  pub fixed_made : (x k : ℕ) (s ks : List ℕ) → AreNodesMet (fixed x s) (made k ks) old new false
-  fixed_made x k s ks A v t f g each = absurd (let e = sym f ∙ g in differ (typs_of (map v ks)) e)
-    where
-      differ : (ts : Typs) → TFree x s ≡ Con k ts → ⊥
-      differ ts e = cc
-
-  pub made_fixed : (x k : ℕ) (s ks : List ℕ) → AreNodesMet (made k ks) (fixed x s) old new false
-  made_fixed x k s ks A v t f g each = fixed_made x k s ks A v t g f each
-
-  pub nothing_met : (p q : Part) → new ≡ old → AreNodesMet p q old new true
-  nothing_met p q e A v t f g each = subst (AreCoupled v) (sym e) each
 
 -- What sorts ask.
 pub demanded_more : (A : Algebra) (v : ℕ → Typ) (old new : List Demand) (d : Demand) → new ≡ old ++ d ∷ [] → AreDemanded A v old → IsOfClass A (v d.node) d.class → AreDemanded A v new
@@ -127,16 +108,6 @@ pub long_domains : (A : Algebra) (v : ℕ → Typ) (kids : List ℕ) (domains : 
 long_domains A v kids domains of = sym (map-long v kids) ∙ two_long (IsOfSort A) (map v kids) domains ((are_of_sorts A (map v kids) domains).0 of)
 
 module _ (A : Algebra) (old new : List Demand) (c : ℕ) where
-  pub fixed_demand : (x : ℕ) (s : List ℕ) (can : Bool) → new ≡ old → MatchBool can (HasClassBelow A s c) (¬ HasClassBelow A s c) → IsDemanding A (fixed x s) c old new can
-  fixed_demand x s true e h v t f of each = subst (AreDemanded A v) (sym e) each
-  fixed_demand x s false e h v t f of each = h (subst (λ (T : Typ). IsOfClass A T c) f of)
-
-  pub variable_demand : (p : Part) → new ≡ old → IsDemanding A p c old new true
-  variable_demand p e v t f of each = subst (AreDemanded A v) (sym e) each
-
-  pub none_demand : (k : ℕ) (kids : List ℕ) → ((ts : Typs) → ¬ IsOfClass A (Con k ts) c) → IsDemanding A (made k kids) c old new false
-  none_demand k kids none v t f of each = none (typs_of (map v kids)) (subst (λ (T : Typ). IsOfClass A T c) f of)
-
   module _ (k : ℕ) (kids : List ℕ) (domains : List (List ℕ)) (exact : (ts : Typs) → (IsOfClass A (Con k ts) c → AreOfSorts A ts domains) × (AreOfSorts A ts domains → IsOfClass A (Con k ts) c)) where
     pub long_demand : (length kids ≡ length domains → ⊥) → IsDemanding A (made k kids) c old new false
     long_demand apart v t f of each = apart (long_domains A v kids domains ((exact (typs_of (map v kids))).0 (subst (λ (T : Typ). IsOfClass A T c) f of)))
@@ -145,11 +116,6 @@ module _ (A : Algebra) (old new : List Demand) (c : ℕ) where
     made_demand more v t f of each = more A v each ((exact (typs_of (map v kids))).0 (subst (λ (T : Typ). IsOfClass A T c) f of))
 
 -- Reading nodes as parts.
-pub part_read : (nodes : List Node) (i : ℕ) (n : Node) → slice_get nodes i ≡ Some n → slice_get (map part_of nodes) i ≡ Some (part_of n)
-part_read [] i n e = absurd (cc)
-part_read (m ∷ nodes) zero n e = ap Some (ap part_of (let same : m ≡ n = cc in same))
-part_read (m ∷ nodes) (suc i) n e = part_read nodes i n e
-
 pub node_at : (nodes : List Node) (i : ℕ) (n : Node) → i < length nodes → n ≡ get_or nodes i n → slice_get (map part_of nodes) i ≡ Some (part_of n)
 node_at [] i n less read = absurd (omega arith)
 node_at (m ∷ nodes) zero n less read = ap (λ k. Some (part_of k)) (sym read)

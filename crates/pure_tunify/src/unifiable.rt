@@ -137,16 +137,20 @@ fn have_one_value(
 ) -> Result<bool, AllocError>
     ensures { IfOk result (λ can. MatchBool can (HaveOneValue order.now (map part_of graph.now.nodes.items) left right) (NeverHaveOneValue order.now (map part_of graph.now.nodes.items) left right)) }
 {
-    let found = classes_of(alloc, graph.nodes.as_slice(), left, right)?;
+    let nodes = graph.nodes.as_slice();
+    let found = classes_of(alloc, nodes, left, right)?;
     let Some(classes) = found else {
         return Ok(false);
     };
-    let (roots, shapes) = (classes.parent.as_slice(), classes.shape.as_slice());
+    let roots = classes.parent.as_slice();
+    let shapes = classes.shape.as_slice();
     let can = have_sorted_values(order, alloc, graph, roots, shapes)?;
     if !can {
         return Ok(false);
     }
-    if number_at(roots, left) != number_at(roots, right) {
+    let first = number_at(roots, left);
+    let second = number_at(roots, right);
+    if first != second {
         return Err(AllocError);
     }
     Ok(true)
