@@ -8,6 +8,7 @@ ghost use Rattle.pure_tunify.specs.Settings.{composed};
 use crate::pair::TypPair;
 use crate::reached::variable_of;
 use crate::settings::Settings;
+use crate::sorted::are_of_their_sorts;
 use crate::unifiable::is_unifiable;
 use pure_order::Order;
 use pure_typ::{Name, Typ};
@@ -56,7 +57,11 @@ pub fn is_solvable(
         (HasUnifier order.now (map (instance_pair (composed settings.now.sets)) (reverse work.now)))
         (HasNoUnifier order.now (map (instance_pair (composed settings.now.sets)) (reverse work.now)))) }
 {
-    let _ = settings.next();
+    let _ = settings.binds();
+    let sorted = are_of_their_sorts(order, alloc, settings)?;
+    if !sorted {
+        return Err(AllocError);
+    }
     let lefts = left_types(alloc, settings, work)?;
     let left = Typ::constructed(alloc, Name::FUN, lefts)?;
     let rights = right_types(alloc, settings, work)?;
