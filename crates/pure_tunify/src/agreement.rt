@@ -43,12 +43,20 @@ fn have_same_heads(roots: &[usize], node: &Node, shape: &Node) -> bool
     ensures { OnTrue result (AreSameHeads (root_at roots.now) (part_of node.now) (part_of shape.now)) }
 {
     match (node, shape) {
-        (Node::Fixed { name, sort }, Node::Fixed { name: other, sort: own }) => {
-            *name == *other && *sort == *own
-        }
-        (Node::Made { name, kids }, Node::Made { name: other, kids: others }) => {
-            *name == *other && have_same_roots(roots, kids.as_slice(), others.as_slice())
-        }
+        (
+            Node::Fixed { name, sort },
+            Node::Fixed {
+                name: other,
+                sort: own,
+            },
+        ) => { *name == *other && *sort == *own }
+        (
+            Node::Made { name, kids },
+            Node::Made {
+                name: other,
+                kids: others,
+            },
+        ) => { *name == *other && have_same_roots(roots, kids.as_slice(), others.as_slice()) }
         (_, _) => false,
     }
 }
@@ -87,12 +95,7 @@ pub fn all_agree(nodes: &[Node], roots: &[usize], shapes: &[usize], asked: &[Vec
 }
 
 /// Whether the sorts are asked of the nodes, each of its own.
-fn are_sorts_asked(
-    roots: &[usize],
-    asked: &[Vec<Name>],
-    kids: &[usize],
-    domains: &[Sort],
-) -> bool
+fn are_sorts_asked(roots: &[usize], asked: &[Vec<Name>], kids: &[usize], domains: &[Sort]) -> bool
     ensures { OnTrue result (EachTwo (λ kid sort. Each (λ d. IsIn d (asked_at asked.now (root_at roots.now kid))) sort) kids.now domains.now) }
 {
     if kids.len() != domains.len() {

@@ -73,11 +73,7 @@ fn is_variable_at(nodes: &[Node], at: usize) -> bool {
 }
 
 /// Adds the couples of arguments.
-fn couple_each(
-    work: &mut Vec<Couple>,
-    lefts: &[usize],
-    rights: &[usize],
-) -> Result<(), AllocError>
+fn couple_each(work: &mut Vec<Couple>, lefts: &[usize], rights: &[usize]) -> Result<(), AllocError>
     requires { length lefts.now ≡ length rights.now }
     ensures { OnOk result ((v : ℕ → tree.Typ) → AreCoupled v work.old.items → map v lefts.now ≡ map v rights.now → AreCoupled v work.new.items) }
 {
@@ -96,7 +92,13 @@ fn meet(left: &Node, right: &Node, work: &mut Vec<Couple>) -> Result<bool, Alloc
     ensures { IfOk result (AreNodesMet (part_of left.now) (part_of right.now) work.old.items work.new.items) }
 {
     match (left, right) {
-        (Node::Made { name, kids }, Node::Made { name: other, kids: others }) => {
+        (
+            Node::Made { name, kids },
+            Node::Made {
+                name: other,
+                kids: others,
+            },
+        ) => {
             if *name != *other {
                 return Ok(false);
             }
@@ -107,9 +109,13 @@ fn meet(left: &Node, right: &Node, work: &mut Vec<Couple>) -> Result<bool, Alloc
             couple_each(work, kids, others)?;
             Ok(true)
         }
-        (Node::Fixed { name, sort }, Node::Fixed { name: other, sort: own }) => {
-            Ok(*name == *other && *sort == *own)
-        }
+        (
+            Node::Fixed { name, sort },
+            Node::Fixed {
+                name: other,
+                sort: own,
+            },
+        ) => { Ok(*name == *other && *sort == *own) }
         (Node::Fixed { .. }, Node::Made { .. }) => Ok(false),
         (Node::Made { .. }, Node::Fixed { .. }) => Ok(false),
         (Node::Variable { .. }, _) => Ok(true),
@@ -127,12 +133,7 @@ fn choose(nodes: &[Node], shape: &mut Vec<usize>, class: usize, first: usize, se
 }
 
 /// Makes two classes one, and adds the couples of their shapes' arguments; false where they never have one value.
-fn unite(
-    nodes: &[Node],
-    classes: &mut Classes,
-    low: usize,
-    high: usize,
-) -> Result<bool, AllocError>
+fn unite(nodes: &[Node], classes: &mut Classes, low: usize, high: usize) -> Result<bool, AllocError>
     ensures { IfOk result (AreJoined (map part_of nodes.now) classes.old classes.new low high) }
 {
     let first = number_at(classes.shape.as_slice(), low);

@@ -74,11 +74,7 @@ fn demand_sort(work: &mut Vec<Demand>, node: usize, sort: &Sort) -> Result<(), A
 }
 
 /// Adds what sorts ask of the arguments of a constructor, each of its own.
-fn demand_each(
-    work: &mut Vec<Demand>,
-    kids: &[usize],
-    domains: &[Sort],
-) -> Result<(), AllocError>
+fn demand_each(work: &mut Vec<Demand>, kids: &[usize], domains: &[Sort]) -> Result<(), AllocError>
     requires { length kids.now ≡ length domains.now }
     ensures { OnOk result ((A : Algebra) (v : ℕ → tree.Typ) → AreDemanded A v work.old.items → AreOfSorts A (typs_of (map v kids.now)) domains.now → AreDemanded A v work.new.items) }
 {

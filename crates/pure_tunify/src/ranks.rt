@@ -70,7 +70,11 @@ fn begin_class(
 }
 
 /// One argument of the class has its rank.
-fn wait_less(waits: &mut Vec<usize>, ready: &mut Vec<usize>, class: usize) -> Result<(), AllocError> {
+fn wait_less(
+    waits: &mut Vec<usize>,
+    ready: &mut Vec<usize>,
+    class: usize,
+) -> Result<(), AllocError> {
     if class < waits.len() {
         let left = waits[class];
         if left > 0 {
@@ -253,12 +257,7 @@ fn is_ranked_or_stuck(
 }
 
 /// Whether each class has a rank, or is stuck.
-fn all_ranked_or_stuck(
-    nodes: &[Node],
-    roots: &[usize],
-    shapes: &[usize],
-    ranks: &[usize],
-) -> bool
+fn all_ranked_or_stuck(nodes: &[Node], roots: &[usize], shapes: &[usize], ranks: &[usize]) -> bool
     ensures { OnTrue result ((r : ℕ) → slice_get ranks.now r ≡ Some 0 → HasStuckKid (map part_of nodes.now) roots.now shapes.now ranks.now r) }
 {
     for class in 0..ranks.len() {
