@@ -1,7 +1,7 @@
 -- How a graph of types grows by the nodes of one more type.
 use Rattle.std.proofs.Common.{◌≡◌, ℕ, zero, suc, ◌+◌, ◌<◌, ◌≤◌, List, [], ◌∷◌, ◌++◌, map, length, take, take_all, get_or, Option, Some, None, inl, inr, ◌⊎◌, refl, ap, sym, subst, ◌∙◌, arith}
 use Rattle.std.specs.List.{slice_get}
-use Rattle.std.proofs.lemmas.Option.{slice_get_within}
+use Rattle.std.proofs.lemmas.Option.{slice_get_within, same_Some, none-some}
 use Rattle.std.proofs.lemmas.Bool.{cases_lt}
 use Rattle.pure_text.specs.Lists.{Each}
 use Rattle.pure_text.proofs.LoopLaws.{longer_by}
@@ -30,8 +30,8 @@ mutual
   stand_on a b g (i ∷ is) (also t ts) each = (stands_on a b g i t each.0, stand_on a b g is ts each.1)
 
 put_old : (old : List Part) (p q : Part) (i : ℕ) → slice_get old i ≡ Some q → slice_get (old ++ p ∷ []) i ≡ Some q
-put_old [] p q zero e = absurd (cc)
-put_old [] p q (suc i) e = absurd (cc)
+put_old [] p q zero e = absurd (none-some q e)
+put_old [] p q (suc i) e = absurd (none-some q e)
 put_old (r ∷ old) p q zero e = e
 put_old (r ∷ old) p q (suc i) e = put_old old p q i e
 
@@ -40,10 +40,19 @@ put_new [] p = refl
 put_new (r ∷ old) p = put_new old p
 
 put_cases : (old : List Part) (p q : Part) (i : ℕ) → slice_get (old ++ p ∷ []) i ≡ Some q → (slice_get old i ≡ Some q) ⊎ ((i ≡ length old) × (p ≡ q))
-put_cases [] p q zero e = inr (refl, cc)
-put_cases [] p q (suc i) e = absurd (cc)
+put_cases [] p q zero e = inr (refl, same_Some p q e)
+put_cases [] p q (suc i) e = absurd (none-some q e)
 put_cases (r ∷ old) p q zero e = inl e
 put_cases (r ∷ old) p q (suc i) e = elim (put_cases old p q i e) [ inl o ↦ inl o | inr n ↦ inr (ap suc n.0, n.1) ]
+
+fixed_made : (x k : ℕ) (s kids : List ℕ) → fixed x s ≡ made k kids → ⊥
+fixed_made x k s kids e = cc
+
+variable_made : (x i k : ℕ) (s kids : List ℕ) → variable x i s ≡ made k kids → ⊥
+variable_made x i k s kids e = cc
+
+kids_same : (k l : ℕ) (ks ls : List ℕ) → made k ks ≡ made l ls → ks ≡ ls
+kids_same k l ks ls e = cc
 
 -- The node's own arguments stand before it.
 abbrev IsBehind : (old : List Part) → Part → Type 0
@@ -59,8 +68,8 @@ put_grown old p behind = record {
 }
 
 leaf_behind : (old : List Part) (p : Part) (t : Typ) → IsLeafOf p t → IsBehind old p
-leaf_behind old p (TFree x s) is k kids e = absurd (let f : fixed x s ≡ made k kids = sym is ∙ e in cc)
-leaf_behind old p (TVar x i s) is k kids e = absurd (let f : variable x i s ≡ made k kids = sym is ∙ e in cc)
+leaf_behind old p (TFree x s) is k kids e = absurd (fixed_made x k s kids (sym is ∙ e))
+leaf_behind old p (TVar x i s) is k kids e = absurd (variable_made x i k s kids (sym is ∙ e))
 leaf_behind old p (Con l ts) is k kids e = absurd is
 
 leaf_stands : (parts : List Part) (p : Part) (t : Typ) (i : ℕ) → IsLeafOf p t → slice_get parts i ≡ Some p → StandsFor parts i t
@@ -79,7 +88,7 @@ leaf_added old new p t i is put = record {
 
 pub made_put : (old new : List Part) (k : ℕ) (kids : List ℕ) (i : ℕ) → IsPut old new (made k kids) i → IsMadeAt old new k kids i
 made_put old new k kids i put = record {
-  grown = λ below. subst (IsGrown old) (sym put.0) (put_grown old (made k kids) (λ l others e. subst (Each (λ kid. kid < length old)) (let same : kids ≡ others = cc in same) below));
+  grown = λ below. subst (IsGrown old) (sym put.0) (put_grown old (made k kids) (λ l others e. subst (Each (λ kid. kid < length old)) (kids_same k l kids others e) below));
   stands = put_at old new (made k kids) i put;
 }
 

@@ -3,7 +3,7 @@ use Rattle.std.proofs.Common.{◌≡◌, ℕ, zero, suc, ◌+◌, ◌<◌, ◌�
 use Rattle.std.specs.Prelude.{slice_get, MatchBool, MatchOption}
 use Rattle.std.specs.BTreeMap.{BTreeMap, is_at}
 use Rattle.std.specs.Map.{lookup}
-use Rattle.std.proofs.lemmas.Option.{slice_get_within, slice_get_past}
+use Rattle.std.proofs.lemmas.Option.{slice_get_within, slice_get_past, same_Some, none-some}
 use Rattle.std.proofs.lemmas.List.{get_or_past, length-map, map-append}
 use Rattle.std.proofs.lemmas.Bool.{cases_lt}
 use Rattle.std.specs.declared.alloc.Global.{Global}
@@ -24,17 +24,19 @@ use Rattle.pure_tunify.specs.GraphCode.{part_of, KeepsValues, IsKept, root_at, s
 use Rattle.pure_tunify.proofs.GraphUnifier.{closed_values, values_unify, unifier_values}
 use Rattle.pure_tunify.proofs.GraphBuildLaws.{stands_on}
 
--- What holds below a number and at it.
-pub below_turn : (P : ℕ → Type 0) (n m : ℕ) → ((r : ℕ) → r < n → P r) → P n → m ≡ n + 1 → (r : ℕ) → r < m → P r
-below_turn P n m each p e r less = elim (cases_lt r n) [ inl lower ↦ each r lower | inr up ↦ subst P (let same : n ≡ r = omega arith in same) p ]
+in_first : (a b c : ℕ) → a ≡ b → a ≤ b + c
+in_first a b c e = omega arith
+
+in_rest : (a b c : ℕ) → a ≤ c → a ≤ b + c
+in_rest a b c e = omega arith
 
 -- Each class without a rank has one among the arguments of its shape: values of such ones would go down for ever.
 module _ (A : Algebra) (parts : List Part) (roots shapes ranks : List ℕ) (stuck : (r : ℕ) → slice_get ranks r ≡ Some 0 → HasStuckKid parts roots shapes ranks r) where
   module _ (v : ℕ → Typ) (fits : FitsAll A parts v) (by_root : KeepsValues v roots) (by_shape : KeepsValues v shapes) where
     size_in : (kids : List ℕ) (kid : ℕ) → IsIn kid kids → typ_size (v kid) ≤ typs_size (typs_of (map v kids))
     size_in [] kid m = absurd m
-    size_in (k ∷ kids) kid (inl e) = let s = ap (λ n. typ_size (v n)) e in omega arith
-    size_in (k ∷ kids) kid (inr m) = let s = size_in kids kid m in omega arith
+    size_in (k ∷ kids) kid (inl e) = in_first (typ_size (v kid)) (typ_size (v k)) (typs_size (typs_of (map v kids))) (ap (λ n. typ_size (v n)) e)
+    size_in (k ∷ kids) kid (inr m) = in_rest (typ_size (v kid)) (typ_size (v k)) (typs_size (typs_of (map v kids))) (size_in kids kid m)
 
     never_below : (n r : ℕ) → typ_size (v r) < n → slice_get ranks r ≡ Some 0 → ⊥
     never_below zero r less at = omega arith
@@ -50,54 +52,17 @@ module _ (A : Algebra) (parts : List Part) (roots shapes ranks : List ℕ) (stuc
   circular r at v fits by_root by_shape = never_below v fits by_root by_shape (suc (typ_size (v r))) r (omega arith) at
 
 module _ (parts : List Part) (roots shapes ranks : List ℕ) where
-  pub ranked_none : (r : ℕ) → shape_at parts shapes r ≡ None → IsRankedAt parts roots shapes ranks r
-  ranked_none r e k kids at = absurd (let f : None ≡ Some (made k kids) = sym e ∙ at in cc)
-
-  pub ranked_fixed : (r x : ℕ) (s : List ℕ) → shape_at parts shapes r ≡ Some (fixed x s) → IsRankedAt parts roots shapes ranks r
-  ranked_fixed r x s e k kids at = absurd (let f : Some (fixed x s) ≡ Some (made k kids) = sym e ∙ at in cc)
-
-  pub ranked_variable : (r x i : ℕ) (s : List ℕ) → shape_at parts shapes r ≡ Some (variable x i s) → IsRankedAt parts roots shapes ranks r
-  ranked_variable r x i s e k kids at = absurd (let f : Some (variable x i s) ≡ Some (made k kids) = sym e ∙ at in cc)
-
-  pub ranked_made : (r k : ℕ) (kids : List ℕ) → shape_at parts shapes r ≡ Some (made k kids) → Each (λ kid. rank_at ranks (root_at roots kid) < rank_at ranks r) kids → IsRankedAt parts roots shapes ranks r
-  ranked_made r k kids e each l others at =
-      subst (Each (λ kid. rank_at ranks (root_at roots kid) < rank_at ranks r)) (let f : Some (made k kids) ≡ Some (made l others) = sym e ∙ at in let same : kids ≡ others = cc in same) each
-
   pub all_ranked : (n : ℕ) → length parts ≤ length shapes → length shapes ≤ n → ((r : ℕ) → r < n → IsRankedAt parts roots shapes ranks r) → AreRanked (root_at roots) (shape_at parts shapes) (rank_at ranks)
   all_ranked n short full each r k kids at = elim (cases_lt r n) [
     | inl lower ↦ each r lower k kids at
-    | inr up ↦ absurd (let past : get_or shapes r r ≡ r = get_or_past shapes r r (omega arith) in
-        let f : None ≡ Some (made k kids) = sym (slice_get_past parts r (omega arith)) ∙ (ap (slice_get parts) (sym past) ∙ at) in cc)
+    | inr up ↦
+        let past : get_or shapes r r ≡ r = get_or_past shapes r r (omega arith) in
+        absurd (none-some (made k kids) (sym (slice_get_past parts r (omega arith)) ∙ (ap (slice_get parts) (sym past) ∙ at)))
   ]
 
--- A node and the shape of its class.
-pub agreeing : (root : ℕ → ℕ) (asked : ℕ → List ℕ) (shape : Option Part) (r : ℕ) (p q : Part) → shape ≡ Some q → AreSameHeads root p q → Agrees root asked shape r p
-agreeing root asked shape r (fixed x s) q e same = e ∙ ap Some same
-agreeing root asked shape r (variable x i s) q e same = absurd same
-agreeing root asked shape r (made k kids) q e same = (same.0, e ∙ ap Some same.1, same.2)
-
-part_at : (nodes : List Node) (i : ℕ) (n : Node) (p : Part) → i < length nodes → n ≡ get_or nodes i n → slice_get (map part_of nodes) i ≡ Some p → part_of n ≡ p
-part_at [] i n p less read at = absurd (omega arith)
-part_at (m ∷ nodes) zero n p less read at = ap part_of read ∙ (let same : part_of m ≡ p = cc in same)
-part_at (m ∷ nodes) (suc i) n p less read at = part_at nodes i n p (omega arith) read at
-
--- What holds of the nodes below a number and of the one at it.
-pub nodes_turn : (P : ℕ → Part → Type 0) (nodes : List Node) (n : ℕ) (node : Node) → n < length nodes → node ≡ get_or nodes n node → ((i : ℕ) (p : Part) → i < n → slice_get (map part_of nodes) i ≡ Some p → P i p) → P n (part_of node)
-    → (i : ℕ) (p : Part) → i < n + 1 → slice_get (map part_of nodes) i ≡ Some p → P i p
-nodes_turn P nodes n node within read each here i p less at = elim (cases_lt i n) [
-  | inl lower ↦ each i p lower at
-  | inr up ↦
-      let same : n ≡ i = omega arith in
-      subst (λ (j : ℕ). P j p) same (subst (P n) (part_at nodes n node p within read (ap (slice_get (map part_of nodes)) same ∙ at)) here)
-]
-
+-- What holds of the nodes below a number that is no less than their count.
 pub nodes_all : (P : ℕ → Part → Type 0) (nodes : List Node) (n : ℕ) → length nodes ≤ n → ((i : ℕ) (p : Part) → i < n → slice_get (map part_of nodes) i ≡ Some p → P i p) → (i : ℕ) (p : Part) → slice_get (map part_of nodes) i ≡ Some p → P i p
 nodes_all P nodes n full each i p at = each i p (let w = slice_get_within (map part_of nodes) i p at in let l = length-map part_of nodes in omega arith) at
-
-pub roots_turn : (f : ℕ → ℕ) (xs ys : List ℕ) (i x y : ℕ) → length xs ≡ length ys → i < length xs → x ≡ get_or xs i x → y ≡ get_or ys i y → map f (take i xs) ≡ map f (take i ys) → f x ≡ f y → map f (take (i + 1) xs) ≡ map f (take (i + 1) ys)
-roots_turn f xs ys i x y same less rx ry so_far here =
-    ap (map f) (longer_by xs i x less rx) ∙ (map-append f (take i xs) (x ∷ [])
-    ∙ ((λ l. so_far l ++ here l ∷ []) ∙ (sym (map-append f (take i ys) (y ∷ [])) ∙ sym (ap (map f) (longer_by ys i y (omega arith) ry)))))
 
 asked_past : (asked : List (Vec ℕ Global)) (r : ℕ) → length asked ≤ r → asked_at asked r ≡ []
 asked_past [] r full = refl
@@ -127,9 +92,7 @@ pub known_one : (leaves : BTreeMap Typ ℕ) (parts : List Part) (roots : List �
 known_one leaves parts roots known i j x k s at_i at_j =
     let a = known i (variable x k s) at_i in
     let b = known j (variable x k s) at_j in
-    let found : Some a.0 ≡ Some b.0 = a.1 ∙ sym b.1 in
-    let first : a.0 ≡ b.0 = cc in
-    sym a.2 ∙ (ap (root_at roots) first ∙ b.2)
+    sym a.2 ∙ (ap (root_at roots) (same_Some a.0 b.0 (a.1 ∙ sym b.1)) ∙ b.2)
 
 -- Whether two nodes have one value.
 module _ (A : Algebra) (parts : List Part) (i j : ℕ) where
@@ -138,8 +101,14 @@ module _ (A : Algebra) (parts : List Part) (i j : ℕ) where
       let h = closed_values A parts (root_at roots) (shape_at parts shapes) (rank_at c.ranks) (asked_at c.asked) c.closed in
       record { value = h.value; fits = h.fits; one = λ a b x k s at_a at_b. h.same a b (c.one a b x k s at_a at_b); same = h.same i j e }
 
-  pub never_value : (classes : Classes) → ((B : Algebra) (v : ℕ → Typ) → FitsAll B parts v → v i ≡ v j → IsKept v classes) → AreNeverMet A parts classes.parent.items classes.shape.items → NeverHaveOneValue A parts i j
-  never_value classes kept never v fits e = let k = kept A v fits e in never v fits k.parent k.shape
+  pub never_joined : (others : List Part) (found : Option Classes) → others ≡ parts → ((B : Algebra) (v : ℕ → Typ) → FitsAll B others v → v i ≡ v j → MatchOption found ⊥ (IsKept v)) → found ≡ None → NeverHaveOneValue A parts i j
+  never_joined others found e kept none v fits same = subst (λ (o : Option Classes). MatchOption o ⊥ (IsKept v)) none (kept A v (subst (λ (ps : List Part). FitsAll A ps v) (sym e) fits) same)
+
+  pub never_value : (others : List Part) (found : Option Classes) (classes : Classes) (roots shapes : List ℕ) → others ≡ parts → ((B : Algebra) (v : ℕ → Typ) → FitsAll B others v → v i ≡ v j → MatchOption found ⊥ (IsKept v)) → found ≡ Some classes
+      → roots ≡ classes.parent.items → shapes ≡ classes.shape.items → AreNeverMet A parts roots shapes → NeverHaveOneValue A parts i j
+  never_value others found classes roots shapes e kept some is_roots is_shapes never v fits same =
+      let k : IsKept v classes = subst (λ (o : Option Classes). MatchOption o ⊥ (IsKept v)) some (kept A v (subst (λ (ps : List Part). FitsAll A ps v) (sym e) fits) same) in
+      never v fits (subst (KeepsValues v) (sym is_roots) k.parent) (subst (KeepsValues v) (sym is_shapes) k.shape)
 
 -- Whether the two types have a unifier.
 pub unifiable_answer : (A : Algebra) (first second third : List Part) (left right : Typ) (i j : ℕ) (can : Bool) → first ≡ [] → IsAdded first second left i → IsAdded second third right j
@@ -148,6 +117,16 @@ unifiable_answer A first second third left right i j true empty a b h =
     let u = values_unify A third h.value h.fits h.one in
     (u.0, record { substitution = u.1; equates = (u.2 i left (stands_on second third b.grown i left a.stands) ∙ (h.same ∙ sym (u.2 j right b.stands)), tt) })
 unifiable_answer A first second third left right i j false empty a b h = λ typs u.
-    let none : AreBefore first = subst AreBefore (sym empty) (λ n k kids at. absurd (cc)) in
+    let none : AreBefore first = subst AreBefore (sym empty) (λ n k kids at. absurd (none-some (made k kids) at)) in
     let w = unifier_values A third (b.grown.before (a.grown.before none)) typs u.substitution in
     h w.0 w.1 (w.2 i left (stands_on second third b.grown i left a.stands) ∙ (u.equates.0 ∙ sym (w.2 j right b.stands)))
+
+-- What is said of the numbers that stand at places of a list without a rank.
+pub stuck_turn : (P : ℕ → Type 0) (ranks : List ℕ) (n : ℕ) → ((r : ℕ) → r < n → slice_get ranks r ≡ Some 0 → P r) → (slice_get ranks n ≡ Some 0 → P n) → (r : ℕ) → r < n + 1 → slice_get ranks r ≡ Some 0 → P r
+stuck_turn P ranks n each here r less = elim (cases_lt r n) [
+  | inl lower ↦ each r lower
+  | inr up ↦ subst (λ (k : ℕ). slice_get ranks k ≡ Some 0 → P k) (let same : n ≡ r = omega arith in same) here
+]
+
+pub stuck_all : (P : ℕ → Type 0) (ranks : List ℕ) (n : ℕ) → length ranks ≤ n → ((r : ℕ) → r < n → slice_get ranks r ≡ Some 0 → P r) → (r : ℕ) → slice_get ranks r ≡ Some 0 → P r
+stuck_all P ranks n full each r at = each r (let within = slice_get_within ranks r 0 at in omega arith) at

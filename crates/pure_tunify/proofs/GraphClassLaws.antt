@@ -1,8 +1,10 @@
 -- Classes of nodes that have one value: what the steps that make them keep.
 use Rattle.std.proofs.Common.{◌≡◌, ◌≢◌, ℕ, zero, suc, ◌+◌, ◌<◌, ◌≤◌, List, [], ◌∷◌, ◌++◌, map, length, get_or, Option, Some, None, inl, inr, refl, ap, sym, subst, ◌∙◌, arith, Bool, true, false}
 use Rattle.std.specs.Prelude.{slice_get, MatchBool}
-use Rattle.std.proofs.lemmas.Option.{slice_get-map}
-use Rattle.pure_text.specs.Lists.{IsIn, Each, EachTwo}
+use Rattle.std.proofs.lemmas.Option.{same_Some, none-some}
+use Rattle.std.specs.declared.alloc.Global.{Global}
+use Rattle.std.specs.declared.vec.Vec.{Vec}
+use Rattle.pure_text.specs.Lists.{IsIn, Each, AnyOf, EachTwo}
 use Rattle.pure_text.proofs.ListLaws.{each-append, each-left, each-right, each_read, two_long, two_read, any_of, each_of}
 use Rattle.pure_definitions.specs.Types.Typ.{Typ, TFree, TVar, Con, Typs, none, also, typs_of}
 use Rattle.pure_definitions.specs.Types.Order.{Algebra, HasClassBelow, IsClassBelow, IsOfClass, AreOfSorts, IsOfSort}
@@ -14,10 +16,13 @@ use Rattle.pure_tunify.specs.declared.classes.Classes.{Classes}
 use Rattle.pure_tunify.specs.declared.demands.Demand.{Demand}
 use Rattle.pure_tunify.specs.GraphCode.{part_of, KeepsValues, AreCoupled, IsKept, AreNodesMet, AreJoined, AreClosed, AreDemanded, IsDemanding, IsAsking, AreNeverMet}
 
+none_also : (t : Typ) (ts : Typs) → none ≡ also t ts → ⊥
+none_also t ts e = cc
+
 typs_same : (ts us : List Typ) → typs_of ts ≡ typs_of us → ts ≡ us
 typs_same [] [] e = refl
-typs_same [] (u ∷ us) e = absurd (cc)
-typs_same (t ∷ ts) [] e = absurd (cc)
+typs_same [] (u ∷ us) e = absurd (none_also u (typs_of us) e)
+typs_same (t ∷ ts) [] e = absurd (none_also t (typs_of ts) (sym e))
 typs_same (t ∷ ts) (u ∷ us) e = λ l. first_of t u (typs_of ts) (typs_of us) e l ∷ typs_same ts us (rest_of t u (typs_of ts) (typs_of us) e) l
   where
     first_of : (t u : Typ) (ts us : Typs) → also t ts ≡ also u us → t ≡ u
@@ -36,17 +41,20 @@ map-long : (v : ℕ → Typ) (js : List ℕ) → length (map v js) ≡ length js
 map-long v [] = refl
 map-long v (j ∷ js) = ap suc (map-long v js)
 
+some_nothing : (t : Typ) (ts : List Typ) → t ∷ ts ≡ [] → ⊥
+some_nothing t ts e = cc
+
+head_same : (t u : Typ) (ts us : List Typ) → t ∷ ts ≡ u ∷ us → t ≡ u
+head_same t u ts us e = cc
+
+tail_same : (t u : Typ) (ts us : List Typ) → t ∷ ts ≡ u ∷ us → ts ≡ us
+tail_same t u ts us e = cc
+
 map_read : (v : ℕ → Typ) (js ks : List ℕ) (i j k : ℕ) → map v js ≡ map v ks → i < length js → j ≡ get_or js i j → k ≡ get_or ks i k → v j ≡ v k
 map_read v [] ks i j k e less rj rk = absurd (omega arith)
-map_read v (x ∷ js) [] i j k e less rj rk = absurd (cc)
-map_read v (x ∷ js) (y ∷ ks) zero j k e less rj rk = ap v rj ∙ (heads ∙ sym (ap v rk))
-  where
-    heads : v x ≡ v y
-    heads = cc
-map_read v (x ∷ js) (y ∷ ks) (suc i) j k e less rj rk = map_read v js ks i j k tails (omega arith) rj rk
-  where
-    tails : map v js ≡ map v ks
-    tails = cc
+map_read v (x ∷ js) [] i j k e less rj rk = absurd (some_nothing (v x) (map v js) e)
+map_read v (x ∷ js) (y ∷ ks) zero j k e less rj rk = ap v rj ∙ (head_same (v x) (v y) (map v js) (map v ks) e ∙ sym (ap v rk))
+map_read v (x ∷ js) (y ∷ ks) (suc i) j k e less rj rk = map_read v js ks i j k (tail_same (v x) (v y) (map v js) (map v ks) e) (omega arith) rj rk
 
 -- Couples that are put behind others, and taken from behind.
 pub coupled_more : (v : ℕ → Typ) (old new : List Couple) (c : Couple) → new ≡ old ++ c ∷ [] → AreCoupled v old → v c.left ≡ v c.right → AreCoupled v new
@@ -57,9 +65,9 @@ coupled_left v old new c e each =
     let all = subst (AreCoupled v) e each in
     (each-left (λ (d : Couple). v d.left ≡ v d.right) new (c ∷ []) all, (each-right (λ (d : Couple). v d.left ≡ v d.right) new (c ∷ []) all).0)
 
-pub coupled_turn : (v : ℕ → Typ) (lefts rights : List ℕ) (i l r : ℕ) (old new : List Couple) (c : Couple) → i < length lefts → l ≡ get_or lefts i l → r ≡ get_or rights i r → c.left ≡ l → c.right ≡ r → new ≡ old ++ c ∷ []
+pub coupled_turn : (v : ℕ → Typ) (lefts rights : List ℕ) (i l r : ℕ) (old new : List Couple) → i < length lefts → l ≡ get_or lefts i l → r ≡ get_or rights i r → new ≡ old ++ record { left = l; right = r } ∷ []
     → map v lefts ≡ map v rights → AreCoupled v old → AreCoupled v new
-coupled_turn v lefts rights i l r old new c less rl rr cl cr e same each = coupled_more v old new c e each (ap v cl ∙ (map_read v lefts rights i l r same less rl rr ∙ sym (ap v cr)))
+coupled_turn v lefts rights i l r old new less rl rr e same each = coupled_more v old new (record { left = l; right = r }) e each (map_read v lefts rights i l r same less rl rr)
 
 -- Two nodes that have one value: their heads are the same, and their arguments have one value each.
 module _ (old new : List Couple) where
@@ -73,31 +81,6 @@ module _ (old new : List Couple) where
   pub made_met : (k l : ℕ) (ks ls : List ℕ) → ((v : ℕ → Typ) → AreCoupled v old → map v ks ≡ map v ls → AreCoupled v new) → AreNodesMet (made k ks) (made l ls) old new true
   made_met k l ks ls more A v t f g each = more v each (typs_same (map v ks) (map v ls) (con_args k l _ _ (sym f ∙ g)))
 
-  pub fixed_met : (x y : ℕ) (s r : List ℕ) (same : Bool) → new ≡ old → (same ≡ false → (x ≡ y) × (s ≡ r) → ⊥) → AreNodesMet (fixed x s) (fixed y r) old new same
-  fixed_met x y s r true e apart A v t f g each = subst (AreCoupled v) (sym e) each
-  fixed_met x y s r false e apart A v t f g each = apart refl (names, sorts)
-    where
-      both : TFree x s ≡ TFree y r
-      both = sym f ∙ g
-
-      names : x ≡ y
-      names = cc
-
-      sorts : s ≡ r
-      sorts = cc
-
-  pub fixed_made : (x k : ℕ) (s ks : List ℕ) → AreNodesMet (fixed x s) (made k ks) old new false
-  fixed_made x k s ks A v t f g each = absurd (let e = sym f ∙ g in differ (typs_of (map v ks)) e)
-    where
-      differ : (ts : Typs) → TFree x s ≡ Con k ts → ⊥
-      differ ts e = cc
-
-  pub made_fixed : (x k : ℕ) (s ks : List ℕ) → AreNodesMet (made k ks) (fixed x s) old new false
-  made_fixed x k s ks A v t f g each = fixed_made x k s ks A v t g f each
-
-  pub nothing_met : (p q : Part) → new ≡ old → AreNodesMet p q old new true
-  nothing_met p q e A v t f g each = subst (AreCoupled v) (sym e) each
-
 -- What sorts ask.
 pub demanded_more : (A : Algebra) (v : ℕ → Typ) (old new : List Demand) (d : Demand) → new ≡ old ++ d ∷ [] → AreDemanded A v old → IsOfClass A (v d.node) d.class → AreDemanded A v new
 demanded_more A v old new d e each of = subst (AreDemanded A v) (sym e) (each-append (λ (x : Demand). IsOfClass A (v x.node) x.class) old (d ∷ []) each (of, tt))
@@ -107,10 +90,9 @@ demanded_left A v old new d e each =
     let all = subst (AreDemanded A v) e each in
     (each-left (λ (x : Demand). IsOfClass A (v x.node) x.class) new (d ∷ []) all, (each-right (λ (x : Demand). IsOfClass A (v x.node) x.class) new (d ∷ []) all).0)
 
-pub sort_turn : (A : Algebra) (v : ℕ → Typ) (sort : List ℕ) (i c node : ℕ) (old new : List Demand) (d : Demand) → i < length sort → c ≡ get_or sort i c → d.node ≡ node → d.class ≡ c → new ≡ old ++ d ∷ []
+pub sort_turn : (A : Algebra) (v : ℕ → Typ) (sort : List ℕ) (i c node : ℕ) (old new : List Demand) → i < length sort → c ≡ get_or sort i c → new ≡ old ++ record { node = node; class = c } ∷ []
     → IsOfSort A (v node) sort → AreDemanded A v old → AreDemanded A v new
-sort_turn A v sort i c node old new d less read dn dc e of each =
-    demanded_more A v old new d e each (subst (λ (n : ℕ). IsOfClass A (v n) d.class) (sym dn) (subst (IsOfClass A (v node)) (sym dc) (each_read (IsOfClass A (v node)) sort i c less read of)))
+sort_turn A v sort i c node old new less read e of each = demanded_more A v old new (record { node = node; class = c }) e each (each_read (IsOfClass A (v node)) sort i c less read of)
 
 map_get : (v : ℕ → Typ) (js : List ℕ) (i j : ℕ) → i < length js → j ≡ get_or js i j → v j ≡ get_or (map v js) i (v j)
 map_get v [] i j less read = absurd (omega arith)
@@ -126,16 +108,6 @@ pub long_domains : (A : Algebra) (v : ℕ → Typ) (kids : List ℕ) (domains : 
 long_domains A v kids domains of = sym (map-long v kids) ∙ two_long (IsOfSort A) (map v kids) domains ((are_of_sorts A (map v kids) domains).0 of)
 
 module _ (A : Algebra) (old new : List Demand) (c : ℕ) where
-  pub fixed_demand : (x : ℕ) (s : List ℕ) (can : Bool) → new ≡ old → MatchBool can (HasClassBelow A s c) (¬ HasClassBelow A s c) → IsDemanding A (fixed x s) c old new can
-  fixed_demand x s true e h v t f of each = subst (AreDemanded A v) (sym e) each
-  fixed_demand x s false e h v t f of each = h (subst (λ (T : Typ). IsOfClass A T c) f of)
-
-  pub variable_demand : (p : Part) → new ≡ old → IsDemanding A p c old new true
-  variable_demand p e v t f of each = subst (AreDemanded A v) (sym e) each
-
-  pub none_demand : (k : ℕ) (kids : List ℕ) → ((ts : Typs) → ¬ IsOfClass A (Con k ts) c) → IsDemanding A (made k kids) c old new false
-  none_demand k kids none v t f of each = none (typs_of (map v kids)) (subst (λ (T : Typ). IsOfClass A T c) f of)
-
   module _ (k : ℕ) (kids : List ℕ) (domains : List (List ℕ)) (exact : (ts : Typs) → (IsOfClass A (Con k ts) c → AreOfSorts A ts domains) × (AreOfSorts A ts domains → IsOfClass A (Con k ts) c)) where
     pub long_demand : (length kids ≡ length domains → ⊥) → IsDemanding A (made k kids) c old new false
     long_demand apart v t f of each = apart (long_domains A v kids domains ((exact (typs_of (map v kids))).0 (subst (λ (T : Typ). IsOfClass A T c) f of)))
@@ -144,7 +116,75 @@ module _ (A : Algebra) (old new : List Demand) (c : ℕ) where
     made_demand more v t f of each = more A v each ((exact (typs_of (map v kids))).0 (subst (λ (T : Typ). IsOfClass A T c) f of))
 
 -- Reading nodes as parts.
-pub part_read : (nodes : List Node) (i : ℕ) (n : Node) → slice_get nodes i ≡ Some n → slice_get (map part_of nodes) i ≡ Some (part_of n)
-part_read [] i n e = absurd (cc)
-part_read (m ∷ nodes) zero n e = ap Some (ap part_of (let same : m ≡ n = cc in same))
-part_read (m ∷ nodes) (suc i) n e = part_read nodes i n e
+pub node_at : (nodes : List Node) (i : ℕ) (n : Node) → i < length nodes → n ≡ get_or nodes i n → slice_get (map part_of nodes) i ≡ Some (part_of n)
+node_at [] i n less read = absurd (omega arith)
+node_at (m ∷ nodes) zero n less read = ap (λ k. Some (part_of k)) (sym read)
+node_at (m ∷ nodes) (suc i) n less read = node_at nodes i n (omega arith) read
+
+pub none_any : {X : Type 0} (P : X → Type 0) (xs : List X) → Each (λ x. ¬ P x) xs → ¬ AnyOf P xs
+none_any P [] each m = m
+none_any P (x ∷ xs) each (inl p) = each.0 p
+none_any P (x ∷ xs) each (inr m) = none_any P xs each.1 m
+
+-- What stands behind a number.
+pub keeps_read : (v : ℕ → Typ) (xs ys : List ℕ) (i n : ℕ) → KeepsValues v xs → ys ≡ xs → n ≡ get_or ys i i → v i ≡ v n
+keeps_read v xs ys i n kept e read = kept i ∙ sym (ap v (read ∙ ap (λ zs. get_or zs i i) e))
+
+-- Two classes made one.
+module _ (parts : List Part) where
+  pub joined : (old new : Classes) (low high first second : ℕ) (p q : Part) (can : Bool) → slice_get parts first ≡ Some p → slice_get parts second ≡ Some q
+      → ((v : ℕ → Typ) → KeepsValues v old.shape.items → (v low ≡ v first) × (v high ≡ v second))
+      → ((v : ℕ → Typ) → KeepsValues v old.parent.items → v high ≡ v low → KeepsValues v new.parent.items)
+      → ((v : ℕ → Typ) → KeepsValues v old.shape.items → v low ≡ v second → KeepsValues v new.shape.items)
+      → AreNodesMet p q old.work.items new.work.items can → AreJoined parts old new low high can
+  joined old new low high first second p q can at_first at_second shapes hung chosen met A v fits kept e = by can (met A v (v first) (fits first p at_first) (subst (Fits A v q) (sym second_first) (fits second q at_second)) kept.work)
+    where
+      low_second : v low ≡ v second
+      low_second = e ∙ (shapes v kept.shape).1
+
+      second_first : v first ≡ v second
+      second_first = sym (shapes v kept.shape).0 ∙ low_second
+
+      by : (b : Bool) → MatchBool b (AreCoupled v new.work.items) ⊥ → MatchBool b (IsKept v new) ⊥
+      by true work = record { parent = hung v kept.parent (sym e); shape = chosen v kept.shape low_second; work = work }
+      by false never = never
+
+  pub joined_roots : (old mid new : Classes) (first : List ℕ) (i j a b : ℕ) (can : Bool) → ((v : ℕ → Typ) → KeepsValues v old.parent.items → KeepsValues v first × (v i ≡ v a))
+      → ((v : ℕ → Typ) → KeepsValues v first → KeepsValues v mid.parent.items × (v j ≡ v b)) → mid.shape ≡ old.shape → mid.work ≡ old.work → AreJoined parts mid new a b can → AreJoined parts old new i j can
+  joined_roots old mid new first i j a b can to_a to_b shape work join A v fits kept e =
+      let one = to_a v kept.parent in
+      let two = to_b v one.0 in
+      join A v fits
+      (record {
+        parent = two.0;
+        shape = subst (λ (s : Vec ℕ Global). KeepsValues v s.items) (sym shape) kept.shape;
+        work = subst (λ (w : Vec Couple Global). AreCoupled v w.items) (sym work) kept.work;
+      })
+      (sym one.1 ∙ (e ∙ two.1))
+
+  pub turned_round : (old new : Classes) (i j : ℕ) (can : Bool) → AreJoined parts old new i j can → AreJoined parts old new j i can
+  turned_round old new i j can join A v fits kept e = join A v fits kept (sym e)
+
+  pub closing : (now mid new : Classes) (c : Couple) (can : Bool) → mid.parent ≡ now.parent → mid.shape ≡ now.shape → now.work.items ≡ mid.work.items ++ c ∷ [] → AreJoined parts mid new c.left c.right can → AreClosed parts now new can
+  closing now mid new c can parent shape work join A v fits kept =
+      let left = coupled_left v now.work.items mid.work.items c work kept.work in
+      join A v fits
+      (record {
+        parent = subst (λ (s : Vec ℕ Global). KeepsValues v s.items) (sym parent) kept.parent;
+        shape = subst (λ (s : Vec ℕ Global). KeepsValues v s.items) (sym shape) kept.shape;
+        work = left.0;
+      })
+      left.1
+
+  pub closed_false : (old new : Classes) (can : Bool) → AreClosed parts old new can → can ≡ false → (A : Algebra) (v : ℕ → Typ) → FitsAll A parts v → IsKept v old → ⊥
+  closed_false old new can h e A v fits kept = subst (λ (b : Bool). MatchBool b (IsKept v new) ⊥) e (h A v fits kept)
+
+  pub closed_true : (old new : Classes) (can : Bool) → AreClosed parts old new can → can ≡ true → (A : Algebra) (v : ℕ → Typ) → FitsAll A parts v → IsKept v old → IsKept v new
+  closed_true old new can h e A v fits kept = subst (λ (b : Bool). MatchBool b (IsKept v new) ⊥) e (h A v fits kept)
+
+-- What is asked of all nodes.
+module _ (A : Algebra) (parts : List Part) (roots shapes : List ℕ) where
+  pub asking : (node class root first : ℕ) (p : Part) (old new : List Demand) (can : Bool) → root ≡ get_or roots node node → first ≡ get_or shapes root root → slice_get parts first ≡ Some p → IsDemanding A p class old new can
+      → IsAsking A parts roots shapes node class old new can
+  asking node class root first p old new can is_root is_first at demands v fits by_root by_shape of each =
+      demands v (v first) (fits first p at) (subst (λ (T : Typ). IsOfClass A T class) (by_root node ∙ (sym (ap v is_root) ∙ (by_shape root ∙ sym (ap v is_first)))) of) each

@@ -60,7 +60,7 @@ module _ (leaf : ℕ → Typ) (root : ℕ → ℕ) (shape : ℕ → Option Part)
   value_built r (Some (made k kids)) e =
       ap (built_of leaf root (level leaf root shape (rank r)) r) e
       ∙ ap (λ ts. Con k (typs_of ts)) (maps_agree (λ kid. rank (root kid) < rank r) (λ kid. level leaf root shape (rank r) (root kid)) (λ kid. ranked_value (root kid)) kids (ranked r k kids e)
-          (λ kid less. levels_agree (rank r) (suc (rank (root kid))) (root kid) less (omega arith)))
+      (λ kid less. levels_agree (rank r) (suc (rank (root kid))) (root kid) less (omega arith)))
 
   pub built : (value : ℕ → Typ) × ((r : ℕ) → IsBuiltAs leaf root value r (shape r))
   built = (ranked_value, λ r. value_built r (shape r) refl)

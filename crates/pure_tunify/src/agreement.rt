@@ -43,12 +43,20 @@ fn have_same_heads(roots: &[usize], node: &Node, shape: &Node) -> bool
     ensures { OnTrue result (AreSameHeads (root_at roots.now) (part_of node.now) (part_of shape.now)) }
 {
     match (node, shape) {
-        (Node::Fixed { name, sort }, Node::Fixed { name: other, sort: own }) => {
-            *name == *other && *sort == *own
-        }
-        (Node::Made { name, kids }, Node::Made { name: other, kids: others }) => {
-            *name == *other && have_same_roots(roots, kids.as_slice(), others.as_slice())
-        }
+        (
+            Node::Fixed { name, sort },
+            Node::Fixed {
+                name: other,
+                sort: own,
+            },
+        ) => { *name == *other && *sort == *own }
+        (
+            Node::Made { name, kids },
+            Node::Made {
+                name: other,
+                kids: others,
+            },
+        ) => { *name == *other && have_same_roots(roots, kids.as_slice(), others.as_slice()) }
         (_, _) => false,
     }
 }
@@ -87,19 +95,16 @@ pub fn all_agree(nodes: &[Node], roots: &[usize], shapes: &[usize], asked: &[Vec
 }
 
 /// Whether the sorts are asked of the nodes, each of its own.
-fn are_sorts_asked(
-    roots: &[usize],
-    asked: &[Vec<Name>],
-    kids: &[usize],
-    domains: &[Sort],
-) -> bool
+fn are_sorts_asked(roots: &[usize], asked: &[Vec<Name>], kids: &[usize], domains: &[Sort]) -> bool
     ensures { OnTrue result (EachTwo (λ kid sort. Each (λ d. IsIn d (asked_at asked.now (root_at roots.now kid))) sort) kids.now domains.now) }
 {
     if kids.len() != domains.len() {
         return false;
     }
     for i in 0..kids.len() {
-        if !is_sort_asked(asked, number_at(roots, kids[i]), &domains[i]) {
+        let (kid, domain) = (&kids[i], &domains[i]);
+        let root = number_at(roots, *kid);
+        if !is_sort_asked(asked, root, domain) {
             return false;
         }
     }
@@ -117,7 +122,11 @@ fn is_met(order: &Order, roots: &[usize], asked: &[Vec<Name>], class: Name, shap
             let Some(domains) = order.domains(*name, class) else {
                 return false;
             };
-            are_sorts_asked(roots, asked, kids.as_slice(), domains)
+            let kids = kids.as_slice();
+            if !are_sorts_asked(roots, asked, kids, domains) {
+                return false;
+            }
+            true
         }
     }
 }
@@ -156,7 +165,8 @@ pub fn all_met(
     ensures { OnTrue result (AllMet order.now (map part_of nodes.now) roots.now shapes.now asked.now) }
 {
     for root in 0..asked.len() {
-        let classes = asked[root].as_slice();
+        let own = &asked[root];
+        let classes = own.as_slice();
         if !are_met(order, nodes, roots, shapes, asked, root, classes) {
             return false;
         }

@@ -73,17 +73,16 @@ fn is_variable_at(nodes: &[Node], at: usize) -> bool {
 }
 
 /// Adds the couples of arguments.
-fn couple_each(
-    work: &mut Vec<Couple>,
-    lefts: &[usize],
-    rights: &[usize],
-) -> Result<(), AllocError>
+fn couple_each(work: &mut Vec<Couple>, lefts: &[usize], rights: &[usize]) -> Result<(), AllocError>
     requires { length lefts.now ≡ length rights.now }
     ensures { OnOk result ((v : ℕ → tree.Typ) → AreCoupled v work.old.items → map v lefts.now ≡ map v rights.now → AreCoupled v work.new.items) }
 {
     for i in 0..lefts.len() {
-        let (left, right) = (lefts[i], rights[i]);
-        work.push(Couple { left, right })?;
+        let (left, right) = (&lefts[i], &rights[i]);
+        work.push(Couple {
+            left: *left,
+            right: *right,
+        })?;
     }
     Ok(())
 }
@@ -93,7 +92,13 @@ fn meet(left: &Node, right: &Node, work: &mut Vec<Couple>) -> Result<bool, Alloc
     ensures { IfOk result (AreNodesMet (part_of left.now) (part_of right.now) work.old.items work.new.items) }
 {
     match (left, right) {
-        (Node::Made { name, kids }, Node::Made { name: other, kids: others }) => {
+        (
+            Node::Made { name, kids },
+            Node::Made {
+                name: other,
+                kids: others,
+            },
+        ) => {
             if *name != *other {
                 return Ok(false);
             }
@@ -104,9 +109,13 @@ fn meet(left: &Node, right: &Node, work: &mut Vec<Couple>) -> Result<bool, Alloc
             couple_each(work, kids, others)?;
             Ok(true)
         }
-        (Node::Fixed { name, sort }, Node::Fixed { name: other, sort: own }) => {
-            Ok(*name == *other && *sort == *own)
-        }
+        (
+            Node::Fixed { name, sort },
+            Node::Fixed {
+                name: other,
+                sort: own,
+            },
+        ) => { Ok(*name == *other && *sort == *own) }
         (Node::Fixed { .. }, Node::Made { .. }) => Ok(false),
         (Node::Made { .. }, Node::Fixed { .. }) => Ok(false),
         (Node::Variable { .. }, _) => Ok(true),
@@ -114,25 +123,31 @@ fn meet(left: &Node, right: &Node, work: &mut Vec<Couple>) -> Result<bool, Alloc
     }
 }
 
-/// Makes two classes one, with these nodes of theirs as shapes.
-fn unite(
-    nodes: &[Node],
-    classes: &mut Classes,
-    low: usize,
-    high: usize,
-) -> Result<bool, AllocError>
+/// Takes the second node as a class's shape, where the first one is a schematic variable.
+fn choose(nodes: &[Node], shape: &mut Vec<usize>, class: usize, first: usize, second: usize)
+    ensures { (v : ℕ → tree.Typ) → KeepsValues v shape.old.items → v class ≡ v second → KeepsValues v shape.new.items }
+{
+    if is_variable_at(nodes, first) {
+        set_at(shape, class, second);
+    }
+}
+
+/// Makes two classes one, and adds the couples of their shapes' arguments; false where they never have one value.
+fn unite(nodes: &[Node], classes: &mut Classes, low: usize, high: usize) -> Result<bool, AllocError>
     ensures { IfOk result (AreJoined (map part_of nodes.now) classes.old classes.new low high) }
 {
     let first = number_at(classes.shape.as_slice(), low);
     let second = number_at(classes.shape.as_slice(), high);
     set_at(&mut classes.parent, high, low);
-    if is_variable_at(nodes, first) {
-        set_at(&mut classes.shape, low, second);
-    }
-    match (nodes.get(first), nodes.get(second)) {
-        (Some(left), Some(right)) => meet(left, right, &mut classes.work),
-        (_, _) => Err(AllocError),
-    }
+    choose(nodes, &mut classes.shape, low, first, second);
+    let Some(left) = nodes.get(first) else {
+        return Err(AllocError);
+    };
+    let Some(right) = nodes.get(second) else {
+        return Err(AllocError);
+    };
+    let can = meet(left, right, &mut classes.work)?;
+    Ok(can)
 }
 
 /// Makes the classes of two nodes one; false where they never have one value.
@@ -145,10 +160,11 @@ fn join(nodes: &[Node], classes: &mut Classes, couple: Couple) -> Result<bool, A
         return Ok(true);
     }
     if left < right {
-        unite(nodes, classes, left, right)
-    } else {
-        unite(nodes, classes, right, left)
+        let can = unite(nodes, classes, left, right)?;
+        return Ok(can);
     }
+    let can = unite(nodes, classes, right, left)?;
+    Ok(can)
 }
 
 /// Makes the nodes of all couples that are left one; false where they never have one value.

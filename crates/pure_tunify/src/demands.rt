@@ -5,7 +5,7 @@ ghost use Rattle.pure_text.specs.Lists.{IsIn};
 ghost use Rattle.pure_definitions.specs.Types.Typ as tree;
 ghost use Rattle.pure_definitions.specs.Types.Typ.{typs_of};
 ghost use Rattle.pure_definitions.specs.Types.Order.{Algebra, HasClassBelow, IsOfSort, AreOfSorts};
-ghost use Rattle.pure_tunify.specs.Graphs.{FitsAll};
+ghost use Rattle.pure_tunify.specs.Graphs.{Fits, FitsAll};
 ghost use Rattle.pure_tunify.specs.GraphCode.{part_of, asked_at, KeepsValues, AreDemanded, IsDemanding, IsAsking, AreNeverMet};
 
 use crate::classes::number_at;
@@ -74,16 +74,13 @@ fn demand_sort(work: &mut Vec<Demand>, node: usize, sort: &Sort) -> Result<(), A
 }
 
 /// Adds what sorts ask of the arguments of a constructor, each of its own.
-fn demand_each(
-    work: &mut Vec<Demand>,
-    kids: &[usize],
-    domains: &[Sort],
-) -> Result<(), AllocError>
+fn demand_each(work: &mut Vec<Demand>, kids: &[usize], domains: &[Sort]) -> Result<(), AllocError>
     requires { length kids.now ≡ length domains.now }
     ensures { OnOk result ((A : Algebra) (v : ℕ → tree.Typ) → AreDemanded A v work.old.items → AreOfSorts A (typs_of (map v kids.now)) domains.now → AreDemanded A v work.new.items) }
 {
     for i in 0..kids.len() {
-        demand_sort(work, kids[i], &domains[i])?;
+        let (kid, domain) = (&kids[i], &domains[i]);
+        demand_sort(work, *kid, domain)?;
     }
     Ok(())
 }
@@ -137,15 +134,28 @@ fn ask(
     }
 }
 
+/// Adds what a variable's sort asks of its node.
+fn first_demand(work: &mut Vec<Demand>, at: usize, node: &Node) -> Result<(), AllocError>
+    ensures { OnOk result ((A : Algebra) (v : ℕ → tree.Typ) → AreDemanded A v work.old.items → Fits A v (part_of node.now) (v at) → AreDemanded A v work.new.items) }
+{
+    match node {
+        Node::Fixed { .. } => Ok(()),
+        Node::Variable { sort, .. } => {
+            demand_sort(work, at, sort)?;
+            Ok(())
+        }
+        Node::Made { .. } => Ok(()),
+    }
+}
+
 /// What the sorts of the variables ask of them.
 fn first_demands(alloc: Global, nodes: &[Node]) -> Result<Vec<Demand>, AllocError>
     ensures { IfOk result (λ work. (A : Algebra) (v : ℕ → tree.Typ) → FitsAll A (map part_of nodes.now) v → AreDemanded A v work.items) }
 {
     let mut work = Vec::new(alloc);
     for at in 0..nodes.len() {
-        if let Node::Variable { sort, .. } = &nodes[at] {
-            demand_sort(&mut work, at, sort)?;
-        }
+        let node = &nodes[at];
+        first_demand(&mut work, at, node)?;
     }
     Ok(work)
 }

@@ -12,19 +12,9 @@ use std::collections::BTreeMap;
 /// A fixed type variable, a schematic one, or a constructor with the numbers of its arguments' nodes.
 #[derive(Drop)]
 pub enum Node {
-    Fixed {
-        name: Name,
-        sort: Sort,
-    },
-    Variable {
-        name: Name,
-        index: u32,
-        sort: Sort,
-    },
-    Made {
-        name: Name,
-        kids: Vec<usize>,
-    },
+    Fixed { name: Name, sort: Sort },
+    Variable { name: Name, index: u32, sort: Sort },
+    Made { name: Name, kids: Vec<usize> },
 }
 
 /// Nodes, and where they are found: the numbers of variables, and of constructors by their names and arguments.
@@ -51,9 +41,13 @@ fn is_leaf(node: &Node, t: &Typ) -> bool
     ensures { OnTrue result (IsLeafOf (part_of node.now) t.now) }
 {
     match (node, &t.node) {
-        (Node::Fixed { name, sort }, TypNode::TFree { name: own, sort: other }) => {
-            *name == *own && *sort == *other
-        }
+        (
+            Node::Fixed { name, sort },
+            TypNode::TFree {
+                name: own,
+                sort: other,
+            },
+        ) => { *name == *own && *sort == *other }
         (
             Node::Variable { name, index, sort },
             TypNode::TVar {
@@ -159,7 +153,10 @@ fn is_made(node: &Node, name: Name, kids: &[usize]) -> bool
     match node {
         Node::Fixed { .. } => false,
         Node::Variable { .. } => false,
-        Node::Made { name: own, kids: others } => *own == name && others.as_slice() == kids,
+        Node::Made {
+            name: own,
+            kids: others,
+        } => *own == name && others.as_slice() == kids,
     }
 }
 
@@ -216,7 +213,8 @@ pub fn add(graph: &mut Graph, alloc: Global, t: &Typ) -> Result<usize, AllocErro
                 let kid = add(graph, alloc, arg)?;
                 kids.push(kid)?;
             }
-            add_made(graph, alloc, *name, kids)
+            let at = add_made(graph, alloc, *name, kids)?;
+            Ok(at)
         }
     }
 }

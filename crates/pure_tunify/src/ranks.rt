@@ -1,5 +1,5 @@
 //! Ranks of classes of nodes: the classes of a constructor's arguments have lesser ones than its own, where there is no circle.
-ghost use Rattle.std.specs.Prelude.{◌≡◌, ◌<◌, map};
+ghost use Rattle.std.specs.Prelude.{◌≡◌, ◌≢◌, ◌<◌, ℕ, map, slice_get, Some, MatchBool};
 ghost use Rattle.std.specs.Bool.{OnTrue};
 ghost use Rattle.pure_text.specs.Lists.{Each};
 ghost use Rattle.pure_definitions.specs.Types.Order.{Algebra};
@@ -70,7 +70,11 @@ fn begin_class(
 }
 
 /// One argument of the class has its rank.
-fn wait_less(waits: &mut Vec<usize>, ready: &mut Vec<usize>, class: usize) -> Result<(), AllocError> {
+fn wait_less(
+    waits: &mut Vec<usize>,
+    ready: &mut Vec<usize>,
+    class: usize,
+) -> Result<(), AllocError> {
     if class < waits.len() {
         let left = waits[class];
         if left > 0 {
@@ -192,12 +196,23 @@ pub fn are_ranked(nodes: &[Node], roots: &[usize], shapes: &[usize], ranks: &[us
     true
 }
 
+/// Whether the class has no rank.
+fn is_unranked(ranks: &[usize], class: usize) -> bool
+    ensures { MatchBool result (slice_get ranks.now class ≡ Some 0) (slice_get ranks.now class ≢ Some 0) }
+{
+    match ranks.get(class) {
+        None => false,
+        Some(rank) => *rank == 0,
+    }
+}
+
 /// Whether an argument is of a class without a rank.
 fn has_unranked(kids: &[usize], roots: &[usize], ranks: &[usize]) -> bool
     ensures { OnTrue result (HasUnranked roots.now ranks.now kids.now) }
 {
     for kid in kids {
-        if let Some(0) = ranks.get(number_at(roots, *kid)) {
+        let root = number_at(roots, *kid);
+        if is_unranked(ranks, root) {
             return true;
         }
     }
@@ -222,18 +237,58 @@ fn is_stuck(
     }
 }
 
+/// Whether the class has a rank, or is stuck.
+fn is_ranked_or_stuck(
+    nodes: &[Node],
+    roots: &[usize],
+    shapes: &[usize],
+    ranks: &[usize],
+    class: usize,
+) -> bool
+    ensures { OnTrue result (slice_get ranks.now class ≡ Some 0 → HasStuckKid (map part_of nodes.now) roots.now shapes.now ranks.now class) }
+{
+    if !is_unranked(ranks, class) {
+        return true;
+    }
+    if !is_stuck(nodes, roots, shapes, ranks, class) {
+        return false;
+    }
+    true
+}
+
+/// Whether each class has a rank, or is stuck.
+fn all_ranked_or_stuck(nodes: &[Node], roots: &[usize], shapes: &[usize], ranks: &[usize]) -> bool
+    ensures { OnTrue result ((r : ℕ) → slice_get ranks.now r ≡ Some 0 → HasStuckKid (map part_of nodes.now) roots.now shapes.now ranks.now r) }
+{
+    for class in 0..ranks.len() {
+        if !is_ranked_or_stuck(nodes, roots, shapes, ranks, class) {
+            return false;
+        }
+    }
+    true
+}
+
+/// Whether some class has no rank.
+fn some_unranked(ranks: &[usize]) -> bool
+    ensures { OnTrue result ((r : ℕ) × (slice_get ranks.now r ≡ Some 0)) }
+{
+    for class in 0..ranks.len() {
+        if is_unranked(ranks, class) {
+            return true;
+        }
+    }
+    false
+}
+
 /// Whether some class has no rank, and each such one has an argument of such a one: then the nodes never have values.
 pub fn are_circular(nodes: &[Node], roots: &[usize], shapes: &[usize], ranks: &[usize]) -> bool
     ensures { OnTrue result ((A : Algebra) → AreNeverMet A (map part_of nodes.now) roots.now shapes.now) }
 {
-    let mut found = false;
-    for class in 0..ranks.len() {
-        if ranks[class] == 0 {
-            if !is_stuck(nodes, roots, shapes, ranks, class) {
-                return false;
-            }
-            found = true;
-        }
+    if !all_ranked_or_stuck(nodes, roots, shapes, ranks) {
+        return false;
     }
-    found
+    if !some_unranked(ranks) {
+        return false;
+    }
+    true
 }

@@ -34,7 +34,11 @@ fn is_of_sort(order: &Order, alloc: Global, t: &Typ, sort: &Sort) -> Result<bool
 }
 
 /// Whether each image, as it was set, is of its variable's sort.
-pub fn are_of_their_sorts(order: &Order, alloc: Global, settings: &Settings) -> Result<bool, AllocError>
+pub fn are_of_their_sorts(
+    order: &Order,
+    alloc: Global,
+    settings: &Settings,
+) -> Result<bool, AllocError>
     ensures { IfOk result (λ all. OnTrue all (Each (λ b. IsOfSort order.now b.image b.sort) settings.now.sets)) }
 {
     for bind in settings.binds() {
