@@ -5,7 +5,7 @@ use Rattle.std.proofs.lemmas.List.{reverse-reverse}
 use Rattle.std.proofs.lemmas.Grind.{reverse_onto}
 use Rattle.pure_text.specs.Lists.{IsIn, Each}
 use Rattle.pure_text.proofs.ListLaws.{each-append}
-use Rattle.pure_definitions.specs.Types.Typ.{Typ, TFree, TVar, Con, Typs, none, also, typs_of, typ_eq}
+use Rattle.pure_definitions.specs.Types.Typ.{Typ, TFree, TVar, Con, Typs, also, typs_of, typ_eq}
 use Rattle.pure_definitions.specs.Types.Occurs.{OccursInTyp}
 use Rattle.pure_definitions.specs.Types.Order.{Algebra, IsOfSort}
 use Rattle.pure_definitions.specs.Terms.Subst.{TypBind, IsTypMap, typ_variable, typ_image, typ_instance, typs_instance}
@@ -81,7 +81,7 @@ module _ (A : Algebra) (sets : List TypBind) (ps : List TypPair) (tri : AreTrian
     there_equates (q ∷ qs) all = (there_is q.left ∙ (all.0 ∙ sym (there_is q.right)), there_equates qs all.1)
 
     -- What unifies settings and pairs unifies the replaced pairs, but at the set variables.
-    pub replaced_unifier : IsUnifier A (map (instance_pair (composed sets)) ps) (but_set sets typs)
+    replaced_unifier : IsUnifier A (map (instance_pair (composed sets)) ps) (but_set sets typs)
     replaced_unifier = record { substitution = there_substitution; equates = there_equates ps each }
 
   module _ (distinct : IsTypMap sets) (sorts : Each (λ b. IsOfSort A b.image b.sort) sets) (typs : Typ → Typ) (u : IsUnifier A (map (instance_pair (composed sets)) ps) typs) where
@@ -98,7 +98,7 @@ module _ (A : Algebra) (sets : List TypBind) (ps : List TypPair) (tri : AreTrian
     behind_settings (b ∷ bs) h = (h b (inl refl), behind_settings bs (λ c m. h c (inr m)))
 
     -- What unifies the replaced pairs, behind the settings, unifies settings and pairs.
-    pub settings_unifier : IsSubstitution A behind × EquatesSettings behind sets × Each (Equates behind) ps
+    settings_unifier : IsSubstitution A behind × EquatesSettings behind sets × Each (Equates behind) ps
     settings_unifier = (
       after_is_substitution A (composed sets) typs (composed-substitution A sets sorts) u.substitution,
       behind_settings sets behind-image,
