@@ -1,20 +1,19 @@
 -- Classes of nodes that have one value: what the steps that make them keep.
-use Rattle.std.proofs.Common.{◌≡◌, ◌≢◌, ℕ, zero, suc, ◌+◌, ◌<◌, ◌≤◌, List, [], ◌∷◌, ◌++◌, map, length, get_or, Option, Some, None, inl, inr, refl, ap, sym, subst, ◌∙◌, arith, Bool, true, false}
+use Rattle.std.proofs.Common.{◌≡◌, ℕ, zero, suc, ◌+◌, ◌<◌, List, [], ◌∷◌, ◌++◌, map, length, get_or, Some, inl, inr, refl, ap, sym, subst, ◌∙◌, arith, Bool, true, false}
 use Rattle.std.specs.Prelude.{slice_get, MatchBool}
-use Rattle.std.proofs.lemmas.Option.{same_Some, none-some}
 use Rattle.std.specs.declared.alloc.Global.{Global}
 use Rattle.std.specs.declared.vec.Vec.{Vec}
-use Rattle.pure_text.specs.Lists.{IsIn, Each, AnyOf, EachTwo}
-use Rattle.pure_text.proofs.ListLaws.{each-append, each-left, each-right, each_read, two_long, two_read, any_of, each_of}
-use Rattle.pure_definitions.specs.Types.Typ.{Typ, TFree, TVar, Con, Typs, none, also, typs_of}
-use Rattle.pure_definitions.specs.Types.Order.{Algebra, HasClassBelow, IsClassBelow, IsOfClass, AreOfSorts, IsOfSort}
+use Rattle.pure_text.specs.Lists.{Each, AnyOf}
+use Rattle.pure_text.proofs.ListLaws.{each-append, each-left, each-right, each_read, two_long, two_read}
+use Rattle.pure_definitions.specs.Types.Typ.{Typ, Con, Typs, none, also, typs_of}
+use Rattle.pure_definitions.specs.Types.Order.{Algebra, IsOfClass, AreOfSorts, IsOfSort}
 use Rattle.pure_order.proofs.DomainLaws.{are_of_sorts}
-use Rattle.pure_tunify.specs.Graphs.{Part, fixed, variable, made, Fits, FitsAll}
+use Rattle.pure_tunify.specs.Graphs.{Part, made, Fits, FitsAll}
 use Rattle.pure_tunify.specs.declared.graph.Node.{Node}
 use Rattle.pure_tunify.specs.declared.classes.Couple.{Couple}
 use Rattle.pure_tunify.specs.declared.classes.Classes.{Classes}
 use Rattle.pure_tunify.specs.declared.demands.Demand.{Demand}
-use Rattle.pure_tunify.specs.GraphCode.{part_of, KeepsValues, AreCoupled, IsKept, AreNodesMet, AreJoined, AreClosed, AreDemanded, IsDemanding, IsAsking, AreNeverMet}
+use Rattle.pure_tunify.specs.GraphCode.{part_of, KeepsValues, AreCoupled, IsKept, AreNodesMet, AreJoined, AreClosed, AreDemanded, IsDemanding, IsAsking}
 
 none_also : (t : Typ) (ts : Typs) → none ≡ also t ts → ⊥
 none_also t ts e = cc

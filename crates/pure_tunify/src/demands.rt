@@ -6,7 +6,7 @@ ghost use Rattle.pure_definitions.specs.Types.Typ as tree;
 ghost use Rattle.pure_definitions.specs.Types.Typ.{typs_of};
 ghost use Rattle.pure_definitions.specs.Types.Order.{Algebra, HasClassBelow, IsOfSort, AreOfSorts};
 ghost use Rattle.pure_tunify.specs.Graphs.{Fits, FitsAll};
-ghost use Rattle.pure_tunify.specs.GraphCode.{part_of, asked_at, KeepsValues, AreDemanded, IsDemanding, IsAsking, AreNeverMet};
+ghost use Rattle.pure_tunify.specs.GraphCode.{part_of, asked_at, AreDemanded, IsDemanding, IsAsking, AreNeverMet};
 
 use crate::classes::number_at;
 use crate::graph::Node;
