@@ -1,6 +1,6 @@
 -- What is looked through of nodes and their classes: ranks, circles, agreement, and what it says of types.
 use Rattle.std.proofs.Common.{◌≡◌, ℕ, zero, suc, ◌+◌, ◌<◌, ◌≤◌, List, [], ◌∷◌, map, length, get_or, Option, Some, None, inl, inr, refl, ap, sym, subst, ◌∙◌, arith, Bool, true, false}
-use Rattle.std.specs.Prelude.{slice_get, MatchBool, MatchOption}
+use Rattle.std.specs.Prelude.{slice_get, MatchBool, MatchOption, ⊤}
 use Rattle.std.specs.BTreeMap.{BTreeMap}
 use Rattle.std.proofs.lemmas.Option.{slice_get_within, slice_get_past, same_Some, none-some}
 use Rattle.std.proofs.lemmas.List.{get_or_past, length-map}
@@ -126,3 +126,6 @@ stuck_turn P ranks n each here r less = elim (cases_lt r n) [
 
 pub stuck_all : (P : ℕ → Type 0) (ranks : List ℕ) (n : ℕ) → length ranks ≤ n → ((r : ℕ) → r < n → slice_get ranks r ≡ Some 0 → P r) → (r : ℕ) → slice_get ranks r ≡ Some 0 → P r
 stuck_all P ranks n full each r at = each r (let within = slice_get_within ranks r 0 at in omega arith) at
+
+pub never_found : (A : Algebra) (parts others : List Part) (roots shapes : List ℕ) (found : Option (Vec (Vec ℕ Global) Global)) → others ≡ parts → MatchOption found (AreNeverMet A others roots shapes) (λ _. ⊤) → found ≡ None → AreNeverMet A parts roots shapes
+never_found A parts others roots shapes found e never none = subst (λ (ps : List Part). AreNeverMet A ps roots shapes) e (subst (λ (o : Option (Vec (Vec ℕ Global) Global)). MatchOption o (AreNeverMet A others roots shapes) (λ _. ⊤)) none never)

@@ -13,7 +13,7 @@ use Rattle.pure_tunify.specs.declared.graph.Node.{Node}
 use Rattle.pure_tunify.specs.declared.classes.Couple.{Couple}
 use Rattle.pure_tunify.specs.declared.classes.Classes.{Classes}
 use Rattle.pure_tunify.specs.declared.demands.Demand.{Demand}
-use Rattle.pure_tunify.specs.GraphCode.{part_of, KeepsValues, AreCoupled, IsKept, AreNodesMet, AreJoined, AreClosed, AreDemanded, IsDemanding, IsAsking}
+use Rattle.pure_tunify.specs.GraphCode.{part_of, KeepsValues, AreCoupled, IsKept, AreNodesMet, AreJoined, AreClosed, AreDemanded, IsDemanding, IsAsking, AreNeverMet}
 
 none_also : (t : Typ) (ts : Typs) → none ≡ also t ts → ⊥
 none_also t ts e = cc
@@ -187,3 +187,9 @@ module _ (A : Algebra) (parts : List Part) (roots shapes : List ℕ) where
       → IsAsking A parts roots shapes node class old new can
   asking node class root first p old new can is_root is_first at demands v fits by_root by_shape of each =
       demands v (v first) (fits first p at) (subst (λ (T : Typ). IsOfClass A T class) (by_root node ∙ (sym (ap v is_root) ∙ (by_shape root ∙ sym (ap v is_first)))) of) each
+
+  pub asked_step : (now rest new : List Demand) (d : Demand) (can : Bool) → now ≡ rest ++ d ∷ [] → IsAsking A parts roots shapes d.node d.class rest new can
+      → ((v : ℕ → Typ) → FitsAll A parts v → KeepsValues v roots → KeepsValues v shapes → AreDemanded A v now)
+      → MatchBool can ((v : ℕ → Typ) → FitsAll A parts v → KeepsValues v roots → KeepsValues v shapes → AreDemanded A v new) (AreNeverMet A parts roots shapes)
+  asked_step now rest new d true e asks so_far v fits by_root by_shape = let left = demanded_left A v now rest d e (so_far v fits by_root by_shape) in asks v fits by_root by_shape left.1 left.0
+  asked_step now rest new d false e asks so_far v fits by_root by_shape = let left = demanded_left A v now rest d e (so_far v fits by_root by_shape) in asks v fits by_root by_shape left.1 left.0

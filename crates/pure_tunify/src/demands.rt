@@ -128,10 +128,12 @@ fn ask(
     if !new {
         return Ok(true);
     }
-    match nodes.get(number_at(shapes, root)) {
-        None => Err(AllocError),
-        Some(node) => demand_of(order, node, wanted.class, work),
-    }
+    let shape = number_at(shapes, root);
+    let Some(node) = nodes.get(shape) else {
+        return Err(AllocError);
+    };
+    let can = demand_of(order, node, wanted.class, work)?;
+    Ok(can)
 }
 
 /// Adds what a variable's sort asks of its node.
