@@ -1,14 +1,12 @@
 -- How a graph of types grows by the nodes of one more type.
-use Rattle.std.proofs.Common.{◌≡◌, ℕ, zero, suc, ◌+◌, ◌<◌, ◌≤◌, List, [], ◌∷◌, ◌++◌, map, length, take, take_all, get_or, Option, Some, None, inl, inr, ◌⊎◌, refl, ap, sym, subst, ◌∙◌, arith}
+use Rattle.std.proofs.Common.{◌≡◌, ℕ, zero, suc, ◌+◌, ◌<◌, ◌≤◌, List, [], ◌∷◌, ◌++◌, length, take, take_all, get_or, Some, inl, inr, ◌⊎◌, refl, ap, sym, subst, ◌∙◌}
 use Rattle.std.specs.List.{slice_get}
 use Rattle.std.proofs.lemmas.Option.{slice_get_within, same_Some, none-some}
-use Rattle.std.proofs.lemmas.Bool.{cases_lt}
 use Rattle.pure_text.specs.Lists.{Each}
 use Rattle.pure_text.proofs.LoopLaws.{longer_by}
-use Rattle.pure_text.proofs.ListLaws.{each_imply}
 use Rattle.pure_definitions.specs.Types.Typ.{Typ, TFree, TVar, Con, Typs, none, also, typs_of}
 use Rattle.pure_tunify.specs.Graphs.{Part, fixed, variable, made, StandsFor, StandForEach}
-use Rattle.pure_tunify.specs.GraphCode.{IsLeafOf, IsPut, AreBefore, IsGrown, IsAdded, IsMadeAt}
+use Rattle.pure_tunify.specs.GraphCode.{IsLeafOf, IsPut, IsGrown, IsAdded, IsMadeAt}
 
 pub grown_itself : (parts : List Part) → IsGrown parts parts
 grown_itself parts = record { keeps = λ i p at. at; before = λ b. b }

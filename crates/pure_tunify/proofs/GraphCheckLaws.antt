@@ -1,26 +1,22 @@
 -- What is looked through of nodes and their classes: ranks, circles, agreement, and what it says of types.
-use Rattle.std.proofs.Common.{◌≡◌, ℕ, zero, suc, ◌+◌, ◌<◌, ◌≤◌, List, [], ◌∷◌, ◌++◌, map, length, get_or, take, take_all, Option, Some, None, inl, inr, refl, ap, sym, subst, ◌∙◌, arith, Bool, true, false}
-use Rattle.std.specs.Prelude.{slice_get, MatchBool, MatchOption}
-use Rattle.std.specs.BTreeMap.{BTreeMap, is_at}
-use Rattle.std.specs.Map.{lookup}
+use Rattle.std.proofs.Common.{◌≡◌, ℕ, zero, suc, ◌+◌, ◌<◌, ◌≤◌, List, [], ◌∷◌, map, length, get_or, Option, Some, None, inl, inr, refl, ap, sym, subst, ◌∙◌, arith, Bool, true, false}
+use Rattle.std.specs.Prelude.{slice_get, MatchBool, MatchOption, ⊤}
+use Rattle.std.specs.BTreeMap.{BTreeMap}
 use Rattle.std.proofs.lemmas.Option.{slice_get_within, slice_get_past, same_Some, none-some}
-use Rattle.std.proofs.lemmas.List.{get_or_past, length-map, map-append}
+use Rattle.std.proofs.lemmas.List.{get_or_past, length-map}
 use Rattle.std.proofs.lemmas.Bool.{cases_lt}
 use Rattle.std.specs.declared.alloc.Global.{Global}
 use Rattle.std.specs.declared.vec.Vec.{Vec}
-use Rattle.pure_text.specs.Lists.{IsIn, Each, AnyOf, EachTwo}
+use Rattle.pure_text.specs.Lists.{IsIn, Each}
 use Rattle.pure_text.proofs.ListLaws.{any_some, each_at}
-use Rattle.pure_text.proofs.LoopLaws.{longer_by}
-use Rattle.pure_definitions.specs.Types.Typ.{Typ, TFree, TVar, Con, Typs, none, also, typs_of, typ_size, typs_size}
+use Rattle.pure_definitions.specs.Types.Typ.{Typ, none, typs_of, typ_size, typs_size}
 use Rattle.pure_definitions.specs.Types.Order.{Algebra}
-use Rattle.pure_definitions.specs.Terms.Subst.{typ_instance}
-use Rattle.pure_definitions.specs.Models.Comparison.{typ_cmp}
-use Rattle.pure_tunify.specs.Unifiers.{IsUnifier, HasUnifier, HasNoUnifier}
+use Rattle.pure_tunify.specs.Unifiers.{HasUnifier, HasNoUnifier}
 use Rattle.pure_tunify.specs.Steps.{pair}
 use Rattle.pure_tunify.specs.declared.graph.Node.{Node}
 use Rattle.pure_tunify.specs.declared.classes.Classes.{Classes}
-use Rattle.pure_tunify.specs.Graphs.{Part, fixed, variable, made, Fits, FitsAll, AreRanked, Agrees, IsMet, IsClosed}
-use Rattle.pure_tunify.specs.GraphCode.{part_of, KeepsValues, IsKept, root_at, shape_at, rank_at, asked_at, AreNeverMet, IsRankedAt, HasUnranked, HasStuckKid, AreSameHeads, AllAgree, AllMet, AreOne, IsKnownAt, AreCertain, HaveOneValue, NeverHaveOneValue, AreBefore, IsAdded}
+use Rattle.pure_tunify.specs.Graphs.{Part, variable, made, FitsAll, AreRanked}
+use Rattle.pure_tunify.specs.GraphCode.{part_of, KeepsValues, IsKept, root_at, shape_at, rank_at, asked_at, AreNeverMet, IsRankedAt, HasStuckKid, AreOne, IsKnownAt, AreCertain, HaveOneValue, NeverHaveOneValue, AreBefore, IsAdded}
 use Rattle.pure_tunify.proofs.GraphUnifier.{closed_values, values_unify, unifier_values}
 use Rattle.pure_tunify.proofs.GraphBuildLaws.{stands_on}
 
@@ -130,3 +126,6 @@ stuck_turn P ranks n each here r less = elim (cases_lt r n) [
 
 pub stuck_all : (P : ℕ → Type 0) (ranks : List ℕ) (n : ℕ) → length ranks ≤ n → ((r : ℕ) → r < n → slice_get ranks r ≡ Some 0 → P r) → (r : ℕ) → slice_get ranks r ≡ Some 0 → P r
 stuck_all P ranks n full each r at = each r (let within = slice_get_within ranks r 0 at in omega arith) at
+
+pub never_found : (A : Algebra) (parts others : List Part) (roots shapes : List ℕ) (found : Option (Vec (Vec ℕ Global) Global)) → others ≡ parts → MatchOption found (AreNeverMet A others roots shapes) (λ _. ⊤) → found ≡ None → AreNeverMet A parts roots shapes
+never_found A parts others roots shapes found e never none = subst (λ (ps : List Part). AreNeverMet A ps roots shapes) e (subst (λ (o : Option (Vec (Vec ℕ Global) Global)). MatchOption o (AreNeverMet A others roots shapes) (λ _. ⊤)) none never)

@@ -1,15 +1,14 @@
 -- Classes of nodes that have one value: what the steps that make them keep.
-use Rattle.std.proofs.Common.{◌≡◌, ◌≢◌, ℕ, zero, suc, ◌+◌, ◌<◌, ◌≤◌, List, [], ◌∷◌, ◌++◌, map, length, get_or, Option, Some, None, inl, inr, refl, ap, sym, subst, ◌∙◌, arith, Bool, true, false}
+use Rattle.std.proofs.Common.{◌≡◌, ℕ, zero, suc, ◌+◌, ◌<◌, List, [], ◌∷◌, ◌++◌, map, length, get_or, Some, inl, inr, refl, ap, sym, subst, ◌∙◌, arith, Bool, true, false}
 use Rattle.std.specs.Prelude.{slice_get, MatchBool}
-use Rattle.std.proofs.lemmas.Option.{same_Some, none-some}
 use Rattle.std.specs.declared.alloc.Global.{Global}
 use Rattle.std.specs.declared.vec.Vec.{Vec}
-use Rattle.pure_text.specs.Lists.{IsIn, Each, AnyOf, EachTwo}
-use Rattle.pure_text.proofs.ListLaws.{each-append, each-left, each-right, each_read, two_long, two_read, any_of, each_of}
-use Rattle.pure_definitions.specs.Types.Typ.{Typ, TFree, TVar, Con, Typs, none, also, typs_of}
-use Rattle.pure_definitions.specs.Types.Order.{Algebra, HasClassBelow, IsClassBelow, IsOfClass, AreOfSorts, IsOfSort}
+use Rattle.pure_text.specs.Lists.{Each, AnyOf}
+use Rattle.pure_text.proofs.ListLaws.{each-append, each-left, each-right, each_read, two_long, two_read}
+use Rattle.pure_definitions.specs.Types.Typ.{Typ, Con, Typs, none, also, typs_of}
+use Rattle.pure_definitions.specs.Types.Order.{Algebra, IsOfClass, AreOfSorts, IsOfSort}
 use Rattle.pure_order.proofs.DomainLaws.{are_of_sorts}
-use Rattle.pure_tunify.specs.Graphs.{Part, fixed, variable, made, Fits, FitsAll}
+use Rattle.pure_tunify.specs.Graphs.{Part, made, Fits, FitsAll}
 use Rattle.pure_tunify.specs.declared.graph.Node.{Node}
 use Rattle.pure_tunify.specs.declared.classes.Couple.{Couple}
 use Rattle.pure_tunify.specs.declared.classes.Classes.{Classes}
@@ -188,3 +187,9 @@ module _ (A : Algebra) (parts : List Part) (roots shapes : List ℕ) where
       → IsAsking A parts roots shapes node class old new can
   asking node class root first p old new can is_root is_first at demands v fits by_root by_shape of each =
       demands v (v first) (fits first p at) (subst (λ (T : Typ). IsOfClass A T class) (by_root node ∙ (sym (ap v is_root) ∙ (by_shape root ∙ sym (ap v is_first)))) of) each
+
+  pub asked_step : (now rest new : List Demand) (d : Demand) (can : Bool) → now ≡ rest ++ d ∷ [] → IsAsking A parts roots shapes d.node d.class rest new can
+      → ((v : ℕ → Typ) → FitsAll A parts v → KeepsValues v roots → KeepsValues v shapes → AreDemanded A v now)
+      → MatchBool can ((v : ℕ → Typ) → FitsAll A parts v → KeepsValues v roots → KeepsValues v shapes → AreDemanded A v new) (AreNeverMet A parts roots shapes)
+  asked_step now rest new d true e asks so_far v fits by_root by_shape = let left = demanded_left A v now rest d e (so_far v fits by_root by_shape) in asks v fits by_root by_shape left.1 left.0
+  asked_step now rest new d false e asks so_far v fits by_root by_shape = let left = demanded_left A v now rest d e (so_far v fits by_root by_shape) in asks v fits by_root by_shape left.1 left.0

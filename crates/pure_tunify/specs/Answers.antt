@@ -8,7 +8,6 @@ use Rattle.pure_tunify.specs.declared.pair.TypPair.{TypPair}
 use Rattle.pure_tunify.specs.declared.fault.TypFault.{TypFault}
 use Rattle.pure_tunify.specs.declared.meeting.Turned.{Turned}
 use Rattle.pure_tunify.specs.declared.meeting.Turned.TheVariants.{Further, Never, Large}
-use Rattle.pure_tunify.specs.Unifiers.{IsUnifier}
 use Rattle.pure_tunify.specs.declared.fault.TypFault.TheVariants.{NoTyping, Big, Memory}
 use Rattle.pure_tunify.specs.Steps.{instance_pair}
 use Rattle.pure_tunify.specs.Settings.{composed, AreTriangular, AreWithinLimits, Progress}

@@ -1,5 +1,5 @@
 -- Graphs of types: nodes with numbers, in place of types that are written out, and what shows that they have values.
-use Rattle.std.specs.Prelude.{◌≡◌, ◌<◌, ◌↔◌, ℕ, List, [], ◌∷◌, map, slice_get, Option, Some, None}
+use Rattle.std.specs.Prelude.{◌≡◌, ◌<◌, ℕ, List, [], ◌∷◌, map, slice_get, Option, Some, None}
 use Rattle.pure_text.specs.Lists.{IsIn, Each, EachTwo}
 use Rattle.pure_definitions.specs.Types.Typ.{Typ, TFree, TVar, Con, Typs, none, also, typs_of}
 use Rattle.pure_definitions.specs.Types.Order.{Algebra, HasClassBelow, IsOfClass, AreOfSorts, IsOfSort}

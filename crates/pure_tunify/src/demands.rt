@@ -6,7 +6,7 @@ ghost use Rattle.pure_definitions.specs.Types.Typ as tree;
 ghost use Rattle.pure_definitions.specs.Types.Typ.{typs_of};
 ghost use Rattle.pure_definitions.specs.Types.Order.{Algebra, HasClassBelow, IsOfSort, AreOfSorts};
 ghost use Rattle.pure_tunify.specs.Graphs.{Fits, FitsAll};
-ghost use Rattle.pure_tunify.specs.GraphCode.{part_of, asked_at, KeepsValues, AreDemanded, IsDemanding, IsAsking, AreNeverMet};
+ghost use Rattle.pure_tunify.specs.GraphCode.{part_of, asked_at, AreDemanded, IsDemanding, IsAsking, AreNeverMet};
 
 use crate::classes::number_at;
 use crate::graph::Node;
@@ -128,10 +128,12 @@ fn ask(
     if !new {
         return Ok(true);
     }
-    match nodes.get(number_at(shapes, root)) {
-        None => Err(AllocError),
-        Some(node) => demand_of(order, node, wanted.class, work),
-    }
+    let shape = number_at(shapes, root);
+    let Some(node) = nodes.get(shape) else {
+        return Err(AllocError);
+    };
+    let can = demand_of(order, node, wanted.class, work)?;
+    Ok(can)
 }
 
 /// Adds what a variable's sort asks of its node.

@@ -1,6 +1,3 @@
-use Rattle.std.proofs.Common.{subst}
-use Rattle.pure_text.specs.Lists.{EachTwo, Each, IsIn}
-use Rattle.pure_tunify.specs.GraphCode.{asked_at, root_at}
 use Rattle.pure_tunify.proofs.ReachLaws.{on_true}
 use Rattle.pure_tunify.proofs.agreement.is_met.Goals as goal
 

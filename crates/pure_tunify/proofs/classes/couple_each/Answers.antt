@@ -1,4 +1,3 @@
-use Rattle.std.proofs.Common.{sym}
 use Rattle.pure_tunify.proofs.GraphClassLaws.{coupled_turn}
 use Rattle.pure_tunify.proofs.classes.couple_each.Goals as goal
 

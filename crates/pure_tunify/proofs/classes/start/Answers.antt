@@ -1,4 +1,4 @@
-use Rattle.std.proofs.Common.{[], sym, subst}
+use Rattle.std.proofs.Common.{sym, subst}
 use Rattle.pure_tunify.specs.GraphCode.{AreCoupled}
 use Rattle.pure_tunify.proofs.GraphClassLaws.{coupled_more}
 use Rattle.pure_tunify.proofs.classes.start.Goals as goal

@@ -1,4 +1,4 @@
-use Rattle.std.proofs.Common.{map, refl}
+use Rattle.std.proofs.Common.{map}
 use Rattle.pure_tunify.specs.GraphCode.{part_of}
 use Rattle.pure_tunify.proofs.GraphClassLaws.{joined, keeps_read, node_at}
 use Rattle.pure_tunify.proofs.classes.unite.Goals as goal

@@ -1,4 +1,4 @@
-use Rattle.std.proofs.Common.{refl, sym, subst}
+use Rattle.std.proofs.Common.{sym, subst}
 use Rattle.pure_definitions.specs.Types.Order.{IsOfSort}
 use Rattle.pure_tunify.proofs.GraphClassLaws.{sort_turn}
 use Rattle.pure_tunify.proofs.demands.demand_sort.Goals as goal

@@ -1,7 +1,6 @@
-use Rattle.std.proofs.Common.{sym, subst, take_all}
-use Rattle.pure_text.specs.Lists.{Each}
+use Rattle.std.proofs.Common.{take_all}
 use Rattle.pure_text.proofs.ListLaws.{any_read}
-use Rattle.pure_definitions.specs.Types.Order.{IsClassBelow, HasClassBelow}
+use Rattle.pure_definitions.specs.Types.Order.{IsClassBelow}
 use Rattle.pure_tunify.proofs.GraphClassLaws.{none_any}
 use Rattle.pure_tunify.proofs.demands.has_class_below.Goals as goal
 

@@ -1,4 +1,4 @@
-use Rattle.std.proofs.Common.{ℕ, map, ◌<◌, ◌≤◌, length}
+use Rattle.std.proofs.Common.{ℕ, map, ◌<◌}
 use Rattle.pure_tunify.specs.GraphCode.{part_of, IsRankedAt}
 use Rattle.pure_tunify.proofs.ranks.are_ranked.Given as goal
 

@@ -1,6 +1,5 @@
 use Rattle.std.proofs.Common.{[], ◌∷◌, refl}
 use Rattle.std.specs.Prelude.{reverse}
-use Rattle.pure_tunify.specs.declared.meeting.Turned.TheVariants.{Further, Never, Large}
 use Rattle.pure_tunify.specs.Meeting.{IsPursuit}
 use Rattle.pure_tunify.proofs.WorkLaws.{one_equalised, one_blocked}
 use Rattle.pure_tunify.proofs.LargeLaws.{one_passed, one_refused}

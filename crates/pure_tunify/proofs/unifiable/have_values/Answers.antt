@@ -1,5 +1,3 @@
-use Rattle.std.proofs.Common.{map}
-use Rattle.pure_tunify.specs.GraphCode.{part_of, AreNeverMet}
 use Rattle.pure_tunify.proofs.ReachLaws.{on_true}
 use Rattle.pure_tunify.proofs.unifiable.have_values.Goals as goal
 
