@@ -26,11 +26,11 @@ returns-then-can c =
     let pursuit : IsPursuit c.args.order.now c.args.settings.now c.pursue.new.settings (c.args.equation ∷ []) (reverse c.pursue.new.work.items) c.in_ok-turned.turned =
     stands_pursuit c.args.order.now c.args.settings.now c.pursue.new.settings c.args.equation (reverse c.begin.new.work.items) (reverse c.pursue.new.work.items) c.in_ok-turned.turned c.in_ok-begin.ensures c.in_ok-turned.ensures in
     one_passed c.args.order.now c.domains.ensures.coregular c.args.equation c.args.settings.now c.pursue.new.settings (c.args.equation ∷ []) (reverse c.pursue.new.work.items) refl c.requires c.next.ensures.tidy
-    (rw c.in-Large.is at pursuit) (rw c.if-can.true at c.in_ok-can.ensures)
+    (rw c.in-Large.is at pursuit) (rw c.if-can.true at c.in_ok-can-in-Large.ensures)
 
-pub returns-in_ok-can : goal.returns-in_ok-can
-returns-in_ok-can c =
+pub returns-else-can : goal.returns-else-can
+returns-else-can c =
     let pursuit : IsPursuit c.args.order.now c.args.settings.now c.pursue.new.settings (c.args.equation ∷ []) (reverse c.pursue.new.work.items) c.in_ok-turned.turned =
     stands_pursuit c.args.order.now c.args.settings.now c.pursue.new.settings c.args.equation (reverse c.begin.new.work.items) (reverse c.pursue.new.work.items) c.in_ok-turned.turned c.in_ok-begin.ensures c.in_ok-turned.ensures in
     one_refused c.args.order.now c.domains.ensures.coregular c.args.equation c.args.settings.now c.pursue.new.settings (c.args.equation ∷ []) (reverse c.pursue.new.work.items) refl c.requires c.next.ensures.tidy
-    (rw c.in-Large.is at pursuit) (rw c.if-can.false at c.in_ok-can.ensures)
+    (rw c.in-Large.is at pursuit) (rw c.if-can.false at c.in_ok-can-in-Large.ensures)
