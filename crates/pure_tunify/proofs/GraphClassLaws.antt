@@ -199,5 +199,5 @@ module _ (A : Algebra) (parts : List Part) (roots shapes : List ℕ) where
   pub asked_step : (now rest new : List Demand) (d : Demand) (can : Bool) → now ≡ rest ++ d ∷ [] → IsAsking A parts roots shapes d.node d.class rest new can
       → ((v : ℕ → Typ) → FitsAll A parts v → KeepsValues v roots → KeepsValues v shapes → AreDemanded A v now)
       → MatchBool can ((v : ℕ → Typ) → FitsAll A parts v → KeepsValues v roots → KeepsValues v shapes → AreDemanded A v new) (AreNeverMet A parts roots shapes)
-  asked_step now rest new d true e asks so_far v fits by_root by_shape = let left = demanded_left A v now rest d e (so_far v fits by_root by_shape) in asks v fits by_root by_shape left.1 left.0
-  asked_step now rest new d false e asks so_far v fits by_root by_shape = let left = demanded_left A v now rest d e (so_far v fits by_root by_shape) in asks v fits by_root by_shape left.1 left.0
+  asked_step now rest new d true e asks so_far = λ v fits by_root by_shape. let left = demanded_left A v now rest d e (so_far v fits by_root by_shape) in asks v fits by_root by_shape left.1 left.0
+  asked_step now rest new d false e asks so_far = λ v fits by_root by_shape. let left = demanded_left A v now rest d e (so_far v fits by_root by_shape) in asks v fits by_root by_shape left.1 left.0
