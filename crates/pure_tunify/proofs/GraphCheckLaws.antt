@@ -58,7 +58,7 @@ module _ (parts : List Part) (roots shapes ranks : List ℕ) where
 
 -- What holds of the nodes below a number that is no less than their count.
 pub nodes_all : (P : ℕ → Part → Type 0) (nodes : List Node) (n : ℕ) → length nodes ≤ n → ((i : ℕ) (p : Part) → i < n → slice_get (map part_of nodes) i ≡ Some p → P i p) → (i : ℕ) (p : Part) → slice_get (map part_of nodes) i ≡ Some p → P i p
-nodes_all P nodes n full each i p at = each i p (let w = slice_get_within (map part_of nodes) i p at in let l = length-map part_of nodes in omega arith) at
+nodes_all P nodes n full each i p at = each i p (let w = slice_get_within (map part_of nodes) i p at in let l = length-map nodes part_of in omega arith) at
 
 asked_past : (asked : List (Vec ℕ Global)) (r : ℕ) → length asked ≤ r → asked_at asked r ≡ []
 asked_past [] r full = refl
@@ -98,7 +98,7 @@ module _ (A : Algebra) (parts : List Part) (i j : ℕ) where
       record { value = h.value; fits = h.fits; one = λ a b x k s at_a at_b. h.same a b (c.one a b x k s at_a at_b); same = h.same i j e }
 
   pub never_joined : (others : List Part) (found : Option Classes) → others ≡ parts → ((B : Algebra) (v : ℕ → Typ) → FitsAll B others v → v i ≡ v j → MatchOption found ⊥ (IsKept v)) → found ≡ None → NeverHaveOneValue A parts i j
-  never_joined others found e kept none v fits same = subst (λ (o : Option Classes). MatchOption o ⊥ (IsKept v)) none (kept A v (subst (λ (ps : List Part). FitsAll A ps v) (sym e) fits) same)
+  never_joined others found e kept nothing v fits same = subst (λ (o : Option Classes). MatchOption o ⊥ (IsKept v)) nothing (kept A v (subst (λ (ps : List Part). FitsAll A ps v) (sym e) fits) same)
 
   pub never_value : (others : List Part) (found : Option Classes) (classes : Classes) (roots shapes : List ℕ) → others ≡ parts → ((B : Algebra) (v : ℕ → Typ) → FitsAll B others v → v i ≡ v j → MatchOption found ⊥ (IsKept v)) → found ≡ Some classes
       → roots ≡ classes.parent.items → shapes ≡ classes.shape.items → AreNeverMet A parts roots shapes → NeverHaveOneValue A parts i j
@@ -113,8 +113,8 @@ unifiable_answer A first second third left right i j true empty a b h =
     let u = values_unify A third h.value h.fits h.one in
     (u.0, record { substitution = u.1; equates = (u.2 i left (stands_on second third b.grown i left a.stands) ∙ (h.same ∙ sym (u.2 j right b.stands)), tt) })
 unifiable_answer A first second third left right i j false empty a b h = λ typs u.
-    let none : AreBefore first = subst AreBefore (sym empty) (λ n k kids at. absurd (none-some (made k kids) at)) in
-    let w = unifier_values A third (b.grown.before (a.grown.before none)) typs u.substitution in
+    let empty_before : AreBefore first = subst AreBefore (sym empty) (λ n k kids at. absurd (none-some (made k kids) at)) in
+    let w = unifier_values A third (b.grown.before (a.grown.before empty_before)) typs u.substitution in
     h w.0 w.1 (w.2 i left (stands_on second third b.grown i left a.stands) ∙ (u.equates.0 ∙ sym (w.2 j right b.stands)))
 
 -- What is said of the numbers that stand at places of a list without a rank.
@@ -128,4 +128,4 @@ pub stuck_all : (P : ℕ → Type 0) (ranks : List ℕ) (n : ℕ) → length ran
 stuck_all P ranks n full each r at = each r (let within = slice_get_within ranks r 0 at in omega arith) at
 
 pub never_found : (A : Algebra) (parts others : List Part) (roots shapes : List ℕ) (found : Option (Vec (Vec ℕ Global) Global)) → others ≡ parts → MatchOption found (AreNeverMet A others roots shapes) (λ _. ⊤) → found ≡ None → AreNeverMet A parts roots shapes
-never_found A parts others roots shapes found e never none = subst (λ (ps : List Part). AreNeverMet A ps roots shapes) e (subst (λ (o : Option (Vec (Vec ℕ Global) Global)). MatchOption o (AreNeverMet A others roots shapes) (λ _. ⊤)) none never)
+never_found A parts others roots shapes found e never nothing = subst (λ (ps : List Part). AreNeverMet A ps roots shapes) e (subst (λ (o : Option (Vec (Vec ℕ Global) Global)). MatchOption o (AreNeverMet A others roots shapes) (λ _. ⊤)) nothing never)

@@ -120,6 +120,14 @@ node_at [] i n less read = absurd (omega arith)
 node_at (m ∷ nodes) zero n less read = ap (λ k. Some (part_of k)) (sym read)
 node_at (m ∷ nodes) (suc i) n less read = node_at nodes i n (omega arith) read
 
+pub number_read : (xs : List ℕ) (i : ℕ) → i < length xs → get_or xs i 0 ≡ get_or xs i (get_or xs i 0)
+number_read [] i less = absurd (omega arith)
+number_read (x ∷ xs) zero less = refl
+number_read (x ∷ xs) (suc i) less = number_read xs i (omega arith)
+
+pub same_counts : (xs ys : List ℕ) (i : ℕ) → length xs ≡ length ys → i < length xs → i < length ys
+same_counts xs ys i same less = omega arith
+
 pub none_any : {X : Type 0} (P : X → Type 0) (xs : List X) → Each (λ x. ¬ P x) xs → ¬ AnyOf P xs
 none_any P [] each m = m
 none_any P (x ∷ xs) each (inl p) = each.0 p
@@ -191,5 +199,5 @@ module _ (A : Algebra) (parts : List Part) (roots shapes : List ℕ) where
   pub asked_step : (now rest new : List Demand) (d : Demand) (can : Bool) → now ≡ rest ++ d ∷ [] → IsAsking A parts roots shapes d.node d.class rest new can
       → ((v : ℕ → Typ) → FitsAll A parts v → KeepsValues v roots → KeepsValues v shapes → AreDemanded A v now)
       → MatchBool can ((v : ℕ → Typ) → FitsAll A parts v → KeepsValues v roots → KeepsValues v shapes → AreDemanded A v new) (AreNeverMet A parts roots shapes)
-  asked_step now rest new d true e asks so_far v fits by_root by_shape = let left = demanded_left A v now rest d e (so_far v fits by_root by_shape) in asks v fits by_root by_shape left.1 left.0
-  asked_step now rest new d false e asks so_far v fits by_root by_shape = let left = demanded_left A v now rest d e (so_far v fits by_root by_shape) in asks v fits by_root by_shape left.1 left.0
+  asked_step now rest new d true e asks so_far = λ v fits by_root by_shape. let left = demanded_left A v now rest d e (so_far v fits by_root by_shape) in asks v fits by_root by_shape left.1 left.0
+  asked_step now rest new d false e asks so_far = λ v fits by_root by_shape. let left = demanded_left A v now rest d e (so_far v fits by_root by_shape) in asks v fits by_root by_shape left.1 left.0

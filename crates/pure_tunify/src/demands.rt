@@ -33,19 +33,30 @@ pub fn has_class_below(order: &Order, sort: &Sort, class: Name) -> bool
     false
 }
 
-/// Whether the class was asked of the node.
-pub fn is_asked(asked: &[Vec<Name>], node: usize, class: Name) -> bool
-    ensures { OnTrue result (IsIn class (asked_at asked.now node)) }
+/// Whether the class is one of these.
+fn has_class(classes: &[Name], class: Name) -> bool
+    ensures { OnTrue result (IsIn class classes.now) }
 {
-    let Some(classes) = asked.get(node) else {
-        return false;
-    };
-    for own in classes.as_slice() {
+    for own in classes {
         if *own == class {
             return true;
         }
     }
     false
+}
+
+/// Whether the class was asked of the node.
+pub fn is_asked(asked: &[Vec<Name>], node: usize, class: Name) -> bool
+    ensures { OnTrue result (IsIn class (asked_at asked.now node)) }
+{
+    let Some(own) = asked.get(node) else {
+        return false;
+    };
+    let classes = own.as_slice();
+    if !has_class(classes, class) {
+        return false;
+    }
+    true
 }
 
 /// Keeps that the class is asked of the node; false where it is known.

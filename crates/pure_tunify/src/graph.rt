@@ -213,8 +213,7 @@ pub fn add(graph: &mut Graph, alloc: Global, t: &Typ) -> Result<usize, AllocErro
                 let kid = add(graph, alloc, arg)?;
                 kids.push(kid)?;
             }
-            let at = add_made(graph, alloc, *name, kids)?;
-            Ok(at)
+            add_made(graph, alloc, *name, kids)
         }
     }
 }

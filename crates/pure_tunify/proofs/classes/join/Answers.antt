@@ -4,9 +4,10 @@ use Rattle.pure_tunify.specs.GraphCode.{part_of}
 use Rattle.pure_tunify.proofs.GraphClassLaws.{joined_roots, turned_round}
 use Rattle.pure_tunify.proofs.classes.join.Goals as goal
 
-pub returns-in_ok-can : goal.returns-in_ok-can
-returns-in_ok-can c =
-    joined_roots (map part_of c.args.nodes.now) c.args.classes.now (record { parent = c.root-right.new.parent; shape = c.args.classes.now.shape; work = c.args.classes.now.work }) c.unite.new.classes c.root-left.new.parent.items
+pub returns-then-left-right-2 : goal.returns-then-left-right-2
+returns-then-left-right-2 c =
+    let mid : Classes = record { parent = c.root-right.new.parent; shape = c.args.classes.now.shape; work = c.args.classes.now.work } in
+    joined_roots (map part_of c.args.nodes.now) c.args.classes.now mid c.unite.new.classes c.root-left.new.parent.items
     c.args.couple.left c.args.couple.right c.root-left.result c.root-right.result c.in_ok-can.can c.root-left.ensures c.root-right.ensures refl refl c.in_ok-can.ensures
 
 pub returns : goal.returns
