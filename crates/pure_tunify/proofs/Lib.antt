@@ -2,6 +2,9 @@ pub mod MapLaws
 pub mod StepLaws
 pub mod AskLaws
 pub mod MeetLaws
+pub mod GraphBuildLaws
+pub mod GraphClassLaws
+pub mod GraphCheckLaws
 pub mod ExampleLaws
 pub mod PlaceLaws
 pub mod SettingLaws
@@ -40,3 +43,5 @@ pub mod SortLaws
 pub mod DeclaredLaws
 pub mod ClosedLaws
 pub mod CertifiedLaws
+pub mod GraphUnifier
+pub mod GraphSettings

@@ -16,7 +16,7 @@ module _ (A : Algebra) where
   abbrev AreOfTheirSorts : List TypBind → Type 0
   AreOfTheirSorts sets = Each (λ b. IsOfSort A b.image b.sort) sets
 
-  composed-substitution : (sets : List TypBind) → AreOfTheirSorts sets → IsSubstitution A (composed sets)
+  pub composed-substitution : (sets : List TypBind) → AreOfTheirSorts sets → IsSubstitution A (composed sets)
   composed-substitution [] h = identity_is_substitution A
   composed-substitution (b ∷ bs) h =
       after_is_substitution A (typ_image (b ∷ [])) (composed bs) (setting_is_substitution A b.name b.index b.sort b.image h.0) (composed-substitution bs h.1)

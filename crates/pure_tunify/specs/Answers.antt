@@ -8,7 +8,6 @@ use Rattle.pure_tunify.specs.declared.pair.TypPair.{TypPair}
 use Rattle.pure_tunify.specs.declared.fault.TypFault.{TypFault}
 use Rattle.pure_tunify.specs.declared.meeting.Turned.{Turned}
 use Rattle.pure_tunify.specs.declared.meeting.Turned.TheVariants.{Further, Never, Large}
-use Rattle.pure_tunify.specs.Unifiers.{IsUnifier}
 use Rattle.pure_tunify.specs.declared.fault.TypFault.TheVariants.{NoTyping, Big, Memory}
 use Rattle.pure_tunify.specs.Steps.{instance_pair}
 use Rattle.pure_tunify.specs.Settings.{composed, AreTriangular, AreWithinLimits, Progress}
@@ -36,19 +35,6 @@ abbrev pub IsSolved : Algebra → (old new : Progress) → TypPair → Turned �
 IsSolved A old new p Further = IsEqualised A old new p
 IsSolved A old new p Never = Blocks A old.index old.next (instance_pair (composed old.sets) p)
 IsSolved A old new p Large = IsPassed A old new p
-
--- Pairs have a unifier, under settings so far, and further settings were found.
-pub record IsSolvable (A : Algebra) (old new : Progress) (pairs : List TypPair) : Type 0 where
-  pub found : List TypBind
-  pub further : IsFurther old new found
-  pub typs : Typ → Typ
-  pub unifier : IsUnifier A (map (instance_pair (composed old.sets)) pairs) typs
-
--- Pairs have a unifier, or none; or nothing is known.
-abbrev pub IsSolvability : Algebra → (old new : Progress) → List TypPair → Turned → Type 0
-IsSolvability A old new pairs Further = IsSolvable A old new pairs
-IsSolvability A old new pairs Never = (typs : Typ → Typ) → ¬ IsUnifier A (map (instance_pair (composed old.sets)) pairs) typs
-IsSolvability A old new pairs Large = Unit {0}
 
 -- The pairs come to these settings and this first name that isn't used, within the limits.
 pub record AreSettled (A : Algebra) (index from : ℕ) (pairs : List TypPair) (p : Progress) : Type 0 where

@@ -13,10 +13,11 @@ pub mod Working
 pub mod NarrowingStep
 pub mod Measures
 pub mod Meeting
-pub mod LargeTypes
 pub mod Reached
 pub mod ProcedureLaws
 pub mod Answers
 pub mod Passes
 pub mod Laws
+pub mod Graphs
+pub mod GraphCode
 pub mod Examples

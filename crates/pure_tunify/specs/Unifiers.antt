@@ -21,6 +21,13 @@ pub record IsUnifier (A : Algebra) (pairs : List TypPair) (typs : Typ → Typ) :
   pub substitution : IsSubstitution A typs
   pub equates : Each (Equates typs) pairs
 
+-- The pairs have a unifier, or none.
+abbrev pub HasUnifier : Algebra → List TypPair → Type 0
+HasUnifier A pairs = (typs : Typ → Typ) × IsUnifier A pairs typs
+
+abbrev pub HasNoUnifier : Algebra → List TypPair → Type 0
+HasNoUnifier A pairs = (typs : Typ → Typ) → ¬ IsUnifier A pairs typs
+
 -- The type is a fresh variable: a schematic one of the index for fresh variables, whose name is at or above the first that isn't used yet.
 abbrev pub IsFresh : (index from : ℕ) → Typ → Type 0
 IsFresh index from (TVar x i s) = (i ≡ index) × (from ≤ x)

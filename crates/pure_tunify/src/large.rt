@@ -1,101 +1,70 @@
-//! Whether pairs have a unifier of which the first has a type that is too large to be written out.
-ghost use Rattle.std.specs.Prelude.{reverse, map, IfOk, MatchBool};
-ghost use Rattle.std.specs.Bool.{OnTrue};
-ghost use Rattle.pure_text.specs.Lists.{IsIn, Each};
-ghost use Rattle.pure_definitions.specs.Types.Occurs.{OccursInTyp};
-ghost use Rattle.pure_definitions.specs.Terms.Subst.{typ_variable, typ_instance};
-ghost use Rattle.pure_tunify.specs.Unifiers.{IsOldPair};
+//! Whether pairs have a unifier where types are too large to be written out: what was set and what is left, as one pair of types.
+ghost use Rattle.std.specs.Prelude.{◌≡◌, ◌++◌, map, reverse, IfOk, MatchBool};
+ghost use Rattle.pure_definitions.specs.Terms.Subst.{typ_variable};
+ghost use Rattle.pure_tunify.specs.Unifiers.{HasUnifier, HasNoUnifier};
+ghost use Rattle.pure_tunify.specs.Steps.{instance_pair};
 ghost use Rattle.pure_tunify.specs.Settings.{composed};
-ghost use Rattle.pure_tunify.specs.Answers.{IsSolvability};
-ghost use Rattle.pure_tunify.specs.LargeTypes.{HasNoClasses, IsSettling};
 
-use crate::meeting::{Turned, is_schematic};
 use crate::pair::TypPair;
-use crate::pursue::pursue;
-use crate::reached::occurs_resolved;
+use crate::reached::variable_of;
 use crate::settings::Settings;
+use crate::sorted::are_of_their_sorts;
+use crate::unifiable::is_unifiable;
 use pure_order::Order;
-use pure_typ::{Typ, TypNode};
+use pure_typ::{Name, Typ};
 use std::alloc::{AllocError, Global};
 
-/// Whether the type is a schematic variable without classes.
-fn has_no_classes(t: &Typ) -> bool
-    ensures { MatchBool result (HasNoClasses t.now) (Unit {0}) }
+/// The variables that are set, and the left sides of the pairs.
+fn left_types(alloc: Global, settings: &Settings, work: &[TypPair]) -> Result<Vec<Typ>, AllocError>
+    ensures { IfOk result (λ typs. typs.items ≡ map typ_variable settings.now.sets ++ map (λ p. p.left) work.now) }
 {
-    match &t.node {
-        TypNode::TVar { sort, .. } => sort.classes().is_empty(),
-        TypNode::TFree { .. } => false,
-        TypNode::Con { .. } => false,
+    let mut typs = Vec::new(alloc);
+    for bind in settings.binds() {
+        let variable = variable_of(bind, alloc)?;
+        typs.push(variable)?;
     }
+    for pair in work {
+        let left = pair.left.copy(alloc)?;
+        typs.push(left)?;
+    }
+    Ok(typs)
 }
 
-/// Whether the variable isn't set, and doesn't occur in the type with all set variables replaced.
-fn stays_free(
+/// Their images as they were set, and the right sides.
+fn right_types(alloc: Global, settings: &Settings, work: &[TypPair]) -> Result<Vec<Typ>, AllocError>
+    ensures { IfOk result (λ typs. typs.items ≡ map (λ b. b.image) settings.now.sets ++ map (λ p. p.right) work.now) }
+{
+    let mut typs = Vec::new(alloc);
+    for bind in settings.binds() {
+        let image = bind.image.copy(alloc)?;
+        typs.push(image)?;
+    }
+    for pair in work {
+        let right = pair.right.copy(alloc)?;
+        typs.push(right)?;
+    }
+    Ok(typs)
+}
+
+/// Whether the pairs that are left have a unifier under the settings.
+pub fn is_solvable(
+    order: &Order,
+    alloc: Global,
     settings: &Settings,
-    alloc: Global,
-    variable: &Typ,
-    t: &Typ,
+    work: &[TypPair],
 ) -> Result<bool, AllocError>
-    requires { HasNoClasses variable.now }
-    ensures { IfOk result (λ free. OnTrue free ((¬ IsIn variable.now (map typ_variable settings.now.sets)) × ¬ OccursInTyp variable.now (typ_instance (composed settings.now.sets) t.now))) }
+    ensures { IfOk result (λ can. MatchBool can
+        (HasUnifier order.now (map (instance_pair (composed settings.now.sets)) (reverse work.now)))
+        (HasNoUnifier order.now (map (instance_pair (composed settings.now.sets)) (reverse work.now)))) }
 {
-    match settings.find(variable) {
-        Some(_) => Ok(false),
-        None => {
-            let occurs = occurs_resolved(settings, alloc, variable, t)?;
-            Ok(!occurs)
-        }
+    let _ = settings.binds();
+    let sorted = are_of_their_sorts(order, alloc, settings)?;
+    if !sorted {
+        return Err(AllocError);
     }
-}
-
-/// Whether the pairs are made equal, and the variable can be set to the type then; too large where that isn't found out.
-fn settles(
-    order: &Order,
-    alloc: Global,
-    settings: &mut Settings,
-    work: &mut Vec<TypPair>,
-    variable: &Typ,
-    t: &Typ,
-) -> Result<Turned, AllocError>
-    requires { Each (IsOldPair settings.old.index settings.old.next) (reverse work.old.items) }
-    ensures { IfOk result (IsSettling order.now settings.old settings.new (reverse work.old.items) variable.now t.now) }
-{
-    let turned = pursue(order, alloc, settings, work)?;
-    match turned {
-        Turned::Never => Ok(Turned::Never),
-        Turned::Large => Ok(Turned::Large),
-        Turned::Further => {
-            if !has_no_classes(variable) {
-                return Ok(Turned::Large);
-            }
-            let free = stays_free(settings, alloc, variable, t)?;
-            if !free {
-                return Ok(Turned::Large);
-            }
-            Ok(Turned::Further)
-        }
-    }
-}
-
-/// Whether the pairs that are left have a unifier, or never, of which the first has a type that is too large to be written
-/// out; too large where that isn't found out.
-pub fn solvability(
-    order: &Order,
-    alloc: Global,
-    settings: &mut Settings,
-    work: &mut Vec<TypPair>,
-) -> Result<Turned, AllocError>
-    requires old { Each (IsOldPair settings.old.index settings.old.next) (reverse work.old.items) }
-    ensures { IfOk result (IsSolvability order.now settings.old settings.new (reverse work.old.items)) }
-{
-    let _ = settings.next();
-    let Some(first) = work.pop() else {
-        return Ok(Turned::Large);
-    };
-    if is_schematic(&first.left) {
-        let turned = settles(order, alloc, settings, work, &first.left, &first.right)?;
-        return Ok(turned);
-    }
-    let turned = settles(order, alloc, settings, work, &first.right, &first.left)?;
-    Ok(turned)
+    let lefts = left_types(alloc, settings, work)?;
+    let left = Typ::constructed(alloc, Name::FUN, lefts)?;
+    let rights = right_types(alloc, settings, work)?;
+    let right = Typ::constructed(alloc, Name::FUN, rights)?;
+    is_unifiable(order, alloc, &left, &right)
 }

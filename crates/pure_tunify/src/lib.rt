@@ -1,11 +1,15 @@
 //! Order-sorted unification of types: its steps, their laws, and what sorts ask of types.
 #![tactic(auto)]
 
+mod agreement;
 mod asking;
 mod asks;
+mod classes;
+mod demands;
 mod equation;
 mod fault;
 mod free;
+mod graph;
 mod index;
 mod large;
 pub mod laws;
@@ -15,12 +19,15 @@ mod narrow;
 mod occurs;
 mod pair;
 mod pursue;
+mod ranks;
 mod reached;
 mod resolve;
 mod settings;
 mod solve;
+mod sorted;
 mod stored;
 mod turn;
+mod unifiable;
 mod unifier;
 
 pub use asks::{Asked, asked_of, asked_of_arguments};

@@ -4,7 +4,7 @@ ghost use Rattle.pure_tunify.specs.Unifiers.{IsOldPair};
 ghost use Rattle.pure_tunify.specs.Answers.{IsSolved};
 
 use crate::equation::Equation;
-use crate::large::solvability;
+use crate::large::is_solvable;
 use crate::meeting::Turned;
 use crate::pair::TypPair;
 use crate::pursue::pursue;
@@ -23,8 +23,8 @@ fn copied(alloc: Global, pair: &TypPair) -> Result<Equation, AllocError>
 }
 
 /// Makes the types of an equation equal by further settings; never where it comes to a place without a unifier. Where an
-/// image would be too large to be written out, the pair passes the limits, if what is left of it has a unifier; memory is
-/// wanted where that isn't found out. The list is only lent for what is left.
+/// image would be too large to be written out, the pair passes the limits, if what is left of it has a unifier. The list is
+/// only lent for what is left.
 pub fn solve_given(
     order: &Order,
     alloc: Global,
@@ -43,12 +43,11 @@ pub fn solve_given(
         Turned::Large => {
             let _ = order.domains(Name::FUN, Name::FUN);
             let _ = settings.next();
-            let known = solvability(order, alloc, settings, work)?;
-            match known {
-                Turned::Further => Ok(Turned::Large),
-                Turned::Never => Ok(Turned::Never),
-                Turned::Large => Err(AllocError),
+            let can = is_solvable(order, alloc, settings, work.as_slice())?;
+            if can {
+                return Ok(Turned::Large);
             }
+            Ok(Turned::Never)
         }
     }
 }

@@ -1,6 +1,5 @@
 use Rattle.std.proofs.Common.{[], ◌∷◌, refl}
 use Rattle.std.specs.Prelude.{reverse}
-use Rattle.pure_tunify.specs.declared.meeting.Turned.TheVariants.{Further, Never, Large}
 use Rattle.pure_tunify.specs.Meeting.{IsPursuit}
 use Rattle.pure_tunify.proofs.WorkLaws.{one_equalised, one_blocked}
 use Rattle.pure_tunify.proofs.LargeLaws.{one_passed, one_refused}
@@ -22,23 +21,16 @@ returns-in-Never c =
     stands_pursuit c.args.order.now c.args.settings.now c.pursue.new.settings c.args.equation (reverse c.begin.new.work.items) (reverse c.pursue.new.work.items) c.in_ok-turned.turned c.in_ok-begin.ensures c.in_ok-turned.ensures in
     one_blocked c.args.order.now c.args.equation c.args.settings.now c.pursue.new.settings (c.args.equation ∷ []) refl (rw c.in-Never.is at pursuit)
 
-pub solvability-requires : goal.solvability-requires
-solvability-requires c =
+pub returns-then-can : goal.returns-then-can
+returns-then-can c =
     let pursuit : IsPursuit c.args.order.now c.args.settings.now c.pursue.new.settings (c.args.equation ∷ []) (reverse c.pursue.new.work.items) c.in_ok-turned.turned =
     stands_pursuit c.args.order.now c.args.settings.now c.pursue.new.settings c.args.equation (reverse c.begin.new.work.items) (reverse c.pursue.new.work.items) c.in_ok-turned.turned c.in_ok-begin.ensures c.in_ok-turned.ensures in
-    let large : IsPursuit c.args.order.now c.args.settings.now c.pursue.new.settings (c.args.equation ∷ []) (reverse c.pursue.new.work.items) Large = rw c.in-Large.is at pursuit in
-    record { old = large.0.kept (c.requires, tt) }
+    one_passed c.args.order.now c.domains.ensures.coregular c.args.equation c.args.settings.now c.pursue.new.settings (c.args.equation ∷ []) (reverse c.pursue.new.work.items) refl c.requires c.next.ensures.tidy
+    (rw c.in-Large.is at pursuit) (rw c.if-can.true at c.in_ok-can-in-Large.ensures)
 
-pub returns-in-Further-known : goal.returns-in-Further-known
-returns-in-Further-known c =
+pub returns-else-can : goal.returns-else-can
+returns-else-can c =
     let pursuit : IsPursuit c.args.order.now c.args.settings.now c.pursue.new.settings (c.args.equation ∷ []) (reverse c.pursue.new.work.items) c.in_ok-turned.turned =
     stands_pursuit c.args.order.now c.args.settings.now c.pursue.new.settings c.args.equation (reverse c.begin.new.work.items) (reverse c.pursue.new.work.items) c.in_ok-turned.turned c.in_ok-begin.ensures c.in_ok-turned.ensures in
-    one_passed c.args.order.now c.domains.ensures.coregular c.args.equation c.args.settings.now c.pursue.new.settings c.solvability.new.settings (c.args.equation ∷ []) (reverse c.pursue.new.work.items) refl c.requires c.next.ensures.tidy
-    (rw c.in-Large.is at pursuit) (rw c.in-Further-known.is at c.in_ok-known-in-Large.ensures)
-
-pub returns-in-Never-known : goal.returns-in-Never-known
-returns-in-Never-known c =
-    let pursuit : IsPursuit c.args.order.now c.args.settings.now c.pursue.new.settings (c.args.equation ∷ []) (reverse c.pursue.new.work.items) c.in_ok-turned.turned =
-    stands_pursuit c.args.order.now c.args.settings.now c.pursue.new.settings c.args.equation (reverse c.begin.new.work.items) (reverse c.pursue.new.work.items) c.in_ok-turned.turned c.in_ok-begin.ensures c.in_ok-turned.ensures in
-    one_refused c.args.order.now c.domains.ensures.coregular c.args.equation c.args.settings.now c.pursue.new.settings c.solvability.new.settings (c.args.equation ∷ []) (reverse c.pursue.new.work.items) refl c.requires c.next.ensures.tidy
-    (rw c.in-Large.is at pursuit) (rw c.in-Never-known.is at c.in_ok-known-in-Large.ensures)
+    one_refused c.args.order.now c.domains.ensures.coregular c.args.equation c.args.settings.now c.pursue.new.settings (c.args.equation ∷ []) (reverse c.pursue.new.work.items) refl c.requires c.next.ensures.tidy
+    (rw c.in-Large.is at pursuit) (rw c.if-can.false at c.in_ok-can-in-Large.ensures)
