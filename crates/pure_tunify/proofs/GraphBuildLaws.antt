@@ -8,9 +8,6 @@ use Rattle.pure_definitions.specs.Types.Typ.{Typ, TFree, TVar, Con, Typs, none, 
 use Rattle.pure_tunify.specs.Graphs.{Part, fixed, variable, made, StandsFor, StandForEach}
 use Rattle.pure_tunify.specs.GraphCode.{IsLeafOf, IsPut, IsGrown, IsAdded, IsMadeAt}
 
-pub grown_itself : (parts : List Part) → IsGrown parts parts
-grown_itself parts = record { keeps = λ i p at. at; before = λ b. b }
-
 pub grown_on : (a b c : List Part) → IsGrown a b → IsGrown b c → IsGrown a c
 grown_on a b c g h = record { keeps = λ i p at. h.keeps i p (g.keeps i p at); before = λ w. h.before (g.before w) }
 
@@ -43,12 +40,6 @@ put_cases [] p q (suc i) e = absurd (none-some q e)
 put_cases (r ∷ old) p q zero e = inl e
 put_cases (r ∷ old) p q (suc i) e = elim (put_cases old p q i e) [ inl o ↦ inl o | inr n ↦ inr (ap suc n.0, n.1) ]
 
-fixed_made : (x k : ℕ) (s kids : List ℕ) → fixed x s ≡ made k kids → ⊥
-fixed_made x k s kids e = cc
-
-variable_made : (x i k : ℕ) (s kids : List ℕ) → variable x i s ≡ made k kids → ⊥
-variable_made x i k s kids e = cc
-
 kids_same : (k l : ℕ) (ks ls : List ℕ) → made k ks ≡ made l ls → ks ≡ ls
 kids_same k l ks ls e = cc
 
@@ -65,36 +56,14 @@ put_grown old p behind = record {
   ];
 }
 
-leaf_behind : (old : List Part) (p : Part) (t : Typ) → IsLeafOf p t → IsBehind old p
-leaf_behind old p (TFree x s) is k kids e = absurd (fixed_made x k s kids (sym is ∙ e))
-leaf_behind old p (TVar x i s) is k kids e = absurd (variable_made x i k s kids (sym is ∙ e))
-leaf_behind old p (Con l ts) is k kids e = absurd is
-
-leaf_stands : (parts : List Part) (p : Part) (t : Typ) (i : ℕ) → IsLeafOf p t → slice_get parts i ≡ Some p → StandsFor parts i t
-leaf_stands parts p (TFree x s) i is at = at ∙ ap Some is
-leaf_stands parts p (TVar x j s) i is at = at ∙ ap Some is
-leaf_stands parts p (Con l ts) i is at = absurd is
-
 put_at : (old new : List Part) (p : Part) (i : ℕ) → IsPut old new p i → slice_get new i ≡ Some p
 put_at old new p i put = ap (λ xs. slice_get xs i) put.0 ∙ (ap (slice_get (old ++ p ∷ [])) put.1 ∙ put_new old p)
-
-pub leaf_added : (old new : List Part) (p : Part) (t : Typ) (i : ℕ) → IsLeafOf p t → IsPut old new p i → IsAdded old new t i
-leaf_added old new p t i is put = record {
-  grown = subst (IsGrown old) (sym put.0) (put_grown old p (leaf_behind old p t is));
-  stands = leaf_stands new p t i is (put_at old new p i put);
-}
 
 pub made_put : (old new : List Part) (k : ℕ) (kids : List ℕ) (i : ℕ) → IsPut old new (made k kids) i → IsMadeAt old new k kids i
 made_put old new k kids i put = record {
   grown = λ below. subst (IsGrown old) (sym put.0) (put_grown old (made k kids) (λ l others e. subst (Each (λ kid. kid < length old)) (kids_same k l kids others e) below));
   stands = put_at old new (made k kids) i put;
 }
-
-pub made_found : (parts : List Part) (k : ℕ) (kids : List ℕ) (i : ℕ) → slice_get parts i ≡ Some (made k kids) → IsMadeAt parts parts k kids i
-made_found parts k kids i at = record { grown = λ below. grown_itself parts; stands = at }
-
-pub leaf_found : (parts : List Part) (t : Typ) (i : ℕ) → StandsFor parts i t → IsAdded parts parts t i
-leaf_found parts t i at = record { grown = grown_itself parts; stands = at }
 
 -- Nodes of the arguments so far.
 stand_more : (parts : List Part) (is : List ℕ) (ts : List Typ) (i : ℕ) (t : Typ) → StandForEach parts is (typs_of ts) → StandsFor parts i t → StandForEach parts (is ++ i ∷ []) (typs_of (ts ++ t ∷ []))

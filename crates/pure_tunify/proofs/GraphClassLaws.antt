@@ -30,9 +30,6 @@ typs_same (t ∷ ts) (u ∷ us) e = λ l. first_of t u (typs_of ts) (typs_of us)
     rest_of : (t u : Typ) (ts us : Typs) → also t ts ≡ also u us → ts ≡ us
     rest_of t u ts us e = cc
 
-con_name : (k l : ℕ) (ts us : Typs) → Con k ts ≡ Con l us → k ≡ l
-con_name k l ts us e = cc
-
 con_args : (k l : ℕ) (ts us : Typs) → Con k ts ≡ Con l us → ts ≡ us
 con_args k l ts us e = cc
 
@@ -70,9 +67,6 @@ coupled_turn v lefts rights i l r old new less rl rr e same each = coupled_more 
 
 -- Two nodes that have one value: their heads are the same, and their arguments have one value each.
 module _ (old new : List Couple) where
-  pub made_apart : (k l : ℕ) (ks ls : List ℕ) → (k ≡ l → ⊥) → AreNodesMet (made k ks) (made l ls) old new false
-  made_apart k l ks ls apart A v t f g each = apart (con_name k l _ _ (sym f ∙ g))
-
   pub made_longer : (k l : ℕ) (ks ls : List ℕ) → (length ks ≡ length ls → ⊥) → AreNodesMet (made k ks) (made l ls) old new false
   made_longer k l ks ls apart A v t f g each =
       apart (sym (map-long v ks) ∙ (ap length (typs_same (map v ks) (map v ls) (con_args k l _ _ (sym f ∙ g))) ∙ map-long v ls))
@@ -110,9 +104,6 @@ module _ (A : Algebra) (old new : List Demand) (c : ℕ) where
   module _ (k : ℕ) (kids : List ℕ) (domains : List (List ℕ)) (exact : (ts : Typs) → (IsOfClass A (Con k ts) c → AreOfSorts A ts domains) × (AreOfSorts A ts domains → IsOfClass A (Con k ts) c)) where
     pub long_demand : (length kids ≡ length domains → ⊥) → IsDemanding A (made k kids) c old new false
     long_demand apart v t f of each = apart (long_domains A v kids domains ((exact (typs_of (map v kids))).0 (subst (λ (T : Typ). IsOfClass A T c) f of)))
-
-    pub made_demand : ((B : Algebra) (v : ℕ → Typ) → AreDemanded B v old → AreOfSorts B (typs_of (map v kids)) domains → AreDemanded B v new) → IsDemanding A (made k kids) c old new true
-    made_demand more v t f of each = more A v each ((exact (typs_of (map v kids))).0 (subst (λ (T : Typ). IsOfClass A T c) f of))
 
 -- Reading nodes as parts.
 pub node_at : (nodes : List Node) (i : ℕ) (n : Node) → i < length nodes → n ≡ get_or nodes i n → slice_get (map part_of nodes) i ≡ Some (part_of n)

@@ -26,11 +26,11 @@ returns-then-can c =
     let pursuit : IsPursuit c.args.order.now c.args.settings.now c.pursue.new.settings (c.args.equation ∷ []) (reverse c.pursue.new.work.items) c.in_ok-turned.turned =
     stands_pursuit c.args.order.now c.args.settings.now c.pursue.new.settings c.args.equation (reverse c.begin.new.work.items) (reverse c.pursue.new.work.items) c.in_ok-turned.turned c.in_ok-begin.ensures c.in_ok-turned.ensures in
     one_passed c.args.order.now c.domains.ensures.coregular c.args.equation c.args.settings.now c.pursue.new.settings (c.args.equation ∷ []) (reverse c.pursue.new.work.items) refl c.requires c.next.ensures.tidy
-    (rw c.in-Large.is at pursuit) (rw c.if-can.true at c.in_ok-can-in-Large.ensures)
+    (rw c.in-Large.is at pursuit) (let answer = rw c.if-can.true at c.in_ok-can-in-Large.ensures in rw c.as_slice.ensures.value at answer)
 
 pub returns-else-can : goal.returns-else-can
 returns-else-can c =
     let pursuit : IsPursuit c.args.order.now c.args.settings.now c.pursue.new.settings (c.args.equation ∷ []) (reverse c.pursue.new.work.items) c.in_ok-turned.turned =
     stands_pursuit c.args.order.now c.args.settings.now c.pursue.new.settings c.args.equation (reverse c.begin.new.work.items) (reverse c.pursue.new.work.items) c.in_ok-turned.turned c.in_ok-begin.ensures c.in_ok-turned.ensures in
     one_refused c.args.order.now c.domains.ensures.coregular c.args.equation c.args.settings.now c.pursue.new.settings (c.args.equation ∷ []) (reverse c.pursue.new.work.items) refl c.requires c.next.ensures.tidy
-    (rw c.in-Large.is at pursuit) (rw c.if-can.false at c.in_ok-can-in-Large.ensures)
+    (rw c.in-Large.is at pursuit) (let answer = rw c.if-can.false at c.in_ok-can-in-Large.ensures in rw c.as_slice.ensures.value at answer)
