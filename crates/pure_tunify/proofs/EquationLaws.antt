@@ -1,6 +1,5 @@
 -- Pairs that stand for the pair of an equation.
 use Rattle.std.proofs.Common.{◌≡◌, List, [], ◌∷◌, refl}
-use Rattle.std.specs.Prelude.{reverse}
 use Rattle.pure_definitions.specs.Names.{fun_name}
 use Rattle.pure_definitions.specs.Types.Typ.{Typ, arrow}
 use Rattle.pure_definitions.specs.Types.Order.{Algebra}

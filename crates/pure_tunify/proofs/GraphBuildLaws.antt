@@ -6,7 +6,7 @@ use Rattle.pure_text.specs.Lists.{Each}
 use Rattle.pure_text.proofs.LoopLaws.{longer_by}
 use Rattle.pure_definitions.specs.Types.Typ.{Typ, TFree, TVar, Con, Typs, none, also, typs_of}
 use Rattle.pure_tunify.specs.Graphs.{Part, fixed, variable, made, StandsFor, StandForEach}
-use Rattle.pure_tunify.specs.GraphCode.{IsLeafOf, IsPut, IsGrown, IsAdded, IsMadeAt}
+use Rattle.pure_tunify.specs.GraphCode.{IsPut, IsGrown, IsAdded, IsMadeAt}
 
 pub grown_on : (a b c : List Part) → IsGrown a b → IsGrown b c → IsGrown a c
 grown_on a b c g h = record { keeps = λ i p at. h.keeps i p (g.keeps i p at); before = λ w. h.before (g.before w) }

@@ -9,7 +9,7 @@ use Rattle.std.specs.declared.alloc.Global.{Global}
 use Rattle.std.specs.declared.vec.Vec.{Vec}
 use Rattle.pure_text.specs.Lists.{IsIn, Each}
 use Rattle.pure_text.proofs.ListLaws.{any_some, each_at}
-use Rattle.pure_definitions.specs.Types.Typ.{Typ, none, typs_of, typ_size, typs_size}
+use Rattle.pure_definitions.specs.Types.Typ.{Typ, typs_of, typ_size, typs_size}
 use Rattle.pure_definitions.specs.Types.Order.{Algebra}
 use Rattle.pure_tunify.specs.Unifiers.{HasUnifier, HasNoUnifier}
 use Rattle.pure_tunify.specs.Steps.{pair}

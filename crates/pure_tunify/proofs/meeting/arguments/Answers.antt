@@ -1,5 +1,4 @@
-use Rattle.std.proofs.Common.{sym, ◌∙◌}
-use Rattle.pure_definitions.specs.Types.Typ.{Typ}
+use Rattle.std.proofs.Common.{◌∙◌}
 use Rattle.pure_typ.specs.TypView.{args_list}
 use Rattle.pure_tunify.proofs.MeetingLaws.{arguments_are}
 use Rattle.pure_tunify.proofs.meeting.arguments.Goals as goal

@@ -1,5 +1,5 @@
 use Rattle.std.proofs.Common.{arith}
-use Rattle.pure_tunify.proofs.WorkLaws.{pushed_start, pushed_next, pushed_end}
+use Rattle.pure_tunify.proofs.WorkLaws.{pushed_next, pushed_end}
 use Rattle.pure_tunify.proofs.meeting.push_arguments.Goals as goal
 
 pub loop-rest-preserved : goal.loop-rest-preserved
