@@ -1,5 +1,0 @@
-use Rattle.pure_step_tests.proofs.StepLaws.{theory_content, ready}
-use Rattle.pure_step_tests.proofs.steps.fact.Goals as goal
-
-pub returns-in-Ok : goal.returns-in-Ok
-returns-in-Ok c = ready c.args.theory.now c.args.which c.in-Ok.fact c.in-Ok.ensures.answer.0 (c.in-Ok.ensures.derivable (theory_content c.args.theory.now c.requires))
