@@ -1,0 +1,3 @@
+pub mod Earlier
+pub mod Grounds
+pub mod Pairs

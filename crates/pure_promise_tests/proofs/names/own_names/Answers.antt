@@ -1,6 +1,0 @@
-use Rattle.std.proofs.Common.{refl, arith}
-use Rattle.pure_test_notation.proofs.SessionLemmas.{session-texts}
-use Rattle.pure_promise_tests.proofs.names.own_names.Goals as goal
-
-pub make-requires : goal.make-requires
-make-requires c = rw c.in_ok-texts.ensures (session-texts _ refl refl (omega arith))

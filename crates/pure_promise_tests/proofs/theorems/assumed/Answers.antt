@@ -1,4 +1,0 @@
-use Rattle.pure_promise_tests.proofs.theorems.assumed.Goals as goal
-
-pub returns-in-Ok-assume : goal.returns-in-Ok-assume
-returns-in-Ok-assume c = c.in-Ok-assume.ensures.derivable c.in-Ok.ensures.certified
