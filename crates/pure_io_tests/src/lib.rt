@@ -1,4 +1,4 @@
-//! The library and the sink of the real system, and those in memory, as tests.
+//! A large output, and a gate, as tests; the other tests of `pure_io` are rows.
 #![tactic(auto)]
 
 #[cfg(test)]
