@@ -73,7 +73,7 @@ fn single(alloc: Global, class: Name) -> Result<Sort, AllocError>
 {
     let mut classes = Vec::new(alloc);
     classes.push(class)?;
-    Ok(Sort::make(classes))
+    Sort::make(alloc, classes)
 }
 
 /// The sort with the class.
@@ -89,7 +89,7 @@ fn with_class(alloc: Global, sort: Sort, class: Name) -> Result<Sort, AllocError
 fn sort_of(alloc: Global, classes: &[Name]) -> Result<Sort, AllocError>
     ensures { IfOk result (IsSortOf classes.now) }
 {
-    let mut sort = Sort::make(Vec::new(alloc));
+    let mut sort = Sort::empty();
     for class in classes {
         sort = with_class(alloc, sort, *class)?;
     }

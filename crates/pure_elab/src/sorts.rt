@@ -27,7 +27,7 @@ pub(crate) fn sort_of(alloc: Global, table: &[VariableSort], name: Name) -> Resu
             return Ok(sort);
         }
     }
-    Ok(Sort::make(Vec::new(alloc)))
+    Ok(Sort::empty())
 }
 
 /// Whether the table has the variable.
@@ -48,7 +48,7 @@ fn single(alloc: Global, class: Name) -> Result<Sort, AllocError>
 {
     let mut classes = Vec::new(alloc);
     classes.push(class)?;
-    Ok(Sort::make(classes))
+    Sort::make(alloc, classes)
 }
 
 /// The sort with the class, where it is written at this variable.
@@ -72,7 +72,7 @@ fn with_class(
 fn union_at(alloc: Global, written: &[WrittenClass], name: Name) -> Result<Sort, AllocError>
     ensures { IfOk result (IsSortOf (classes_at written.now name)) }
 {
-    let mut sort = Sort::make(Vec::new(alloc));
+    let mut sort = Sort::empty();
     for entry in written {
         sort = with_class(alloc, sort, *entry, name)?;
     }

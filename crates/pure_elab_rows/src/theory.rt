@@ -148,7 +148,7 @@ fn find_typ(entries: &[Constant], name: Name) -> Option<&Typ>
 
 /// The domains with one sort, of one class.
 fn domain(alloc: Global, class: Name) -> Result<Vec<Sort>, AllocError> {
-    let sort = Sort::make(vec![in alloc; class]?);
+    let sort = Sort::make(alloc, vec![in alloc; class]?)?;
     Ok(vec![in alloc; sort]?)
 }
 

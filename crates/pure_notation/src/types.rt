@@ -28,18 +28,18 @@ pub(crate) fn functions(
 /// The sort of the classes behind a colon, at most two.
 fn sort(alloc: Global, classes: &[u8]) -> Result<Sort, NotationFault> {
     if classes.is_empty() {
-        return Ok(Sort::make(Vec::new(alloc)));
+        return Ok(Sort::empty());
     }
     let (first, second) = cut(classes, b':');
     let lower = name(first)?;
     if second.is_empty() {
-        return Ok(Sort::make(vec![in alloc; lower]?));
+        return Ok(Sort::make(alloc, vec![in alloc; lower]?)?);
     }
     let upper = name(second)?;
     if lower.0 >= upper.0 {
         return Err(NotationFault::ClassOrder);
     }
-    Ok(Sort::make(vec![in alloc; lower, upper]?))
+    Ok(Sort::make(alloc, vec![in alloc; lower, upper]?)?)
 }
 
 /// The fixed type variable of the word behind its mark.

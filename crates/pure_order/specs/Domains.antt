@@ -3,14 +3,11 @@ use Rattle.std.specs.Prelude.{◌≡◌, ◌↔◌, ℕ, List}
 use Rattle.pure_text.specs.Lists.{IsIn, AnyOf}
 use Rattle.pure_definitions.specs.Types.Order.{Arity, Algebra, IsClassBelow}
 use Rattle.pure_order_tables.specs.Arities.{IsGreatest}
+pub use Rattle.pure_order_tables.specs.Twice.{IsAboveAnother}
 
 -- These are the domains of a declared arity of k for a class below d, and above those of all such arities.
 abbrev pub AreGreatestDomains : Algebra → ℕ → ℕ → List (List ℕ) → Type 0
 AreGreatestDomains A k d domains = (q : Arity) × (q.domains ≡ domains) × IsGreatest A k d q
-
--- Some other class of the sort is below the class.
-abbrev pub IsAboveAnother : Algebra → List ℕ → ℕ → Type 0
-IsAboveAnother A s c = AnyOf (λ b. (¬ (b ≡ c)) × IsClassBelow A b c) s
 
 -- The second sort has the classes of the first that aren't above another one of it. Sorts ascend strictly, so it is one list.
 abbrev pub IsReduced : Algebra → List ℕ → List ℕ → Type 0

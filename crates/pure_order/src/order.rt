@@ -9,6 +9,7 @@ ghost use Rattle.pure_order_tables.specs.Classes.{Agree, IsAntisymmetric, IsDecl
 ghost use Rattle.pure_order_tables.specs.Arities.{IsArityBelow, IsKnown, IsUnion, IsUnionInOrder, with_class, with_arity};
 ghost use Rattle.pure_order_tables.specs.Checks.{IsDirected};
 ghost use Rattle.pure_order.specs.Domains.{AreGreatestDomains, IsAboveAnother, IsReduced};
+ghost use Rattle.pure_order_tables.specs.Twice.{IsTwiceRow};
 ghost use Rattle.pure_order_tables.specs.Unknown.{HasArityFor};
 ghost use Rattle.pure_order.specs.FaultView.{IsClassFault, IsArityFault, IsMergeFault};
 
@@ -254,6 +255,18 @@ impl Order {
         other.0 != class.0 && self.below(other, class)
     }
 
+    /// The same of a class of the sort, by the row of what is above two of it, if it isn't empty.
+    fn is_above_by(&self, s: &Sort, twice: &[u64], class: Name) -> bool
+        requires member { IsIn class s.now }
+        requires twice { IsTwiceRow self.now s.now twice.now }
+        ensures { IsTrue result ↔ IsAboveAnother self.now s.now class }
+    {
+        if twice.len() == 0 {
+            return self.is_above_another(s.classes(), class);
+        }
+        self.tables.is_in_twice(s, twice, class)
+    }
+
     /// The sort without its classes that are above another one. It is below the sort and above it, and none of its
     /// classes is above another, since no two classes are below each other.
     pub fn reduce(&self, alloc: Global, s: &Sort) -> Result<Sort, AllocError>
@@ -264,13 +277,15 @@ impl Order {
     {
         self.tables.order_is_decided();
         self.tables.classes_are_apart();
+        let twice = self.tables.twice_above(alloc, s)?;
         let mut classes = Vec::new(alloc);
         for class in s.classes() {
-            if !self.is_above_another(s.classes(), *class) {
+            if !self.is_above_by(s, twice.as_slice(), *class) {
                 classes.push(*class)?;
             }
         }
-        Ok(Sort::make(classes))
+        let sort = Sort::make(alloc, classes)?;
+        Ok(sort)
     }
 
     /// The union of two orders that agree on the classes declared to be above a class: the declarations of this one, and then those of the other that this one hasn't.

@@ -18,7 +18,7 @@ fn one_name(alloc: Global, name: Name) -> Result<Vec<Name>, AllocError> {
 
 /// The domains with the sort of one class.
 fn one_domain(alloc: Global, class: Name) -> Result<Vec<Sort>, Fault> {
-    let sort = sort_of(one_name(alloc, class)?)?;
+    let sort = sort_of(alloc, one_name(alloc, class)?)?;
     Ok(vec![in alloc; sort]?)
 }
 
@@ -67,7 +67,7 @@ fn first_classes(alloc: Global, count: u32) -> Result<Sort, Fault> {
     for number in 0..count {
         classes.push(Name(number))?;
     }
-    sort_of(classes)
+    sort_of(alloc, classes)
 }
 
 /// The constructor applied to a type variable of the sort.

@@ -46,9 +46,9 @@ fn is_ascending(names: &[Name]) -> bool
 }
 
 /// The sort of the classes, which have to ascend.
-pub(crate) fn sort_of(classes: Vec<Name>) -> Result<Sort, Fault> {
+pub(crate) fn sort_of(alloc: Global, classes: Vec<Name>) -> Result<Sort, Fault> {
     if is_ascending(classes.as_slice()) {
-        Ok(Sort::make(classes))
+        Ok(Sort::make(alloc, classes)?)
     } else {
         Err(Fault::Unreadable)
     }
@@ -56,5 +56,5 @@ pub(crate) fn sort_of(classes: Vec<Name>) -> Result<Sort, Fault> {
 
 /// The sort of the letters.
 pub(crate) fn sort(alloc: Global, letters: &[u8]) -> Result<Sort, Fault> {
-    sort_of(classes(alloc, letters)?)
+    sort_of(alloc, classes(alloc, letters)?)
 }

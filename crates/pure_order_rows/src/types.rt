@@ -19,7 +19,7 @@ fn take_sort(alloc: Global, reader: &mut Reader) -> Result<Sort, Fault> {
         classes.push(*class)?;
     }
     reader.classes.clear();
-    sort_of(classes)
+    sort_of(alloc, classes)
 }
 
 /// The type of the constructor applied to so many of the types that were read, or to all where there are fewer.

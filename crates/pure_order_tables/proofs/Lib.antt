@@ -11,6 +11,7 @@ pub mod UnionLaws
 pub mod SideLaws
 pub mod UncoveredLaws
 pub mod SortLaws
+pub mod TwiceLaws
 pub mod KeptLaws
 pub mod ConflictLaws
 pub mod JudgeLaws

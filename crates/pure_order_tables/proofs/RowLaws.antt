@@ -193,3 +193,64 @@ within_turn first second i same before place inside h = elim (here_or_there (pla
 
 pub within_all : (first second : List ℕ) (i : ℕ) → length first ≤ i → ((place : ℕ) → place / 64 < i → Holds first place → Holds second place) → (place : ℕ) → Holds first place → Holds second place
 within_all first second i end before place h = before place (let w = held_within first place h in omega (arith, w, end)) h
+
+-- the words that two rows have in common
+abbrev pub common : List ℕ → List ℕ → List ℕ
+common (a ∷ first) (b ∷ second) = bit_and a b ∷ common first second
+common _ _ = []
+
+read_common : (first second : List ℕ) (i : ℕ) → i < length first → i < length second → bit_and (get_or first i 0) (get_or second i 0) ≡ get_or (common first second) i 0
+read_common [] second i h k = absurd (omega arith)
+read_common (a ∷ first) [] i h k = absurd (omega arith)
+read_common (a ∷ first) (b ∷ second) zero h k = refl
+read_common (a ∷ first) (b ∷ second) (suc i) h k = read_common first second i (omega arith) (omega arith)
+
+long_common : (first second : List ℕ) (i : ℕ) → i < length (common first second) → (i < length first) × (i < length second)
+long_common [] second i h = absurd (omega arith)
+long_common (a ∷ first) [] i h = absurd (omega arith)
+long_common (a ∷ first) (b ∷ second) zero h = (omega arith, omega arith)
+long_common (a ∷ first) (b ∷ second) (suc i) h = let rest = long_common first second i (omega arith) in (omega (arith, rest.0), omega (arith, rest.1))
+
+and_bit : (a b i : ℕ) → (bit_at (bit_and a b) i ≡ 1) ↔ ((bit_at a i ≡ 1) × (bit_at b i ≡ 1))
+and_bit a b i =
+    let m : bit_at (bit_and a b) i ≡ min (bit_at a i) (bit_at b i) = bit_at_and a b i in
+    let p = bit_at-lt a i in
+    let q = bit_at-lt b i in
+    (λ h. (omega (arith, m, p, q, h), omega (arith, m, p, q, h)), λ w. (let x = w.0 in let y = w.1 in omega (arith, m, x, y)))
+
+held_common : (first second : List ℕ) (place : ℕ) → Holds (common first second) place ↔ (Holds first place × Holds second place)
+held_common first second place = (there, back)
+  where
+    there : Holds (common first second) place → Holds first place × Holds second place
+    there h =
+        let w = long_common first second (place / 64) (held_within (common first second) place h) in
+        let both = (and_bit (get_or first (place / 64) 0) (get_or second (place / 64) 0) (place % 64)).0 (rw (read_common first second (place / 64) w.0 w.1) h.bit) in
+        (record { bit = both.0 }, record { bit = both.1 })
+
+    back : Holds first place × Holds second place → Holds (common first second) place
+    back w = record { bit = rw (← read_common first second (place / 64) (held_within first place w.0) (held_within second place w.1)) ((and_bit (get_or first (place / 64) 0) (get_or second (place / 64) 0) (place % 64)).1 (w.0.bit, w.1.bit)) }
+
+pub common_turn : (old first second now : List ℕ) (i : ℕ) → i < length now → i < length first → i < length second → AreJoined old (common first second) now i
+    → AreJoined old (common first second) (set now i (bit_or (get_or now i 0) (bit_and (get_or first i 0) (get_or second i 0)))) (i + 1)
+common_turn old first second now i within one two s = joined_turn old (common first second) now i (bit_and (get_or first i 0) (get_or second i 0)) within (read_common first second i one two) s
+
+-- Once one of the three ends, all of it is in.
+pub common_all : (old first second now : List ℕ) (i : ℕ) → min (min (length old) (length first)) (length second) ≤ i → AreJoined old (common first second) now i
+    → (place : ℕ) → Holds now place ↔ (Holds old place ⊎ ((place / 64 < length old) × Holds first place × Holds second place))
+common_all old first second now i end s place = elim (cases_lt (place / 64) i) [
+  | inl early ↦ (
+    λ h. elim ((s.held place early).0 h) [
+      | inl o ↦ inl o
+      | inr b ↦ (let w = (held_common first second place).0 b in inr (rw s.count at (held_within now place h), w.0, w.1))
+    ],
+    λ h. elim h [ inl o ↦ (s.held place early).1 (inl o) | inr w ↦ (s.held place early).1 (inr ((held_common first second place).1 (w.1, w.2))) ],
+  )
+  | inr past ↦
+      let kept = s.rest (place / 64) past in (
+        λ h. inl (record { bit = rw (← kept) h.bit }),
+        λ h. elim h [
+          | inl o ↦ record { bit = rw kept o.bit }
+          | inr w ↦ absurd (let a = w.0 in let b = held_within first place w.1 in let c = held_within second place w.2 in omega (arith, a, b, c, end, past))
+        ],
+      )
+]

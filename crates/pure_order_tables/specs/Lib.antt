@@ -10,5 +10,6 @@ pub mod Checks
 pub mod Kept
 pub mod Unknown
 pub mod Sorts
+pub mod Twice
 pub mod Uncovered
 pub mod Exposed

@@ -6,6 +6,7 @@ mod conflicts;
 mod judge;
 mod kept;
 mod names;
+mod reduced;
 mod rows;
 mod slots;
 mod sorts;

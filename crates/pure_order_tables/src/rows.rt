@@ -46,6 +46,17 @@ pub(crate) fn put_row(row: &mut Vec<u64>, other: &[u64])
     }
 }
 
+/// Puts in what both others hold, as far as the row goes.
+pub(crate) fn put_common(row: &mut Vec<u64>, first: &[u64], second: &[u64])
+    ensures held { (place : ℕ) → Holds row.new.items place ↔ (Holds row.old.items place ⊎ ((place / 64 < length row.old.items) × Holds first.now place × Holds second.now place)) }
+    ensures count { length row.new.items ≡ length row.old.items }
+{
+    for i in 0..row.len().min(first.len()).min(second.len()) {
+        let word = first[i] & second[i];
+        row[i] |= word;
+    }
+}
+
 /// Puts into the words, which stand in a frame, what the row holds, as far as they go.
 pub(crate) fn put_words(words: &mut [u64; 64], row: &[u64])
     ensures { (place : ℕ) → Holds words.new place ↔ (Holds words.old place ⊎ ((place < 4096) × Holds row.now place)) }

@@ -25,11 +25,11 @@ pub enum Built {
 }
 
 /// The schematic type variable of this name, without classes.
-fn typ_variable(alloc: Global, name: u32) -> Typ
+fn typ_variable(name: u32) -> Typ
     ensures { result ≡ typ_tree.TVar name 0 [] }
 {
     let name = Name(name);
-    let sort = Sort::make(Vec::new(alloc));
+    let sort = Sort::empty();
     Typ {
         node: TypNode::TVar {
             name,
@@ -64,7 +64,7 @@ fn proposition(alloc: Global, name: u32) -> Term
 fn function(alloc: Global, name: u32, range: Typ) -> Result<Term, AllocError>
     ensures { IfOk result (λ t. t ≡ tree.Var name 0 (arrow any_typ range)) }
 {
-    let typ = Typ::arrow(alloc, typ_variable(alloc, 0), range)?;
+    let typ = Typ::arrow(alloc, typ_variable(0), range)?;
     Ok(variable(name, typ))
 }
 
@@ -81,10 +81,10 @@ fn bound() -> Term
 fn for_all(alloc: Global, body: Term) -> Result<Term, AllocError>
     ensures { IfOk result (λ t. t ≡ all any_typ body) }
 {
-    let typ = typ_variable(alloc, 0);
+    let typ = typ_variable(0);
     let body = Arc::new(alloc, body)?;
     let function = Term::abs(typ, body);
-    all_of(alloc, &typ_variable(alloc, 0), function)
+    all_of(alloc, &typ_variable(0), function)
 }
 
 /// The schematic predicate applied to the term.
@@ -99,9 +99,9 @@ fn predicate(alloc: Global, name: u32, argument: Term) -> Result<Term, AllocErro
 fn reflexivity(alloc: Global) -> Result<Term, AllocError>
     ensures { IfOk result (λ t. t ≡ reflexivity) }
 {
-    let typ = typ_variable(alloc, 0);
-    let left = variable(0, typ_variable(alloc, 0));
-    let right = variable(0, typ_variable(alloc, 0));
+    let typ = typ_variable(0);
+    let left = variable(0, typ_variable(0));
+    let right = variable(0, typ_variable(0));
     equation(alloc, &typ, left, right)
 }
 
@@ -109,7 +109,7 @@ fn reflexivity(alloc: Global) -> Result<Term, AllocError>
 fn predicate_of(alloc: Global, name: u32, argument: u32) -> Result<Term, AllocError>
     ensures { IfOk result (λ t. t ≡ tree.App (tree.Var name 0 (arrow any_typ prop)) (tree.Var argument 0 any_typ)) }
 {
-    predicate(alloc, name, variable(argument, typ_variable(alloc, 0)))
+    predicate(alloc, name, variable(argument, typ_variable(0)))
 }
 
 /// `?P ?x ==> ?P ?y`
@@ -125,9 +125,9 @@ fn substituted(alloc: Global) -> Result<Term, AllocError>
 fn equal_variables(alloc: Global) -> Result<Term, AllocError>
     ensures { IfOk result (λ t. t ≡ eq any_typ (tree.Var 0 0 any_typ) (tree.Var 1 0 any_typ)) }
 {
-    let typ = typ_variable(alloc, 0);
-    let left = variable(0, typ_variable(alloc, 0));
-    let right = variable(1, typ_variable(alloc, 0));
+    let typ = typ_variable(0);
+    let left = variable(0, typ_variable(0));
+    let right = variable(1, typ_variable(0));
     equation(alloc, &typ, left, right)
 }
 
@@ -144,20 +144,20 @@ fn substitutivity(alloc: Global) -> Result<Term, AllocError>
 fn equal_at_bound(alloc: Global) -> Result<Term, AllocError>
     ensures { IfOk result (λ t. t ≡ eq other_typ (tree.App (tree.Var 0 0 (arrow any_typ other_typ)) (tree.Bound 0)) (tree.App (tree.Var 1 0 (arrow any_typ other_typ)) (tree.Bound 0))) }
 {
-    let first = function(alloc, 0, typ_variable(alloc, 1))?;
-    let second = function(alloc, 1, typ_variable(alloc, 1))?;
+    let first = function(alloc, 0, typ_variable(1))?;
+    let second = function(alloc, 1, typ_variable(1))?;
     let left = application(alloc, first, bound())?;
     let right = application(alloc, second, bound())?;
-    equation(alloc, &typ_variable(alloc, 1), left, right)
+    equation(alloc, &typ_variable(1), left, right)
 }
 
 /// `?f == ?g`, for functions
 fn equal_functions(alloc: Global) -> Result<Term, AllocError>
     ensures { IfOk result (λ t. t ≡ eq (arrow any_typ other_typ) (tree.Var 0 0 (arrow any_typ other_typ)) (tree.Var 1 0 (arrow any_typ other_typ))) }
 {
-    let typ = Typ::arrow(alloc, typ_variable(alloc, 0), typ_variable(alloc, 1))?;
-    let left = function(alloc, 0, typ_variable(alloc, 1))?;
-    let right = function(alloc, 1, typ_variable(alloc, 1))?;
+    let typ = Typ::arrow(alloc, typ_variable(0), typ_variable(1))?;
+    let left = function(alloc, 0, typ_variable(1))?;
+    let right = function(alloc, 1, typ_variable(1))?;
     equation(alloc, &typ, left, right)
 }
 

@@ -55,7 +55,7 @@ fn put_arities(alloc: Global, stages: &mut Vec<Stage>, classes: &[u8]) -> Result
 
 /// The sort of the class A.c.
 fn sort(alloc: Global) -> Result<Sort, AllocError> {
-    Ok(Sort::make(vec![in alloc; UPPER]?))
+    Sort::make(alloc, vec![in alloc; UPPER]?)
 }
 
 /// `?'a` of the class A.c, and A.i for it.

@@ -85,7 +85,7 @@ fn is_ascending(names: &[Name]) -> bool
 fn sort_of(alloc: Global, text: &[u8]) -> Result<Sort, Stop> {
     let classes = names(alloc, text)?;
     if is_ascending(classes.as_slice()) {
-        Ok(Sort::make(classes))
+        Ok(Sort::make(alloc, classes)?)
     } else {
         Err(Stop::Unreadable)
     }

@@ -39,7 +39,7 @@ fn no_sorts(alloc: Global, count: usize) -> Result<Vec<Sort>, AllocError>
 {
     let mut sorts = Vec::new(alloc);
     for _ in 0..count {
-        sorts.push(Sort::make(Vec::new(alloc)))?;
+        sorts.push(Sort::empty())?;
     }
     Ok(sorts)
 }

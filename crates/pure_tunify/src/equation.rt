@@ -32,14 +32,14 @@ impl Model for Equation {
 }
 
 /// The unknown of this number.
-fn unknown(alloc: Global, number: u32) -> Typ
+fn unknown(number: u32) -> Typ
     ensures { result ≡ unknown_range number }
 {
     Typ {
         node: TypNode::TVar {
             name: Name(number),
             index: 0,
-            sort: Sort::make(Vec::new(alloc)),
+            sort: Sort::empty(),
         },
     }
 }
@@ -79,7 +79,7 @@ fn push_applied(
     requires { work.old.items ≡ [] }
     ensures { OnOk result (StandsFor (pair fun (tree.arrow arg (unknown_range number))) (reverse work.new.items)) }
 {
-    let range = unknown(alloc, number);
+    let range = unknown(number);
     match fun.as_arrow() {
         Some(parts) => {
             push_parts(alloc, work, parts.0, parts.1, arg, range)?;
@@ -124,7 +124,7 @@ impl Equation {
         match range {
             None => Ok(TypPair { left, right }),
             Some(number) => {
-                let range = unknown(alloc, number);
+                let range = unknown(number);
                 let right = Typ::arrow(alloc, right, range)?;
                 Ok(TypPair { left, right })
             }

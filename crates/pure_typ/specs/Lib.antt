@@ -8,3 +8,4 @@ pub mod Ascending
 pub mod TypPlaces
 pub mod NameBases
 pub mod TypBound
+pub mod SortView

@@ -1,5 +1,5 @@
-//! Sorts.
-ghost use Rattle.std.specs.Prelude.{◌≡◌, IfOk, refl, Some, true};
+//! Sorts, whose classes are shared.
+ghost use Rattle.std.specs.Prelude.{◌≡◌, [], IfOk, refl, Some, true};
 ghost use Rattle.std.specs.Ordering.{nat_cmp};
 ghost use Rattle.std.specs.Cmp.Lexicographic.{slice_cmp, nat_list_eq_equiv, nat_list_cmp_total, texts_ties, texts_po};
 ghost use Rattle.std.specs.Cmp.{partial_equiv_from_equiv};
@@ -7,16 +7,25 @@ ghost use Rattle.std.specs.List.Sorted.{IsStrictlyIncreasing};
 ghost use Rattle.std.specs.Set.{sorted_merge};
 ghost use Rattle.pure_definitions.specs.Types.Typ.{sort_eq};
 ghost use Rattle.pure_typ.specs.SortUnion.{IsSortUnion};
+ghost use Rattle.pure_typ.specs.SortView.{classes_list};
 
 use crate::name::Name;
 use std::alloc::{AllocError, Global};
 use std::cmp::Ordering;
 use std::marker::Model;
+use std::sync::Arc;
 
 /// A sort, the intersection of its classes, whose names ascend strictly.
 #[derive(Debug, Drop)]
 pub struct Sort {
-    classes: Vec<Name>,
+    classes: Classes,
+}
+
+/// The classes of a sort: none, which take no memory, or a list that is shared.
+#[derive(Debug, Drop)]
+pub enum Classes {
+    Empty,
+    Shared(Arc<Vec<Name>>),
 }
 
 impl Model for Sort {
@@ -25,18 +34,35 @@ impl Model for Sort {
 
     ghost Value = { List ℕ };
 
-    ghost view = { λ s. s.classes.items };
+    ghost use Rattle.pure_typ.specs.SortView.{classes_list};
 
-    ghost invariant = { λ s. IsStrictlyIncreasing s.classes.items };
+    ghost view = { λ s. classes_list s.classes };
+
+    ghost invariant = { λ s. IsStrictlyIncreasing (classes_list s.classes) };
 }
 
 impl Sort {
-    /// The sort of these classes.
-    pub fn make(classes: Vec<Name>) -> Sort
-        requires { IsStrictlyIncreasing classes.items }
-        ensures { result ≡ classes.items }
+    /// The sort without classes.
+    pub fn empty() -> Sort
+        ensures { result ≡ [] }
     {
-        Sort { classes }
+        Sort {
+            classes: Classes::Empty,
+        }
+    }
+
+    /// The sort of these classes.
+    pub fn make(alloc: Global, classes: Vec<Name>) -> Result<Sort, AllocError>
+        requires { IsStrictlyIncreasing classes.items }
+        ensures { IfOk result (λ s. s ≡ classes.items) }
+    {
+        if classes.is_empty() {
+            return Ok(Sort::empty());
+        }
+        let list = Arc::new(alloc, classes)?;
+        Ok(Sort {
+            classes: Classes::Shared(list),
+        })
     }
 
     /// The classes, in ascending order.
@@ -44,27 +70,40 @@ impl Sort {
         ensures are { result.now ≡ self.now }
         ensures ascend { IsStrictlyIncreasing self.now }
     {
-        self.classes.as_slice()
+        match &self.classes {
+            Classes::Empty => &[],
+            Classes::Shared(list) => list.as_slice(),
+        }
     }
 
     /// The sort of the classes of both.
     pub fn union(&self, alloc: Global, other: &Sort) -> Result<Sort, AllocError>
         ensures { IfOk result (λ s. IsSortUnion self.now other.now s) }
     {
-        let classes = merged(alloc, self.classes(), other.classes())?;
-        Ok(Sort { classes })
+        let (own, others) = (self.classes(), other.classes());
+        if others.is_empty() {
+            let left = self.copy(alloc)?;
+            return Ok(left);
+        }
+        if own.is_empty() {
+            let right = other.copy(alloc)?;
+            return Ok(right);
+        }
+        let classes = merged(alloc, own, others)?;
+        let union = Sort::make(alloc, classes)?;
+        Ok(union)
     }
 
-    /// An equal sort. The empty one, which most are, takes no memory.
-    pub fn copy(&self, alloc: Global) -> Result<Sort, AllocError>
+    /// The same sort once more.
+    pub fn copy(&self, _alloc: Global) -> Result<Sort, AllocError>
         ensures { IfOk result (λ s. s ≡ self.now) }
     {
-        let own = self.classes();
-        if own.len() == 0 {
-            return Ok(Sort::make(Vec::new(alloc)));
+        match &self.classes {
+            Classes::Empty => Ok(Sort::empty()),
+            Classes::Shared(list) => Ok(Sort {
+                classes: Classes::Shared(Arc::try_clone(list)?),
+            }),
         }
-        let classes = Vec::from_slice(alloc, own)?;
-        Ok(Sort { classes })
     }
 }
 

@@ -14,5 +14,5 @@ loop-entry-preserved c =
 
 pub returns : goal.returns
 returns c =
-    let bare : c.make.result ≡ [] = grind arith in
+    let bare : c.empty.result ≡ [] = grind arith in
     bare ∙ sym (sort_end c.args.table.now c.loop-entry.entry-index c.args.name c.loop-entry-test.false) ∙ c.loop-entry.invariant
