@@ -94,3 +94,15 @@ constructor_added old now new args n k is i grown each full put =
     let all : StandForEach now is (typs_of args) = subst (λ (ts : List Typ). StandForEach now is (typs_of ts)) (take_all n args full) each in
     let step : IsGrown now new = put.grown (nodes_within now is (typs_of args) all) in
     record { grown = grown_on old now new grown step; stands = (is, put.stands, stand_on now new step is (typs_of args) all) }
+
+-- One more node of the list stands for its type.
+pub stand_turn : (parts : List Part) (is : List ℕ) (ts : List Typ) (n i : ℕ) (t : Typ) → n < length is → n < length ts → i ≡ get_or is n i → t ≡ get_or ts n t → StandForEach parts (take n is) (typs_of (take n ts)) → StandsFor parts i t
+    → StandForEach parts (take (n + 1) is) (typs_of (take (n + 1) ts))
+stand_turn parts is ts n i t within inside read found each at =
+    subst (λ (us : List Typ). StandForEach parts (take (n + 1) is) (typs_of us)) (sym (longer_by ts n t inside found))
+    (subst (λ (js : List ℕ). StandForEach parts js (typs_of (take n ts ++ t ∷ []))) (sym (longer_by is n i within read)) (stand_more parts (take n is) (take n ts) i t each at))
+
+-- All do.
+pub stand_all : (parts : List Part) (is : List ℕ) (ts : List Typ) (n : ℕ) → length is ≤ n → length ts ≤ n → StandForEach parts (take n is) (typs_of (take n ts)) → StandForEach parts is (typs_of ts)
+stand_all parts is ts n full all each =
+    subst (λ (us : List Typ). StandForEach parts is (typs_of us)) (take_all n ts all) (subst (λ (js : List ℕ). StandForEach parts js (typs_of (take n ts))) (take_all n is full) each)

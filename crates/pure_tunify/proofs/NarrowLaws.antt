@@ -281,10 +281,14 @@ narrowed_fits A s p mid new t w u h is = subst (λ (q : Progress). IsNarrowed A 
   narrows = subst (λ (xs : List TypBind). Narrows A p.index s p.next t xs mid.next w) (append-nil h.more) (h.onward mid.next [] w (fits is.2));
 }))
 
--- A type is of a sort without classes as it stands.
-pub narrowed_at_once : (A : Algebra) (s : List ℕ) (p : Progress) (t : Typ) → IsOld p.index p.next t → IsFreeOf p.sets t → (classes : List ℕ) (b : Bool) → classes ≡ s → b ≡ (length classes == 0) → b ≡ true → IsNarrowed A s p p t t
-narrowed_at_once A s p t old free classes b are test empty = narrowed_fits A s p p p t t t (narrowing_start A s p t old free) (refl, refl, subst (IsOfSort A t) are (of_none classes (eqb-true (length classes) 0 (sym test ∙ empty))))
+-- Each type is of a sort without classes.
+pub of_no_classes : (A : Algebra) (s : List ℕ) (t : Typ) (classes : List ℕ) (b : Bool) → classes ≡ s → b ≡ (length classes == 0) → b ≡ true → IsOfSort A t s
+of_no_classes A s t classes b are test empty = subst (IsOfSort A t) are (of_none classes (eqb-true (length classes) 0 (sym test ∙ empty)))
   where
     of_none : (r : List ℕ) → length r ≡ 0 → IsOfSort A t r
     of_none [] e = tt
     of_none (c ∷ r) e = absurd (omega arith)
+
+-- A type is of a sort without classes as it stands.
+pub narrowed_at_once : (A : Algebra) (s : List ℕ) (p : Progress) (t : Typ) → IsOld p.index p.next t → IsFreeOf p.sets t → (classes : List ℕ) (b : Bool) → classes ≡ s → b ≡ (length classes == 0) → b ≡ true → IsNarrowed A s p p t t
+narrowed_at_once A s p t old free classes b are test empty = narrowed_fits A s p p p t t t (narrowing_start A s p t old free) (refl, refl, of_no_classes A s t classes b are test empty)

@@ -15,7 +15,7 @@ use Rattle.pure_term_laws.proofs.OccursLaws.{typ_instances-agree}
 use Rattle.pure_term_laws.proofs.SubstLaws.{typ_instance-identity}
 use Rattle.pure_tunify.specs.Unifiers.{IsFresh, IsOld}
 use Rattle.pure_tunify.specs.Settings.{composed, AreTriangular, IsOldBind, Progress, IsTidy}
-use Rattle.pure_tunify.specs.Working.{HasImagesWithin, IsWritten, IsWrittenInOrder}
+use Rattle.pure_tunify.specs.Working.{HasImagesWithin, IsWritten, IsWrittenInOrder, AreWrittenOut, MakesTheSame}
 use Rattle.pure_tunify.proofs.SettingLaws.{composed-fixed, composed-absent, composed-image, instance-append, instance-free, instance-new, instance-old, tidy-snoc}
 
 -- What is in front may be left out.
@@ -98,26 +98,11 @@ reversed_absent items out left b e some short read copy so_far distinct m =
     whole : items ≡ take (left - 1) items ++ b ∷ drop left items
     whole = split_at items (left - 1) b (omega arith) read ∙ ap (λ k. take (left - 1) items ++ b ∷ drop k items) back
 
--- The settings from a place on are written out.
-pub record AreWrittenOut (p : Progress) (later : List TypBind) (d : Progress) : Type 0 where
-  pub written : IsWritten later d.sets
-  pub variables : (v : Typ) → IsIn v (map typ_variable d.sets) → IsIn v (map typ_variable later)
-  pub order : map typ_variable d.sets ≡ reverse (map typ_variable later)
-  pub within : HasImagesWithin later
-  pub tidy : IsTidy d
-  pub index : d.index ≡ p.index
-  pub next : d.next ≡ p.next
-
-module _ (p d : Progress) (front later : List TypBind) (b : TypBind) (tidy : IsTidy p) (distinct : IsTypMap p.sets) (whole : p.sets ≡ front ++ b ∷ later) (h : AreWrittenOut p later d) where
-  triangular : AreTriangular (b ∷ later)
-  triangular = triangular-behind front (b ∷ later) (subst AreTriangular whole tidy.triangular)
-
-  olds : Each (IsOldBind p.index p.next) (b ∷ later)
-  olds = each-right (IsOldBind p.index p.next) front (b ∷ later) (subst (Each (IsOldBind p.index p.next)) whole tidy.old)
-
+-- Settings that are written out make of each type what they made before.
+module _ (p d : Progress) (later : List TypBind) (tri : AreTriangular later) (h : AreWrittenOut p later d) where
   -- No variable of an entry that is written out occurs in a type with all later settings.
   free : (t : Typ) (v : Typ) → IsIn v (map typ_variable d.sets) → ¬ OccursInTyp v (typ_instance (composed later) t)
-  free t v m = among later (instance-free later triangular.2 t) (h.variables v m)
+  free t v m = among later (instance-free later tri t) (h.variables v m)
     where
       among : (bs : List TypBind) → Each (λ c. ¬ OccursInTyp (typ_variable c) (typ_instance (composed later) t)) bs → IsIn v (map typ_variable bs) → ¬ OccursInTyp v (typ_instance (composed later) t)
       among [] each m = absurd m
@@ -132,9 +117,19 @@ module _ (p d : Progress) (front later : List TypBind) (b : TypBind) (tidy : IsT
   agrees (TVar x i s) is = composed-image d.sets (TVar x i s) h.tidy.triangular tt ∙ (ap (typ_instance (composed d.sets)) (h.written x i s) ∙ left_alone (TVar x i s))
   agrees (Con k ts) is = absurd is
 
+  pub makes_the_same : MakesTheSame later d.sets
+  makes_the_same t = typ_instances-agree (composed d.sets) (composed later) t (λ v is o. agrees v is)
+
+module _ (p d : Progress) (front later : List TypBind) (b : TypBind) (tidy : IsTidy p) (distinct : IsTypMap p.sets) (whole : p.sets ≡ front ++ b ∷ later) (h : AreWrittenOut p later d) where
+  triangular : AreTriangular (b ∷ later)
+  triangular = triangular-behind front (b ∷ later) (subst AreTriangular whole tidy.triangular)
+
+  olds : Each (IsOldBind p.index p.next) (b ∷ later)
+  olds = each-right (IsOldBind p.index p.next) front (b ∷ later) (subst (Each (IsOldBind p.index p.next)) whole tidy.old)
+
   -- An image with all settings is its image with those that are written out.
   pub image_same : typ_instance (composed d.sets) b.image ≡ typ_instance (composed later) b.image
-  image_same = typ_instances-agree (composed d.sets) (composed later) b.image (λ v is o. agrees v is)
+  image_same = makes_the_same p d later triangular.2 h b.image
 
   -- An image beyond the limits.
   pub written_beyond : ¬ IsWithinTyp (typ_instance (composed d.sets) b.image) → ¬ HasImagesWithin p.sets
@@ -165,7 +160,7 @@ module _ (p d : Progress) (front later : List TypBind) (b : TypBind) (tidy : IsT
         (subst (λ (v : Typ). ¬ IsFresh d.index d.next v) (sym variable_same) (λ f. olds.0.variable (subst (λ (i : ℕ). IsFresh i p.next (typ_variable b)) h.index (subst (λ (n : ℕ). IsFresh d.index n (typ_variable b)) h.next f))))
         (subst (IsOld d.index d.next) (sym entry_image) (subst (λ (i : ℕ). IsOld i d.next (typ_instance (composed later) b.image)) (sym h.index) (subst (λ (n : ℕ). IsOld p.index n (typ_instance (composed later) b.image)) (sym h.next)
         (instance-old p.index p.next later b.image olds.1 olds.0.image))))
-        (each_of (λ c. ¬ OccursInTyp (typ_variable c) e.image) d.sets (λ c m. subst (λ (t : Typ). ¬ OccursInTyp (typ_variable c) t) (sym entry_image) (free b.image (typ_variable c) (in-map typ_variable c d.sets m))))
+        (each_of (λ c. ¬ OccursInTyp (typ_variable c) e.image) d.sets (λ c m. subst (λ (t : Typ). ¬ OccursInTyp (typ_variable c) t) (sym entry_image) (free p d later triangular.2 h b.image (typ_variable c) (in-map typ_variable c d.sets m))))
         (subst (λ (v : Typ). ¬ OccursInTyp v e.image) (sym variable_same) (subst (λ (t : Typ). ¬ OccursInTyp (typ_variable b) t) (sym entry_image) (instance-new (typ_variable b) tt later b.image triangular.1 triangular.0))))
 
     -- What holds of the entry's image, and of later images, holds of all.
@@ -245,8 +240,13 @@ module _ (p d : Progress) (items : List TypBind) (left : ℕ) (b : TypBind) (tid
 pub writing_starts : (p d : Progress) (items : List TypBind) → items ≡ p.sets → IsTidy d → d.sets ≡ [] → d.index ≡ p.index → d.next ≡ p.next → AreWrittenOut p (drop (length items) p.sets) d
 writing_starts p d items are tidy none index next = subst (λ (xs : List TypBind). AreWrittenOut p xs d) (sym (drop_all (length items) p.sets (let same = ap length are in omega arith))) (none_written p d tidy none index next)
 
-pub writing_ends : (p d : Progress) (left : ℕ) (items out : List TypBind) → left ≤ 0 → AreWrittenOut p (drop left p.sets) d → items ≡ d.sets → IsTypMap d.sets → out ≡ reverse items → HasImagesWithin p.sets × IsWrittenInOrder p.sets out
-writing_ends p d zero items out none h are distinct is = (
+-- All are written out.
+pub all_written : (p d : Progress) (left : ℕ) → left ≤ 0 → AreWrittenOut p (drop left p.sets) d → AreWrittenOut p p.sets d
+all_written p d zero none h = h
+all_written p d (suc left) none h = absurd (omega arith)
+
+pub writing_ends : (p d : Progress) (items out : List TypBind) → AreWrittenOut p p.sets d → items ≡ d.sets → IsTypMap d.sets → out ≡ reverse items → HasImagesWithin p.sets × IsWrittenInOrder p.sets out
+writing_ends p d items out h are distinct is = (
   h.within,
   (
     λ x i s. ap (λ xs. typ_image xs (TVar x i s)) whole ∙ (image-reverse d.sets (TVar x i s) distinct ∙ h.written x i s),
@@ -256,4 +256,3 @@ writing_ends p d zero items out none h are distinct is = (
   where
     whole : out ≡ reverse d.sets
     whole = is ∙ ap reverse are
-writing_ends p d (suc left) items out none h are distinct is = absurd (omega arith)

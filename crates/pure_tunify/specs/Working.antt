@@ -1,5 +1,5 @@
 -- What the parts of the program do to the settings: a type in which all set variables are replaced, a variable that is set, and pairs that are left of a pair.
-use Rattle.std.specs.Prelude.{◌≡◌, ◌⊎◌, ℕ, ◌≤◌, List, [], ◌∷◌, ◌++◌, map, Option, Some, None}
+use Rattle.std.specs.Prelude.{◌≡◌, ◌⊎◌, ℕ, ◌≤◌, List, [], ◌∷◌, ◌++◌, map, reverse, Option, Some, None}
 use Rattle.pure_text.specs.Lists.{IsIn, Each}
 use Rattle.pure_definitions.specs.Types.Typ.{Typ, TFree, TVar, Con, typ_size, typ_depth}
 use Rattle.pure_definitions.specs.Types.Occurs.{OccursInTyp}
@@ -12,7 +12,7 @@ use Rattle.pure_tunify.specs.declared.resolve.Resolved.{Resolved}
 use Rattle.pure_tunify.specs.Unifiers.{IsFresh, IsOld}
 use Rattle.pure_tunify.specs.Asks.{HasNoInstance}
 use Rattle.pure_tunify.specs.Steps.{pair, instance_pair}
-use Rattle.pure_tunify.specs.Settings.{composed, bind, Progress}
+use Rattle.pure_tunify.specs.Settings.{composed, bind, Progress, IsTidy}
 use Rattle.pure_tunify.specs.Procedure.{sooner, place_of, Narrows, Equalises, Blocks}
 
 -- The type, and the room that it leaves; none exactly where it doesn't fit.
@@ -40,6 +40,20 @@ IsWritten sets binds = (x i : ℕ) (s : List ℕ) → typ_image binds (TVar x i 
 -- The same, and its entries stand in the order of the settings.
 abbrev pub IsWrittenInOrder : List TypBind → List TypBind → Type 0
 IsWrittenInOrder sets binds = IsWritten sets binds × (map typ_variable binds ≡ map typ_variable sets)
+
+-- Settings from a place on are written out, as other settings, the last one first.
+pub record AreWrittenOut (p : Progress) (later : List TypBind) (d : Progress) : Type 0 where
+  pub written : IsWritten later d.sets
+  pub variables : (v : Typ) → IsIn v (map typ_variable d.sets) → IsIn v (map typ_variable later)
+  pub order : map typ_variable d.sets ≡ reverse (map typ_variable later)
+  pub within : HasImagesWithin later
+  pub tidy : IsTidy d
+  pub index : d.index ≡ p.index
+  pub next : d.next ≡ p.next
+
+-- Other settings make the same of each type.
+abbrev pub MakesTheSame : List TypBind → List TypBind → Type 0
+MakesTheSame sets others = (t : Typ) → typ_instance (composed others) t ≡ typ_instance (composed sets) t
 
 -- No set variable occurs in the type.
 abbrev pub IsFreeOf : List TypBind → Typ → Type 0

@@ -5,9 +5,10 @@ ghost use Rattle.pure_definitions.specs.Terms.Subst.{typ_instance};
 ghost use Rattle.pure_tunify.specs.Settings.{composed};
 ghost use Rattle.pure_tunify.specs.Working.{IsUntouched};
 
+use crate::meeting::is_schematic;
 use crate::occurs::variable_occurs;
 use crate::settings::Settings;
-use pure_typ::{Typ, TypNode, index_above_of_typ, is_typ_within};
+use pure_typ::{MAX_SIZE, Typ, TypNode, index_above_of_typ, is_typ_within};
 
 /// The most nodes of a type that is looked through, a part without schematic variables counted as one.
 const FEW: u32 = 64;
@@ -55,4 +56,25 @@ pub fn is_free(settings: &Settings, variable: &Typ, t: &Typ) -> bool
         None => false,
         Some(_) => !variable_occurs(variable, t),
     }
+}
+
+/// Whether no variable of the type is set; false also where it has more nodes than a type within the limits.
+pub fn stays(settings: &Settings, t: &Typ) -> bool
+    ensures { OnTrue result (typ_instance (composed settings.now.sets) t.now ≡ t.now) }
+{
+    match free_leaves(settings, t, MAX_SIZE) {
+        None => false,
+        Some(_) => true,
+    }
+}
+
+/// Whether what stands for the first type has no variable that is set, where it is looked through: it is so where the first
+/// type is a variable, since most images have none.
+pub fn is_settled(settings: &Settings, t: &Typ, top: &Typ) -> bool
+    ensures { OnTrue result (typ_instance (composed settings.now.sets) top.now ≡ top.now) }
+{
+    if !is_schematic(t) {
+        return false;
+    }
+    stays(settings, top)
 }

@@ -1,11 +1,12 @@
 //! Types as nodes with numbers, in which equal parts are one node.
 ghost use Rattle.std.specs.Prelude.{◌≡◌, [], map, slice_get, Some, IfOk, IfSome};
 ghost use Rattle.std.specs.Bool.{OnTrue};
-ghost use Rattle.pure_tunify.specs.Graphs.{StandsFor, made};
+ghost use Rattle.pure_tunify.specs.Graphs.{StandsFor, StandForEach, made};
 ghost use Rattle.pure_definitions.specs.Types.Typ as tree;
+ghost use Rattle.pure_definitions.specs.Types.Typ.{typs_of};
 ghost use Rattle.pure_tunify.specs.GraphCode.{part_of, IsLeafOf, IsPut, IsMadeAt, IsAdded};
 
-use pure_typ::{Name, Sort, Typ, TypNode};
+use pure_typ::{Name, Sort, Typ, TypNode, whole_size_of_typ};
 use std::alloc::{AllocError, Global};
 use std::collections::BTreeMap;
 
@@ -17,12 +18,14 @@ pub enum Node {
     Made { name: Name, kids: Vec<usize> },
 }
 
-/// Nodes, and where they are found: the numbers of variables, and of constructors by their names and arguments.
+/// Nodes, and where they are found: the numbers of variables, and of constructors by their names and arguments; and of each
+/// size the number of the type of this size that was added last.
 #[derive(Drop)]
 pub struct Graph {
     pub nodes: Vec<Node>,
     pub leaves: BTreeMap<Typ, usize>,
     pub made: BTreeMap<Vec<usize>, usize>,
+    pub sized: BTreeMap<u64, usize>,
 }
 
 /// A graph without nodes.
@@ -33,6 +36,7 @@ pub fn empty_graph(alloc: Global) -> Graph
         nodes: Vec::new(alloc),
         leaves: BTreeMap::new(alloc),
         made: BTreeMap::new(alloc),
+        sized: BTreeMap::new(alloc),
     }
 }
 
@@ -197,6 +201,72 @@ fn add_made(
     Ok(at)
 }
 
+/// The same of one whose type has so many nodes.
+fn add_sized(
+    graph: &mut Graph,
+    alloc: Global,
+    name: Name,
+    kids: Vec<usize>,
+    size: u64,
+) -> Result<usize, AllocError>
+    ensures { IfOk result (IsMadeAt (map part_of graph.old.nodes.items) (map part_of graph.new.nodes.items) name kids.items) }
+{
+    let at = add_made(graph, alloc, name, kids)?;
+    graph.sized.insert(size, at)?;
+    Ok(at)
+}
+
+/// Whether the node stands for the type.
+#[cycle(stands_for)]
+fn stands_for(nodes: &[Node], at: usize, t: &Typ) -> bool
+    ensures { OnTrue result (StandsFor (map part_of nodes.now) at t.now) }
+{
+    let Some(node) = nodes.get(at) else {
+        return false;
+    };
+    match (node, &t.node) {
+        (Node::Made { name, kids }, TypNode::Con { name: own, args }) => {
+            if *name != *own {
+                return false;
+            }
+            stand_for_each(nodes, kids.as_slice(), args.as_slice())
+        }
+        (_, _) => is_leaf(node, t),
+    }
+}
+
+/// Whether the nodes stand for the types, each for its own.
+#[cycle(stands_for)]
+fn stand_for_each(nodes: &[Node], kids: &[usize], types: &[Typ]) -> bool
+    ensures { OnTrue result (StandForEach (map part_of nodes.now) kids.now (typs_of types.now)) }
+{
+    if kids.len() != types.len() {
+        return false;
+    }
+    for i in 0..types.len() {
+        let (kid, typ) = (&kids[i], &types[i]);
+        if !stands_for(nodes, *kid, typ) {
+            return false;
+        }
+    }
+    true
+}
+
+/// The number of the type that was added last of this size, where it is this type: so what one image is put in for is added
+/// once, however often it stands there.
+fn find_sized(graph: &Graph, t: &Typ, size: u64) -> Option<usize>
+    ensures { IfSome result (λ i. StandsFor (map part_of graph.now.nodes.items) i t.now) }
+{
+    let Some(found) = graph.sized.get(&size) else {
+        return None;
+    };
+    let at = *found;
+    if stands_for(graph.nodes.as_slice(), at, t) {
+        return Some(at);
+    }
+    None
+}
+
 /// The number of the type's node. Its parts have nodes before it.
 pub fn add(graph: &mut Graph, alloc: Global, t: &Typ) -> Result<usize, AllocError>
     ensures { IfOk result (IsAdded (map part_of graph.old.nodes.items) (map part_of graph.new.nodes.items) t.now) }
@@ -207,13 +277,17 @@ pub fn add(graph: &mut Graph, alloc: Global, t: &Typ) -> Result<usize, AllocErro
             add_variable(graph, alloc, t, *name, *index, sort)
         }
         TypNode::Con { name, args } => {
+            let size = whole_size_of_typ(t);
+            if let Some(at) = find_sized(graph, t, size) {
+                return Ok(at);
+            }
             let args = args.as_slice();
             let mut kids = Vec::new(alloc);
             for arg in args {
                 let kid = add(graph, alloc, arg)?;
                 kids.push(kid)?;
             }
-            add_made(graph, alloc, *name, kids)
+            add_sized(graph, alloc, *name, kids, size)
         }
     }
 }

@@ -35,6 +35,6 @@ pub use equation::{Equation, pairs_of};
 pub use fault::TypFault;
 pub use index::index_above_each as index_above;
 pub use pair::TypPair;
-pub use resolve::{Resolved, resolve as resolved_in_room};
+pub use resolve::{Resolved, resolve as resolved_in_room, written_out};
 pub use settings::Settings;
 pub use unifier::{settle, settle_given, unify, unify_from};

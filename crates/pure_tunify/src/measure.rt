@@ -6,6 +6,7 @@ ghost use Rattle.pure_tunify.specs.Settings.{composed};
 ghost use Rattle.pure_tunify.specs.Working.{HasImagesWithin};
 ghost use Rattle.pure_tunify.specs.Measures.{IsMeasured, IsMeasureOf, IsJoined, IsSmallMeasure, AreMeasures, IsKnownMore};
 
+use crate::free::stays;
 use crate::reached::variable_of;
 use crate::resolve::are_images_small;
 use crate::settings::Settings;
@@ -112,6 +113,21 @@ fn measured(
     }
 }
 
+/// The same of an image. One in which no variable is set has its own measure.
+fn measured_image(
+    settings: &Settings,
+    known: &BTreeMap<Typ, Measure>,
+    image: &Typ,
+) -> Result<Option<Measure>, AllocError>
+    requires { AreMeasures settings.now.sets known.now }
+    ensures { IfOk result (IsMeasureOf (typ_instance (composed settings.now.sets) image.now)) }
+{
+    if stays(settings, image) {
+        return Ok(measure_of(image));
+    }
+    measured(settings, known, image)
+}
+
 /// Adds the measure of the entry's image, which is that of its variable.
 fn know(
     alloc: Global,
@@ -136,7 +152,7 @@ fn are_images_measured(settings: &Settings, alloc: Global) -> Result<bool, Alloc
     while left > 0 {
         left -= 1;
         let bind = &binds[left];
-        let found = measured(settings, &known, &bind.image)?;
+        let found = measured_image(settings, &known, &bind.image)?;
         match found {
             None => return Ok(false),
             Some(measure) => know(alloc, &mut known, bind, measure)?,

@@ -5,8 +5,9 @@ ghost use Rattle.pure_definitions.specs.Terms.Subst.{IsTypMap, typ_instance};
 ghost use Rattle.pure_definitions.specs.Types.Typ.{typ_size, typ_depth};
 ghost use Rattle.pure_definitions.specs.Terms.Limits.{Leaves, IsWithinTyp};
 ghost use Rattle.pure_tunify.specs.Settings.{composed};
-ghost use Rattle.pure_tunify.specs.Working.{IsPutIn, IsResolved, HasImagesWithin, IsSmall, IsWrittenInOrder};
+ghost use Rattle.pure_tunify.specs.Working.{IsPutIn, IsResolved, HasImagesWithin, IsSmall, IsWrittenInOrder, AreWrittenOut, MakesTheSame};
 
+use crate::free::is_settled;
 use crate::settings::Settings;
 use pure_typ::{
     MAX_DEPTH, MAX_SIZE, Typ, TypBind, TypMap, TypNode, index_above_of_typ, typ_leaves,
@@ -35,7 +36,7 @@ fn put_in(alloc: Global, t: &Typ, left: u32, room: u32) -> Result<Option<Resolve
 }
 
 /// The type with all set variables replaced, in a room for so many nodes on paths of so many; none exactly where it
-/// doesn't fit. A part without schematic variables is handed back as it is.
+/// doesn't fit. A part without schematic variables is handed back as it is, and so is an image in which no variable is set.
 pub fn resolve(
     settings: &Settings,
     alloc: Global,
@@ -55,6 +56,10 @@ pub fn resolve(
     if index_above_of_typ(top) == 0 {
         let found = put_in(alloc, top, left, room)?;
         return Ok(found);
+    }
+    if is_settled(settings, t, top) {
+        let image = put_in(alloc, top, left, room)?;
+        return Ok(image);
     }
     match &top.node {
         TypNode::TFree { .. } => {
@@ -252,13 +257,13 @@ fn reversed(binds: &[TypBind], alloc: Global) -> Result<TypMap, AllocError>
     Ok(map)
 }
 
-/// The map that the settings are, each image written out; none exactly where an image isn't within the limits. The last
-/// setting is written out first, so that what an image has of set variables is written out before it.
-pub fn written(settings: &Settings, alloc: Global) -> Result<Option<TypMap>, AllocError>
-    ensures { IfOk result (λ o. MatchOption o (¬ HasImagesWithin settings.now.sets) (λ map. HasImagesWithin settings.now.sets × IsWrittenInOrder settings.now.sets map)) }
+/// The settings with each image written out; none exactly where an image isn't within the limits. The last one is written
+/// out first, so that what an image has of set variables is written out before it.
+fn written_settings(settings: &Settings, alloc: Global) -> Result<Option<Settings>, AllocError>
+    ensures { IfOk result (λ o. MatchOption o (¬ HasImagesWithin settings.now.sets) (AreWrittenOut settings.now settings.now.sets)) }
 {
     let binds = settings.binds();
-    let mut done = Settings::start(alloc, settings.index(), settings.next(), MAX_SIZE);
+    let mut done = Settings::start(alloc, settings.index(), settings.next());
     let mut left = binds.len();
     while left > 0 {
         left -= 1;
@@ -271,6 +276,32 @@ pub fn written(settings: &Settings, alloc: Global) -> Result<Option<TypMap>, All
             }
         }
     }
-    let map = reversed(done.binds(), alloc)?;
-    Ok(Some(map))
+    Ok(Some(done))
+}
+
+/// The map that the settings are, each image written out; none exactly where an image isn't within the limits.
+pub fn written(settings: &Settings, alloc: Global) -> Result<Option<TypMap>, AllocError>
+    ensures { IfOk result (λ o. MatchOption o (¬ HasImagesWithin settings.now.sets) (λ map. HasImagesWithin settings.now.sets × IsWrittenInOrder settings.now.sets map)) }
+{
+    let found = written_settings(settings, alloc)?;
+    match found {
+        None => Ok(None),
+        Some(done) => {
+            let map = reversed(done.binds(), alloc)?;
+            Ok(Some(map))
+        }
+    }
+}
+
+/// Settings that make the same of each type, each image written out: so what an image has of others is made once, and handed
+/// back wherever the variable stands. Where an image isn't within the limits, memory counts as wanted.
+pub fn written_out(settings: &Settings, alloc: Global) -> Result<Settings, AllocError>
+    ensures { IfOk result (λ full. MakesTheSame settings.now.sets full.sets) }
+{
+    let _ = settings.next();
+    let found = written_settings(settings, alloc)?;
+    match found {
+        None => Err(AllocError),
+        Some(done) => Ok(done),
+    }
 }

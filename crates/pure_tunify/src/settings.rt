@@ -14,14 +14,12 @@ use std::alloc::{AllocError, Global};
 use std::marker::Model;
 
 /// The variables that are set, in the order in which they were set, the index of fresh variables, and the first name that
-/// isn't used. An image has no variable that was set before. Beside them the most nodes of a type that is looked at with
-/// all set variables replaced, of which no contract speaks.
+/// isn't used. An image has no variable that was set before.
 #[derive(Drop)]
 pub struct Settings {
     map: Stored,
     index: u32,
     next: u32,
-    most: u32,
 }
 
 impl Model for Settings {
@@ -72,22 +70,14 @@ fn leaves_of(stored: &Stored, t: &Typ, left: u32, room: u32) -> Option<u32>
 
 impl Settings {
     /// No variable is set.
-    pub(crate) fn start(alloc: Global, index: u32, next: u32, most: u32) -> Settings
+    pub(crate) fn start(alloc: Global, index: u32, next: u32) -> Settings
         ensures { result ≡ record { sets = []; index = index; next = next } }
     {
         Settings {
             map: Stored::empty(alloc),
             index,
             next,
-            most,
         }
-    }
-
-    /// The most nodes of a type that is looked at with all set variables replaced.
-    pub(crate) fn most(&self) -> u32
-        ensures tidy { IsTidy self.now }
-    {
-        self.most
     }
 
     /// The index of fresh variables.

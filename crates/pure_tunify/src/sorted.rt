@@ -26,6 +26,9 @@ fn asks_no_more(order: &Order, asked: &[Asked]) -> bool
 fn is_of_sort(order: &Order, alloc: Global, t: &Typ, sort: &Sort) -> Result<bool, AllocError>
     ensures { IfOk result (λ is. OnTrue is (IsOfSort order.now t.now sort.now)) }
 {
+    if sort.classes().is_empty() {
+        return Ok(true);
+    }
     let found = asked_of(order, alloc, t, sort)?;
     match found {
         None => Ok(false),

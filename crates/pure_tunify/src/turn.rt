@@ -28,9 +28,6 @@ use pure_order::Order;
 use pure_typ::{MAX_DEPTH, MAX_SIZE, Sort, Typ, TypBind, TypNode};
 use std::alloc::{AllocError, Global};
 
-/// The greatest depth of a type that is written out with all set variables replaced; a deeper one is too large.
-const MOST_DEPTH: u32 = 6000;
-
 /// Whether no type of this constructor, with so many arguments, is of the sort; false for variables.
 fn is_out_of_sort(
     order: &Order,
@@ -100,7 +97,8 @@ fn treat(
     let TypNode::TVar { name, index, sort } = &variable.node else {
         return Err(AllocError);
     };
-    let found = resolve_measured(settings, alloc, other, settings.most(), MOST_DEPTH)?;
+    let _ = settings.next();
+    let found = resolve_measured(settings, alloc, other, MAX_SIZE, MAX_DEPTH)?;
     let Some(resolved) = found else {
         let turned = treat_unwritten(order, alloc, settings, variable, other)?;
         return Ok(turned);

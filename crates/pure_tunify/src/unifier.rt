@@ -19,15 +19,11 @@ use crate::resolve::written;
 use crate::settings::Settings;
 use crate::solve::{solve, solve_given};
 use pure_order::Order;
-use pure_typ::{MAX_SIZE, TypMap};
+use pure_typ::TypMap;
 use std::alloc::{AllocError, Global};
 
 /// The greatest first name that isn't used.
 const MOST_NAMES: u32 = 0x8000_0000;
-
-/// The most nodes of a type that is written out where a pair is judged by itself: a small multiple of the limit on images.
-/// Beyond it a type isn't written out, and memory is wanted where the pair can't be judged without.
-const MOST_NODES: u32 = 1_000_000;
 
 /// Whether the images and the names are within the limits.
 fn is_within(settings: &Settings, alloc: Global) -> Result<bool, AllocError>
@@ -142,7 +138,7 @@ fn decide_at(
     if pairs.len() <= place {
         return Ok(());
     }
-    let mut settings = Settings::start(alloc, index, from, MOST_NODES);
+    let mut settings = Settings::start(alloc, index, from);
     let done = solve_front(order, alloc, &mut settings, pairs, place)?;
     if !done {
         return Ok(());
@@ -165,7 +161,7 @@ fn fits(
     if pairs.len() < count {
         return Ok(false);
     }
-    let mut settings = Settings::start(alloc, index, from, MOST_NODES);
+    let mut settings = Settings::start(alloc, index, from);
     let done = solve_front(order, alloc, &mut settings, pairs, count)?;
     if !done {
         return Ok(false);
@@ -229,7 +225,7 @@ fn settle_at_once(
     ensures ok { IfOk result (IfFound (λ found. AreSettled order.now index from pairs.now found)) }
     ensures beyond { IfOk result (IfBeyond (λ at. Unifies order.now index 0 from [] pairs.now (TooBig at))) }
 {
-    let mut settings = Settings::start(alloc, index, from, MAX_SIZE);
+    let mut settings = Settings::start(alloc, index, from);
     match solve_all(order, alloc, &mut settings, pairs) {
         Pass::Stopped(at) => Ok(Attempt::Stopped(at)),
         Pass::Beyond(at) => {
@@ -348,7 +344,7 @@ pub fn settle_given(
     requires { Each (IsOldPair index from) pairs.items }
     ensures { IfOk result (λ found. AreSettled order.now index from pairs.items found) }
 {
-    let mut settings = Settings::start(alloc, index, from, MAX_SIZE);
+    let mut settings = Settings::start(alloc, index, from);
     let done = solve_each(order, alloc, &mut settings, pairs)?;
     if !done {
         return Err(AllocError);

@@ -15,8 +15,8 @@ loop-arg-preserved t c = record {
 pub returns-after-loop-arg : goal.returns-after-loop-arg
 returns-after-loop-arg t c =
     rw (← c.t.view_is, c.in-Con.is, ← c.as_slice-args.ensures)
-    (IfOk-weaker c.add_made.result (IsMadeAt (map part_of c.loop-arg.graph.nodes.items) (map part_of c.add_made.new.graph.nodes.items) c.in-Con.name c.loop-arg.kids.items)
-    (IsAdded (map part_of c.args.graph.now.nodes.items) (map part_of c.add_made.new.graph.nodes.items) (Con c.in-Con.name (typs_of c.as_slice-args.result.now)))
-    (λ i put. constructor_added (map part_of c.args.graph.now.nodes.items) (map part_of c.loop-arg.graph.nodes.items) (map part_of c.add_made.new.graph.nodes.items) c.as_slice-args.result.now c.loop-arg.arg-index c.in-Con.name c.loop-arg.kids.items i
+    (IfOk-weaker c.add_sized.result (IsMadeAt (map part_of c.loop-arg.graph.nodes.items) (map part_of c.add_sized.new.graph.nodes.items) c.in-Con.name c.loop-arg.kids.items)
+    (IsAdded (map part_of c.args.graph.now.nodes.items) (map part_of c.add_sized.new.graph.nodes.items) (Con c.in-Con.name (typs_of c.as_slice-args.result.now)))
+    (λ i put. constructor_added (map part_of c.args.graph.now.nodes.items) (map part_of c.loop-arg.graph.nodes.items) (map part_of c.add_sized.new.graph.nodes.items) c.as_slice-args.result.now c.loop-arg.arg-index c.in-Con.name c.loop-arg.kids.items i
     c.loop-arg.invariant.grown c.loop-arg.invariant.stand c.loop-arg-test.false put)
-    c.add_made.ensures)
+    c.add_sized.ensures)

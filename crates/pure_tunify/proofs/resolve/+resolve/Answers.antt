@@ -7,6 +7,7 @@ use Rattle.pure_definitions.proofs.MeasureLemmas.{typ_stays}
 use Rattle.pure_term_laws.specs.LawsOccurs.{IsTypVariable}
 use Rattle.pure_tunify.specs.Settings.{composed}
 use Rattle.pure_tunify.specs.Working.{IsResolved}
+use Rattle.pure_tunify.proofs.ReachLaws.{on_true}
 use Rattle.pure_tunify.proofs.SettingLaws.{composed-fixed}
 use Rattle.pure_tunify.proofs.WrittenLaws.{leaf_resolved, put_resolved}
 use Rattle.pure_tunify.proofs.resolve.+resolve.Goals as goal
@@ -55,3 +56,7 @@ pub returns-then-index_above_of_typ-eq0 : goal.returns-then-index_above_of_typ-e
 returns-then-index_above_of_typ-eq0 t c =
     let sets = c.args.settings.now.sets in
     put_resolved sets c.args.t.now c.in_ok-top.top.now c.args.left c.args.room c.in_ok-found.found c.in_ok-top.ensures.same (typ_stays (composed sets) (composed-fixed sets) c.in_ok-top.top.now (omega arith)) c.in_ok-found.ensures
+
+pub returns-then-is_settled : goal.returns-then-is_settled
+returns-then-is_settled t c =
+    put_resolved c.args.settings.now.sets c.args.t.now c.in_ok-top.top.now c.args.left c.args.room c.in_ok-image.image c.in_ok-top.ensures.same (on_true _ c.is_settled.result c.is_settled.ensures c.if-is_settled.true) c.in_ok-image.ensures

@@ -6,17 +6,17 @@ use Rattle.pure_tunify.proofs.turn.treat.Goals as goal
 
 pub narrow-requires-clause-old : goal.narrow-requires-clause-old
 narrow-requires-clause-old c =
-    let found : IsResolved c.args.settings.now.sets c.args.other.now c.most.result 6000 (Some c.in-Some.resolved) = rw c.in-Some.is at c.in_ok-found.ensures in
-    rw found.0 (resolved_old c.args.settings.now c.args.other.now c.most.ensures.tidy c.requires.old.1)
+    let found : IsResolved c.args.settings.now.sets c.args.other.now 200000 2000 (Some c.in-Some.resolved) = rw c.in-Some.is at c.in_ok-found.ensures in
+    rw found.0 (resolved_old c.args.settings.now c.args.other.now c.next.ensures.tidy c.requires.old.1)
 
 pub narrow-requires-clause-free : goal.narrow-requires-clause-free
 narrow-requires-clause-free c =
-    let found : IsResolved c.args.settings.now.sets c.args.other.now c.most.result 6000 (Some c.in-Some.resolved) = rw c.in-Some.is at c.in_ok-found.ensures in
-    rw found.0 (resolved_free c.args.settings.now c.args.other.now c.most.ensures.tidy)
+    let found : IsResolved c.args.settings.now.sets c.args.other.now 200000 2000 (Some c.in-Some.resolved) = rw c.in-Some.is at c.in_ok-found.ensures in
+    rw found.0 (resolved_free c.args.settings.now c.args.other.now c.next.ensures.tidy)
 
 pub put-requires-clause-absent : goal.put-requires-clause-absent
 put-requires-clause-absent c =
-    let found : IsResolved c.args.settings.now.sets c.args.other.now c.most.result 6000 (Some c.in-Some.resolved) = rw c.in-Some.is at c.in_ok-found.ensures in
+    let found : IsResolved c.args.settings.now.sets c.args.other.now 200000 2000 (Some c.in-Some.resolved) = rw c.in-Some.is at c.in_ok-found.ensures in
     let whole : TVar c.in-TVar.name c.in-TVar.index c.in-TVar.sort ≡ c.args.variable.now = rw c.in-TVar.is at c.variable.view_is in
     let narrowed : IsNarrowed c.args.order.now c.in-TVar.sort c.args.settings.now c.narrow.new.settings c.in-Some.resolved.typ c.in-Some-narrowed.image = rw c.in-Some-narrowed.is at c.in_ok-narrowed.ensures in
     treated_absent c.args.order.now c.args.settings.now c.narrow.new.settings c.args.variable.now c.args.other.now c.in-Some.resolved.typ c.in-Some-narrowed.image c.in-TVar.name c.in-TVar.index c.in-TVar.sort c.in_ok-own.own c.next-next.result
@@ -24,7 +24,7 @@ put-requires-clause-absent c =
 
 pub put-requires-clause-tidy : goal.put-requires-clause-tidy
 put-requires-clause-tidy c =
-    let found : IsResolved c.args.settings.now.sets c.args.other.now c.most.result 6000 (Some c.in-Some.resolved) = rw c.in-Some.is at c.in_ok-found.ensures in
+    let found : IsResolved c.args.settings.now.sets c.args.other.now 200000 2000 (Some c.in-Some.resolved) = rw c.in-Some.is at c.in_ok-found.ensures in
     let whole : TVar c.in-TVar.name c.in-TVar.index c.in-TVar.sort ≡ c.args.variable.now = rw c.in-TVar.is at c.variable.view_is in
     let narrowed : IsNarrowed c.args.order.now c.in-TVar.sort c.args.settings.now c.narrow.new.settings c.in-Some.resolved.typ c.in-Some-narrowed.image = rw c.in-Some-narrowed.is at c.in_ok-narrowed.ensures in
     treated_tidy c.args.order.now c.args.settings.now c.narrow.new.settings c.args.variable.now c.args.other.now c.in-Some.resolved.typ c.in-Some-narrowed.image c.in-TVar.name c.in-TVar.index c.in-TVar.sort c.in_ok-own.own c.next-next.result
@@ -32,7 +32,7 @@ put-requires-clause-tidy c =
 
 pub returns : goal.returns
 returns c =
-    let found : IsResolved c.args.settings.now.sets c.args.other.now c.most.result 6000 (Some c.in-Some.resolved) = rw c.in-Some.is at c.in_ok-found.ensures in
+    let found : IsResolved c.args.settings.now.sets c.args.other.now 200000 2000 (Some c.in-Some.resolved) = rw c.in-Some.is at c.in_ok-found.ensures in
     let whole : TVar c.in-TVar.name c.in-TVar.index c.in-TVar.sort ≡ c.args.variable.now = rw c.in-TVar.is at c.variable.view_is in
     let narrowed : IsNarrowed c.args.order.now c.in-TVar.sort c.args.settings.now c.narrow.new.settings c.in-Some.resolved.typ c.in-Some-narrowed.image = rw c.in-Some-narrowed.is at c.in_ok-narrowed.ensures in
     treated_set c.args.order.now c.args.settings.now c.narrow.new.settings c.args.variable.now c.args.other.now c.in-Some.resolved.typ c.in-Some-narrowed.image c.in-TVar.name c.in-TVar.index c.in-TVar.sort c.in_ok-own.own c.next-next.result

@@ -1,6 +1,6 @@
 use Rattle.std.proofs.Common.{drop, length, ◌≤◌}
-use Rattle.pure_tunify.proofs.WritingLaws.{AreWrittenOut}
-use Rattle.pure_tunify.proofs.resolve.written.Given as goal
+use Rattle.pure_tunify.specs.Working.{AreWrittenOut}
+use Rattle.pure_tunify.proofs.resolve.written_settings.Given as goal
 
 abbrev pub invariant-loop-left : goal.invariant-loop-left
 invariant-loop-left l = record {
