@@ -1,7 +1,7 @@
 -- Walks that unfold a definition.
 use Rattle.std.proofs.Common.{◌≡◌, ◌⊎◌, ℕ, ◌-◌, ◌<◌, ◌≤◌, Bool, true, false, ◌||◌, IsTrue, inl, inr, refl, sym, subst, ◌∙◌, arith}
 use Rattle.std.proofs.lemmas.Bool.{cases_lt}
-use Rattle.std.specs.Prelude.{Option, Some, None, Result, Ok, Err, IfOk, IsErrAnd, MatchOption, MatchResult}
+use Rattle.std.specs.Prelude.{Option, Some, None, option_map, Result, Ok, Err, IfOk, IsErrAnd, MatchOption, MatchResult}
 use Rattle.pure_definitions.specs.Types.Typ.{Typ, typ_size, typ_depth}
 use Rattle.pure_definitions.specs.Terms.Term.{Term, Const, Abs, App, term_size, term_depth, IsWithin}
 use Rattle.pure_definitions.specs.Terms.Limits.{Leaves}
@@ -13,7 +13,7 @@ use Rattle.pure_typ.specs.declared.grow.Grow.{Grow}
 use Rattle.pure_typ.specs.declared.grow.Grow.TheVariants as grow
 use Rattle.pure_unfold.specs.Replaced.{IsReplaced, HasReplaced}
 use Rattle.pure_unfold.proofs.UnfoldLaws.{replaced-once}
-use Rattle.pure_conv.specs.Rules.{IsLookedThrough, IsTooLarge}
+use Rattle.pure_conv.specs.Rules.{became, IsLookedThrough, IsTooLarge}
 
 or-true : (a b : Bool) → IsTrue (a || b) → IsTrue a ⊎ IsTrue b
 or-true true b h = inl refl
@@ -136,18 +136,22 @@ module _ (Puts : ℕ → Typ → Term → Type 0) where
     pub leaves-deep : (t : Term) (left room : ℕ) → room ≡ 0 → LeavesAny t left room None
     leaves-deep t left room e u r = λ fits. let some = term_depth-some u in omega arith
 
-  -- What the term becomes.
-  pub put-constant : (t : Term) (c : ℕ) (T : Typ) (v u : Term) → t ≡ Const c T → Puts c T u → v ≡ u → IsReplaced Puts t v
-  put-constant t c T v u e p d = subst (λ (x : Term). IsReplaced Puts x v) (sym e) (inl (subst (Puts c T) (sym d) p))
+  -- What the term becomes, where it is made anew and where it stays.
+  pub put-constant : (c : ℕ) (T : Typ) (u : Term) (made : Option Term) → Puts c T u → made ≡ Some u → IsReplaced Puts (Const c T) (became (Const c T) made)
+  put-constant c T u made p e = subst (λ (x : Option Term). IsReplaced Puts (Const c T) (became (Const c T) x)) (sym e) (inl p)
 
-  pub kept-constant : (t : Term) (c : ℕ) (T : Typ) (v : Term) → t ≡ Const c T → ((u : Term) → ¬ Puts c T u) → v ≡ t → IsReplaced Puts t v
-  kept-constant t c T v e none d = subst (λ (x : Term). IsReplaced Puts x v) (sym e) (inr (d ∙ e, none))
+  pub kept-constant : (c : ℕ) (T : Typ) (made : Option Term) → ((u : Term) → ¬ Puts c T u) → made ≡ None → IsReplaced Puts (Const c T) (became (Const c T) made)
+  kept-constant c T made none e = subst (λ (x : Option Term). IsReplaced Puts (Const c T) (became (Const c T) x)) (sym e) (inr (refl, none))
 
-  pub put-body : (t b c v : Term) (T : Typ) → t ≡ Abs T b → IsReplaced Puts b c → v ≡ Abs T c → IsReplaced Puts t v
-  put-body t b c v T e h d = subst (λ (x : Term). IsReplaced Puts x v) (sym e) (c, h, d)
+  pub put-body : (t b : Term) (T : Typ) (inside made : Option Term) → t ≡ Abs T b → IsReplaced Puts b (became b inside) → made ≡ option_map (Abs T) inside → IsReplaced Puts t (became t made)
+  put-body t b T inside made e h d = subst (λ (x : Term). IsReplaced Puts x (became x made)) (sym e) (subst (λ (x : Option Term). IsReplaced Puts (Abs T b) (became (Abs T b) x)) (sym d) (by inside h))
+    where
+      by : (inside : Option Term) → IsReplaced Puts b (became b inside) → IsReplaced Puts (Abs T b) (became (Abs T b) (option_map (Abs T) inside))
+      by None h = (b, h, refl)
+      by (Some c) h = (c, h, refl)
 
-  pub put-parts : (t f a g b v : Term) → t ≡ App f a → IsReplaced Puts f g → IsReplaced Puts a b → v ≡ App g b → IsReplaced Puts t v
-  put-parts t f a g b v e h k d = subst (λ (x : Term). IsReplaced Puts x v) (sym e) (g, b, h, k, d)
+  pub put-parts : (t f a g b : Term) (made : Option Term) → t ≡ App f a → IsReplaced Puts f g → IsReplaced Puts a b → became (App f a) made ≡ App g b → IsReplaced Puts t (became t made)
+  put-parts t f a g b made e h k d = subst (λ (x : Term). IsReplaced Puts x (became x made)) (sym e) (g, b, h, k, d)
 
   -- It isn't within the limits where a part isn't.
   body-within : (T : Typ) (b : Term) → IsWithin (Abs T b) → IsWithin b

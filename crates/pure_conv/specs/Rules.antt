@@ -1,5 +1,5 @@
 -- A definition by which constants are unfolded, as the code holds it, and what walks over terms with it answer.
-use Rattle.std.specs.Prelude.{◌≡◌, ◌↔◌, ℕ, Bool, IsTrue}
+use Rattle.std.specs.Prelude.{◌≡◌, ◌↔◌, ℕ, Bool, IsTrue, Option, Some, None}
 use Rattle.pure_definitions.specs.Types.Typ.{Typ}
 use Rattle.pure_definitions.specs.Terms.Term.{Term, Const, IsWithin}
 use Rattle.pure_typ.specs.declared.grow.Grow.{Grow}
@@ -15,6 +15,11 @@ puts r = IsUnfolded r.order.now r.name r.typ.now r.body.now
 -- It is a definition: its body has no variable, and no type variable that its type lacks.
 abbrev pub IsDefining : Rule → Type 0
 IsDefining r = (¬ HasVariable r.body.now) × (¬ HasExtraTyp r.typ.now r.body.now)
+
+-- what stands in place of the term: what it was made into; or the term, where it wasn't made anew
+abbrev pub became : Term → Option Term → Term
+became t None = t
+became t (Some u) = u
 
 -- The term is no constant.
 abbrev pub IsNoConstant : Term → Type 0

@@ -3,6 +3,7 @@
 
 mod constants;
 mod fault;
+mod front;
 mod rule;
 mod simple;
 mod unfolding;

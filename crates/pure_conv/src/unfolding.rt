@@ -1,5 +1,5 @@
 //! Definitions unfolded in terms.
-ghost use Rattle.std.specs.Prelude.{◌≡◌, ◌≤◌, IfOk, IfSome, MatchResult, []};
+ghost use Rattle.std.specs.Prelude.{◌≡◌, ◌≤◌, IfOk, IfSome, MatchResult, option_map, Some, []};
 ghost use Rattle.pure_definitions.specs.Terms.Term as tree;
 ghost use Rattle.pure_definitions.specs.Terms.Term.{term_size, term_depth};
 ghost use Rattle.pure_definitions.specs.Terms.Limits.{Leaves};
@@ -12,17 +12,19 @@ ghost use Rattle.pure_theorem.specs.Facts.{IsTheoryContent};
 ghost use Rattle.pure_theorem.specs.Made.{IsMade};
 ghost use Rattle.pure_theorem.specs.Shapes.{IsTyped};
 ghost use Rattle.pure_unfold.specs.Replaced.{IsReplaced};
-ghost use Rattle.pure_conv.specs.Rules.{puts, IsDefining, IsLookedThrough, IsTooLarge};
+ghost use Rattle.pure_conv.specs.Rules.{puts, became, IsDefining, IsLookedThrough, IsTooLarge};
 ghost use Rattle.pure_conv.specs.Answer.{IsConvAnswer};
 ghost use Rattle.pure_conv.specs.UnfoldAnswer.{GivesUnfolded, RefusesUnfolded};
 
 use crate::fault::{ConvFault, conv_answer};
+use crate::front::typ_at_front;
 use crate::rule::{Rule, instance_for, rule_of};
 use pure_inst::Ordered;
 use pure_term::{
-    Grow, MAX_DEPTH, MAX_SIZE, Name, Term, TermNode, Typ, TypMap, copied, inst_typ, term_leaves,
+    Grow, MAX_DEPTH, MAX_SIZE, Name, Term, TermNode, Typ, TypMap, copied, index_above_of, inst_typ,
+    term_leaves,
 };
-use pure_theorem::{Thm, equation, from_one, typ_of_typed};
+use pure_theorem::{Thm, equation, from_one};
 use pure_typ::typ_leaves;
 use std::alloc::{AllocError, Global};
 use std::sync::Arc;
@@ -137,86 +139,132 @@ fn leaves(
     }
 }
 
-/// The abstraction over a variable of the type.
+/// The abstraction over a variable of the type of what the body was made into, if it was.
 #[inline(never)]
-fn abstraction(alloc: Global, typ: &Typ, body: Arc<Term>) -> Result<Arc<Term>, AllocError>
-    ensures { IfOk result (λ u. u.value ≡ tree.Abs typ.now body.value) }
+fn abstraction(
+    alloc: Global,
+    typ: &Typ,
+    body: Option<Arc<Term>>,
+) -> Result<Option<Arc<Term>>, AllocError>
+    ensures { IfOk result (λ made. option_map (λ u. u.value) made ≡ option_map (λ b. tree.Abs typ.now b.value) body) }
 {
+    let Some(body) = body else {
+        return Ok(None);
+    };
     let typ = typ.copy(alloc)?;
-    Ok(Arc::new(alloc, Term::abs(typ, body))?)
+    Ok(Some(Arc::new(alloc, Term::abs(typ, body))?))
 }
 
-/// The application of the function to the argument.
-#[inline(never)]
-fn applied(alloc: Global, fun: Arc<Term>, arg: Arc<Term>) -> Result<Arc<Term>, AllocError>
-    ensures { IfOk result (λ u. u.value ≡ tree.App fun.value arg.value) }
+/// What the part was made into; or the part, where it wasn't.
+fn made_or(part: &Arc<Term>, made: Option<Arc<Term>>) -> Result<Arc<Term>, AllocError>
+    ensures { IfOk result (λ u. u.value ≡ became part.now.value (option_map (λ m. m.value) made)) }
 {
-    Ok(Arc::new(alloc, Term::app(fun, arg))?)
+    match made {
+        Some(new) => Ok(new),
+        None => Ok(Arc::try_clone(part)?),
+    }
 }
 
-/// What stands for the constant.
+/// The application of the function to the argument, as what was made.
+fn new_application(
+    alloc: Global,
+    fun: Arc<Term>,
+    arg: Arc<Term>,
+) -> Result<Option<Arc<Term>>, AllocError>
+    ensures { IfOk result (λ made. option_map (λ u. u.value) made ≡ Some (tree.App fun.value arg.value)) }
+{
+    Ok(Some(Arc::new(alloc, Term::app(fun, arg))?))
+}
+
+/// The application of what its parts were made into, if one of them was.
+#[inline(never)]
+fn applied(
+    alloc: Global,
+    fun: &Arc<Term>,
+    arg: &Arc<Term>,
+    first: Option<Arc<Term>>,
+    second: Option<Arc<Term>>,
+) -> Result<Option<Arc<Term>>, AllocError>
+    ensures { IfOk result (λ made. became (tree.App fun.now.value arg.now.value) (option_map (λ u. u.value) made) ≡ tree.App (became fun.now.value (option_map (λ u. u.value) first)) (became arg.now.value (option_map (λ u. u.value) second))) }
+{
+    match first {
+        Some(new) => {
+            let arg = made_or(arg, second)?;
+            new_application(alloc, new, arg)
+        }
+        None => match second {
+            Some(new) => {
+                let fun = Arc::try_clone(fun)?;
+                new_application(alloc, fun, new)
+            }
+            None => Ok(None),
+        },
+    }
+}
+
+/// What stands for the constant, if it is unfolded.
 #[inline(never)]
 fn put_constant(
     alloc: Global,
     rule: &Rule,
-    t: &Arc<Term>,
     name: Name,
     typ: &Typ,
-) -> Result<Arc<Term>, Grow>
-    requires defining { IsDefining rule.now }
-    requires constant { t.now.value ≡ tree.Const name typ.now }
-    ensures { MatchResult result (λ u. IsReplaced (puts rule.now) t.now.value u.value) (IsTooLarge (puts rule.now) t.now.value) }
+) -> Result<Option<Arc<Term>>, Grow>
+    requires { IsDefining rule.now }
+    ensures { let c = tree.Const name typ.now in MatchResult result (λ made. IsReplaced (puts rule.now) c (became c (option_map (λ u. u.value) made))) (IsTooLarge (puts rule.now) c) }
 {
     match instance_for(alloc, rule, name, typ)? {
         Some(binds) => {
             let body = inst_typ(alloc, rule.body, &binds)?;
-            Ok(copied(alloc, &body)?)
+            Ok(Some(copied(alloc, &body)?))
         }
-        None => Ok(Arc::try_clone(t)?),
+        None => Ok(None),
     }
 }
 
-/// What the term becomes. Leaves that stay are handed back.
-fn put(alloc: Global, rule: &Rule, t: &Arc<Term>) -> Result<Arc<Term>, Grow>
-    requires defining { IsDefining rule.now }
-    ensures { MatchResult result (λ u. IsReplaced (puts rule.now) t.now.value u.value) (IsTooLarge (puts rule.now) t.now.value) }
+/// What the term becomes; none where no constant of it is unfolded, so that it stays.
+fn put(alloc: Global, rule: &Rule, t: &Term) -> Result<Option<Arc<Term>>, Grow>
+    requires { IsDefining rule.now }
+    ensures { MatchResult result (λ made. IsReplaced (puts rule.now) t.now (became t.now (option_map (λ u. u.value) made))) (IsTooLarge (puts rule.now) t.now) }
 {
-    let whole: &Term = t;
-    match &whole.node {
-        TermNode::Const { name, typ } => put_constant(alloc, rule, t, *name, typ),
+    match &t.node {
+        TermNode::Const { name, typ } => put_constant(alloc, rule, *name, typ),
         TermNode::Abs { typ, body, .. } => {
-            let body = put(alloc, rule, body)?;
-            Ok(abstraction(alloc, typ, body)?)
+            let inside = put(alloc, rule, body)?;
+            Ok(abstraction(alloc, typ, inside)?)
         }
         TermNode::App { fun, arg, .. } => {
-            let fun = put(alloc, rule, fun)?;
-            let arg = put(alloc, rule, arg)?;
-            Ok(applied(alloc, fun, arg)?)
+            let first = put(alloc, rule, fun)?;
+            let second = put(alloc, rule, arg)?;
+            Ok(applied(alloc, fun, arg, first, second)?)
         }
-        TermNode::Free { .. } => Ok(Arc::try_clone(t)?),
-        TermNode::Var { .. } => Ok(Arc::try_clone(t)?),
-        TermNode::Bound { .. } => Ok(Arc::try_clone(t)?),
+        TermNode::Free { .. } => Ok(None),
+        TermNode::Var { .. } => Ok(None),
+        TermNode::Bound { .. } => Ok(None),
     }
 }
 
-/// The same of a term that isn't shared yet.
+/// What the term becomes, as a term.
 fn becoming(alloc: Global, rule: &Rule, t: &Term) -> Result<Term, Grow>
     requires { IsDefining rule.now }
     ensures { MatchResult result (IsReplaced (puts rule.now) t.now) (IsTooLarge (puts rule.now) t.now) }
 {
-    let whole = copied(alloc, t)?;
-    let made = put(alloc, rule, &whole)?;
-    Ok(made.copy(alloc)?)
+    match put(alloc, rule, t)? {
+        Some(made) => Ok(made.copy(alloc)?),
+        None => Ok(t.copy(alloc)?),
+    }
 }
 
-/// The equation of the term and what it becomes.
+/// The equation of the term and what it becomes. A body without schematic type variables is one part wherever it stands; only another is counted before it is put in.
 fn unfolded(alloc: Global, rule: &Rule, typ: &Typ, t: &Term) -> Result<Term, Grow>
     requires { IsDefining rule.now }
     ensures { (u : tree.Term) → IsReplaced (puts rule.now) t.now u → IsMade (eq typ.now t.now u) result }
 {
-    let Some(_) = leaves(alloc, rule, t, MAX_SIZE, MAX_DEPTH)? else {
-        return Err(Grow::Big);
-    };
+    if index_above_of(rule.body) != 0 {
+        let Some(_) = leaves(alloc, rule, t, MAX_SIZE, MAX_DEPTH)? else {
+            return Err(Grow::Big);
+        };
+    }
     let right = becoming(alloc, rule, t)?;
     let left = t.copy(alloc)?;
     Ok(equation(alloc, typ, left, right)?)
@@ -238,6 +286,6 @@ pub fn unfold<B: Ordered>(alloc: Global, thy: &B, def: &Thm, t: &Term) -> Result
     if !unfolds_some(alloc, &rule, t)? {
         return Err(ConvFault::NothingToUnfold);
     }
-    let typ = typ_of_typed(alloc, t)?;
+    let typ = typ_at_front(alloc, t)?;
     conv_answer(from_one(alloc, def, unfolded(alloc, &rule, &typ, t)))
 }

@@ -2,7 +2,7 @@
 ghost use Rattle.std.specs.Prelude.{◌≡◌, ◌≤◌, ℕ, MatchOption};
 ghost use Rattle.pure_text.specs.Lists.{IsIn};
 ghost use Rattle.pure_definitions.specs.Names.{builtin_count};
-ghost use Rattle.pure_typ.specs.NameTexts.{HasText, NameHasBase};
+ghost use Rattle.pure_typ.specs.NameTexts.{HasText, NameHasBase, IsFound, name_texts};
 ghost use Rattle.pure_lookup.specs.Meaning.{Declared, IsWritable, IsMeantInFull, IsMeantByBase, IsMeant};
 ghost use Rattle.pure_lookup.specs.Laws.{IsInSession};
 ghost use Rattle.pure_lookup.specs.Places.{IsPlaceOf, IsTheoryIn, IsBest};
@@ -22,18 +22,54 @@ fn theory_in(text: &[u8]) -> Option<&[u8]>
     None
 }
 
+/// Whether the text of the name begins so.
+fn begins(names: &Names, name: Name, front: &[u8]) -> bool {
+    match names.text(name) {
+        Some(text) => text.starts_with(front),
+        None => false,
+    }
+}
+
+/// The first up to this name whose text begins so, as long as they ascend.
+fn first_beginning(names: &Names, name: Name, front: &[u8]) -> Name {
+    let mut low = 0;
+    let mut high = name.0;
+    while low < high {
+        let middle = low + (high - low) / 2;
+        if begins(names, Name(middle), front) {
+            high = middle;
+        } else {
+            low = middle + 1;
+        }
+    }
+    Name(low)
+}
+
+/// The name with the text of a theory that stands in front of the text of this name. It is mostly the first that begins so; where it isn't, all are searched.
+fn theory_named(names: &Names, name: Name, theory: &[u8]) -> Option<Name>
+    ensures { IsFound (name_texts names.now) theory.now result }
+{
+    let first = first_beginning(names, name, theory);
+    if let Some(text) = names.text(first) {
+        if text == theory {
+            return Some(first);
+        }
+    }
+    names.find(theory)
+}
+
 /// The place in load order of the theory whose text stands in front of the first dot: that of Pure is 0.
-fn place_in_theory<S: Scope>(scope: &S, names: &Names, text: &[u8]) -> Option<u64>
+fn place_in_theory<S: Scope>(scope: &S, names: &Names, name: Name, text: &[u8]) -> Option<u64>
     requires { IsInSession names.now (S.content scope.now) }
     ensures { (n : ℕ) → HasText names.now n text.now → builtin_count ≤ n → IsWritable (S.content scope.now) (S.space scope.now) n → IsPlaceOf names.now (S.content scope.now) (S.space scope.now) n result }
 {
     let Some(theory) = theory_in(text) else {
         return None;
     };
-    let Some(name) = names.find(theory) else {
+    let Some(found) = theory_named(names, name, theory) else {
         return None;
     };
-    match scope.index_of(name) {
+    match scope.index_of(found) {
         None => None,
         Some(index) => Some(index as u64 + 1),
     }
@@ -56,7 +92,7 @@ fn place_of<S: Scope>(scope: &S, names: &Names, name: Name) -> Option<u64>
     let Some(text) = names.text(name) else {
         return None;
     };
-    place_in_theory(scope, names, text)
+    place_in_theory(scope, names, name, text)
 }
 
 /// The name of the name space that is visible under just this full name.

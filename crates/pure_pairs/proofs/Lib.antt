@@ -4,3 +4,4 @@ pub mod ScopeLaws
 pub mod TrivialLaws
 pub mod IndexLaws
 pub mod SmashLaws
+pub mod PlainLaws

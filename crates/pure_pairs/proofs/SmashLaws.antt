@@ -530,7 +530,7 @@ constant-application v t f a c Ds rest next e h k =
     own ∙ ap (with_constant v Ds c) (sym e)
 
 -- One pair is treated.
-mapped-length : (f : Pair → Pair) (ps : List Pair) → length (map f ps) ≡ length ps
+pub mapped-length : (f : Pair → Pair) (ps : List Pair) → length (map f ps) ≡ length ps
 mapped-length f [] = refl
 mapped-length f (p ∷ ps) = ap suc (mapped-length f ps)
 

@@ -1,5 +1,6 @@
 -- Theorems whose pairs are smashed: the heads of the sides become constant functions (Isabelle/Isar Implementation manual, section 2.4).
 use Rattle.std.specs.Prelude.{◌≡◌, ◌≢◌, ℕ, ◌+◌, max, List, [], ◌∷◌, map, length, drop, if◌then◌else◌}
+use Rattle.pure_text.specs.Lists.{Each}
 use Rattle.pure_definitions.specs.Types.Typ.{Typ}
 use Rattle.pure_definitions.specs.Terms.Term.{Term, Const, Free, Var, Bound, Abs, App, term_eq}
 use Rattle.pure_definitions.specs.Terms.Conditions.{variable_typ}
@@ -7,6 +8,7 @@ pub use Rattle.pure_definitions.specs.Terms.Measures.{typ_index_above, typs_inde
 use Rattle.pure_definitions.specs.Models.Comparison.{term_cmp}
 use Rattle.pure_logic.specs.Derivable.{Pair, Theorem}
 use Rattle.pure_theorem.specs.Sets.{IsSetOf}
+use Rattle.pure_unify_definitions.specs.Children.{IsFlexFlex}
 use Rattle.pure_unify_definitions.specs.Fronts.{front, arguments, head, below, domains, range, pair}
 
 -- one above the greatest index of a schematic variable of terms, of pairs and of a theorem, those of types among them; or 0
@@ -58,6 +60,12 @@ pub data Smashes : Theorem → Theorem → Type 0 where
   no_pair : {th : Theorem} → th.pairs ≡ [] → Smashes th th
   trivial : {th smashed : Theorem} {p : Pair} {ps : List Pair} → th.pairs ≡ p ∷ ps → p.left ≡ p.right → Smashes (record th { pairs = ps }) smashed → Smashes th smashed
   constants : {th next smashed : Theorem} {p : Pair} {ps : List Pair} → th.pairs ≡ p ∷ ps → p.left ≢ p.right → IsWithConstants p (fresh_variable th p) ps th next → Smashes next smashed → Smashes th smashed
+
+-- The theorem has no hypotheses and no schematic variable in its proposition, and its pairs are flexible on both sides: what is put for their heads stands in it nowhere.
+pub record IsPlain (th : Theorem) : Type 0 where
+  pub no_hyps : th.hyps ≡ []
+  pub closed : term_index_above th.prop ≡ 0
+  pub flexible : Each IsFlexFlex th.pairs
 
 -- What the second theorem is smashed to the first is too, and it has one pair fewer.
 pub record IsOneFewer (th next : Theorem) : Type 0 where

@@ -6,6 +6,7 @@ mod difference;
 mod index;
 pub mod laws;
 mod modulo;
+mod plain;
 mod scope;
 mod theorem;
 mod trivial;

@@ -9,6 +9,7 @@ ghost use Rattle.pure_pairs.specs.Smash as smashing;
 
 use crate::constant::{with_constants, written_typ};
 use crate::index::theorem_index_above;
+use crate::plain::is_plain;
 use crate::trivial::grown;
 use pure_term::{Grow, Name, Term, TermNode, Typ};
 use pure_theorem::{Base, Pair, Thm, are_same, copied_pairs, copied_terms, prop_typ, set_of_terms};
@@ -127,10 +128,13 @@ fn without_first(alloc: Global, th: &Thm) -> Result<Thm, AllocError>
     theorem_with(alloc, th, first, &c, rest)
 }
 
-/// The theorem with all its pairs treated, in order.
+/// The theorem with all its pairs treated, in order. Where none of their variables stands in what it says, they only go.
 fn smashed(alloc: Global, th: &Thm) -> Result<Thm, AllocError>
     ensures { IfOk result (smashing.Smashes th.now) }
 {
+    if is_plain(th) {
+        return under_pairs(alloc, th, &[]);
+    }
     let mut left = th.copy(alloc)?;
     for turn in 0..th.pairs.len() {
         left = without_first(alloc, &left)?;

@@ -5,6 +5,7 @@ mod imports;
 mod judge;
 mod loading;
 mod names;
+mod near;
 mod order;
 mod place;
 mod reason;

@@ -11,9 +11,10 @@ ghost use Rattle.pure_session.specs.NameSets.{texts_in, Gains};
 ghost use Rattle.pure_session.specs.Plain.{ArePlain};
 ghost use Rattle.pure_session.specs.Waiting.{seen_loaded, all_loaded};
 
+use crate::near::Texts;
 use crate::order::Loaded;
 use crate::reason::joined;
-use crate::texts::{put, put_source};
+use crate::texts::put_source;
 use pure_script::Command;
 use pure_text::{Text, TextList};
 use pure_typ::Names;
@@ -24,24 +25,19 @@ use std::collections::BTreeSet;
 const MOST_TEXTS: usize = 2_147_483_648;
 
 /// Puts the full name of what a theory declares into the set.
-fn put_full(
-    alloc: Global,
-    texts: &mut BTreeSet<Vec<u8>>,
-    theory: &Text,
-    name: &[u8],
-) -> Result<(), AllocError>
+fn put_full(alloc: Global, texts: &mut Texts, theory: &Text, name: &[u8]) -> Result<(), AllocError>
     ensures { OnOk result (Gains texts.old texts.new (λ t. IsIn t (full_name theory.now name.now ∷ []))) }
 {
     let front = joined(alloc, theory.bytes(), b".")?;
     let text = joined(alloc, front.bytes(), name)?;
-    put(alloc, texts, text.bytes())?;
+    texts.put(alloc, text.bytes())?;
     Ok(())
 }
 
 /// Puts the full name of a definition and that of its fact into the set.
 fn put_definition(
     alloc: Global,
-    texts: &mut BTreeSet<Vec<u8>>,
+    texts: &mut Texts,
     theory: &Text,
     name: &Text,
 ) -> Result<(), AllocError>
@@ -56,7 +52,7 @@ fn put_definition(
 /// Puts the full names that a command declares into the set.
 fn put_command(
     alloc: Global,
-    texts: &mut BTreeSet<Vec<u8>>,
+    texts: &mut Texts,
     theory: &Text,
     command: &Command,
 ) -> Result<(), AllocError>
@@ -76,7 +72,7 @@ fn put_command(
 /// Puts the full names that some commands declare into the set.
 fn put_commands(
     alloc: Global,
-    texts: &mut BTreeSet<Vec<u8>>,
+    texts: &mut Texts,
     theory: &Text,
     commands: &[Command],
 ) -> Result<(), AllocError>
@@ -89,11 +85,7 @@ fn put_commands(
 }
 
 /// Puts the texts that a theory gives into the set.
-fn put_theory(
-    alloc: Global,
-    texts: &mut BTreeSet<Vec<u8>>,
-    loaded: &Loaded,
-) -> Result<(), AllocError>
+fn put_theory(alloc: Global, texts: &mut Texts, loaded: &Loaded) -> Result<(), AllocError>
     ensures { OnOk result (Gains texts.old texts.new (IsGiven (seen_loaded loaded.now))) }
 {
     put_source(alloc, texts, loaded.source.bytes())?;
@@ -117,9 +109,9 @@ fn listed(alloc: Global, texts: &BTreeSet<Vec<u8>>) -> Result<TextList, AllocErr
 fn given(alloc: Global, loaded: &Loaded) -> Result<TextList, AllocError>
     ensures { IfOk result (λ texts. AreNames (seen_loaded loaded.now ∷ []) texts) }
 {
-    let mut texts = BTreeSet::new(alloc);
+    let mut texts = Texts::empty(alloc)?;
     put_theory(alloc, &mut texts, loaded)?;
-    let list = listed(alloc, &texts)?;
+    let list = listed(alloc, texts.set())?;
     Ok(list)
 }
 

@@ -7,13 +7,14 @@ ghost use Rattle.pure_graph.specs.SessionNames as spec;
 ghost use Rattle.pure_graph.specs.SessionNames.{Gives, GivesInside, IsSpelled};
 ghost use Rattle.pure_session.specs.NameSets.{Gains};
 
+use crate::near::Texts;
 use pure_grammar::{Token, TokenKind};
 use pure_lex::{LexFault, tokens};
 use std::alloc::{AllocError, Global};
 use std::collections::BTreeSet;
 
 /// Puts the text into the set, where it isn't there.
-pub(crate) fn put(
+pub(crate) fn put_far(
     alloc: Global,
     texts: &mut BTreeSet<Vec<u8>>,
     text: &[u8],
@@ -68,7 +69,7 @@ fn spelling_of<'s>(source: &'s [u8], token: &Token, is_quoted: bool) -> Option<&
 /// Puts the spelling that a token gives into the set.
 fn put_spelling(
     alloc: Global,
-    texts: &mut BTreeSet<Vec<u8>>,
+    texts: &mut Texts,
     source: &[u8],
     token: &Token,
     is_quoted: bool,
@@ -79,14 +80,14 @@ fn put_spelling(
     let Some(spelling) = spelling_of(source, token, is_quoted) else {
         return Ok(());
     };
-    put(alloc, texts, spelling)?;
+    texts.put(alloc, spelling)?;
     Ok(())
 }
 
 /// Puts the spellings that the tokens of a quoted text give into the set.
 fn put_spellings(
     alloc: Global,
-    texts: &mut BTreeSet<Vec<u8>>,
+    texts: &mut Texts,
     source: &[u8],
     tokens: &[Token],
 ) -> Result<(), AllocError>
@@ -102,7 +103,7 @@ fn put_spellings(
 /// Puts the spellings in a quoted text into the set, if its tokens can be read.
 fn put_quoted(
     alloc: Global,
-    texts: &mut BTreeSet<Vec<u8>>,
+    texts: &mut Texts,
     source: &[u8],
     quote: &Token,
 ) -> Result<(), AllocError>
@@ -123,7 +124,7 @@ fn put_quoted(
 /// Puts the spellings in a token into the set, if it is a quoted text.
 fn put_inside(
     alloc: Global,
-    texts: &mut BTreeSet<Vec<u8>>,
+    texts: &mut Texts,
     source: &[u8],
     token: &Token,
 ) -> Result<(), AllocError>
@@ -142,7 +143,7 @@ fn put_inside(
 /// Puts what a token of a theory gives into the set: its spelling, or those in it.
 fn put_token(
     alloc: Global,
-    texts: &mut BTreeSet<Vec<u8>>,
+    texts: &mut Texts,
     source: &[u8],
     token: &Token,
 ) -> Result<(), AllocError>
@@ -157,7 +158,7 @@ fn put_token(
 /// Puts what the tokens of a theory give into the set.
 fn put_tokens(
     alloc: Global,
-    texts: &mut BTreeSet<Vec<u8>>,
+    texts: &mut Texts,
     source: &[u8],
     tokens: &[Token],
 ) -> Result<(), AllocError>
@@ -181,11 +182,7 @@ fn end_of(source: &[u8]) -> Result<u32, AllocError>
 }
 
 /// Puts the spellings of a source into the set.
-pub(crate) fn put_source(
-    alloc: Global,
-    texts: &mut BTreeSet<Vec<u8>>,
-    source: &[u8],
-) -> Result<(), AllocError>
+pub(crate) fn put_source(alloc: Global, texts: &mut Texts, source: &[u8]) -> Result<(), AllocError>
     ensures { OnOk result (Gains texts.old texts.new (IsSpelled source.now)) }
 {
     let end = end_of(source)?;

@@ -9,4 +9,4 @@ returns c =
     let text : c.bytes-3.result.now ≡ full_name c.args.theory.now c.args.name.now =
     c.bytes-3.ensures ∙ c.in_ok-text.ensures ∙ ap (λ f. f ++ c.args.name.now) (c.bytes-2.ensures ∙ c.in_ok-front.ensures ∙ ap (λ t. t ++ 46 ∷ []) c.bytes.ensures)
     ∙ append_assoc c.args.theory.now (46 ∷ []) c.args.name.now in
-    gains-one c.args.texts.now c.put.new.texts (full_name c.args.theory.now c.args.name.now) (subst (λ x. Gains c.args.texts.now c.put.new.texts (λ t. t ≡ x)) text c.in_ok-put.ensures)
+    gains-one c.args.texts.now c.put.new.self (full_name c.args.theory.now c.args.name.now) (subst (λ x. Gains c.args.texts.now c.put.new.self (λ t. t ≡ x)) text c.in_ok-put.ensures)

@@ -8,5 +8,5 @@ returns-in_default c = gains-nothing c.args.texts.now (Gives c.args.source.now c
 
 pub returns : goal.returns
 returns c =
-    gains-as c.args.texts.now c.put.new.texts (λ t. t ≡ c.in-Some.spelling.now) (Gives c.args.source.now c.args.is_quoted c.args.token.now) c.in_ok-put.ensures
+    gains-as c.args.texts.now c.put.new.self (λ t. t ≡ c.in-Some.spelling.now) (Gives c.args.source.now c.args.is_quoted c.args.token.now) c.in_ok-put.ensures
     (λ t. given-one _ c.in-Some.spelling.now t c.in-Some.ensures)

@@ -1,6 +1,6 @@
 use Rattle.std.proofs.Common.{sym, ◌∙◌}
 use Rattle.pure_session.proofs.SetLemmas.{gains-had, gains-insert}
-use Rattle.pure_session.proofs.texts.put.Goals as goal
+use Rattle.pure_session.proofs.texts.put_far.Goals as goal
 
 pub returns-then-contains : goal.returns-then-contains
 returns-then-contains c = gains-had c.args.texts.now c.args.text.now (sym c.contains.ensures ∙ c.if-contains.true)
