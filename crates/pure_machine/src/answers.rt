@@ -12,14 +12,14 @@ pub enum Task<G, C> {
 }
 
 /// Whether an outcome was kept, or the promise had been cancelled.
-#[derive(Clone, Copy, Debug, PartialEq, Eq)]
+#[derive(Clone, Copy)]
 pub enum Delivered {
     Kept,
     Cancelled,
 }
 
 /// Whether a proof goes on.
-#[derive(Clone, Copy, Debug, PartialEq, Eq)]
+#[derive(Clone, Copy)]
 pub enum Polled {
     Go,
     Cancelled,

@@ -1,18 +1,19 @@
 //! Promises with their groups.
 ghost use Rattle.std.specs.Prelude.{◌≡◌, ◌≢◌, ◌<◌, ◌++◌, [], ◌∷◌, ℕ, length, false, Some, IfOk, MatchBool, MatchOption, MatchResult, slice_get, if◌then◌else◌};
-ghost use Rattle.pure_machine.specs.State.{Ready, Taken, Cancelled, with_standing, is_theory_cancelled, marked};
+ghost use Rattle.pure_machine.specs.State.{Fork, Ready, Taken, Cancelled, with_standing, is_theory_cancelled, marked};
 ghost use Rattle.pure_machine.specs.Step.{NoPromiseReadyBelow, is_cancelled_promise};
-ghost use Rattle.pure_machine.specs.Seen.{seen_standing, seen_event};
-ghost use Rattle.pure_machine.specs.Parts.{entered, is_stop, NoneTaken, MayStand, regrouped, all_regrouped};
+ghost use Rattle.pure_machine.specs.Seen.{seen_standing};
+ghost use Rattle.pure_machine.specs.Parts.{entered, NoneTaken, MayStand, regrouped, all_regrouped};
 
 use crate::buckets::Buckets;
 use crate::groups::Groups;
 use crate::log::Log;
-use crate::parts::{Event, Promise, Standing};
+use crate::parts::{Promise, Standing};
 use crate::policy::Group;
 use crate::promises::Promises;
 use std::alloc::{AllocError, Global};
 use std::marker::Model;
+use std::sync::Arc;
 
 /// Promises, their groups, and the numbers of the promises in buckets by theory, so that a group is cancelled without a look at the promises of others. A number there without a promise of the theory does no harm.
 #[derive(Drop)]
@@ -106,17 +107,19 @@ impl<G: Drop, O: Drop> Grouped<G, O> {
     pub fn fork<C: Drop>(
         &mut self,
         log: &mut Log<G, C, O>,
-        promise: Promise<G, O>,
-        event: Event<G, C, O>,
+        theory: u32,
+        goal: Arc<G>,
+        told: Arc<G>,
+        cancelled: bool,
     ) -> Result<u32, AllocError>
-        requires event { is_stop (seen_event event) ≡ false }
-        requires stands { promise.standing ≡ (if is_theory_cancelled self.old.marks promise.theory then Cancelled else Ready) }
-        ensures { MatchResult result (λ n. (n ≡ length self.old.list) × (self.new ≡ record { list = self.old.list ++ promise ∷ []; marks = self.old.marks }) × (log.new ≡ entered log.old (seen_event event)))
+        requires { cancelled ≡ is_theory_cancelled self.old.marks theory }
+        ensures { MatchResult result (λ n. (n ≡ length self.old.list)
+            × (self.new ≡ record { list = self.old.list ++ record { theory = theory; goal = goal.value; standing = if cancelled then Cancelled else Ready } ∷ []; marks = self.old.marks }) × (log.new ≡ entered log.old (Fork theory told.value)))
             (λ _. (self.new ≡ self.old) × (log.new ≡ log.old)) }
     {
         let next = self.promises.count();
-        self.members.put(promise.theory as usize, next)?;
-        let number = self.promises.fork(log, promise, event)?;
+        self.members.put(theory as usize, next)?;
+        let number = self.promises.fork(log, theory, goal, told, cancelled)?;
         Ok(number)
     }
 

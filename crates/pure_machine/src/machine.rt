@@ -1,9 +1,9 @@
 //! The state machine.
-ghost use Rattle.std.specs.Prelude.{◌≡◌, ◌<◌, ◌-◌, ◌^◌, ◌++◌, ℕ, List, length, map, filter_map, vec_len, false, Some, None, IfOk, MatchResult, MatchOption, OnOk, slice_get, if◌then◌else◌};
-ghost use Rattle.pure_machine.specs.State.{Running, Fork, CloseTheory, Deliver, Stop, Marks, Cancelled, Ready, theory_at, opened, unmarked, with_cancelled};
+ghost use Rattle.std.specs.Prelude.{◌≡◌, ◌<◌, ◌-◌, ◌^◌, ◌++◌, [], ℕ, List, length, map, filter_map, vec_len, false, Some, None, IfOk, MatchResult, MatchOption, OnOk, slice_get};
+ghost use Rattle.pure_machine.specs.State.{Running, Fork, CloseTheory, Deliver, Stop, Marks, theory_at, opened, waiting, unmarked, with_cancelled};
+ghost use Rattle.pure_machine.specs.Parts.{whole};
 ghost use Rattle.pure_machine.specs.Policy.{due, due_one};
 ghost use Rattle.pure_machine.specs.Step.{stops, after, value_of as closing_value, closed_value, cancelled_by, is_cancelled_promise, IsNextTheory, IsNothingReady, NoTheoryReady, IsShape};
-ghost use Rattle.pure_machine.specs.Seen.{seen_standing};
 ghost use Rattle.pure_machine.specs.Calls.{Takes, delivered_as, polled_as, is_in_cancelled};
 
 use crate::answers::{Delivered, Polled, Task};
@@ -35,16 +35,6 @@ impl<G, C, O> Model for Machine<G, C, O> {
     ghost Value = { State G C O };
 
     ghost view = { λ m. whole m.theories m.promises.list m.promises.marks m.policy m.kept m.stopped m.log };
-}
-
-/// How a new promise stands.
-fn standing_of<O>(cancelled: bool) -> Standing<O>
-    ensures { seen_standing result ≡ (if cancelled then Cancelled else Ready) }
-{
-    if cancelled {
-        return Standing::Cancelled;
-    }
-    Standing::Ready
 }
 
 /// One group more where the cancellation comes when so many deliveries have been kept.
@@ -96,6 +86,23 @@ fn all_unmarked(alloc: Global, shape: &[Node]) -> Result<Vec<bool>, AllocError>
     Ok(marks)
 }
 
+/// No promise, of the theories of the shape, of which no group is cancelled.
+fn no_promises<G: Drop, O: Drop>(alloc: Global, shape: &[Node]) -> Result<Grouped<G, O>, AllocError>
+    ensures { IfOk result (λ g. g ≡ record { list = []; marks = unmarked shape.now }) }
+{
+    let marks = all_unmarked(alloc, shape)?;
+    Grouped::open(alloc, marks)
+}
+
+/// The groups that are cancelled at the opening.
+fn due_at_once(alloc: Global, policy: &Schedule) -> Result<Vec<Group>, AllocError>
+    ensures { IfOk result (λ groups. groups.items ≡ due policy.now.cancels 0) }
+{
+    let mut groups = Vec::new(alloc);
+    add_due(&mut groups, policy.at(0), 0)?;
+    Ok(groups)
+}
+
 impl<G: Drop, C: Drop, O: Drop> Machine<G, C, O> {
     /// The state at the opening: all theories wait, there is no promise, and the groups whose number is 0 are cancelled.
     pub fn open(
@@ -108,22 +115,35 @@ impl<G: Drop, C: Drop, O: Drop> Machine<G, C, O> {
         requires few { vec_len shape < 2 ^ 32 - 1 }
         ensures { IfOk result (λ m. m ≡ opened (record { shape = shape.items; policy = policy; workers = workers })) }
     {
-        let mut due = Vec::new(alloc);
         let schedule = Schedule::new(alloc, policy)?;
-        add_due(&mut due, schedule.at(0), 0)?;
-        let promises = Grouped::open(alloc, all_unmarked(alloc, shape.as_slice())?)?;
+        let due = due_at_once(alloc, &schedule)?;
+        let mut machine = Machine::fresh(alloc, shape, schedule, workers)?;
+        machine.cancel(due.as_slice());
+        Ok(machine)
+    }
+
+    /// The state in which all theories wait, there is no promise, and no group is cancelled.
+    fn fresh(
+        alloc: Global,
+        shape: Vec<Node>,
+        policy: Schedule,
+        workers: u32,
+    ) -> Result<Machine<G, C, O>, AllocError>
+        requires formed { IsShape shape.items }
+        requires few { vec_len shape < 2 ^ 32 - 1 }
+        ensures { IfOk result (λ m. m ≡ whole (record { shape = shape.items; progress = waiting shape.items }) [] (unmarked shape.items) policy 0 false (record { workers = workers; events = [] })) }
+    {
         let log = Log::open(alloc, workers)?;
+        let promises = no_promises(alloc, shape.as_slice())?;
         let theories = Theories::open(shape)?;
-        let mut machine = Machine {
+        Ok(Machine {
             theories,
             promises,
-            policy: schedule,
+            policy,
             kept: 0,
             stopped: false,
             log,
-        };
-        machine.cancel(due.as_slice());
-        Ok(machine)
+        })
     }
 
     /// Whether the work was stopped.
@@ -201,14 +221,10 @@ impl<G: Drop, C: Drop, O: Drop> Machine<G, C, O> {
         }
         let goal = Arc::new(self.theories.alloc(), goal)?;
         let told = Arc::try_clone(&goal)?;
-        let standing = standing_of(self.promises.is_theory_cancelled(theory));
-        let promise = Promise {
-            theory,
-            goal,
-            standing,
-        };
-        let event = Event::Fork { theory, goal: told };
-        let number = self.promises.fork(&mut self.log, promise, event)?;
+        let cancelled = self.promises.is_theory_cancelled(theory);
+        let number = self
+            .promises
+            .fork(&mut self.log, theory, goal, told, cancelled)?;
         self.theories.run(theory, forks + 1);
         Ok(number)
     }

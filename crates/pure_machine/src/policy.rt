@@ -2,21 +2,21 @@
 use std::marker::Model;
 
 /// A group of promises: the session, and below it one for each theory, by its number.
-#[derive(Clone, Copy, Debug, PartialEq, Eq)]
+#[derive(Clone, Copy)]
 pub enum Group {
     Session,
     Theory { index: u32 },
 }
 
 /// The group is cancelled at the moment when so many deliveries have been kept, and at the opening where `after` is 0.
-#[derive(Clone, Copy, Debug, PartialEq, Eq)]
+#[derive(Clone, Copy)]
 pub struct Cancel {
     pub group: Group,
     pub after: u32,
 }
 
 /// When groups are cancelled: the session when the first fault is kept, where `fail_fast` says so, and those listed.
-#[derive(Debug, Drop)]
+#[derive(Drop)]
 pub struct Policy {
     pub fail_fast: bool,
     pub cancels: Vec<Cancel>,
@@ -31,7 +31,7 @@ impl Model for Policy {
 }
 
 /// A theory of the session, by the numbers of its parents.
-#[derive(Debug, Drop)]
+#[derive(Drop)]
 pub struct Node {
     pub parents: Vec<u32>,
 }

@@ -1,9 +1,9 @@
 //! The promises of a machine, in order of number.
-ghost use Rattle.std.specs.Prelude.{◌≡◌, ◌≢◌, ◌<◌, ◌≤◌, ◌++◌, [], ◌∷◌, map, ℕ, length, false, Some, MatchBool, MatchOption, MatchResult, slice_get};
-ghost use Rattle.pure_machine.specs.State.{Ready, Taken, Cancelled, with_standing, cancelled_promise};
+ghost use Rattle.std.specs.Prelude.{◌≡◌, ◌≢◌, ◌<◌, ◌≤◌, ◌++◌, [], ◌∷◌, map, ℕ, length, Some, MatchBool, MatchOption, MatchResult, slice_get, if◌then◌else◌};
+ghost use Rattle.pure_machine.specs.State.{Fork, Ready, Taken, Cancelled, with_standing, cancelled_promise};
 ghost use Rattle.pure_machine.specs.Step.{NoPromiseReadyBelow, is_cancelled_promise};
-ghost use Rattle.pure_machine.specs.Seen.{seen_standing, seen_event};
-ghost use Rattle.pure_machine.specs.Parts.{entered, is_stop, NoneTaken, changed_at, all_changed};
+ghost use Rattle.pure_machine.specs.Seen.{seen_standing};
+ghost use Rattle.pure_machine.specs.Parts.{entered, NoneTaken, changed_at, all_changed};
 
 use crate::groups::Groups;
 use crate::log::Log;
@@ -29,6 +29,16 @@ impl<G, O> Model for Promises<G, O> {
     ghost view = { λ p. p.list.items };
 
     ghost invariant = { λ p. NoPromiseReadyBelow p.list.items p.cursor × (p.cursor ≤ vec_len p.list) × (vec_len p.list < 2 ^ 32) };
+}
+
+/// How a new promise stands.
+fn standing_of<O>(cancelled: bool) -> Standing<O>
+    ensures { seen_standing result ≡ (if cancelled then Cancelled else Ready) }
+{
+    if cancelled {
+        return Standing::Cancelled;
+    }
+    Standing::Ready
 }
 
 /// Whether the promise is ready.
@@ -203,15 +213,18 @@ impl<G: Drop, O: Drop> Promises<G, O> {
         }
     }
 
-    /// One promise more, with the event that makes it, and its number; an error where the numbers are used up, too.
+    /// One promise more, with the event that makes it, which is told the goal, and its number; an error where the numbers are used up, too. Promise and event
+    /// are made where nothing fails any more, so that an error lets go of two pointers alone.
     pub fn fork<C: Drop>(
         &mut self,
         log: &mut Log<G, C, O>,
-        promise: Promise<G, O>,
-        event: Event<G, C, O>,
+        theory: u32,
+        goal: Arc<G>,
+        told: Arc<G>,
+        cancelled: bool,
     ) -> Result<u32, AllocError>
-        requires { is_stop (seen_event event) ≡ false }
-        ensures { MatchResult result (λ n. (n ≡ length self.old) × (self.new ≡ self.old ++ promise ∷ []) × (log.new ≡ entered log.old (seen_event event)))
+        ensures { MatchResult result
+            (λ n. (n ≡ length self.old) × (self.new ≡ self.old ++ record { theory = theory; goal = goal.value; standing = if cancelled then Cancelled else Ready } ∷ []) × (log.new ≡ entered log.old (Fork theory told.value)))
             (λ _. (self.new ≡ self.old) × (log.new ≡ log.old)) }
     {
         let number = self.list.len();
@@ -219,8 +232,12 @@ impl<G: Drop, O: Drop> Promises<G, O> {
             return Err(AllocError);
         }
         self.list.reserve(1)?;
-        log.enter(event)?;
-        self.list.push_reserved(promise);
+        log.enter(Event::Fork { theory, goal: told })?;
+        self.list.push_reserved(Promise {
+            theory,
+            goal,
+            standing: standing_of(cancelled),
+        });
         Ok(number as u32)
     }
 }
