@@ -48,7 +48,7 @@ pub struct Constraints {
 }
 
 /// The unknown of this number.
-fn unknown(number: u32) -> Typ
+fn unknown(_alloc: Global, number: u32) -> Typ
     ensures { result ≡ spec.unknown number }
 {
     Typ {
@@ -61,7 +61,7 @@ fn unknown(number: u32) -> Typ
 }
 
 /// The unknown type of the fixed variable of this name.
-fn fixed_unknown(name: Name) -> Typ
+fn fixed_unknown(_alloc: Global, name: Name) -> Typ
     ensures { result ≡ spec.fixed_unknown name }
 {
     Typ {
@@ -133,10 +133,10 @@ fn draft_constant(
 fn draft_fixed(alloc: Global, name: Name) -> Result<Drafted, AllocError>
     ensures { IfOk result (λ d. (d.term.value ≡ term_tree.Free name (spec.fixed_unknown name)) × (d.typ ≡ spec.fixed_unknown name)) }
 {
-    let typ = fixed_unknown(name);
+    let typ = fixed_unknown(alloc, name);
     let node = TermNode::Free { name, typ };
     let term = Arc::new(alloc, Term { node })?;
-    let typ = fixed_unknown(name);
+    let typ = fixed_unknown(alloc, name);
     Ok(Drafted { term, typ })
 }
 
@@ -221,7 +221,7 @@ fn binder_typ<L: Language>(
             let number = constraints.next;
             let next = further(number, 1)?;
             constraints.next = next;
-            Ok(unknown(number))
+            Ok(unknown(alloc, number))
         }
         Some(raw) => {
             check_typ(language, raw)?;
@@ -255,7 +255,7 @@ fn constrain_application(
     let next = further(number, 1)?;
     constrain(constraints, at, Equation::applied(fun, arg, number))?;
     constraints.next = next;
-    Ok(unknown(number))
+    Ok(unknown(alloc, number))
 }
 
 /// An application, with its argument at this place.

@@ -1,9 +1,9 @@
 -- The greatest domains of a constructor for a class, and reduced sorts.
 use Rattle.std.specs.Prelude.{◌≡◌, ◌↔◌, ℕ, List}
-use Rattle.pure_text.specs.Lists.{IsIn, AnyOf}
-use Rattle.pure_definitions.specs.Types.Order.{Arity, Algebra, IsClassBelow}
+use Rattle.pure_text.specs.Lists.{IsIn}
+use Rattle.pure_definitions.specs.Types.Order.{Arity, Algebra}
 use Rattle.pure_order_tables.specs.Arities.{IsGreatest}
-pub use Rattle.pure_order_tables.specs.Twice.{IsAboveAnother}
+pub use Rattle.pure_order_tables.specs.Classes.{IsAboveAnother}
 
 -- These are the domains of a declared arity of k for a class below d, and above those of all such arities.
 abbrev pub AreGreatestDomains : Algebra → ℕ → ℕ → List (List ℕ) → Type 0

@@ -8,10 +8,10 @@ use Rattle.pure_text.proofs.AscendingLaws.{below_next}
 use Rattle.pure_text.proofs.LoopLaws.{longer_by}
 use Rattle.pure_definitions.specs.Types.Order.{Algebra, IsClassBelow, HasClassBelow, itself}
 use Rattle.pure_order_tables.specs.Rows.{Holds}
-use Rattle.pure_order_tables.specs.Classes.{Follows, IsDeclared}
+use Rattle.pure_order_tables.specs.Classes.{Follows, IsAboveAnother, IsDeclared}
 use Rattle.pure_order_tables.specs.ClassTable.{IsNumber, name_at}
 use Rattle.pure_order_tables.specs.Uncovered.{IsUpRow}
-use Rattle.pure_order_tables.specs.Twice.{AreRowsAbove, IsAboveAnother, IsAboveTwo, IsTwiceRow}
+use Rattle.pure_order_tables.specs.Twice.{AreRowsAbove, IsAboveTwo, IsTwiceRow}
 use Rattle.pure_order_tables.proofs.BelowLaws.{declared_at, reaches}
 use Rattle.pure_order_tables.proofs.ClassTableLaws.{declared_at_number}
 use Rattle.pure_order_tables.proofs.SortLaws.{lower_declared}

@@ -27,3 +27,7 @@ IsSameIfNamed c k = c.name ≡ k.name → c ≡ k
 -- A class that both lists declare has the same classes declared above it in both.
 abbrev pub Agree : List Class → List Class → Type 0
 Agree cs ks = (c k : Class) → IsIn c cs → IsIn k ks → c.name ≡ k.name → c ≡ k
+
+-- Some other class of the sort is below the class.
+abbrev pub IsAboveAnother : Algebra → List ℕ → ℕ → Type 0
+IsAboveAnother A s c = AnyOf (λ b. (¬ (b ≡ c)) × IsClassBelow A b c) s

@@ -1,13 +1,9 @@
 -- The classes that are above several classes of a sort.
 use Rattle.std.specs.Prelude.{◌≡◌, ◌↔◌, ◌/◌, ◌+◌, ◌<◌, ℕ, List, length}
-use Rattle.pure_text.specs.Lists.{IsIn, AnyOf}
+use Rattle.pure_text.specs.Lists.{IsIn}
 use Rattle.pure_definitions.specs.Types.Order.{Algebra, IsClassBelow, HasClassBelow}
 use Rattle.pure_order_tables.specs.Rows.{Holds}
 use Rattle.pure_order_tables.specs.ClassTable.{name_at}
-
--- Some other class of the sort is below the class.
-abbrev pub IsAboveAnother : Algebra → List ℕ → ℕ → Type 0
-IsAboveAnother A s c = AnyOf (λ b. (¬ (b ≡ c)) × IsClassBelow A b c) s
 
 -- Two classes of the sort, which differ, are below the class.
 abbrev pub IsAboveTwo : Algebra → List ℕ → ℕ → Type 0

@@ -1,7 +1,8 @@
 //! The classes that are above several classes of a sort, by rows of bits.
 ghost use Rattle.std.specs.Prelude.{◌↔◌, ◌≤◌, ◌<◌, ◌++◌, ◌∷◌, [], ℕ, List, IsTrue, IfOk, length};
 ghost use Rattle.pure_text.specs.Lists.{IsIn};
-ghost use Rattle.pure_order_tables.specs.Twice.{AreRowsAbove, IsAboveAnother, IsTwiceRow};
+ghost use Rattle.pure_order_tables.specs.Classes.{IsAboveAnother};
+ghost use Rattle.pure_order_tables.specs.Twice.{AreRowsAbove, IsTwiceRow};
 
 use crate::rows::{empty_row, holds, put_common, put_row};
 use crate::sorts::FEW;
