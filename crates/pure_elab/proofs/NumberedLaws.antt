@@ -82,6 +82,23 @@ numbered-has image first binds (v ∷ vs) x i s (inl e) =
     (chosen_has (has_entry binds (TVar x i s)) binds (bind x i s (image (first + length binds) s)) (TVar x i s) refl refl))
 numbered-has image first binds (v ∷ vs) x i s (inr m) = numbered-has image first (with_entry image first binds v) vs x i s m
 
+with_entry-none : (image : ℕ → List ℕ → Typ) (first : ℕ) (binds : List TypBind) (x i : ℕ) (s : List ℕ) → has_entry binds (TVar x i s) ≡ true → with_entry image first binds (TVar x i s) ≡ binds
+with_entry-none image first binds x i s h = by (has_entry binds (TVar x i s)) h
+  where
+    by : (q : Bool) → q ≡ true → (if q then binds else binds ++ bind x i s (image (first + length binds) s) ∷ []) ≡ binds
+    by true e = refl
+    by false e = absurd (cc)
+
+-- Variables that have entries get no further ones.
+numbered-none : (image : ℕ → List ℕ → Typ) (first : ℕ) (binds : List TypBind) (vs : List Typ) → ((x i : ℕ) (s : List ℕ) → IsIn (TVar x i s) vs → has_entry binds (TVar x i s) ≡ true) → numbered image first binds vs ≡ binds
+numbered-none image first binds [] h = refl
+numbered-none image first binds (TFree x s ∷ vs) h = numbered-none image first binds vs (λ y j r m. h y j r (inr m))
+numbered-none image first binds (TVar x i s ∷ vs) h = ap (λ b. numbered image first b vs) (with_entry-none image first binds x i s (h x i s (inl refl))) ∙ numbered-none image first binds vs (λ y j r m. h y j r (inr m))
+numbered-none image first binds (Con k ts ∷ vs) h = numbered-none image first binds vs (λ y j r m. h y j r (inr m))
+
+pub numbered-again : (image : ℕ → List ℕ → Typ) (first : ℕ) (binds : List TypBind) (vs : List Typ) → numbered image first (numbered image first binds vs) vs ≡ numbered image first binds vs
+numbered-again image first binds vs = numbered-none image first (numbered image first binds vs) vs (numbered-has image first binds vs)
+
 chosen_image : (P : TypBind → Type 0) (q : Bool) (b : TypBind) (bs : List TypBind) (v : Typ) → q ≡ typ_eq (typ_variable b) v → P b
     → (has_entry bs v ≡ true → (c : TypBind) × P c × (typ_image bs v ≡ c.image) × (typ_variable c ≡ v))
     → (q || has_entry bs v) ≡ true → (c : TypBind) × P c × ((if q then b.image else typ_image bs v) ≡ c.image) × (typ_variable c ≡ v)

@@ -1,7 +1,7 @@
 -- A term whose parts are put in.
 use Rattle.std.proofs.Common.{◌≡◌, ◌≢◌, ℕ, ◌-◌, List, Option, Some, None, refl, ap, sym, ◌∙◌, subst}
 use Rattle.pure_definitions.specs.Types.Typ.{Typ, typ_size, typ_depth}
-use Rattle.pure_definitions.specs.Terms.Term.{Term, Const, Free, Var, Abs, App, term_size, term_depth}
+use Rattle.pure_definitions.specs.Terms.Term.{Term, Const, Free, Var, Bound, Abs, App, term_size, term_depth}
 use Rattle.pure_definitions.specs.Terms.Subst.{TypBind, typ_instance, inst_typ, retyped_variable}
 use Rattle.pure_definitions.specs.Terms.Measures.{term_index_above}
 use Rattle.pure_definitions.specs.Terms.Limits.{Leaves}
@@ -9,7 +9,7 @@ use Rattle.pure_definitions.proofs.GrownLemmas.{leaves-abs, leaves-node, leaves-
 use Rattle.pure_definitions.proofs.MeasureLemmas.{term_stays}
 use Rattle.pure_tunify.specs.Settings.{composed}
 use Rattle.pure_tunify.specs.declared.resolve.Resolved.{Resolved}
-use Rattle.pure_tunify.specs.Working.{IsResolved}
+use Rattle.pure_tunify.specs.Working.{IsResolved, MakesTheSame}
 use Rattle.pure_tunify.proofs.SettingLaws.{composed-fixed}
 use Rattle.pure_elab.specs.declared.settled.SettledPart.{SettledPart}
 use Rattle.pure_elab.specs.PutIn.{IsLeafPutIn, IsNodeOver, IsPutIn}
@@ -62,3 +62,12 @@ module _ (typs : Typ → Typ) (left room : ℕ) (some : left ≢ 0) (deep : room
 
   pub app_none : (f a : Term) → IsPutIn (inst_typ typs f) (left - 1) (room - 1) None → IsPutIn (inst_typ typs (App f a)) left room None
   app_none f a h = leaves-part_none left room _ _ _ _ _ _ refl refl some deep h
+
+-- Settings that make the same of each type make the same of each term.
+pub put_same : (sets others : List TypBind) → MakesTheSame sets others → (t : Term) → inst_typ (composed others) t ≡ inst_typ (composed sets) t
+put_same sets others same (Const c T) = ap (Const c) (same T)
+put_same sets others same (Free x T) = ap (Free x) (same T)
+put_same sets others same (Var x i T) = ap (Var x i) (same T)
+put_same sets others same (Bound k) = refl
+put_same sets others same (Abs T b) = λ l. Abs (same T l) (put_same sets others same b l)
+put_same sets others same (App f a) = λ l. App (put_same sets others same f l) (put_same sets others same a l)

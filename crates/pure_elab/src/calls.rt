@@ -30,8 +30,8 @@ use crate::sorts::{VariableSort, sorts_of_term, sorts_of_typ};
 use crate::written::written_typ;
 use pure_read::{Raw, RawNode, RawTyp};
 use pure_term::Term;
-use pure_tunify::{Settings, TypFault, pairs_of, settle, settle_given};
-use pure_typ::{Args, Name, Typ, TypNode};
+use pure_tunify::{Settings, TypFault, pairs_of, settle, settle_given, written_out};
+use pure_typ::{Args, Name, Typ, TypNode, whole_size_of_typ};
 use std::alloc::{AllocError, Global};
 use std::sync::Arc;
 
@@ -40,6 +40,9 @@ const FRESH_INDEX: u32 = 2;
 
 /// For how many constraints there is room at first.
 const FIRST_ROOM: usize = 8;
+
+/// More nodes than an image has that is made anew wherever it stands.
+const MANY: u64 = 64;
 
 /// A text with so many nodes isn't short.
 const SHORT: u32 = 200;
@@ -94,8 +97,18 @@ fn fixed<L: Language>(alloc: Global, language: &L, term: &Arc<Term>) -> Result<T
     Ok(copy)
 }
 
+/// Whether an image, as it was set, has many nodes.
+fn has_large_image(settings: &Settings) -> bool {
+    for bind in settings.binds() {
+        if whole_size_of_typ(&bind.image) > MANY {
+            return true;
+        }
+    }
+    false
+}
+
 /// The draft's term under the settings, with the unknowns that are left made fixed.
-fn finished<L: Language>(
+fn finished_under<L: Language>(
     alloc: Global,
     language: &L,
     term: Arc<Term>,
@@ -111,6 +124,23 @@ fn finished<L: Language>(
             Ok(term)
         }
     }
+}
+
+/// The same. Where an image is large, the images are written out first, so that each is made once and is one part wherever it
+/// stands.
+fn finished<L: Language>(
+    alloc: Global,
+    language: &L,
+    term: Arc<Term>,
+    settings: &Settings,
+) -> Result<Term, ElabFault>
+    ensures { IsFinished (L.vocabulary language.now) (inst_typ (composed settings.now.sets) term.value) result }
+{
+    if has_large_image(settings) {
+        let full = written_out(settings, alloc)?;
+        return finished_under(alloc, language, term, &full);
+    }
+    finished_under(alloc, language, term, settings)
 }
 
 /// Why the constraints have no typing.

@@ -15,7 +15,7 @@ use Rattle.pure_term_laws.proofs.OccursLaws.{typ_instances-agree}
 use Rattle.pure_term_laws.proofs.SubstLaws.{typ_instance-identity}
 use Rattle.pure_tunify.specs.Unifiers.{IsFresh, IsOld}
 use Rattle.pure_tunify.specs.Settings.{composed, AreTriangular, IsOldBind, Progress, IsTidy}
-use Rattle.pure_tunify.specs.Working.{HasImagesWithin, IsWritten, IsWrittenInOrder, AreWrittenOut, MakesTheSame}
+use Rattle.pure_tunify.specs.Working.{HasImagesWithin, IsWrittenInOrder, AreWrittenOut, MakesTheSame}
 use Rattle.pure_tunify.proofs.SettingLaws.{composed-fixed, composed-absent, composed-image, instance-append, instance-free, instance-new, instance-old, tidy-snoc}
 
 -- What is in front may be left out.

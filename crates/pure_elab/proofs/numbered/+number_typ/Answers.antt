@@ -6,7 +6,7 @@ use Rattle.pure_elab.specs.Numbered.{numbered}
 use Rattle.pure_elab.specs.Numbering.{image_of}
 use Rattle.pure_elab.specs.Numbers.{entries, IsImageIn}
 use Rattle.pure_elab.proofs.WalkLaws.{numbered-turn}
-use Rattle.pure_elab.proofs.ReplacedLaws.{typs_turn, none_added, typ_unchanged, variable_numbered, con_numbered, all_replaced}
+use Rattle.pure_elab.proofs.ReplacedLaws.{typs_turn, none_added, typ_unchanged, variable_numbered, con_numbered, all_replaced, twice_added, twice_numbered}
 use Rattle.pure_elab.proofs.numbered.+number_typ.Goals as goal
 
 pub number_typ-returns-then-index_above_of_typ-eq0-clause-added : goal.number_typ-returns-then-index_above_of_typ-eq0-clause-added
@@ -29,8 +29,8 @@ pub number_typ-returns-in_ok-typ-in-Con-clause-typ : goal.number_typ-returns-in_
 number_typ-returns-in_ok-typ-in-Con-clause-typ t c =
     let image = image_of c.args.numbering in
     let new = entries image c.args.first c.number_typs.new.numbers in
-    rw (← c.t.view_is, c.in-Con.is, ← c.as_slice.ensures)
-    (con_numbered image c.args.first new c.in-Con.name c.as_slice.result.now c.in_ok-images-in-Con.images.items c.in_ok-typ-in-Con.typ c.in_ok-images-in-Con.ensures.typs c.in_ok-typ-in-Con.ensures)
+    rw (← c.t.view_is, c.in-Con.is, ← c.as_slice-args.ensures)
+    (con_numbered image c.args.first new c.in-Con.name c.as_slice-args.result.now c.in_ok-images-in-Con.images.items c.in_ok-typ-in-Con.typ c.in_ok-images-in-Con.ensures.typs c.in_ok-typ-in-Con.ensures)
 
 pub number_typs-number_typ-requires : goal.number_typs-number_typ-requires
 number_typs-number_typ-requires t c =
@@ -52,3 +52,13 @@ number_typs-loop-typ-preserved t c =
 pub number_typs-returns-clause-typs : goal.number_typs-returns-clause-typs
 number_typs-returns-clause-typs t c =
     all_replaced (image_of c.args.numbering) c.args.first (entries (image_of c.args.numbering) c.args.first c.loop-typ.numbers) c.args.types.now c.loop-typ.images.items c.loop-typ.typ-index c.loop-typ-test.false c.loop-typ.invariant.1
+
+pub number_twice-returns-clause-added : goal.number_twice-returns-clause-added
+number_twice-returns-clause-added t c =
+    let image = image_of c.args.numbering in
+    twice_added image c.args.first (entries image c.args.first c.args.numbers.now) (entries image c.args.first c.number_typ.new.numbers) c.args.name c.args.part.now c.in_ok-image.ensures.added
+
+pub number_twice-returns-clause-typ : goal.number_twice-returns-clause-typ
+number_twice-returns-clause-typ t c =
+    let image = image_of c.args.numbering in
+    twice_numbered image c.args.first (entries image c.args.first c.number_typ.new.numbers) c.args.name c.args.part.now c.in_ok-image.image c.in_ok-typ.typ c.in_ok-image.ensures.typ c.in_ok-typ.ensures

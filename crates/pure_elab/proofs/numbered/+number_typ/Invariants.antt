@@ -13,6 +13,9 @@ decreases-number_typ l = 2 * typ_depth l.t.now
 abbrev pub decreases-number_typs : goal.decreases-number_typs
 decreases-number_typs l = 2 * typs_depth (typs_of l.types.now) + 1
 
+abbrev pub decreases-number_twice : goal.decreases-number_twice
+decreases-number_twice l = 2 * typ_depth l.part.now + 1
+
 -- the variables of the types so far are numbered, and these types have their images in their places
 abbrev pub invariant-number_typs-loop-typ : goal.invariant-number_typs-loop-typ
 invariant-number_typs-loop-typ l =

@@ -1,4 +1,4 @@
-use Rattle.pure_tunify.specs.Working.{HasImagesWithin, AreWrittenOut}
+use Rattle.pure_tunify.specs.Working.{AreWrittenOut}
 use Rattle.pure_tunify.proofs.WritingLaws.{writing_ends}
 use Rattle.pure_tunify.proofs.resolve.written.Goals as goal
 
