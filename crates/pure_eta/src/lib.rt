@@ -2,6 +2,7 @@
 #![tactic(auto)]
 
 mod eta;
+mod expanded;
 mod fits;
 mod front;
 pub mod laws;
@@ -9,5 +10,5 @@ mod long;
 mod own;
 
 pub use eta::eta_norm;
-pub use long::{lengthened, long_form};
+pub use long::{lengthened, long_form, long_under};
 pub use own::is_own_long_form;

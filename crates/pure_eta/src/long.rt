@@ -1,5 +1,5 @@
 //! Long forms.
-ghost use Rattle.std.specs.Prelude.{◌≡◌, [], IfOk};
+ghost use Rattle.std.specs.Prelude.{◌≡◌, [], false, IfOk};
 ghost use Rattle.pure_definitions.specs.Terms.Term as term;
 ghost use Rattle.pure_definitions.specs.Terms.Bounds.{lift_term};
 ghost use Rattle.pure_definitions.specs.Terms.Typing.{HasType};
@@ -10,6 +10,7 @@ ghost use Rattle.pure_term.specs.Scope.{scope_typs};
 ghost use Rattle.pure_eta.specs.LongTerm.{front_typ, expanded, wrapped, expanded_at, long_term};
 ghost use Rattle.pure_eta.specs.Answer.{IsLongAnswer};
 
+use crate::expanded::is_expanded;
 use crate::fits::long_fits;
 use crate::front::front_typ_of;
 use pure_term::{Grow, MAX_SIZE, Scope, Term, TermNode, Typ, copied, loose_above_of};
@@ -42,6 +43,16 @@ pub fn lengthened(alloc: Global, t: &Term) -> Result<Term, AllocError>
     let t = copied(alloc, t)?;
     let long = lengthen(alloc, &t, &scope, false)?;
     Ok(long.copy(alloc)?)
+}
+
+/// The long form of a beta-normal term in its scope, where it isn't applied. It isn't limited; a term that is its own is handed back.
+pub fn long_under(alloc: Global, t: &Arc<Term>, scope: &Scope) -> Result<Arc<Term>, AllocError>
+    ensures { IfOk result (λ u. u.value ≡ long_term false (scope_typs scope.now) t.now.value) }
+{
+    if is_expanded(t, scope, false) {
+        return Arc::try_clone(t);
+    }
+    lengthen(alloc, t, scope, false)
 }
 
 /// The long form of the term in its scope, as a function that is applied or not.

@@ -10,7 +10,7 @@ ghost use Rattle.pure_eta.specs.OwnForm.{IsOwnFront, IsOwnLong};
 use pure_term::{Scope, Term, TermNode, Typ, typ_at};
 
 /// Whether the type has no arrows.
-fn is_base(typ: &Typ) -> bool
+pub fn is_base(typ: &Typ) -> bool
     ensures { OnTrue result (arrow_count typ.now ≡ 0) }
 {
     let Some(_) = typ.as_arrow() else {

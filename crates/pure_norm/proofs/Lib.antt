@@ -15,3 +15,4 @@ pub mod ContractLemmas
 pub mod TurnLemmas
 pub mod AnswerLemmas
 pub mod BetaLaws
+pub mod InstanceLaws

@@ -11,4 +11,5 @@ pub mod Occurrences
 pub mod Walk
 pub mod Turn
 pub mod NormAnswer
+pub mod Instances
 pub mod LawsBeta

@@ -60,7 +60,7 @@ fn reduced(alloc: Global, whole: &Piece<'_>, room: u32) -> Result<Term, NormFaul
 }
 
 /// Whether there is no redex. A term that has none needs no row.
-fn is_normal(t: &Term) -> bool
+pub fn is_normal(t: &Term) -> bool
     ensures { IsTrue result → IsBetaNormal t.now }
 {
     match &t.node {

@@ -6,6 +6,7 @@ mod cells;
 mod contract;
 mod fault;
 mod held;
+mod instance;
 pub mod laws;
 mod measure;
 mod occurrences;
@@ -16,4 +17,5 @@ mod walk;
 
 pub use beta::{MAX_STEPS, beta_norm};
 pub use fault::NormFault;
+pub use instance::{instance_long, least_index};
 pub use pure_eta::{eta_norm, long_form};

@@ -193,14 +193,14 @@ fn bound(alloc: Global, place: u32) -> Result<Arc<Term>, AllocError>
 }
 
 /// The application of the function to the argument.
-fn applied(alloc: Global, fun: Arc<Term>, arg: Arc<Term>) -> Result<Arc<Term>, AllocError>
+pub fn applied(alloc: Global, fun: Arc<Term>, arg: Arc<Term>) -> Result<Arc<Term>, AllocError>
     ensures { IfOk result (λ t. t.value ≡ tree.App fun.value arg.value) }
 {
     Ok(Arc::new(alloc, Term::app(fun, arg))?)
 }
 
 /// The abstraction of the body over a variable of this type.
-fn abstracted(alloc: Global, typ: &Typ, body: Arc<Term>) -> Result<Arc<Term>, AllocError>
+pub fn abstracted(alloc: Global, typ: &Typ, body: Arc<Term>) -> Result<Arc<Term>, AllocError>
     ensures { IfOk result (λ t. t.value ≡ tree.Abs typ.now body.value) }
 {
     let typ = typ.copy(alloc)?;

@@ -1,12 +1,14 @@
 -- Settings put into sides.
-use Rattle.std.proofs.Common.{◌≡◌, ◌⊎◌, ℕ, ◌+◌, ◌<◌, ◌≤◌, List, [], ◌∷◌, ◌++◌, map, length, get_or, drop, arith, inl, inr, refl, ap, sym, subst, ◌∙◌}
+use Rattle.std.proofs.Common.{◌≡◌, ◌⊎◌, false, ℕ, ◌+◌, ◌<◌, ◌≤◌, List, [], ◌∷◌, ◌++◌, map, length, get_or, drop, arith, inl, inr, refl, ap, sym, subst, ◌∙◌}
 use Rattle.std.specs.Prelude.{Result, Ok, Err, IfOk}
 use Rattle.pure_text.specs.Lists.{IsIn, Each}
 use Rattle.pure_definitions.specs.Types.Typ.{Typ, TFree, TVar, Con}
 use Rattle.pure_definitions.specs.Terms.Term.{Term, Const, Free, Var, Bound, Abs, App, IsWithin}
 use Rattle.pure_definitions.specs.Terms.Typing.{HasType}
 use Rattle.pure_definitions.specs.Terms.Subst.{TypBind, TermBind, typ_image, typ_instance, retyped_variable, inst_typ, term_image, inst_term, term_instance, IsTypeRespecting, AreTypeRespecting}
+use Rattle.pure_definitions.specs.Terms.Bounds.{IsClosed}
 use Rattle.pure_definitions.specs.Reduction.Beta.{IsBetaAnswer, TooLarge}
+use Rattle.pure_definitions.specs.Reduction.Eta.{IsLongForm}
 use Rattle.pure_definitions.proofs.InstanceLemmas.{typ_image-fixed}
 use Rattle.pure_term.specs.Grown.{IsGrown}
 use Rattle.pure_typ.specs.declared.grow.Grow.TheVariants.{Big, Memory}
@@ -14,13 +16,19 @@ use Rattle.pure_term_laws.specs.LawsOccurs.{IsTypVariable}
 use Rattle.pure_term_laws.proofs.OccursLaws.{typ_instances-agree}
 use Rattle.pure_term_laws.proofs.SubstLaws.{inst_term-alone, entries-respect_types, entries-keep_fixed, typ_instance-identity}
 use Rattle.pure_term_laws.proofs.TypingBoundLaws.{typing-instance}
+use Rattle.pure_term_laws.proofs.TypingLaws.{typed-closed}
+use Rattle.pure_term_laws.proofs.EtaLaws.{one_long_form}
+use Rattle.pure_eta.specs.LongTerm.{long_term}
+use Rattle.pure_eta.proofs.LongLaws.{long_form-is}
+use Rattle.pure_norm.specs.Instances.{IsOwn, IsInstanceLong}
+use Rattle.pure_norm.proofs.BetaLaws.{normal_form-is_normal}
 use Rattle.pure_tunify.specs.Settings.{composed}
 use Rattle.pure_tunify.specs.Working.{IsWritten}
 use Rattle.pure_tunify.proofs.SettingLaws.{composed-fixed}
 use Rattle.pure_logic.specs.Derivable.{Pair}
 use Rattle.pure_norm.specs.declared.fault.NormFault.{NormFault}
 use Rattle.pure_unify_definitions.specs.LongSides as sides
-use Rattle.pure_unify_definitions.specs.LongSides.{Long, Ends, ComesTo, is_large}
+use Rattle.pure_unify_definitions.specs.LongSides.{Long, Ends, ComesTo, is_long, is_large}
 use Rattle.pure_unify_definitions.specs.Node as node
 use Rattle.pure_unify_definitions.specs.Node.{Typs, Single, with_setting}
 use Rattle.pure_unify_nodes.specs.SideAnswer.{IsTyped, IsSideAnswer}
@@ -28,7 +36,7 @@ use Rattle.pure_unify_steps.specs.declared.node.Setting.{Setting}
 use Rattle.pure_unify_steps.specs.declared.node.Setting.TheVariants.{OfTyps, OfTerm}
 use Rattle.pure_unify_steps.specs.Held.{IsSetting}
 use Rattle.pure_unify_nodes.specs.Long.{IsLongSide}
-use Rattle.pure_unify_nodes.proofs.LongLemmas.{own_answer}
+use Rattle.pure_unify_nodes.proofs.LongLemmas.{normal_typed, own_answer}
 use Rattle.pure_unify_steps.proofs.LongLaws.{comes_long}
 
 -- A term beyond the limits is too large.
@@ -111,3 +119,19 @@ stays_answer setting t copy same e h s k = subst (λ (v : Term). IsSideAnswer v 
 pub answer_long : (t : Term) (r : Result Term NormFault) → IsSideAnswer t r → IfOk r IsLongSide
 answer_long t (Ok u) h = comes_long t u h
 answer_long t (Err fault) h = tt
+
+-- A side in long form is its own as the walk through its instance asks for it; and what that finds, the instance comes to.
+pub own_side : (t : Term) → IsLongSide t → IsOwn false [] t
+own_side t h = record { normal = h.form.normal; long = one_long_form t (long_term false [] t) t (long_form-is t h.form.typ h.form.typed h.form.normal) h.form }
+
+pub instance_closed : (map : List TermBind) (t : Term) → AreTypeRespecting map → IsLongSide t → IsClosed (inst_term (term_image map) t)
+instance_closed map t r h =
+    let typed = replaced_typed map t r (h.form.typ, h.form.typed) in
+    typed-closed (inst_term (term_image map) t) typed.0 typed.1
+
+pub found_comes : (map : List TermBind) (t l : Term) → AreTypeRespecting map → IsLongSide t → IsInstanceLong map t l → IsWithin l → ComesTo (inst_term (term_image map) t) (Long l)
+found_comes map t l r h found within =
+    let made = inst_term (term_image map) t in
+    let typed = normal_typed made found.normal (replaced_typed map t r (h.form.typ, h.form.typed)) found.answer in
+    let form = long_form-is found.normal typed.0 typed.1 (normal_form-is_normal made found.normal found.answer) in
+    is_long found.answer (subst (IsLongForm found.normal) (sym found.long) form) within

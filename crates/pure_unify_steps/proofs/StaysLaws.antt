@@ -20,43 +20,6 @@ use Rattle.pure_unify_steps.specs.declared.node.Setting.TheVariants.{OfTyps, OfT
 use Rattle.pure_unify_steps.specs.Held.{IsSetting}
 use Rattle.pure_unify_steps.specs.Old.{HasNoFresh, HaveNoFresh}
 
--- One entry more.
-pub least_more : (bs : List TermBind) (i m n : ℕ) (b : TermBind) → i < length bs → b ≡ get_or bs i b → Each (λ d. m ≤ d.index) (take i bs) → n ≤ m → n ≤ b.index → Each (λ d. n ≤ d.index) (take (i + 1) bs)
-least_more [] i m n b within e h low here = absurd (omega arith)
-least_more (d ∷ bs) zero m n b within e h low here = (subst (λ (c : TermBind). n ≤ c.index) e here, tt)
-least_more (d ∷ bs) (suc i) m n b within e h low here =
-    let next : suc i + 1 ≡ suc (i + 1) = omega arith in
-    let first : m ≤ d.index = h.0 in
-    rw next (omega (arith, first), least_more bs i m n b (omega arith) e h.1 low here)
-
--- What the entries make of a variable whose index is below all of theirs.
-abbrev index_of : Term → ℕ
-index_of (Var x i T) = i
-index_of _ = 0
-
-passed : (b : TermBind) (bs : List TermBind) (v : Term) (test : Bool) → term_eq (term_variable b) v ≡ test → ¬ (term_variable b ≡ v) → (if test then b.image else term_image bs v) ≡ term_image bs v
-passed b bs v true e n = absurd (n (term_eq-same (term_variable b) v e))
-passed b bs v false e n = refl
-
-above_other : (b : TermBind) (least x i : ℕ) (T : Typ) → least ≤ b.index → i < least → ¬ (term_variable b ≡ Var x i T)
-above_other b least x i T h low e =
-    let same : b.index ≡ i = ap index_of e in
-    omega arith
-
-variable_below : (bs : List TermBind) (least : ℕ) → Each (λ b. least ≤ b.index) bs → (x i : ℕ) (T : Typ) → i < least → term_image bs (Var x i T) ≡ Var x i T
-variable_below [] least h x i T low = refl
-variable_below (b ∷ bs) least h x i T low =
-    passed b bs (Var x i T) (term_eq (term_variable b) (Var x i T)) refl (above_other b least x i T h.0 low) ∙ variable_below bs least h.1 x i T low
-
--- A term whose schematic variables all have lower indexes stays under the entries.
-pub below_stays : (bs : List TermBind) (least : ℕ) → Each (λ b. least ≤ b.index) bs → (t : Term) → term_index_above t ≤ least → inst_term (term_image bs) t ≡ t
-below_stays bs least h (Const c T) low = refl
-below_stays bs least h (Free x T) low = term_image-fixed bs x T
-below_stays bs least h (Var x i T) low = variable_below bs least h x i T (omega arith)
-below_stays bs least h (Bound n) low = refl
-below_stays bs least h (Abs T b) low = ap (Abs T) (below_stays bs least h b (omega arith))
-below_stays bs least h (App f a) low = λ l. App (below_stays bs least h f (omega arith) l) (below_stays bs least h a (omega arith) l)
-
 -- One without schematic variables stays under a setting of type variables.
 pub ground_stays : (map : List TypBind) (t : Term) → term_index_above t ≡ 0 → (setting : Setting) → setting ≡ OfTyps map → (s : node.Setting) → IsSetting setting s → with_setting s t ≡ t
 ground_stays map t lacks setting e s k = by s (subst (λ (x : Setting). IsSetting x s) e k)

@@ -1,41 +1,22 @@
 //! Settings put into pairs, whose sides are brought to long form.
-ghost use Rattle.std.specs.Prelude.{◌≡◌, ◌≤◌, ◌++◌, ◌∷◌, [], IfOk, IfErr, OnOk};
+ghost use Rattle.std.specs.Prelude.{◌≡◌, ◌≤◌, ◌++◌, ◌∷◌, [], IfOk, IfErr, IfSome, OnOk};
 ghost use Rattle.std.specs.Bool.{OnFalse, OnTrue};
 ghost use Rattle.pure_text.specs.Lists.{Each};
 ghost use Rattle.pure_definitions.specs.Terms.Subst.{AreTypeRespecting, typ_image, term_image, inst_typ, inst_term};
-ghost use Rattle.pure_unify_definitions.specs.LongSides.{AllLong, AreLong};
+ghost use Rattle.pure_unify_definitions.specs.LongSides.{Long, ComesTo, AllLong, AreLong};
 ghost use Rattle.pure_unify_definitions.specs.Node as node;
 ghost use Rattle.pure_unify_nodes.specs.SideAnswer.{IsTyped, IsSideAnswer, IsPairAnswer, IsSidesFault};
 ghost use Rattle.pure_unify_steps.specs.Held.{IsSetting, IsTypedSetting, put_in};
 ghost use Rattle.pure_unify_nodes.specs.Long.{IsLongSide, IsLongPair};
 
 use crate::node::Setting;
-use pure_norm::NormFault;
+use pure_norm::{NormFault, instance_long, least_index};
 use pure_term::{
-    Grow, Term, TermBind, TermMap, TermNode, TypMap, index_above_of, inst_term, inst_typ,
+    Grow, Term, TermMap, TermNode, TypMap, index_above_of, inst_term, inst_typ, is_within,
 };
 use pure_theorem::Pair;
 use pure_unify_nodes::owned_long_side;
 use std::alloc::{AllocError, Global};
-
-/// The index of the variable that the entry replaces.
-fn index_of(bind: &TermBind) -> u64
-    ensures { result ≡ bind.now.index }
-{
-    u64::from(bind.index)
-}
-
-/// The least index of a variable that an entry replaces. A part whose schematic variables all have lower ones stays as it is.
-fn least_index(map: &TermMap) -> u64
-    ensures { Each (λ b. result ≤ b.index) map.now }
-{
-    let binds = map.binds();
-    let mut least = u64::MAX;
-    for bind in binds {
-        least = least.min(index_of(bind));
-    }
-    least
-}
 
 /// Whether an entry replaces a variable of the term, where none replaces one of an index below `least`.
 fn is_touched(map: &TermMap, least: u64, t: &Term) -> bool
@@ -72,8 +53,35 @@ fn put_typs(alloc: Global, map: &TypMap, t: &Term) -> Result<Term, NormFault>
     }
 }
 
-/// The side under a term map, in long form, or what stops the search.
+/// The side under a term map, in long form, where that is found within the limits by the parts in which a variable is replaced.
+fn terms_found(alloc: Global, map: &TermMap, t: &Term) -> Option<Term>
+    requires long { IsLongSide t.now }
+    requires respecting { AreTypeRespecting map.now }
+    ensures { IfSome result (λ u. ComesTo (inst_term (term_image map.now) t.now) (Long u)) }
+{
+    let Some(long) = instance_long(alloc, t, map) else {
+        return None;
+    };
+    if !is_within(&long) {
+        return None;
+    }
+    Some(long)
+}
+
+/// The same, or what stops the search.
 fn put_terms(alloc: Global, map: &TermMap, t: &Term) -> Result<Term, NormFault>
+    requires long { IsLongSide t.now }
+    requires respecting { AreTypeRespecting map.now }
+    ensures { IsSideAnswer (inst_term (term_image map.now) t.now) result }
+{
+    match terms_found(alloc, map, t) {
+        Some(long) => Ok(long),
+        None => terms_made(alloc, map, t),
+    }
+}
+
+/// The same of the whole side, made and brought to long form.
+fn terms_made(alloc: Global, map: &TermMap, t: &Term) -> Result<Term, NormFault>
     requires typed { IsTyped t.now }
     requires respecting { AreTypeRespecting map.now }
     ensures { IsSideAnswer (inst_term (term_image map.now) t.now) result }

@@ -1,6 +1,6 @@
 use Rattle.std.proofs.Common.{refl, arith}
+use Rattle.pure_norm.proofs.InstanceLaws.{below_stays}
 use Rattle.pure_unify_steps.proofs.PutLaws.{untouched_fixed}
-use Rattle.pure_unify_steps.proofs.StaysLaws.{below_stays}
 use Rattle.pure_unify_steps.proofs.put.+is_touched.Goals as goal
 
 pub returns-then-index_above_of-least : goal.returns-then-index_above_of-least

@@ -1,7 +1,7 @@
 use Rattle.std.proofs.Common.{◌≤◌, take}
 use Rattle.pure_text.specs.Lists.{Each}
 use Rattle.pure_definitions.specs.Terms.Subst.{TermBind}
-use Rattle.pure_unify_steps.proofs.put.least_index.Given as goal
+use Rattle.pure_norm.proofs.instance.least_index.Given as goal
 
 -- no entry that was read replaces a variable of a lower index
 abbrev pub invariant-loop-bind : goal.invariant-loop-bind
