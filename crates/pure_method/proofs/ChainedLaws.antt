@@ -18,13 +18,18 @@ use Rattle.pure_logic.specs.Derivable.{Theorem, IsDerivable}
 use Rattle.pure_logic.proofs.ProvesLaws.{derivable_is_proves}
 use Rattle.pure_logic.proofs.EqualityLaws.{right-of, reflexive_equality}
 use Rattle.pure_theorem.specs.Facts.{IsTheoryContent}
+use Rattle.pure_theorem.specs.Answer.{IsAnswer, IsJoined, NoRefusal}
+use Rattle.pure_theorem.specs.declared.fault.RuleFault.{RuleFault}
+use Rattle.pure_theorem.proofs.AnswerLaws.{answer-along, answer-holds}
 use Rattle.pure_theorem.specs.Sets.{label_cmp, IsSetOf}
 use Rattle.pure_theorem.specs.Shapes.{IsNoImplication}
 use Rattle.pure_theorem.specs.Within.{AreWithin}
 use Rattle.pure_theorem.proofs.SetLaws.{no_labels}
 use Rattle.pure_unfold.specs.Unfold.{Unfolds}
 use Rattle.pure_equal.specs.Equivalence.{GivesTransitive, RefusesTransitive}
-use Rattle.pure_conv.specs.Answer.{IsConvAnswer, AsInference}
+use Rattle.pure_equal.proofs.DerivedLaws.{transitive-derived}
+use Rattle.pure_conv.specs.Answer.{IsConvAnswer, AsInference, conv_answer}
+use Rattle.pure_conv.proofs.AnswerLaws.{answer_as, given_as}
 use Rattle.pure_conv.specs.UnfoldAnswer.{GivesUnfolded, RefusesUnfolded}
 use Rattle.pure_conv.specs.declared.fault.ConvFault.{ConvFault}
 use Rattle.pure_conv.specs.declared.fault.ConvFault.TheVariants as conv
@@ -95,7 +100,7 @@ linked Q fact r now typed result h d = by result h d
 no-more : (As : List Term) → IsSetOf term_cmp [] As → As ≡ []
 no-more As h = none_in As (each_of (λ A. IsIn A []) As (λ A m. (h.members A).0 m))
 
-pub join : (Q : Content) (first now last : Term) (chain link : Theorem) → IsChained Q first now chain → IsChained Q now last link → (result : Result Theorem ConvFault)
+join : (Q : Content) (first now last : Term) (chain link : Theorem) → IsChained Q first now chain → IsChained Q now last link → (result : Result Theorem ConvFault)
     → IsConvAnswer (GivesTransitive chain link) (AsInference (RefusesTransitive chain link)) result → IfOk result (IsDerivable Q) → IsJoin Q first last chain link (step_answer result)
 join Q first now last chain link c k result h d = by result h d
   where
@@ -126,6 +131,21 @@ join Q first now last chain link c k result h d = by result h d
     by (Err conv.TypeDiffers) h d = tt
     by (Err (conv.FreeInHyps which)) h d = tt
     by (Err (conv.FreeInPairs which)) h d = tt
+
+-- The same of two equations that are known to be such: the sides that they share needn't be compared.
+pub join_known : (Q : Content) → IsTheoryContent Q → (first now last : Term) (chain link : Theorem) → IsChained Q first now chain → IsChained Q now last link → (T U : Typ) (a b d e : Term) → chain.prop ≡ eq T a b → link.prop ≡ eq U d e
+    → (B : Term) → B ≡ eq T a e → (r : Result Theorem RuleFault) → IsAnswer (IsJoined chain link B) NoRefusal r → IsJoin Q first last chain link (step_answer (conv_answer r))
+join_known Q q first now last chain link h k T U a b d e left right B is r answer =
+    let over : eq T a b ≡ eq prop first now = sym left ∙ prop-of Q first now chain h in
+    let under : eq U d e ≡ eq prop now last = sym right ∙ prop-of Q now last link k in
+    let typ : T ≡ prop = typ-same T prop a b first now over in
+    let one : a ≡ first = left-same T prop a b first now over in
+    let other : e ≡ last = right-same U prop d e now last under in
+    let made : B ≡ eq prop first last = is ∙ λ i. eq (typ i) (one i) (other i) in
+    let gives = answer-along (IsJoined chain link B) (GivesTransitive chain link) (RefusesTransitive chain link)
+    (λ th j. record { typ = prop; other = prop; first = first; middle = now; last = last; left_is = prop-of Q first now chain h; right_is = prop-of Q now last link k; joined = subst (λ A. IsJoined chain link A th) made j }) r answer in
+    let derivable = answer-holds (GivesTransitive chain link) (RefusesTransitive chain link) (IsDerivable Q) (transitive-derived Q q chain link h.derivable k.derivable) r gives in
+    join Q first now last chain link h k (conv_answer r) (answer_as (GivesTransitive chain link) (RefusesTransitive chain link) r (conv_answer r) refl gives) (given_as (IsDerivable Q) r (conv_answer r) refl derivable)
 
 -- What a fact answers, from what the two answer.
 pub taken : (Q : Content) (first now u : Term) (fact chain link : Theorem) → Unfolds (algebra_of Q.declarations) fact.prop now u → IsSmallEquation now u → link.rests ≡ fact.rests → (result : Result Theorem StepFault)

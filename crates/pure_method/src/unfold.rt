@@ -7,6 +7,7 @@ ghost use Rattle.pure_definitions.specs.Declarations.Decl.{algebra_of};
 ghost use Rattle.pure_logic.specs.Connectives.{eq};
 ghost use Rattle.pure_logic.specs.Content.{IsProposition};
 ghost use Rattle.pure_theorem.specs.Sets.{label_cmp, IsSetOf};
+ghost use Rattle.pure_conv.specs.Answer.{conv_answer};
 ghost use Rattle.pure_unify_laws.specs.Condition.{IsUnifyContent};
 ghost use Rattle.pure_resolve.specs.Goals.{IsStep};
 ghost use Rattle.pure_resolve.specs.Uses.{MayStep, IsFirstSubgoal};
@@ -16,12 +17,12 @@ ghost use Rattle.pure_method.specs.Taking as taking;
 ghost use Rattle.pure_method.specs.Taking.{IsReadyFact, IsChained, IsChain, IsLinked, IsJoin, IsTaken, AreTaken};
 
 use crate::fact::discard;
-use pure_conv::{ConvFault, then_conv, unfold};
+use pure_conv::{ConvFault, unfold};
 use pure_declare::theory::Theory;
 use pure_resolve::Goal;
 use pure_resolve::goal_steps::StepFault;
 use pure_term::Term;
-use pure_theorem::{Thm, as_equation, as_implication, equation, prop_typ};
+use pure_theorem::{RuleFault, Thm, as_equation, as_implication, equation, from_two, prop_typ};
 use std::alloc::{AllocError, Global};
 
 /// The fault of a step that a conversion's is.
@@ -74,12 +75,34 @@ fn unfolded_by(alloc: Global, theory: &Theory, chain: &Thm, fact: &Thm) -> Resul
     step_answer(unfold(alloc, theory, fact, now))
 }
 
-/// The equation that follows from two.
-fn joined(alloc: Global, theory: &Theory, chain: &Thm, link: &Thm) -> Result<Thm, StepFault>
-    requires { IsUnifyContent theory.now }
-    ensures { (first : tree.Term) → (now : tree.Term) → (last : tree.Term) → IsChained theory.now first now chain.now → IsChained theory.now now last link.now → IsJoin theory.now first last chain.now link.now result }
+/// The answer of an inference as that of a step.
+fn inferred(answer: Result<Thm, RuleFault>) -> Result<Thm, StepFault>
+    ensures { result ≡ taking.step_answer (conv_answer answer) }
 {
-    step_answer(then_conv(alloc, theory, chain, link))
+    match answer {
+        Ok(th) => Ok(th),
+        Err(RuleFault::Big) => Err(StepFault::Big),
+        Err(_) => Err(StepFault::Memory),
+    }
+}
+
+/// The equation that follows from two. What the first comes to is what the second begins with, so they aren't compared.
+fn joined(alloc: Global, _theory: &Theory, chain: &Thm, link: &Thm) -> Result<Thm, StepFault>
+    requires content { IsUnifyContent _theory.now }
+    requires chain { IsChain _theory.now chain.now }
+    requires link { IsChain _theory.now link.now }
+    ensures { (first : tree.Term) → (now : tree.Term) → (last : tree.Term) → IsChained _theory.now first now chain.now → IsChained _theory.now now last link.now → IsJoin _theory.now first last chain.now link.now result }
+{
+    let Some((typ, first, _)) = as_equation(&chain.prop) else {
+        unreachable!();
+    };
+    let Some((_, _, last)) = as_equation(&link.prop) else {
+        unreachable!();
+    };
+    let left = first.copy(alloc)?;
+    let right = last.copy(alloc)?;
+    let prop = equation(alloc, typ, left, right)?;
+    inferred(from_two(alloc, chain, link, prop))
 }
 
 /// The equation of a proposition with what it comes to by the fact, from that with what it has come to.

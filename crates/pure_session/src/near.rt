@@ -10,7 +10,7 @@ use std::marker::Model;
 use std::mem;
 
 /// At how many places texts are at hand.
-const PLACES: usize = 64;
+const PLACES: usize = 256;
 
 /// A set of texts. Some of them are at hand besides, one at each place, so that a text that comes again is found without the set.
 #[derive(Drop)]
@@ -37,7 +37,7 @@ impl Model for Texts {
 fn place_for(text: &[u8]) -> usize {
     let mut sum: usize = 0;
     for byte in text {
-        sum = sum.rotate_left(3) ^ usize::from(*byte);
+        sum = sum.wrapping_mul(31).wrapping_add(usize::from(*byte));
     }
     sum % PLACES
 }

@@ -1,6 +1,9 @@
 use Rattle.pure_method.proofs.ChainedLaws.{taken, not-taken}
 use Rattle.pure_method.proofs.unfold.further.Goals as goal
 
+pub joined-answer-requires-clause-link : goal.joined-answer-requires-clause-link
+joined-answer-requires-clause-link c = let before = c.requires.chain in let link = c.in-Ok.ensures before.0 before.1 before.2 in (before.1, link.0, link.3)
+
 pub returns-in-Ok : goal.returns-in-Ok
 returns-in-Ok c = λ first now h.
     let link = c.in-Ok.ensures first now h in
