@@ -48,8 +48,8 @@ impl Merged {
     fn first(theory: &Theory) -> Result<Merged, AllocError>
         ensures { IfOk result (λ merged. merged ≡ theory.now.declarations) }
     {
-        let declared = theory.declared.share()?;
         let order = Arc::try_clone(&theory.order)?;
+        let declared = theory.declared.share()?;
         Ok(Merged { declared, order })
     }
 
@@ -183,9 +183,9 @@ impl Theory {
         ensures ok { IfOk result (IsBeginning (record { name = name; index = index }) (contents parents.now)) }
         ensures fault { IfErr result (IsBeginRefusal (contents parents.now)) }
     {
+        let ancestors = ancestors(alloc, parents)?;
         let merged = merge_of(alloc, parents)?;
         let Merged { declared, order } = merged;
-        let ancestors = ancestors(alloc, parents)?;
         let own = Some(Known { name, index });
         Ok(Theory {
             alloc,

@@ -12,7 +12,7 @@ use std::marker::Model;
 use std::sync::Arc;
 
 /// Why a theorem can't be handed to another theory.
-#[derive(Clone, Copy, PartialEq, Eq, Debug)]
+#[derive(Clone, Copy, PartialEq, Eq)]
 pub enum TransferFault {
     /// The first declaration of the theorem's theory that the other lacks.
     Missing { declaration: Decl },

@@ -22,8 +22,8 @@ impl Theory {
         if let Some(_old) = self.declared.typ_params(name) {
             return Err(DeclFault::Duplicate);
         }
-        let declared = self.declared.with_typ(name, params)?;
         let order = Arc::try_clone(&self.order)?;
+        let declared = self.declared.with_typ(name, params)?;
         let more = self.with(declared, order)?;
         Ok(more)
     }
@@ -41,8 +41,8 @@ impl Theory {
         }
         let copy = typ.copy(self.alloc)?;
         let typ = shared(self.alloc, copy)?;
-        let declared = self.declared.with_const(name, typ)?;
         let order = Arc::try_clone(&self.order)?;
+        let declared = self.declared.with_const(name, typ)?;
         let more = self.with(declared, order)?;
         Ok(more)
     }
@@ -57,8 +57,8 @@ impl Theory {
         if let Some(_old) = self.declared.fact(name) {
             return Err(DeclFault::Duplicate);
         }
-        let declared = self.declared.with_axiom(name, prop)?;
         let order = Arc::try_clone(&self.order)?;
+        let declared = self.declared.with_axiom(name, prop)?;
         let more = self.with(declared, order)?;
         Ok(more)
     }
@@ -79,8 +79,8 @@ impl Theory {
         if let Some(_old) = self.declared.fact(name) {
             return Err(DeclFault::Duplicate);
         }
-        let declared = self.declared.with_promise(name, label, prop)?;
         let order = Arc::try_clone(&self.order)?;
+        let declared = self.declared.with_promise(name, label, prop)?;
         let more = self.with(declared, order)?;
         Ok(more)
     }

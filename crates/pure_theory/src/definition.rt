@@ -21,8 +21,10 @@ use std::alloc::{AllocError, Global};
 fn definition_axiom(alloc: Global, name: Name, typ: &Typ, body: &Term) -> Result<Term, AllocError>
     ensures { IfOk result (λ t. t ≡ eq typ.now (Const name typ.now) (inst_typ schematic_typ_variable body.now)) }
 {
-    let left = constant(name, typ.copy(alloc)?);
-    let right = schematic_term(alloc, body)?.copy(alloc)?;
+    let schematic = schematic_term(alloc, body)?;
+    let copy = typ.copy(alloc)?;
+    let right = schematic.copy(alloc)?;
+    let left = constant(name, copy);
     let axiom = equation(alloc, typ, left, right)?;
     Ok(axiom)
 }
@@ -72,9 +74,9 @@ impl Theory {
         self.content_is_sound();
         self.check_definition(name, fact, typ, body)?;
         let typ = schematic_typ(self.alloc, typ)?;
-        let constant = self.declare_const(name, &typ)?;
         let axiom = definition_axiom(self.alloc, name, &typ, body)?;
         let prop = shared(self.alloc, axiom)?;
+        let constant = self.declare_const(name, &typ)?;
         let more = constant.declare_axiom(fact, prop)?;
         Ok(more)
     }

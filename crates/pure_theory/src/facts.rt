@@ -18,7 +18,7 @@ use pure_typ::NamesByBase;
 use std::alloc::AllocError;
 
 /// A fact that a written name means.
-#[derive(Debug, Drop)]
+#[derive(Drop)]
 pub enum Fact {
     /// A built fact.
     Built {

@@ -4,7 +4,7 @@ use pure_term::Name;
 use std::alloc::AllocError;
 
 /// Why something can't be declared, or a theory can't begin.
-#[derive(Clone, Copy, PartialEq, Eq, Debug)]
+#[derive(Clone, Copy, PartialEq, Eq)]
 pub enum DeclFault {
     /// Something of this kind is declared under the name, or the constructor has an arity for the class.
     Duplicate,

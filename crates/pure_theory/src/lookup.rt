@@ -17,7 +17,7 @@ use pure_term::Name;
 use pure_typ::NamesByBase;
 
 /// A name space.
-#[derive(Clone, Copy, Debug)]
+#[derive(Clone, Copy)]
 pub(crate) enum Space {
     Classes,
     Typs,

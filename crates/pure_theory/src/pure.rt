@@ -1,15 +1,15 @@
 //! What Pure itself declares.
-ghost use Rattle.std.specs.Prelude.{◌≡◌, [], ◌∷◌, ◌++◌, IfOk};
+ghost use Rattle.std.specs.Prelude.{◌≡◌, ℕ, [], ◌∷◌, ◌++◌, IfOk};
 ghost use Rattle.pure_text.specs.Lists.{IsIn};
 ghost use Rattle.pure_definitions.specs.Types.Typ as types;
-ghost use Rattle.pure_definitions.specs.Declarations.Decl.{ConstDecl};
+ghost use Rattle.pure_definitions.specs.Declarations.Decl.{ConDecl, ConstDecl};
 ghost use Rattle.pure_definitions.specs.Terms.Term.{Const};
 ghost use Rattle.pure_logic.specs.Connectives as connectives;
 ghost use Rattle.pure_logic.specs.PureContent as content;
 ghost use Rattle.pure_theory.specs.PureParts.{pure_typs, pure_to_all, pure_to_imp, pure_to_eq, pure_to_protect};
 
 use pure_term::{Name, Sort, Term, TermNode, Typ, TypNode};
-use pure_theorem::{application, equation, prop_typ};
+use pure_theorem::{equation, prop_typ};
 use pure_theory_tables::{Declarations, shared};
 use std::alloc::{AllocError, Global};
 
@@ -84,23 +84,23 @@ fn variable(alloc: Global) -> Term
 fn protected(alloc: Global, term: Term) -> Result<Term, AllocError>
     ensures { IfOk result (λ t. t ≡ connectives.protect term) }
 {
+    let argument = shared(alloc, term)?;
     let typ = protect_typ(alloc)?;
-    let marked = application(alloc, constant(Name::PROTECT, typ), term)?;
-    Ok(marked)
+    let function = shared(alloc, constant(Name::PROTECT, typ))?;
+    Ok(Term::app(function, argument))
 }
 
 /// Pure's axiom.
 fn protect_axiom(alloc: Global) -> Result<Term, AllocError>
     ensures { IfOk result (λ t. t ≡ content.protect_axiom) }
 {
-    let typ = prop_typ(alloc);
     let left = protected(alloc, variable(alloc))?;
-    let axiom = equation(alloc, &typ, left, variable(alloc))?;
-    Ok(axiom)
+    let typ = prop_typ(alloc);
+    equation(alloc, &typ, left, variable(alloc))
 }
 
 /// The declarations with a constant of the type more.
-fn add_const(
+fn with_const(
     alloc: Global,
     ds: &Declarations,
     name: Name,
@@ -114,13 +114,34 @@ fn add_const(
     Ok(more)
 }
 
+/// With a constant of the type more. The declarations before are let go of here alone.
+fn add_const(
+    alloc: Global,
+    ds: Declarations,
+    name: Name,
+    typ: Typ,
+) -> Result<Declarations, AllocError>
+    requires { (T : types.Typ) → ¬ IsIn (ConstDecl name T) ds }
+    ensures { IfOk result (λ more. more ≡ ds ++ ConstDecl name typ ∷ []) }
+{
+    with_const(alloc, &ds, name, typ)
+}
+
+/// With a type constructor more.
+fn add_typ(ds: Declarations, name: Name, params: u32) -> Result<Declarations, AllocError>
+    requires { (n : ℕ) → ¬ IsIn (ConDecl name n) ds }
+    ensures { IfOk result (λ more. more ≡ ds ++ ConDecl name params ∷ []) }
+{
+    ds.with_typ(name, params)
+}
+
 /// Pure's type constructors.
 fn with_typs(alloc: Global) -> Result<Declarations, AllocError>
     ensures { IfOk result (λ ds. ds ≡ pure_typs) }
 {
     let none = Declarations::empty(alloc)?;
-    let one = none.with_typ(Name::FUN, 2)?;
-    let both = one.with_typ(Name::PROP, 0)?;
+    let one = add_typ(none, Name::FUN, 2)?;
+    let both = add_typ(one, Name::PROP, 0)?;
     Ok(both)
 }
 
@@ -130,7 +151,7 @@ fn with_all(alloc: Global) -> Result<Declarations, AllocError>
 {
     let typ = all_typ(alloc)?;
     let before = with_typs(alloc)?;
-    let more = add_const(alloc, &before, Name::ALL, typ)?;
+    let more = add_const(alloc, before, Name::ALL, typ)?;
     Ok(more)
 }
 
@@ -140,7 +161,7 @@ fn with_imp(alloc: Global) -> Result<Declarations, AllocError>
 {
     let typ = imp_typ(alloc)?;
     let before = with_all(alloc)?;
-    let more = add_const(alloc, &before, Name::IMP, typ)?;
+    let more = add_const(alloc, before, Name::IMP, typ)?;
     Ok(more)
 }
 
@@ -150,7 +171,7 @@ fn with_eq(alloc: Global) -> Result<Declarations, AllocError>
 {
     let typ = eq_typ(alloc)?;
     let before = with_imp(alloc)?;
-    let more = add_const(alloc, &before, Name::EQ, typ)?;
+    let more = add_const(alloc, before, Name::EQ, typ)?;
     Ok(more)
 }
 
@@ -160,7 +181,7 @@ fn with_protect(alloc: Global) -> Result<Declarations, AllocError>
 {
     let typ = protect_typ(alloc)?;
     let before = with_eq(alloc)?;
-    let more = add_const(alloc, &before, Name::PROTECT, typ)?;
+    let more = add_const(alloc, before, Name::PROTECT, typ)?;
     Ok(more)
 }
 

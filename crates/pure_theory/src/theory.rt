@@ -136,10 +136,10 @@ impl Theory {
     pub fn pure(alloc: Global) -> Result<Theory, AllocError>
         ensures { IfOk result (λ t. t ≡ pure_content) }
     {
-        let declared = pure_declarations(alloc)?;
         let order = shared(alloc, Order::empty(alloc))?;
         let none = Vec::new(alloc);
         let ancestors = shared(alloc, none)?;
+        let declared = pure_declarations(alloc)?;
         Ok(Theory {
             alloc,
             declared,

@@ -3,7 +3,7 @@ use pure_term::Name;
 use std::marker::Model;
 
 /// A theory: its name, and its index in load order.
-#[derive(Clone, Copy, Debug)]
+#[derive(Clone, Copy)]
 pub struct Known {
     pub name: Name,
     pub index: u32,
