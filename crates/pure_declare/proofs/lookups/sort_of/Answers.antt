@@ -4,7 +4,7 @@ use Rattle.pure_elab.proofs.SortLaws.{no_classes, one_class_more}
 use Rattle.pure_declare.proofs.lookups.sort_of.Goals as goal
 
 pub loop-class-init : goal.loop-class-init
-loop-class-init c = let bare : c.empty-sort.result ≡ [] = grind arith in no_classes c.make-sort.result bare
+loop-class-init c = let bare : c.empty-sort.result ≡ [] = grind arith in no_classes c.empty-sort.result bare
 
 pub loop-class-preserved : goal.loop-class-preserved
 loop-class-preserved c =

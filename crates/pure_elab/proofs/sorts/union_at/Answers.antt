@@ -4,7 +4,7 @@ use Rattle.pure_elab.proofs.SortLaws.{classes_turn, no_classes}
 use Rattle.pure_elab.proofs.sorts.union_at.Goals as goal
 
 pub loop-entry-init : goal.loop-entry-init
-loop-entry-init c = let bare : c.empty-sort.result ≡ [] = grind arith in no_classes c.make-sort.result bare
+loop-entry-init c = let bare : c.empty-sort.result ≡ [] = grind arith in no_classes c.empty-sort.result bare
 
 pub loop-entry-preserved : goal.loop-entry-preserved
 loop-entry-preserved c =
