@@ -3,7 +3,7 @@ use pure_script::TheoryText;
 use pure_text::Text;
 
 /// Why a file is refused in loading.
-#[derive(Debug, Drop)]
+#[derive(Drop)]
 pub enum Reason {
     /// It isn't among the first files.
     TooManyFiles,
@@ -22,14 +22,14 @@ pub enum Reason {
 }
 
 /// A file is refused, or it stands: its bytes, and the tree that they spell.
-#[derive(Debug, Drop)]
+#[derive(Drop)]
 pub enum Outcome {
     Refused { reason: Reason },
     Stands { source: Text, text: TheoryText },
 }
 
 /// A theory, and what loading says of its file.
-#[derive(Debug, Drop)]
+#[derive(Drop)]
 pub struct TheoryFile {
     pub theory: Text,
     pub outcome: Outcome,

@@ -10,7 +10,7 @@ use pure_theorem::{Thm, as_implication};
 
 /// A goal: a theorem `A1 ==> .. ==> An ==> # C` without hypotheses, with the subgoals A1 to An in long form and the statement C
 /// as it was given (Isabelle/Isar Implementation manual, section 4.1).
-#[derive(Debug, Drop)]
+#[derive(Drop)]
 pub struct Goal {
     pub thm: Thm,
 }

@@ -7,14 +7,14 @@ use pure_text::{Text, TextList};
 use std::alloc::{AllocError, Global};
 
 /// A range of the source.
-#[derive(Clone, Copy, Debug, PartialEq, Eq)]
+#[derive(Clone, Copy)]
 pub struct Span {
     pub from: u32,
     pub to: u32,
 }
 
 /// A step of a proof. Names of facts are as they are written.
-#[derive(Debug, Drop)]
+#[derive(Drop)]
 pub enum Step {
     Rule { fact: Text },
     Erule { fact: Text },
@@ -55,7 +55,7 @@ impl Step {
 }
 
 /// A command; quoted texts without their marks.
-#[derive(Debug, Drop)]
+#[derive(Drop)]
 pub enum Command {
     Class {
         name: Text,
@@ -91,7 +91,7 @@ pub enum Command {
 }
 
 /// A theory as it is written.
-#[derive(Debug, Drop)]
+#[derive(Drop)]
 pub struct TheoryText {
     pub name: Text,
     pub imports: Vec<Text>,
@@ -99,7 +99,7 @@ pub struct TheoryText {
 }
 
 /// Why tokens are no theory. `Memory` is want of memory.
-#[derive(Clone, Copy, Debug, PartialEq, Eq)]
+#[derive(Clone, Copy)]
 pub enum ScriptFault {
     Syntax { at: u32, expected: TokenKind },
     Memory,

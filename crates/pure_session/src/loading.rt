@@ -22,7 +22,7 @@ use std::rt::Files;
 
 /// The theories of a library: those that are loaded, in load order, the files that are refused, in byte order of their
 /// names, and the number of all files.
-#[derive(Debug, Drop)]
+#[derive(Drop)]
 pub struct Theories {
     pub loaded: Vec<Loaded>,
     pub refused: Vec<RefusedFile>,

@@ -21,7 +21,7 @@ use pure_text::Text;
 use std::alloc::{AllocError, Global};
 
 /// A theory of the session: its name, the indexes of its imports other than Pure, in their order, its bytes and their tree.
-#[derive(Debug, Drop)]
+#[derive(Drop)]
 pub struct Loaded {
     pub name: Text,
     pub parents: Vec<u32>,

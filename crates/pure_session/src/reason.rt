@@ -12,7 +12,7 @@ use pure_text::Text;
 use std::alloc::{AllocError, Global};
 
 /// A file that is refused in loading, and the text of the reason.
-#[derive(Debug, Drop)]
+#[derive(Drop)]
 pub struct RefusedFile {
     pub name: Text,
     pub reason: Text,

@@ -18,7 +18,7 @@ use std::rt::Files;
 
 /// The session of a library: its names, the theories that are loaded, in load order, the files that are refused, in byte
 /// order of their names, and the number of all files.
-#[derive(Debug, Drop)]
+#[derive(Drop)]
 pub struct Session {
     pub names: Names,
     pub theories: Vec<Loaded>,

@@ -8,13 +8,13 @@ ghost use Rattle.pure_logic.specs.Connectives.{all, imp, eq};
 ghost use Rattle.pure_logic.specs.BuiltFacts.{other_typ, reflexivity, substitutivity, function_extensionality, propositional_extensionality, modus_ponens, specialisation};
 ghost use Rattle.pure_theorem.specs.Built.{built_proposition};
 
-use crate::connective::{all_of, application, equation, implication, prop_typ};
+use crate::connective::{all_of, equation, equation_of, implication_of, prop_typ};
 use pure_term::{Name, Sort, Term, TermNode, Typ, TypNode};
 use std::alloc::{AllocError, Global};
 use std::sync::Arc;
 
 /// A built fact: reflexivity, substitution, extensionality of functions and of propositions, modus ponens, and specialisation.
-#[derive(Clone, Copy, Debug, PartialEq, Eq)]
+#[derive(Clone, Copy, PartialEq, Eq)]
 pub enum Built {
     Refl,
     Subst,
@@ -60,12 +60,19 @@ fn proposition(alloc: Global, name: u32) -> Term
     variable(name, prop_typ(alloc))
 }
 
+/// The term, to be shared: so what a `?` lets go of below are pointers.
+fn shared(alloc: Global, term: Term) -> Result<Arc<Term>, AllocError>
+    ensures { IfOk result (λ t. t.value ≡ term) }
+{
+    Ok(Arc::new(alloc, term)?)
+}
+
 /// The schematic variable of functions to the second of the types.
-fn function(alloc: Global, name: u32, range: Typ) -> Result<Term, AllocError>
-    ensures { IfOk result (λ t. t ≡ tree.Var name 0 (arrow any_typ range)) }
+fn function(alloc: Global, name: u32, range: Typ) -> Result<Arc<Term>, AllocError>
+    ensures { IfOk result (λ t. t.value ≡ tree.Var name 0 (arrow any_typ range)) }
 {
     let typ = Typ::arrow(alloc, typ_variable(0), range)?;
-    Ok(variable(name, typ))
+    shared(alloc, variable(name, typ))
 }
 
 /// The innermost bound variable.
@@ -78,57 +85,61 @@ fn bound() -> Term
 }
 
 /// `!!x. B`, over the type variable.
-fn for_all(alloc: Global, body: Term) -> Result<Term, AllocError>
-    ensures { IfOk result (λ t. t ≡ all any_typ body) }
+fn for_all(alloc: Global, body: Arc<Term>) -> Result<Term, AllocError>
+    ensures { IfOk result (λ t. t ≡ all any_typ body.value) }
 {
-    let typ = typ_variable(0);
-    let body = Arc::new(alloc, body)?;
-    let function = Term::abs(typ, body);
+    let function = Term::abs(typ_variable(0), body);
     all_of(alloc, &typ_variable(0), function)
 }
 
 /// The schematic predicate applied to the term.
-fn predicate(alloc: Global, name: u32, argument: Term) -> Result<Term, AllocError>
-    ensures { IfOk result (λ t. t ≡ tree.App (tree.Var name 0 (arrow any_typ prop)) argument) }
+fn predicate(alloc: Global, name: u32, argument: Arc<Term>) -> Result<Arc<Term>, AllocError>
+    ensures { IfOk result (λ t. t.value ≡ tree.App (tree.Var name 0 (arrow any_typ prop)) argument.value) }
 {
     let function = function(alloc, name, prop_typ(alloc))?;
-    application(alloc, function, argument)
+    shared(alloc, Term::app(function, argument))
+}
+
+/// `t == u`, for terms of the first type variable.
+fn equal_terms(alloc: Global, left: Term, right: Term) -> Result<Term, AllocError>
+    ensures { IfOk result (λ t. t ≡ eq any_typ left right) }
+{
+    equation(alloc, &typ_variable(0), left, right)
 }
 
 /// `?x == ?x`
 fn reflexivity(alloc: Global) -> Result<Term, AllocError>
     ensures { IfOk result (λ t. t ≡ reflexivity) }
 {
-    let typ = typ_variable(0);
     let left = variable(0, typ_variable(0));
     let right = variable(0, typ_variable(0));
-    equation(alloc, &typ, left, right)
+    equal_terms(alloc, left, right)
 }
 
 /// The schematic predicate of the variable of this name.
-fn predicate_of(alloc: Global, name: u32, argument: u32) -> Result<Term, AllocError>
-    ensures { IfOk result (λ t. t ≡ tree.App (tree.Var name 0 (arrow any_typ prop)) (tree.Var argument 0 any_typ)) }
+fn predicate_of(alloc: Global, name: u32, argument: u32) -> Result<Arc<Term>, AllocError>
+    ensures { IfOk result (λ t. t.value ≡ tree.App (tree.Var name 0 (arrow any_typ prop)) (tree.Var argument 0 any_typ)) }
 {
-    predicate(alloc, name, variable(argument, typ_variable(0)))
+    let variable = shared(alloc, variable(argument, typ_variable(0)))?;
+    predicate(alloc, name, variable)
 }
 
 /// `?P ?x ==> ?P ?y`
-fn substituted(alloc: Global) -> Result<Term, AllocError>
-    ensures { IfOk result (λ t. t ≡ imp (tree.App (tree.Var 2 0 (arrow any_typ prop)) (tree.Var 0 0 any_typ)) (tree.App (tree.Var 2 0 (arrow any_typ prop)) (tree.Var 1 0 any_typ))) }
+fn substituted(alloc: Global) -> Result<Arc<Term>, AllocError>
+    ensures { IfOk result (λ t. t.value ≡ imp (tree.App (tree.Var 2 0 (arrow any_typ prop)) (tree.Var 0 0 any_typ)) (tree.App (tree.Var 2 0 (arrow any_typ prop)) (tree.Var 1 0 any_typ))) }
 {
     let premise = predicate_of(alloc, 2, 0)?;
     let conclusion = predicate_of(alloc, 2, 1)?;
-    implication(alloc, premise, conclusion)
+    shared(alloc, implication_of(alloc, premise, conclusion)?)
 }
 
 /// `?x == ?y`
-fn equal_variables(alloc: Global) -> Result<Term, AllocError>
-    ensures { IfOk result (λ t. t ≡ eq any_typ (tree.Var 0 0 any_typ) (tree.Var 1 0 any_typ)) }
+fn equal_variables(alloc: Global) -> Result<Arc<Term>, AllocError>
+    ensures { IfOk result (λ t. t.value ≡ eq any_typ (tree.Var 0 0 any_typ) (tree.Var 1 0 any_typ)) }
 {
-    let typ = typ_variable(0);
     let left = variable(0, typ_variable(0));
     let right = variable(1, typ_variable(0));
-    equation(alloc, &typ, left, right)
+    shared(alloc, equal_terms(alloc, left, right)?)
 }
 
 /// `?x == ?y ==> ?P ?x ==> ?P ?y`
@@ -137,48 +148,54 @@ fn substitutivity(alloc: Global) -> Result<Term, AllocError>
 {
     let sides = equal_variables(alloc)?;
     let rest = substituted(alloc)?;
-    implication(alloc, sides, rest)
+    implication_of(alloc, sides, rest)
+}
+
+/// The schematic function applied to the bound variable.
+fn function_of_bound(alloc: Global, name: u32) -> Result<Arc<Term>, AllocError>
+    ensures { IfOk result (λ t. t.value ≡ tree.App (tree.Var name 0 (arrow any_typ other_typ)) (tree.Bound 0)) }
+{
+    let function = function(alloc, name, typ_variable(1))?;
+    let bound = shared(alloc, bound())?;
+    shared(alloc, Term::app(function, bound))
 }
 
 /// `?f x == ?g x`, for the bound variable x
 fn equal_at_bound(alloc: Global) -> Result<Term, AllocError>
     ensures { IfOk result (λ t. t ≡ eq other_typ (tree.App (tree.Var 0 0 (arrow any_typ other_typ)) (tree.Bound 0)) (tree.App (tree.Var 1 0 (arrow any_typ other_typ)) (tree.Bound 0))) }
 {
-    let first = function(alloc, 0, typ_variable(1))?;
-    let second = function(alloc, 1, typ_variable(1))?;
-    let left = application(alloc, first, bound())?;
-    let right = application(alloc, second, bound())?;
-    equation(alloc, &typ_variable(1), left, right)
+    let left = function_of_bound(alloc, 0)?;
+    let right = function_of_bound(alloc, 1)?;
+    equation_of(alloc, &typ_variable(1), left, right)
 }
 
 /// `?f == ?g`, for functions
 fn equal_functions(alloc: Global) -> Result<Term, AllocError>
     ensures { IfOk result (λ t. t ≡ eq (arrow any_typ other_typ) (tree.Var 0 0 (arrow any_typ other_typ)) (tree.Var 1 0 (arrow any_typ other_typ))) }
 {
-    let typ = Typ::arrow(alloc, typ_variable(0), typ_variable(1))?;
     let left = function(alloc, 0, typ_variable(1))?;
     let right = function(alloc, 1, typ_variable(1))?;
-    equation(alloc, &typ, left, right)
+    let typ = Typ::arrow(alloc, typ_variable(0), typ_variable(1))?;
+    equation_of(alloc, &typ, left, right)
 }
 
 /// `(!!x. ?f x == ?g x) ==> ?f == ?g`
 fn function_extensionality(alloc: Global) -> Result<Term, AllocError>
     ensures { IfOk result (λ t. t ≡ function_extensionality) }
 {
-    let premise = for_all(alloc, equal_at_bound(alloc)?)?;
-    let conclusion = equal_functions(alloc)?;
-    implication(alloc, premise, conclusion)
+    let body = shared(alloc, equal_at_bound(alloc)?)?;
+    let premise = shared(alloc, for_all(alloc, body)?)?;
+    let conclusion = shared(alloc, equal_functions(alloc)?)?;
+    implication_of(alloc, premise, conclusion)
 }
 
 /// `?A ==> ?B`, for the names of the two
-fn implied(alloc: Global, premise: u32, conclusion: u32) -> Result<Term, AllocError>
-    ensures { IfOk result (λ t. t ≡ imp (tree.Var premise 0 prop) (tree.Var conclusion 0 prop)) }
+fn implied(alloc: Global, premise: u32, conclusion: u32) -> Result<Arc<Term>, AllocError>
+    ensures { IfOk result (λ t. t.value ≡ imp (tree.Var premise 0 prop) (tree.Var conclusion 0 prop)) }
 {
-    implication(
-        alloc,
-        proposition(alloc, premise),
-        proposition(alloc, conclusion),
-    )
+    let premise = shared(alloc, proposition(alloc, premise))?;
+    let conclusion = shared(alloc, proposition(alloc, conclusion))?;
+    shared(alloc, implication_of(alloc, premise, conclusion)?)
 }
 
 /// `?A == ?B`
@@ -190,12 +207,12 @@ fn equal_propositions(alloc: Global) -> Result<Term, AllocError>
 }
 
 /// `(?B ==> ?A) ==> ?A == ?B`
-fn equal_where_implied(alloc: Global) -> Result<Term, AllocError>
-    ensures { IfOk result (λ t. t ≡ imp (imp (tree.Var 1 0 prop) (tree.Var 0 0 prop)) (eq prop (tree.Var 0 0 prop) (tree.Var 1 0 prop))) }
+fn equal_where_implied(alloc: Global) -> Result<Arc<Term>, AllocError>
+    ensures { IfOk result (λ t. t.value ≡ imp (imp (tree.Var 1 0 prop) (tree.Var 0 0 prop)) (eq prop (tree.Var 0 0 prop) (tree.Var 1 0 prop))) }
 {
     let back = implied(alloc, 1, 0)?;
-    let sides = equal_propositions(alloc)?;
-    implication(alloc, back, sides)
+    let sides = shared(alloc, equal_propositions(alloc)?)?;
+    shared(alloc, implication_of(alloc, back, sides)?)
 }
 
 /// `(?A ==> ?B) ==> (?B ==> ?A) ==> ?A == ?B`
@@ -204,7 +221,7 @@ fn propositional_extensionality(alloc: Global) -> Result<Term, AllocError>
 {
     let forth = implied(alloc, 0, 1)?;
     let rest = equal_where_implied(alloc)?;
-    implication(alloc, forth, rest)
+    implication_of(alloc, forth, rest)
 }
 
 /// `(?A ==> ?B) ==> ?A ==> ?B`
@@ -213,16 +230,18 @@ fn modus_ponens(alloc: Global) -> Result<Term, AllocError>
 {
     let premise = implied(alloc, 0, 1)?;
     let conclusion = implied(alloc, 0, 1)?;
-    implication(alloc, premise, conclusion)
+    implication_of(alloc, premise, conclusion)
 }
 
 /// `(!!x. ?P x) ==> ?P ?x`
 fn specialisation(alloc: Global) -> Result<Term, AllocError>
     ensures { IfOk result (λ t. t ≡ specialisation) }
 {
-    let premise = for_all(alloc, predicate(alloc, 0, bound())?)?;
+    let bound = shared(alloc, bound())?;
+    let body = predicate(alloc, 0, bound)?;
+    let premise = shared(alloc, for_all(alloc, body)?)?;
     let conclusion = predicate_of(alloc, 0, 1)?;
-    implication(alloc, premise, conclusion)
+    implication_of(alloc, premise, conclusion)
 }
 
 /// The built fact as a term.

@@ -1,6 +1,6 @@
 //! The connectives of Pure in terms: taken apart, and made.
 ghost use Rattle.std.specs.Prelude.{◌≡◌, ◌↔◌, IsTrue, IfOk, MatchOption};
-ghost use Rattle.pure_definitions.specs.Types.Typ.{prop};
+ghost use Rattle.pure_definitions.specs.Types.Typ.{prop, arrow};
 ghost use Rattle.pure_definitions.specs.Terms.Term as tree;
 ghost use Rattle.pure_definitions.specs.Names.{imp_name, eq_name, all_name};
 ghost use Rattle.pure_logic.specs.Connectives.{imp_typ, eq_typ, all_typ, imp, eq, all_of};
@@ -172,13 +172,42 @@ fn constant(name: Name, typ: Typ) -> Term
     }
 }
 
+/// Two terms that are shared.
+#[derive(Drop)]
+struct Parts {
+    first: Arc<Term>,
+    second: Arc<Term>,
+}
+
+/// The two terms, to be shared. Apart, since each `?` at which a term is alive pays for all its variants, and one at which a pointer is for none.
+fn shared_parts(alloc: Global, first: Term, second: Term) -> Result<Parts, AllocError>
+    ensures first { IfOk result (λ parts. parts.first.value ≡ first) }
+    ensures second { IfOk result (λ parts. parts.second.value ≡ second) }
+{
+    let first = Arc::new(alloc, first)?;
+    let second = Arc::new(alloc, second)?;
+    Ok(Parts { first, second })
+}
+
 /// The application of a function to an argument.
 pub fn application(alloc: Global, function: Term, argument: Term) -> Result<Term, AllocError>
     ensures { IfOk result (λ t. t ≡ tree.App function argument) }
 {
-    let fun = Arc::new(alloc, function)?;
-    let arg = Arc::new(alloc, argument)?;
-    Ok(Term::app(fun, arg))
+    let Parts { first, second } = shared_parts(alloc, function, argument)?;
+    Ok(Term::app(first, second))
+}
+
+/// The application of a function to two arguments.
+fn applied_to_both(
+    alloc: Global,
+    function: Arc<Term>,
+    first: Arc<Term>,
+    second: Arc<Term>,
+) -> Result<Term, AllocError>
+    ensures { IfOk result (λ t. t ≡ tree.App (tree.App function.value first.value) second.value) }
+{
+    let function = Arc::new(alloc, Term::app(function, first))?;
+    Ok(Term::app(function, second))
 }
 
 /// The constant of implication.
@@ -208,44 +237,73 @@ pub fn implication_by(
     requires { connective.now.value ≡ tree.Const imp_name imp_typ }
     ensures { IfOk result (λ t. t ≡ imp premise conclusion) }
 {
-    let premise = Arc::new(alloc, premise)?;
-    let function = Arc::new(alloc, Term::app(Arc::try_clone(connective)?, premise))?;
-    let conclusion = Arc::new(alloc, conclusion)?;
-    Ok(Term::app(function, conclusion))
+    let Parts { first, second } = shared_parts(alloc, premise, conclusion)?;
+    let connective = Arc::try_clone(connective)?;
+    applied_to_both(alloc, connective, first, second)
+}
+
+/// `A ==> B`, of shared parts.
+pub(crate) fn implication_of(
+    alloc: Global,
+    premise: Arc<Term>,
+    conclusion: Arc<Term>,
+) -> Result<Term, AllocError>
+    ensures { IfOk result (λ t. t ≡ imp premise.value conclusion.value) }
+{
+    let connective = implication_constant(alloc)?;
+    applied_to_both(alloc, connective, premise, conclusion)
 }
 
 /// `A ==> B`
 pub fn implication(alloc: Global, premise: Term, conclusion: Term) -> Result<Term, AllocError>
     ensures { IfOk result (λ t. t ≡ imp premise conclusion) }
 {
-    let connective = imp_constant(alloc)?;
-    let function = application(alloc, connective, premise)?;
-    application(alloc, function, conclusion)
+    let Parts { first, second } = shared_parts(alloc, premise, conclusion)?;
+    implication_of(alloc, first, second)
+}
+
+/// The type of functions from the first to the second.
+fn arrow_from(alloc: Global, domain: &Typ, range: Typ) -> Result<Typ, AllocError>
+    ensures { IfOk result (λ t. t ≡ arrow domain.now range) }
+{
+    Typ::arrow(alloc, domain.copy(alloc)?, range)
 }
 
 /// The constant of equality, at the type of both sides.
 fn eq_constant(alloc: Global, typ: &Typ) -> Result<Term, AllocError>
     ensures { IfOk result (λ t. t ≡ tree.Const eq_name (eq_typ typ.now)) }
 {
-    let range = Typ::arrow(alloc, typ.copy(alloc)?, prop_typ(alloc))?;
-    let typ = Typ::arrow(alloc, typ.copy(alloc)?, range)?;
+    let range = arrow_from(alloc, typ, prop_typ(alloc))?;
+    let typ = arrow_from(alloc, typ, range)?;
     Ok(constant(Name::EQ, typ))
+}
+
+/// `t == u`, at the type of both sides, of shared parts.
+pub(crate) fn equation_of(
+    alloc: Global,
+    typ: &Typ,
+    left: Arc<Term>,
+    right: Arc<Term>,
+) -> Result<Term, AllocError>
+    ensures { IfOk result (λ t. t ≡ eq typ.now left.value right.value) }
+{
+    let connective = Arc::new(alloc, eq_constant(alloc, typ)?)?;
+    applied_to_both(alloc, connective, left, right)
 }
 
 /// `t == u`, at the type of both sides
 pub fn equation(alloc: Global, typ: &Typ, left: Term, right: Term) -> Result<Term, AllocError>
     ensures { IfOk result (λ t. t ≡ eq typ.now left right) }
 {
-    let connective = eq_constant(alloc, typ)?;
-    let function = application(alloc, connective, left)?;
-    application(alloc, function, right)
+    let Parts { first, second } = shared_parts(alloc, left, right)?;
+    equation_of(alloc, typ, first, second)
 }
 
 /// The constant of quantification over variables of the type.
 fn all_constant(alloc: Global, typ: &Typ) -> Result<Term, AllocError>
     ensures { IfOk result (λ t. t ≡ tree.Const all_name (all_typ typ.now)) }
 {
-    let domain = Typ::arrow(alloc, typ.copy(alloc)?, prop_typ(alloc))?;
+    let domain = arrow_from(alloc, typ, prop_typ(alloc))?;
     let typ = Typ::arrow(alloc, domain, prop_typ(alloc))?;
     Ok(constant(Name::ALL, typ))
 }
@@ -254,6 +312,7 @@ fn all_constant(alloc: Global, typ: &Typ) -> Result<Term, AllocError>
 pub fn all_of(alloc: Global, typ: &Typ, function: Term) -> Result<Term, AllocError>
     ensures { IfOk result (λ t. t ≡ all_of typ.now function) }
 {
-    let connective = all_constant(alloc, typ)?;
-    application(alloc, connective, function)
+    let function = Arc::new(alloc, function)?;
+    let connective = Arc::new(alloc, all_constant(alloc, typ)?)?;
+    Ok(Term::app(connective, function))
 }

@@ -3,7 +3,7 @@ use pure_term::Grow;
 use std::alloc::AllocError;
 
 /// Why an inference isn't drawn: the first of its conditions that fails; or a term of its theorem wouldn't be within the limits; or memory ran out.
-#[derive(Clone, Copy, Debug, PartialEq, Eq)]
+#[derive(Clone, Copy, PartialEq, Eq)]
 pub enum RuleFault {
     UnknownFact,
     NotProp,

@@ -7,7 +7,7 @@ use std::alloc::{AllocError, Global};
 use std::marker::Model;
 
 /// Two terms that unification left to be made equal.
-#[derive(Debug, Drop)]
+#[derive(Drop)]
 pub struct Pair {
     pub left: Term,
     pub right: Term,
@@ -36,7 +36,7 @@ impl Pair {
 }
 
 /// A theorem: a proposition, with the hypotheses and the equations of pairs under which it holds, and the promises on which it rests. Hypotheses and promises are sets, which ascend strictly.
-#[derive(Debug, Drop)]
+#[derive(Drop)]
 pub struct Thm {
     pub hyps: Vec<Term>,
     pub pairs: Vec<Pair>,
@@ -65,8 +65,8 @@ impl Thm {
     {
         let hyps = copied_terms(alloc, &self.hyps)?;
         let pairs = copied_pairs(alloc, &self.pairs)?;
-        let prop = self.prop.copy(alloc)?;
         let rests = Vec::from_slice(alloc, &self.rests)?;
+        let prop = self.prop.copy(alloc)?;
         Ok(Thm {
             hyps,
             pairs,
