@@ -14,7 +14,7 @@ use pure_theory_tables::{Declarations, shared};
 use std::alloc::{AllocError, Global};
 
 /// The schematic type variable of the empty sort that stands in Pure's constants.
-fn any_typ() -> Typ
+fn any_typ(_alloc: Global) -> Typ
     ensures { result ≡ content.any_typ }
 {
     let node = TypNode::TVar {
@@ -29,7 +29,7 @@ fn any_typ() -> Typ
 fn all_typ(alloc: Global) -> Result<Typ, AllocError>
     ensures { IfOk result (λ t. t ≡ connectives.all_typ content.any_typ) }
 {
-    let domain = Typ::arrow(alloc, any_typ(), prop_typ(alloc))?;
+    let domain = Typ::arrow(alloc, any_typ(alloc), prop_typ(alloc))?;
     let typ = Typ::arrow(alloc, domain, prop_typ(alloc))?;
     Ok(typ)
 }
@@ -47,8 +47,8 @@ fn imp_typ(alloc: Global) -> Result<Typ, AllocError>
 fn eq_typ(alloc: Global) -> Result<Typ, AllocError>
     ensures { IfOk result (λ t. t ≡ connectives.eq_typ content.any_typ) }
 {
-    let range = Typ::arrow(alloc, any_typ(), prop_typ(alloc))?;
-    let typ = Typ::arrow(alloc, any_typ(), range)?;
+    let range = Typ::arrow(alloc, any_typ(alloc), prop_typ(alloc))?;
+    let typ = Typ::arrow(alloc, any_typ(alloc), range)?;
     Ok(typ)
 }
 

@@ -12,7 +12,7 @@ pub ask-returns-in-TFree : goal.ask-returns-in-TFree
 ask-returns-in-TFree t c = rw (← c.t.view_is, c.in-TFree.is) (ask_fixed c.args.order.now c.in-TFree.name c.in-TFree.own c.args.sort.now c.args.asked.now.items c.sort_below.result c.sort_below.ensures)
 
 pub ask-returns-in_ok-push-in-TVar : goal.ask-returns-in_ok-push-in-TVar
-ask-returns-in_ok-push-in-TVar t c = rw (← c.t.view_is, c.in-TVar.is) (ask_schematic c.args.order.now c.in-TVar.name c.in-TVar.index c.in-TVar.own c.args.sort.now c.args.asked.now.items c.push.new.self.items _
+ask-returns-in_ok-push-in-TVar t c = rw (← c.t.view_is, c.in-TVar.is) (ask_schematic c.args.order.now c.in-TVar.name c.in-TVar.index c.in-TVar.own c.args.sort.now c.args.asked.now.items _ _
     refl refl c.in_ok-copy-in-TVar.ensures c.in_ok-copy-in-TVar-2.ensures c.in_ok-push-in-TVar.ensures.items)
 
 pub ask-returns-in-None : goal.ask-returns-in-None
