@@ -9,10 +9,10 @@ use Rattle.pure_definitions.specs.Terms.Subst.{TermBind, term_variable, term_ima
 use Rattle.pure_definitions.specs.Terms.Measures.{term_index_above}
 use Rattle.pure_definitions.specs.Models.Equality.{term_eq-same}
 use Rattle.pure_definitions.proofs.InstanceLemmas.{term_image-fixed}
-use Rattle.pure_definitions.specs.Reduction.Beta.{IsAbs, IsBetaNormal, max_steps}
+use Rattle.pure_definitions.specs.Reduction.Beta.{IsAbs, max_steps}
 use Rattle.pure_eta.specs.LongTerm.{range_typ, front_typ, expanded, expanded_at, long_term}
 use Rattle.pure_norm.specs.declared.contract.Walk.{Walk}
-use Rattle.pure_norm.specs.Walk.{Abstraction, Normal, CanWalk, Walked}
+use Rattle.pure_norm.specs.Walk.{Abstraction, Normal, CanWalk}
 use Rattle.pure_norm.specs.Instances.{IsOwn, HasFixedFront, IsFound, IsFoundFront, IsInstanceLong}
 use Rattle.pure_norm.proofs.WalkLemmas.{walked-nowhere}
 use Rattle.pure_norm.proofs.DescendLemmas.{can_walk-body, walked-body}

@@ -185,7 +185,8 @@ fn long_of(
     }
     match &whole.node {
         TermNode::Abs { typ, body, .. } => {
-            let body = long_of(alloc, body, map, least, &Scope::Under(typ, &*scope), deep + 1, walk)?;
+            let under = Scope::Under(typ, &*scope);
+            let body = long_of(alloc, body, map, least, &under, deep + 1, walk)?;
             let done = abstracted(alloc, typ, body)?;
             Ok(done)
         }

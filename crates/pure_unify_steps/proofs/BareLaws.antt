@@ -1,16 +1,23 @@
 -- Bare variables are flexible, and a side is one of them at most.
-use Rattle.std.proofs.Common.{◌≡◌, ℕ, ◌+◌, Bool, true, false, refl, ap, sym, subst, ◌∙◌, true≢false}
-use Rattle.pure_definitions.specs.Types.Typ.{Typ}
+use Rattle.std.proofs.Common.{◌≡◌, ℕ, zero, ◌+◌, Bool, true, false, refl, ap, sym, subst, ◌∙◌, true≢false, arith}
+use Rattle.std.proofs.lemmas.Bool.Decides.{nat_tests}
+use Rattle.std.specs.Prelude.{◌-◌, nat_eq, if◌then◌else◌}
+use Rattle.pure_definitions.specs.Types.Typ.{Typ, Con, none, also}
 use Rattle.pure_definitions.specs.Terms.Term.{Term, Const, Free, Var, Bound, Abs, App}
 use Rattle.pure_definitions.specs.Terms.Bounds.{lift_term}
 use Rattle.pure_definitions.specs.Reduction.Beta.{IsAbs, IsBetaNormal}
 use Rattle.pure_definitions.specs.Reduction.Eta.{EtaStep, contract, body, function, argument, EtaReduces, done, next, IsEtaNormalForm}
+use Rattle.pure_definitions.proofs.LiftLaws.{lift_term-bound}
 use Rattle.pure_term_laws.proofs.EtaNormalLaws.{one_eta_normal_form}
+use Rattle.pure_term_laws.proofs.EtaLaws.{one_long_form}
+use Rattle.pure_eta.specs.LongTerm.{expanded}
+use Rattle.pure_eta.proofs.LongLaws.{long_form-is}
+use Rattle.pure_eta.proofs.FormLaws.{long_form_of_reduct}
 use Rattle.pure_eta.proofs.KeptLaws.{steps_keep_beta_normal}
 use Rattle.pure_unify_definitions.specs.Fronts.{term_body, front, head, is_schematic, is_flexible}
 use Rattle.pure_unify_definitions.specs.Treatment.{IsBare}
 use Rattle.pure_unify_nodes.specs.Long.{IsLongSide}
-use Rattle.pure_unify_steps.specs.Direct.{is_plain}
+use Rattle.pure_unify_steps.specs.Direct.{is_plain, has_arguments, has_as_many}
 use Rattle.pure_unify_steps.specs.Treated.{IsBareAnswer}
 use Rattle.std.specs.Prelude.{Option, Some, None}
 
@@ -91,3 +98,41 @@ plain_is_none (Var x i U) e = absurd (true≢false (sym e))
 plain_is_none (Bound p) e = shape_is_none (Bound p) (λ x. x) refl
 plain_is_none (Abs U b) e = absurd (true≢false (sym e))
 plain_is_none (App f a) e = shape_is_none (App f a) (λ x. x) refl
+
+-- The long form of a variable has as many arguments as abstractions.
+arguments-lift : (n by from : ℕ) (t : Term) → has_arguments n (lift_term by from t) ≡ has_arguments n t
+arguments-lift n by from (Const d U) = refl
+arguments-lift n by from (Free x U) = refl
+arguments-lift n by from (Var x i U) = refl
+arguments-lift n by from (Bound p) = rw (lift_term-bound by from p) refl
+arguments-lift n by from (Abs U b) = refl
+arguments-lift n by from (App f a) = ap (λ (b : Bool). if nat_eq n 0 then false else b) (arguments-lift (n - 1) by from f)
+
+as_many-applied : (n : ℕ) (t : Term) → ¬ IsAbs t → has_as_many n t ≡ has_arguments n t
+as_many-applied n (Const d U) h = refl
+as_many-applied n (Free x U) h = refl
+as_many-applied n (Var x i U) h = refl
+as_many-applied n (Bound p) h = refl
+as_many-applied n (Abs U b) h = absurd (h tt)
+as_many-applied n (App f a) h = refl
+
+as_many-expanded : (T : Typ) (u : Term) (n : ℕ) → ¬ IsAbs u → has_arguments n u ≡ true → has_as_many n (expanded T u) ≡ true
+as_many-expanded (Con zero (also A (also B none))) u n h e =
+    let some : nat_eq (n + 1) 0 ≡ false = grind (arith, nat_tests) in
+    let back : (n + 1) - 1 ≡ n = omega arith in
+    as_many-expanded B (App (lift_term 1 0 u) (expanded A (Bound 0))) (n + 1) (λ x. x) (rw (some, back) (arguments-lift n 1 0 u ∙ e))
+as_many-expanded T u n h e = as_many-applied n u h ∙ e
+
+pub many_is_none : (t : Term) → IsLongSide t → has_as_many 0 t ≡ false → IsBareAnswer t None
+many_is_none t long e w b = by w b.variable b.form.reduces
+  where
+    by : (w : Term) → is_schematic w ≡ true → EtaReduces t w → ⊥
+    by (Const d U) s r = true≢false (sym s)
+    by (Free x U) s r = true≢false (sym s)
+    by (Var x i U) s r =
+        let form = long_form_of_reduct t (Var x i U) t long.form r in
+        let same : t ≡ expanded U (Var x i U) = one_long_form (Var x i U) t (expanded U (Var x i U)) form (long_form-is (Var x i U) form.typ form.typed tt) in
+        true≢false (sym (ap (has_as_many 0) same ∙ as_many-expanded U (Var x i U) 0 (λ y. y) refl) ∙ e)
+    by (Bound p) s r = true≢false (sym s)
+    by (Abs U c) s r = true≢false (sym s)
+    by (App f a) s r = true≢false (sym s)

@@ -1,14 +1,10 @@
 -- Sides that stay as they are, by the indexes of their schematic variables.
-use Rattle.std.proofs.Common.{◌≡◌, ℕ, zero, suc, ◌+◌, ◌<◌, ◌≤◌, List, [], ◌∷◌, ◌++◌, length, get_or, take, Bool, true, false, refl, ap, sym, subst, ◌∙◌, arith}
-use Rattle.std.specs.Prelude.{if◌then◌else◌}
+use Rattle.std.proofs.Common.{◌≡◌, ℕ, ◌≤◌, List, [], ◌++◌, refl, ap, sym, subst, ◌∙◌, arith}
 use Rattle.std.proofs.lemmas.List.{append-nil}
-use Rattle.pure_text.specs.Lists.{Each}
 use Rattle.pure_definitions.specs.Types.Typ.{Typ, TFree, TVar, Con, Typs, none, also}
-use Rattle.pure_definitions.specs.Terms.Term.{Term, Const, Free, Var, Bound, Abs, App, term_eq}
-use Rattle.pure_definitions.specs.Terms.Subst.{TypBind, TermBind, term_variable, term_image, inst_term, inst_typ, retyped_variable}
+use Rattle.pure_definitions.specs.Terms.Term.{Term, Const, Free, Var, Bound, Abs, App}
+use Rattle.pure_definitions.specs.Terms.Subst.{TypBind, retyped_variable}
 use Rattle.pure_definitions.specs.Terms.Measures.{typ_index_above, typs_index_above, term_index_above}
-use Rattle.pure_definitions.specs.Models.Equality.{term_eq-same}
-use Rattle.pure_definitions.proofs.InstanceLemmas.{term_image-fixed}
 use Rattle.pure_definitions.proofs.MeasureLemmas.{term_stays}
 use Rattle.pure_tunify.specs.Settings.{composed}
 use Rattle.pure_tunify.proofs.SettingLaws.{composed-fixed}
@@ -16,7 +12,7 @@ use Rattle.pure_unify_definitions.specs.Fronts.{variables}
 use Rattle.pure_unify_definitions.specs.Node as node
 use Rattle.pure_unify_definitions.specs.Node.{Single, with_setting}
 use Rattle.pure_unify_steps.specs.declared.node.Setting.{Setting}
-use Rattle.pure_unify_steps.specs.declared.node.Setting.TheVariants.{OfTyps, OfTerm}
+use Rattle.pure_unify_steps.specs.declared.node.Setting.TheVariants.{OfTyps}
 use Rattle.pure_unify_steps.specs.Held.{IsSetting}
 use Rattle.pure_unify_steps.specs.Old.{HasNoFresh, HaveNoFresh}
 

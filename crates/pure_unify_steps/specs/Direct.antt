@@ -1,5 +1,5 @@
 -- Variables that are set to the other side as it stands, as a walk through it tells.
-use Rattle.std.specs.Prelude.{◌≡◌, [], nat_lt, Bool, true, false, ◌&&◌}
+use Rattle.std.specs.Prelude.{◌≡◌, ℕ, ◌+◌, ◌-◌, [], nat_eq, nat_lt, if◌then◌else◌, Bool, true, false, ◌&&◌}
 use Rattle.pure_definitions.specs.Terms.Term.{Term, Const, Free, Var, Bound, Abs, App}
 use Rattle.pure_definitions.specs.Terms.Bounds.{Occurs}
 use Rattle.pure_unify_definitions.specs.Fronts.{is_schematic}
@@ -33,3 +33,13 @@ pub record IsSetTo (v other : Term) : Type 0 where
   pub typ : HaveOneTyp [] v other
   pub absent : ¬ Occurs v other
   pub contracted : is_contracted other ≡ true
+
+-- whether the function at the term's front is applied to so many arguments
+abbrev pub has_arguments : (count : ℕ) → Term → Bool
+has_arguments n (App f a) = if nat_eq n 0 then false else has_arguments (n - 1) f
+has_arguments n _ = nat_eq n 0
+
+-- whether what stands below the term's abstractions has as many arguments as they and so many others are, as the long form of a variable has
+abbrev pub has_as_many : (binders : ℕ) → Term → Bool
+has_as_many n (Abs T b) = has_as_many (n + 1) b
+has_as_many n t = has_arguments n t

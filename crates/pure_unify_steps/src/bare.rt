@@ -1,8 +1,10 @@
 //! The rule for a side that is a bare variable.
-ghost use Rattle.std.specs.Prelude.{◌≡◌, IfOk, true};
+ghost use Rattle.std.specs.Prelude.{◌≡◌, ◌+◌, ◌<◌, IfOk, true};
+ghost use Rattle.pure_definitions.specs.Terms.Term.{term_depth};
 ghost use Rattle.pure_definitions.specs.Terms.Subst.{term_variable};
 ghost use Rattle.pure_unify_definitions.specs.Fronts as fronts;
 ghost use Rattle.pure_unify_nodes.specs.Long.{IsLongSide};
+ghost use Rattle.pure_unify_steps.specs.Direct as direct;
 ghost use Rattle.pure_unify_steps.specs.Treated.{IsBareAnswer, IsAgainst, IsVariableAnswer};
 
 use crate::direct::is_plain;
@@ -11,6 +13,32 @@ use pure_eta::eta_norm;
 use pure_term::{Term, TermBind, TermNode, occurs};
 use pure_unify_sides::{is_flexible, is_schematic, occurs_firmly};
 use std::alloc::{AllocError, Global};
+
+/// Whether the function at the term's front is applied to so many arguments.
+fn has_arguments(t: &Term, count: u32) -> bool
+    ensures { result ≡ direct.has_arguments count t.now }
+{
+    match &t.node {
+        TermNode::App { fun, .. } => {
+            if count == 0 {
+                return false;
+            }
+            has_arguments(fun, count - 1)
+        }
+        _ => count == 0,
+    }
+}
+
+/// Whether what stands below the term's abstractions has as many arguments as they and so many others are, as the long form of a variable has.
+fn has_as_many(t: &Term, binders: u32) -> bool
+    requires { binders + term_depth t.now < 4294967296 }
+    ensures { result ≡ direct.has_as_many binders t.now }
+{
+    match &t.node {
+        TermNode::Abs { body, .. } => has_as_many(body, binders + 1),
+        _ => has_arguments(t, binders),
+    }
+}
 
 /// The variable that the side is, where it is a bare variable.
 fn bare_variable(alloc: Global, t: &Term) -> Result<Option<Term>, AllocError>
@@ -21,6 +49,9 @@ fn bare_variable(alloc: Global, t: &Term) -> Result<Option<Term>, AllocError>
         return Ok(None);
     }
     if !is_flexible(t) {
+        return Ok(None);
+    }
+    if !has_as_many(t, 0) {
         return Ok(None);
     }
     let form = eta_norm(alloc, t)?;
