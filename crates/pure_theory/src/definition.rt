@@ -16,17 +16,24 @@ use pure_term::{Name, Term, Typ};
 use pure_theorem::equation;
 use pure_theory_tables::shared;
 use std::alloc::{AllocError, Global};
+use std::sync::Arc;
 
 /// The axiom that the constant of this type is the body, with its fixed type variables made schematic.
-fn definition_axiom(alloc: Global, name: Name, typ: &Typ, body: &Term) -> Result<Term, AllocError>
-    ensures { IfOk result (λ t. t ≡ eq typ.now (Const name typ.now) (inst_typ schematic_typ_variable body.now)) }
+fn definition_axiom(
+    alloc: Global,
+    name: Name,
+    typ: &Typ,
+    body: &Term,
+) -> Result<Arc<Term>, AllocError>
+    ensures { IfOk result (λ t. t.value ≡ eq typ.now (Const name typ.now) (inst_typ schematic_typ_variable body.now)) }
 {
     let schematic = schematic_term(alloc, body)?;
     let copy = typ.copy(alloc)?;
     let right = schematic.copy(alloc)?;
     let left = constant(name, copy);
     let axiom = equation(alloc, typ, left, right)?;
-    Ok(axiom)
+    let pointer = shared(alloc, axiom)?;
+    Ok(pointer)
 }
 
 impl Theory {
@@ -74,8 +81,7 @@ impl Theory {
         self.content_is_sound();
         self.check_definition(name, fact, typ, body)?;
         let typ = schematic_typ(self.alloc, typ)?;
-        let axiom = definition_axiom(self.alloc, name, &typ, body)?;
-        let prop = shared(self.alloc, axiom)?;
+        let prop = definition_axiom(self.alloc, name, &typ, body)?;
         let constant = self.declare_const(name, &typ)?;
         let more = constant.declare_axiom(fact, prop)?;
         Ok(more)
