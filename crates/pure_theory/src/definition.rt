@@ -1,10 +1,12 @@
 //! Definitions of constants.
 ghost use Rattle.std.specs.Prelude.{◌≡◌, ◌++◌, IfOk, IfErr, OnOk};
+ghost use Rattle.pure_definitions.specs.Declarations.Decl.{AxiomDecl};
 ghost use Rattle.pure_definitions.specs.Terms.Term.{Const};
 ghost use Rattle.pure_definitions.specs.Terms.Subst.{inst_typ};
 ghost use Rattle.pure_logic.specs.Connectives.{eq};
-ghost use Rattle.pure_logic.specs.Content.{IsCertifiedOf, definition, schematic_typ_variable};
-ghost use Rattle.pure_theory.specs.Stage.{with_declarations};
+ghost use Rattle.pure_logic.specs.Content.{IsCertifiedOf, IsStatement, definition, schematic_typ_variable};
+ghost use Rattle.pure_theory.specs.Stage.{with_decl, with_declarations};
+ghost use Rattle.pure_theory.specs.Refusals.{HasNamesake, IsNameRefusal};
 ghost use Rattle.pure_theory.specs.Definitions.{HasVariable, HasExtraTyp, AreNew, IsDefinitionRefusal};
 
 use crate::fault::DeclFault;
@@ -34,6 +36,16 @@ fn definition_axiom(
     let axiom = equation(alloc, typ, left, right)?;
     let pointer = shared(alloc, axiom)?;
     Ok(pointer)
+}
+
+/// The theory with an axiom more. It is let go of here alone.
+fn with_axiom(theory: Theory, name: Name, prop: Arc<Term>) -> Result<Theory, DeclFault>
+    requires { IsStatement theory prop.value }
+    ensures ok { IfOk result (λ more. more ≡ with_decl theory (AxiomDecl name prop.value)) }
+    ensures new { OnOk result (¬ HasNamesake theory.declarations (AxiomDecl name prop.value)) }
+    ensures fault { IfErr result (IsNameRefusal theory.declarations (AxiomDecl name prop.value)) }
+{
+    theory.declare_axiom(name, prop)
 }
 
 impl Theory {
@@ -83,7 +95,7 @@ impl Theory {
         let typ = schematic_typ(self.alloc, typ)?;
         let prop = definition_axiom(self.alloc, name, &typ, body)?;
         let constant = self.declare_const(name, &typ)?;
-        let more = constant.declare_axiom(fact, prop)?;
+        let more = with_axiom(constant, fact, prop)?;
         Ok(more)
     }
 }

@@ -8,8 +8,8 @@ declare_const-requires-clause-certified c = rw c.in_ok-typ.ensures (defined_typ-
 pub declare_const-requires-clause-schematic : goal.declare_const-requires-clause-schematic
 declare_const-requires-clause-schematic c = rw c.in_ok-typ.ensures (made_schematic c.args.typ.now)
 
-pub declare_axiom-requires : goal.declare_axiom-requires
-declare_axiom-requires c =
+pub with_axiom-requires : goal.with_axiom-requires
+with_axiom-requires c =
     rw (c.in_ok-constant.ensures.ok, c.in_ok-prop.ensures, c.in_ok-typ.ensures)
     (definition_is_statement c.args.self.now c.content_is_sound.ensures c.args.typ.now c.args.body.now c.requires c.args.name c.in_ok-check_definition.ensures.closed.0)
 
