@@ -123,8 +123,8 @@ fn saying(
     ensures { IfOk result (λ d. seen_outcome d ≡ spec.saying place.now (seen_command command.now) change) }
 {
     let (tail, next) = change.into_parts();
-    let row = declared_row(alloc, place.text(), command, tail)?;
     let stage = shared(alloc, next)?;
+    let row = declared_row(alloc, place.text(), command, tail)?;
     Ok(Declared {
         stage,
         note: Note::Row { row },

@@ -14,6 +14,7 @@ use crate::grown::with_promise;
 use crate::notes::{Declared, Duty, Note};
 use crate::place::Place;
 use crate::quoted::statement_of;
+use crate::simple::shared_prop;
 use crate::taken::is_fact_taken;
 use pure_script::{Span, Step};
 use pure_statements::{Failed, Reason, Stated};
@@ -47,8 +48,7 @@ fn forked(
     requires fixed { fixed_again stated.prop ≡ stated.fixed }
     ensures { IfOk result (λ d. seen_outcome d ≡ forking place.now name (seen_steps script.now) stated) }
 {
-    let Stated { prop, .. } = stated;
-    let prop = shared(alloc, prop)?;
+    let prop = shared_prop(alloc, stated)?;
     let promised = Arc::try_clone(&prop)?;
     let next = with_promise(place, name, promised)?;
     let next = shared(alloc, next)?;

@@ -20,10 +20,12 @@ use crate::tails::{prop_tail, typ_tail};
 use crate::taken::{is_class_taken, is_const_taken, is_fact_taken, is_typ_taken};
 use pure_script::Span;
 use pure_statements::{Failed, Reason, Stated, schematic_typ};
+use pure_term::Term;
 use pure_text::Text;
 use pure_theory_tables::shared;
 use pure_typ::{Name, Typ};
 use std::alloc::{AllocError, Global};
+use std::sync::Arc;
 
 /// A class below those that are found.
 fn class_made(
@@ -137,6 +139,14 @@ pub(crate) fn const_change(
     new_const(alloc, place, name, at)
 }
 
+/// The statement, generalised, to be shared. Apart, since what is left of the answer would be let go of at each `?` behind it.
+pub(crate) fn shared_prop(alloc: Global, stated: Stated) -> Result<Arc<Term>, AllocError>
+    ensures { IfOk result (λ prop. prop.value ≡ stated.prop) }
+{
+    let Stated { prop, .. } = stated;
+    shared(alloc, prop)
+}
+
 /// An axiom of a new name that states this.
 fn axiom_made(
     alloc: Global,
@@ -148,9 +158,8 @@ fn axiom_made(
     requires statement { IsStatement place.now.content stated.prop }
     ensures { IfOk result (λ c. c ≡ declaring_axiom place.now name stated.prop) }
 {
-    let Stated { prop, .. } = stated;
+    let prop = shared_prop(alloc, stated)?;
     let tail = prop_tail(alloc, place, &prop)?;
-    let prop = shared(alloc, prop)?;
     let next = with_axiom(place, name, prop)?;
     Ok(Change::saying(tail, next))
 }

@@ -88,6 +88,16 @@ pub(crate) fn parent_at(parents: &[Arc<Theory>], place: usize) -> &Theory
     parent
 }
 
+/// What the theory declares too. What was merged before is let go of here alone.
+fn grown(alloc: Global, merged: Merged, theory: &Theory) -> Result<Merged, DeclFault>
+    requires { AreNamedOnce (merged ++ theory.now.declarations) }
+    ensures ok { IfOk result (λ more. IsAdded merged theory.now.declarations more) }
+    ensures coregular { IfOk result (λ more. IsCoregular (algebra_of more)) }
+    ensures fault { IfErr result (IsMergeRefusal merged theory.now.declarations) }
+{
+    merged.with(alloc, theory)
+}
+
 /// The merge of the theories, one after the other.
 fn merge_of(alloc: Global, parents: &[Arc<Theory>]) -> Result<Merged, DeclFault>
     requires some { ¬ (contents parents.now ≡ []) }
@@ -100,7 +110,7 @@ fn merge_of(alloc: Global, parents: &[Arc<Theory>]) -> Result<Merged, DeclFault>
     let mut merged = Merged::first(first)?;
     for place in 1..parents.len() {
         let parent = parent_at(parents, place);
-        merged = merged.with(alloc, parent)?;
+        merged = grown(alloc, merged, parent)?;
     }
     Ok(merged)
 }

@@ -1,10 +1,12 @@
 //! Definitions of constants.
 ghost use Rattle.std.specs.Prelude.{◌≡◌, ◌++◌, IfOk, IfErr, OnOk};
+ghost use Rattle.pure_definitions.specs.Declarations.Decl.{AxiomDecl};
 ghost use Rattle.pure_definitions.specs.Terms.Term.{Const};
 ghost use Rattle.pure_definitions.specs.Terms.Subst.{inst_typ};
 ghost use Rattle.pure_logic.specs.Connectives.{eq};
-ghost use Rattle.pure_logic.specs.Content.{IsCertifiedOf, definition, schematic_typ_variable};
-ghost use Rattle.pure_theory.specs.Stage.{with_declarations};
+ghost use Rattle.pure_logic.specs.Content.{IsCertifiedOf, IsStatement, definition, schematic_typ_variable};
+ghost use Rattle.pure_theory.specs.Stage.{with_decl, with_declarations};
+ghost use Rattle.pure_theory.specs.Refusals.{HasNamesake, IsNameRefusal};
 ghost use Rattle.pure_theory.specs.Definitions.{HasVariable, HasExtraTyp, AreNew, IsDefinitionRefusal};
 
 use crate::fault::DeclFault;
@@ -16,17 +18,34 @@ use pure_term::{Name, Term, Typ};
 use pure_theorem::equation;
 use pure_theory_tables::shared;
 use std::alloc::{AllocError, Global};
+use std::sync::Arc;
 
 /// The axiom that the constant of this type is the body, with its fixed type variables made schematic.
-fn definition_axiom(alloc: Global, name: Name, typ: &Typ, body: &Term) -> Result<Term, AllocError>
-    ensures { IfOk result (λ t. t ≡ eq typ.now (Const name typ.now) (inst_typ schematic_typ_variable body.now)) }
+fn definition_axiom(
+    alloc: Global,
+    name: Name,
+    typ: &Typ,
+    body: &Term,
+) -> Result<Arc<Term>, AllocError>
+    ensures { IfOk result (λ t. t.value ≡ eq typ.now (Const name typ.now) (inst_typ schematic_typ_variable body.now)) }
 {
     let schematic = schematic_term(alloc, body)?;
     let copy = typ.copy(alloc)?;
     let right = schematic.copy(alloc)?;
     let left = constant(name, copy);
     let axiom = equation(alloc, typ, left, right)?;
-    Ok(axiom)
+    let pointer = shared(alloc, axiom)?;
+    Ok(pointer)
+}
+
+/// The theory with an axiom more. It is let go of here alone.
+fn with_axiom(theory: Theory, name: Name, prop: Arc<Term>) -> Result<Theory, DeclFault>
+    requires { IsStatement theory prop.value }
+    ensures ok { IfOk result (λ more. more ≡ with_decl theory (AxiomDecl name prop.value)) }
+    ensures new { OnOk result (¬ HasNamesake theory.declarations (AxiomDecl name prop.value)) }
+    ensures fault { IfErr result (IsNameRefusal theory.declarations (AxiomDecl name prop.value)) }
+{
+    theory.declare_axiom(name, prop)
 }
 
 impl Theory {
@@ -74,10 +93,9 @@ impl Theory {
         self.content_is_sound();
         self.check_definition(name, fact, typ, body)?;
         let typ = schematic_typ(self.alloc, typ)?;
-        let axiom = definition_axiom(self.alloc, name, &typ, body)?;
-        let prop = shared(self.alloc, axiom)?;
+        let prop = definition_axiom(self.alloc, name, &typ, body)?;
         let constant = self.declare_const(name, &typ)?;
-        let more = constant.declare_axiom(fact, prop)?;
+        let more = with_axiom(constant, fact, prop)?;
         Ok(more)
     }
 }

@@ -2,16 +2,18 @@
 ghost use Rattle.std.specs.Prelude.{◌≡◌, ℕ, [], ◌∷◌, ◌++◌, IfOk};
 ghost use Rattle.pure_text.specs.Lists.{IsIn};
 ghost use Rattle.pure_definitions.specs.Types.Typ as types;
-ghost use Rattle.pure_definitions.specs.Declarations.Decl.{ConDecl, ConstDecl};
+ghost use Rattle.pure_definitions.specs.Declarations.Decl.{ConDecl, ConstDecl, AxiomDecl};
 ghost use Rattle.pure_definitions.specs.Terms.Term.{Const};
 ghost use Rattle.pure_logic.specs.Connectives as connectives;
 ghost use Rattle.pure_logic.specs.PureContent as content;
+ghost use Rattle.pure_theory_tables.specs.Facts.{Stated, fact_decl};
 ghost use Rattle.pure_theory.specs.PureParts.{pure_typs, pure_to_all, pure_to_imp, pure_to_eq, pure_to_protect};
 
 use pure_term::{Name, Sort, Term, TermNode, Typ, TypNode};
 use pure_theorem::{equation, prop_typ};
 use pure_theory_tables::{Declarations, shared};
 use std::alloc::{AllocError, Global};
+use std::sync::Arc;
 
 /// The schematic type variable of the empty sort that stands in Pure's constants.
 fn any_typ(_alloc: Global) -> Typ
@@ -135,6 +137,14 @@ fn add_typ(ds: Declarations, name: Name, params: u32) -> Result<Declarations, Al
     ds.with_typ(name, params)
 }
 
+/// With an axiom more.
+fn add_axiom(ds: Declarations, name: Name, prop: Arc<Term>) -> Result<Declarations, AllocError>
+    requires { (s : Stated) → ¬ IsIn (fact_decl name s) ds }
+    ensures { IfOk result (λ more. more ≡ ds ++ AxiomDecl name prop.value ∷ []) }
+{
+    ds.with_axiom(name, prop)
+}
+
 /// Pure's type constructors.
 fn with_typs(alloc: Global) -> Result<Declarations, AllocError>
     ensures { IfOk result (λ ds. ds ≡ pure_typs) }
@@ -192,6 +202,6 @@ pub(crate) fn pure_declarations(alloc: Global) -> Result<Declarations, AllocErro
     let axiom = protect_axiom(alloc)?;
     let pointer = shared(alloc, axiom)?;
     let before = with_protect(alloc)?;
-    let all = before.with_axiom(Name::PROTECT, pointer)?;
+    let all = add_axiom(before, Name::PROTECT, pointer)?;
     Ok(all)
 }

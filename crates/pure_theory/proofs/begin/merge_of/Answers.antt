@@ -6,8 +6,8 @@ use Rattle.pure_theory.proofs.begin.merge_of.Goals as goal
 pub loop-place-init : goal.loop-place-init
 loop-place-init c = merge_first (contents c.args.parents.now) c.parent_at-first.result.now _ c.parent_at-first.ensures.held c.parent_at-first.ensures.sound c.in_ok-merged.ensures
 
-pub with-requires : goal.with-requires
-with-requires c = named_once_with (contents c.args.parents.now) c.loop-place.place c.parent_at-parent.result.now c.loop-place.merged c.parent_at-parent.ensures.held c.requires.agreed c.loop-place.invariant.0
+pub grown-requires : goal.grown-requires
+grown-requires c = named_once_with (contents c.args.parents.now) c.loop-place.place c.parent_at-parent.result.now c.loop-place.merged c.parent_at-parent.ensures.held c.requires.agreed c.loop-place.invariant.0
 
 pub loop-place-preserved : goal.loop-place-preserved
 loop-place-preserved c =
