@@ -7,15 +7,11 @@ use Rattle.pure_logic.specs.Derivable.{Pair}
 use Rattle.pure_goal_laws.specs.Prefix.{Item, Hypothesis, behind, parameters}
 use Rattle.pure_goal_laws.specs.Lifting.{lifted_under, lifted_behind}
 use Rattle.pure_goal_laws.proofs.PrefixLaws.{behind-append, parameters-without}
-use Rattle.pure_goal_steps.specs.Follows.{Attempt}
 use Rattle.pure_goal_laws.specs.GoalStep.{closed_pair}
 use Rattle.pure_goal_steps.specs.Reading.{Place, around, without, standing}
 use Rattle.pure_goal_steps.specs.Steps.{premises_behind, elimination_attempt, destruction_attempt}
 use Rattle.pure_goal_rules.specs.Attempts.{premise_at}
 use Rattle.pure_goal_rules.proofs.RuleLaws.{ok_map}
-
-pub attempt-is : (matched pairs : List Pair) (premises made : List Term) → matched ≡ pairs → premises ≡ made → ◌≡◌ {A = Attempt} (record { matched = matched; premises = premises }) (record { matched = pairs; premises = made })
-attempt-is matched pairs premises made e d = λ i. record { matched = e i; premises = d i }
 
 -- Lifted over a prefix or over it without a hypothesis: the parameters are the same.
 pub lifted-without : (ps before after : List Item) (H : Term) → ps ≡ before ++ Hypothesis H ∷ after → (A : Term) → lifted_behind ps A ≡ lifted_behind (before ++ after) A
@@ -41,18 +37,17 @@ destructed_along ps before after H B C e own lifted last inside o l m i r h =
     ap (behind before) (i ∙ ap (behind after) (m ∙ (λ j. imp (l j) (o j)))) ∙ destructed-is ps before after H B C e in
     ok_map (λ (u : Term). u ≡ behind before inside) (λ (u : Term). u ≡ behind ((before ++ after) ++ Hypothesis (lifted_behind (before ++ after) B) ∷ []) C) (λ u f. f ∙ is) r h
 
--- The attempts, from their parts.
-pub elimination_is : (ps : List Item) (p : Place) → ps ≡ around p → (C P : Term) (As : List Term) (B own : Term) (pair other : Pair) (pairs all : List Pair) (premises : List Term) → own ≡ C → pair ≡ closed_pair ps (lifted_behind ps B) own → pairs ≡ pair ∷ []
-    → other ≡ closed_pair ps (lifted_behind ps P) (standing p) → all ≡ pairs ++ other ∷ [] → premises ≡ map (premise_at ps p.before p.after) As → ◌≡◌ {A = Attempt} (record { matched = all; premises = premises }) (elimination_attempt C P As B p)
-elimination_is ps p stands C P As B own pair other pairs all premises o e l f m d =
+-- The pairs and the new subgoals, from their parts.
+pub elimination_are : (ps : List Item) (p : Place) → ps ≡ around p → (C P : Term) (As : List Term) (B own : Term) (pair other : Pair) (pairs all : List Pair) → own ≡ C → pair ≡ closed_pair ps (lifted_behind ps B) own → pairs ≡ pair ∷ []
+    → other ≡ closed_pair ps (lifted_behind ps P) (standing p) → all ≡ pairs ++ other ∷ [] → all ≡ (elimination_attempt C P As B p).matched
+elimination_are ps p stands C P As B own pair other pairs all o e l f m =
     let matched : all ≡ closed_pair ps (lifted_behind ps B) C ∷ closed_pair ps (lifted_behind ps P) (standing p) ∷ [] =
     m ∙ ((λ i. l i ++ f i ∷ []) ∙ ap (λ (q : Pair). q ∷ closed_pair ps (lifted_behind ps P) (standing p) ∷ []) (e ∙ ap (closed_pair ps (lifted_behind ps B)) o)) in
-    let around_it : all ≡ (elimination_attempt C P As B p).matched = matched ∙ ap (λ (qs : List Item). closed_pair qs (lifted_behind qs B) C ∷ closed_pair qs (lifted_behind qs P) (standing p) ∷ []) stands in
-    attempt-is all (elimination_attempt C P As B p).matched premises (premises_behind (without p) As) around_it (d ∙ premises-without ps p.before p.after p.hypothesis stands As)
+    matched ∙ ap (λ (qs : List Item). closed_pair qs (lifted_behind qs B) C ∷ closed_pair qs (lifted_behind qs P) (standing p) ∷ []) stands
 
-pub destruction_is : (ps : List Item) (p : Place) → ps ≡ around p → (C P : Term) (As : List Term) (B : Term) (pair : Pair) (pairs : List Pair) (premises all : List Term) (last : Term) → pair ≡ closed_pair ps (lifted_behind ps P) (standing p) → pairs ≡ pair ∷ []
-    → premises ≡ map (premise_at ps p.before p.after) As → last ≡ behind (without p ++ Hypothesis (lifted_behind (without p) B) ∷ []) C → all ≡ premises ++ last ∷ [] → ◌≡◌ {A = Attempt} (record { matched = pairs; premises = all }) (destruction_attempt C P As B p)
-destruction_is ps p stands C P As B pair pairs premises all last e l d f m =
-    let matched : pairs ≡ (destruction_attempt C P As B p).matched = l ∙ (ap (λ (q : Pair). q ∷ []) e ∙ ap (λ (qs : List Item). closed_pair qs (lifted_behind qs P) (standing p) ∷ []) stands) in
-    let made : all ≡ (destruction_attempt C P As B p).premises = m ∙ (λ i. (d ∙ premises-without ps p.before p.after p.hypothesis stands As) i ++ f i ∷ []) in
-    attempt-is pairs (destruction_attempt C P As B p).matched all (destruction_attempt C P As B p).premises matched made
+pub premises_left : (ps : List Item) (p : Place) → ps ≡ around p → (As premises : List Term) → premises ≡ map (premise_at ps p.before p.after) As → premises ≡ premises_behind (without p) As
+premises_left ps p stands As premises d = d ∙ premises-without ps p.before p.after p.hypothesis stands As
+
+pub destruction_leaves : (ps : List Item) (p : Place) → ps ≡ around p → (C P : Term) (As : List Term) (B : Term) (premises all : List Term) (last : Term)
+    → premises ≡ map (premise_at ps p.before p.after) As → last ≡ behind (without p ++ Hypothesis (lifted_behind (without p) B) ∷ []) C → all ≡ premises ++ last ∷ [] → all ≡ (destruction_attempt C P As B p).premises
+destruction_leaves ps p stands C P As B premises all last d f m = m ∙ (λ i. premises_left ps p stands As premises d i ++ f i ∷ [])

@@ -1,12 +1,13 @@
 -- Prefixes as the program holds them, read and built.
-use Rattle.std.proofs.Common.{◌≡◌, ◌≢◌, ◌<◌, List, [], ◌∷◌, ◌++◌, length, refl, ap, sym, ◌∙◌, arith, append_assoc}
+use Rattle.std.proofs.Common.{◌≡◌, ◌≢◌, ℕ, zero, suc, ◌+◌, ◌<◌, List, [], ◌∷◌, ◌++◌, length, take, get_or, refl, ap, sym, ◌∙◌, arith, append_assoc}
 use Rattle.pure_definitions.specs.Types.Typ.{Typ}
 use Rattle.pure_definitions.specs.Terms.Term.{Term, Abs}
 use Rattle.pure_definitions.specs.Terms.Typing.{node_count}
 use Rattle.pure_logic.specs.Connectives.{all, all_of, imp}
 use Rattle.pure_theorem.specs.Shapes.{IsNoQuantification, IsNoImplication}
-use Rattle.pure_goal_laws.specs.Prefix.{Item, Parameter, Hypothesis, behind}
-use Rattle.pure_goal_rules.specs.Shown.{IsNoQuantified, IsReadBehind}
+use Rattle.pure_goal_laws.specs.Prefix.{Item, Parameter, Hypothesis, behind, parameters}
+use Rattle.pure_goal_rules.specs.Shown.{seen, shown, IsNoQuantified, IsReadBehind}
+use Rattle.pure_goal_rules.specs.declared.item.Item as held
 
 pub shorter : {X : Type 0} (xs : List X) (y : X) (ys : List X) → xs ≡ y ∷ ys → length ys < length xs
 shorter xs y ys e = let counted = ap length e in omega (arith, counted)
@@ -56,3 +57,21 @@ imp-smaller t A B e = let same = ap node_count e in omega (arith, same)
 
 pub all-smaller : (t : Term) (T : Typ) (B : Term) → t ≡ all T B → node_count B < node_count t
 all-smaller t T B e = let same = ap node_count e in omega (arith, same)
+
+-- Parameters are counted item by item.
+counted-first : (p : Item) (ps : List Item) → length (parameters (p ∷ ps)) ≡ length (parameters (p ∷ [])) + length (parameters ps)
+counted-first (Parameter T) ps = omega arith
+counted-first (Hypothesis A) ps = omega arith
+
+counted-next : (items : List held.Item) (i : ℕ) (x : held.Item) → i < length items → x ≡ get_or items i x → length (parameters (shown (take (i + 1) items))) ≡ length (parameters (shown (take i items))) + length (parameters (seen x ∷ []))
+counted-next [] i x l e = absurd (omega arith)
+counted-next (y ∷ ys) zero x l e = let same = ap (λ (z : held.Item). length (parameters (seen z ∷ []))) e in omega (arith, same)
+counted-next (y ∷ ys) (suc i) x l e =
+    let next : suc i + 1 ≡ suc (i + 1) = omega arith in
+    let inner = counted-next ys i x (omega arith) e in
+    let long = counted-first (seen y) (shown (take (i + 1) ys)) in
+    let short = counted-first (seen y) (shown (take i ys)) in
+    rw next (omega (arith, inner, long, short))
+
+pub counted_turn : (items : List held.Item) (i : ℕ) (x : held.Item) (count next : ℕ) → i < length items → x ≡ get_or items i x → next ≡ count + length (parameters (seen x ∷ [])) → count ≡ length (parameters (shown (take i items))) → next ≡ length (parameters (shown (take (i + 1) items)))
+counted_turn items i x count next l e n c = let more = counted-next items i x l e in omega (arith, more, n, c)

@@ -1,12 +1,15 @@
--- A part without schematic variables stays as it is, lifted over parameters or with its indexes raised.
-use Rattle.std.proofs.Common.{◌≡◌, ℕ, ◌+◌, List, [], ◌∷◌, length, refl, ap, arith}
+-- What stays as it is: a part without schematic variables, lifted over parameters or with its indexes raised; and what stands below no parameters.
+use Rattle.std.proofs.Common.{◌≡◌, ℕ, ◌+◌, List, [], ◌∷◌, length, refl, ap, sym, arith}
 use Rattle.pure_definitions.specs.Types.Typ.{Typ}
 use Rattle.pure_definitions.specs.Terms.Term.{Term, Const, Free, Var, Bound, Abs, App}
 use Rattle.pure_definitions.specs.Terms.Subst.{typ_instance, term_instance}
 use Rattle.pure_definitions.specs.Terms.Measures.{typ_index_above, term_index_above}
 use Rattle.pure_definitions.proofs.MeasureLemmas.{typ_stays, term_stays}
 use Rattle.pure_logic.specs.Laws.Maps.{raised_typs, raised_terms}
+use Rattle.pure_logic.specs.Derivable.{Pair}
+use Rattle.pure_goal_laws.specs.Prefix.{Item, parameters, abstracted}
 use Rattle.pure_goal_laws.specs.Lifting.{lifted_under}
+use Rattle.pure_goal_laws.specs.GoalStep.{closed_pair}
 
 pub lifted_stays : (Ts : List Typ) (n : ℕ) (t : Term) → term_index_above t ≡ 0 → lifted_under Ts n t ≡ t
 lifted_stays Ts n (Const c T) e = refl
@@ -34,3 +37,11 @@ lifted-over-none n (App f a) = λ i. App (lifted-over-none n f i) (lifted-over-n
 pub lifted_nowhere : (Ts : List Typ) (t : Term) → length Ts ≡ 0 → lifted_under Ts 0 t ≡ t
 lifted_nowhere [] t e = lifted-over-none 0 t
 lifted_nowhere (T ∷ Ts) t e = absurd (omega arith)
+
+-- Below no parameters terms are paired as they are.
+abstracted-nowhere : (Ts : List Typ) (t : Term) → length Ts ≡ 0 → abstracted Ts t ≡ t
+abstracted-nowhere [] t e = refl
+abstracted-nowhere (T ∷ Ts) t e = absurd (omega arith)
+
+pub closed_nowhere : (ps : List Item) (t u : Term) → length (parameters ps) ≡ 0 → ◌≡◌ {A = Pair} (record { left = t; right = u }) (closed_pair ps t u)
+closed_nowhere ps t u e = λ i. record { left = sym (abstracted-nowhere (parameters ps) t e) i; right = sym (abstracted-nowhere (parameters ps) u e) i }

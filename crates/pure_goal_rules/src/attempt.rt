@@ -8,7 +8,7 @@ ghost use Rattle.pure_goal_steps.specs.Steps as steps;
 ghost use Rattle.pure_goal_rules.specs.Shown.{shown, seen_place};
 ghost use Rattle.pure_goal_rules.specs.Attempts.{seen_attempt, premise_at};
 
-use crate::build::{behind, below_parameters};
+use crate::build::{behind, below_parameters, count_parameters};
 use crate::item::{Item, Spot};
 use crate::lifting::lifted;
 use crate::rule::Rule;
@@ -28,6 +28,9 @@ pub struct Attempt {
 fn closed(alloc: Global, items: &[Item], left: Term, right: Term) -> Result<Pair, AllocError>
     ensures { IfOk result (λ p. p ≡ closed_pair (shown items.now) left right) }
 {
+    if count_parameters(items)? == 0 {
+        return Ok(Pair { left, right });
+    }
     let left = below_parameters(alloc, items, left)?;
     let right = below_parameters(alloc, items, right)?;
     Ok(Pair { left, right })
@@ -137,23 +140,36 @@ fn eliminated(alloc: Global, items: &[Item], first: &Term, spot: &Spot) -> Resul
     matched(alloc, items, first, hypothesis)
 }
 
-/// The attempt with a rule that eliminates the hypothesis: its conclusion is matched as well, then its first premise with the hypothesis; the other premises stand behind the prefix without the hypothesis.
-pub fn elimination_attempt(
+/// The pairs that elimination of the hypothesis has unified: the rule's conclusion is matched with the subgoal's, then its first premise with the hypothesis.
+pub fn elimination_pairs(
     alloc: Global,
     items: &[Item],
     conclusion: &Term,
     rule: &Eliminator,
     spot: &Spot,
-) -> Result<Attempt, AllocError>
+) -> Result<Vec<Pair>, AllocError>
     requires { shown items.now ≡ reading.around (seen_place spot.now) }
-    ensures { IfOk result (λ a. seen_attempt a ≡ steps.elimination_attempt conclusion.now rule.now.first.now rule.now.others.now rule.now.conclusion.now (seen_place spot.now)) }
+    ensures { IfOk result (λ ps. ps.items ≡ (steps.elimination_attempt conclusion.now rule.now.first.now rule.now.others.now rule.now.conclusion.now (seen_place spot.now)).matched) }
 {
-    let premises = premises_at(alloc, items, spot.before, spot.after, rule.others)?;
     let own = conclusion.copy(alloc)?;
     let pair = matched(alloc, items, rule.conclusion, own)?;
     let mut matched = one_pair(alloc, pair)?;
     matched.push(eliminated(alloc, items, rule.first, spot)?)?;
-    Ok(Attempt { matched, premises })
+    Ok(matched)
+}
+
+/// The new subgoals of elimination: the rule's other premises, behind the prefix without the hypothesis.
+pub fn elimination_premises(
+    alloc: Global,
+    items: &[Item],
+    rule: &Eliminator,
+    spot: &Spot,
+) -> Result<Vec<Term>, AllocError>
+    requires { shown items.now ≡ reading.around (seen_place spot.now) }
+    ensures { IfOk result (λ made. made.items ≡ steps.premises_behind (reading.without (seen_place spot.now)) rule.now.others.now) }
+{
+    let premises = premises_at(alloc, items, spot.before, spot.after, rule.others)?;
+    Ok(premises)
 }
 
 /// The subgoal that destruction leaves: behind the prefix without the hypothesis, the rule's conclusion is the last hypothesis.
@@ -174,38 +190,46 @@ fn destructed(
     behind(alloc, spot.before, inside)
 }
 
-/// The attempt with a rule that destructs the hypothesis: its first premise alone is matched; a last new subgoal has the old one's prefix without the hypothesis, then the rule's conclusion as a hypothesis, and the old conclusion.
-pub fn destruction_attempt(
+/// The pair that destruction of the hypothesis has unified: the rule's first premise with the hypothesis.
+pub fn destruction_pairs(
+    alloc: Global,
+    items: &[Item],
+    rule: &Eliminator,
+    spot: &Spot,
+) -> Result<Vec<Pair>, AllocError>
+    ensures { IfOk result (λ ps. ps.items ≡ closed_pair (shown items.now) (lifted_behind (shown items.now) rule.now.first.now) (reading.standing (seen_place spot.now)) ∷ []) }
+{
+    let pair = eliminated(alloc, items, rule.first, spot)?;
+    one_pair(alloc, pair)
+}
+
+/// The new subgoals of destruction: the rule's other premises, behind the prefix without the hypothesis; and the old subgoal so, with the rule's conclusion as its last hypothesis.
+pub fn destruction_premises(
     alloc: Global,
     items: &[Item],
     conclusion: &Term,
     rule: &Eliminator,
     spot: &Spot,
-) -> Result<Attempt, AllocError>
+) -> Result<Vec<Term>, AllocError>
     requires { shown items.now ≡ reading.around (seen_place spot.now) }
-    ensures { IfOk result (λ a. seen_attempt a ≡ steps.destruction_attempt conclusion.now rule.now.first.now rule.now.others.now rule.now.conclusion.now (seen_place spot.now)) }
+    ensures { IfOk result (λ made. made.items ≡ (steps.destruction_attempt conclusion.now rule.now.first.now rule.now.others.now rule.now.conclusion.now (seen_place spot.now)).premises) }
 {
     let mut premises = premises_at(alloc, items, spot.before, spot.after, rule.others)?;
     premises.push(destructed(alloc, items, conclusion, rule.conclusion, spot)?)?;
-    let pair = eliminated(alloc, items, rule.first, spot)?;
-    let matched = one_pair(alloc, pair)?;
-    Ok(Attempt { matched, premises })
+    Ok(premises)
 }
 
-/// The attempt by assumption: the hypothesis is matched with the conclusion, and the subgoal goes.
-pub fn assumption_attempt(
+/// The pair that assumption has unified: the hypothesis and the conclusion.
+pub fn assumption_pairs(
     alloc: Global,
     items: &[Item],
     conclusion: &Term,
     spot: &Spot,
-) -> Result<Attempt, AllocError>
-    requires { shown items.now ≡ reading.around (seen_place spot.now) }
-    ensures { IfOk result (λ a. seen_attempt a ≡ steps.assumption_attempt conclusion.now (seen_place spot.now)) }
+) -> Result<Vec<Pair>, AllocError>
+    ensures { IfOk result (λ ps. ps.items ≡ closed_pair (shown items.now) (reading.standing (seen_place spot.now)) conclusion.now ∷ []) }
 {
     let own = conclusion.copy(alloc)?;
     let hypothesis = standing(alloc, spot)?;
     let pair = closed(alloc, items, hypothesis, own)?;
-    let matched = one_pair(alloc, pair)?;
-    let premises = Vec::new(alloc);
-    Ok(Attempt { matched, premises })
+    one_pair(alloc, pair)
 }

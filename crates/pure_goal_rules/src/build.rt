@@ -78,18 +78,25 @@ pub fn below_parameters(alloc: Global, items: &[Item], t: Term) -> Result<Term, 
     below_one(alloc, first, inside)
 }
 
+/// The count, and one more for a parameter.
+fn counted(item: &Item, count: u32) -> Result<u32, AllocError>
+    ensures { IfOk result (λ n. n ≡ count + length (prefix.parameters (seen item.now ∷ []))) }
+{
+    match item {
+        Item::Parameter(_) => one_more(count),
+        Item::Hypothesis(_) => Ok(count),
+    }
+}
+
 /// The count of the prefix's parameters. 2 ^ 32, which no memory holds, are want of memory.
 pub fn count_parameters(items: &[Item]) -> Result<u32, AllocError>
     ensures { IfOk result (λ n. n ≡ length (prefix.parameters (shown items.now))) }
 {
-    let Some((first, rest)) = items.split_first() else {
-        return Ok(0);
-    };
-    let count = count_parameters(rest)?;
-    match first {
-        Item::Parameter(_) => one_more(count),
-        Item::Hypothesis(_) => Ok(count),
+    let mut count = 0;
+    for item in items {
+        count = counted(item, count)?;
     }
+    Ok(count)
 }
 
 /// One more than the number. Numbers beyond 32 bits are want of memory.

@@ -13,7 +13,8 @@ mod standing;
 mod stripping;
 
 pub use attempt::{
-    Attempt, Eliminator, assumption_attempt, destruction_attempt, elimination_attempt, rule_attempt,
+    Attempt, Eliminator, assumption_pairs, destruction_pairs, destruction_premises,
+    elimination_pairs, elimination_premises, rule_attempt,
 };
 pub use item::{Item, Spot};
 pub use long::is_long;

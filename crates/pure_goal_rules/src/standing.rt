@@ -54,10 +54,13 @@ fn lifted_part(alloc: Global, by: u32, from: u32, t: &Arc<Term>) -> Result<Arc<T
     }
 }
 
-/// The hypothesis, lifted over the parameters that come after it.
+/// The hypothesis, lifted over the parameters that come after it. One in which nothing is loose stays as it is.
 pub fn standing(alloc: Global, spot: &Spot) -> Result<Term, AllocError>
     ensures { IfOk result (λ t. t ≡ reading.standing (seen_place spot.now)) }
 {
+    if loose_above_of(spot.hypothesis) == 0 {
+        return spot.hypothesis.copy(alloc);
+    }
     let by = count_parameters(spot.after)?;
     let whole = copied(alloc, spot.hypothesis)?;
     let lifted = lifted_part(alloc, by, 0, &whole)?;

@@ -1,5 +1,5 @@
 -- What calls on goals ask of each other.
-use Rattle.std.proofs.Common.{◌≡◌, ◌≢◌, ℕ, ◌-◌, ◌<◌, ◌≤◌, List, [], ◌∷◌, ◌++◌, length, Result, Err, IfOk, refl, ap, sym, subst, ◌∙◌, arith}
+use Rattle.std.proofs.Common.{◌≡◌, ◌≢◌, ℕ, ◌+◌, ◌-◌, ◌<◌, ◌≤◌, List, [], ◌∷◌, ◌++◌, length, Result, Err, IfOk, refl, ap, sym, subst, ◌∙◌, arith, append_assoc}
 use Rattle.pure_text.specs.Lists.{IsIn, Each}
 use Rattle.pure_text.proofs.ListLaws.{in-append_left, in-append_right}
 use Rattle.pure_definitions.specs.Names.{Label}
@@ -21,6 +21,7 @@ use Rattle.pure_goal_steps.proofs.SoundLaws.{preferred_is_sound, deferred_is_sou
 use Rattle.pure_resolve.specs.Goals.{IsGoalTheorem, IsLeftTyped, IsUnited, IsStep, IsEquationFor}
 use Rattle.pure_resolve.specs.declared.state.Goal.{Goal}
 use Rattle.pure_resolve.proofs.AnswerLaws.{left-typed, step_derivable}
+use Rattle.pure_resolve.proofs.ChainLaws.{IsCut}
 use Rattle.pure_resolve.proofs.StepLaws.{convert_answer, equated-first}
 
 pub goal_left_typed : (th : Theorem) → IsGoalTheorem th → Each IsLeftTyped th.pairs
@@ -77,3 +78,22 @@ enough As items n count e h some l = let same = ap length e in omega (arith, sam
 
 pub some_left : (As items : List Term) (count : ℕ) → items ≡ As → count ≡ cut_off (length As) → count ≢ 0 → 0 < length items
 some_left As items count e h some = let same = ap length e in omega (arith, same, h, some)
+
+-- The front of a goal up to the subgoal that is asked for, and what is behind it.
+one-longer : (xs : List Term) (x : Term) → length (xs ++ x ∷ []) ≡ length xs + 1
+one-longer [] x = refl
+one-longer (y ∷ ys) x = let inner = one-longer ys x in omega (arith, inner)
+
+pub front_of : (th : Theorem) (g : IsGoalTheorem th) (prop : Term) → prop ≡ th.prop → (n : ℕ) (cut : IsCut g.state.subgoals (n - 1)) → n ≢ 0 → (old new : List Term) (rest : Term) → old ≡ []
+    → ((front others : List Term) (C : Term) → prop ≡ chain (front ++ others) (protect C) → n ≡ length front → (new ≡ old ++ front) × (rest ≡ chain others (protect C)))
+    → (new ≡ cut.before ++ cut.at ∷ []) × (rest ≡ chain cut.after (protect g.state.statement)) × (n - 1 < length new)
+front_of th g prop p n cut some old new rest o taken =
+    let front : List Term = cut.before ++ cut.at ∷ [] in
+    let stands : prop ≡ chain (front ++ cut.after) (protect g.state.statement) =
+    p ∙ (g.is.prop ∙ ap (λ (As : List Term). chain As (protect g.state.statement)) (cut.stands ∙ sym (append_assoc cut.before (cut.at ∷ []) cut.after))) in
+    let long = one-longer cut.before cut.at in
+    let counted : n ≡ length front = omega (arith, long, cut.count, some) in
+    let parts = taken front cut.after g.state.statement stands counted in
+    let are : new ≡ front = parts.0 ∙ ap (λ (As : List Term). As ++ front) o in
+    let same = ap length are in
+    (are, parts.1, omega (arith, same, counted, some))

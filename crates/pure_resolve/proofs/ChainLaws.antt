@@ -1,7 +1,8 @@
 -- A goal's proposition is taken apart premise by premise, and made from behind.
-use Rattle.std.proofs.Common.{◌≡◌, ℕ, zero, suc, ◌<◌, List, Result, Ok, Err, IfOk, [], ◌∷◌, ◌++◌, length, refl, ap, sym, ◌∙◌, arith, append_assoc}
-use Rattle.pure_definitions.specs.Terms.Term.{Term, term_size}
-use Rattle.pure_logic.specs.Connectives.{imp, protect, chain}
+use Rattle.std.proofs.Common.{◌≡◌, ℕ, zero, suc, ◌<◌, List, Option, Some, None, IfSome, Result, Ok, Err, IfOk, [], ◌∷◌, ◌++◌, length, refl, ap, sym, ◌∙◌, arith, append_assoc}
+use Rattle.pure_definitions.specs.Names.{imp_name}
+use Rattle.pure_definitions.specs.Terms.Term.{Term, Const, App, term_size}
+use Rattle.pure_logic.specs.Connectives.{imp_typ, imp, protect, chain}
 use Rattle.pure_theorem.specs.Shapes.{IsNoImplication}
 
 pub no-premise : (t : Term) (As : List Term) (C : Term) → IsNoImplication t → t ≡ chain As (protect C) → As ≡ []
@@ -19,6 +20,19 @@ imp-no-mark A B C e = absurd (cc)
 
 pub imp-premise : (A B D E : Term) → imp A B ≡ imp D E → (D ≡ A) × (B ≡ E)
 imp-premise A B D E e = (cc, cc)
+
+-- The connective of an implication, as the function of its function.
+application-parts : (f c a b : Term) → App f a ≡ App c b → (f ≡ c) × (a ≡ b)
+application-parts f c a b e = (cc, cc)
+
+imp-connective : (t f c A B a b : Term) → t ≡ imp A B → t ≡ App f a → f ≡ App c b → c ≡ Const imp_name imp_typ
+imp-connective t f c A B a b e d g =
+    let outer = application-parts f (App (Const imp_name imp_typ) A) a B (sym d ∙ e) in
+    (application-parts c (Const imp_name imp_typ) b A (sym g ∙ outer.0)).0
+
+pub connective_found : {X : Type 0} (value : X → Term) (t f A B a : Term) (r : Option X) → t ≡ imp A B → t ≡ App f a → IfSome r (λ c. (b : Term) × (f ≡ App (value c) b)) → IfSome r (λ c. value c ≡ Const imp_name imp_typ)
+connective_found value t f A B a None e d h = tt
+connective_found value t f A B a (Some c) e d h = imp-connective t f (value c) A B a h.0 e d h.1
 
 pub first-premise : (t A B : Term) (As : List Term) (C : Term) → t ≡ imp A B → t ≡ chain As (protect C) → IsPremise A B As C
 first-premise t A B [] C e f = absurd (imp-no-mark A B C (sym e ∙ f))

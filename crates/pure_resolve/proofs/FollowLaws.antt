@@ -145,16 +145,16 @@ followed_fault A maxidx s others a unify.Memory h R = tt
 pub pairs_of : (goal : Theorem) (s : State) (matched : List Pair) (a : Attempt) → IsTheoremOf s goal → matched ≡ a.matched → matched ++ goal.pairs ≡ unified_pairs s a
 pairs_of goal s matched a is e = λ i. e i ++ is.same_pairs i
 
-pub followed_ok : (A : Algebra) (maxidx : ℕ) (goal : Theorem) (s : State) (others : List Term) (a : Attempt) (u : Unifier) → IsTheoremOf s goal → IsUnifyAnswer A maxidx (a.matched ++ goal.pairs) (search.Unified (seen u)) → (R : List Label → Type 0) (result : Result Goal StepFault)
+pub followed_ok : (A : Algebra) (maxidx : ℕ) (goal : Theorem) (s : State) (others : List Term) (a : Attempt) (matched : List Pair) (u : Unifier) → IsTheoremOf s goal → matched ≡ a.matched → IsUnifyAnswer A maxidx (matched ++ goal.pairs) (search.Unified (seen u)) → (R : List Label → Type 0) (result : Result Goal StepFault)
     → IsOutcome (Becomes (with_unifier s others a (seen u))) R result → IsOutcome (FollowsBy A maxidx s others a) R result
-followed_ok A maxidx goal s others a u is answer R result h =
-    followed_unified A maxidx s others a u (subst (λ (ps : List Pair). IsUnifyAnswer A maxidx ps (search.Unified (seen u))) (pairs_of goal s a.matched a is refl) answer) R result h
+followed_ok A maxidx goal s others a matched u is e answer R result h =
+    followed_unified A maxidx s others a u (subst (λ (ps : List Pair). IsUnifyAnswer A maxidx ps (search.Unified (seen u))) (pairs_of goal s matched a is e) answer) R result h
 
-pub followed_err : (A : Algebra) (maxidx : ℕ) (goal : Theorem) (s : State) (others : List Term) (a : Attempt) (fault : UnifyFault) → IsTheoremOf s goal → IsUnified A maxidx (a.matched ++ goal.pairs) (Err fault) → (R : List Label → Type 0)
+pub followed_err : (A : Algebra) (maxidx : ℕ) (goal : Theorem) (s : State) (others : List Term) (a : Attempt) (matched : List Pair) (fault : UnifyFault) → IsTheoremOf s goal → matched ≡ a.matched → IsUnified A maxidx (matched ++ goal.pairs) (Err fault) → (R : List Label → Type 0)
     → (own : StepFault) → own ≡ step_fault fault → IsOutcome (FollowsBy A maxidx s others a) R (Err own)
-followed_err A maxidx goal s others a fault is answer R own e =
-    let there = followed_fault A maxidx s others a fault (subst (λ (ps : List Pair). IsUnified A maxidx ps (Err fault)) (pairs_of goal s a.matched a is refl) answer) R in
-    subst (λ (f : StepFault). IsOutcome (FollowsBy A maxidx s others a) R (Err f)) (sym e) there
+followed_err A maxidx goal s others a matched fault is e answer R own d =
+    let there = followed_fault A maxidx s others a fault (subst (λ (ps : List Pair). IsUnified A maxidx ps (Err fault)) (pairs_of goal s matched a is e) answer) R in
+    subst (λ (f : StepFault). IsOutcome (FollowsBy A maxidx s others a) R (Err f)) (sym d) there
 
 pub first_is_implication : (goal : Theorem) (h : HasFirst goal) (A : Term) → A ≡ goal.prop → IsNoImplication A → ⊥
 first_is_implication goal h A e n = n h.first (chain h.others (protect h.state.statement)) (e ∙ is_implication goal h)

@@ -5,11 +5,11 @@ use Rattle.std.specs.Global.{Vec}
 use Rattle.pure_text.specs.Lists.{Each}
 use Rattle.pure_definitions.specs.Types.Typ.{Typ}
 use Rattle.pure_definitions.specs.Types.Order.{Algebra}
-use Rattle.pure_definitions.specs.Terms.Term.{Term, IsWithin}
+use Rattle.pure_definitions.specs.Terms.Term.{Term, Const, Free, Var, Bound, Abs, App, IsWithin}
 use Rattle.pure_definitions.specs.Terms.Typing.{HasType}
-use Rattle.pure_definitions.specs.Terms.Subst.{TypBind, TermBind, typ_image, typ_instance, retyped_variable, inst_typ, term_image, inst_term, IsTypeRespecting, AreTypeRespecting}
+use Rattle.pure_definitions.specs.Terms.Subst.{TypBind, TermBind, typ_image, typ_instance, term_instance, retyped_variable, inst_typ, term_image, inst_term, IsTypeRespecting, AreTypeRespecting}
 use Rattle.pure_definitions.specs.Models.Comparison.{term_cmp}
-use Rattle.pure_term_laws.proofs.SubstLaws.{inst_term-alone, entries-respect_types}
+use Rattle.pure_term_laws.proofs.SubstLaws.{typ_instance-identity, term_instance-identity, inst_term-alone, entries-respect_types}
 use Rattle.pure_term_laws.proofs.TypingBoundLaws.{typing-instance}
 use Rattle.pure_definitions.specs.Reduction.Eta.{IsLongForm}
 use Rattle.pure_logic.specs.Derivable.{Pair, Theorem}
@@ -25,7 +25,7 @@ use Rattle.pure_goal_steps.specs.declared.fault.StepFault.{StepFault}
 use Rattle.pure_goal_steps.specs.declared.fault.StepFault.TheVariants.{UnknownFact, NoSubgoal, NoPremise, NotDefinition, NothingToUnfold, NoUnifier, SearchBound, Steps, Big, NoHypothesis, SubgoalsLeft, Memory}
 use Rattle.pure_goal_steps.proofs.MeasuredLaws.{come-both}
 use Rattle.pure_resolve.specs.Goals.{IsLongSubgoal}
-use Rattle.pure_resolve.specs.Settled.{IsInstanceAnswer, IsComeAnswer, IsComeBehind}
+use Rattle.pure_resolve.specs.Settled.{ArePlain, IsInstanceAnswer, IsComeAnswer, IsComeBehind}
 use Rattle.pure_resolve.proofs.ChainLaws.{nothing-more}
 
 -- The instance.
@@ -60,12 +60,36 @@ replaced-typed map t r h =
 pub instance_typed : (typs : List TypBind) (terms : List TermBind) (t u : Term) → IsTyped t → IsInstanceAnswer typs terms t (Ok u) → IsTyped u
 instance_typed typs terms t u h (e, r) = subst IsTyped (sym e) (replaced-typed terms (inst_typ (typ_image typs) t) r (retyped-typed typs t h))
 
+-- Maps that set no types.
+retyped-none : (v : Term) → retyped_variable (λ T. T) v ≡ v
+retyped-none (Const c T) = refl
+retyped-none (Free x T) = ap (Free x) (typ_instance-identity T)
+retyped-none (Var x i T) = ap (Var x i) (typ_instance-identity T)
+retyped-none (Bound n) = refl
+retyped-none (Abs T b) = refl
+retyped-none (App f a) = refl
+
+untouched : (t : Term) → inst_typ (typ_image []) t ≡ t
+untouched t = (λ i. term_instance (λ T. T) (λ v. retyped-none v i) t) ∙ term_instance-identity t
+
+plain-is : (terms : List TermBind) (t u : Term) → u ≡ inst_term (term_image terms) t → u ≡ instantiated [] terms t
+plain-is terms t u e = e ∙ ap (inst_term (term_image terms)) (sym (untouched t))
+
+pub plain_typed : (terms : List TermBind) (t u : Term) → IsTyped t → AreTypeRespecting terms → u ≡ inst_term (term_image terms) t → IsTyped u
+plain_typed terms t u h r e = subst IsTyped (sym e) (replaced-typed terms t r h)
+
+pub plain_long : (terms : List TermBind) (t u : Term) (r : Result Term StepFault) → u ≡ inst_term (term_image terms) t → IsLongSubgoal u r → IsLongSubgoal (instantiated [] terms t) r
+plain_long terms t u r e h = subst (λ (v : Term). IsLongSubgoal v r) (plain-is terms t u e) h
+
+pub plain_answer : (typs : List TypBind) (terms : List TermBind) (t : Term) (r : Result Term StepFault) → ArePlain typs terms → IsLongSubgoal (instantiated [] terms t) r → IsLongSubgoal (instantiated typs terms t) r
+plain_answer typs terms t r p h = subst (λ (bs : List TypBind). IsLongSubgoal (instantiated bs terms t) r) (sym p.no_typs) h
+
 -- In long form.
-beyond-large : (t : Term) → ¬ IsWithin t → ComesTo t (Ends sides.Big)
-beyond-large t h = is_large (record { before = []; last = t; sequence = refl; undecided = tt; in_time = omega arith; decided = h })
+pub beyond_large : (t : Term) → ¬ IsWithin t → ComesTo t (Ends sides.Big)
+beyond_large t h = is_large (record { before = []; last = t; sequence = refl; undecided = tt; in_time = omega arith; decided = h })
 
 pub settled_stopped : (typs : List TypBind) (terms : List TermBind) (t : Term) (fault : StepFault) → IsInstanceAnswer typs terms t (Err fault) → IsLongSubgoal (instantiated typs terms t) (Err fault)
-settled_stopped typs terms t Big h = beyond-large (instantiated typs terms t) h
+settled_stopped typs terms t Big h = beyond_large (instantiated typs terms t) h
 settled_stopped typs terms t Memory h = tt
 settled_stopped typs terms t Steps h = absurd h
 settled_stopped typs terms t UnknownFact h = absurd h

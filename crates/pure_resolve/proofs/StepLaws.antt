@@ -6,7 +6,7 @@ use Rattle.pure_definitions.specs.Names.{Label}
 use Rattle.pure_definitions.specs.Types.Typ.{Typ, prop}
 use Rattle.pure_definitions.specs.Terms.Term.{Term}
 use Rattle.pure_definitions.specs.Reduction.Eta.{IsLongForm}
-use Rattle.pure_logic.specs.Connectives.{eq, protect, chain}
+use Rattle.pure_logic.specs.Connectives.{imp, eq, protect, chain}
 use Rattle.pure_logic.specs.Derivable.{Pair, Theorem}
 use Rattle.pure_unify_definitions.specs.LongSides as sides
 use Rattle.pure_unify_definitions.specs.LongSides.{Stop, Long, Ends, ComesTo}
@@ -18,7 +18,8 @@ use Rattle.pure_goal_steps.specs.declared.fault.StepFault.TheVariants.{UnknownFa
 use Rattle.pure_goal_steps.proofs.SoundLaws.{come-long}
 use Rattle.pure_resolve.specs.Goals.{IsGoalTheorem, IsOutcome, IsStep, IsConcluded, IsLongSubgoal, IsEquationFor}
 use Rattle.pure_resolve.specs.declared.state.Goal.{Goal}
-use Rattle.pure_resolve.proofs.ChainLaws.{cut_at, chain_once}
+use Rattle.pure_goal_laws.proofs.EliminationLaws.{chain-append}
+use Rattle.pure_resolve.proofs.ChainLaws.{IsCut, chain_once, nothing-more}
 use Rattle.pure_resolve.proofs.AnswerLaws.{made_outcome, outcome_map}
 
 -- the parts of a goal, concluded at their own names
@@ -32,25 +33,25 @@ moved-outcome th g new long pairs e rests d marked m result h =
     made_outcome (record g.state { subgoals = new }) [] [] new refl no_more tt long g.goal.left_pairs th.rests result
     (concluded-at pairs g.state.pairs (chain new marked) (chain new (protect g.state.statement)) rests th.rests result (e ∙ g.is.same_pairs) (ap (chain new) m) d h)
 
-pub prefer_answer : (th : Theorem) (g : IsGoalTheorem th) (n place : ℕ) → n ≡ place + 1 → (subgoals : List Term) → subgoals ≡ g.state.subgoals → place < length subgoals → (new : List Term)
-    → ((before : List Term) (A : Term) (after : List Term) → subgoals ≡ before ++ A ∷ after → place ≡ length before → new ≡ A ∷ (before ++ after))
-    → (pairs : List Pair) → pairs ≡ th.pairs → (rests : List Label) → rests ≡ th.rests → (marked : Term) → marked ≡ protect g.state.statement
-    → (result : Result Goal StepFault) → IsConcluded pairs (chain new marked) rests result → IsStep (λ s. PreferStep s n) th (λ all. all ≡ th.rests) result
-prefer_answer th g n place c subgoals same l new made pairs e rests d marked m result h =
-    let cut = cut_at subgoals place l in
-    let is : new ≡ cut.at ∷ (cut.before ++ cut.after) = made cut.before cut.at cut.after cut.stands cut.count in
-    let stands : g.state.subgoals ≡ cut.before ++ cut.at ∷ cut.after = sym same ∙ cut.stands in
-    let long = subst (λ (As : List Term). Each (λ A. IsLongForm A A) As) stands g.goal.long_subgoals in
+pub prefer_answer : (th : Theorem) (g : IsGoalTheorem th) (n place : ℕ) → n ≡ place + 1 → (cut : IsCut g.state.subgoals place) → (new : List Term) → new ≡ cut.at ∷ (cut.before ++ [])
+    → (pairs : List Pair) → pairs ≡ th.pairs → (rests : List Label) → rests ≡ th.rests → (rest : Term) → rest ≡ chain cut.after (protect g.state.statement)
+    → (result : Result Goal StepFault) → IsConcluded pairs (chain new rest) rests result → IsStep (λ s. PreferStep s n) th (λ all. all ≡ th.rests) result
+prefer_answer th g n place c cut new is pairs e rests d rest r result h =
+    let marked : Term = protect g.state.statement in
+    let all : List Term = cut.at ∷ (cut.before ++ cut.after) in
+    let whole : chain new rest ≡ chain all marked =
+    (λ i. chain (is i) (r i)) ∙ (ap (λ (As : List Term). chain (cut.at ∷ As) (chain cut.after marked)) (sym (nothing-more cut.before)) ∙ ap (imp cut.at) (sym (chain-append cut.before cut.after marked))) in
+    let long = subst (λ (As : List Term). Each (λ A. IsLongForm A A) As) cut.stands g.goal.long_subgoals in
     let front = each-left (λ A. IsLongForm A A) cut.before (cut.at ∷ cut.after) long in
     let back = each-right (λ A. IsLongForm A A) cut.before (cut.at ∷ cut.after) long in
-    let all_so : Each (λ A. IsLongForm A A) (cut.at ∷ (cut.before ++ cut.after)) = (back.0, each-append (λ A. IsLongForm A A) cut.before cut.after front back.1) in
+    let all_so : Each (λ A. IsLongForm A A) all = (back.0, each-append (λ A. IsLongForm A A) cut.before cut.after front back.1) in
     let counted : n ≡ length cut.before + 1 = c ∙ ap (λ (k : ℕ). k + 1) cut.count in (
       g.state,
       g.is,
       g.goal,
-      outcome_map (Becomes (record g.state { subgoals = new })) (PreferStep g.state n) (λ all. all ≡ th.rests) (λ all. all ≡ th.rests)
-          (λ outcome b. PreferStep.preferred cut.before cut.at cut.after stands counted (subst (λ (As : List Term). Becomes (record g.state { subgoals = As }) outcome) is b)) (λ all r. r) result
-          (moved-outcome th g new (subst (λ (As : List Term). Each (λ A. IsLongForm A A) As) (sym is) all_so) pairs e rests d marked m result h),
+      outcome_map (Becomes (record g.state { subgoals = all })) (PreferStep g.state n) (λ all. all ≡ th.rests) (λ all. all ≡ th.rests)
+          (λ outcome b. PreferStep.preferred cut.before cut.at cut.after cut.stands counted b) (λ all r. r) result
+          (moved-outcome th g all all_so pairs e rests d marked refl result (concluded-at pairs pairs (chain new rest) (chain all marked) rests rests result refl whole refl h)),
     )
 
 pub prefer_none : (th : Theorem) (g : IsGoalTheorem th) (n : ℕ) → (n ≡ 0) ⊎ (length g.state.subgoals < n) → IsStep (λ s. PreferStep s n) th (λ all. all ≡ th.rests) (Err NoSubgoal)

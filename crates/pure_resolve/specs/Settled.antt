@@ -1,5 +1,5 @@
 -- Terms under a unifier: their instances, and these in long form.
-use Rattle.std.specs.Prelude.{◌≡◌, ℕ, List, ◌∷◌, ◌++◌, map, length, Result, Ok, Err}
+use Rattle.std.specs.Prelude.{◌≡◌, ℕ, List, [], ◌∷◌, ◌++◌, map, length, Result, Ok, Err}
 use Rattle.pure_text.specs.Lists.{Each}
 use Rattle.pure_definitions.specs.Terms.Term.{Term, IsWithin}
 use Rattle.pure_definitions.specs.Terms.Subst.{TypBind, TermBind, AreTypeRespecting}
@@ -17,6 +17,11 @@ use Rattle.pure_goal_steps.specs.State.{State, IsTheoremOf}
 use Rattle.pure_goal_steps.specs.Follows.{Attempt, AllLong, Halted, Come}
 use Rattle.pure_goal_steps.specs.declared.fault.StepFault.{StepFault}
 use Rattle.pure_goal_steps.specs.declared.fault.StepFault.TheVariants.{NoUnifier, SearchBound, Steps, Big, Memory}
+
+-- The maps set no types, and put terms of their variables' types.
+pub record ArePlain (typs : List TypBind) (terms : List TermBind) : Type 0 where
+  pub no_typs : typs ≡ []
+  pub respecting : AreTypeRespecting terms
 
 -- The answer for an instance of a term by finite maps: the instance, and then the maps respect types; or `Big` where it isn't within the limits; or `Memory`.
 abbrev pub IsInstanceAnswer : List TypBind → List TermBind → Term → Result Term StepFault → Type 0

@@ -1,16 +1,53 @@
 //! A goal of subgoals and a marked statement, within the limits.
-ghost use Rattle.std.specs.Prelude.{◌≡◌, [], IfOk};
+ghost use Rattle.std.specs.Prelude.{◌≡◌, [], IfOk, IfSome};
 ghost use Rattle.pure_text.specs.Lists.{Each};
-ghost use Rattle.pure_logic.specs.Connectives.{chain};
+ghost use Rattle.pure_definitions.specs.Names.{imp_name};
+ghost use Rattle.pure_definitions.specs.Terms.Term as tree;
+ghost use Rattle.pure_logic.specs.Connectives.{imp_typ, chain};
 ghost use Rattle.pure_theorem.specs.Sets.{IsLabelSet};
 ghost use Rattle.pure_resolve.specs.Goals.{IsLeftTyped, IsConcluded};
 
 use crate::limits::is_small;
 use crate::state::Goal;
 use pure_goal_steps::StepFault;
-use pure_term::{Label, Term};
-use pure_theorem::{Pair, Thm, implication_by, implication_constant};
+use pure_term::{Label, Term, TermNode};
+use pure_theorem::{Pair, Thm, as_implication, implication_by, implication_constant};
 use std::alloc::{AllocError, Global};
+use std::sync::Arc;
+
+/// The function of an application.
+fn function_of(t: &Term) -> Option<&Arc<Term>>
+    ensures { IfSome result (λ f. (a : tree.Term) × (t.now ≡ tree.App f.now.value a)) }
+{
+    match &t.node {
+        TermNode::App { fun, .. } => Some(fun),
+        _ => None,
+    }
+}
+
+/// The constant of implication, where the term is an implication.
+fn connective_in(t: &Term) -> Option<&Arc<Term>>
+    ensures { IfSome result (λ c. c.now.value ≡ tree.Const imp_name imp_typ) }
+{
+    let Some(_) = as_implication(t) else {
+        return None;
+    };
+    let Some(function) = function_of(t) else {
+        return None;
+    };
+    let whole: &Term = function;
+    function_of(whole)
+}
+
+/// The constant of implication, to be shared: as it stands in the term, where that is an implication, else a new one.
+fn connective_for(alloc: Global, t: &Term) -> Result<Arc<Term>, AllocError>
+    ensures { IfOk result (λ c. c.value ≡ tree.Const imp_name imp_typ) }
+{
+    match connective_in(t) {
+        Some(connective) => Arc::try_clone(connective),
+        None => implication_constant(alloc),
+    }
+}
 
 /// The premises, in order, before the conclusion.
 fn chained(alloc: Global, mut premises: Vec<Term>, mut conclusion: Term) -> Result<Term, AllocError>
@@ -19,7 +56,7 @@ fn chained(alloc: Global, mut premises: Vec<Term>, mut conclusion: Term) -> Resu
     if premises.is_empty() {
         return Ok(conclusion);
     }
-    let connective = implication_constant(alloc)?;
+    let connective = connective_for(alloc, &conclusion)?;
     while let Some(premise) = premises.pop() {
         conclusion = implication_by(alloc, &connective, premise, conclusion)?;
     }

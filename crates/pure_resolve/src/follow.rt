@@ -30,7 +30,7 @@ use pure_unify::{Unifier, UnifyFault, unify};
 use std::alloc::Global;
 
 /// The fault of a step that the unifier's is.
-fn step_fault(fault: UnifyFault) -> StepFault
+pub fn step_fault(fault: UnifyFault) -> StepFault
     ensures { result ≡ settling.step_fault fault }
 {
     match fault {
@@ -43,7 +43,7 @@ fn step_fault(fault: UnifyFault) -> StepFault
 }
 
 /// The unifier of what is matched and the goal's own pairs.
-fn unified<B: Ordered>(
+pub fn unified<B: Ordered>(
     alloc: Global,
     thy: &B,
     goal: &Thm,
@@ -154,7 +154,7 @@ fn before_rest<B: Ordered>(
 }
 
 /// The goal with the new subgoals in place of the first, and the unifier put into all. Behind the last subgoal in which it sets a variable the old goal is in long form and stays as it stands.
-fn with_unifier<B: Ordered>(
+pub fn with_unifier<B: Ordered>(
     alloc: Global,
     thy: &B,
     goal: &Thm,

@@ -9,7 +9,7 @@ ghost use Rattle.pure_goal_steps.specs.Steps.{PreferStep, DeferStep};
 ghost use Rattle.pure_resolve.specs.Goals.{IsGoalTheorem, IsLeftTyped, IsConcluded, IsStep};
 
 use crate::close::concluded;
-use crate::open::{Parts, opened};
+use crate::open::{Parts, opened, put_first};
 use crate::state::Goal;
 use pure_goal_steps::StepFault;
 use pure_term::Term;
@@ -54,7 +54,7 @@ fn put_last(terms: Vec<Term>) -> Result<Vec<Term>, AllocError>
 }
 
 impl Goal {
-    /// The goal with subgoal n, counted from 1, before the others, which keep their order.
+    /// The goal with subgoal n, counted from 1, before the others, which keep their order. What stands behind it is shared.
     ///
     /// # Errors
     ///
@@ -70,9 +70,11 @@ impl Goal {
         if self.subgoals() < n {
             return Err(StepFault::NoSubgoal);
         }
-        let Parts { subgoals, marked } = opened(alloc, &self.thm.prop)?;
-        let subgoals = brought_forward(subgoals, n as usize - 1)?;
-        with_subgoals(alloc, &self.thm, subgoals, marked)
+        let mut front = Vec::new(alloc);
+        let tail = put_first(alloc, &self.thm.prop, n as usize, &mut front)?;
+        let subgoals = brought_forward(front, n as usize - 1)?;
+        let rest = tail.copy(alloc)?;
+        with_subgoals(alloc, &self.thm, subgoals, rest)
     }
 
     /// The goal with its first subgoal behind the others.

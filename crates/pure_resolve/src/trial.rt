@@ -2,25 +2,29 @@
 ghost use Rattle.std.specs.Prelude.{◌≡◌, ◌∷◌, List, take, drop, map, IfOk, ◌<◌, length, get_or, MatchBool, ◌≢◌};
 ghost use Rattle.pure_definitions.specs.Terms.Term as tree;
 ghost use Rattle.pure_definitions.specs.Declarations.Decl.{algebra_of};
+ghost use Rattle.pure_text.specs.Lists.{Each};
 ghost use Rattle.pure_theorem.specs.Sets.{IsLabelSet};
+ghost use Rattle.pure_theorem.specs.Shapes.{IsTyped};
+ghost use Rattle.pure_unify.specs.Unified.{seen, IsLeftOver};
 ghost use Rattle.pure_goal_steps.specs.State.{State, IsTheoremOf};
 ghost use Rattle.pure_goal_steps.specs.Reading as reading;
-ghost use Rattle.pure_goal_steps.specs.Follows.{FollowsBy, FollowsByFirst};
+ghost use Rattle.pure_goal_steps.specs.Follows.{Becomes, with_unifier, FollowsBy, FollowsByFirst};
 ghost use Rattle.pure_goal_rules.specs.Shown.{shown, seen_place};
-ghost use Rattle.pure_goal_rules.specs.Attempts.{seen_attempt};
 ghost use Rattle.pure_resolve.specs.Goals.{IsOutcome};
 ghost use Rattle.pure_resolve.specs.Settled.{HasFirst, MayAttempt};
 ghost use Rattle.pure_resolve.specs.Uses.{attempted};
 
-use crate::follow::followed;
+use crate::follow::{step_fault, unified, with_unifier};
 use crate::state::Goal;
 use pure_goal_rules::{
-    Attempt, Eliminator, Item, Spot, assumption_attempt, destruction_attempt, elimination_attempt,
+    Eliminator, Item, Spot, assumption_pairs, destruction_pairs, destruction_premises,
+    elimination_pairs, elimination_premises,
 };
 use pure_goal_steps::StepFault;
 use pure_inst::Ordered;
 use pure_term::{Label, Term};
-use pure_theorem::Thm;
+use pure_theorem::{Pair, Thm};
+use pure_unify::Unifier;
 use std::alloc::{AllocError, Global};
 
 /// How a hypothesis is used: it is the conclusion, or a rule eliminates it, or destructs it.
@@ -41,22 +45,61 @@ pub struct Trial<'g, 't> {
     pub rests: &'g [Label],
 }
 
-/// The attempt to use the hypothesis.
-fn attempt_at(
+/// The pairs that the use of the hypothesis has unified before those of the goal.
+fn pairs_at(
     alloc: Global,
     items: &[Item],
     conclusion: &Term,
     used: &Use,
     spot: &Spot,
-) -> Result<Attempt, AllocError>
+) -> Result<Vec<Pair>, AllocError>
     requires { shown items.now ≡ reading.around (seen_place spot.now) }
-    ensures { IfOk result (λ a. seen_attempt a ≡ attempted used.now conclusion.now (seen_place spot.now)) }
+    ensures { IfOk result (λ ps. ps.items ≡ (attempted used.now conclusion.now (seen_place spot.now)).matched) }
 {
     match used {
-        Use::Assume => assumption_attempt(alloc, items, conclusion, spot),
-        Use::Eliminate(rule) => elimination_attempt(alloc, items, conclusion, rule, spot),
-        Use::Destruct(rule) => destruction_attempt(alloc, items, conclusion, rule, spot),
+        Use::Assume => assumption_pairs(alloc, items, conclusion, spot),
+        Use::Eliminate(rule) => elimination_pairs(alloc, items, conclusion, rule, spot),
+        Use::Destruct(rule) => destruction_pairs(alloc, items, rule, spot),
     }
+}
+
+/// The new subgoals that the use of the hypothesis leaves.
+fn premises_at(
+    alloc: Global,
+    items: &[Item],
+    conclusion: &Term,
+    used: &Use,
+    spot: &Spot,
+) -> Result<Vec<Term>, AllocError>
+    requires { shown items.now ≡ reading.around (seen_place spot.now) }
+    ensures { IfOk result (λ made. made.items ≡ (attempted used.now conclusion.now (seen_place spot.now)).premises) }
+{
+    match used {
+        Use::Assume => Ok(Vec::new(alloc)),
+        Use::Eliminate(rule) => elimination_premises(alloc, items, rule, spot),
+        Use::Destruct(rule) => destruction_premises(alloc, items, conclusion, rule, spot),
+    }
+}
+
+/// The goal that the unifier for the hypothesis at this place makes. Its new subgoals are made only now.
+fn made_at<B: Ordered>(
+    alloc: Global,
+    thy: &B,
+    trial: &Trial,
+    used: &Use,
+    spot: &Spot,
+    unifier: Unifier,
+) -> Result<Goal, StepFault>
+    requires stands { shown trial.now.items.now ≡ reading.around (seen_place spot.now) }
+    requires first { HasFirst trial.now.goal.now }
+    requires typed { Each IsTyped (attempted used.now trial.now.conclusion.now (seen_place spot.now)).premises }
+    requires left { Each IsLeftOver unifier.flexflex.items }
+    requires set { IsLabelSet trial.now.rests.now }
+    ensures { (s : State) → (first : tree.Term) → (others : List tree.Term) → IsTheoremOf s trial.now.goal.now → s.subgoals ≡ first ∷ others → IsOutcome (Becomes (with_unifier s others (attempted used.now trial.now.conclusion.now (seen_place spot.now)) (seen unifier))) (λ all. all ≡ trial.now.rests.now) result }
+{
+    let premises = premises_at(alloc, trial.items, trial.conclusion, used, spot)?;
+    let rests = Vec::from_slice(alloc, trial.rests)?;
+    with_unifier(alloc, thy, trial.goal, premises, unifier, rests)
 }
 
 /// What follows from the attempt to use the hypothesis at this place.
@@ -73,9 +116,11 @@ fn tried_at<B: Ordered>(
     requires set { IsLabelSet trial.now.rests.now }
     ensures { (s : State) → (first : tree.Term) → (others : List tree.Term) → IsTheoremOf s trial.now.goal.now → s.subgoals ≡ first ∷ others → IsOutcome (FollowsBy (algebra_of (B.content thy.now).declarations) trial.now.maxidx s others (attempted used.now trial.now.conclusion.now (seen_place spot.now))) (λ all. all ≡ trial.now.rests.now) result }
 {
-    let attempt = attempt_at(alloc, trial.items, trial.conclusion, used, spot)?;
-    let rests = Vec::from_slice(alloc, trial.rests)?;
-    followed(alloc, thy, trial.goal, attempt, trial.maxidx, rests)
+    let matched = pairs_at(alloc, trial.items, trial.conclusion, used, spot)?;
+    match unified(alloc, thy, trial.goal, matched, trial.maxidx) {
+        Ok(unifier) => made_at(alloc, thy, trial, used, spot, unifier),
+        Err(fault) => Err(step_fault(fault)),
+    }
 }
 
 /// Whether the fault is that there is no unifier.

@@ -14,8 +14,8 @@ loop-subgoal-init g c =
     subst (λ (done : List Term). ComesOn IsTyped f [] c.args.subgoals.items left done) (sym c.new-made.ensures.items)
     (others_none IsTyped f [] c.args.subgoals.items left c.into_iter-subgoal-iterator.ensures.into_iter_gives.0 c.requires)
 
-pub settled-requires : goal.settled-requires
-settled-requires g c = next_with IsTyped (instantiated c.args.typs.now c.args.terms.now) [] c.args.subgoals.items (into_iter_items c.loop-subgoal.subgoal-iterator) (into_iter_items c.next.new.self) c.loop-subgoal.made.items c.in-Some.subgoal c.in-Some.ensures.steps.0 c.loop-subgoal.invariant
+pub settled-requires-clause-typed : goal.settled-requires-clause-typed
+settled-requires-clause-typed g c = next_with IsTyped (instantiated c.args.typs.now c.args.terms.now) [] c.args.subgoals.items (into_iter_items c.loop-subgoal.subgoal-iterator) (into_iter_items c.next.new.self) c.loop-subgoal.made.items c.in-Some.subgoal c.in-Some.ensures.steps.0 c.loop-subgoal.invariant
 
 pub loop-subgoal-preserved : goal.loop-subgoal-preserved
 loop-subgoal-preserved g c =
