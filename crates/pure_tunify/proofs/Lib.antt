@@ -23,6 +23,7 @@ pub mod MeasureLaws
 pub mod UnifyLaws
 pub mod IndexLaws
 pub mod TreatLaws
+pub mod TwiceLaws
 pub mod FreeLaws
 pub mod WorkLaws
 pub mod EquationLaws

@@ -1,7 +1,7 @@
 -- What the parts of the program do to the settings: a type in which all set variables are replaced, a variable that is set, and pairs that are left of a pair.
-use Rattle.std.specs.Prelude.{◌≡◌, ◌⊎◌, ℕ, ◌≤◌, List, [], ◌∷◌, ◌++◌, map, reverse, Option, Some, None}
+use Rattle.std.specs.Prelude.{◌≡◌, ◌⊎◌, ℕ, ◌-◌, ◌<◌, ◌≤◌, List, [], ◌∷◌, ◌++◌, map, reverse, Option, Some, None}
 use Rattle.pure_text.specs.Lists.{IsIn, Each}
-use Rattle.pure_definitions.specs.Types.Typ.{Typ, TFree, TVar, Con, typ_size, typ_depth}
+use Rattle.pure_definitions.specs.Types.Typ.{Typ, TFree, TVar, Con, typs_of, typ_size, typ_depth}
 use Rattle.pure_definitions.specs.Types.Occurs.{OccursInTyp}
 use Rattle.pure_definitions.specs.Types.Order.{Algebra}
 use Rattle.pure_definitions.specs.Terms.Subst.{TypBind, typ_variable, typ_image, typ_instance}
@@ -19,6 +19,14 @@ use Rattle.pure_tunify.specs.Procedure.{sooner, place_of, Narrows, Equalises, Bl
 abbrev pub IsPutIn : Typ → (left room : ℕ) → Option Resolved → Type 0
 IsPutIn t left room None = Leaves left room (typ_size t) (typ_depth t) None
 IsPutIn t left room (Some r) = (r.typ ≡ t) × Leaves left room (typ_size t) (typ_depth t) (Some r.left)
+
+-- a constructor applied to one type twice
+abbrev pub twice_applied : ℕ → Typ → Typ
+twice_applied k t = Con k (typs_of (t ∷ t ∷ []))
+
+-- The constructor applied twice to a part that was put in: with both it leaves so much, or doesn't fit.
+abbrev pub IsPutTwice : (name room : ℕ) → (half whole : Option Resolved) → Type 0
+IsPutTwice k room half whole = (t : Typ) (left deep : ℕ) → 0 < left → 0 < deep → deep - 1 ≡ room → IsPutIn t (left - 1) room half → IsPutIn (twice_applied k t) left deep whole
 
 -- The type with all set variables replaced, and the room that it leaves; none exactly where it doesn't fit.
 abbrev pub IsResolved : List TypBind → Typ → (left room : ℕ) → Option Resolved → Type 0

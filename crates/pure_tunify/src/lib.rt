@@ -6,6 +6,7 @@ mod asking;
 mod asks;
 mod classes;
 mod demands;
+mod doubled;
 mod equation;
 mod fault;
 mod free;
@@ -31,6 +32,7 @@ mod unifiable;
 mod unifier;
 
 pub use asks::{Asked, asked_of, asked_of_arguments};
+pub use doubled::{applied_twice, twice};
 pub use equation::{Equation, pairs_of};
 pub use fault::TypFault;
 pub use index::index_above_each as index_above;

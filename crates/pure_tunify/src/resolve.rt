@@ -5,12 +5,13 @@ ghost use Rattle.pure_definitions.specs.Terms.Subst.{IsTypMap, typ_instance};
 ghost use Rattle.pure_definitions.specs.Types.Typ.{typ_size, typ_depth};
 ghost use Rattle.pure_definitions.specs.Terms.Limits.{Leaves, IsWithinTyp};
 ghost use Rattle.pure_tunify.specs.Settings.{composed};
-ghost use Rattle.pure_tunify.specs.Working.{IsPutIn, IsResolved, HasImagesWithin, IsSmall, IsWrittenInOrder, AreWrittenOut, MakesTheSame};
+ghost use Rattle.pure_tunify.specs.Working.{IsPutIn, IsPutTwice, IsResolved, HasImagesWithin, IsSmall, IsWrittenInOrder, AreWrittenOut, MakesTheSame};
 
+use crate::doubled::{applied_twice, twice};
 use crate::free::is_settled;
 use crate::settings::Settings;
 use pure_typ::{
-    MAX_DEPTH, MAX_SIZE, Typ, TypBind, TypMap, TypNode, index_above_of_typ, typ_leaves,
+    MAX_DEPTH, MAX_SIZE, Name, Typ, TypBind, TypMap, TypNode, index_above_of_typ, typ_leaves,
 };
 use std::alloc::{AllocError, Global};
 
@@ -31,6 +32,31 @@ fn put_in(alloc: Global, t: &Typ, left: u32, room: u32) -> Result<Option<Resolve
         Some(rest) => {
             let typ = t.copy(alloc)?;
             Ok(Some(Resolved { typ, left: rest }))
+        }
+    }
+}
+
+/// The constructor applied twice to a part that was put in, where the second one fits, too.
+#[inline(never)]
+fn put_twice(
+    alloc: Global,
+    name: Name,
+    half: Option<Resolved>,
+    room: u32,
+) -> Result<Option<Resolved>, AllocError>
+    ensures { IfOk result (IsPutTwice name room half) }
+{
+    match half {
+        None => Ok(None),
+        Some(image) => {
+            let Resolved { typ, left } = image;
+            match typ_leaves(&typ, left, room) {
+                None => Ok(None),
+                Some(rest) => {
+                    let typ = applied_twice(alloc, name, typ)?;
+                    Ok(Some(Resolved { typ, left: rest }))
+                }
+            }
         }
     }
 }
@@ -78,6 +104,11 @@ pub fn resolve(
         }
         TypNode::Con { name, args } => {
             let args = args.as_slice();
+            if let Some(part) = twice(args) {
+                let half = resolve(settings, alloc, part, left - 1, room - 1)?;
+                let whole = put_twice(alloc, *name, half, room - 1)?;
+                return Ok(whole);
+            }
             let mut images = Vec::with_capacity(alloc, args.len())?;
             let mut rest = left - 1;
             for arg in args {

@@ -1,4 +1,4 @@
-use Rattle.std.proofs.Common.{◌-◌, ◌∙◌, ap, sym, arith, take_all, None, Some}
+use Rattle.std.proofs.Common.{◌-◌, ◌∙◌, ap, sym, refl, arith, take_all, None, Some}
 use Rattle.pure_definitions.specs.Types.Typ.{Con, typs_of}
 use Rattle.pure_definitions.specs.Terms.Subst.{typ_instance}
 use Rattle.pure_definitions.proofs.TypsLemmas.{typ_size-some, typ_depth-some}
@@ -9,6 +9,7 @@ use Rattle.pure_tunify.specs.Settings.{composed}
 use Rattle.pure_tunify.specs.Working.{IsResolved}
 use Rattle.pure_tunify.proofs.ReachLaws.{on_true}
 use Rattle.pure_tunify.proofs.SettingLaws.{composed-fixed}
+use Rattle.pure_tunify.proofs.TwiceLaws.{twice_resolved}
 use Rattle.pure_tunify.proofs.WrittenLaws.{leaf_resolved, put_resolved}
 use Rattle.pure_tunify.proofs.resolve.+resolve.Goals as goal
 
@@ -20,15 +21,15 @@ returns-then-room-eq0 t c = λ h. let some = typ_depth-some (typ_instance (compo
 
 pub loop-arg-preserved : goal.loop-arg-preserved
 loop-arg-preserved t c =
-    let found : IsResolved c.args.settings.now.sets c.arg-item.result c.loop-arg.rest (c.args.room - 1) (Some c.in-Some.image) = rw c.in-Some.is at c.in_ok-found-in-Con.ensures in
+    let found : IsResolved c.args.settings.now.sets c.arg-item.result c.loop-arg.rest (c.args.room - 1) (Some c.in-Some-found.image) = rw c.in-Some-found.is at c.in_ok-found-in-Con.ensures in
     record {
-      put = instance-goes_on (composed c.args.settings.now.sets) c.as_slice-args.result.now c.args.left c.args.room c.loop-arg.arg-index c.loop-arg.rest c.in-Some.image.left c.arg-item.result c.loop-arg.invariant.put c.loop-arg-test.true c.arg-item.is found.1;
-      images = images-more (composed c.args.settings.now.sets) c.as_slice-args.result.now c.loop-arg.images.items c.push.new.self.items c.loop-arg.arg-index c.arg-item.result c.in-Some.image.typ c.loop-arg.invariant.images c.in_ok-push-in-Con.ensures.items found.0 c.loop-arg-test.true c.arg-item.is;
+      put = instance-goes_on (composed c.args.settings.now.sets) c.as_slice-args.result.now c.args.left c.args.room c.loop-arg.arg-index c.loop-arg.rest c.in-Some-found.image.left c.arg-item.result c.loop-arg.invariant.put c.loop-arg-test.true c.arg-item.is found.1;
+      images = images-more (composed c.args.settings.now.sets) c.as_slice-args.result.now c.loop-arg.images.items c.push.new.self.items c.loop-arg.arg-index c.arg-item.result c.in-Some-found.image.typ c.loop-arg.invariant.images c.in_ok-push-in-Con.ensures.items found.0 c.loop-arg-test.true c.arg-item.is;
     }
 
-pub returns-in_default : goal.returns-in_default
-returns-in_default t c =
-    let none : IsResolved c.args.settings.now.sets c.arg-item.result c.loop-arg.rest (c.args.room - 1) None = rw c.in_default.is at c.in_ok-found-in-Con.ensures in
+pub returns-in_default-found : goal.returns-in_default-found
+returns-in_default-found t c =
+    let none : IsResolved c.args.settings.now.sets c.arg-item.result c.loop-arg.rest (c.args.room - 1) None = rw c.in_default-found.is at c.in_ok-found-in-Con.ensures in
     rw (← c.in_ok-top.ensures.same, ← c.top.view_is, c.in-Con.is, ← c.as_slice-args.ensures)
     (instance-stops (composed c.args.settings.now.sets) c.as_slice-args.result.now c.args.left c.args.room c.loop-arg.arg-index c.loop-arg.rest c.arg-item.result c.loop-arg.invariant.put c.loop-arg-test.true c.arg-item.is none)
 
@@ -60,3 +61,8 @@ returns-then-index_above_of_typ-eq0 t c =
 pub returns-then-is_settled : goal.returns-then-is_settled
 returns-then-is_settled t c =
     put_resolved c.args.settings.now.sets c.args.t.now c.in_ok-top.top.now c.args.left c.args.room c.in_ok-image.image c.in_ok-top.ensures.same (on_true _ c.is_settled.result c.is_settled.ensures c.if-is_settled.true) c.in_ok-image.ensures
+
+pub returns-in-Some : goal.returns-in-Some
+returns-in-Some t c =
+    twice_resolved c.args.settings.now.sets c.args.t.now c.in_ok-top.top.now c.in-Con.name c.as_slice-args.result.now c.in-Some.part.now c.args.left c.args.room c.in_ok-half-in-Con.half c.in_ok-whole-in-Con.whole
+    c.in_ok-top.ensures.same (rw (← c.top.view_is, c.in-Con.is, ← c.as_slice-args.ensures) refl) c.in-Some.ensures (omega (arith, c.if-left-eq0.false)) (omega (arith, c.if-room-eq0.false)) c.in_ok-half-in-Con.ensures c.in_ok-whole-in-Con.ensures
