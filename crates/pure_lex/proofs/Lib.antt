@@ -8,3 +8,4 @@ pub mod MarkFronts
 pub mod OtherFronts
 pub mod Steps
 pub mod Existence
+pub mod Keywords

@@ -36,11 +36,27 @@ const KEYWORDS: [&[u8]; 21] = [
     b"version",
 ];
 
-/// Whether the text is a keyword.
+/// The keywords of three bytes.
+const OF_THREE: [&[u8]; 2] = [b"end", b"and"];
+
+/// Those of four.
+const OF_FOUR: [&[u8]; 2] = [b"done", b"have"];
+
+/// Those of five.
+const OF_FIVE: [&[u8]; 6] = [b"begin", b"class", b"where", b"lemma", b"apply", b"defer"];
+
+/// Whether the text is a keyword. Only those of its length are looked at, where many texts have it.
 pub(crate) fn is_keyword(text: &[u8]) -> bool
     ensures { result ≡ is_keyword text.now }
 {
-    KEYWORDS.contains(&text)
+    match text.len() {
+        1 => false,
+        3 => OF_THREE.contains(&text),
+        4 => OF_FOUR.contains(&text),
+        5 => OF_FIVE.contains(&text),
+        9 => false,
+        _ => KEYWORDS.contains(&text),
+    }
 }
 
 /// The kind of a spelling.

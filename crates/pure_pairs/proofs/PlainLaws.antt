@@ -3,7 +3,6 @@ use Rattle.std.proofs.Common.{◌≡◌, ◌≢◌, ◌<◌, ℕ, zero, suc, Boo
 use Rattle.std.specs.Prelude.{Result, Ok, Err, IfOk}
 use Rattle.pure_text.specs.Lists.{Each}
 use Rattle.pure_definitions.specs.Names.{Label}
-use Rattle.pure_definitions.specs.Types.Typ.{Typ}
 use Rattle.pure_definitions.specs.Terms.Term.{Term, Const, Free, Var, Bound, Abs, App, term_eq}
 use Rattle.pure_definitions.specs.Terms.Conditions.{variable_typ}
 use Rattle.pure_definitions.specs.Models.Equality.{term_eq-same, term_eq-itself}
