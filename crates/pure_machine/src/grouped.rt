@@ -114,7 +114,8 @@ impl<G: Drop, O: Drop> Grouped<G, O> {
     ) -> Result<u32, AllocError>
         requires { cancelled ≡ is_theory_cancelled self.old.marks theory }
         ensures { MatchResult result (λ n. (n ≡ length self.old.list)
-            × (self.new ≡ record { list = self.old.list ++ record { theory = theory; goal = goal.value; standing = if cancelled then Cancelled else Ready } ∷ []; marks = self.old.marks }) × (log.new ≡ entered log.old (Fork theory told.value)))
+            × (self.new ≡ record { list = self.old.list ++ record { theory = theory; goal = goal.value; standing = if cancelled then Cancelled else Ready } ∷ []; marks = self.old.marks })
+            × (log.new ≡ entered log.old (Fork theory told.value)))
             (λ _. (self.new ≡ self.old) × (log.new ≡ log.old)) }
     {
         let next = self.promises.count();

@@ -224,7 +224,8 @@ impl<G: Drop, O: Drop> Promises<G, O> {
         cancelled: bool,
     ) -> Result<u32, AllocError>
         ensures { MatchResult result
-            (λ n. (n ≡ length self.old) × (self.new ≡ self.old ++ record { theory = theory; goal = goal.value; standing = if cancelled then Cancelled else Ready } ∷ []) × (log.new ≡ entered log.old (Fork theory told.value)))
+            (λ n. (n ≡ length self.old) × (self.new ≡ self.old ++ record { theory = theory; goal = goal.value; standing = if cancelled then Cancelled else Ready } ∷ [])
+            × (log.new ≡ entered log.old (Fork theory told.value)))
             (λ _. (self.new ≡ self.old) × (log.new ≡ log.old)) }
     {
         let number = self.list.len();
