@@ -1,5 +1,5 @@
 -- What calls on goals ask of each other.
-use Rattle.std.proofs.Common.{◌≡◌, ◌≢◌, ℕ, ◌+◌, ◌-◌, ◌<◌, ◌≤◌, List, [], ◌∷◌, ◌++◌, length, Result, Err, IfOk, refl, ap, sym, subst, ◌∙◌, arith, append_assoc}
+use Rattle.std.proofs.Common.{◌≡◌, ◌≢◌, ℕ, ◌+◌, ◌-◌, ◌<◌, ◌≤◌, List, [], ◌∷◌, ◌++◌, length, Bool, true, false, MatchBool, Result, Err, IfOk, refl, ap, sym, subst, ◌∙◌, arith, append_assoc}
 use Rattle.pure_text.specs.Lists.{IsIn, Each}
 use Rattle.pure_text.proofs.ListLaws.{in-append_left, in-append_right}
 use Rattle.pure_definitions.specs.Names.{Label}
@@ -26,9 +26,6 @@ use Rattle.pure_resolve.proofs.StepLaws.{convert_answer, equated-first}
 
 pub goal_left_typed : (th : Theorem) → IsGoalTheorem th → Each IsLeftTyped th.pairs
 goal_left_typed th g = subst (λ (ps : List Pair). Each IsLeftTyped ps) (sym g.is.same_pairs) (left-typed g.state.pairs g.goal.left_pairs)
-
-pub too_few : (th : Theorem) (g : IsGoalTheorem th) (n count : ℕ) → n < 4294967296 → ((s : State) → IsTheoremOf s th → count ≡ cut_off (length s.subgoals)) → count < n → length g.state.subgoals < n
-too_few th g n count fits h l = let counted = h g.state g.is in omega (arith, counted, l, fits)
 
 none-of : (As : List Term) → cut_off (length As) ≡ 0 → As ≡ []
 none-of [] e = refl
@@ -72,9 +69,18 @@ convert_united th equation g e T l r is S comes new marked made result (rests, u
     convert_answer th equation g e T l r is S comes g.state.subgoals new refl (λ A others stand. (made A others g.state.statement (prop A others stand)).0)
     th.pairs refl rests marked (made e.left e.others g.state.statement (prop e.left e.others first)).1 (IsSetOf label_cmp (th.rests ++ equation.rests)) union result h
 
--- There is the subgoal that is asked for.
-pub enough : (As items : List Term) (n count : ℕ) → items ≡ As → count ≡ cut_off (length As) → n ≢ 0 → n ≤ count → n - 1 < length items
-enough As items n count e h some l = let same = ap length e in omega (arith, same, h, some, l)
+-- Whether there is the subgoal that is asked for.
+pub enough_more : (count rest all : ℕ) (b : Bool) → count ≢ 0 → all ≡ rest + 1 → MatchBool b (count - 1 ≤ rest) (rest < count - 1) → MatchBool b (count ≤ all) (all < count)
+enough_more count rest all true some e h = omega (arith, some, e, h)
+enough_more count rest all false some e h = omega (arith, some, e, h)
+
+pub too_few : (As : List Term) (n : ℕ) (b : Bool) → MatchBool b (n ≤ length As) (length As < n) → b ≡ false → length As < n
+too_few As n true h e = absurd (cc)
+too_few As n false h e = h
+
+pub enough : (As : List Term) (n : ℕ) (b : Bool) → MatchBool b (n ≤ length As) (length As < n) → b ≡ true → n ≢ 0 → n - 1 < length As
+enough As n true h e some = omega (arith, h, some)
+enough As n false h e some = absurd (cc)
 
 pub some_left : (As items : List Term) (count : ℕ) → items ≡ As → count ≡ cut_off (length As) → count ≢ 0 → 0 < length items
 some_left As items count e h some = let same = ap length e in omega (arith, same, h, some)

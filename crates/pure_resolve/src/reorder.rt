@@ -10,7 +10,7 @@ ghost use Rattle.pure_resolve.specs.Goals.{IsGoalTheorem, IsLeftTyped, IsConclud
 
 use crate::close::concluded;
 use crate::open::{Parts, opened, put_first};
-use crate::state::Goal;
+use crate::state::{Goal, has_premises};
 use pure_goal_steps::StepFault;
 use pure_term::Term;
 use pure_theorem::{Base, Thm, copied_pairs};
@@ -67,7 +67,7 @@ impl Goal {
         if n == 0 {
             return Err(StepFault::NoSubgoal);
         }
-        if self.subgoals() < n {
+        if !has_premises(&self.thm.prop, n) {
             return Err(StepFault::NoSubgoal);
         }
         let mut front = Vec::new(alloc);

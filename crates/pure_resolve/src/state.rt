@@ -1,5 +1,5 @@
 //! Goals as values.
-ghost use Rattle.std.specs.Prelude.{◌≡◌, List, length};
+ghost use Rattle.std.specs.Prelude.{◌≡◌, ◌≤◌, ◌<◌, List, length, MatchBool};
 ghost use Rattle.pure_definitions.specs.Terms.Term as tree;
 ghost use Rattle.pure_definitions.specs.Terms.Limits.{cut_off};
 ghost use Rattle.pure_logic.specs.Connectives.{chain, protect};
@@ -22,6 +22,19 @@ fn count_premises(t: &Term) -> u32
     match as_implication(t) {
         None => 0,
         Some((_, rest)) => count_premises(rest).saturating_add(1),
+    }
+}
+
+/// Whether there are at least so many premises before a mark. Those behind them aren't walked.
+pub fn has_premises(t: &Term, count: u32) -> bool
+    ensures { (As : List tree.Term) → (C : tree.Term) → t.now ≡ chain As (protect C) → MatchBool result (count ≤ length As) (length As < count) }
+{
+    if count == 0 {
+        return true;
+    }
+    match as_implication(t) {
+        None => false,
+        Some((_, rest)) => has_premises(rest, count - 1),
     }
 }
 
