@@ -213,8 +213,8 @@ impl<G: Drop, O: Drop> Promises<G, O> {
         }
     }
 
-    /// One promise more, with the event that makes it, which is told the goal, and its number; an error where the numbers are used up, too. Promise and event
-    /// are made where nothing fails any more, so that an error lets go of two pointers alone.
+    /// One promise more, with the event that makes it, which is told the goal, and its number; an error where the numbers are
+    /// used up, too. Promise and event are made where nothing fails any more, so that an error lets go of two pointers alone.
     pub fn fork<C: Drop>(
         &mut self,
         log: &mut Log<G, C, O>,

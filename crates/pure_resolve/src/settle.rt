@@ -111,7 +111,7 @@ fn are_plain_for(
     }
 }
 
-/// The term with the map's terms put in, in place of the term.
+/// The term with the map's terms put in. It takes the term.
 fn plain_instance(alloc: Global, terms: &TermMap, t: Term) -> Result<Term, AllocError>
     ensures { IfOk result (λ u. u ≡ inst_term (term_image terms.now) t) }
 {

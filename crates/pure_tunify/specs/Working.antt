@@ -24,7 +24,7 @@ IsPutIn t left room (Some r) = (r.typ ≡ t) × Leaves left room (typ_size t) (t
 abbrev pub twice_applied : ℕ → Typ → Typ
 twice_applied k t = Con k (typs_of (t ∷ t ∷ []))
 
--- The constructor applied twice to a part that was put in: with both it leaves so much, or doesn't fit.
+-- The constructor applied to a part that was put in, in both of two places: with both it leaves so much, or doesn't fit.
 abbrev pub IsPutTwice : (name room : ℕ) → (half whole : Option Resolved) → Type 0
 IsPutTwice k room half whole = (t : Typ) (left deep : ℕ) → 0 < left → 0 < deep → deep - 1 ≡ room → IsPutIn t (left - 1) room half → IsPutIn (twice_applied k t) left deep whole
 

@@ -36,7 +36,7 @@ fn put_in(alloc: Global, t: &Typ, left: u32, room: u32) -> Result<Option<Resolve
     }
 }
 
-/// The constructor applied twice to a part that was put in, where the second one fits, too.
+/// The constructor applied to a part that was put in, in both of two places, where the second one fits, too.
 #[inline(never)]
 fn put_twice(
     alloc: Global,
