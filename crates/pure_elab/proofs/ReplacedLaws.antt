@@ -1,16 +1,16 @@
 -- Types and terms whose variables are numbered and replaced, one part after the other.
-use Rattle.std.proofs.Common.{◌≡◌, ℕ, Bool, true, ◌+◌, ◌<◌, ◌≤◌, List, [], ◌∷◌, ◌++◌, map, length, take, take_all, get_or, refl, ap, sym, ◌∙◌, arith}
-use Rattle.pure_definitions.specs.Types.Typ.{Typ, TFree, TVar, Con, Typs, none, also, typs_of, typ_eq}
-use Rattle.pure_definitions.specs.Models.Equality.{typ_eq-same}
+use Rattle.std.proofs.Common.{◌≡◌, ℕ, ◌+◌, ◌<◌, ◌≤◌, List, [], ◌∷◌, ◌++◌, map, length, take, take_all, get_or, refl, ap, sym, ◌∙◌, arith}
+use Rattle.pure_definitions.specs.Types.Typ.{Typ, TFree, TVar, Con, Typs, none, also, typs_of}
 use Rattle.pure_definitions.specs.Terms.Term.{Term, Const, Free, Var, Bound, Abs, App}
 use Rattle.pure_definitions.specs.Terms.Subst.{TypBind, typ_image, typ_instance, inst_typ, retyped_variable}
 use Rattle.pure_definitions.specs.Terms.Measures.{typ_index_above, typs_index_above, term_index_above}
 use Rattle.pure_definitions.proofs.InstanceLemmas.{typ_image-fixed, typs_instance-of, images-more}
 use Rattle.pure_definitions.proofs.MeasureLemmas.{typ_stays, term_stays}
 use Rattle.pure_tunify.specs.Occurrences.{schematics, schematics_of}
+use Rattle.pure_tunify.specs.Working.{twice_applied}
 use Rattle.pure_elab.specs.declared.numbers.Variable.{Variable}
 use Rattle.pure_elab.specs.Numbered.{numbered, term_variables, unknown_of, unknowns}
-use Rattle.pure_elab.specs.Numbers.{entries_from, twice_applied, IsImageIn, IsNumberedTyp, AreNumberedTyps, IsNumberedTerm, IsTermNumbered}
+use Rattle.pure_elab.specs.Numbers.{entries_from, IsImageIn, IsNumberedTyp, AreNumberedTyps, IsNumberedTerm, IsTermNumbered}
 use Rattle.pure_elab.proofs.NumberedLaws.{numbered-again}
 use Rattle.pure_elab.proofs.NumbersLaws.{numbered-stays}
 use Rattle.pure_elab.proofs.WalkLaws.{numbered_append}
@@ -33,13 +33,6 @@ term_variables_none (Var x i T) e = absurd (omega arith)
 term_variables_none (Bound n) e = refl
 term_variables_none (Abs T b) e = λ i. schematics_none T (omega arith) i ++ term_variables_none b (omega arith) i
 term_variables_none (App f a) e = λ i. term_variables_none f (omega arith) i ++ term_variables_none a (omega arith) i
-
--- Two types that are the same one.
-pub same_twice : (ts : List Typ) (front back : Typ) (same : Bool) → length ts ≡ 2 → front ≡ get_or ts 0 front → back ≡ get_or ts 1 back → same ≡ typ_eq front back → same ≡ true → ts ≡ front ∷ front ∷ []
-same_twice [] front back same two first second told e = absurd (omega arith)
-same_twice (t ∷ []) front back same two first second told e = absurd (omega arith)
-same_twice (t ∷ u ∷ []) front back same two first second told e = λ l. sym first l ∷ (sym second ∙ sym (typ_eq-same front back (sym told ∙ e))) l ∷ []
-same_twice (t ∷ u ∷ v ∷ ts) front back same two first second told e = absurd (omega arith)
 
 module _ (image : ℕ → List ℕ → Typ) (first : ℕ) where
   numbered_further : (now next : List TypBind) (vs more : List Typ) → next ≡ numbered image first now vs → numbered image first now (vs ++ more) ≡ numbered image first next more

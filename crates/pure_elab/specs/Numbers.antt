@@ -1,6 +1,6 @@
 -- Tables of type variables that have numbers, as entries; and types and terms in which numbered variables are replaced.
 use Rattle.std.specs.Prelude.{◌≡◌, ℕ, ◌+◌, true, false, List, [], ◌∷◌, ◌++◌, map, Option, Some, None}
-use Rattle.pure_definitions.specs.Types.Typ.{Typ, TVar, Con, typs_of}
+use Rattle.pure_definitions.specs.Types.Typ.{Typ, TVar}
 use Rattle.pure_definitions.specs.Terms.Term.{Term}
 use Rattle.pure_definitions.specs.Terms.Subst.{TypBind, typ_image, typ_instance, inst_typ}
 use Rattle.pure_tunify.specs.Settings.{bind}
@@ -27,10 +27,6 @@ pub record IsImageIn (image : ℕ → List ℕ → Typ) (first : ℕ) (old new :
   pub added : new ≡ with_entry image first old v
   pub image_is : t ≡ typ_image new v
   pub has : has_entry new v ≡ true
-
--- a constructor applied to one type twice
-abbrev pub twice_applied : ℕ → Typ → Typ
-twice_applied k t = Con k (typs_of (t ∷ t ∷ []))
 
 -- Each variable has its image in its place, whichever further ones are numbered.
 abbrev pub IsNumberedTyp : (image : ℕ → List ℕ → Typ) → (first : ℕ) → List TypBind → (old new : Typ) → Type 0

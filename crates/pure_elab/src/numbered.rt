@@ -1,49 +1,20 @@
 //! Type variables that are numbered by first occurrence, and replaced.
-ghost use Rattle.std.specs.Prelude.{◌≡◌, [], ◌∷◌, IfOk, IfSome, OnOk};
+ghost use Rattle.std.specs.Prelude.{◌≡◌, IfOk, OnOk};
 ghost use Rattle.pure_definitions.specs.Types.Typ as tree;
 ghost use Rattle.pure_definitions.specs.Terms.Term as term_tree;
 ghost use Rattle.pure_tunify.specs.Occurrences.{schematics, schematics_of};
+ghost use Rattle.pure_tunify.specs.Working.{twice_applied};
 ghost use Rattle.pure_elab.specs.Numbered as spec;
 ghost use Rattle.pure_elab.specs.Numbering.{image_of};
-ghost use Rattle.pure_elab.specs.Numbers.{entries, twice_applied, IsNumberedTyp, AreNumberedTyps, IsTermNumbered};
+ghost use Rattle.pure_elab.specs.Numbers.{entries, IsNumberedTyp, AreNumberedTyps, IsTermNumbered};
 
 use crate::nodes::{abstraction, application};
 use crate::numbers::{Numbering, Numbers, image_in};
 use pure_term::{Term, TermNode, index_above_of};
-use pure_typ::{Name, Typ, TypNode, index_above_of_typ, whole_size_of_typ};
+use pure_tunify::{applied_twice, twice};
+use pure_typ::{Name, Typ, TypNode, index_above_of_typ};
 use std::alloc::{AllocError, Global};
 use std::sync::Arc;
-
-/// More nodes than a type has that isn't compared with the one beside it.
-const MANY: u64 = 64;
-
-/// The type that stands in both of two places, where it has many nodes.
-fn twice(types: &[Typ]) -> Option<&Typ>
-    ensures { IfSome result (λ t. types.now ≡ t.now ∷ t.now ∷ []) }
-{
-    if types.len() != 2 {
-        return None;
-    }
-    let (front, back) = (&types[0], &types[1]);
-    if whole_size_of_typ(front) <= MANY {
-        return None;
-    }
-    if front == back {
-        return Some(front);
-    }
-    None
-}
-
-/// The constructor applied to the type twice.
-fn applied_twice(alloc: Global, name: Name, part: Typ) -> Result<Typ, AllocError>
-    ensures { IfOk result (λ t. t ≡ twice_applied name part) }
-{
-    let copy = part.copy(alloc)?;
-    let mut types = Vec::with_capacity(alloc, 2)?;
-    types.push(copy)?;
-    types.push(part)?;
-    Typ::constructed(alloc, name, types)
-}
 
 /// Numbers the variables of a type: the type with their images in their places. One without schematic variables is handed
 /// back as it is.
