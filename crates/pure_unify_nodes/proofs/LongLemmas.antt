@@ -89,3 +89,9 @@ drop_all [] zero over = refl
 drop_all [] (suc i) over = refl
 drop_all (p ∷ ps) zero over = absurd (omega arith)
 drop_all (p ∷ ps) (suc i) over = drop_all ps i (omega arith)
+
+-- Where the left side has a long form, what stops the right one stops the pair.
+pub stopped_behind : (p : Pair) (l : Term) (f : NormFault) → ComesTo p.left (Long l) → IsSideAnswer p.right (Err f) → IsPairAnswer p (Err f)
+stopped_behind p l Big left right = inr (l, left, right)
+stopped_behind p l Steps left right = inr (l, left, right)
+stopped_behind p l Memory left right = right
