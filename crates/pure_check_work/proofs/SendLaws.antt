@@ -45,10 +45,10 @@ statement_sync : IsSync statement.the_row
 statement_sync = search (term_send, term_sync, crosses, sendable) depth 20
 
 declared_send : IsSend declared.the_row
-declared_send = search (typ_send, typ_sync, term_send, term_sync, crosses, sendable) depth 20
+declared_send = search (typ_send, typ_sync, sort_send, sort_sync, term_send, term_sync, crosses, sendable) depth 20 fits 20000
 
 declared_sync : IsSync declared.the_row
-declared_sync = search (typ_send, typ_sync, term_send, term_sync, crosses, sendable) depth 20
+declared_sync = search (typ_send, typ_sync, sort_send, sort_sync, term_send, term_sync, crosses, sendable) depth 20 fits 20000
 
 declarations_send : IsSend declarations.the_row
 declarations_send = search (declared_send, declared_sync, typ_send, typ_sync, statement_send, statement_sync, shelf_send, crosses, sendable) depth 60 fits 20000
