@@ -4,10 +4,9 @@ use Rattle.atomic_table.specs.Table.{Me}
 use Rattle.pure_machine.specs.Policy.{Opening}
 use Rattle.pure_machine.specs.State.{State, Event, TakeTheory, TakeProof, Fork, Deliver}
 use Rattle.pure_machine.specs.Step.{IsReady, after, is_cancelled_promise}
-use Rattle.pure_machine.specs.Calls.{Takes, delivered_as, polled_as, is_in_cancelled}
+use Rattle.pure_machine.specs.Calls.{Takes, delivered_as}
 use Rattle.pure_machine.specs.declared.answers.Task.TheVariants as task_code
 use Rattle.pure_machine.specs.declared.answers.Delivered as delivered
-use Rattle.pure_machine.specs.declared.answers.Polled as polled
 use Rattle.pure_board_lock.specs.History.{events}
 use Rattle.pure_board_lock.specs.View.{View, looking, entering, releasing}
 use Rattle.pure_board_lock.specs.Steps.{IsHeld}
@@ -53,10 +52,8 @@ module _ {W G C O : Type 0} (shape : W → List (List ℕ)) (forks : W → ℕ �
         (λ name k o new k-is there entered. (h.log, entered, subst (λ (x : St). IsGoalOf x n goal.value) (sym there) (t.2.0, t.2.1.0, sym t.2.2)))
 
     module _ (m1 : Me (Option St) V) (looked : m1.0 ≡ looking u) (told : m ≡ (releasing m1.0, [])) where
-      pub done-polled : (n : ℕ) (p : polled.Polled) → p ≡ polled_as c.stopped (is_in_cancelled c (slice_get c.promises n))
-          → Done (λ old new. Sees old new × (p ≡ polled_as (state_seen new).stopped (is_in_cancelled (state_seen new) (slice_get (state_seen new).promises n)))) v m
-      done-polled n p is = done-looking shape forks closes may is_fault v u c s h (λ old new. Sees old new × (p ≡ polled_as (state_seen new).stopped (is_in_cancelled (state_seen new) (slice_get (state_seen new).promises n)))) m1 m looked told
-          (λ name k o new sees there. (sees, is ∙ ap (λ (x : St). polled_as x.stopped (is_in_cancelled x (slice_get x.promises n))) (sym there)))
+      pub done-read : {X : Type 0} (read : St → X) (x : X) → x ≡ read c → Done (λ old new. Sees old new × (x ≡ read (state_seen new))) v m
+      done-read read x is = done-looking shape forks closes may is_fault v u c s h (λ old new. Sees old new × (x ≡ read (state_seen new))) m1 m looked told (λ name k o new sees there. (sees, is ∙ ap read (sym there)))
 
     pub done-fork : (i : ℕ) (g : G) (n : ℕ) → MayEnter (forks h.session) (closes h.session) (may h.session) (is_fault h.session) h.opening h.log v.number (Fork i g) → c' ≡ after c (Fork i g) → n ≡ length c.promises → Enter u c' m
         → Done (λ old new. IsForked old new i g n) v m

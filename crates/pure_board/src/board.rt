@@ -3,13 +3,13 @@ ghost use Rattle.std.specs.Prelude.{◌≡◌, [], true, is_some, MatchResult, s
 ghost use Rattle.pure_text.specs.Lists.{IsIn};
 ghost use Rattle.pure_machine.specs.State.{TakeProof, CloseTheory, Stop};
 ghost use Rattle.pure_machine.specs.Step.{IsOut, stops};
-ghost use Rattle.pure_machine.specs.Calls.{polled_as, is_in_cancelled};
+ghost use Rattle.pure_machine.specs.Calls.{polled_as, is_in_cancelled, count_cancelled};
 ghost use Rattle.pure_core_runs.specs.Seats.{HasTheory, forks_in};
 ghost use Rattle.pure_board.specs.Sight.{IsTrueSight, Sees};
 ghost use Rattle.pure_board.specs.Taken.{state_seen, IsGoalOf, IsTaken, IsForked, IsEntered, IsDelivered};
 
 use crate::entering::{close_by, deliver_by, fork_by, stop_by};
-use crate::taking::{poll_by, take_by};
+use crate::taking::{cancellations_by, poll_by, take_by};
 use crate::tokens::{CoreDesk, Token};
 use pure_core::{Delivered, Polled, Task, Work};
 use std::alloc::AllocError;
@@ -154,6 +154,15 @@ impl<W: Work> Board<W> {
         ensures polled { Sees seat.old seat.new × (result ≡ polled_as (state_seen seat.new).stopped (is_in_cancelled (state_seen seat.new) (slice_get (state_seen seat.new).promises number))) }
     {
         poll_by(&self.desk, rt, &mut seat.token, number)
+    }
+
+    /// How many groups are cancelled by now. It takes no memory, and may wait for the core.
+    pub fn cancellations<R: Wait>(&self, rt: &R, seat: &mut Seat<W>) -> usize
+        requires board { seat.old.plan ≡ self.now }
+        ensures known { IsTrueSight W.shape W.forks W.closes W.may W.faults seat.new }
+        ensures counted { Sees seat.old seat.new × (result ≡ count_cancelled (state_seen seat.new).cancelled) }
+    {
+        cancellations_by(&self.desk, rt, &mut seat.token)
     }
 
     /// Stops the work, which the seat hasn't done before. It takes no memory, and may wait for the core.

@@ -1,8 +1,8 @@
-//! Taking and polling, by a token.
+//! Taking, polling and counting what is cancelled, by a token.
 ghost use Rattle.std.specs.Prelude.{◌≡◌, [], MatchResult, slice_get};
 ghost use Rattle.pure_text.specs.Lists.{IsIn};
 ghost use Rattle.pure_machine.specs.State.{TakeProof};
-ghost use Rattle.pure_machine.specs.Calls.{polled_as, is_in_cancelled};
+ghost use Rattle.pure_machine.specs.Calls.{polled_as, is_in_cancelled, count_cancelled};
 ghost use Rattle.pure_board_lock.specs.Names.{desk_id};
 ghost use Rattle.pure_board_lock.specs.Seats.{view_of};
 ghost use Rattle.pure_board.specs.Sight.{Sees};
@@ -77,4 +77,23 @@ pub(crate) fn poll_by<R: Wait, W: Work>(
     desk.look(token);
     desk.give_back(token, core);
     polled
+}
+
+/// How many groups are cancelled.
+pub(crate) fn cancellations_by<R: Wait, W: Work>(
+    desk: &CoreDesk<W>,
+    rt: &R,
+    token: &mut Token<W>,
+) -> usize
+    requires desk { token.old.table_id ≡ desk_id desk.now }
+    requires place { token.old.me.1 ≡ [] }
+    requires seated { IsSeated W.shape W.forks W.closes W.may W.faults (view_of token.old) }
+    ensures desk { token.new.table_id ≡ token.old.table_id }
+    ensures done { IsDone W.shape W.forks W.closes W.may W.faults (λ old new. Sees old new × (result ≡ count_cancelled (state_seen new).cancelled)) (view_of token.old) token.new.me }
+{
+    let core: Core<W> = desk.hold(rt, token);
+    let groups = core.cancellations();
+    desk.look(token);
+    desk.give_back(token, core);
+    groups
 }

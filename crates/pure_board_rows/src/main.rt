@@ -6,11 +6,13 @@ mod fields;
 mod letters;
 mod plays;
 mod pools;
+mod searches;
 mod turns;
 
 use crate::cores::{core, drains};
 use crate::plays::plays;
 use crate::pools::{meets, runs};
+use crate::searches::breaks;
 use pure_rows::{Fault, Outcome, Row, Tally, named, read_file};
 use std::alloc::Global;
 use std::process::ExitCode;
@@ -29,15 +31,17 @@ enum Kind {
     Plays,
     Runs,
     Meets,
+    Breaks,
 }
 
 /// The first fields of rows.
-const KINDS: [(&[u8], Kind); 5] = [
+const KINDS: [(&[u8], Kind); 6] = [
     (b"drains", Kind::Drains),
     (b"core", Kind::Core),
     (b"plays", Kind::Plays),
     (b"runs", Kind::Runs),
     (b"meets", Kind::Meets),
+    (b"breaks", Kind::Breaks),
 ];
 
 /// Whether the row holds.
@@ -48,6 +52,7 @@ fn is_met<R: Threads + Wait + Sync>(rt: &R, alloc: Global, row: &Row) -> Result<
         Some(Kind::Plays) => plays(rt, alloc, row),
         Some(Kind::Runs) => runs(rt, alloc, row),
         Some(Kind::Meets) => meets(rt, alloc, row),
+        Some(Kind::Breaks) => breaks(rt, alloc, row),
         None => Err(Fault::Unreadable),
     }
 }

@@ -157,7 +157,7 @@ fn is_so(
 }
 
 /// Whether the core is as all these words want it, with blanks between them.
-fn are_so(
+pub(crate) fn are_so(
     alloc: Global,
     session: &Session,
     core: &Core<Session>,

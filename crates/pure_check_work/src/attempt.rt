@@ -6,6 +6,7 @@ ghost use Rattle.pure_check_work.specs.Attempts.{Attempts, Steps};
 use pure_table::declare::Duty;
 use pure_table::method::{Outcome, Proving};
 use pure_typ::NamesByBase;
+use pure_watch::Watch;
 use std::alloc::{AllocError, Global};
 
 /// A proof on its way, and how many steps it may still take.
@@ -32,17 +33,19 @@ impl Attempt {
         })
     }
 
-    /// Makes one step of the proof; none where steps are left and none failed, else what comes of the proof.
-    pub(crate) fn advance(
+    /// Makes one step of the proof while the watch lets it go on; none where steps are left and none failed, else what comes of
+    /// the proof.
+    pub(crate) fn advance<V: Watch>(
         &mut self,
         alloc: Global,
         names: &NamesByBase,
         duty: &Duty,
+        watch: &V,
     ) -> Result<Option<Outcome>, AllocError>
         requires { Attempts names.now duty.now self.old }
         ensures { IfOk result (Steps names.now duty.now self.old self.new) }
     {
-        match self.proving.advance(alloc, names, duty)? {
+        match self.proving.advance_while(alloc, names, duty, watch)? {
             Some(outcome) => Ok(Some(outcome)),
             None => {
                 self.left -= 1;

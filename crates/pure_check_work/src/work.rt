@@ -9,6 +9,7 @@ use pure_core::{Turn, Work};
 use pure_table::declare::Duty;
 use pure_table::method::Outcome;
 use pure_table::theory_run::{Closed, Run};
+use pure_watch::Watch;
 use std::alloc::AllocError;
 use std::sync::Arc;
 
@@ -84,8 +85,13 @@ impl Work for Checking {
         Ok(attempt)
     }
 
-    fn advance(&self, goal: &Duty, proving: &mut Attempt) -> Result<Option<Outcome>, AllocError> {
-        let outcome = proving.advance(self.alloc, self.names(), goal)?;
+    fn advance<V: Watch>(
+        &self,
+        goal: &Duty,
+        proving: &mut Attempt,
+        watch: &V,
+    ) -> Result<Option<Outcome>, AllocError> {
+        let outcome = proving.advance(self.alloc, self.names(), goal, watch)?;
         Ok(outcome)
     }
 

@@ -7,6 +7,7 @@ ghost use Rattle.pure_core.specs.Legal.{IsLegal, GoesOn, IsAtRest, IsTheoryAlone
 
 use crate::work::{Turn, Work};
 use pure_machine::{Machine, Node, Policy, Task};
+use pure_watch::Unwatched;
 use std::alloc::{AllocError, Global};
 use std::sync::Arc;
 
@@ -97,7 +98,7 @@ fn run_proof<W: Work>(
 {
     let mut proving = work.start(goal)?;
     for _ in 0..u64::MAX {
-        if let Some(outcome) = work.advance(goal, &mut proving)? {
+        if let Some(outcome) = work.advance(goal, &mut proving, &Unwatched)? {
             let fault = work.is_fault(&outcome);
             core.deliver(number, outcome, fault)?;
             return Ok(());

@@ -1,4 +1,5 @@
 //! The work that a core hands out: theories whose commands fork goals, and proofs of these goals.
+use pure_watch::Watch;
 use std::alloc::AllocError;
 use std::sync::Arc;
 
@@ -72,10 +73,15 @@ pub trait Work: Send + Sync {
         ensures { IfOk result (λ proving. proves self.now goal.now proving) };
 
     /// One step of a proof that has given no outcome yet; none where steps are left and none failed.
-    fn advance(
+    ///
+    /// # Errors
+    ///
+    /// Want of memory, or the watch broke the step off. Nothing is known of the proof then.
+    fn advance<V: Watch>(
         &self,
         goal: &Self::Goal,
         proving: &mut Self::Proving,
+        watch: &V,
     ) -> Result<Option<Self::Outcome>, AllocError>
         requires { proves self.now goal.now proving.old }
         ensures { IfOk result (λ outcome. IsAdvance (proves self.now) (may self.now) steps_left goal.now proving.old proving.new outcome) };

@@ -8,4 +8,5 @@ pub mod TakeLaws
 pub mod RunsLaws
 pub mod BucketLaws
 pub mod MarkLaws
+pub mod CountLaws
 pub mod GroupLaws

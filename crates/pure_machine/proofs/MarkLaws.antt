@@ -71,6 +71,9 @@ marked-again m Session e = session_again m.session e
     session_again false e = search
 marked-again m (Theory k) e = ap (λ bs. record { session = m.session; theories = bs }) (mark-again m.theories k e)
 
+pub marked-stays : (m : Marks) (g : Group) (k : ℕ) (bs : List Bool) → g ≡ Theory k → bs ≡ m.theories → is_unmarked bs k ≡ false → m ≡ marked m g
+marked-stays m g k bs here same e = sym (marked-again m g (subst (λ x. is_new m x ≡ false) (sym here) (subst (λ cs. is_unmarked cs k ≡ false) same e)))
+
 -- once more, under marks that go further
 pub cancelled-again : {G O : Type 0} (m n : Marks) (p : Promise G O) → Within m n → cancelled_promise n (cancelled_promise m p) ≡ cancelled_promise n p
 cancelled-again {G} {O} m n p within = again (is_theory_cancelled m p.theory) (is_settled p.standing) refl (within p.theory)

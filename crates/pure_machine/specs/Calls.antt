@@ -1,6 +1,6 @@
 -- What the calls of a machine answer.
-use Rattle.std.specs.Prelude.{◌≡◌, ℕ, List, map, Bool, true, false, Option, Some, None}
-use Rattle.pure_machine.specs.State.{State, Promise, TakeTheory, TakeProof, is_theory_cancelled}
+use Rattle.std.specs.Prelude.{◌≡◌, ℕ, ◌+◌, List, map, count_by, Bool, true, false, Option, Some, None, if◌then◌else◌}
+use Rattle.pure_machine.specs.State.{State, Promise, Marks, TakeTheory, TakeProof, is_theory_cancelled}
 use Rattle.pure_machine.specs.Step.{IsNextTheory, NoTheoryReady, IsNextPromise, IsIdle, IsFinished, after}
 use Rattle.pure_machine.specs.declared.answers.Task as task
 use Rattle.pure_machine.specs.declared.answers.Task.TheVariants as task_code
@@ -32,3 +32,7 @@ polled_as false false = polled_code.Go
 abbrev pub is_in_cancelled : {G C O : Type 0} → State G C O → Option (Promise G O) → Bool
 is_in_cancelled s None = false
 is_in_cancelled s (Some p) = is_theory_cancelled s.cancelled p.theory
+
+-- how many groups are cancelled
+abbrev pub count_cancelled : Marks → ℕ
+count_cancelled m = count_by (λ mark. mark) m.theories + (if m.session then 1 else 0)

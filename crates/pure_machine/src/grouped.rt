@@ -1,5 +1,6 @@
 //! Promises with their groups.
-ghost use Rattle.std.specs.Prelude.{◌≡◌, ◌≢◌, ◌<◌, ◌++◌, [], ◌∷◌, ℕ, length, false, Some, IfOk, MatchBool, MatchOption, MatchResult, slice_get, if◌then◌else◌};
+ghost use Rattle.std.specs.Prelude.{◌≡◌, ◌≢◌, ◌<◌, ◌++◌, [], ◌∷◌, ℕ, length, false, Some, IfOk, MatchBool, MatchOption, MatchResult, slice_get, count_by, if◌then◌else◌};
+ghost use Rattle.pure_machine.specs.Calls.{count_cancelled};
 ghost use Rattle.pure_machine.specs.State.{Fork, Ready, Taken, Cancelled, with_standing, is_theory_cancelled, marked};
 ghost use Rattle.pure_machine.specs.Step.{NoPromiseReadyBelow, is_cancelled_promise};
 ghost use Rattle.pure_machine.specs.Seen.{seen_standing};
@@ -35,8 +36,9 @@ impl<G, O> Model for Grouped<G, O> {
 }
 
 impl<G: Drop, O: Drop> Grouped<G, O> {
-    /// No promise, of theories whose groups these marks are.
+    /// No promise, of theories whose groups these marks are, of which none is set.
     pub fn open(alloc: Global, marks: Vec<bool>) -> Result<Grouped<G, O>, AllocError>
+        requires { count_by (λ mark. mark) marks.items ≡ 0 }
         ensures { IfOk result (λ g. g ≡ record { list = []; marks = record { session = false; theories = marks.items } }) }
     {
         let members = Buckets::new(alloc, marks.len())?;
@@ -75,6 +77,13 @@ impl<G: Drop, O: Drop> Grouped<G, O> {
         ensures { result ≡ is_theory_cancelled self.now.marks theory }
     {
         self.groups.is_cancelled(theory)
+    }
+
+    /// How many groups are cancelled.
+    pub fn cancellations(&self) -> usize
+        ensures { result ≡ count_cancelled self.now.marks }
+    {
+        self.groups.count()
     }
 
     /// The number of the first promise that is ready, if one is.

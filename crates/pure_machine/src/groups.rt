@@ -1,34 +1,52 @@
 //! Which groups of promises are cancelled.
-ghost use Rattle.std.specs.Prelude.{◌≡◌, false};
+ghost use Rattle.std.specs.Prelude.{◌≡◌, false, count_by};
 ghost use Rattle.pure_machine.specs.State.{is_theory_cancelled, marked};
+ghost use Rattle.pure_machine.specs.Calls.{count_cancelled};
 ghost use Rattle.pure_machine.specs.Parts.{is_unmarked, is_new};
 
 use crate::policy::Group;
 use std::marker::Model;
 
-/// Whether the session's group is cancelled, and each theory's own.
+/// Whether the session's group is cancelled, and each theory's own; and of how many theories it is.
 #[derive(Drop)]
 pub(crate) struct Groups {
     session: bool,
     theories: Vec<bool>,
+    count: usize,
 }
 
 impl Model for Groups {
+    ghost use Rattle.std.specs.Prelude.{◌≡◌, count_by};
     ghost use Rattle.pure_machine.specs.State.{Marks};
 
     ghost Value = { Marks };
 
     ghost view = { λ g. record { session = g.session; theories = g.theories.items } };
+
+    ghost invariant = { λ g. g.count ≡ count_by (λ mark. mark) g.theories.items };
 }
 
 impl Groups {
-    /// The groups of so many theories, of which these are marked.
+    /// The groups of so many theories, of which none is marked.
     pub fn new(theories: Vec<bool>) -> Groups
+        requires { count_by (λ mark. mark) theories.items ≡ 0 }
         ensures { result ≡ record { session = false; theories = theories.items } }
     {
         Groups {
             session: false,
             theories,
+            count: 0,
+        }
+    }
+
+    /// How many groups are cancelled.
+    pub fn count(&self) -> usize
+        ensures { result ≡ count_cancelled self.now }
+    {
+        if self.session {
+            self.count + 1
+        } else {
+            self.count
         }
     }
 
@@ -65,8 +83,9 @@ impl Groups {
         match group {
             Group::Session => self.session = true,
             Group::Theory { index } => {
-                if index > 0 && index as usize <= self.theories.len() {
+                if is_unmarked(self.theories.as_slice(), index) {
                     self.theories[index as usize - 1] = true;
+                    self.count += 1;
                 }
             }
         }

@@ -4,7 +4,7 @@ ghost use Rattle.pure_machine.specs.State.{Running, Fork, CloseTheory, Deliver, 
 ghost use Rattle.pure_machine.specs.Parts.{whole};
 ghost use Rattle.pure_machine.specs.Policy.{due, due_one};
 ghost use Rattle.pure_machine.specs.Step.{stops, after, value_of as closing_value, closed_value, cancelled_by, is_cancelled_promise, IsNextTheory, IsNothingReady, NoTheoryReady, IsShape};
-ghost use Rattle.pure_machine.specs.Calls.{Takes, delivered_as, polled_as, is_in_cancelled};
+ghost use Rattle.pure_machine.specs.Calls.{Takes, delivered_as, polled_as, is_in_cancelled, count_cancelled};
 
 use crate::answers::{Delivered, Polled, Task};
 use crate::grouped::Grouped;
@@ -199,6 +199,13 @@ impl<G: Drop, C: Drop, O: Drop> Machine<G, C, O> {
             return Polled::Cancelled;
         }
         Polled::Go
+    }
+
+    /// How many groups are cancelled.
+    pub fn cancellations(&self) -> usize
+        ensures { result ≡ count_cancelled self.now.cancelled }
+    {
+        self.promises.cancellations()
     }
 
     /// Stops the work, which takes no memory.

@@ -6,9 +6,10 @@ ghost use Rattle.pure_machine.specs.Step.{IsShape};
 ghost use Rattle.pure_board.specs.Boards.{AreAll};
 ghost use Rattle.pure_plays.specs.Seen.{BeginAlike};
 
+use crate::searches::Searches;
 use pure_board::{Board, Closed, Opened, Seat};
 use pure_core::{Node, Policy, Work};
-use pure_io::Gate;
+use pure_io::{Gate, OpenGate};
 use pure_trials::{Session, shape_of};
 use std::alloc::{AllocError, Global};
 use std::sync::Wait;
@@ -67,4 +68,31 @@ pub fn run_session<R: Threads + Wait + Sync, G: Gate>(
 {
     let shape = shape_of(alloc, session)?;
     run_closed(rt, alloc, session, shape, policy, workers, gate)
+}
+
+/// The searches, run so.
+///
+/// # Errors
+///
+/// Want of memory at the opening, and a session that is none.
+pub fn run_searches<R: Threads + Wait + Sync>(
+    rt: &R,
+    alloc: Global,
+    searches: &Searches,
+    policy: Policy,
+    workers: u32,
+) -> Result<Closed<Searches>, AllocError>
+    requires some { 0 < workers }
+    ensures { IfOk result (λ closed. closed.session ≡ searches.now) }
+{
+    let shape = shape_of(alloc, searches.session())?;
+    run_closed(
+        rt,
+        alloc,
+        searches,
+        shape,
+        policy,
+        workers,
+        &OpenGate::make(),
+    )
 }

@@ -5,8 +5,10 @@ mod boards;
 mod gates;
 mod hands;
 mod plays;
+mod searches;
 
-pub use boards::{run_closed, run_session};
+pub use boards::{run_closed, run_searches, run_session};
 pub use gates::Meeting;
 pub use hands::{Answer, Call, Hand, Reply, make};
 pub use plays::{Played, Turn, play_closed};
+pub use searches::{Ending, Searches};

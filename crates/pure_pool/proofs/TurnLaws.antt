@@ -1,7 +1,7 @@
 -- What follows from answers.
 use Rattle.std.proofs.Common.{◌≡◌, ◌∙◌, ◌<◌, ℕ, suc, List, [], ◌∷◌, length, get_or, Bool, refl, arith, Option, Some, None, Result, Ok, Err}
 use Rattle.pure_text.specs.Lists.{EachTwo}
-use Rattle.std.specs.Prelude.{IfErr}
+use Rattle.std.specs.Prelude.{IfErr, MatchOption}
 use Rattle.pure_core.specs.Turns.{IsAdvance}
 use Rattle.pure_board.specs.Sight.{Sight}
 use Rattle.pure_pool.specs.Held.{Held}
@@ -12,10 +12,15 @@ pub err-with : {A E W G C O : Type 0} (forks : W → ℕ → ℕ → G → Type 
 err-with forks closes may is_fault (Ok x) v held h = tt
 err-with forks closes may is_fault (Err e) v held h = (held, h)
 
--- a step that gave no outcome
-pub advance-on : {G O P : Type 0} (proves : G → P → Type 0) (may : G → O → Type 0) (left : P → ℕ) (g : G) (old new : P) (a : Option O) → ((o : O) → a ≡ Some o → ⊥) → IsAdvance proves may left g old new a → proves g new
-advance-on proves may left g old new None other h = h.0
-advance-on proves may left g old new (Some o) other h = absurd (other o refl)
+-- a step either goes on with the proof or gives an outcome
+pub advance-read : {G O P : Type 0} (proves : G → P → Type 0) (may : G → O → Type 0) (left : P → ℕ) (g : G) (old new : P) (a : Option O) → IsAdvance proves may left g old new a → MatchOption a (proves g new) (may g)
+advance-read proves may left g old new None h = h.0
+advance-read proves may left g old new (Some o) h = h
+
+-- it gave none
+pub no-outcome : {O : Type 0} (on : Type 0) (ends : O → Type 0) (a : Option O) → ((o : O) → a ≡ Some o → ⊥) → MatchOption a on ends → on
+no-outcome on ends None other h = h
+no-outcome on ends (Some o) other h = absurd (other o refl)
 
 pub same-then : {W G C O : Type 0} (a b c : Sight W G C O) → IsSameSeat a b → IsSameSeat b c → IsSameSeat a c
 same-then a b c one two = record { plan = two.plan ∙ one.plan; opening = two.opening ∙ one.opening; number = two.number ∙ one.number }

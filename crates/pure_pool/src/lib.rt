@@ -1,6 +1,7 @@
 //! The workers of a board: one for each seat, in threads of their own.
 #![tactic(auto)]
 
+mod cancellations;
 mod executed;
 mod proof_runs;
 mod rest;

@@ -6,6 +6,7 @@ ghost use Rattle.pure_pool.specs.Held.{Nothing, Proof};
 ghost use Rattle.pure_pool.specs.Seated.{Has, HasSome, IsSameSeat, IsServedBy};
 ghost use Rattle.pure_pool.specs.Ends.{IsCourse};
 
+use crate::cancellations::Cancellations;
 use crate::proof_runs::{End, run_proof};
 use crate::rest::Rest;
 use crate::theory_runs::run_theory;
@@ -32,6 +33,7 @@ fn pass_gate<R: Threads + Wait, W: Work, G: Gate>(
     board: &Board<W>,
     work: &W,
     gate: &G,
+    cancellations: &Cancellations,
     seat: &mut Seat<W>,
     number: u32,
     goal: &W::Goal,
@@ -46,7 +48,7 @@ fn pass_gate<R: Threads + Wait, W: Work, G: Gate>(
     ensures err { IfErr result (λ _. HasSome W.forks W.closes W.may W.faults seat.new) }
 {
     gate.enter(rt, number);
-    match run_proof(rt, board, work, seat, number, goal)? {
+    match run_proof(rt, board, work, cancellations, seat, number, goal)? {
         End::Delivered => {
             gate.left(rt, number);
             Ok(Course::Worked)
@@ -63,6 +65,7 @@ fn turn<R: Threads + Wait, W: Work, G: Gate>(
     work: &W,
     gate: &G,
     rest: &Rest,
+    cancellations: &Cancellations,
     seat: &mut Seat<W>,
 ) -> Result<Course, AllocError>
     requires board { seat.old.plan ≡ board.now }
@@ -77,7 +80,9 @@ fn turn<R: Threads + Wait, W: Work, G: Gate>(
             run_theory(rt, board, work, rest, seat, index, parents.as_slice())?;
             Ok(Course::Worked)
         }
-        Task::Proof { number, goal } => pass_gate(rt, board, work, gate, seat, number, &goal),
+        Task::Proof { number, goal } => {
+            pass_gate(rt, board, work, gate, cancellations, seat, number, &goal)
+        }
         Task::Idle => Ok(Course::Idle),
         Task::Finished => Ok(Course::Over),
         Task::Stopped => Ok(Course::Over),
@@ -91,6 +96,7 @@ fn serve<R: Threads + Wait, W: Work, G: Gate>(
     work: &W,
     gate: &G,
     rest: &Rest,
+    cancellations: &Cancellations,
     seat: &mut Seat<W>,
 )
     requires board { seat.old.plan ≡ board.now }
@@ -101,7 +107,7 @@ fn serve<R: Threads + Wait, W: Work, G: Gate>(
     let backoff = Backoff::new();
     for _ in rt.forever() {
         let changes = rest.changes();
-        match turn(rt, board, work, gate, rest, seat) {
+        match turn(rt, board, work, gate, rest, cancellations, seat) {
             Ok(Course::Worked) => backoff.reset(),
             Ok(Course::Idle) => wait(rt, rest, &backoff, changes),
             Ok(Course::Over) => {
@@ -110,6 +116,7 @@ fn serve<R: Threads + Wait, W: Work, G: Gate>(
             }
             Err(_) => {
                 board.stop(rt, seat);
+                cancellations.tell_stop();
                 rest.wake_all();
                 return;
             }
@@ -125,6 +132,7 @@ fn serve_fresh<R: Threads + Wait, W: Work, G: Gate>(
     work: &W,
     gate: &G,
     rest: &Rest,
+    cancellations: &Cancellations,
     seat: &mut Seat<W>,
 )
     requires board { seat.old.plan ≡ board.now }
@@ -133,7 +141,7 @@ fn serve_fresh<R: Threads + Wait, W: Work, G: Gate>(
     ensures { IsServedBy seat.old seat.new }
 {
     seat.known();
-    serve(rt, board, work, gate, rest, seat);
+    serve(rt, board, work, gate, rest, cancellations, seat);
 }
 
 /// Waits a little; after some times until something was changed since this count.
@@ -164,10 +172,11 @@ pub fn run<R: Threads + Wait + Sync, W: Work, G: Gate>(
         return;
     }
     let rest = Rest::new();
+    let cancellations = Cancellations::new();
     let threads = seats.len();
     let worker = |_place: usize, seat: &mut Seat<W>|
         requires { (seat.now.plan ≡ board.now) × (board.now.session ≡ work.now) × (seat.now.own ≡ []) }
         ensures { IsServedBy seat.entry.now seat.exit.now }
-    { serve_fresh(rt, board, work, gate, &rest, seat) };
+    { serve_fresh(rt, board, work, gate, &rest, &cancellations, seat) };
     thread::for_each_mut(rt, seats, threads, &worker);
 }

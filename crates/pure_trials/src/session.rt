@@ -2,6 +2,7 @@
 ghost use Rattle.std.specs.Prelude.{◌≡◌};
 
 use pure_core::{Node, Turn, Work};
+use pure_watch::Watch;
 use std::alloc::{AllocError, Global};
 use std::sync::Arc;
 
@@ -76,7 +77,12 @@ impl Work for Session {
         Ok(Proof { steps: 2 })
     }
 
-    fn advance(&self, goal: &bool, proving: &mut Proof) -> Result<Option<bool>, AllocError> {
+    fn advance<V: Watch>(
+        &self,
+        goal: &bool,
+        proving: &mut Proof,
+        _watch: &V,
+    ) -> Result<Option<bool>, AllocError> {
         if proving.steps == 0 {
             return Ok(Some(*goal));
         }

@@ -1,8 +1,8 @@
-use Rattle.std.proofs.Common.{◌∙◌, sym, ap, subst, refl}
-use Rattle.pure_core.proofs.TaskLaws.{advance-outcome}
-use Rattle.pure_pool.specs.Held.{Proof}
+use Rattle.std.proofs.Common.{◌∙◌, sym, ap, subst}
+use Rattle.std.specs.Prelude.{MatchOption}
+use Rattle.pure_pool.specs.Held.{Nothing, Proof}
 use Rattle.pure_pool.proofs.SeatedLaws.{sees-hand, sees-goal, finds-cancelled, polled-ends, delivers-proof}
-use Rattle.pure_pool.proofs.TurnLaws.{err-with, advance-on}
+use Rattle.pure_pool.proofs.TurnLaws.{err-with, no-outcome}
 use Rattle.pure_pool.proofs.proof_runs.advance.Goals as goal
 
 pub returns-in-Cancelled-clause-ended : goal.returns-in-Cancelled-clause-ended
@@ -23,13 +23,13 @@ pub returns-in_default-clause-ended : goal.returns-in_default-clause-ended
 returns-in_default-clause-ended g c = (
   sees-hand g.W.Work.shape g.W.Work.forks g.W.Work.closes g.W.Work.may g.W.Work.faults c.args.seat.now c.poll.new.seat (Proof c.args.number) c.requires.holds c.poll.ensures.known c.poll.ensures.polled.0,
   sees-goal g.W.Work.shape g.W.Work.forks g.W.Work.closes g.W.Work.may g.W.Work.faults c.args.seat.now c.poll.new.seat c.args.number c.args.goal.now c.poll.ensures.known c.poll.ensures.polled.0 c.requires.goal,
-  advance-on (g.W.Work.proves c.args.work.now) (g.W.Work.may c.args.work.now) g.W.Work.steps_left c.args.goal.now c.args.proving.now c.advance.new.proving c.in_ok-outcome.field-0 c.in_default.not-Some c.in_ok-outcome.ensures,
+  no-outcome (g.W.Work.proves c.args.work.now c.args.goal.now c.step.new.proving) (g.W.Work.may c.args.work.now c.args.goal.now) c.in_ok-outcome.field-0 c.in_default.not-Some c.in_ok-outcome.ensures,
 )
 
 pub deliver-requires-clause-may : goal.deliver-requires-clause-may
 deliver-requires-clause-may g c κs within =
     let session = ap (λ p. p.session) (c.poll.ensures.polled.0.plan ∙ c.requires.board) ∙ c.requires.session in
-    let may = advance-outcome (g.W.Work.proves c.args.work.now) (g.W.Work.may c.args.work.now) g.W.Work.steps_left c.args.goal.now c.args.goal.now c.args.proving.now c.advance.new.proving c.in_ok-outcome.field-0 c.in-Some.outcome c.in-Some.is refl c.in_ok-outcome.ensures in (
+    let may = subst (λ a. MatchOption a (g.W.Work.proves c.args.work.now c.args.goal.now c.step.new.proving) (g.W.Work.may c.args.work.now c.args.goal.now)) c.in-Some.is c.in_ok-outcome.ensures in (
       c.args.goal.now,
       sees-goal g.W.Work.shape g.W.Work.forks g.W.Work.closes g.W.Work.may g.W.Work.faults c.args.seat.now c.poll.new.seat c.args.number c.args.goal.now c.poll.ensures.known c.poll.ensures.polled.0 c.requires.goal,
       subst (λ w. g.W.Work.may w c.args.goal.now c.in-Some.outcome) (sym session) may,
@@ -44,4 +44,5 @@ pub returns-clause-ended : goal.returns-clause-ended
 returns-clause-ended g c =
     let hand = sees-hand g.W.Work.shape g.W.Work.forks g.W.Work.closes g.W.Work.may g.W.Work.faults c.args.seat.now c.poll.new.seat (Proof c.args.number) c.requires.holds c.poll.ensures.known c.poll.ensures.polled.0 in
     let entered = c.in_ok-deliver.ensures.delivered in
-    delivers-proof g.W.Work.shape g.W.Work.forks g.W.Work.closes g.W.Work.may g.W.Work.faults c.poll.new.seat c.deliver.new.seat entered.0 c.args.number c.in-Some.outcome c.is_fault-fault.result hand c.in_ok-deliver.ensures.known entered.1
+    let free = delivers-proof g.W.Work.shape g.W.Work.forks g.W.Work.closes g.W.Work.may g.W.Work.faults c.poll.new.seat c.deliver.new.seat entered.0 c.args.number c.in-Some.outcome c.is_fault-fault.result hand c.in_ok-deliver.ensures.known entered.1 in
+    sees-hand g.W.Work.shape g.W.Work.forks g.W.Work.closes g.W.Work.may g.W.Work.faults c.deliver.new.seat c.cancellations.new.seat Nothing free c.cancellations.ensures.known c.cancellations.ensures.counted.0
