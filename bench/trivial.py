@@ -4,6 +4,7 @@ MODULE = """//! A work of trivial proofs.
 ghost use Rattle.std.specs.Prelude.{◌≡◌};
 
 use pure_core::{Core, Node, Standing, Turn, Work};
+use pure_watch::Watch;
 use std::alloc::{AllocError, Global};
 use std::sync::Arc;
 
@@ -71,7 +72,12 @@ impl Work for Trivial {
         Ok(Step)
     }
 
-    fn advance(&self, goal: &u32, _proving: &mut Step) -> Result<Option<u32>, AllocError> {
+    fn advance<V: Watch>(
+        &self,
+        goal: &u32,
+        _proving: &mut Step,
+        _watch: &V,
+    ) -> Result<Option<u32>, AllocError> {
         Ok(Some(*goal))
     }
 

@@ -43,11 +43,10 @@ impl Groups {
     pub fn count(&self) -> usize
         ensures { result ≡ count_cancelled self.now }
     {
-        if self.session {
-            self.count + 1
-        } else {
-            self.count
+        if !self.session {
+            return self.count;
         }
+        self.count + 1
     }
 
     /// Whether the promises of the theory are in a cancelled group.
