@@ -1,5 +1,5 @@
 -- How many groups are cancelled, after each change.
-use Rattle.std.proofs.Common.{◌≡◌, ◌∙◌, ◌+◌, ◌-◌, ℕ, zero, suc, List, [], ◌∷◌, map, set, subst, refl, sym, Bool, true, false, cond, slice_get, arith}
+use Rattle.std.proofs.Common.{◌≡◌, ◌+◌, ◌-◌, ℕ, zero, suc, List, [], ◌∷◌, map, set, subst, refl, sym, Bool, true, false, cond, slice_get, arith}
 use Rattle.std.specs.Prelude.{count_by}
 use Rattle.std.proofs.lemmas.Bool.{false≢true}
 use Rattle.std.proofs.lemmas.List.Sums.{sum_by-cons}
@@ -15,7 +15,7 @@ count-cons b bs = sum_by-cons (λ mark. cond mark 1 0) b bs
 -- where none is
 pub count-unmarked : {A : Type 0} (xs : List A) → count (map (λ _. false) xs) ≡ 0
 count-unmarked [] = refl
-count-unmarked (x ∷ xs) = count-cons false (map (λ _. false) xs) ∙ count-unmarked xs
+count-unmarked (x ∷ xs) = let a = count-cons false (map (λ _. false) xs) in let h = count-unmarked xs in omega arith
 
 -- one more
 count-marked : (bs : List Bool) (i : ℕ) → is_false_there (slice_get bs i) ≡ true → count (set bs i true) ≡ count bs + 1

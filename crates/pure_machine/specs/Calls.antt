@@ -1,5 +1,5 @@
 -- What the calls of a machine answer.
-use Rattle.std.specs.Prelude.{◌≡◌, ℕ, ◌+◌, List, map, count_by, Bool, true, false, Option, Some, None, if◌then◌else◌}
+use Rattle.std.specs.Prelude.{◌≡◌, ℕ, ◌+◌, map, count_by, Bool, true, false, Option, Some, None, if◌then◌else◌}
 use Rattle.pure_machine.specs.State.{State, Promise, Marks, TakeTheory, TakeProof, is_theory_cancelled}
 use Rattle.pure_machine.specs.Step.{IsNextTheory, NoTheoryReady, IsNextPromise, IsIdle, IsFinished, after}
 use Rattle.pure_machine.specs.declared.answers.Task as task

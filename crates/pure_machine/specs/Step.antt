@@ -3,8 +3,8 @@ use Rattle.std.specs.Prelude.{◌≡◌, ◌⊎◌, ◌<◌, ℕ, ◌+◌, List,
 use Rattle.pure_text.specs.Lists.{IsIn, Each}
 use Rattle.pure_machine.specs.declared.policy.Group.{Group}
 use Rattle.pure_machine.specs.declared.policy.Group.TheVariants.{Session}
-use Rattle.pure_machine.specs.Policy.{Opening, Policy, due}
-use Rattle.pure_machine.specs.State.{Progress, Waiting, Running, Closed, Standing, Ready, Taken, Settled, Cancelled, Promise, Event, TakeTheory, TakeProof, Fork, CloseTheory, Deliver, Stop, State, theory_at, parents_at, with_progress, with_standing, is_theory_cancelled, with_cancelled, opened}
+use Rattle.pure_machine.specs.Policy.{Policy, due}
+use Rattle.pure_machine.specs.State.{Progress, Waiting, Running, Closed, Standing, Ready, Taken, Settled, Cancelled, Promise, Event, TakeTheory, TakeProof, Fork, CloseTheory, Deliver, Stop, State, theory_at, parents_at, with_progress, with_standing, is_theory_cancelled, with_cancelled}
 
 -- the value that closed a theory, if one did
 abbrev pub value_of : {C : Type 0} → Progress C → Option C

@@ -1,4 +1,4 @@
-use Rattle.std.proofs.Common.{◌≡◌, take, map, false, Bool}
+use Rattle.std.proofs.Common.{◌≡◌, take, map, false}
 use Rattle.pure_machine.proofs.machine.all_unmarked.Given as goal
 
 -- so many groups aren't cancelled
