@@ -1,5 +1,6 @@
 pub mod MapLaws
 pub mod PlaceLaws
+pub mod PlacedLaws
 pub mod TableLaws
 pub mod FactLaws
 pub mod LabelLaws

@@ -1,7 +1,18 @@
--- The numbers of labels.
-use Rattle.std.specs.Prelude.{ℕ, ◌+◌, ◌*◌, ◌%◌}
+-- The numbers under which tables keep labels, and classes and arities.
+use Rattle.std.specs.Prelude.{ℕ, ◌+◌, ◌*◌, ◌%◌, Option, Some, None}
 use Rattle.pure_definitions.specs.Names.{Label}
+use Rattle.pure_definitions.specs.Declarations.Decl.{Decl, ClassDecl, ArityDecl}
 
 -- The number of a label. Labels of one number are rare: in a session with fewer theories than 4,096, fewer commands in each than 65,536 and fewer parts than 16 there are none.
 unfoldable pub label_key : Label → ℕ
 label_key l = (l.theory * 1048576 + l.command * 16 + l.part) % 4294967296
+
+-- The number of an arity. Arities of one number are rare: in a session with fewer names than 65,599 there are none.
+unfoldable pub arity_key : (con class : ℕ) → ℕ
+arity_key con class = (con * 65599 + class) % 4294967296
+
+-- The number of a class or an arity; declarations of other kinds have none.
+abbrev pub place_key : Decl → Option ℕ
+place_key (ClassDecl k) = Some k.name
+place_key (ArityDecl a) = Some (arity_key a.con a.class)
+place_key _ = None

@@ -14,6 +14,7 @@ use crate::decl::Decl;
 use crate::entry::{Entry, outline_of};
 use crate::fact::Statement;
 use crate::index::Index;
+use crate::places::with_place;
 use crate::pointers::shared;
 use crate::shelves::put;
 use pure_shared_maps::Shelf;
@@ -22,13 +23,15 @@ use std::alloc::{AllocError, Global};
 use std::marker::Model;
 use std::sync::Arc;
 
-/// A list of declarations, which contracts see as such. Its entries stand by their places, and tables answer questions by names and labels; lists that
+/// A list of declarations, which contracts see as such. Its entries stand by their places, and tables answer questions by names and labels, and where a
+/// class or an arity may stand; lists that
 /// grow from this one share all but a few short runs of each table.
 #[derive(Drop)]
 pub struct Declarations {
     alloc: Global,
     list: Shelf<Entry>,
     index: Index,
+    pub(crate) places: Shelf<u32>,
 }
 
 impl Model for Declarations {
@@ -46,7 +49,7 @@ impl Model for Declarations {
 
     ghost view = { λ d. in_order d.list };
 
-    ghost invariant = { λ d. AreTables d.list d.index (in_order d.list) };
+    ghost invariant = { λ d. AreTables d.list d.index d.places (in_order d.list) };
 }
 
 /// The questions.
@@ -147,6 +150,7 @@ impl Declarations {
             alloc,
             list: Shelf::empty(alloc),
             index,
+            places: Shelf::empty(alloc),
         })
     }
 
@@ -156,10 +160,12 @@ impl Declarations {
     {
         let list = self.list.share()?;
         let index = self.index.share()?;
+        let places = self.places.share()?;
         Ok(Declarations {
             alloc: self.alloc,
             list,
             index,
+            places,
         })
     }
 
@@ -168,13 +174,15 @@ impl Declarations {
         requires { IsIndexOf index (self.now ++ decl_of entry ∷ []) }
         ensures { IfOk result (λ more. more ≡ self.now ++ decl_of entry ∷ []) }
     {
-        let entry = shared(self.alloc, entry)?;
         let place = self.list.count();
+        let places = with_place(self.alloc, &self.places, &entry, place)?;
+        let entry = shared(self.alloc, entry)?;
         let list = put(&self.list, place, entry)?;
         Ok(Declarations {
             alloc: self.alloc,
             list,
             index,
+            places,
         })
     }
 

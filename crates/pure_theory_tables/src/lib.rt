@@ -10,6 +10,7 @@ mod growing;
 mod index;
 mod labels;
 mod members;
+mod places;
 mod pointers;
 mod shelves;
 

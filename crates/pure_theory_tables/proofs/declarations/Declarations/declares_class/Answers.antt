@@ -1,10 +1,9 @@
-use Rattle.pure_text.proofs.AnswerLaws.{yes_as, test_fails}
-use Rattle.pure_theory_tables.specs.View.{decl_of}
-use Rattle.pure_theory_tables.proofs.AgreementLaws.{class_here, class_absent}
+use Rattle.pure_text.proofs.AnswerLaws.{no_as}
+use Rattle.pure_theory_tables.proofs.PlacedLaws.{class_not_placed}
 use Rattle.pure_theory_tables.proofs.declarations.Declarations.declares_class.Goals as goal
 
-pub returns-then-is_class : goal.returns-then-is_class
-returns-then-is_class c = yes_as _ (class_here c.args.self.now c.loop-place.place (decl_of c.in-Some.entry.now) c.args.name c.in-Some.ensures (c.is_class.ensures.0 c.if-is_class.true))
+pub returns-in-None : goal.returns-in-None
+returns-in-None c = no_as _ (class_not_placed c.self.inside.places c.args.self.now c.args.name (rw c.self.view_is at c.self.invariant.placed) (rw c.name.view_is at c.in-None.ensures))
 
-pub loop-place-preserved : goal.loop-place-preserved
-loop-place-preserved c = class_absent c.args.self.now c.loop-place.place (decl_of c.in-Some.entry.now) c.args.name c.in-Some.ensures c.loop-place.invariant (test_fails _ c.is_class.result c.is_class.ensures c.if-is_class.false)
+pub returns-then-is_class_at : goal.returns-then-is_class_at
+returns-then-is_class_at c = (λ t. c.is_class_at.ensures t, λ m. c.if-is_class_at.true)
