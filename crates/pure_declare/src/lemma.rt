@@ -48,7 +48,7 @@ fn forked(
     requires fixed { fixed_again stated.prop ≡ stated.fixed }
     ensures { IfOk result (λ d. seen_outcome d ≡ forking place.now name (seen_steps script.now) stated) }
 {
-    let prop = shared_prop(alloc, stated)?;
+    let prop = shared_prop(place, stated)?;
     let promised = Arc::try_clone(&prop)?;
     let next = with_promise(place, name, promised)?;
     let next = shared(alloc, next)?;

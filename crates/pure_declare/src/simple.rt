@@ -22,7 +22,6 @@ use pure_script::Span;
 use pure_statements::{Failed, Reason, Stated, schematic_typ};
 use pure_term::Term;
 use pure_text::Text;
-use pure_theory_tables::shared;
 use pure_typ::{Name, Typ};
 use std::alloc::{AllocError, Global};
 use std::sync::Arc;
@@ -140,11 +139,11 @@ pub(crate) fn const_change(
 }
 
 /// The statement, generalised, to be shared. Apart, since what is left of the answer would be let go of at each `?` behind it.
-pub(crate) fn shared_prop(alloc: Global, stated: Stated) -> Result<Arc<Term>, AllocError>
+pub(crate) fn shared_prop(place: &Place<'_>, stated: Stated) -> Result<Arc<Term>, AllocError>
     ensures { IfOk result (λ prop. prop.value ≡ stated.prop) }
 {
     let Stated { prop, .. } = stated;
-    shared(alloc, prop)
+    place.theory().shared_prop(prop)
 }
 
 /// An axiom of a new name that states this.
@@ -158,7 +157,7 @@ fn axiom_made(
     requires statement { IsStatement place.now.content stated.prop }
     ensures { IfOk result (λ c. c ≡ declaring_axiom place.now name stated.prop) }
 {
-    let prop = shared_prop(alloc, stated)?;
+    let prop = shared_prop(place, stated)?;
     let tail = prop_tail(alloc, place, &prop)?;
     let next = with_axiom(place, name, prop)?;
     Ok(Change::saying(tail, next))

@@ -9,7 +9,6 @@ ghost use Rattle.pure_theory.specs.Refusals.{HasNamesake, IsNameRefusal, IsLabel
 use crate::fault::DeclFault;
 use crate::theory::Theory;
 use pure_term::{Label, Name, Term, Typ};
-use pure_theory_tables::shared;
 use std::sync::Arc;
 
 impl Theory {
@@ -39,8 +38,7 @@ impl Theory {
         if let Some(_old) = self.declared.const_typ(name) {
             return Err(DeclFault::Duplicate);
         }
-        let copy = typ.copy(self.alloc)?;
-        let typ = shared(self.alloc, copy)?;
+        let typ = self.shared_typ(typ)?;
         let order = Arc::try_clone(&self.order)?;
         let declared = self.declared.with_const(name, typ)?;
         let more = self.with(declared, order)?;

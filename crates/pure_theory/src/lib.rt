@@ -2,6 +2,7 @@
 #![tactic(auto)]
 
 mod agreed;
+mod alike;
 mod begin;
 mod classes;
 mod cthm;
