@@ -11,6 +11,7 @@ use crate::run::{Next, Run, next_of};
 use pure_declare::Duty;
 use pure_resolve::goal_steps::StepFault;
 use pure_typ::NamesByBase;
+use pure_watch::{Unwatched, Watch};
 use std::alloc::{AllocError, Global};
 use std::mem;
 
@@ -87,21 +88,28 @@ fn turn_of(next: Next) -> Turn
 }
 
 /// What the next step of a run leaves.
-fn turn_from(alloc: Global, names: &NamesByBase, duty: &Duty, run: Run) -> Result<Turn, AllocError>
+fn turn_from<W: Watch>(
+    alloc: Global,
+    names: &NamesByBase,
+    duty: &Duty,
+    run: Run,
+    watch: &W,
+) -> Result<Turn, AllocError>
     requires provable { IsProvable names.now duty.now }
     requires run { IsRun names.now duty.now run }
     ensures { IfOk result (IsTurn names.now duty.now (stands.Runs run)) }
 {
-    let next = next_of(alloc, names, duty, run)?;
+    let next = next_of(alloc, names, duty, run, watch)?;
     Ok(turn_of(next))
 }
 
 /// What the next step leaves.
-fn next_at(
+fn next_at<W: Watch>(
     alloc: Global,
     names: &NamesByBase,
     duty: &Duty,
     place: Place,
+    watch: &W,
 ) -> Result<Turn, AllocError>
     requires provable { IsProvable names.now duty.now }
     requires place { IsPlace names.now duty.now place }
@@ -117,7 +125,7 @@ fn next_at(
                 fault: StepFault::Big,
             }),
         }),
-        Place::Runs { run } => turn_from(alloc, names, duty, run),
+        Place::Runs { run } => turn_from(alloc, names, duty, run, watch),
     }
 }
 
@@ -166,8 +174,31 @@ impl Proving {
         ensures broken { OnErr result (IsBroken self.new) }
         ensures still { IsBroken self.old → IsErr result }
     {
+        self.advance_while(alloc, names, duty, &Unwatched)
+    }
+
+    /// As `advance`, as long as the watch lets searches go on.
+    ///
+    /// # Errors
+    ///
+    /// `AllocError` where memory was refused, or the watch broke a search off, and from then on.
+    pub fn advance_while<W: Watch>(
+        &mut self,
+        alloc: Global,
+        names: &NamesByBase,
+        duty: &Duty,
+        watch: &W,
+    ) -> Result<Option<Outcome>, AllocError>
+        requires provable { IsProvable names.now duty.now }
+        requires proves { Proves names.now duty.now self.old }
+        ensures proves { Proves names.now duty.now self.new }
+        ensures outcome { IfOk result (λ answer. MatchOption answer (steps_left duty.now self.new + 1 ≡ steps_left duty.now self.old) (IsOutcomeOf names.now duty.now)) }
+        ensures unbroken { IfOk result (λ _. ¬ IsBroken self.new) }
+        ensures broken { OnErr result (IsBroken self.new) }
+        ensures still { IsBroken self.old → IsErr result }
+    {
         let place = self.leave();
-        match next_at(alloc, names, duty, place) {
+        match next_at(alloc, names, duty, place, watch) {
             Ok(turn) => Ok(self.go_on(turn)),
             Err(error) => Err(error),
         }

@@ -19,6 +19,7 @@ use pure_resolve::Goal;
 use pure_script::Step;
 use pure_theorem::Thm;
 use pure_typ::NamesByBase;
+use pure_watch::Watch;
 use std::alloc::{AllocError, Global};
 
 /// A goal, the place of the next step in the proof, and the number of the next step that has one.
@@ -69,7 +70,13 @@ fn ended(alloc: Global, _names: &NamesByBase, duty: &Duty, run: &Run) -> Result<
 }
 
 /// The run behind the closing of subgoals.
-fn closed_run(alloc: Global, _names: &NamesByBase, duty: &Duty, run: Run) -> Result<Run, AllocError>
+fn closed_run<W: Watch>(
+    alloc: Global,
+    _names: &NamesByBase,
+    duty: &Duty,
+    run: Run,
+    watch: &W,
+) -> Result<Run, AllocError>
     requires provable { IsProvable _names.now duty.now }
     requires run { IsRun _names.now duty.now run }
     requires close { drop run.at duty.now.script ≡ tree.Close ∷ drop (run.at + 1) duty.now.script }
@@ -77,17 +84,18 @@ fn closed_run(alloc: Global, _names: &NamesByBase, duty: &Duty, run: Run) -> Res
 {
     let Run { goal, at, number } = run;
     let at = place_behind(duty, at);
-    let goal = closed(alloc, theory_of(duty), goal)?;
+    let goal = closed(alloc, theory_of(duty), goal, watch)?;
     Ok(Run { goal, at, number })
 }
 
 /// What a step leaves that has a number and isn't the end.
-fn further(
+fn further<W: Watch>(
     alloc: Global,
     names: &NamesByBase,
     duty: &Duty,
     run: Run,
     step: &Step,
+    watch: &W,
 ) -> Result<Next, AllocError>
     requires provable { IsProvable names.now duty.now }
     requires run { IsRun names.now duty.now run }
@@ -97,7 +105,7 @@ fn further(
     ensures { IfOk result (IsNext names.now duty.now run.at) }
 {
     let at = place_behind(duty, run.at);
-    match stepped(alloc, names, theory_of(duty), &run.goal, step) {
+    match stepped(alloc, names, theory_of(duty), &run.goal, step, watch) {
         Ok(goal) => Ok(Next::Goes {
             run: Run {
                 goal,
@@ -120,11 +128,12 @@ fn further(
 }
 
 /// What the next step leaves.
-pub fn next_of(
+pub fn next_of<W: Watch>(
     alloc: Global,
     names: &NamesByBase,
     duty: &Duty,
     run: Run,
+    watch: &W,
 ) -> Result<Next, AllocError>
     requires provable { IsProvable names.now duty.now }
     requires run { IsRun names.now duty.now run }
@@ -137,9 +146,9 @@ pub fn next_of(
             Ok(Next::Ends { run, outcome })
         }
         Step::Close => {
-            let run = closed_run(alloc, names, duty, run)?;
+            let run = closed_run(alloc, names, duty, run, watch)?;
             Ok(Next::Goes { run })
         }
-        _ => further(alloc, names, duty, run, step),
+        _ => further(alloc, names, duty, run, step, watch),
     }
 }

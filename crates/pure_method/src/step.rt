@@ -19,15 +19,17 @@ use pure_resolve::Goal;
 use pure_resolve::goal_steps::StepFault;
 use pure_script::{Step, TextList};
 use pure_typ::NamesByBase;
+use pure_watch::Watch;
 use std::alloc::Global;
 
 /// The goal by a rule.
-fn by_rule(
+fn by_rule<W: Watch>(
     alloc: Global,
     names: &NamesByBase,
     theory: &Theory,
     goal: &Goal,
     written: &[u8],
+    watch: &W,
 ) -> Result<Goal, StepFault>
     requires ready { IsReady names.now theory.now }
     requires goal { MayStep theory.now goal.now.thm }
@@ -36,7 +38,7 @@ fn by_rule(
 {
     match found_fact(alloc, names, theory, written) {
         Ok(fact) => {
-            let answer = goal.rule(alloc, theory, &fact);
+            let answer = goal.rule_while(alloc, theory, &fact, watch);
             discard(fact);
             answer
         }
@@ -45,12 +47,13 @@ fn by_rule(
 }
 
 /// The goal by elimination with a fact.
-fn by_erule(
+fn by_erule<W: Watch>(
     alloc: Global,
     names: &NamesByBase,
     theory: &Theory,
     goal: &Goal,
     written: &[u8],
+    watch: &W,
 ) -> Result<Goal, StepFault>
     requires ready { IsReady names.now theory.now }
     requires goal { MayStep theory.now goal.now.thm }
@@ -59,7 +62,7 @@ fn by_erule(
 {
     match found_fact(alloc, names, theory, written) {
         Ok(fact) => {
-            let answer = goal.erule(alloc, theory, &fact);
+            let answer = goal.erule_while(alloc, theory, &fact, watch);
             discard(fact);
             answer
         }
@@ -68,12 +71,13 @@ fn by_erule(
 }
 
 /// The goal by destruction with a fact.
-fn by_drule(
+fn by_drule<W: Watch>(
     alloc: Global,
     names: &NamesByBase,
     theory: &Theory,
     goal: &Goal,
     written: &[u8],
+    watch: &W,
 ) -> Result<Goal, StepFault>
     requires ready { IsReady names.now theory.now }
     requires goal { MayStep theory.now goal.now.thm }
@@ -82,7 +86,7 @@ fn by_drule(
 {
     match found_fact(alloc, names, theory, written) {
         Ok(fact) => {
-            let answer = goal.drule(alloc, theory, &fact);
+            let answer = goal.drule_while(alloc, theory, &fact, watch);
             discard(fact);
             answer
         }
@@ -114,13 +118,18 @@ fn by_unfolding(
 }
 
 /// The goal by assumption.
-pub fn assumed(alloc: Global, theory: &Theory, goal: &Goal) -> Result<Goal, StepFault>
+pub fn assumed<W: Watch>(
+    alloc: Global,
+    theory: &Theory,
+    goal: &Goal,
+    watch: &W,
+) -> Result<Goal, StepFault>
     requires content { IsUnifyContent theory.now }
     requires goal { MayStep theory.now goal.now.thm }
     ensures answer { IsStep (AssumptionStep (algebra_of theory.now.declarations)) goal.now.thm (λ rests. rests ≡ goal.now.thm.rests) result }
     ensures may { IfOk result (λ new. MayStep theory.now new.thm) }
 {
-    let answer = goal.assumption(alloc, theory);
+    let answer = goal.assumption_while(alloc, theory, watch);
     answer
 }
 
@@ -145,12 +154,13 @@ fn deferred(alloc: Global, theory: &Theory, goal: &Goal) -> Result<Goal, StepFau
 }
 
 /// The goal after a step that is neither the end nor that which closes subgoals.
-pub fn stepped(
+pub fn stepped<W: Watch>(
     alloc: Global,
     names: &NamesByBase,
     theory: &Theory,
     goal: &Goal,
     step: &Step,
+    watch: &W,
 ) -> Result<Goal, StepFault>
     requires ready { IsReady names.now theory.now }
     requires goal { MayStep theory.now goal.now.thm }
@@ -161,10 +171,10 @@ pub fn stepped(
     ensures may { IfOk result (λ new. MayStep theory.now new.thm) }
 {
     match step {
-        Step::Rule { fact } => by_rule(alloc, names, theory, goal, fact.bytes()),
-        Step::Erule { fact } => by_erule(alloc, names, theory, goal, fact.bytes()),
-        Step::Drule { fact } => by_drule(alloc, names, theory, goal, fact.bytes()),
-        Step::Assumption => assumed(alloc, theory, goal),
+        Step::Rule { fact } => by_rule(alloc, names, theory, goal, fact.bytes(), watch),
+        Step::Erule { fact } => by_erule(alloc, names, theory, goal, fact.bytes(), watch),
+        Step::Drule { fact } => by_drule(alloc, names, theory, goal, fact.bytes(), watch),
+        Step::Assumption => assumed(alloc, theory, goal, watch),
         Step::Unfold { facts } => by_unfolding(alloc, names, theory, goal, facts),
         Step::Prefer { n } => preferred(alloc, theory, goal, *n),
         Step::Defer => deferred(alloc, theory, goal),

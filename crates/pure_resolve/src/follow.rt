@@ -26,7 +26,8 @@ use pure_goal_steps::StepFault;
 use pure_inst::Ordered;
 use pure_term::{Label, Term, TermMap, TypMap};
 use pure_theorem::{Pair, Thm, as_implication, extend_pairs};
-use pure_unify::{Unifier, UnifyFault, unify};
+use pure_unify::{Unifier, UnifyFault, unify_while};
+use pure_watch::Watch;
 use std::alloc::Global;
 
 /// The fault of a step that the unifier's is.
@@ -42,13 +43,14 @@ pub fn step_fault(fault: UnifyFault) -> StepFault
     }
 }
 
-/// The unifier of what is matched and the goal's own pairs.
-pub fn unified<B: Ordered>(
+/// The unifier of what is matched and the goal's own pairs. That the watch broke the search off is told as want of memory.
+pub fn unified<B: Ordered, W: Watch>(
     alloc: Global,
     thy: &B,
     goal: &Thm,
     matched: Vec<Pair>,
     maxidx: u32,
+    watch: &W,
 ) -> Result<Unifier, UnifyFault>
     requires { Each AreSidesTyped (matched.items ++ goal.now.pairs) }
     ensures answer { IsUnified (algebra_of (B.content thy.now).declarations) maxidx (matched.items ++ goal.now.pairs) result }
@@ -59,7 +61,11 @@ pub fn unified<B: Ordered>(
     if maxidx > u32::MAX - 66 {
         return Err(UnifyFault::Memory);
     }
-    unify(alloc, thy.order(), &pairs, maxidx)
+    match unify_while(alloc, thy.order(), &pairs, maxidx, watch) {
+        Ok(Some(unifier)) => Ok(unifier),
+        Ok(None) => Err(UnifyFault::Memory),
+        Err(fault) => Err(fault),
+    }
 }
 
 /// The goal of these subgoals, with the instance of the marked statement.
@@ -179,13 +185,14 @@ pub fn with_unifier<B: Ordered>(
 }
 
 /// What follows from the attempt on the goal.
-pub fn followed<B: Ordered>(
+pub fn followed<B: Ordered, W: Watch>(
     alloc: Global,
     thy: &B,
     goal: &Thm,
     attempt: Attempt,
     maxidx: u32,
     rests: Vec<Label>,
+    watch: &W,
 ) -> Result<Goal, StepFault>
     requires goal { HasFirst goal.now }
     requires attempt { MayAttempt goal.now (seen_attempt attempt) }
@@ -193,7 +200,7 @@ pub fn followed<B: Ordered>(
     ensures { (s : State) → (first : tree.Term) → (others : List tree.Term) → IsTheoremOf s goal.now → s.subgoals ≡ first ∷ others → IsOutcome (follows.FollowsBy (algebra_of (B.content thy.now).declarations) maxidx s others (seen_attempt attempt)) (λ all. all ≡ rests.items) result }
 {
     let Attempt { matched, premises } = attempt;
-    match unified(alloc, thy, goal, matched, maxidx) {
+    match unified(alloc, thy, goal, matched, maxidx, watch) {
         Ok(unifier) => with_unifier(alloc, thy, goal, premises, unifier, rests),
         Err(fault) => Err(step_fault(fault)),
     }

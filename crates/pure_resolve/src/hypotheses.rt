@@ -22,10 +22,17 @@ use pure_goal_steps::StepFault;
 use pure_inst::Ordered;
 use pure_term::{Label, Term};
 use pure_theorem::{Thm, as_implication};
+use pure_watch::{Unwatched, Watch};
 use std::alloc::Global;
 
 /// The goal's first subgoal by assumption.
-fn assumed<B: Ordered>(alloc: Global, thy: &B, goal: &Thm, first: &Term) -> Result<Goal, StepFault>
+fn assumed<B: Ordered, W: Watch>(
+    alloc: Global,
+    thy: &B,
+    goal: &Thm,
+    first: &Term,
+    watch: &W,
+) -> Result<Goal, StepFault>
     requires may { MayStep (B.content thy.now) goal.now }
     requires first { IsFirstSubgoal goal.now first.now }
     ensures { IsStep (AssumptionStep (algebra_of (B.content thy.now).declarations)) goal.now (λ rests. rests ≡ goal.now.rests) result }
@@ -41,17 +48,18 @@ fn assumed<B: Ordered>(alloc: Global, thy: &B, goal: &Thm, first: &Term) -> Resu
         maxidx,
         rests,
     };
-    tried_from(alloc, thy, &trial, &Use::Assume, 0)
+    tried_from(alloc, thy, &trial, &Use::Assume, 0, watch)
 }
 
 /// A hypothesis of the goal's first subgoal, which is read so, eliminated by the rule.
-fn eliminated_by<B: Ordered>(
+fn eliminated_by<B: Ordered, W: Watch>(
     alloc: Global,
     thy: &B,
     goal: &Thm,
     parts: &Parts,
     resolver: &Resolver,
     rests: &[Label],
+    watch: &W,
 ) -> Result<Goal, StepFault>
     requires first { HasFirst goal.now }
     requires may { (P : tree.Term) → (As : List tree.Term) → resolver.now.rule.premises.items ≡ P ∷ As → (p : Place) → shown parts.now.prefix.items ≡ around p → MayAttempt goal.now (elimination_attempt parts.now.conclusion.now P As resolver.now.rule.conclusion p) }
@@ -76,16 +84,17 @@ fn eliminated_by<B: Ordered>(
         others,
         conclusion: &resolver.rule.conclusion,
     };
-    tried_from(alloc, thy, &trial, &Use::Eliminate(rule), 0)
+    tried_from(alloc, thy, &trial, &Use::Eliminate(rule), 0, watch)
 }
 
 /// A hypothesis of the goal's first subgoal eliminated by the fact.
-fn eliminated<B: Ordered>(
+fn eliminated<B: Ordered, W: Watch>(
     alloc: Global,
     thy: &B,
     goal: &Thm,
     fact: &Thm,
     first: &Term,
+    watch: &W,
 ) -> Result<Goal, StepFault>
     requires may { MayUse (B.content thy.now) goal.now fact.now }
     requires first { IsFirstSubgoal goal.now first.now }
@@ -94,19 +103,20 @@ fn eliminated<B: Ordered>(
     let parts = read_proposition(alloc, first)?;
     let rests = united_rests(alloc, goal, fact)?;
     let resolver = rule_on(alloc, goal, fact)?;
-    let answer = eliminated_by(alloc, thy, goal, &parts, &resolver, &rests);
+    let answer = eliminated_by(alloc, thy, goal, &parts, &resolver, &rests, watch);
     discard(resolver);
     answer
 }
 
 /// A hypothesis of the goal's first subgoal, which is read so, destructed by the rule.
-fn destructed_by<B: Ordered>(
+fn destructed_by<B: Ordered, W: Watch>(
     alloc: Global,
     thy: &B,
     goal: &Thm,
     parts: &Parts,
     resolver: &Resolver,
     rests: &[Label],
+    watch: &W,
 ) -> Result<Goal, StepFault>
     requires first { HasFirst goal.now }
     requires may { (P : tree.Term) → (As : List tree.Term) → resolver.now.rule.premises.items ≡ P ∷ As → (p : Place) → shown parts.now.prefix.items ≡ around p → MayAttempt goal.now (destruction_attempt parts.now.conclusion.now P As resolver.now.rule.conclusion p) }
@@ -131,16 +141,17 @@ fn destructed_by<B: Ordered>(
         others,
         conclusion: &resolver.rule.conclusion,
     };
-    tried_from(alloc, thy, &trial, &Use::Destruct(rule), 0)
+    tried_from(alloc, thy, &trial, &Use::Destruct(rule), 0, watch)
 }
 
 /// A hypothesis of the goal's first subgoal destructed by the fact.
-fn destructed<B: Ordered>(
+fn destructed<B: Ordered, W: Watch>(
     alloc: Global,
     thy: &B,
     goal: &Thm,
     fact: &Thm,
     first: &Term,
+    watch: &W,
 ) -> Result<Goal, StepFault>
     requires may { MayUse (B.content thy.now) goal.now fact.now }
     requires first { IsFirstSubgoal goal.now first.now }
@@ -149,7 +160,7 @@ fn destructed<B: Ordered>(
     let parts = read_proposition(alloc, first)?;
     let rests = united_rests(alloc, goal, fact)?;
     let resolver = rule_on(alloc, goal, fact)?;
-    let answer = destructed_by(alloc, thy, goal, &parts, &resolver, &rests);
+    let answer = destructed_by(alloc, thy, goal, &parts, &resolver, &rests, watch);
     discard(resolver);
     answer
 }
@@ -165,8 +176,26 @@ impl Goal {
         ensures answer { IsStep (AssumptionStep (algebra_of (B.content thy.now).declarations)) self.now.thm (λ rests. rests ≡ self.now.thm.rests) result }
         ensures derivable { IsUnifyContent (B.content thy.now) → IfOk result (λ new. IsDerivable (B.content thy.now) new.thm) }
     {
+        self.assumption_while(alloc, thy, &Unwatched)
+    }
+
+    /// As `assumption`, as long as the watch lets searches go on.
+    ///
+    /// # Errors
+    ///
+    /// As in `assumption`; `Memory` where memory was refused, or the watch broke a search off.
+    pub fn assumption_while<B: Ordered, W: Watch>(
+        &self,
+        alloc: Global,
+        thy: &B,
+        watch: &W,
+    ) -> Result<Goal, StepFault>
+        requires { MayStep (B.content thy.now) self.now.thm }
+        ensures answer { IsStep (AssumptionStep (algebra_of (B.content thy.now).declarations)) self.now.thm (λ rests. rests ≡ self.now.thm.rests) result }
+        ensures derivable { IsUnifyContent (B.content thy.now) → IfOk result (λ new. IsDerivable (B.content thy.now) new.thm) }
+    {
         match as_implication(&self.thm.prop) {
-            Some((first, _)) => assumed(alloc, thy, &self.thm, first),
+            Some((first, _)) => assumed(alloc, thy, &self.thm, first, watch),
             None => Err(StepFault::NoSubgoal),
         }
     }
@@ -181,8 +210,27 @@ impl Goal {
         ensures answer { IsStep (λ s. EliminationStep (algebra_of (B.content thy.now).declarations) s fact.now) self.now.thm (IsSetOf label_cmp (self.now.thm.rests ++ fact.now.rests)) result }
         ensures derivable { IsUnifyContent (B.content thy.now) → IfOk result (λ new. IsDerivable (B.content thy.now) new.thm) }
     {
+        self.erule_while(alloc, thy, fact, &Unwatched)
+    }
+
+    /// As `erule`, as long as the watch lets searches go on.
+    ///
+    /// # Errors
+    ///
+    /// As in `erule`; `Memory` where memory was refused, or the watch broke a search off.
+    pub fn erule_while<B: Ordered, W: Watch>(
+        &self,
+        alloc: Global,
+        thy: &B,
+        fact: &Thm,
+        watch: &W,
+    ) -> Result<Goal, StepFault>
+        requires { MayUse (B.content thy.now) self.now.thm fact.now }
+        ensures answer { IsStep (λ s. EliminationStep (algebra_of (B.content thy.now).declarations) s fact.now) self.now.thm (IsSetOf label_cmp (self.now.thm.rests ++ fact.now.rests)) result }
+        ensures derivable { IsUnifyContent (B.content thy.now) → IfOk result (λ new. IsDerivable (B.content thy.now) new.thm) }
+    {
         match as_implication(&self.thm.prop) {
-            Some((first, _)) => eliminated(alloc, thy, &self.thm, fact, first),
+            Some((first, _)) => eliminated(alloc, thy, &self.thm, fact, first, watch),
             None => Err(StepFault::NoSubgoal),
         }
     }
@@ -197,8 +245,27 @@ impl Goal {
         ensures answer { IsStep (λ s. DestructionStep (algebra_of (B.content thy.now).declarations) s fact.now) self.now.thm (IsSetOf label_cmp (self.now.thm.rests ++ fact.now.rests)) result }
         ensures derivable { IsUnifyContent (B.content thy.now) → IfOk result (λ new. IsDerivable (B.content thy.now) new.thm) }
     {
+        self.drule_while(alloc, thy, fact, &Unwatched)
+    }
+
+    /// As `drule`, as long as the watch lets searches go on.
+    ///
+    /// # Errors
+    ///
+    /// As in `drule`; `Memory` where memory was refused, or the watch broke a search off.
+    pub fn drule_while<B: Ordered, W: Watch>(
+        &self,
+        alloc: Global,
+        thy: &B,
+        fact: &Thm,
+        watch: &W,
+    ) -> Result<Goal, StepFault>
+        requires { MayUse (B.content thy.now) self.now.thm fact.now }
+        ensures answer { IsStep (λ s. DestructionStep (algebra_of (B.content thy.now).declarations) s fact.now) self.now.thm (IsSetOf label_cmp (self.now.thm.rests ++ fact.now.rests)) result }
+        ensures derivable { IsUnifyContent (B.content thy.now) → IfOk result (λ new. IsDerivable (B.content thy.now) new.thm) }
+    {
         match as_implication(&self.thm.prop) {
-            Some((first, _)) => destructed(alloc, thy, &self.thm, fact, first),
+            Some((first, _)) => destructed(alloc, thy, &self.thm, fact, first, watch),
             None => Err(StepFault::NoSubgoal),
         }
     }

@@ -19,6 +19,7 @@ use pure_goal_steps::StepFault;
 use pure_inst::Ordered;
 use pure_term::{Label, Term};
 use pure_theorem::{Thm, as_implication, united_labels};
+use pure_watch::{Unwatched, Watch};
 use std::alloc::{AllocError, Global};
 
 /// A fact as a rule on a goal, and the greatest index of both.
@@ -80,12 +81,13 @@ fn attempt_by(alloc: Global, goal: &Thm, fact: &Thm, parts: &Parts) -> Result<Tr
 }
 
 /// Resolution of the goal's first subgoal with the fact.
-fn resolved<B: Ordered>(
+fn resolved<B: Ordered, W: Watch>(
     alloc: Global,
     thy: &B,
     goal: &Thm,
     fact: &Thm,
     first: &Term,
+    watch: &W,
 ) -> Result<Goal, StepFault>
     requires may { MayUse (B.content thy.now) goal.now fact.now }
     requires first { IsFirstSubgoal goal.now first.now }
@@ -94,7 +96,7 @@ fn resolved<B: Ordered>(
     let parts = read_proposition(alloc, first)?;
     let rests = united_rests(alloc, goal, fact)?;
     let Trying { attempt, maxidx } = attempt_by(alloc, goal, fact, &parts)?;
-    followed(alloc, thy, goal, attempt, maxidx, rests)
+    followed(alloc, thy, goal, attempt, maxidx, rests, watch)
 }
 
 impl Goal {
@@ -108,8 +110,27 @@ impl Goal {
         ensures answer { IsStep (λ s. RuleStep (algebra_of (B.content thy.now).declarations) s fact.now) self.now.thm (IsSetOf label_cmp (self.now.thm.rests ++ fact.now.rests)) result }
         ensures derivable { IsUnifyContent (B.content thy.now) → IfOk result (λ new. IsDerivable (B.content thy.now) new.thm) }
     {
+        self.rule_while(alloc, thy, fact, &Unwatched)
+    }
+
+    /// As `rule`, as long as the watch lets searches go on.
+    ///
+    /// # Errors
+    ///
+    /// As in `rule`; `Memory` where memory was refused, or the watch broke a search off.
+    pub fn rule_while<B: Ordered, W: Watch>(
+        &self,
+        alloc: Global,
+        thy: &B,
+        fact: &Thm,
+        watch: &W,
+    ) -> Result<Goal, StepFault>
+        requires { MayUse (B.content thy.now) self.now.thm fact.now }
+        ensures answer { IsStep (λ s. RuleStep (algebra_of (B.content thy.now).declarations) s fact.now) self.now.thm (IsSetOf label_cmp (self.now.thm.rests ++ fact.now.rests)) result }
+        ensures derivable { IsUnifyContent (B.content thy.now) → IfOk result (λ new. IsDerivable (B.content thy.now) new.thm) }
+    {
         match as_implication(&self.thm.prop) {
-            Some((first, _)) => resolved(alloc, thy, &self.thm, fact, first),
+            Some((first, _)) => resolved(alloc, thy, &self.thm, fact, first, watch),
             None => Err(StepFault::NoSubgoal),
         }
     }

@@ -25,6 +25,7 @@ use pure_inst::Ordered;
 use pure_term::{Label, Term};
 use pure_theorem::{Pair, Thm};
 use pure_unify::Unifier;
+use pure_watch::Watch;
 use std::alloc::{AllocError, Global};
 
 /// How a hypothesis is used: it is the conclusion, or a rule eliminates it, or destructs it.
@@ -103,12 +104,13 @@ fn made_at<B: Ordered>(
 }
 
 /// What follows from the attempt to use the hypothesis at this place.
-fn tried_at<B: Ordered>(
+fn tried_at<B: Ordered, W: Watch>(
     alloc: Global,
     thy: &B,
     trial: &Trial,
     used: &Use,
     spot: &Spot,
+    watch: &W,
 ) -> Result<Goal, StepFault>
     requires stands { shown trial.now.items.now ≡ reading.around (seen_place spot.now) }
     requires first { HasFirst trial.now.goal.now }
@@ -117,7 +119,7 @@ fn tried_at<B: Ordered>(
     ensures { (s : State) → (first : tree.Term) → (others : List tree.Term) → IsTheoremOf s trial.now.goal.now → s.subgoals ≡ first ∷ others → IsOutcome (FollowsBy (algebra_of (B.content thy.now).declarations) trial.now.maxidx s others (attempted used.now trial.now.conclusion.now (seen_place spot.now))) (λ all. all ≡ trial.now.rests.now) result }
 {
     let matched = pairs_at(alloc, trial.items, trial.conclusion, used, spot)?;
-    match unified(alloc, thy, trial.goal, matched, trial.maxidx) {
+    match unified(alloc, thy, trial.goal, matched, trial.maxidx, watch) {
         Ok(unifier) => made_at(alloc, thy, trial, used, spot, unifier),
         Err(fault) => Err(step_fault(fault)),
     }
@@ -142,12 +144,13 @@ fn item_at<'t>(items: &[Item<'t>], at: usize) -> Item<'t>
 }
 
 /// What follows from the first hypothesis from this place on that serves.
-pub fn tried_from<B: Ordered>(
+pub fn tried_from<B: Ordered, W: Watch>(
     alloc: Global,
     thy: &B,
     trial: &Trial,
     used: &Use,
     from: usize,
+    watch: &W,
 ) -> Result<Goal, StepFault>
     requires first { HasFirst trial.now.goal.now }
     requires may { (p : reading.Place) → shown trial.now.items.now ≡ reading.around p → MayAttempt trial.now.goal.now (attempted used.now trial.now.conclusion.now p) }
@@ -159,18 +162,18 @@ pub fn tried_from<B: Ordered>(
         return Err(StepFault::NoHypothesis);
     }
     match item_at(trial.items, from) {
-        Item::Parameter(_) => tried_from(alloc, thy, trial, used, from + 1),
+        Item::Parameter(_) => tried_from(alloc, thy, trial, used, from + 1, watch),
         Item::Hypothesis(hypothesis) => {
             let spot = Spot {
                 before: &trial.items[..from],
                 hypothesis,
                 after: &trial.items[from + 1..],
             };
-            match tried_at(alloc, thy, trial, used, &spot) {
+            match tried_at(alloc, thy, trial, used, &spot, watch) {
                 Ok(goal) => Ok(goal),
                 Err(fault) => {
                     if is_no_unifier(fault) {
-                        return tried_from(alloc, thy, trial, used, from + 1);
+                        return tried_from(alloc, thy, trial, used, from + 1, watch);
                     }
                     Err(fault)
                 }

@@ -23,7 +23,7 @@ use Rattle.pure_unify.specs.declared.search.Search.{Search}
 use Rattle.pure_unify.specs.declared.unifier.Unifier.{Unifier}
 use Rattle.pure_unify.specs.declared.fault.UnifyFault.{UnifyFault}
 use Rattle.pure_unify.specs.declared.fault.UnifyFault.TheVariants.{NoUnifier, SearchBound, Steps, Big, Memory}
-use Rattle.pure_unify.specs.Unified.{seen, IsToldAs, IsLeftOver}
+use Rattle.pure_unify.specs.Unified.{seen, IsToldAs, UnlessStopped, IsLeftOver}
 use Rattle.pure_unify.specs.Frames.{IsBranch, IsChosen, IsFrame, HoldNodes, IsStep, IsSuccess, AreLeftOver}
 
 -- One frame more holds its nodes before the others.
@@ -59,6 +59,12 @@ told_of P Q f (Err SearchBound) h = f search.SearchBound h
 told_of P Q f (Err Steps) h = f (search.Stopped sides.Steps) h
 told_of P Q f (Err Big) h = f (search.Stopped sides.Big) h
 told_of P Q f (Err Memory) h = tt
+
+-- So is what is told of a search that may be broken off.
+pub unless_stopped : (P Q : Result Unifier UnifyFault → Type 0) → ((result : Result Unifier UnifyFault) → P result → Q result) → (result : Result (Option Unifier) UnifyFault) → UnlessStopped P result → UnlessStopped Q result
+unless_stopped P Q f (Ok (Some u)) h = f (Ok u) h
+unless_stopped P Q f (Ok None) h = tt
+unless_stopped P Q f (Err fault) h = f (Err fault) h
 
 pub step_of : (A : Algebra) (maxidx : ℕ) (P Q : search.Answer → Type 0) (new : Search) → ((answer : search.Answer) → P answer → Q answer) → (result : Result (Option Unifier) UnifyFault) → IsStep A maxidx P new result → IsStep A maxidx Q new result
 step_of A maxidx P Q new f (Ok None) h = (h.0, h.1, λ answer s. f answer (h.2 answer s))

@@ -1,5 +1,5 @@
 -- What the call that unifies answers.
-use Rattle.std.specs.Prelude.{ℕ, List, [], Result, Ok, Err}
+use Rattle.std.specs.Prelude.{ℕ, List, [], Result, Ok, Err, Option, Some, None}
 use Rattle.pure_definitions.specs.Types.Typ.{Typ}
 use Rattle.pure_definitions.specs.Types.Order.{Algebra}
 use Rattle.pure_definitions.specs.Terms.Typing.{HasType}
@@ -29,6 +29,18 @@ IsToldAs P (Err Memory) = Unit {0}
 -- The call's answer is that of the search; or `Memory`.
 abbrev pub IsUnified : Algebra → (maxidx : ℕ) → List Pair → Result Unifier UnifyFault → Type 0
 IsUnified A maxidx ps result = IsToldAs (IsUnifyAnswer A maxidx ps) result
+
+-- The answer of a search that may be broken off has this property, or it was broken off.
+abbrev pub UnlessStopped : (Result Unifier UnifyFault → Type 0) → Result (Option Unifier) UnifyFault → Type 0
+UnlessStopped P (Ok (Some u)) = P (Ok u)
+UnlessStopped P (Ok None) = Unit {0}
+UnlessStopped P (Err fault) = P (Err fault)
+
+-- The search was broken off only where this is so.
+abbrev pub StopsWhere : Type 0 → Result (Option Unifier) UnifyFault → Type 0
+StopsWhere May (Ok (Some u)) = Unit {0}
+StopsWhere May (Ok None) = May
+StopsWhere May (Err fault) = Unit {0}
 
 -- The pair is one that a unifier may leave: its sides are flexible, in long form, and of one type.
 pub record IsLeftOver (p : Pair) : Type 0 where

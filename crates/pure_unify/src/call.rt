@@ -1,5 +1,5 @@
 //! The call that unifies.
-ghost use Rattle.std.specs.Prelude.{◌≡◌, ◌+◌, ◌<◌, ◌^◌, [], List, IfOk};
+ghost use Rattle.std.specs.Prelude.{◌≡◌, ◌+◌, ◌<◌, ◌^◌, [], List, IfOk, false};
 ghost use Rattle.pure_text.specs.Lists.{Each};
 ghost use Rattle.pure_definitions.specs.Declarations.Decl.{algebra_of};
 ghost use Rattle.pure_logic.specs.Content.{Content};
@@ -11,7 +11,7 @@ ghost use Rattle.pure_unify_laws.specs.Condition.{IsUnifyContent, AreUnifiable};
 ghost use Rattle.pure_unify_answers.specs.Maps.{Solves, IsFiniteUnifier};
 ghost use Rattle.pure_unify_nodes.specs.Long.{IsLongPair};
 ghost use Rattle.pure_unify_visits.specs.Visited.{IsVisitAnswer, IsLongVisit};
-ghost use Rattle.pure_unify.specs.Unified.{seen, IsToldAs, IsUnified, IsLeftOver};
+ghost use Rattle.pure_unify.specs.Unified.{seen, IsToldAs, IsUnified, IsLeftOver, UnlessStopped, StopsWhere};
 ghost use Rattle.pure_unify.specs.Frames.{HoldNodes, CanGoOn, IsSimpleVisit};
 
 use crate::clash::fails_at_once;
@@ -24,6 +24,7 @@ use pure_order::Order;
 use pure_theorem::{Pair, copied_pairs};
 use pure_unify_steps::{Node, Path};
 use pure_unify_visits::{Visited, visit, visit_long};
+use pure_watch::{Unwatched, Watch};
 use std::alloc::{AllocError, Global};
 
 /// The root: the given pairs.
@@ -75,22 +76,72 @@ fn visit_root(
     visit(alloc, order, maxidx, root)
 }
 
-/// What the search answers from here on.
-fn run(alloc: Global, order: &Order, maxidx: u32, search: Search) -> Result<Unifier, UnifyFault>
+/// What the search answers from here on, or none where the watch breaks it off. The watch is asked before each turn.
+fn run<W: Watch>(
+    alloc: Global,
+    order: &Order,
+    maxidx: u32,
+    search: Search,
+    watch: &W,
+) -> Result<Option<Unifier>, UnifyFault>
     requires room { maxidx + 66 < 2 ^ 32 }
     requires go { CanGoOn search }
-    ensures answer { (ns : List nodes.Node) → HoldNodes search.frames.items ns → IsToldAs (answers.Searches order.now maxidx search.visited search.cut ns) result }
-    ensures left { IfOk result (λ u. Each IsLeftOver u.flexflex.items) }
+    ensures answer { (ns : List nodes.Node) → HoldNodes search.frames.items ns → UnlessStopped (IsToldAs (answers.Searches order.now maxidx search.visited search.cut ns)) result }
+    ensures left { UnlessStopped (λ found. IfOk found (λ u. Each IsLeftOver u.flexflex.items)) result }
+    ensures stopped { StopsWhere (W.may_say watch.now false) result }
 {
     let mut search = search;
     for _ in 0..u64::MAX {
+        if !watch.goes_on() {
+            return Ok(None);
+        }
         match take_turn(alloc, order, maxidx, &mut search) {
-            Ok(Some(unifier)) => return Ok(unifier),
+            Ok(Some(unifier)) => return Ok(Some(unifier)),
             Ok(None) => {}
             Err(fault) => return Err(fault),
         }
     }
     Err(UnifyFault::Memory)
+}
+
+/// The unifier of the pairs to which the search comes first, as `unify` answers, or none where the watch breaks the search
+/// off. The watch is asked before each node that is visited.
+///
+/// # Errors
+///
+/// As in `unify`.
+pub fn unify_while<W: Watch>(
+    alloc: Global,
+    order: &Order,
+    pairs: &[Pair],
+    maxidx: u32,
+    watch: &W,
+) -> Result<Option<Unifier>, UnifyFault>
+    requires typed { Each AreSidesTyped pairs.now }
+    requires room { maxidx + 66 < 2 ^ 32 }
+    ensures answer { UnlessStopped (IsUnified order.now maxidx pairs.now) result }
+    ensures left { UnlessStopped (λ found. IfOk found (λ u. Each IsLeftOver u.flexflex.items)) result }
+    ensures solves { (Q : Content) → IsUnifyContent Q → order.now ≡ algebra_of Q.declarations → AreUnifiable Q maxidx pairs.now → UnlessStopped (λ found. IfOk found (λ u. Solves Q pairs.now (seen u))) result }
+    ensures finite { (Q : Content) → IsUnifyContent Q → order.now ≡ algebra_of Q.declarations → AreUnifiable Q maxidx pairs.now → UnlessStopped (λ found. IfOk found (λ u. IsFiniteUnifier Q (seen u))) result }
+    ensures stopped { StopsWhere (W.may_say watch.now false) result }
+{
+    if fails_at_once(pairs) {
+        return Err(UnifyFault::NoUnifier);
+    }
+    if !watch.goes_on() {
+        return Ok(None);
+    }
+    let outcome = visit_root(alloc, order, maxidx, pairs);
+    let mut search = Search {
+        frames: Vec::new(alloc),
+        visited: 1,
+        cut: false,
+    };
+    match after_visit(alloc, maxidx, &mut search, outcome) {
+        Ok(Some(unifier)) => Ok(Some(unifier)),
+        Ok(None) => run(alloc, order, maxidx, search, watch),
+        Err(fault) => Err(fault),
+    }
 }
 
 /// The unifier of the pairs to which the search comes first: nodes in preorder, imitation before projections (Huet, A
@@ -110,18 +161,9 @@ pub fn unify(
     ensures solves { (Q : Content) → IsUnifyContent Q → order.now ≡ algebra_of Q.declarations → AreUnifiable Q maxidx pairs.now → IfOk result (λ u. Solves Q pairs.now (seen u)) }
     ensures finite { (Q : Content) → IsUnifyContent Q → order.now ≡ algebra_of Q.declarations → AreUnifiable Q maxidx pairs.now → IfOk result (λ u. IsFiniteUnifier Q (seen u)) }
 {
-    if fails_at_once(pairs) {
-        return Err(UnifyFault::NoUnifier);
-    }
-    let outcome = visit_root(alloc, order, maxidx, pairs);
-    let mut search = Search {
-        frames: Vec::new(alloc),
-        visited: 1,
-        cut: false,
-    };
-    match after_visit(alloc, maxidx, &mut search, outcome) {
+    match unify_while(alloc, order, pairs, maxidx, &Unwatched) {
         Ok(Some(unifier)) => Ok(unifier),
-        Ok(None) => run(alloc, order, maxidx, search),
+        Ok(None) => unreachable!(),
         Err(fault) => Err(fault),
     }
 }

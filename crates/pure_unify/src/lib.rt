@@ -15,6 +15,6 @@ mod resolve;
 mod search;
 mod unifier;
 
-pub use call::unify;
+pub use call::{unify, unify_while};
 pub use fault::UnifyFault;
 pub use unifier::Unifier;

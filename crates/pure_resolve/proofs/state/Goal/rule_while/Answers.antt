@@ -5,7 +5,7 @@ use Rattle.pure_resolve.proofs.UseLaws.{rule_none, rule_derivable}
 use Rattle.pure_definitions.specs.Terms.Term.{Term}
 use Rattle.pure_theorem.specs.Shapes.{IsNoImplication}
 use Rattle.pure_resolve.specs.declared.state.Goal.{Goal}
-use Rattle.pure_resolve.proofs.state.Goal.rule.Goals as goal
+use Rattle.pure_resolve.proofs.state.Goal.rule_while.Goals as goal
 
 pub returns-in-None-clause-answer : goal.returns-in-None-clause-answer
 returns-in-None-clause-answer g c =
