@@ -67,6 +67,19 @@ simple_open held h = subst (λ (ps : List Pair). Each IsOpen ps) (sym h.is.pairs
 pub simple_singles : (held : Node) → IsSimpleHeld held → Each IsSingle held.path.settings.items
 simple_singles held h = held_singles held.path.settings.items h.node.path.settings h.is.path.settings
 
+-- A node with the same pairs and the same path.
+pub same_node : (held other : Node) (m : nodes.Node) → other.pairs.items ≡ held.pairs.items → other.path ≡ held.path → IsNode held m → IsNode other m
+same_node held other m pairs path h = record { pairs = pairs ∙ h.pairs; path = subst (λ (p : Path). IsPath p m.path) (sym path) h.path }
+
+pub same_simple : (held other : Node) → other.pairs.items ≡ held.pairs.items → other.path ≡ held.path → IsSimpleHeld held → IsSimpleHeld other
+same_simple held other pairs path h = record {
+  node = h.node;
+  is = same_node held other h.node pairs path h.is;
+  left = h.left;
+  long = subst (λ (ps : List Pair). Each IsLongPair ps) (sym pairs) h.long;
+  few = subst (λ (p : Path). p.choices ≤ max_choices) (sym path) h.few;
+}
+
 -- The pairs of a success may be left.
 left-over : (ps : List Pair) → Each IsOpen ps → Each IsLongPair ps → Each IsFlexFlex ps → Each IsLeftOver ps
 left-over [] o l f = tt

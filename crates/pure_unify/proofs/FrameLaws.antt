@@ -1,8 +1,7 @@
 -- The nodes that frames hold, and what comes of one of them.
 use Rattle.std.proofs.Common.{◌≡◌, ℕ, ◌+◌, ◌<◌, ◌≤◌, List, [], ◌∷◌, ◌++◌, map, length, Bool, true, refl, ap, sym, subst, ◌∙◌, arith, append_assoc}
-use Rattle.std.specs.Prelude.{reverse, Result, Ok, Err, Option, Some, None, IfOk, IfSome}
-use Rattle.std.proofs.lemmas.List.{append-nil, reverse-reverse}
-use Rattle.std.proofs.lemmas.Grind.{reverse_onto}
+use Rattle.std.specs.Prelude.{Result, Ok, Err, Option, Some, None, IfOk, IfSome}
+use Rattle.std.proofs.lemmas.List.{append-nil}
 use Rattle.pure_text.specs.Lists.{Each}
 use Rattle.pure_definitions.specs.Types.Order.{Algebra}
 use Rattle.pure_definitions.specs.Terms.Term.{Term, Var}
@@ -24,7 +23,7 @@ use Rattle.pure_unify.specs.declared.unifier.Unifier.{Unifier}
 use Rattle.pure_unify.specs.declared.fault.UnifyFault.{UnifyFault}
 use Rattle.pure_unify.specs.declared.fault.UnifyFault.TheVariants.{NoUnifier, SearchBound, Steps, Big, Memory}
 use Rattle.pure_unify.specs.Unified.{seen, IsToldAs, UnlessStopped, IsLeftOver}
-use Rattle.pure_unify.specs.Frames.{IsBranch, IsChosen, IsFrame, HoldNodes, IsStep, IsSuccess, AreLeftOver}
+use Rattle.pure_unify.specs.Frames.{images_left, IsBranch, IsChosen, IsFrame, HoldNodes, IsStep, IsSuccess, AreLeftOver}
 
 -- One frame more holds its nodes before the others.
 pub hold_more : (fs : List Frame) (f : Frame) (mine ns : List node.Node) → HoldNodes fs ns → IsFrame f mine → HoldNodes (fs ++ f ∷ []) (mine ++ ns)
@@ -95,8 +94,7 @@ branch-holds maxidx held m branch frame is b e =
       parent = m;
       held = is;
       are = ap (λ j. map (child m branch.name branch.index branch.typ) (images (maxidx + (j + 1)) branch.typ b.rigid)) (sym is.path.choices)
-          ∙ (ap (map (child m branch.name branch.index branch.typ)) (sym (reverse-reverse (images (maxidx + (held.path.choices + 1)) branch.typ b.rigid)))
-          ∙ ap (λ (us : List Term). map (child m branch.name branch.index branch.typ) (reverse us)) (sym b.are));
+          ∙ ap (map (child m branch.name branch.index branch.typ)) (sym b.are);
     })
 
 pub step_branch : (A : Algebra) (maxidx : ℕ) (n m : node.Node) (ns : List node.Node) (k : ℕ) (held : Node) (branch : Branch) (frame : Frame) (s new : Search) → IsNode held m → Visits A maxidx n (rules.Simple m) → HoldNodes s.frames.items ns → s.visited ≡ k + 1 → k < max_nodes
@@ -124,22 +122,24 @@ step_success A maxidx n m ns k cut new (Err SearchBound) v few flexible h = absu
 step_success A maxidx n m ns k cut new (Err Steps) v few flexible h = absurd h
 
 -- An image is taken from a frame.
-pub next_child : (frame : Frame) (mine : List node.Node) (rest : List Term) (image : Term) → IsFrame frame mine → frame.branch.images.items ≡ rest ++ image ∷ [] → (more : Frame) → more.node ≡ frame.node → more.branch.name ≡ frame.branch.name
-    → more.branch.index ≡ frame.branch.index → more.branch.typ ≡ frame.branch.typ → more.branch.images.items ≡ rest
+pub next_child : (frame : Frame) (mine : List node.Node) (image : Term) → IsFrame frame mine → (more : Frame) → more.node ≡ frame.node → more.branch.name ≡ frame.branch.name
+    → more.branch.index ≡ frame.branch.index → more.branch.typ ≡ frame.branch.typ → images_left frame.branch ≡ image ∷ images_left more.branch
     → (n : node.Node) × (theirs : List node.Node) × IsNode more.node n × IsFrame more theirs × (mine ≡ child n more.branch.name more.branch.index more.branch.typ image ∷ theirs)
-next_child frame mine rest image h e more same_node same_name same_index same_typ fewer =
+next_child frame mine image h more same_node same_name same_index same_typ e =
     let make : Term → node.Node = child h.parent more.branch.name more.branch.index more.branch.typ in
     let held : IsNode more.node h.parent = subst (λ (k : Node). IsNode k h.parent) (sym same_node) h.held in (
       h.parent,
-      map make (reverse rest),
+      map make (images_left more.branch),
       held,
-      record { parent = h.parent; held = held; are = ap (λ (us : List Term). map make (reverse us)) (sym fewer) },
-      h.are ∙ ((λ l. map (child h.parent (sym same_name l) (sym same_index l) (sym same_typ l)) (reverse (e l)))
-          ∙ ap (map make) (reverse-last rest image)),
+      record { parent = h.parent; held = held; are = refl },
+      h.are ∙ (λ l. map (child h.parent (sym same_name l) (sym same_index l) (sym same_typ l)) (e l)),
     )
-  where
-    reverse-last : (us : List Term) (u : Term) → reverse (us ++ u ∷ []) ≡ u ∷ reverse us
-    reverse-last us u = ap reverse (ap (λ (xs : List Term). xs ++ u ∷ []) (sym (reverse-reverse us)) ∙ sym (reverse_onto (reverse us) u [])) ∙ reverse-reverse (u ∷ reverse us)
+
+-- No image is left of a frame.
+pub none_left : (A : Algebra) (maxidx : ℕ) (frame : Frame) (mine ns : List node.Node) (s : Search) → IsFrame frame mine → images_left frame.branch ≡ [] → HoldNodes s.frames.items ns → IsStep A maxidx (Searches A maxidx s.visited s.cut (mine ++ ns)) s (Ok None)
+none_left A maxidx frame mine ns s is e hold =
+    let none : mine ≡ [] = is.are ∙ ap (map (child is.parent frame.branch.name frame.branch.index frame.branch.typ)) e in
+    (ns, hold, λ answer rest. subst (λ (xs : List node.Node). Searches A maxidx s.visited s.cut (xs ++ ns) answer) (sym none) rest)
 
 -- The visit stops the search.
 pub step_steps : (A : Algebra) (maxidx : ℕ) (n : node.Node) (ns : List node.Node) (k : ℕ) (cut : Bool) → Visits A maxidx n (rules.Halted sides.Steps) → k < max_nodes → Searches A maxidx k cut (n ∷ ns) (search.Stopped sides.Steps)

@@ -1,6 +1,6 @@
 -- Images have their variable's type.
 use Rattle.std.proofs.Common.{◌≡◌, ℕ, zero, suc, ◌+◌, ◌-◌, List, [], ◌∷◌, ◌++◌, length, Bool, true, false, refl, ap, sym, subst, ◌∙◌, arith, slice_get, Some, append_assoc}
-use Rattle.std.specs.Prelude.{reverse, if◌then◌else◌}
+use Rattle.std.specs.Prelude.{if◌then◌else◌}
 use Rattle.std.proofs.lemmas.List.{length-append}
 use Rattle.pure_text.specs.Lists.{Each, EachTwo}
 use Rattle.pure_text.proofs.ListLaws.{each-append, each-right}
@@ -12,8 +12,7 @@ use Rattle.pure_logic.specs.Derivable.{Pair}
 use Rattle.pure_unify_definitions.specs.Fronts.{front, head, below, domains, range, function_typ, applied, bounds}
 use Rattle.pure_unify_definitions.specs.Children.{new_arguments, image_of, imitations, projections, images, HasFlexible, on_left, on_right, IsChoice}
 use Rattle.pure_unify.specs.declared.branch.Branch.{Branch}
-use Rattle.pure_unify.specs.Frames.{IsOpen, IsTypedBranch}
-use Rattle.pure_unify.proofs.ResolveLaws.{each-reverse}
+use Rattle.pure_unify.specs.Frames.{IsOpen, images_left, IsCountableBranch, IsTypedBranch}
 
 -- the types of binders, with those of abstractions before them
 under : List Typ → List Typ → List Typ
@@ -132,8 +131,10 @@ choice-typed ps x i T h index c sides = by c.heads (each-right IsOpen c.front (c
     by (on_left a b e k) o = from c.pair.left c.pair.right o.typ o.left o.right e k
     by (on_right a b e k) o = from c.pair.right c.pair.left o.typ o.right o.left e k
 
-branch_typed : (ps : List Pair) (x i : ℕ) (T : Typ) (h : Term) (index : ℕ) (us : List Term) → IsChoice ps (Var x i T) h → Each IsOpen ps → us ≡ reverse (images index T h) → Each (λ u. HasType [] u T) us
-branch_typed ps x i T h index us c sides e = subst (λ (vs : List Term). Each (λ u. HasType [] u T) vs) (sym e) (each-reverse (λ u. HasType [] u T) (images index T h) (choice-typed ps x i T h index c sides))
-
-pub typed_branch : (ps : List Pair) (v h : Term) (index : ℕ) (b : Branch) → IsChoice ps v h → v ≡ Var b.name b.index b.typ → b.images.items ≡ reverse (images index b.typ h) → Each IsOpen ps → IsTypedBranch b
-typed_branch ps v h index b c is are sides = branch_typed ps b.name b.index b.typ h index b.images.items (subst (λ (u : Term). IsChoice ps u h) is c) sides are
+pub typed_branch : (ps : List Pair) (v h : Term) (index : ℕ) (b : Branch) → IsChoice ps v h → v ≡ Var b.name b.index b.typ → images_left b ≡ images index b.typ h → IsCountableBranch b → Each IsOpen ps → IsTypedBranch b
+typed_branch ps v h index b c is are countable sides = record {
+  countable = countable;
+  images =
+    subst (λ (us : List Term). Each (λ u. HasType [] u b.typ) us) (sym are)
+    (choice-typed ps b.name b.index b.typ h index (subst (λ (u : Term). IsChoice ps u h) is c) sides);
+}

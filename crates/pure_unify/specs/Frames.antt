@@ -1,7 +1,7 @@
 -- The nodes to come, as the search holds them.
-use Rattle.std.specs.Prelude.{◌≡◌, ℕ, ◌+◌, ◌<◌, ◌≤◌, List, [], ◌∷◌, ◌++◌, map, reverse, Result, Ok, Err, Option, Some, None, Bool}
+use Rattle.std.specs.Prelude.{◌≡◌, ℕ, ◌+◌, ◌<◌, ◌≤◌, ◌^◌, List, [], ◌∷◌, ◌++◌, map, Result, Ok, Err, Option, Some, None, Bool}
 use Rattle.pure_text.specs.Lists.{Each}
-use Rattle.pure_definitions.specs.Types.Typ.{Typ}
+use Rattle.pure_definitions.specs.Types.Typ.{Typ, typ_depth}
 use Rattle.pure_definitions.specs.Types.Order.{Algebra}
 use Rattle.pure_definitions.specs.Terms.Term.{Term, Var}
 use Rattle.pure_definitions.specs.Terms.Typing.{HasType}
@@ -27,7 +27,7 @@ use Rattle.pure_unify.specs.declared.fault.UnifyFault.TheVariants.{Big, Memory}
 use Rattle.pure_unify_visits.specs.declared.scan.Visited.{Visited}
 use Rattle.pure_unify_visits.specs.declared.scan.Visited.TheVariants.{Simple, Failed}
 use Rattle.pure_unify_visits.specs.Visited.{IsVisitAnswer}
-use Rattle.pure_unify.specs.Images.{HasFlexibleSide}
+use Rattle.pure_unify.specs.Images.{HasCountable, HasFlexibleSide, images_from}
 use Rattle.pure_unify.specs.Unified.{seen, IsToldAs, IsLeftOver}
 
 -- The sides of the pair are of one type, and one of them is flexible.
@@ -37,11 +37,15 @@ pub record IsOpen (p : Pair) : Type 0 where
   pub left : HasType [] p.left typ
   pub right : HasType [] p.right typ
 
--- The branch is of the first pair with one flexible side: the images of its variable, the last first, for the new variables of this index.
+-- the images of the branch that are still to be tried
+abbrev pub images_left : Branch → List Term
+images_left branch = images_from branch.new_index branch.typ branch.head branch.next
+
+-- The branch is of the first pair with one flexible side: the images of its variable, for the new variables of this index.
 pub record IsBranch (ps : List Pair) (index : ℕ) (branch : Branch) : Type 0 where
   pub rigid : Term
   pub choice : IsChoice ps (Var branch.name branch.index branch.typ) rigid
-  pub are : branch.images.items ≡ reverse (images index branch.typ rigid)
+  pub are : images_left branch ≡ images index branch.typ rigid
 
 -- What is chosen at a node of these pairs, on the way to which so many choices were made: nothing, where all pairs are flexible; nothing either, where no further choice may be made; or a branch.
 abbrev pub IsChosen : (maxidx : ℕ) → List Pair → (choices : ℕ) → Chosen → Type 0
@@ -49,9 +53,15 @@ IsChosen maxidx ps choices Nothing = Each IsFlexFlex ps
 IsChosen maxidx ps choices Cut = (f : Term) × (h : Term) × IsChoice ps f h × (choices ≡ max_choices)
 IsChosen maxidx ps choices (At branch) = IsBranch ps (maxidx + (choices + 1)) branch × (choices < max_choices)
 
--- The images of the branch have its variable's type; where none is chosen nothing is said.
-abbrev pub IsTypedBranch : Branch → Type 0
-IsTypedBranch branch = Each (λ u. HasType [] u branch.typ) branch.images.items
+-- The types of the branch are so deep that their arrows can be counted.
+pub record IsCountableBranch (branch : Branch) : Type 0 where
+  pub variable : typ_depth branch.typ < 2 ^ 32
+  pub head : HasCountable branch.head
+
+-- So it is, and its images have its variable's type; where none is chosen nothing is said.
+pub record IsTypedBranch (branch : Branch) : Type 0 where
+  pub countable : IsCountableBranch branch
+  pub images : Each (λ u. HasType [] u branch.typ) (images_left branch)
 
 abbrev pub IsTypedChosen : Chosen → Type 0
 IsTypedChosen (At branch) = IsTypedBranch branch
@@ -61,7 +71,7 @@ IsTypedChosen _ = Unit {0}
 pub record IsFrame (frame : Frame) (mine : List node.Node) : Type 0 where
   pub parent : node.Node
   pub held : IsNode frame.node parent
-  pub are : mine ≡ map (child parent frame.branch.name frame.branch.index frame.branch.typ) (reverse frame.branch.images.items)
+  pub are : mine ≡ map (child parent frame.branch.name frame.branch.index frame.branch.typ) (images_left frame.branch)
 
 -- The frames hold these nodes: those of the last frame come first.
 abbrev pub HoldNodes : List Frame → List node.Node → Type 0

@@ -1,15 +1,22 @@
-//! The images of a variable against a head: the imitation, and the projections.
-ghost use Rattle.std.specs.Prelude.{◌≡◌, ◌++◌, ◌<◌, ◌^◌, ◌+◌, length, reverse, IfOk, OnOk};
+//! The images of a variable against a head, one at a time: the imitation has the number 0, and the projection to the argument at a place the number of this place and 1.
+ghost use Rattle.std.specs.Prelude.{◌≡◌, ◌∷◌, [], ◌<◌, ◌≤◌, ◌^◌, ◌+◌, ◌-◌, length, drop, IfOk, IfSome, MatchOption};
 ghost use Rattle.pure_definitions.specs.Types.Typ.{typ_depth};
 ghost use Rattle.pure_definitions.specs.Terms.Term as tree;
 ghost use Rattle.pure_unify_definitions.specs.Fronts as fronts;
 ghost use Rattle.pure_unify_definitions.specs.Children as children;
-ghost use Rattle.pure_unify.specs.Images.{projection, HasCountable};
+ghost use Rattle.pure_unify.specs.Images.{images_from, HasNoFit, IsFirstFit, IsFirstOf, HasCountable};
 
 use pure_term::{Name, Term, TermNode, Typ, copied};
 use pure_unify_sides::{applied_to_bounds, function_to, range_of};
 use std::alloc::{AllocError, Global};
 use std::sync::Arc;
+
+/// An image, and the number from which on those behind it are found.
+#[derive(Drop)]
+pub struct Taken {
+    pub image: Term,
+    pub next: u32,
+}
 
 /// How many arguments functions of the type take.
 fn count_of(t: &Typ) -> u32
@@ -101,97 +108,139 @@ fn image_with(
     Ok(image.copy(alloc)?)
 }
 
-/// Puts the imitation of the head behind the images of the list, where there is one.
-fn push_imitation(
+/// The imitation of the head, where there is one.
+fn imitation(
     alloc: Global,
-    list: &mut Vec<Term>,
     typ: &Typ,
     head: &Term,
     index: u32,
-) -> Result<(), AllocError>
+) -> Result<Option<Term>, AllocError>
     requires few { typ_depth typ.now < 2 ^ 32 }
     requires countable { HasCountable head.now }
-    ensures { OnOk result (list.new.items ≡ list.old.items ++ children.imitations index (fronts.domains typ.now) head.now) }
+    ensures { IfOk result (λ o. MatchOption o (children.imitations index (fronts.domains typ.now) head.now ≡ []) (λ t. children.imitations index (fronts.domains typ.now) head.now ≡ t ∷ [])) }
 {
     match &head.node {
         TermNode::Const { typ: own, .. } => {
             let function = copied(alloc, head)?;
-            list.push(image_with(alloc, typ, function, own, index)?)?;
-            Ok(())
+            Ok(Some(image_with(alloc, typ, function, own, index)?))
         }
         TermNode::Free { typ: own, .. } => {
             let function = copied(alloc, head)?;
-            list.push(image_with(alloc, typ, function, own, index)?)?;
-            Ok(())
+            Ok(Some(image_with(alloc, typ, function, own, index)?))
         }
-        TermNode::Var { .. } => Ok(()),
-        TermNode::Bound { .. } => Ok(()),
-        TermNode::Abs { .. } => Ok(()),
-        TermNode::App { .. } => Ok(()),
+        TermNode::Var { .. } => Ok(None),
+        TermNode::Bound { .. } => Ok(None),
+        TermNode::Abs { .. } => Ok(None),
+        TermNode::App { .. } => Ok(None),
     }
 }
 
-/// Puts the projection to the argument at one place behind the images of the list, where the argument ends in the type in which the variable does.
-fn push_projection(
+/// The projection to the argument at the place, which has the second type.
+fn projection_to(
     alloc: Global,
-    list: &mut Vec<Term>,
     typ: &Typ,
     domain: &Typ,
-    from: u32,
+    place: u32,
     index: u32,
-) -> Result<(), AllocError>
+) -> Result<Term, AllocError>
     requires few { typ_depth typ.now < 2 ^ 32 }
     requires names { typ_depth domain.now < 2 ^ 32 }
-    requires place { from < length (fronts.domains typ.now) }
-    ensures { OnOk result (list.new.items ≡ list.old.items ++ projection index (fronts.domains typ.now) (fronts.range typ.now) from domain.now) }
+    requires place { place < length (fronts.domains typ.now) }
+    ensures { IfOk result (λ t. t ≡ children.image_of index (fronts.domains typ.now) (tree.Bound (length (fronts.domains typ.now) - (place + 1))) (fronts.domains domain.now)) }
 {
-    if *range_of(domain) != *range_of(typ) {
-        return Ok(());
-    }
-    let place = count_of(typ) - (from + 1);
+    let place = count_of(typ) - (place + 1);
     let node = TermNode::Bound { place };
     let head = Arc::new(alloc, Term { node })?;
-    list.push(image_with(alloc, typ, head, domain, index)?)?;
-    Ok(())
+    let image = image_with(alloc, typ, head, domain, index)?;
+    Ok(image)
 }
 
-/// Puts the projections from one place on behind the images of the list, the last of them first.
-fn push_projections(
-    alloc: Global,
-    list: &mut Vec<Term>,
-    typ: &Typ,
-    rest: &Typ,
-    from: u32,
-    index: u32,
-) -> Result<(), AllocError>
-    requires few { typ_depth typ.now < 2 ^ 32 }
-    requires names { typ_depth rest.now < 2 ^ 32 }
-    requires places { from + length (fronts.domains rest.now) ≡ length (fronts.domains typ.now) }
-    ensures { OnOk result (list.new.items ≡ list.old.items ++ reverse (children.projections index (fronts.domains typ.now) (fronts.range typ.now) from (fronts.domains rest.now))) }
+/// What is left of the type behind so many arguments.
+fn behind(typ: &Typ, count: u32) -> &Typ
+    ensures domains { fronts.domains result.now ≡ drop count (fronts.domains typ.now) }
+    ensures depth { typ_depth result.now ≤ typ_depth typ.now }
+{
+    if count == 0 {
+        return typ;
+    }
+    match typ.as_arrow() {
+        Some((_, rest)) => behind(rest, count - 1),
+        None => typ,
+    }
+}
+
+/// The place and the type of the first argument that ends in this type, among those that functions of the type `rest` take, which stand from one place on.
+fn first_fit<'t>(range: &Typ, rest: &'t Typ, from: u32) -> Option<(u32, &'t Typ)>
+    requires places { from + length (fronts.domains rest.now) < 2 ^ 32 }
+    ensures fits { MatchOption result (HasNoFit range.now (fronts.domains rest.now)) (λ fit. IsFirstFit range.now from (fronts.domains rest.now) fit.0 fit.1.now) }
+    ensures small { IfSome result (λ fit. (from ≤ fit.0) × (fit.0 < from + length (fronts.domains rest.now)) × (typ_depth fit.1.now < typ_depth rest.now)) }
 {
     match rest.as_arrow() {
         Some((domain, more)) => {
-            push_projections(alloc, list, typ, more, from + 1, index)?;
-            push_projection(alloc, list, typ, domain, from, index)?;
-            Ok(())
+            if *range_of(domain) == *range {
+                return Some((from, domain));
+            }
+            first_fit(range, more, from + 1)
         }
-        None => Ok(()),
+        None => None,
     }
 }
 
-/// The images of a variable of the type against the head, the last first.
-pub fn images_against(
+/// The first projection to an argument from the place on.
+fn projection_from(
+    alloc: Global,
+    typ: &Typ,
+    from: u32,
+    index: u32,
+) -> Result<Option<Taken>, AllocError>
+    requires few { typ_depth typ.now < 2 ^ 32 }
+    ensures { IfOk result (λ o. (h : tree.Term) → IsFirstOf index typ.now h (images_from index typ.now h (from + 1)) o) }
+{
+    let rest = behind(typ, from);
+    match first_fit(range_of(typ), rest, from) {
+        Some((place, domain)) => {
+            let image = projection_to(alloc, typ, domain, place, index)?;
+            Ok(Some(Taken {
+                image,
+                next: place + 2,
+            }))
+        }
+        None => Ok(None),
+    }
+}
+
+/// The image that stands first among all.
+fn first_image(
     alloc: Global,
     typ: &Typ,
     head: &Term,
     index: u32,
-) -> Result<Vec<Term>, AllocError>
+) -> Result<Option<Taken>, AllocError>
     requires few { typ_depth typ.now < 2 ^ 32 }
     requires countable { HasCountable head.now }
-    ensures { IfOk result (λ list. list.items ≡ reverse (children.images index typ.now head.now)) }
+    ensures { IfOk result (IsFirstOf index typ.now head.now (children.images index typ.now head.now)) }
 {
-    let mut list = Vec::new(alloc);
-    push_projections(alloc, &mut list, typ, typ, 0, index)?;
-    push_imitation(alloc, &mut list, typ, head, index)?;
-    Ok(list)
+    let found = imitation(alloc, typ, head, index)?;
+    match found {
+        Some(image) => Ok(Some(Taken { image, next: 1 })),
+        None => projection_from(alloc, typ, 0, index),
+    }
+}
+
+/// The first image of a variable of the type against the head from one number on.
+pub fn image_from(
+    alloc: Global,
+    typ: &Typ,
+    head: &Term,
+    index: u32,
+    number: u32,
+) -> Result<Option<Taken>, AllocError>
+    requires few { typ_depth typ.now < 2 ^ 32 }
+    requires countable { HasCountable head.now }
+    ensures { IfOk result (IsFirstOf index typ.now head.now (images_from index typ.now head.now number)) }
+{
+    if number == 0 {
+        return first_image(alloc, typ, head, index);
+    }
+    projection_from(alloc, typ, number - 1, index)
 }

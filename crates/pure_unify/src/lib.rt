@@ -13,6 +13,7 @@ mod later;
 mod own;
 mod resolve;
 mod search;
+mod sharing;
 mod unifier;
 
 pub use call::{unify, unify_while};

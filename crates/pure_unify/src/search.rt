@@ -12,9 +12,10 @@ ghost use Rattle.pure_unify.specs.Resolved.{HasPairs};
 ghost use Rattle.pure_unify.specs.Unified.{IsToldAs};
 ghost use Rattle.pure_unify.specs.Frames.{IsSimpleHeld, IsSimpleVisit, IsFrame, HoldNodes, IsReady, CanGoOn, IsStep, IsStopOf, IsAfterVisit, IsAfterSimple, IsSuccess, AreLeftOver};
 
-use crate::branch::{Branch, Chosen, chosen_at};
+use crate::branch::{Branch, Chosen, chosen_at, next_image};
 use crate::child::visit_child;
 use crate::fault::UnifyFault;
+use crate::sharing::shared_node;
 use crate::unifier::{Unifier, unifier_of};
 use pure_norm::NormFault;
 use pure_order::Order;
@@ -92,6 +93,26 @@ fn settle(
     }
 }
 
+/// The same, with the node's equal arguments shared before it is kept.
+fn settle_shared(
+    alloc: Global,
+    maxidx: u32,
+    search: &mut Search,
+    node: Node,
+) -> Result<Option<Unifier>, UnifyFault>
+    requires room { maxidx + 66 < 2 ^ 32 }
+    requires go { CanGoOn search.old }
+    requires simple { IsSimpleHeld node }
+    ensures answer { IsAfterSimple maxidx search.old search.new node result }
+    ensures go { IfOk result (λ o. CanGoOn search.new) }
+    ensures left { IfOk result AreLeftOver }
+{
+    match shared_node(alloc, node) {
+        Ok(shared) => settle(alloc, maxidx, search, shared),
+        Err(_) => Err(UnifyFault::Memory),
+    }
+}
+
 /// The answer where a node stops the search.
 fn stop_of(fault: NormFault) -> UnifyFault
     ensures { IsStopOf fault result }
@@ -118,7 +139,7 @@ pub fn after_visit(
     ensures left { IfOk result AreLeftOver }
 {
     match outcome {
-        Ok(Visited::Simple(node)) => settle(alloc, maxidx, search, node),
+        Ok(Visited::Simple(node)) => settle_shared(alloc, maxidx, search, node),
         Ok(Visited::Failed) => Ok(None),
         Err(fault) => Err(stop_of(fault)),
     }
@@ -168,9 +189,13 @@ fn explore(
     ensures left { IfOk result AreLeftOver }
 {
     let mut frame = frame;
-    match frame.branch.images.pop() {
-        Some(image) => enter(alloc, order, maxidx, search, frame, image),
-        None => Ok(None),
+    match next_image(alloc, &frame.branch) {
+        Ok(Some(taken)) => {
+            frame.branch.next = taken.next;
+            enter(alloc, order, maxidx, search, frame, taken.image)
+        }
+        Ok(None) => Ok(None),
+        Err(_) => Err(UnifyFault::Memory),
     }
 }
 

@@ -11,7 +11,7 @@ pub returns-in-Ok-Simple-clause-answer : goal.returns-in-Ok-Simple-clause-answer
 returns-in-Ok-Simple-clause-answer c A n ns k h hold e few =
     let whole = rw c.in-Ok-Simple.field-0-is at c.in-Ok-Simple.is in
     let came : IsVisitAnswer A c.args.maxidx n (Ok (Simple c.in-Ok-Simple.node)) = subst (λ (r : Result Visited NormFault). IsVisitAnswer A c.args.maxidx n r) whole h in
-    c.settle.ensures.answer A n came.0 ns k came.1 came.2 hold e few
+    c.settle_shared.ensures.answer A n came.0 ns k came.1 came.2 hold e few
 
 pub returns-in-Ok-Failed-clause-answer : goal.returns-in-Ok-Failed-clause-answer
 returns-in-Ok-Failed-clause-answer c A n ns k h hold e few =
