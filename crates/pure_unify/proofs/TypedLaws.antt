@@ -135,6 +135,6 @@ pub typed_branch : (ps : List Pair) (v h : Term) (index : ℕ) (b : Branch) → 
 typed_branch ps v h index b c is are countable sides = record {
   countable = countable;
   images =
-    subst (λ (us : List Term). Each (λ u. HasType [] u b.typ) us) (sym are)
-    (choice-typed ps b.name b.index b.typ h index (subst (λ (u : Term). IsChoice ps u h) is c) sides);
+      subst (λ (us : List Term). Each (λ u. HasType [] u b.typ) us) (sym are)
+      (choice-typed ps b.name b.index b.typ h index (subst (λ (u : Term). IsChoice ps u h) is c) sides);
 }

@@ -109,12 +109,7 @@ fn image_with(
 }
 
 /// The imitation of the head, where there is one.
-fn imitation(
-    alloc: Global,
-    typ: &Typ,
-    head: &Term,
-    index: u32,
-) -> Result<Option<Term>, AllocError>
+fn imitation(alloc: Global, typ: &Typ, head: &Term, index: u32) -> Result<Option<Term>, AllocError>
     requires few { typ_depth typ.now < 2 ^ 32 }
     requires countable { HasCountable head.now }
     ensures { IfOk result (λ o. MatchOption o (children.imitations index (fronts.domains typ.now) head.now ≡ []) (λ t. children.imitations index (fronts.domains typ.now) head.now ≡ t ∷ [])) }

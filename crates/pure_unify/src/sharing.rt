@@ -90,11 +90,7 @@ fn shared_arguments(
 }
 
 /// The side with its parts as they are kept.
-fn shared_side(
-    alloc: Global,
-    parts: &mut Vec<Arc<Term>>,
-    side: &Term,
-) -> Result<Term, AllocError>
+fn shared_side(alloc: Global, parts: &mut Vec<Arc<Term>>, side: &Term) -> Result<Term, AllocError>
     ensures { IfOk result (λ u. u ≡ side.now) }
 {
     if whole_size(side) < LARGE {
@@ -106,11 +102,7 @@ fn shared_side(
 }
 
 /// The pair with its parts as they are kept.
-fn shared_pair(
-    alloc: Global,
-    parts: &mut Vec<Arc<Term>>,
-    pair: &Pair,
-) -> Result<Pair, AllocError>
+fn shared_pair(alloc: Global, parts: &mut Vec<Arc<Term>>, pair: &Pair) -> Result<Pair, AllocError>
     ensures { IfOk result (λ p. p ≡ pair.now) }
 {
     let left = shared_side(alloc, parts, &pair.left)?;
