@@ -1,5 +1,4 @@
 use Rattle.std.proofs.Common.{◌≡◌, List, ◌++◌, ◌∷◌, [], ap, refl}
-use Rattle.std.specs.Prelude.{Some, None}
 use Rattle.pure_unify_definitions.specs.Node as nodes
 use Rattle.pure_unify_definitions.specs.Children.{child}
 use Rattle.pure_unify.specs.declared.search.Frame.{Frame}
