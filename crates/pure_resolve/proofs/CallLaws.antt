@@ -1,16 +1,16 @@
 -- What calls on goals ask of each other.
-use Rattle.std.proofs.Common.{◌≡◌, ◌≢◌, ℕ, ◌+◌, ◌-◌, ◌<◌, ◌≤◌, List, [], ◌∷◌, ◌++◌, length, Bool, true, false, MatchBool, Result, Err, IfOk, refl, ap, sym, subst, ◌∙◌, arith, append_assoc}
+use Rattle.std.proofs.Common.{◌≡◌, ◌≢◌, ℕ, ◌+◌, ◌-◌, ◌<◌, ◌≤◌, List, [], ◌∷◌, ◌++◌, length, Bool, true, false, MatchBool, Result, Err, IfOk, refl, ap, sym, subst, ◌∙◌, arith}
 use Rattle.pure_text.specs.Lists.{IsIn, Each}
 use Rattle.pure_text.proofs.ListLaws.{in-append_left, in-append_right}
 use Rattle.pure_definitions.specs.Names.{Label}
 use Rattle.pure_definitions.specs.Types.Typ.{Typ}
 use Rattle.pure_definitions.specs.Terms.Term.{Term}
-use Rattle.pure_definitions.specs.Terms.Limits.{cut_off}
-use Rattle.pure_logic.specs.Connectives.{eq, protect, chain}
+use Rattle.pure_logic.specs.Connectives.{imp, eq, protect, chain}
 use Rattle.pure_logic.specs.Content.{Content}
 use Rattle.pure_logic.specs.Derivable.{Pair, Theorem, IsDerivable}
 use Rattle.pure_theorem.specs.Facts.{IsTheoryContent}
 use Rattle.pure_theorem.specs.Sets.{label_cmp, IsSetOf}
+use Rattle.pure_theorem.specs.Shapes.{IsNoImplication}
 use Rattle.pure_unify_definitions.specs.LongSides.{Long, ComesTo}
 use Rattle.pure_goal_steps.specs.State.{State, IsTheoremOf}
 use Rattle.pure_goal_steps.specs.Steps.{PreferStep, DeferStep, ConversionStep}
@@ -18,21 +18,26 @@ use Rattle.pure_goal_steps.specs.Derivability.{IsSound}
 use Rattle.pure_goal_steps.specs.declared.fault.StepFault.{StepFault}
 use Rattle.pure_goal_steps.specs.declared.fault.StepFault.TheVariants.{NoSubgoal, Memory}
 use Rattle.pure_goal_steps.proofs.SoundLaws.{preferred_is_sound, deferred_is_sound, converted_is_sound}
-use Rattle.pure_resolve.specs.Goals.{IsGoalTheorem, IsLeftTyped, IsUnited, IsStep, IsEquationFor}
+use Rattle.pure_resolve.specs.Goals.{IsGoalTheorem, IsLeftTyped, IsConcluded, IsUnited, IsStep, IsEquationFor}
+use Rattle.pure_resolve.specs.Shared.{implied_by}
 use Rattle.pure_resolve.specs.declared.state.Goal.{Goal}
 use Rattle.pure_resolve.proofs.AnswerLaws.{left-typed, step_derivable}
-use Rattle.pure_resolve.proofs.ChainLaws.{IsCut}
-use Rattle.pure_resolve.proofs.StepLaws.{convert_answer, equated-first}
+use Rattle.pure_resolve.proofs.ChainLaws.{IsCut, no-premise, first-premise}
+use Rattle.pure_resolve.proofs.StepLaws.{prefer_answer, defer_answer, convert_answer, equated-first}
 
 pub goal_left_typed : (th : Theorem) → IsGoalTheorem th → Each IsLeftTyped th.pairs
 goal_left_typed th g = subst (λ (ps : List Pair). Each IsLeftTyped ps) (sym g.is.same_pairs) (left-typed g.state.pairs g.goal.left_pairs)
 
-none-of : (As : List Term) → cut_off (length As) ≡ 0 → As ≡ []
-none-of [] e = refl
-none-of (A ∷ As) e = absurd (omega arith)
+pub defer_none : (th : Theorem) (g : IsGoalTheorem th) → IsNoImplication th.prop → IsStep DeferStep th (λ rests. rests ≡ th.rests) (Err NoSubgoal)
+defer_none th g none = (g.state, g.is, g.goal, DeferStep.no_subgoal (no-premise th.prop g.state.subgoals g.state.statement none g.is.prop))
 
-pub defer_none : (th : Theorem) (g : IsGoalTheorem th) (count : ℕ) → ((s : State) → IsTheoremOf s th → count ≡ cut_off (length s.subgoals)) → count ≡ 0 → IsStep DeferStep th (λ rests. rests ≡ th.rests) (Err NoSubgoal)
-defer_none th g count h e = (g.state, g.is, g.goal, DeferStep.no_subgoal (none-of g.state.subgoals (sym (h g.state g.is) ∙ e)))
+-- The first subgoal behind the others, where these are given by their parts.
+pub defer_moved : (th : Theorem) (g : IsGoalTheorem th) (first rest : Term) → (A : Term) × (first ≡ implied_by A) × (th.prop ≡ imp A rest) → (moved : Term)
+    → ((A : Term) (others : List Term) (C : Term) → first ≡ implied_by A → rest ≡ chain others (protect C) → moved ≡ chain (others ++ A ∷ []) (protect C))
+    → (result : Result Goal StepFault) → IsConcluded th.pairs moved th.rests result → IsStep DeferStep th (λ rests. rests ≡ th.rests) result
+defer_moved th g first rest (A, is, stands) moved m result h =
+    let p = first-premise th.prop A rest g.state.subgoals g.state.statement stands g.is.prop in
+    defer_answer th g A p.rest p.is moved (m A p.rest g.state.statement is p.chained) result h
 
 -- What the calls derive.
 pub prefer_derivable : (Q : Content) (th : Theorem) (n : ℕ) (result : Result Goal StepFault) → IsStep (λ s. PreferStep s n) th (λ rests. rests ≡ th.rests) result → IsTheoryContent Q → IsDerivable Q th → IfOk result (λ goal. IsDerivable Q goal.thm)
@@ -60,14 +65,13 @@ convert_derivable Q th equation e result h q d k =
 
 -- The converted goal, which rests on what both rest on.
 pub convert_united : (th equation : Theorem) (g : IsGoalTheorem th) (e : IsEquationFor th equation) (T : Typ) (l r : Term) → equation.prop ≡ eq T l r → (S : Term) → ComesTo r (Long S)
-    → (new : List Term) (marked : Term) → ((A : Term) (others : List Term) (C : Term) → th.prop ≡ chain (A ∷ others) (protect C) → (new ≡ S ∷ others) × (marked ≡ protect C))
-    → (result : Result Goal StepFault) → IsUnited th equation (chain new marked) result → IsStep (λ s. ConversionStep s equation) th (IsSetOf label_cmp (th.rests ++ equation.rests)) result
-convert_united th equation g e T l r is S comes new marked made (Err Memory) h = (g.state, g.is, g.goal, tt)
-convert_united th equation g e T l r is S comes new marked made result (rests, union, h) =
-    let prop : (A : Term) (others : List Term) → g.state.subgoals ≡ A ∷ others → th.prop ≡ chain (A ∷ others) (protect g.state.statement) = λ A others stand. g.is.prop ∙ ap (λ (As : List Term). chain As (protect g.state.statement)) stand in
-    let first = equated-first th equation g e in
-    convert_answer th equation g e T l r is S comes g.state.subgoals new refl (λ A others stand. (made A others g.state.statement (prop A others stand)).0)
-    th.pairs refl rests marked (made e.left e.others g.state.statement (prop e.left e.others first)).1 (IsSetOf label_cmp (th.rests ++ equation.rests)) union result h
+    → (made : Term) → ((A B : Term) → th.prop ≡ imp A B → made ≡ imp S B)
+    → (result : Result Goal StepFault) → IsUnited th equation made result → IsStep (λ s. ConversionStep s equation) th (IsSetOf label_cmp (th.rests ++ equation.rests)) result
+convert_united th equation g e T l r is S comes made m (Err Memory) h = (g.state, g.is, g.goal, tt)
+convert_united th equation g e T l r is S comes made m result (rests, union, h) =
+    let behind : Term = chain e.others (protect g.state.statement) in
+    let stands : th.prop ≡ imp e.left behind = g.is.prop ∙ ap (λ (As : List Term). chain As (protect g.state.statement)) (equated-first th equation g e) in
+    convert_answer th equation g e T l r is S comes made (m e.left behind stands) rests (IsSetOf label_cmp (th.rests ++ equation.rests)) union result h
 
 -- Whether there is the subgoal that is asked for.
 pub enough_more : (count rest all : ℕ) (b : Bool) → count ≢ 0 → all ≡ rest + 1 → MatchBool b (count - 1 ≤ rest) (rest < count - 1) → MatchBool b (count ≤ all) (all < count)
@@ -82,24 +86,10 @@ pub enough : (As : List Term) (n : ℕ) (b : Bool) → MatchBool b (n ≤ length
 enough As n true h e some = omega (arith, h, some)
 enough As n false h e some = absurd (cc)
 
-pub some_left : (As items : List Term) (count : ℕ) → items ≡ As → count ≡ cut_off (length As) → count ≢ 0 → 0 < length items
-some_left As items count e h some = let same = ap length e in omega (arith, same, h, some)
-
--- The front of a goal up to the subgoal that is asked for, and what is behind it.
-one-longer : (xs : List Term) (x : Term) → length (xs ++ x ∷ []) ≡ length xs + 1
-one-longer [] x = refl
-one-longer (y ∷ ys) x = let inner = one-longer ys x in omega (arith, inner)
-
-pub front_of : (th : Theorem) (g : IsGoalTheorem th) (prop : Term) → prop ≡ th.prop → (n : ℕ) (cut : IsCut g.state.subgoals (n - 1)) → n ≢ 0 → (old new : List Term) (rest : Term) → old ≡ []
-    → ((front others : List Term) (C : Term) → prop ≡ chain (front ++ others) (protect C) → n ≡ length front → (new ≡ old ++ front) × (rest ≡ chain others (protect C)))
-    → (new ≡ cut.before ++ cut.at ∷ []) × (rest ≡ chain cut.after (protect g.state.statement)) × (n - 1 < length new)
-front_of th g prop p n cut some old new rest o taken =
-    let front : List Term = cut.before ++ cut.at ∷ [] in
-    let stands : prop ≡ chain (front ++ cut.after) (protect g.state.statement) =
-    p ∙ (g.is.prop ∙ ap (λ (As : List Term). chain As (protect g.state.statement)) (cut.stands ∙ sym (append_assoc cut.before (cut.at ∷ []) cut.after))) in
-    let long = one-longer cut.before cut.at in
-    let counted : n ≡ length front = omega (arith, long, cut.count, some) in
-    let parts = taken front cut.after g.state.statement stands counted in
-    let are : new ≡ front = parts.0 ∙ ap (λ (As : List Term). As ++ front) o in
-    let same = ap length are in
-    (are, parts.1, omega (arith, same, counted, some))
+-- The subgoal that is asked for, before the others.
+pub prefer_moved : (th : Theorem) (g : IsGoalTheorem th) (prop : Term) → prop ≡ th.prop → (n : ℕ) (cut : IsCut g.state.subgoals (n - 1)) → n ≢ 0 → (moved : Term)
+    → ((front : List Term) (A : Term) (others : List Term) (C : Term) → prop ≡ chain (front ++ A ∷ others) (protect C) → n - 1 ≡ length front → moved ≡ chain (A ∷ (front ++ others)) (protect C))
+    → (result : Result Goal StepFault) → IsConcluded th.pairs moved th.rests result → IsStep (λ s. PreferStep s n) th (λ rests. rests ≡ th.rests) result
+prefer_moved th g prop p n cut some moved m result h =
+    let stands : prop ≡ chain (cut.before ++ cut.at ∷ cut.after) (protect g.state.statement) = p ∙ (g.is.prop ∙ ap (λ (As : List Term). chain As (protect g.state.statement)) cut.stands) in
+    prefer_answer th g n (n - 1) (omega (arith, some)) cut moved (m cut.before cut.at cut.after g.state.statement stands cut.count) result h

@@ -8,6 +8,7 @@ pub mod StepLaws
 pub mod EndLaws
 pub mod CallLaws
 pub mod SettleLaws
+pub mod SharedLaws
 pub mod FollowLaws
 pub mod RestLaws
 pub mod StayLaws

@@ -18,8 +18,7 @@ use Rattle.pure_goal_steps.specs.declared.fault.StepFault.TheVariants.{UnknownFa
 use Rattle.pure_goal_steps.proofs.SoundLaws.{come-long}
 use Rattle.pure_resolve.specs.Goals.{IsGoalTheorem, IsOutcome, IsStep, IsConcluded, IsLongSubgoal, IsEquationFor}
 use Rattle.pure_resolve.specs.declared.state.Goal.{Goal}
-use Rattle.pure_goal_laws.proofs.EliminationLaws.{chain-append}
-use Rattle.pure_resolve.proofs.ChainLaws.{IsCut, chain_once, nothing-more}
+use Rattle.pure_resolve.proofs.ChainLaws.{IsCut, chain_once}
 use Rattle.pure_resolve.proofs.AnswerLaws.{made_outcome, outcome_map}
 
 -- the parts of a goal, concluded at their own names
@@ -27,20 +26,16 @@ pub concluded-at : (pairs ps : List Pair) (A B : Term) (rests rs : List Label) (
 concluded-at pairs ps A B rests rs result e d f h = subst (λ (k : List Pair × (Term × List Label)). IsConcluded k.0 k.1.0 k.1.1 result) (λ i. (e i, (d i, f i))) h
 
 -- The subgoals in another order.
-moved-outcome : (th : Theorem) (g : IsGoalTheorem th) (new : List Term) → Each (λ A. IsLongForm A A) new → (pairs : List Pair) → pairs ≡ th.pairs → (rests : List Label) → rests ≡ th.rests → (marked : Term) → marked ≡ protect g.state.statement
-    → (result : Result Goal StepFault) → IsConcluded pairs (chain new marked) rests result → IsOutcome (Becomes (record g.state { subgoals = new })) (λ all. all ≡ th.rests) result
-moved-outcome th g new long pairs e rests d marked m result h =
+moved-outcome : (th : Theorem) (g : IsGoalTheorem th) (new : List Term) → Each (λ A. IsLongForm A A) new → (moved : Term) → moved ≡ chain new (protect g.state.statement)
+    → (result : Result Goal StepFault) → IsConcluded th.pairs moved th.rests result → IsOutcome (Becomes (record g.state { subgoals = new })) (λ all. all ≡ th.rests) result
+moved-outcome th g new long moved m result h =
     made_outcome (record g.state { subgoals = new }) [] [] new refl no_more tt long g.goal.left_pairs th.rests result
-    (concluded-at pairs g.state.pairs (chain new marked) (chain new (protect g.state.statement)) rests th.rests result (e ∙ g.is.same_pairs) (ap (chain new) m) d h)
+    (concluded-at th.pairs g.state.pairs moved (chain new (protect g.state.statement)) th.rests th.rests result g.is.same_pairs m refl h)
 
-pub prefer_answer : (th : Theorem) (g : IsGoalTheorem th) (n place : ℕ) → n ≡ place + 1 → (cut : IsCut g.state.subgoals place) → (new : List Term) → new ≡ cut.at ∷ (cut.before ++ [])
-    → (pairs : List Pair) → pairs ≡ th.pairs → (rests : List Label) → rests ≡ th.rests → (rest : Term) → rest ≡ chain cut.after (protect g.state.statement)
-    → (result : Result Goal StepFault) → IsConcluded pairs (chain new rest) rests result → IsStep (λ s. PreferStep s n) th (λ all. all ≡ th.rests) result
-prefer_answer th g n place c cut new is pairs e rests d rest r result h =
-    let marked : Term = protect g.state.statement in
+pub prefer_answer : (th : Theorem) (g : IsGoalTheorem th) (n place : ℕ) → n ≡ place + 1 → (cut : IsCut g.state.subgoals place) → (moved : Term) → moved ≡ chain (cut.at ∷ (cut.before ++ cut.after)) (protect g.state.statement)
+    → (result : Result Goal StepFault) → IsConcluded th.pairs moved th.rests result → IsStep (λ s. PreferStep s n) th (λ all. all ≡ th.rests) result
+prefer_answer th g n place c cut moved m result h =
     let all : List Term = cut.at ∷ (cut.before ++ cut.after) in
-    let whole : chain new rest ≡ chain all marked =
-    (λ i. chain (is i) (r i)) ∙ (ap (λ (As : List Term). chain (cut.at ∷ As) (chain cut.after marked)) (sym (nothing-more cut.before)) ∙ ap (imp cut.at) (sym (chain-append cut.before cut.after marked))) in
     let long = subst (λ (As : List Term). Each (λ A. IsLongForm A A) As) cut.stands g.goal.long_subgoals in
     let front = each-left (λ A. IsLongForm A A) cut.before (cut.at ∷ cut.after) long in
     let back = each-right (λ A. IsLongForm A A) cut.before (cut.at ∷ cut.after) long in
@@ -50,43 +45,24 @@ prefer_answer th g n place c cut new is pairs e rests d rest r result h =
       g.is,
       g.goal,
       outcome_map (Becomes (record g.state { subgoals = all })) (PreferStep g.state n) (λ all. all ≡ th.rests) (λ all. all ≡ th.rests)
-          (λ outcome b. PreferStep.preferred cut.before cut.at cut.after cut.stands counted b) (λ all r. r) result
-          (moved-outcome th g all all_so pairs e rests d marked refl result (concluded-at pairs pairs (chain new rest) (chain all marked) rests rests result refl whole refl h)),
+          (λ outcome b. PreferStep.preferred cut.before cut.at cut.after cut.stands counted b) (λ all r. r) result (moved-outcome th g all all_so moved m result h),
     )
 
 pub prefer_none : (th : Theorem) (g : IsGoalTheorem th) (n : ℕ) → (n ≡ 0) ⊎ (length g.state.subgoals < n) → IsStep (λ s. PreferStep s n) th (λ all. all ≡ th.rests) (Err NoSubgoal)
 prefer_none th g n h = (g.state, g.is, g.goal, PreferStep.no_subgoal h)
 
-first-of : (xs : List Term) → 0 < length xs → (A : Term) × (As : List Term) × (xs ≡ A ∷ As)
-first-of [] l = absurd (omega arith)
-first-of (A ∷ As) l = (A, As, refl)
-
-pub defer_answer : (th : Theorem) (g : IsGoalTheorem th) (subgoals : List Term) → subgoals ≡ g.state.subgoals → 0 < length subgoals → (new : List Term)
-    → ((A : Term) (others : List Term) → subgoals ≡ A ∷ others → new ≡ others ++ A ∷ [])
-    → (pairs : List Pair) → pairs ≡ th.pairs → (rests : List Label) → rests ≡ th.rests → (marked : Term) → marked ≡ protect g.state.statement
-    → (result : Result Goal StepFault) → IsConcluded pairs (chain new marked) rests result → IsStep DeferStep th (λ all. all ≡ th.rests) result
-defer_answer th g subgoals same l new made pairs e rests d marked m result h =
-    let first = first-of subgoals l in
-    let A : Term = first.0 in
-    let others : List Term = first.1 in
-    let is : new ≡ others ++ A ∷ [] = made A others first.2 in
-    let stands : g.state.subgoals ≡ A ∷ others = sym same ∙ first.2 in
+pub defer_answer : (th : Theorem) (g : IsGoalTheorem th) (A : Term) (others : List Term) → g.state.subgoals ≡ A ∷ others → (moved : Term) → moved ≡ chain (others ++ A ∷ []) (protect g.state.statement)
+    → (result : Result Goal StepFault) → IsConcluded th.pairs moved th.rests result → IsStep DeferStep th (λ all. all ≡ th.rests) result
+defer_answer th g A others stands moved m result h =
+    let all : List Term = others ++ A ∷ [] in
     let long = subst (λ (As : List Term). Each (λ A. IsLongForm A A) As) stands g.goal.long_subgoals in
-    let all_so : Each (λ A. IsLongForm A A) (others ++ A ∷ []) = each-append (λ A. IsLongForm A A) others (A ∷ []) long.1 (long.0, tt) in (
+    let all_so : Each (λ A. IsLongForm A A) all = each-append (λ A. IsLongForm A A) others (A ∷ []) long.1 (long.0, tt) in (
       g.state,
       g.is,
       g.goal,
-      outcome_map (Becomes (record g.state { subgoals = new })) (DeferStep g.state) (λ all. all ≡ th.rests) (λ all. all ≡ th.rests)
-          (λ outcome b. DeferStep.deferred A others stands (subst (λ (As : List Term). Becomes (record g.state { subgoals = As }) outcome) is b)) (λ all r. r) result
-          (moved-outcome th g new (subst (λ (As : List Term). Each (λ A. IsLongForm A A) As) (sym is) all_so) pairs e rests d marked m result h),
+      outcome_map (Becomes (record g.state { subgoals = all })) (DeferStep g.state) (λ all. all ≡ th.rests) (λ all. all ≡ th.rests)
+          (λ outcome b. DeferStep.deferred A others stands b) (λ all r. r) result (moved-outcome th g all all_so moved m result h),
     )
-
-no-length : (xs : List Term) → length xs ≡ 0 → xs ≡ []
-no-length [] e = refl
-no-length (x ∷ xs) e = absurd (omega arith)
-
-pub defer_none : (th : Theorem) (g : IsGoalTheorem th) (subgoals : List Term) → subgoals ≡ g.state.subgoals → length subgoals ≡ 0 → IsStep DeferStep th (λ all. all ≡ th.rests) (Err NoSubgoal)
-defer_none th g subgoals same z = (g.state, g.is, g.goal, DeferStep.no_subgoal (sym same ∙ no-length subgoals z))
 
 -- A first subgoal that comes to its long form, before others that are so.
 first-outcome : (made : State) (t S : Term) (others : List Term) → made.subgoals ≡ t ∷ others → ComesTo t (Long S) → Each (λ A. IsLongForm A A) others → Each IsLeftPair made.pairs
@@ -117,12 +93,9 @@ step-of : (th equation : Theorem) (g : IsGoalTheorem th) (e : IsEquationFor th e
 step-of th equation g e outcome b = record { left = e.left; right = e.right; others = e.others; stand = equated-first th equation g e; equates = e.equates; becomes = b }
 
 pub convert_answer : (th equation : Theorem) (g : IsGoalTheorem th) (e : IsEquationFor th equation) (T : Typ) (l r : Term) → equation.prop ≡ eq T l r → (S : Term) → ComesTo r (Long S)
-    → (subgoals new : List Term) → subgoals ≡ g.state.subgoals → ((A : Term) (others : List Term) → subgoals ≡ A ∷ others → new ≡ S ∷ others)
-    → (pairs : List Pair) → pairs ≡ th.pairs → (rests : List Label) → (marked : Term) → marked ≡ protect g.state.statement → (R : List Label → Type 0) → R rests
-    → (result : Result Goal StepFault) → IsConcluded pairs (chain new marked) rests result → IsStep (λ s. ConversionStep s equation) th R result
-convert_answer th equation g e T l r is S comes subgoals new same made pairs p rests marked m R united result h =
-    let stands : subgoals ≡ e.left ∷ e.others = same ∙ equated-first th equation g e in
-    let news : new ≡ S ∷ e.others = made e.left e.others stands in
+    → (made : Term) → made ≡ chain (S ∷ e.others) (protect g.state.statement) → (rests : List Label) (R : List Label → Type 0) → R rests
+    → (result : Result Goal StepFault) → IsConcluded th.pairs made rests result → IsStep (λ s. ConversionStep s equation) th R result
+convert_answer th equation g e T l r is S comes made m rests R united result h =
     let right : r ≡ e.right = sides-same T prop l r e.left e.right (sym is ∙ e.equates) in
     let long = subst (λ (As : List Term). Each (λ A. IsLongForm A A) As) (equated-first th equation g e) g.goal.long_subgoals in
     let state : State = record g.state { subgoals = e.right ∷ e.others } in (
@@ -132,7 +105,7 @@ convert_answer th equation g e T l r is S comes subgoals new same made pairs p r
       outcome_map (Becomes state) (ConversionStep g.state equation) (λ all. all ≡ rests) R
           (λ outcome b. step-of th equation g e outcome b) (λ all a. subst R (sym a) united) result
           (first-outcome state e.right S e.others refl (subst (λ (t : Term). ComesTo t (Long S)) right comes) long.1 g.goal.left_pairs rests result
-          (concluded-at pairs g.state.pairs (chain new marked) (chain (S ∷ e.others) (protect g.state.statement)) rests rests result (p ∙ g.is.same_pairs) (λ i. chain (news i) (m i)) refl h)),
+          (concluded-at th.pairs g.state.pairs made (chain (S ∷ e.others) (protect g.state.statement)) rests rests result g.is.same_pairs m refl h)),
     )
 
 stops-at : (th equation : Theorem) (g : IsGoalTheorem th) (e : IsEquationFor th equation) (T : Typ) (l r : Term) → equation.prop ≡ eq T l r → (s : Stop) → ComesTo r (Ends s) → ConversionStep g.state equation (Err (stop_fault s))

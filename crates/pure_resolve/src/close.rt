@@ -3,7 +3,7 @@ ghost use Rattle.std.specs.Prelude.{◌≡◌, [], IfOk, IfSome};
 ghost use Rattle.pure_text.specs.Lists.{Each};
 ghost use Rattle.pure_definitions.specs.Names.{imp_name};
 ghost use Rattle.pure_definitions.specs.Terms.Term as tree;
-ghost use Rattle.pure_logic.specs.Connectives.{imp_typ, chain};
+ghost use Rattle.pure_logic.specs.Connectives.{imp_typ, imp, chain};
 ghost use Rattle.pure_theorem.specs.Sets.{IsLabelSet};
 ghost use Rattle.pure_resolve.specs.Goals.{IsLeftTyped, IsConcluded};
 
@@ -63,24 +63,50 @@ fn chained(alloc: Global, mut premises: Vec<Term>, mut conclusion: Term) -> Resu
     Ok(conclusion)
 }
 
-/// The theorem of a goal's parts.
-fn theorem(
-    alloc: Global,
-    subgoals: Vec<Term>,
-    marked: Term,
-    pairs: Vec<Pair>,
-    rests: Vec<Label>,
-) -> Result<Thm, AllocError>
-    requires { IsLabelSet rests.items }
-    ensures { IfOk result (λ th. th ≡ record { hyps = []; pairs = pairs.items; prop = chain subgoals.items marked; rests = rests.items }) }
+/// The goal's proposition with this premise for its first.
+pub fn with_first(alloc: Global, t: &Term, first: Term) -> Result<Term, AllocError>
+    requires { (A : tree.Term) × (B : tree.Term) × (t.now ≡ imp A B) }
+    ensures { (A : tree.Term) → (B : tree.Term) → t.now ≡ imp A B → IfOk result (λ u. u ≡ imp first B) }
 {
-    let prop = chained(alloc, subgoals, marked)?;
-    Ok(Thm {
-        hyps: Vec::new(alloc),
+    let Some((_, rest)) = as_implication(t) else {
+        unreachable!();
+    };
+    let conclusion = rest.copy(alloc)?;
+    let connective = connective_for(alloc, t)?;
+    implication_by(alloc, &connective, first, conclusion)
+}
+
+/// The theorem of a goal's proposition, its pairs and its promises.
+fn theorem(alloc: Global, prop: Term, pairs: Vec<Pair>, rests: Vec<Label>) -> Thm
+    requires { IsLabelSet rests.items }
+    ensures { result ≡ record { hyps = []; pairs = pairs.items; prop = prop; rests = rests.items } }
+{
+    let hyps = Vec::new(alloc);
+    Thm {
+        hyps,
         pairs,
         prop,
         rests,
-    })
+    }
+}
+
+/// The goal of this proposition, where it and its pairs are within the limits as one proposition.
+pub fn within_limits(
+    alloc: Global,
+    prop: Term,
+    pairs: Vec<Pair>,
+    rests: Vec<Label>,
+) -> Result<Goal, StepFault>
+    requires typed { Each IsLeftTyped pairs.items }
+    requires set { IsLabelSet rests.items }
+    ensures { IsConcluded pairs.items prop rests.items result }
+{
+    let thm = theorem(alloc, prop, pairs, rests);
+    if is_small(alloc, &thm)? {
+        Ok(Goal { thm })
+    } else {
+        Err(StepFault::Big)
+    }
 }
 
 /// The goal of these parts, where its pairs and its proposition are within the limits as one proposition.
@@ -95,10 +121,6 @@ pub fn concluded(
     requires set { IsLabelSet rests.items }
     ensures { IsConcluded pairs.items (chain subgoals.items marked) rests.items result }
 {
-    let thm = theorem(alloc, subgoals, marked, pairs, rests)?;
-    if is_small(alloc, &thm)? {
-        Ok(Goal { thm })
-    } else {
-        Err(StepFault::Big)
-    }
+    let prop = chained(alloc, subgoals, marked)?;
+    within_limits(alloc, prop, pairs, rests)
 }

@@ -9,32 +9,25 @@ ghost use Rattle.pure_goal_steps.specs.Steps.{ConversionStep};
 ghost use Rattle.pure_resolve.specs.Goals.{IsGoalTheorem, IsLeftTyped, IsEquationFor, IsUnited, IsStep};
 
 use crate::begin::long_subgoal;
-use crate::close::concluded;
-use crate::open::{Parts, opened_with};
+use crate::close::{with_first, within_limits};
 use crate::state::Goal;
 use pure_goal_steps::StepFault;
 use pure_term::Term;
 use pure_theorem::{Base, Thm, as_equation, copied_pairs, united_labels};
 use std::alloc::{AllocError, Global};
 
-/// The goal of these subgoals, with the theorem's pairs, which rests on what the theorem and the fact rest on.
-fn united_goal(
-    alloc: Global,
-    th: &Thm,
-    fact: &Thm,
-    subgoals: Vec<Term>,
-    marked: Term,
-) -> Result<Goal, StepFault>
+/// The goal of this proposition, with the theorem's pairs, which rests on what the theorem and the fact rest on.
+fn united_goal(alloc: Global, th: &Thm, fact: &Thm, prop: Term) -> Result<Goal, StepFault>
     requires { Each IsLeftTyped th.now.pairs }
-    ensures { IsUnited th.now fact.now (chain subgoals.items marked) result }
+    ensures { IsUnited th.now fact.now prop result }
 {
     let pairs = copied_pairs(alloc, &th.pairs)?;
     let rests = united_labels(alloc, &th.rests, &fact.rests)?;
-    concluded(alloc, subgoals, marked, pairs, rests)
+    within_limits(alloc, prop, pairs, rests)
 }
 
 impl Goal {
-    /// The goal with the equation's right side, in long form, for its first subgoal, which is the left side.
+    /// The goal with the equation's right side, in long form, for its first subgoal, which is the left side. What stands behind that is shared.
     ///
     /// # Errors
     ///
@@ -52,7 +45,7 @@ impl Goal {
             Ok(long) => long,
             Err(fault) => return Err(fault),
         };
-        let Parts { subgoals, marked } = opened_with(alloc, &self.thm.prop, long)?;
-        united_goal(alloc, &self.thm, eq, subgoals, marked)
+        let prop = with_first(alloc, &self.thm.prop, long)?;
+        united_goal(alloc, &self.thm, eq, prop)
     }
 }

@@ -13,6 +13,7 @@ mod open;
 mod reorder;
 mod resolve;
 mod settle;
+mod shared;
 mod state;
 mod stay;
 mod trial;

@@ -1,19 +1,11 @@
 //! A goal's proposition taken apart: its subgoals, and the marked statement.
-ghost use Rattle.std.specs.Prelude.{◌≡◌, ◌∷◌, ◌++◌, List, length, IfOk};
+ghost use Rattle.std.specs.Prelude.{◌≡◌, ◌++◌, List, length, IfOk};
 ghost use Rattle.pure_definitions.specs.Terms.Term as tree;
-ghost use Rattle.pure_logic.specs.Connectives.{imp, chain, protect};
+ghost use Rattle.pure_logic.specs.Connectives.{chain, protect};
 
-use crate::begin::single;
 use pure_term::Term;
 use pure_theorem::as_implication;
 use std::alloc::{AllocError, Global};
-
-/// The subgoals of a goal, and its statement with the mark.
-#[derive(Drop)]
-pub struct Parts {
-    pub subgoals: Vec<Term>,
-    pub marked: Term,
-}
 
 /// Puts the premises before a mark behind those of the list, and gives what is marked, with the mark.
 pub fn put_premises(alloc: Global, t: &Term, premises: &mut Vec<Term>) -> Result<Term, AllocError>
@@ -43,26 +35,4 @@ pub fn put_first<'t>(
     };
     premises.push(premise.copy(alloc)?)?;
     put_first(alloc, rest, count - 1, premises)
-}
-
-/// The subgoals and the marked statement of a goal's proposition.
-pub fn opened(alloc: Global, t: &Term) -> Result<Parts, AllocError>
-    ensures { (As : List tree.Term) → (C : tree.Term) → t.now ≡ chain As (protect C) → IfOk result (λ o. (o.subgoals.items ≡ As) × (o.marked ≡ protect C)) }
-{
-    let mut subgoals = Vec::new(alloc);
-    let marked = put_premises(alloc, t, &mut subgoals)?;
-    Ok(Parts { subgoals, marked })
-}
-
-/// The subgoals and the marked statement of a goal's proposition, with this subgoal in place of the first.
-pub fn opened_with(alloc: Global, t: &Term, first: Term) -> Result<Parts, AllocError>
-    requires { (A : tree.Term) × (B : tree.Term) × (t.now ≡ imp A B) }
-    ensures { (A : tree.Term) → (others : List tree.Term) → (C : tree.Term) → t.now ≡ chain (A ∷ others) (protect C) → IfOk result (λ o. (o.subgoals.items ≡ first ∷ others) × (o.marked ≡ protect C)) }
-{
-    let Some((_, rest)) = as_implication(t) else {
-        unreachable!();
-    };
-    let mut subgoals = single(alloc, first)?;
-    let marked = put_premises(alloc, rest, &mut subgoals)?;
-    Ok(Parts { subgoals, marked })
 }

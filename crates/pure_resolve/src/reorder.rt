@@ -1,60 +1,51 @@
 //! Subgoals in another order.
-ghost use Rattle.std.specs.Prelude.{◌≡◌, ◌<◌, ◌∷◌, ◌++◌, [], List, length, IfOk};
+ghost use Rattle.std.specs.Prelude.{◌≡◌, ◌∷◌, ◌++◌, [], List, length, IfOk};
 ghost use Rattle.pure_text.specs.Lists.{Each};
 ghost use Rattle.pure_definitions.specs.Terms.Term as tree;
-ghost use Rattle.pure_logic.specs.Connectives.{chain};
+ghost use Rattle.pure_logic.specs.Connectives.{chain, protect};
 ghost use Rattle.pure_logic.specs.Derivable.{IsDerivable};
 ghost use Rattle.pure_theorem.specs.Facts.{IsTheoryContent};
 ghost use Rattle.pure_goal_steps.specs.Steps.{PreferStep, DeferStep};
 ghost use Rattle.pure_resolve.specs.Goals.{IsGoalTheorem, IsLeftTyped, IsConcluded, IsStep};
+ghost use Rattle.pure_resolve.specs.Shared.{implied_by};
 
-use crate::close::concluded;
-use crate::open::{Parts, opened, put_first};
+use crate::close::within_limits;
+use crate::shared::{Taken, shared_implication, taken_at, with_last};
 use crate::state::{Goal, has_premises};
 use pure_goal_steps::StepFault;
 use pure_term::Term;
 use pure_theorem::{Base, Thm, copied_pairs};
 use std::alloc::{AllocError, Global};
+use std::sync::Arc;
 
-/// The goal of these subgoals, with the theorem's pairs and what it rests on.
-fn with_subgoals(
-    alloc: Global,
-    th: &Thm,
-    subgoals: Vec<Term>,
-    marked: Term,
-) -> Result<Goal, StepFault>
+/// The goal of this proposition, with the theorem's pairs and what it rests on.
+fn with_proposition(alloc: Global, th: &Thm, prop: Term) -> Result<Goal, StepFault>
     requires { Each IsLeftTyped th.now.pairs }
-    ensures { IsConcluded th.now.pairs (chain subgoals.items marked) th.now.rests result }
+    ensures { IsConcluded th.now.pairs prop th.now.rests result }
 {
     let pairs = copied_pairs(alloc, &th.pairs)?;
     let rests = Vec::from_slice(alloc, &th.rests)?;
-    concluded(alloc, subgoals, marked, pairs, rests)
+    within_limits(alloc, prop, pairs, rests)
 }
 
-/// The terms with the one at this place before the others.
-fn brought_forward(terms: Vec<Term>, place: usize) -> Result<Vec<Term>, AllocError>
-    requires { place < length terms.items }
-    ensures { IfOk result (λ new. (before : List tree.Term) → (A : tree.Term) → (after : List tree.Term) → terms.items ≡ before ++ A ∷ after → place ≡ length before → new.items ≡ A ∷ (before ++ after)) }
+/// The goal's proposition with the premise at this place before the others.
+fn preferred(alloc: Global, t: &Term, place: usize) -> Result<Term, AllocError>
+    ensures { (front : List tree.Term) → (A : tree.Term) → (others : List tree.Term) → (C : tree.Term) → t.now ≡ chain (front ++ A ∷ others) (protect C) → place ≡ length front → IfOk result (λ u. u ≡ chain (A ∷ (front ++ others)) (protect C)) }
 {
-    let mut terms = terms;
-    let first = terms.remove(place);
-    terms.insert(0, first)?;
-    Ok(terms)
+    let Taken { first, rest } = taken_at(alloc, t, place)?;
+    Ok(Term::app(first, rest))
 }
 
-/// The terms with the first behind the others.
-fn put_last(terms: Vec<Term>) -> Result<Vec<Term>, AllocError>
-    requires { 0 < length terms.items }
-    ensures { IfOk result (λ new. (A : tree.Term) → (others : List tree.Term) → terms.items ≡ A ∷ others → new.items ≡ others ++ A ∷ []) }
+/// The goal's proposition with its first premise behind the others, from its parts.
+fn deferred(alloc: Global, first: &Arc<Term>, rest: &Arc<Term>) -> Result<Term, AllocError>
+    ensures { (A : tree.Term) → (others : List tree.Term) → (C : tree.Term) → first.now.value ≡ implied_by A → rest.now.value ≡ chain others (protect C) → IfOk result (λ u. u ≡ chain (others ++ A ∷ []) (protect C)) }
 {
-    let mut terms = terms;
-    let first = terms.remove(0);
-    terms.push(first)?;
-    Ok(terms)
+    let whole = with_last(alloc, rest, first)?;
+    whole.copy(alloc)
 }
 
 impl Goal {
-    /// The goal with subgoal n, counted from 1, before the others, which keep their order. What stands behind it is shared.
+    /// The goal with subgoal n, counted from 1, before the others, which keep their order. What stands behind it is shared, and so is each of those in front, with what applies the connective to it.
     ///
     /// # Errors
     ///
@@ -70,14 +61,11 @@ impl Goal {
         if !has_premises(&self.thm.prop, n) {
             return Err(StepFault::NoSubgoal);
         }
-        let mut front = Vec::new(alloc);
-        let tail = put_first(alloc, &self.thm.prop, n as usize, &mut front)?;
-        let subgoals = brought_forward(front, n as usize - 1)?;
-        let rest = tail.copy(alloc)?;
-        with_subgoals(alloc, &self.thm, subgoals, rest)
+        let prop = preferred(alloc, &self.thm.prop, n as usize - 1)?;
+        with_proposition(alloc, &self.thm, prop)
     }
 
-    /// The goal with its first subgoal behind the others.
+    /// The goal with its first subgoal behind the others. Each of these is shared, with what applies the connective to it.
     ///
     /// # Errors
     ///
@@ -87,11 +75,10 @@ impl Goal {
         ensures answer { IsStep DeferStep self.now.thm (λ rests. rests ≡ self.now.thm.rests) result }
         ensures derivable { let Q = B.content _thy.now in IsTheoryContent Q → IsDerivable Q self.now.thm → IfOk result (λ new. IsDerivable Q new.thm) }
     {
-        if self.subgoals() == 0 {
+        let Some((first, rest)) = shared_implication(&self.thm.prop) else {
             return Err(StepFault::NoSubgoal);
-        }
-        let Parts { subgoals, marked } = opened(alloc, &self.thm.prop)?;
-        let subgoals = put_last(subgoals)?;
-        with_subgoals(alloc, &self.thm, subgoals, marked)
+        };
+        let prop = deferred(alloc, first, rest)?;
+        with_proposition(alloc, &self.thm, prop)
     }
 }

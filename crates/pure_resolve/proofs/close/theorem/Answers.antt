@@ -4,4 +4,4 @@ use Rattle.pure_theorem.proofs.SetLaws.{no_terms}
 use Rattle.pure_resolve.proofs.close.theorem.Goals as goal
 
 pub invariant_of-result : goal.invariant_of-result
-invariant_of-result c = (subst IsTermSet (sym c.new.ensures.items) no_terms, c.requires)
+invariant_of-result c = (subst IsTermSet (sym c.new-hyps.ensures.items) no_terms, c.requires)

@@ -17,10 +17,8 @@ united_goal-requires g c = goal_left_typed c.args.self.now.thm c.requires.goal
 pub returns-clause-answer : goal.returns-clause-answer
 returns-clause-answer g c =
     convert_united c.args.self.now.thm c.args.eq.now c.requires.goal c.requires.equation c.in-Some.field-0-0.now c.in-Some.field-0-1.now c.in-Some.right.now
-    (ap (λ (t : Theorem). t.prop) (sym c.eq.view_is) ∙ c.in-Some.ensures) c.in-Ok.long c.in-Ok.ensures c.in_ok-subgoals.field-0.subgoals.items c.in_ok-subgoals.field-0.marked
-    (λ A others C e.
-    let given = c.in_ok-subgoals.ensures A others C (ap (λ (x : Goal). x.thm.prop) c.self.view_is ∙ e) in
-    given) c.united_goal.result c.united_goal.ensures
+    (ap (λ (t : Theorem). t.prop) (sym c.eq.view_is) ∙ c.in-Some.ensures) c.in-Ok.long c.in-Ok.ensures c.in_ok-prop.prop
+    (λ A B e. c.in_ok-prop.ensures A B (ap (λ (x : Goal). x.thm.prop) c.self.view_is ∙ e)) c.united_goal.result c.united_goal.ensures
 
 pub returns-clause-derivable : goal.returns-clause-derivable
 returns-clause-derivable g c = λ q h k. convert_derivable (g.B.Base.content c.args._thy.now) c.args.self.now.thm c.args.eq.now c.requires.equation c.united_goal.result (returns-clause-answer g c) q h k
