@@ -10,7 +10,6 @@ use Rattle.pure_logic.specs.Content.{Content}
 use Rattle.pure_logic.specs.Derivable.{Pair, Theorem, IsDerivable}
 use Rattle.pure_theorem.specs.Facts.{IsTheoryContent}
 use Rattle.pure_theorem.specs.Sets.{label_cmp, IsSetOf}
-use Rattle.pure_theorem.specs.Shapes.{IsNoImplication}
 use Rattle.pure_unify_definitions.specs.LongSides.{Long, ComesTo}
 use Rattle.pure_goal_steps.specs.State.{State, IsTheoremOf}
 use Rattle.pure_goal_steps.specs.Steps.{PreferStep, DeferStep, ConversionStep}
@@ -19,25 +18,23 @@ use Rattle.pure_goal_steps.specs.declared.fault.StepFault.{StepFault}
 use Rattle.pure_goal_steps.specs.declared.fault.StepFault.TheVariants.{NoSubgoal, Memory}
 use Rattle.pure_goal_steps.proofs.SoundLaws.{preferred_is_sound, deferred_is_sound, converted_is_sound}
 use Rattle.pure_resolve.specs.Goals.{IsGoalTheorem, IsLeftTyped, IsConcluded, IsUnited, IsStep, IsEquationFor}
-use Rattle.pure_resolve.specs.Shared.{implied_by}
+use Rattle.pure_resolve.specs.Premises.{implied_by, IsFirstPremise}
 use Rattle.pure_resolve.specs.declared.state.Goal.{Goal}
 use Rattle.pure_resolve.proofs.AnswerLaws.{left-typed, step_derivable}
-use Rattle.pure_resolve.proofs.ChainLaws.{IsCut, no-premise, first-premise}
+use Rattle.pure_resolve.proofs.ChainLaws.{IsCut}
 use Rattle.pure_resolve.proofs.StepLaws.{prefer_answer, defer_answer, convert_answer, equated-first}
 
 pub goal_left_typed : (th : Theorem) → IsGoalTheorem th → Each IsLeftTyped th.pairs
 goal_left_typed th g = subst (λ (ps : List Pair). Each IsLeftTyped ps) (sym g.is.same_pairs) (left-typed g.state.pairs g.goal.left_pairs)
 
-pub defer_none : (th : Theorem) (g : IsGoalTheorem th) → IsNoImplication th.prop → IsStep DeferStep th (λ rests. rests ≡ th.rests) (Err NoSubgoal)
-defer_none th g none = (g.state, g.is, g.goal, DeferStep.no_subgoal (no-premise th.prop g.state.subgoals g.state.statement none g.is.prop))
+pub defer_none : (th : Theorem) (g : IsGoalTheorem th) → g.state.subgoals ≡ [] → IsStep DeferStep th (λ rests. rests ≡ th.rests) (Err NoSubgoal)
+defer_none th g none = (g.state, g.is, g.goal, DeferStep.no_subgoal none)
 
 -- The first subgoal behind the others, where these are given by their parts.
-pub defer_moved : (th : Theorem) (g : IsGoalTheorem th) (first rest : Term) → (A : Term) × (first ≡ implied_by A) × (th.prop ≡ imp A rest) → (moved : Term)
+pub defer_moved : (th : Theorem) (g : IsGoalTheorem th) (first rest : Term) → IsFirstPremise g.state.subgoals g.state.statement first rest → (moved : Term)
     → ((A : Term) (others : List Term) (C : Term) → first ≡ implied_by A → rest ≡ chain others (protect C) → moved ≡ chain (others ++ A ∷ []) (protect C))
     → (result : Result Goal StepFault) → IsConcluded th.pairs moved th.rests result → IsStep DeferStep th (λ rests. rests ≡ th.rests) result
-defer_moved th g first rest (A, is, stands) moved m result h =
-    let p = first-premise th.prop A rest g.state.subgoals g.state.statement stands g.is.prop in
-    defer_answer th g A p.rest p.is moved (m A p.rest g.state.statement is p.chained) result h
+defer_moved th g first rest p moved m result h = defer_answer th g p.premise p.others p.stand moved (m p.premise p.others g.state.statement p.applied p.behind) result h
 
 -- What the calls derive.
 pub prefer_derivable : (Q : Content) (th : Theorem) (n : ℕ) (result : Result Goal StepFault) → IsStep (λ s. PreferStep s n) th (λ rests. rests ≡ th.rests) result → IsTheoryContent Q → IsDerivable Q th → IfOk result (λ goal. IsDerivable Q goal.thm)

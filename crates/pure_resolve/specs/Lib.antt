@@ -5,6 +5,6 @@ pub use Rattle.pure_goal_step_laws.specs as GoalStepLaws
 pub mod Goals
 pub mod Ending
 pub mod Settled
-pub mod Shared
+pub mod Premises
 pub mod Uses
 pub mod Below

@@ -7,10 +7,10 @@ ghost use Rattle.pure_logic.specs.Derivable.{IsDerivable};
 ghost use Rattle.pure_theorem.specs.Facts.{IsTheoryContent};
 ghost use Rattle.pure_goal_steps.specs.Steps.{PreferStep, DeferStep};
 ghost use Rattle.pure_resolve.specs.Goals.{IsGoalTheorem, IsLeftTyped, IsConcluded, IsStep};
-ghost use Rattle.pure_resolve.specs.Shared.{implied_by};
+ghost use Rattle.pure_resolve.specs.Premises.{implied_by};
 
 use crate::close::within_limits;
-use crate::shared::{Taken, shared_implication, taken_at, with_last};
+use crate::shared::{Taken, first_premise, taken_at, with_last};
 use crate::state::{Goal, has_premises};
 use pure_goal_steps::StepFault;
 use pure_term::Term;
@@ -75,7 +75,7 @@ impl Goal {
         ensures answer { IsStep DeferStep self.now.thm (λ rests. rests ≡ self.now.thm.rests) result }
         ensures derivable { let Q = B.content _thy.now in IsTheoryContent Q → IsDerivable Q self.now.thm → IfOk result (λ new. IsDerivable Q new.thm) }
     {
-        let Some((first, rest)) = shared_implication(&self.thm.prop) else {
+        let Some((first, rest)) = first_premise(&self.thm.prop) else {
             return Err(StepFault::NoSubgoal);
         };
         let prop = deferred(alloc, first, rest)?;

@@ -1,25 +1,35 @@
 //! Premises before a mark in another order, where what applies the connective to each is shared.
 ghost use Rattle.std.specs.Prelude.{◌≡◌, ◌∷◌, ◌++◌, [], List, length, IfOk, MatchOption};
 ghost use Rattle.pure_definitions.specs.Terms.Term as tree;
-ghost use Rattle.pure_logic.specs.Connectives.{imp, chain, protect};
-ghost use Rattle.pure_theorem.specs.Shapes.{IsNoImplication};
-ghost use Rattle.pure_resolve.specs.Shared.{implied_by, IsTaken};
+ghost use Rattle.pure_logic.specs.Connectives.{chain, protect};
+ghost use Rattle.pure_theorem.specs.Shapes.{IsNoApplication};
+ghost use Rattle.pure_resolve.specs.Premises.{implied_by, IsFirstPremise, IsTaken};
 
 use pure_term::{Term, TermNode};
-use pure_theorem::as_implication;
 use std::alloc::{AllocError, Global};
 use std::sync::Arc;
 
-/// What applies the connective to an implication's premise, and the conclusion, to be shared; none exactly where the term isn't one.
-pub fn shared_implication(t: &Term) -> Option<(&Arc<Term>, &Arc<Term>)>
-    ensures { MatchOption result (IsNoImplication t.now) (λ parts. (A : tree.Term) × (parts.0.now.value ≡ implied_by A) × (t.now ≡ imp A parts.1.now.value)) }
+/// The function and the argument of an application, to be shared.
+fn shared_application(t: &Term) -> Option<(&Arc<Term>, &Arc<Term>)>
+    ensures { MatchOption result (IsNoApplication t.now) (λ parts. t.now ≡ tree.App parts.0.now.value parts.1.now.value) }
 {
-    let Some(_) = as_implication(t) else {
-        return None;
-    };
     match &t.node {
         TermNode::App { fun, arg, .. } => Some((fun, arg)),
         _ => None,
+    }
+}
+
+/// What applies the connective to the first premise before a mark, and what is behind it; none where there is no premise. The mark stands alone in front of its statement, so the connective needn't be looked at.
+pub fn first_premise(t: &Term) -> Option<(&Arc<Term>, &Arc<Term>)>
+    ensures { (As : List tree.Term) → (C : tree.Term) → t.now ≡ chain As (protect C) → MatchOption result (As ≡ []) (λ parts. IsFirstPremise As C parts.0.now.value parts.1.now.value) }
+{
+    let Some((function, argument)) = shared_application(t) else {
+        return None;
+    };
+    let whole: &Term = function;
+    match shared_application(whole) {
+        Some(_) => Some((function, argument)),
+        None => None,
     }
 }
 
@@ -40,7 +50,7 @@ pub fn with_last(alloc: Global, t: &Arc<Term>, last: &Arc<Term>) -> Result<Arc<T
     ensures { (As : List tree.Term) → (A : tree.Term) → (C : tree.Term) → t.now.value ≡ chain As (protect C) → last.now.value ≡ implied_by A → IfOk result (λ new. new.value ≡ chain (As ++ A ∷ []) (protect C)) }
 {
     let whole: &Term = t;
-    let Some((first, rest)) = shared_implication(whole) else {
+    let Some((first, rest)) = first_premise(whole) else {
         let marked = Arc::try_clone(t)?;
         return applied(alloc, last, marked);
     };
@@ -79,7 +89,7 @@ fn behind(alloc: Global, premise: &Arc<Term>, inner: Taken) -> Result<Taken, All
 pub fn taken_at(alloc: Global, t: &Term, place: usize) -> Result<Taken, AllocError>
     ensures { (front : List tree.Term) → (A : tree.Term) → (others : List tree.Term) → (C : tree.Term) → t.now ≡ chain (front ++ A ∷ others) (protect C) → place ≡ length front → IfOk result (IsTaken A (front ++ others) C) }
 {
-    let Some((first, rest)) = shared_implication(t) else {
+    let Some((first, rest)) = first_premise(t) else {
         return Err(AllocError);
     };
     if place == 0 {

@@ -1,15 +1,12 @@
-use Rattle.std.proofs.Common.{sym, subst, ap, ◌∙◌}
-use Rattle.pure_definitions.specs.Terms.Term.{Term, App}
-use Rattle.pure_theorem.specs.Shapes.{IsNoImplication}
+use Rattle.std.proofs.Common.{sym, ◌∙◌}
 use Rattle.pure_resolve.proofs.SharedLaws.{last_alone, last_behind}
 use Rattle.pure_resolve.proofs.shared.+with_last.Goals as goal
 
 pub returns-in_default : goal.returns-in_default
 returns-in_default t c As A C e l =
-    last_alone (λ u. u.value) c.args.t.now.value c.args.last.now.value As A C c.applied.result (subst IsNoImplication c.deref-whole.ensures c.in_default.ensures) e l c.applied.ensures
+    last_alone (λ u. u.value) c.args.t.now.value c.args.last.now.value As A C c.applied.result (c.in_default.ensures As C (c.deref-whole.ensures ∙ e)) e l c.applied.ensures
 
 pub returns : goal.returns
 returns t c As A C e l =
-    let parts = c.in-Some.ensures in
-    last_behind (λ u. u.value) c.args.t.now.value c.in-Some.first.now.value c.in-Some.rest.now.value c.args.last.now.value c.in_ok-conclusion.conclusion.value As A C c.applied.result
-    (parts.0, parts.1, sym c.deref-whole.ensures ∙ parts.2) e l c.in_ok-conclusion.ensures c.applied.ensures
+    last_behind (λ u. u.value) c.in-Some.first.now.value c.in-Some.rest.now.value c.args.last.now.value c.in_ok-conclusion.conclusion.value As A C c.applied.result
+    (c.in-Some.ensures As C (c.deref-whole.ensures ∙ e)) l c.in_ok-conclusion.ensures c.applied.ensures
