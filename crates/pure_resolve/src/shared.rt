@@ -95,6 +95,7 @@ pub fn taken_at(alloc: Global, t: &Term, place: usize) -> Result<Taken, AllocErr
     if place == 0 {
         return taken_first(first, rest);
     }
-    let inner = taken_at(alloc, rest, place - 1)?;
+    let tail: &Term = rest;
+    let inner = taken_at(alloc, tail, place - 1)?;
     behind(alloc, first, inner)
 }

@@ -1,4 +1,4 @@
-use Rattle.std.proofs.Common.{◌∷◌, ◌++◌}
+use Rattle.std.proofs.Common.{◌∷◌, ◌++◌, ◌∙◌}
 use Rattle.pure_resolve.proofs.SharedLaws.{taken_first, taken_behind}
 use Rattle.pure_resolve.proofs.shared.+taken_at.Goals as goal
 
@@ -8,4 +8,5 @@ returns-then-place-eq0 t c = λ front A others C e count.
 
 pub returns : goal.returns
 returns t c = λ front A others C e count.
-    taken_behind c.in-Some.first.now.value c.in-Some.rest.now.value c.in_ok-inner.inner front A others C c.args.place c.behind.result (c.in-Some.ensures (front ++ A ∷ others) C e) count c.if-place-eq0.false c.in_ok-inner.ensures c.behind.ensures.first c.behind.ensures.rest
+    taken_behind c.in-Some.first.now.value c.in-Some.rest.now.value c.in_ok-inner.inner front A others C c.args.place c.behind.result (c.in-Some.ensures (front ++ A ∷ others) C e) count c.if-place-eq0.false
+    (λ front A others C e count. c.in_ok-inner.ensures front A others C (c.deref-tail.ensures ∙ e) count) c.behind.ensures.first c.behind.ensures.rest
