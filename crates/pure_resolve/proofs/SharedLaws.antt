@@ -1,8 +1,8 @@
 -- Premises before a mark in another order.
-use Rattle.std.proofs.Common.{◌≡◌, ◌≢◌, ℕ, ◌-◌, List, [], ◌∷◌, ◌++◌, length, Result, Ok, Err, IfOk, refl, ap, sym, ◌∙◌, arith}
+use Rattle.std.proofs.Common.{◌≡◌, ◌≢◌, ℕ, ◌-◌, ◌<◌, List, [], ◌∷◌, ◌++◌, length, Result, Ok, Err, IfOk, refl, ap, sym, ◌∙◌, arith}
 use Rattle.pure_definitions.specs.Names.{imp_name, protect_name}
 use Rattle.pure_definitions.specs.Types.Typ.{Typ}
-use Rattle.pure_definitions.specs.Terms.Term.{Term, Const, App}
+use Rattle.pure_definitions.specs.Terms.Term.{Term, Const, App, term_size}
 use Rattle.pure_logic.specs.Connectives.{imp_typ, protect_typ, imp, protect, chain}
 use Rattle.pure_theorem.specs.Shapes.{IsNoApplication}
 use Rattle.pure_resolve.specs.Premises.{implied_by, IsFirstPremise, IsTaken}
@@ -34,13 +34,16 @@ is_first t f a g b [] C d h e = absurd (no-constant g b protect_name protect_typ
 is_first t f a g b (A ∷ As) C d h e =
     record { premise = A; others = As; stand = refl; applied = function-of f a A (chain As (protect C)) (sym d ∙ e); behind = argument-of f a A (chain As (protect C)) (sym d ∙ e) }
 
+pub behind_smaller : (t f a : Term) → t ≡ App f a → term_size a < term_size t
+behind_smaller t f a e = let same : term_size t ≡ term_size (App f a) = ap term_size e in omega arith
+
 -- One more premise, behind none.
-pub last_alone : {X E : Type 0} (value : X → Term) (t last : Term) (As : List Term) (A C : Term) (r : Result X E) → As ≡ [] → t ≡ chain As (protect C) → last ≡ implied_by A
-    → IfOk r (λ u. value u ≡ App last t) → IfOk r (λ u. value u ≡ chain (As ++ A ∷ []) (protect C))
-last_alone value t last As A C (Ok u) no e l h =
-    let mark : t ≡ protect C = e ∙ ap (λ (Bs : List Term). chain Bs (protect C)) no in
-    h ∙ ((λ i. App (l i) (mark i)) ∙ ap (λ (Bs : List Term). chain (Bs ++ A ∷ []) (protect C)) (sym no))
-last_alone value t last As A C (Err fault) no e l h = tt
+pub last_alone : {X E : Type 0} (value : X → Term) (t last marked : Term) (As : List Term) (A C : Term) (r : Result X E) → As ≡ [] → t ≡ chain As (protect C) → last ≡ implied_by A → marked ≡ t
+    → IfOk r (λ u. value u ≡ App last marked) → IfOk r (λ u. value u ≡ chain (As ++ A ∷ []) (protect C))
+last_alone value t last marked As A C (Ok u) none e l m h =
+    let mark : marked ≡ protect C = m ∙ (e ∙ ap (λ (Bs : List Term). chain Bs (protect C)) none) in
+    h ∙ ((λ i. App (l i) (mark i)) ∙ ap (λ (Bs : List Term). chain (Bs ++ A ∷ []) (protect C)) (sym none))
+last_alone value t last marked As A C (Err fault) none e l m h = tt
 
 -- One more, behind the first and others.
 pub last_behind : {X E : Type 0} (value : X → Term) (first rest last inner : Term) (As : List Term) (A C : Term) (r : Result X E) → IsFirstPremise As C first rest → last ≡ implied_by A

@@ -1,5 +1,5 @@
 //! Premises before a mark in another order, where what applies the connective to each is shared.
-ghost use Rattle.std.specs.Prelude.{◌≡◌, ◌∷◌, ◌++◌, [], List, length, IfOk, MatchOption};
+ghost use Rattle.std.specs.Prelude.{◌≡◌, ◌∷◌, ◌++◌, [], List, length, IfOk, IfSome, MatchOption};
 ghost use Rattle.pure_definitions.specs.Terms.Term as tree;
 ghost use Rattle.pure_logic.specs.Connectives.{chain, protect};
 ghost use Rattle.pure_theorem.specs.Shapes.{IsNoApplication};
@@ -21,7 +21,8 @@ fn shared_application(t: &Term) -> Option<(&Arc<Term>, &Arc<Term>)>
 
 /// What applies the connective to the first premise before a mark, and what is behind it; none where there is no premise. The mark stands alone in front of its statement, so the connective needn't be looked at.
 pub fn first_premise(t: &Term) -> Option<(&Arc<Term>, &Arc<Term>)>
-    ensures { (As : List tree.Term) → (C : tree.Term) → t.now ≡ chain As (protect C) → MatchOption result (As ≡ []) (λ parts. IsFirstPremise As C parts.0.now.value parts.1.now.value) }
+    ensures parts { IfSome result (λ parts. t.now ≡ tree.App parts.0.now.value parts.1.now.value) }
+    ensures premise { (As : List tree.Term) → (C : tree.Term) → t.now ≡ chain As (protect C) → MatchOption result (As ≡ []) (λ parts. IsFirstPremise As C parts.0.now.value parts.1.now.value) }
 {
     let Some((function, argument)) = shared_application(t) else {
         return None;

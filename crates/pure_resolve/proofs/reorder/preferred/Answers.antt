@@ -3,4 +3,4 @@ use Rattle.std.proofs.Common.{◌++◌, ◌∙◌}
 use Rattle.pure_resolve.proofs.reorder.preferred.Goals as goal
 
 pub returns : goal.returns
-returns c front A others C e count = c.app.ensures ∙ preferred_taken c.in_ok-taken_at.field-0 A (front ++ others) C (c.in_ok-taken_at.ensures front A others C e count)
+returns c front A others C e count = c.app.ensures ∙ preferred_taken c.in_ok-first.field-0 A (front ++ others) C (c.in_ok-first.ensures front A others C e count)

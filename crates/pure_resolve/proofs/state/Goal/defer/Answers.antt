@@ -6,7 +6,7 @@ use Rattle.pure_resolve.proofs.state.Goal.defer.Goals as goal
 pub returns-in_default-clause-answer : goal.returns-in_default-clause-answer
 returns-in_default-clause-answer g c =
     let h = c.requires in
-    defer_none c.args.self.now.thm h (c.in_default.ensures h.state.subgoals h.state.statement (ap (λ (x : Goal). x.thm.prop) c.self.view_is ∙ h.is.prop))
+    defer_none c.args.self.now.thm h (c.in_default.ensures.premise h.state.subgoals h.state.statement (ap (λ (x : Goal). x.thm.prop) c.self.view_is ∙ h.is.prop))
 
 pub with_proposition-requires : goal.with_proposition-requires
 with_proposition-requires g c = goal_left_typed c.args.self.now.thm c.requires
@@ -14,7 +14,7 @@ with_proposition-requires g c = goal_left_typed c.args.self.now.thm c.requires
 pub returns-clause-answer : goal.returns-clause-answer
 returns-clause-answer g c =
     let h = c.requires in
-    let first = c.in-Some.ensures h.state.subgoals h.state.statement (ap (λ (x : Goal). x.thm.prop) c.self.view_is ∙ h.is.prop) in
+    let first = c.in-Some.ensures.premise h.state.subgoals h.state.statement (ap (λ (x : Goal). x.thm.prop) c.self.view_is ∙ h.is.prop) in
     defer_moved c.args.self.now.thm h c.in-Some.first.now.value c.in-Some.rest.now.value first c.in_ok-prop.prop c.in_ok-prop.ensures c.with_proposition.result c.with_proposition.ensures
 
 pub returns-clause-derivable : goal.returns-clause-derivable
