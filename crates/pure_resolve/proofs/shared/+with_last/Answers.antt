@@ -3,7 +3,7 @@ use Rattle.pure_resolve.proofs.SharedLaws.{last_alone, last_behind, behind_small
 use Rattle.pure_resolve.proofs.shared.+with_last.Goals as goal
 
 pub with_last-requires : goal.with_last-requires
-with_last-requires t c = behind_smaller c.args.t.now.value c.in-Some.first.now.value c.in-Some.rest.now.value (sym c.deref-whole.ensures ∙ c.in-Some.ensures.parts)
+with_last-requires t c = (behind_smaller c.args.t.now.value c.in-Some.first.now.value c.in-Some.rest.now.value (sym c.deref-whole.ensures ∙ c.in-Some.ensures.parts), tt)
 
 pub returns-in_default : goal.returns-in_default
 returns-in_default t c As A C e l =
