@@ -1,7 +1,7 @@
 -- A goal's proposition is taken apart premise by premise, and made from behind.
 use Rattle.std.proofs.Common.{◌≡◌, ℕ, zero, suc, ◌<◌, List, Option, Some, None, IfSome, Result, Ok, Err, IfOk, [], ◌∷◌, ◌++◌, length, refl, ap, sym, ◌∙◌, arith, append_assoc}
 use Rattle.pure_definitions.specs.Names.{imp_name}
-use Rattle.pure_definitions.specs.Terms.Term.{Term, Const, App, term_size}
+use Rattle.pure_definitions.specs.Terms.Term.{Term, Const, App}
 use Rattle.pure_logic.specs.Connectives.{imp_typ, imp, protect, chain}
 use Rattle.pure_theorem.specs.Shapes.{IsNoImplication}
 
@@ -37,9 +37,6 @@ connective_found value t f A B a (Some c) e d h = imp-connective t f (value c) A
 pub first-premise : (t A B : Term) (As : List Term) (C : Term) → t ≡ imp A B → t ≡ chain As (protect C) → IsPremise A B As C
 first-premise t A B [] C e f = absurd (imp-no-mark A B C (sym e ∙ f))
 first-premise t A B (D ∷ As) C e f = let parts = imp-premise A B D (chain As (protect C)) (sym e ∙ f) in record { rest = As; is = ap (λ (E : Term). E ∷ As) parts.0; chained = parts.1 }
-
-pub conclusion-smaller : (t A B : Term) → t ≡ imp A B → term_size B < term_size t
-conclusion-smaller t A B e = let same : term_size t ≡ term_size (imp A B) = ap term_size e in omega arith
 
 pub chain-last : (As : List Term) (A G : Term) → chain (As ++ A ∷ []) G ≡ chain As (imp A G)
 chain-last [] A G = refl
