@@ -5,6 +5,7 @@ ghost use Rattle.pure_definitions.specs.Terms.Limits.{cut_off};
 ghost use Rattle.pure_logic.specs.Connectives.{chain, protect};
 ghost use Rattle.pure_goal_steps.specs.State.{State, IsTheoremOf};
 
+use crate::shared::first_premise;
 use pure_term::Term;
 use pure_theorem::{Thm, as_implication};
 
@@ -32,9 +33,12 @@ pub fn has_premises(t: &Term, count: u32) -> bool
     if count == 0 {
         return true;
     }
-    match as_implication(t) {
+    match first_premise(t) {
         None => false,
-        Some((_, rest)) => has_premises(rest, count - 1),
+        Some((_, rest)) => {
+            let tail: &Term = rest;
+            has_premises(tail, count - 1)
+        }
     }
 }
 

@@ -1,5 +1,4 @@
 use Rattle.std.proofs.Common.{◌≡◌, ◌+◌, length, ap, ◌∙◌, arith}
-use Rattle.pure_resolve.proofs.ChainLaws.{no-premise, first-premise}
 use Rattle.pure_resolve.proofs.CallLaws.{enough_more}
 use Rattle.pure_resolve.proofs.state.+has_premises.Goals as goal
 
@@ -7,10 +6,10 @@ pub returns-then-count-eq0 : goal.returns-then-count-eq0
 returns-then-count-eq0 t c As C e = omega (arith, c.if-count-eq0.true)
 
 pub returns-in-None : goal.returns-in-None
-returns-in-None t c As C e = let none = ap length (no-premise c.args.t.now As C c.in-None.ensures e) in omega (arith, none, c.if-count-eq0.false)
+returns-in-None t c As C e = let none = ap length (c.in-None.ensures.premise As C e) in omega (arith, none, c.if-count-eq0.false)
 
 pub returns-in-Some : goal.returns-in-Some
 returns-in-Some t c As C e =
-    let p = first-premise c.args.t.now c.in-Some.field-0-0.now c.in-Some.rest.now As C c.in-Some.ensures e in
-    let counted : length As ≡ length p.rest + 1 = ap length p.is ∙ omega arith in
-    enough_more c.args.count (length p.rest) (length As) c.has_premises.result c.if-count-eq0.false counted (c.has_premises.ensures p.rest C p.chained)
+    let p = c.in-Some.ensures.premise As C e in
+    let counted : length As ≡ length p.others + 1 = ap length p.stand ∙ omega arith in
+    enough_more c.args.count (length p.others) (length As) c.has_premises.result c.if-count-eq0.false counted (c.has_premises.ensures p.others C (c.deref-tail.ensures ∙ p.behind))
