@@ -1,7 +1,6 @@
 //! A goal's first subgoal converted by an equation.
 ghost use Rattle.std.specs.Prelude.{◌++◌, IfOk};
 ghost use Rattle.pure_text.specs.Lists.{Each};
-ghost use Rattle.pure_logic.specs.Connectives.{chain};
 ghost use Rattle.pure_logic.specs.Derivable.{IsDerivable};
 ghost use Rattle.pure_theorem.specs.Facts.{IsTheoryContent};
 ghost use Rattle.pure_theorem.specs.Sets.{label_cmp, IsSetOf};
