@@ -44,6 +44,14 @@ lemma notI: "(T A ==> T false) ==> T (not A)"
 lemma notE: "T (not A) ==> T A ==> T B"
   by (unfold not_def, drule mp, assumption, rule falseE)
 
+(* conj1 and conj2 each take the hypothesis away: where both parts are needed, they are taken out at once. *)
+lemma conjE: "T (conj A B) ==> (T A ==> T B ==> T C) ==> T C"
+  apply (drule Pure.mp)    (* 1. T (conj A B) ==> T A    2. T (conj A B) ==> (T B ==> T C) ==> T C *)
+  apply (erule conj1)      (* 1. T (conj A B) ==> (T B ==> T C) ==> T C *)
+  apply (erule Pure.mp)    (* 1. T (conj A B) ==> T B *)
+  by (erule conj2)
+lemma conj_commutes: "T (conj A B) ==> T (conj B A)" by (erule conjE, rule conjI)
+
 (* Elimination takes the hypothesis away and leaves a subgoal for each case. *)
 lemma disj_commutes: "T (disj A B) ==> T (disj B A)"
   apply (erule disjE)      (* 1. T A ==> T (disj B A)    2. T B ==> T (disj B A) *)
