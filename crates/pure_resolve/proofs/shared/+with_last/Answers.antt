@@ -1,9 +1,11 @@
-use Rattle.std.proofs.Common.{sym, ◌∙◌}
+use Rattle.std.proofs.Common.{sym, ◌∙◌, arith}
 use Rattle.pure_resolve.proofs.SharedLaws.{last_alone, last_behind, behind_smaller}
 use Rattle.pure_resolve.proofs.shared.+with_last.Goals as goal
 
 pub with_last-requires : goal.with_last-requires
-with_last-requires t c = (behind_smaller c.args.t.now.value c.in-Some.first.now.value c.in-Some.rest.now.value (sym c.deref-whole.ensures ∙ c.in-Some.ensures.parts), tt)
+with_last-requires t c =
+    let smaller = behind_smaller c.args.t.now.value c.in-Some.first.now.value c.in-Some.rest.now.value (sym c.deref-whole.ensures ∙ c.in-Some.ensures.parts) in
+    (omega (arith, smaller), tt)
 
 pub returns-in_default : goal.returns-in_default
 returns-in_default t c As A C e l =
