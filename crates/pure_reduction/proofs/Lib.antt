@@ -1,0 +1,6 @@
+pub mod StepLaws
+pub mod ParallelLaws
+pub mod CommuteLaws
+pub mod NormalLaws
+pub mod LongLaws
+pub mod MapLaws

@@ -1,0 +1,4 @@
+pub mod Steps
+pub mod LongForms
+pub mod LawsSteps
+pub mod LawsLong
