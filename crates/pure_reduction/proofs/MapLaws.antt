@@ -13,7 +13,7 @@ use Rattle.pure_term_laws.proofs.TypingBoundLaws.{typing-weaken, typing-instance
 use Rattle.pure_term_laws.proofs.MapLaws.{instance-lift, instance-subst}
 use Rattle.pure_eta.proofs.EtaStepLaws.{reduces-body as eta-body, reduces-application as eta-application}
 use Rattle.pure_reduction.specs.Steps.{BetaStep, BetaReduces}
-use Rattle.pure_reduction.specs.LongForms.{HasLongForm, HaveOneLongForm}
+use Rattle.pure_reduction.specs.LongForms.{HaveOneLongForm}
 use Rattle.pure_reduction.specs.LawsLong.{BetaStepsUnderMaps, EtaStepsUnderMaps, LongFormUnderMap, SameUnderMaps}
 use Rattle.pure_reduction.proofs.StepLaws.{reduces-body, reduces-application}
 use Rattle.pure_reduction.proofs.LongLaws.{typed_term_has_long_form, long_form_keeps_type, long-from_reduct, long_form_of_beta_reduct, long-of_eta_reduct, long_form_of_eta_reduct}
