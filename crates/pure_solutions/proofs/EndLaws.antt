@@ -1,19 +1,17 @@
 -- Terms that reduce to one, and their parts.
-use Rattle.std.proofs.Common.{◌≡◌, ◌⊎◌, inl, inr, List, [], ap, refl, sym, subst, ◌∙◌}
+use Rattle.std.proofs.Common.{◌≡◌, ◌⊎◌, inl, inr, [], refl, sym, subst, ◌∙◌}
 use Rattle.pure_definitions.specs.Types.Typ.{Typ}
-use Rattle.pure_definitions.specs.Terms.Term.{Term, Const, Free, Var, Bound, Abs, App}
+use Rattle.pure_definitions.specs.Terms.Term.{Term, Bound, Abs, App}
 use Rattle.pure_definitions.specs.Terms.Bounds.{lift_term}
-use Rattle.pure_definitions.specs.Terms.Typing.{HasType}
-use Rattle.pure_definitions.specs.Reduction.Beta.{IsAbs, IsBetaNormal}
+use Rattle.pure_definitions.specs.Reduction.Beta.{IsBetaNormal}
 use Rattle.pure_definitions.specs.Reduction.Eta.{EtaStep, EtaReduces, IsEtaNormalForm}
 use Rattle.pure_definitions.proofs.NormalLemmas.{abstraction-lift}
 use Rattle.pure_term_laws.proofs.EtaNormalLaws.{one_eta_normal_form}
 use Rattle.pure_eta.proofs.EtaStepLaws.{reduces-then as eta-then, reduces-body as eta-body, reduces-application as eta-application}
 use Rattle.pure_eta.proofs.SaturatedLaws.{reduces-lift}
-use Rattle.pure_eta.proofs.KeptLaws.{steps_keep_type as eta-type, steps_keep_beta_normal}
+use Rattle.pure_eta.proofs.KeptLaws.{steps_keep_beta_normal}
 use Rattle.pure_eta.proofs.FormLaws.{each_term_has_eta_normal_form}
 use Rattle.pure_reduction.specs.Steps.{BetaStep, BetaReduces}
-use Rattle.pure_reduction.specs.LongForms.{HasLongForm, HaveOneLongForm}
 use Rattle.pure_reduction.proofs.StepLaws.{reduces-body, steps_keep_type}
 use Rattle.pure_reduction.proofs.LongLaws.{typed_term_has_long_form, long-from_reduct, long_form_of_beta_reduct, long_form_of_eta_reduct}
 use Rattle.pure_solutions.specs.Ends.{HaveOneEnd, IsStuck}

@@ -12,7 +12,7 @@ use Rattle.pure_eta.proofs.FormLaws.{long_form_of_long_form}
 use Rattle.pure_reduction.specs.LongForms.{HasLongForm, HaveOneLongForm}
 use Rattle.pure_reduction.proofs.LongLaws.{one_long_form_of_term, typed_term_has_long_form, long_form_keeps_type, long_form_of_normal}
 use Rattle.pure_reduction.proofs.MapLaws.{long_form_under_map, same_under_maps}
-use Rattle.pure_solutions.specs.Solutions.{IsTermSubstitution, IsLongMap, SolvesPair}
+use Rattle.pure_solutions.specs.Solutions.{IsTermSubstitution, SolvesPair}
 use Rattle.pure_solutions.specs.Laws.{SolvedByLongForms, SolvedBySameImages, EachMapHasALongMap}
 
 -- The same of the map alone: a term's instance has the long form of that of its long form.
@@ -53,8 +53,9 @@ abbrev longer : (terms : Term → Term) → IsTermSubstitution terms → Term �
 longer terms s (Var x i T) = (typed_term_has_long_form (terms (Var x i T)) T (image-typed terms s x i T)).0
 longer terms s t = t
 
-pub each_map_has_a_long_map : EachMapHasALongMap
-each_map_has_a_long_map terms s = (longer terms s, record { substitution = substitution; images = λ x i T. inr (own x i T) }, same)
+pub longer-map : (terms : Term → Term) → IsTermSubstitution terms
+    → (others : Term → Term) × IsTermSubstitution others × ((x i : ℕ) (T : Typ) → IsLongForm (others (Var x i T)) (others (Var x i T))) × ((v : Term) → IsVariable v → HaveOneLongForm (terms v) (others v))
+longer-map terms s = (longer terms s, substitution, own, same)
   where
     image : (x i : ℕ) (T : Typ) → HasLongForm (terms (Var x i T)) (longer terms s (Var x i T))
     image x i T = (typed_term_has_long_form (terms (Var x i T)) T (image-typed terms s x i T)).1
@@ -81,3 +82,6 @@ each_map_has_a_long_map terms s = (longer terms s, record { substitution = subst
     same (Bound p) is = absurd is
     same (Abs T b) is = absurd is
     same (App f a) is = absurd is
+
+pub each_map_has_a_long_map : EachMapHasALongMap
+each_map_has_a_long_map terms s = let map = longer-map terms s in (map.0, record { substitution = map.1; images = λ x i T. inr (map.2 x i T) }, map.3)
