@@ -5,13 +5,17 @@ use Rattle.pure_definitions.specs.Terms.Term.{Term, Const, Free, Var, Bound, Abs
 use Rattle.pure_definitions.specs.Terms.Bounds.{Occurs}
 use Rattle.pure_definitions.specs.Terms.Conditions.{IsVariable}
 use Rattle.pure_definitions.specs.Terms.Typing.{HasType}
-use Rattle.pure_definitions.specs.Terms.Subst.{inst_term}
-use Rattle.pure_definitions.specs.Reduction.Eta.{IsLongForm}
+use Rattle.pure_definitions.specs.Terms.Subst.{typ_instance, inst_term, term_instance}
+use Rattle.pure_definitions.specs.Reduction.Eta.{EtaReduces, IsLongForm}
 use Rattle.pure_term_laws.proofs.SubstLaws.{inst_term-alone, typ_instance-identity}
+use Rattle.pure_term_laws.specs.LawsMaps.{AreImagesClosed}
+use Rattle.pure_term_laws.proofs.TypingLaws.{typed-closed}
+use Rattle.pure_term_laws.proofs.TypingBoundLaws.{typing-instance}
 use Rattle.pure_eta.proofs.FormLaws.{long_form_of_long_form}
+use Rattle.pure_reduction.specs.Steps.{BetaReduces}
 use Rattle.pure_reduction.specs.LongForms.{HasLongForm, HaveOneLongForm}
-use Rattle.pure_reduction.proofs.LongLaws.{one_long_form_of_term, typed_term_has_long_form, long_form_keeps_type, long_form_of_normal}
-use Rattle.pure_reduction.proofs.MapLaws.{long_form_under_map, same_under_maps}
+use Rattle.pure_reduction.proofs.LongLaws.{one_long_form_of_term, typed_term_has_long_form, long_form_keeps_type, long_form_of_normal, long_form_of_beta_reduct, long-of_eta_reduct}
+use Rattle.pure_reduction.proofs.MapLaws.{eta_steps_under_maps, long_form_under_map, same_under_maps}
 use Rattle.pure_solutions.specs.Solutions.{IsTermSubstitution, SolvesPair}
 use Rattle.pure_solutions.specs.Laws.{SolvedByLongForms, SolvedBySameImages, EachMapHasALongMap}
 
@@ -23,11 +27,33 @@ pub same-instances : (terms others : Term → Term) → IsTermSubstitution terms
     → ((v : Term) → IsVariable v → Occurs v t → HaveOneLongForm (terms v) (others v)) → HaveOneLongForm (inst_term terms t) (inst_term others t)
 same-instances terms others s t T h same = rw (inst_term-alone terms t, inst_term-alone others t) (same_under_maps (λ v. v) terms others s.respecting t T h same)
 
+pub instance-typed : (terms : Term → Term) → IsTermSubstitution terms → (t : Term) (T : Typ) → HasType [] t T → HasType [] (inst_term terms t) T
+instance-typed terms s t T h = rw (inst_term-alone terms t) (subst (HasType [] (term_instance (λ v. v) terms t)) (typ_instance-identity T) (typing-instance (λ v. v) terms s.respecting [] t T h))
+
 pub one-long-swap : {t u : Term} → HaveOneLongForm t u → HaveOneLongForm u t
 one-long-swap (w, h, k) = (w, k, h)
 
 pub one-long-then : {t u v : Term} → HaveOneLongForm t u → HaveOneLongForm u v → HaveOneLongForm t v
 one-long-then {t = t} {u = u} {v = v} (w, h, k) (x, l, m) = let same : x ≡ w = one_long_form_of_term u x w l k in (w, h, subst (HasLongForm v) same m)
+
+substitution-closed : (terms : Term → Term) → IsTermSubstitution terms → AreImagesClosed terms
+substitution-closed terms s = record {
+  fixed = λ x T. typed-closed (terms (Free x T)) (typ_instance (λ v. v) T) (s.respecting.fixed x T);
+  schematic = λ x i T. typed-closed (terms (Var x i T)) (typ_instance (λ v. v) T) (s.respecting.schematic x i T);
+}
+
+pub eta-instance : (terms : Term → Term) → IsTermSubstitution terms → (t u : Term) → EtaReduces t u → EtaReduces (inst_term terms t) (inst_term terms u)
+eta-instance terms s t u r = rw (inst_term-alone terms t, inst_term-alone terms u) (eta_steps_under_maps (λ v. v) terms (substitution-closed terms s) t u r)
+
+-- A typed term has the long forms of what it reduces to.
+pub one-long-itself : (t : Term) (T : Typ) → HasType [] t T → HaveOneLongForm t t
+one-long-itself t T h = let long = typed_term_has_long_form t T h in (long.0, long.1, long.1)
+
+pub one-long-eta : (t u : Term) (T : Typ) → HasType [] t T → EtaReduces t u → HaveOneLongForm t u
+one-long-eta t u T h r = let long = typed_term_has_long_form t T h in (long.0, long.1, long-of_eta_reduct t u long.0 T h r long.1)
+
+pub one-long-beta : (t u : Term) (T : Typ) → HasType [] t T → BetaReduces t u → HaveOneLongForm t u
+one-long-beta t u T h r = let long = typed_term_has_long_form t T h in (long.0, long.1, (long_form_of_beta_reduct t u long.0 r).0 long.1)
 
 pub solved_by_long_forms : SolvedByLongForms
 solved_by_long_forms terms s p q h k = (down, up)
