@@ -1,3 +1,4 @@
 pub mod SideLaws
 pub mod SpineLaws
 pub mod RuleLaws
+pub mod FirmLaws
