@@ -2,3 +2,4 @@ pub mod SideLaws
 pub mod SpineLaws
 pub mod RuleLaws
 pub mod FirmLaws
+pub mod FailLaws

@@ -125,7 +125,7 @@ module _ (terms : Term → Term) (s : IsTermSubstitution terms) where
       (one-long-then (one-long-swap (set-side x i T u p.left h k.0.0)) (one-long-then solved.0 (set-side x i T u p.right h k.0.1)), set-solved x i T u h ps k.1 solved.1)
 
   -- One pair among others.
-  middle : (P : Pair → Type 0) (ps front rest : List Pair) (p : Pair) → ps ≡ front ++ p ∷ rest → Each P ps → P p
+  pub middle : (P : Pair → Type 0) (ps front rest : List Pair) (p : Pair) → ps ≡ front ++ p ∷ rest → Each P ps → P p
   middle P ps front rest p e h = (each-right P front (p ∷ rest) (subst (Each P) e h)).0
 
   dropped : (ps front rest : List Pair) (p : Pair) (V : Term → Type 0) → ps ≡ front ++ p ∷ rest → AreSolvedIn terms V ps → AreSolvedIn terms V (front ++ rest)
@@ -139,7 +139,7 @@ module _ (terms : Term → Term) (s : IsTermSubstitution terms) where
   long-of t T h k = subst (IsLong [] t t) (typed-once [] t k.0 T k.1.typed h) k.1
 
   -- Rigid sides: their heads are the same, and the pairs of arguments are solved.
-  rigid-sides : (p : Pair) → IsLongPair p → AreRigid p.left p.right → SolvesPair terms p → (head p.left ≡ head p.right) × SolvesPairs terms (argument_pairs p.left p.right)
+  pub rigid-sides : (p : Pair) → IsLongPair p → AreRigid p.left p.right → SolvesPair terms p → (head p.left ≡ head p.right) × SolvesPairs terms (argument_pairs p.left p.right)
   rigid-sides p k r solved =
       let typed = r.past.typed in
       let left = long-of p.left typed.typ typed.left k.0 in
@@ -188,10 +188,10 @@ module _ (terms : Term → Term) (s : IsTermSubstitution terms) where
         solved = sides-solved terms s long (set-solved x i T u image (front ++ rest) remain.long remain.solved);
       }
 
-  differ-unsolved : (p : Pair) (T U : Typ) → IsTreatment p.left p.right (Differ T U) → SolvesPair terms p → ⊥
+  pub differ-unsolved : (p : Pair) (T U : Typ) → IsTreatment p.left p.right (Differ T U) → SolvesPair terms p → ⊥
   differ-unsolved p T U (IsTreatment.differ h k apart) solved = apart (solved-typ p T U h k solved)
 
-  unify-unsolved : (p : Pair) (T U : Typ) → IsLongPair p → IsTreatment p.left p.right (Unify T U) → SolvesPair terms p → ⊥
+  pub unify-unsolved : (p : Pair) (T U : Typ) → IsLongPair p → IsTreatment p.left p.right (Unify T U) → SolvesPair terms p → ⊥
   unify-unsolved p T U k (IsTreatment.constants {c = c} r e f apart) solved =
       let heads : Const c T ≡ Const c U = sym e ∙ ((rigid-sides p k r solved).0 ∙ f) in
       let same : T ≡ U = cc in
@@ -218,7 +218,7 @@ any-variables (Abs T b) = (tt, any-variables b)
 any-variables (App f a) = (any-variables f, any-variables a)
 
 -- Pairs that a map solves, with sides in long form.
-long-solved : (terms : Term → Term) (ps : List Pair) → Each AreLongSides ps → SolvesPairs terms ps → AreSolvedIn terms (λ v. Unit {0}) ps
+pub long-solved : (terms : Term → Term) (ps : List Pair) → Each AreLongSides ps → SolvesPairs terms ps → AreSolvedIn terms (λ v. Unit {0}) ps
 long-solved terms ps h k = record {
   long = each_imply AreLongSides IsLongPair ps (λ p l. (long_form-long p.left p.left l.0, long_form-long p.right p.right l.1)) h;
   variables = each_of (HavePartsIn AnyTyp (λ v. Unit {0})) ps (λ p m. (any-variables p.left, any-variables p.right));
