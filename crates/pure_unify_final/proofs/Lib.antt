@@ -3,3 +3,4 @@ pub mod SpineLaws
 pub mod RuleLaws
 pub mod FirmLaws
 pub mod FailLaws
+pub mod HeadLaws
