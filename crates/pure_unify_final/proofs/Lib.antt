@@ -4,3 +4,5 @@ pub mod RuleLaws
 pub mod FirmLaws
 pub mod FailLaws
 pub mod HeadLaws
+pub mod BuiltLaws
+pub mod ExtendLaws

@@ -61,6 +61,15 @@ pub argument_pairs-long : (p : Pair) → IsLongPair p → Each IsLongPair (argum
 argument_pairs-long p ((T, h), (U, k)) =
     below-long (abstractions p.left) (abstractions p.right) (arguments (term_body p.left)) (arguments (term_body p.right)) (arguments-long [] p.left h.parts h.normal) (arguments-long [] p.right k.parts k.normal)
 
+-- What has one abstraction more is one.
+pub opened : (n : ℕ) (t : Term) → abstraction_count t ≡ suc n → (T : Typ) × (b : Term) × (t ≡ Abs T b) × (abstraction_count b ≡ n)
+opened n (Const c T) e = absurd (omega arith)
+opened n (Free x T) e = absurd (omega arith)
+opened n (Var x i T) e = absurd (omega arith)
+opened n (Bound p) e = absurd (omega arith)
+opened n (Abs T b) e = (T, b, refl, omega arith)
+opened n (App f a) e = absurd (omega arith)
+
 -- A type with no arrows takes no arguments.
 pub no_domains : (T : Typ) → arrow_count T ≡ 0 → domains T ≡ []
 no_domains (Con zero (also A (also B none))) e = absurd (omega arith)

@@ -15,7 +15,7 @@ use Rattle.pure_solutions.specs.Solutions.{IsTermSubstitution, SolvesPair, Solve
 use Rattle.pure_solutions.specs.Ends.{HaveOneEnd, IsStuck}
 use Rattle.pure_solutions.proofs.EndLaws.{long_forms_are_ends, ends_are_long_forms, ends_of_bodies, ends_of_abstractions, ends_of_applications, beta-parts, eta-parts}
 use Rattle.pure_solutions.proofs.SolutionLaws.{fixed-stays, instance-typed}
-use Rattle.pure_unify_final.proofs.SideLaws.{IsLongIn, IsLongPair, argument_pairs-long, abstractions-domains, IsRigidHead}
+use Rattle.pure_unify_final.proofs.SideLaws.{opened, IsLongIn, IsLongPair, argument_pairs-long, abstractions-domains, IsRigidHead}
 
 -- A term without parts stays as it is.
 abbrev IsLeaf : Term → Type 0
@@ -105,14 +105,6 @@ module _ (terms : Term → Term) (s : IsTermSubstitution terms) where
   bare-body (Bound p) e = refl
   bare-body (Abs T b) e = absurd (omega arith)
   bare-body (App f a) e = refl
-
-  opened : (n : ℕ) (t : Term) → abstraction_count t ≡ suc n → (T : Typ) × (b : Term) × (t ≡ Abs T b) × (abstraction_count b ≡ n)
-  opened n (Const c T) e = absurd (omega arith)
-  opened n (Free x T) e = absurd (omega arith)
-  opened n (Var x i T) e = absurd (omega arith)
-  opened n (Bound p) e = absurd (omega arith)
-  opened n (Abs T b) e = (T, b, refl, omega arith)
-  opened n (App f a) e = absurd (omega arith)
 
   -- What stands below as many abstractions.
   peeled : (n : ℕ) (l r : Term) → abstraction_count l ≡ n → abstraction_count r ≡ n → HaveOneEndUnder l r → HaveOneEndUnder (term_body l) (term_body r)
