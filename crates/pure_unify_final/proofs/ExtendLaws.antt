@@ -103,7 +103,7 @@ module _ (terms : Term → Term) (s : IsTermSubstitution terms) where
           subst (HasType [] b.image) types h.0
       by_cases false e rest = rest
 
-  fixed-extended : (es : List TermBind) (x : ℕ) (T : Typ) → extended es terms (Free x T) ≡ terms (Free x T)
+  pub fixed-extended : (es : List TermBind) (x : ℕ) (T : Typ) → extended es terms (Free x T) ≡ terms (Free x T)
   fixed-extended [] x T = refl
   fixed-extended (b ∷ bs) x T = fixed-extended bs x T
 

@@ -29,7 +29,7 @@ abbrev pub tag : Term → Term
 tag (Bound p) = Bound 0
 tag t = t
 
-abbrev IsTag : Term → Type 0
+abbrev pub IsTag : Term → Type 0
 IsTag (Abs T b) = ⊥
 IsTag (App f a) = ⊥
 IsTag _ = Unit {0}
@@ -92,7 +92,7 @@ head-etas k n EtaReduces.done e = e
 head-etas k n (EtaReduces.next s r) e = head-etas k n r (head-eta k n s e)
 
 -- Such a head stays where a term is put for a bound variable.
-solid-tag : (k : Term) → IsSolid k → IsTag k
+pub solid-tag : (k : Term) → IsSolid k → IsTag k
 solid-tag (Const c T) n = tt
 solid-tag (Free x T) n = tt
 solid-tag (Var x i T) n = tt

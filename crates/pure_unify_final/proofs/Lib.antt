@@ -6,3 +6,4 @@ pub mod FailLaws
 pub mod HeadLaws
 pub mod BuiltLaws
 pub mod ExtendLaws
+pub mod ChildLaws
