@@ -125,7 +125,7 @@ module _ (V : Term → Type 0) where
   front-parts (Bound p) h = h
   front-parts (Abs T b) h = h
 
-  head-parts : (t : Term) → HasParts AnyTyp V t → HasParts AnyTyp V (head t)
+  pub head-parts : (t : Term) → HasParts AnyTyp V t → HasParts AnyTyp V (head t)
   head-parts (Abs T b) h = head-parts b h.1
   head-parts (App f a) h = front-parts f h.0
   head-parts (Const c T) h = h
@@ -194,7 +194,7 @@ module _ (terms : Term → Term) (s : IsTermSubstitution terms) (long : AreImage
     abbrev image : Term
     image = terms (Var x i T)
 
-    image-built : IsBuilt [] image T
+    pub image-built : IsBuilt [] image T
     image-built = built T [] image (image-long x i T)
 
     solid-head : (k : Term) → head image ≡ k → IsSolid k → tag h ≡ k
@@ -217,7 +217,7 @@ module _ (terms : Term → Term) (s : IsTermSubstitution terms) (long : AreImage
     image-rigid (Abs U b) e = refl
     image-rigid (App f a) e = refl
 
-    child-solved : (b : IsBuilt [] image T) → (c : Node) × IsIn c (children maxidx m (Var x i T) h) × HasSolution maxidx c
+    pub child-solved : (b : IsBuilt [] image T) → (c : Node) × IsIn c (children maxidx m (Var x i T) h) × HasSolution maxidx c
     child-solved b =
         let k = front b.body in
         let spine = spine-typed (under (domains T) []) b.body (range T) b.typed in

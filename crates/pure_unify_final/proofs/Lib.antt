@@ -7,3 +7,4 @@ pub mod HeadLaws
 pub mod BuiltLaws
 pub mod ExtendLaws
 pub mod ChildLaws
+pub mod SearchLaws

@@ -1,5 +1,5 @@
 //! What the search for a unifier leaves of solutions: laws, each carried by the contract of a function that does nothing.
-ghost use Rattle.pure_unify_final.specs.Laws.{StepsKeepSolutions, FailuresHaveNoSolution};
+ghost use Rattle.pure_unify_final.specs.Laws.{StepsKeepSolutions, FailuresHaveNoSolution, NoUnifierIsFinal};
 
 /// What solves a node solves what a step of simplification makes of it.
 pub fn steps_keep_solutions()
@@ -9,4 +9,9 @@ pub fn steps_keep_solutions()
 /// A node that fails has no solution.
 pub fn failures_have_no_solution()
     ensures { FailuresHaveNoSolution }
+{}
+
+/// Where the search answers that there is no unifier, no map solves the given pairs.
+pub fn no_unifier_is_final()
+    ensures { NoUnifierIsFinal }
 {}
