@@ -45,7 +45,8 @@ built (Con zero (also A (also B none))) bs t h =
     let long : IsLong bs (Abs whole.0 whole.1) (Abs whole.0 whole.1) (arrow A B) = rw whole.2 at h in
     let inner = body-long bs whole.0 A B whole.1 long in
     let rest = built B (A ∷ bs) whole.1 inner.1 in
-    record { body = rest.body; is = whole.2 ∙ (λ l. Abs (inner.0 l) (rest.is l)); typed = rest.typed; normal = rest.normal; bare = rest.bare }
+    let binder : Abs whole.0 whole.1 ≡ Abs A (below (domains B) rest.body) = λ l. Abs (inner.0 l) (rest.is l) in
+    record { body = rest.body; is = whole.2 ∙ binder; typed = rest.typed; normal = rest.normal; bare = rest.bare }
 built T bs t h = record { body = t; is = refl; typed = h.typed; normal = h.normal; bare = uncounted t h.count }
 
 pub applied-append : (f : Term) (ts : List Term) (a : Term) → applied f (ts ++ a ∷ []) ≡ App (applied f ts) a

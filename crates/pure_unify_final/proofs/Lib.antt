@@ -8,3 +8,4 @@ pub mod BuiltLaws
 pub mod ExtendLaws
 pub mod ChildLaws
 pub mod SearchLaws
+pub mod ExampleLaws

@@ -217,10 +217,13 @@ any-variables (Bound p) = tt
 any-variables (Abs T b) = (tt, any-variables b)
 any-variables (App f a) = (any-variables f, any-variables a)
 
+pub sides-in_long : (ps : List Pair) → Each AreLongSides ps → Each IsLongPair ps
+sides-in_long ps h = each_imply AreLongSides IsLongPair ps (λ p l. (long_form-long p.left p.left l.0, long_form-long p.right p.right l.1)) h
+
 -- Pairs that a map solves, with sides in long form.
 pub long-solved : (terms : Term → Term) (ps : List Pair) → Each AreLongSides ps → SolvesPairs terms ps → AreSolvedIn terms (λ v. Unit {0}) ps
 long-solved terms ps h k = record {
-  long = each_imply AreLongSides IsLongPair ps (λ p l. (long_form-long p.left p.left l.0, long_form-long p.right p.right l.1)) h;
+  long = sides-in_long ps h;
   variables = each_of (HavePartsIn AnyTyp (λ v. Unit {0})) ps (λ p m. (any-variables p.left, any-variables p.right));
   solved = k;
 }

@@ -22,7 +22,7 @@ use Rattle.pure_solutions.specs.Solutions.{IsTermSubstitution, SolvesPairs}
 use Rattle.pure_solutions.proofs.SolutionLaws.{one-long-swap}
 use Rattle.pure_unify_final.specs.Laws.{HasVariablesUpTo, AreVariablesUpTo, AreLongSides, ChildrenKeepSolutions, NoUnifierIsFinal}
 use Rattle.pure_unify_final.proofs.SideLaws.{IsLongIn, IsLongPair, long_form-long, head-rigid}
-use Rattle.pure_unify_final.proofs.RuleLaws.{AnyTyp, IsUpTo, any-parts, AreSolvedIn, sides-long, sides-solved, step-solved, middle}
+use Rattle.pure_unify_final.proofs.RuleLaws.{sides-in_long, AnyTyp, IsUpTo, any-parts, AreSolvedIn, sides-long, sides-solved, step-solved, middle}
 use Rattle.pure_unify_final.proofs.FailLaws.{AreImagesLong, longer-solved, fails-unsolved}
 use Rattle.pure_unify_final.proofs.ChildLaws.{HasSolution, head-parts, image-built, child-solved}
 
@@ -120,6 +120,14 @@ variables-parts n m le (App f a) h = (variables-parts n m le f (λ x i U o. h x 
 pairs-parts : (n m : ℕ) → n ≤ m → (ps : List Pair) → Each (AreVariablesUpTo n) ps → Each (HavePartsIn AnyTyp (IsUpTo m)) ps
 pairs-parts n m le [] h = tt
 pairs-parts n m le (p ∷ ps) h = ((variables-parts n m le p.left h.0.0, variables-parts n m le p.right h.0.1), pairs-parts n m le ps h.1)
+
+pub children_keep_solutions : ChildrenKeepSolutions
+children_keep_solutions maxidx m f h choice long variables terms s solved =
+    let bound = maxidx + m.path.choices in
+    let sides : AreSolvedIn terms (IsUpTo bound) m.pairs = record { long = sides-in_long m.pairs long; variables = pairs-parts bound bound (omega arith) m.pairs variables; solved = solved } in
+    let map = longer-solved terms s (IsUpTo bound) m.pairs sides in
+    let child = choice-solved map.0 map.1 map.2 maxidx m map.3 f h choice in
+    (child.0, child.1, child.2.terms, child.2.substitution, child.2.solved)
 
 pub no_unifier_is_final : NoUnifierIsFinal
 no_unifier_is_final A maxidx ps variables answer terms s solved =

@@ -1,5 +1,6 @@
 //! What the search for a unifier leaves of solutions: laws, each carried by the contract of a function that does nothing.
-ghost use Rattle.pure_unify_final.specs.Laws.{StepsKeepSolutions, FailuresHaveNoSolution, NoUnifierIsFinal};
+ghost use Rattle.pure_unify_final.specs.Laws.{StepsKeepSolutions, FailuresHaveNoSolution, ChildrenKeepSolutions, NoUnifierIsFinal};
+ghost use Rattle.pure_unify_final.specs.Examples.{NoSolutionExample, SolutionExample};
 
 /// What solves a node solves what a step of simplification makes of it.
 pub fn steps_keep_solutions()
@@ -11,7 +12,18 @@ pub fn failures_have_no_solution()
     ensures { FailuresHaveNoSolution }
 {}
 
+/// What solves a simplified node solves one of its children, with images for that child's new variables.
+pub fn children_keep_solutions()
+    ensures { ChildrenKeepSolutions }
+{}
+
 /// Where the search answers that there is no unifier, no map solves the given pairs.
 pub fn no_unifier_is_final()
     ensures { NoUnifierIsFinal }
+{}
+
+/// Two fixed variables have no solution; a schematic and a fixed one have.
+pub fn solution_examples()
+    ensures none { NoSolutionExample }
+    ensures some { SolutionExample }
 {}
