@@ -12,9 +12,8 @@ use Rattle.pure_term_laws.specs.LawsMaps.{AreImagesClosed}
 use Rattle.pure_term_laws.proofs.TypingLaws.{typed-closed}
 use Rattle.pure_term_laws.proofs.TypingBoundLaws.{typing-instance}
 use Rattle.pure_eta.proofs.FormLaws.{long_form_of_long_form}
-use Rattle.pure_reduction.specs.Steps.{BetaReduces}
 use Rattle.pure_reduction.specs.LongForms.{HasLongForm, HaveOneLongForm}
-use Rattle.pure_reduction.proofs.LongLaws.{one_long_form_of_term, typed_term_has_long_form, long_form_keeps_type, long_form_of_normal, long_form_of_beta_reduct, long-of_eta_reduct}
+use Rattle.pure_reduction.proofs.LongLaws.{one_long_form_of_term, typed_term_has_long_form, long_form_keeps_type, long_form_of_normal, long-of_eta_reduct}
 use Rattle.pure_reduction.proofs.MapLaws.{eta_steps_under_maps, long_form_under_map, same_under_maps}
 use Rattle.pure_solutions.specs.Solutions.{IsTermSubstitution, SolvesPair}
 use Rattle.pure_solutions.specs.Laws.{SolvedByLongForms, SolvedBySameImages, EachMapHasALongMap}
@@ -51,9 +50,6 @@ one-long-itself t T h = let long = typed_term_has_long_form t T h in (long.0, lo
 
 pub one-long-eta : (t u : Term) (T : Typ) → HasType [] t T → EtaReduces t u → HaveOneLongForm t u
 one-long-eta t u T h r = let long = typed_term_has_long_form t T h in (long.0, long.1, long-of_eta_reduct t u long.0 T h r long.1)
-
-pub one-long-beta : (t u : Term) (T : Typ) → HasType [] t T → BetaReduces t u → HaveOneLongForm t u
-one-long-beta t u T h r = let long = typed_term_has_long_form t T h in (long.0, long.1, (long_form_of_beta_reduct t u long.0 r).0 long.1)
 
 pub solved_by_long_forms : SolvedByLongForms
 solved_by_long_forms terms s p q h k = (down, up)

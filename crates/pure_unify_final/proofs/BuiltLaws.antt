@@ -1,5 +1,5 @@
 -- How a closed long term is built: below the abstractions of its type, a head with as many arguments as the head's type takes.
-use Rattle.std.proofs.Common.{◌≡◌, ℕ, zero, suc, ◌+◌, List, [], ◌∷◌, ◌++◌, ap, refl, sym, subst, ◌∙◌, arith}
+use Rattle.std.proofs.Common.{◌≡◌, zero, suc, List, [], ◌∷◌, ◌++◌, ap, refl, subst, ◌∙◌, arith}
 use Rattle.pure_text.specs.Lists.{EachTwo}
 use Rattle.pure_text.proofs.ListLaws.{two-append}
 use Rattle.pure_definitions.specs.Types.Typ.{Typ, Con, none, also, arrow}
@@ -9,7 +9,7 @@ use Rattle.pure_definitions.specs.Reduction.Beta.{IsAbs, IsBetaNormal}
 use Rattle.pure_definitions.specs.Reduction.Eta.{abstraction_count, arrow_count}
 use Rattle.pure_term_laws.proofs.TypingLaws.{typed-once}
 use Rattle.pure_eta.proofs.LongLaws.{IsLong}
-use Rattle.pure_unify_definitions.specs.Fronts.{term_body, front, head, arguments, below, domains, range, function_typ, applied}
+use Rattle.pure_unify_definitions.specs.Fronts.{front, head, arguments, below, domains, range, function_typ, applied}
 use Rattle.pure_unify_laws.proofs.SplitLaws.{under}
 use Rattle.pure_unify_final.proofs.SideLaws.{opened, own-long}
 
@@ -38,15 +38,17 @@ body-long bs V A B b h =
     let long = own-long (V ∷ bs) b h.parts.0.0 h.parts.0.1 h.normal h.parts.0.2 h.parts.1 in
     (domain, subst (λ X. IsLong (X ∷ bs) b b B) domain (subst (IsLong (V ∷ bs) b b) (inner ∙ range) long))
 
+built-abstraction : (bs : List Typ) (t : Term) (V A B : Typ) (b : Term) → t ≡ Abs V b → V ≡ A → IsBuilt (A ∷ bs) b B → IsBuilt bs t (arrow A B)
+built-abstraction bs t V A B b e f h =
+    let binder : Abs V b ≡ Abs A (below (domains B) h.body) = λ l. Abs (f l) (h.is l) in
+    record { body = h.body; is = e ∙ binder; typed = h.typed; normal = h.normal; bare = h.bare }
+
 pub built : (T : Typ) (bs : List Typ) (t : Term) → IsLong bs t t T → IsBuilt bs t T
 built (Con zero (also A (also B none))) bs t h =
     let counted : abstraction_count t ≡ suc (arrow_count B) = (let c = h.count in omega arith) in
     let whole = opened (arrow_count B) t counted in
-    let long : IsLong bs (Abs whole.0 whole.1) (Abs whole.0 whole.1) (arrow A B) = rw whole.2 at h in
-    let inner = body-long bs whole.0 A B whole.1 long in
-    let rest = built B (A ∷ bs) whole.1 inner.1 in
-    let binder : Abs whole.0 whole.1 ≡ Abs A (below (domains B) rest.body) = λ l. Abs (inner.0 l) (rest.is l) in
-    record { body = rest.body; is = whole.2 ∙ binder; typed = rest.typed; normal = rest.normal; bare = rest.bare }
+    let inner = body-long bs whole.0 A B whole.1 (rw whole.2 at h) in
+    built-abstraction bs t whole.0 A B whole.1 whole.2 inner.0 (built B (A ∷ bs) whole.1 inner.1)
 built T bs t h = record { body = t; is = refl; typed = h.typed; normal = h.normal; bare = uncounted t h.count }
 
 pub applied-append : (f : Term) (ts : List Term) (a : Term) → applied f (ts ++ a ∷ []) ≡ App (applied f ts) a

@@ -1,34 +1,33 @@
 -- What solves a simplified node solves one of its children: the variable's image begins as the image of that child.
-use Rattle.std.proofs.Common.{◌≡◌, ◌⊎◌, ℕ, zero, suc, ◌+◌, ◌≤◌, inl, inr, List, [], ◌∷◌, ◌++◌, map, length, Bool, true, false, ap, refl, sym, subst, ◌∙◌, arith, slice_get, Some, None}
+use Rattle.std.proofs.Common.{◌≡◌, ◌⊎◌, ℕ, zero, suc, ◌+◌, ◌≤◌, inl, inr, List, [], ◌∷◌, length, Bool, true, false, ap, refl, sym, subst, ◌∙◌, arith, slice_get, Some}
 use Rattle.std.specs.Prelude.{◌-◌, if◌then◌else◌}
 use Rattle.pure_text.specs.Lists.{IsIn, Each, EachTwo}
-use Rattle.pure_text.proofs.ListLaws.{in-append_left, in-append_right, in-map}
+use Rattle.pure_text.proofs.ListLaws.{in-append_right, in-map}
 use Rattle.pure_definitions.specs.Types.Typ.{Typ, typ_eq}
 use Rattle.pure_definitions.specs.Models.Equality.{typ_eq-itself}
 use Rattle.pure_definitions.specs.Terms.Term.{Term, Const, Free, Var, Bound, Abs, App}
 use Rattle.pure_definitions.specs.Terms.Typing.{HasType}
 use Rattle.pure_definitions.specs.Terms.Subst.{TermBind, inst_term}
 use Rattle.pure_definitions.specs.Reduction.Beta.{IsAbs, IsBetaNormal}
-use Rattle.pure_definitions.specs.Reduction.Eta.{IsLongForm}
 use Rattle.pure_term_laws.proofs.TypingLaws.{typed-once}
 use Rattle.pure_eta.proofs.LongLaws.{IsLong}
 use Rattle.pure_logic.specs.Derivable.{Pair}
 use Rattle.pure_reduction.specs.Steps.{BetaReduces}
 use Rattle.pure_reduction.specs.LongForms.{HasLongForm, HaveOneLongForm}
 use Rattle.pure_reduction.proofs.LongLaws.{long_form_of_normal, long-from_reduct}
-use Rattle.pure_unify_definitions.specs.Fronts.{front, head, arguments, is_schematic, is_flexible, below, domains, range, function_typ, applied, bounds, pair}
-use Rattle.pure_unify_definitions.specs.Node.{Node, Single, bind, with_setting_put}
-use Rattle.pure_unify_definitions.specs.Children.{new_arguments, image_of, imitations, projections, images, child, children, IsFlexFlex, HasFlexible, on_left, on_right, IsChoice}
+use Rattle.pure_unify_definitions.specs.Fronts.{front, head, arguments, is_schematic, below, domains, range, function_typ, applied, bounds}
+use Rattle.pure_unify_definitions.specs.Node.{Node, Single, bind}
+use Rattle.pure_unify_definitions.specs.Children.{new_arguments, image_of, imitations, projections, images, child, children}
 use Rattle.pure_unify_laws.proofs.SplitLaws.{under}
 use Rattle.pure_unify_answers.proofs.PartLaws.{HasParts}
 use Rattle.pure_unify_answers.proofs.SpineLaws.{HavePartsIn}
 use Rattle.pure_unify_answers.proofs.FitLaws.{put-each, set-parts}
-use Rattle.pure_solutions.specs.Solutions.{IsTermSubstitution, SolvesPair, SolvesPairs}
-use Rattle.pure_solutions.proofs.SolutionLaws.{image-typed, fixed-stays, one-long-swap}
-use Rattle.pure_unify_final.proofs.SideLaws.{IsLongIn, IsLongPair, long_form-long, IsRigidHead, head-rigid}
-use Rattle.pure_unify_final.proofs.RuleLaws.{AnyTyp, IsUpTo, AreSolvedIn, set-solved, middle}
+use Rattle.pure_solutions.specs.Solutions.{IsTermSubstitution, SolvesPairs}
+use Rattle.pure_solutions.proofs.SolutionLaws.{image-typed, fixed-stays}
+use Rattle.pure_unify_final.proofs.SideLaws.{long_form-long, IsRigidHead}
+use Rattle.pure_unify_final.proofs.RuleLaws.{AnyTyp, IsUpTo, AreSolvedIn, set-solved}
 use Rattle.pure_unify_final.proofs.FailLaws.{AreImagesLong}
-use Rattle.pure_unify_final.proofs.HeadLaws.{IsSolid, IsTag, tag, solid-tag, image-head}
+use Rattle.pure_unify_final.proofs.HeadLaws.{IsSolid, IsTag, tag, image-head}
 use Rattle.pure_unify_final.proofs.BuiltLaws.{IsBuilt, built, applied-spine, spine-typed, head-domains, head-below}
 use Rattle.pure_unify_final.proofs.ExtendLaws.{extended, entries, entries-typed, extended-substitution, fixed-extended, old-stays, image-reduces}
 
@@ -245,6 +244,6 @@ module _ (terms : Term → Term) (s : IsTermSubstitution terms) (long : AreImage
               terms = on;
               substitution = substitution;
               variables = put-each AnyTyp AnyTyp (IsUpTo n) (IsUpTo index) (Single (bind x i T u))
-              (set-parts AnyTyp (IsUpTo n) (IsUpTo index) x i T u (rw e (image_of-parts index (domains T) k Us tagged apart)) (λ w v other. up-to-more n index (omega arith) w v)) m.pairs sides.variables;
+                  (set-parts AnyTyp (IsUpTo n) (IsUpTo index) x i T u (rw e (image_of-parts index (domains T) k Us tagged apart)) (λ w v other. up-to-more n index (omega arith) w v)) m.pairs sides.variables;
               solved = set-solved on substitution x i T u one m.pairs sides.long (still-solved index (domains T) Us cs n (omega arith) m.pairs sides.variables sides.solved);
             }

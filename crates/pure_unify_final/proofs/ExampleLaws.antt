@@ -1,7 +1,6 @@
 -- The examples: the search finds no unifier of A and B; and `?A` becomes A.
-use Rattle.std.proofs.Common.{◌≡◌, [], ◌∷◌, refl}
+use Rattle.std.proofs.Common.{[], ◌∷◌, refl}
 use Rattle.pure_definitions.specs.Types.Typ.{prop}
-use Rattle.pure_definitions.specs.Terms.Term.{Free}
 use Rattle.pure_definitions.specs.Declarations.Decl.{algebra_of}
 use Rattle.pure_term_laws.proofs.SubstLaws.{entries-respect_types, entries-keep_fixed}
 use Rattle.pure_logic.specs.PureContent.{pure_declarations}

@@ -1,9 +1,9 @@
 -- A map with images for the new variables of a child: under it the child's image becomes the image that the map had.
-use Rattle.std.proofs.Common.{◌≡◌, ℕ, zero, suc, ◌+◌, ◌≤◌, inl, inr, List, [], ◌∷◌, ◌++◌, map, length, Bool, true, false, ◌&&◌, ap, refl, sym, subst, ◌∙◌, arith, nat_eq}
+use Rattle.std.proofs.Common.{◌≡◌, ℕ, zero, suc, ◌+◌, ◌≤◌, inl, inr, List, [], ◌∷◌, map, length, Bool, true, false, ◌&&◌, ap, refl, sym, subst, ◌∙◌, arith, nat_eq}
 use Rattle.std.proofs.lemmas.Bool.Decides.{nat_tests}
 use Rattle.std.specs.Prelude.{if◌then◌else◌}
 use Rattle.pure_text.specs.Lists.{Each, EachTwo}
-use Rattle.pure_definitions.specs.Types.Typ.{Typ, arrow, typ_eq}
+use Rattle.pure_definitions.specs.Types.Typ.{Typ}
 use Rattle.pure_definitions.specs.Terms.Term.{Term, Const, Free, Var, Bound, Abs, App, term_eq}
 use Rattle.pure_definitions.specs.Terms.Bounds.{lift_term, place_at, subst_under}
 use Rattle.pure_definitions.specs.Terms.Typing.{HasType}
@@ -154,8 +154,7 @@ module _ (terms : Term → Term) (s : IsTermSubstitution terms) where
       let F = function_typ Ts U in
       let read : on (Var name index F) ≡ below Ts c = look name F (omega arith) ∙ (rw (term_eq-itself (Var name index F)) refl) in
       let first : inst_term on (applied (Var name index F) (bounds (length Ts))) ≡ applied (below Ts c) (bounds (length Ts)) =
-          applied-instance on (Var name index F) (bounds (length Ts)) ∙ (λ l. applied (read l) (bounds-instance on (length Ts) l)) in
-      (
+      applied-instance on (Var name index F) (bounds (length Ts)) ∙ (λ l. applied (read l) (bounds-instance on (length Ts) l)) in (
         rw first (below-applied Ts c F (below-typed Ts [] c U h.0)),
         new-reduces on index Ts (name + 1) Us cs (λ y V le. look y V (omega arith) ∙ (rw (apart-name name index y index F V le) refl)) h.1,
       )
@@ -165,5 +164,5 @@ module _ (terms : Term → Term) (s : IsTermSubstitution terms) where
   image-reduces on index Ts k Us cs look e h =
       let inside = reduces-each (map (inst_term on) (new_arguments index Ts 0 Us)) cs {f = k} {g = k} BetaReduces.done (new-reduces on index Ts 0 Us cs (λ y V le. look y V) h) in
       let whole : inst_term on (image_of index Ts k Us) ≡ below Ts (applied k (map (inst_term on) (new_arguments index Ts 0 Us))) =
-          below-instance on Ts (applied k (new_arguments index Ts 0 Us)) ∙ ap (below Ts) (applied-instance on k (new_arguments index Ts 0 Us) ∙ ap (λ f. applied f (map (inst_term on) (new_arguments index Ts 0 Us))) e) in
+      below-instance on Ts (applied k (new_arguments index Ts 0 Us)) ∙ ap (below Ts) (applied-instance on k (new_arguments index Ts 0 Us) ∙ ap (λ f. applied f (map (inst_term on) (new_arguments index Ts 0 Us))) e) in
       rw whole (reduces-below Ts inside)

@@ -1,7 +1,6 @@
 -- A node that fails has no solution.
-use Rattle.std.proofs.Common.{◌≡◌, ℕ, List, [], ◌∷◌, ◌++◌, true, false, refl, sym, subst, ◌∙◌}
+use Rattle.std.proofs.Common.{◌≡◌, ℕ, List, [], ◌∷◌, true, subst}
 use Rattle.pure_text.specs.Lists.{Each}
-use Rattle.pure_text.proofs.ListLaws.{each_of}
 use Rattle.pure_definitions.specs.Types.Typ.{Typ}
 use Rattle.pure_definitions.specs.Types.Order.{Algebra}
 use Rattle.pure_definitions.specs.Terms.Term.{Term, Const, Free, Var, Bound, Abs, App}
@@ -11,15 +10,15 @@ use Rattle.pure_definitions.specs.Reduction.Eta.{IsLongForm}
 use Rattle.pure_logic.specs.Derivable.{Pair}
 use Rattle.pure_reduction.specs.LongForms.{HasLongForm, HaveOneLongForm}
 use Rattle.pure_reduction.proofs.LongLaws.{one_long_form_of_term, long_form_of_normal}
-use Rattle.pure_unify_definitions.specs.Fronts.{is_schematic, head}
+use Rattle.pure_unify_definitions.specs.Fronts.{is_schematic}
 use Rattle.pure_unify_definitions.specs.Firm.{occurs_firmly}
 use Rattle.pure_unify_definitions.specs.Node.{Node}
 use Rattle.pure_unify_definitions.specs.Treatment.{Fail, IsTreatment, IsBareSide, left_bare, right_bare}
-use Rattle.pure_unify_definitions.specs.Retyping.{Goes, Fails}
+use Rattle.pure_unify_definitions.specs.Retyping.{Fails}
 use Rattle.pure_unify_definitions.specs.Simplification.{Applies}
 use Rattle.pure_solutions.specs.Solutions.{IsTermSubstitution, SolvesPair, SolvesPairs}
 use Rattle.pure_solutions.proofs.SolutionLaws.{longer-map, solved_by_same_images}
-use Rattle.pure_unify_final.specs.Laws.{AreLongSides, FailuresHaveNoSolution}
+use Rattle.pure_unify_final.specs.Laws.{FailuresHaveNoSolution}
 use Rattle.pure_unify_final.proofs.SideLaws.{IsLongPair}
 use Rattle.pure_unify_final.proofs.RuleLaws.{AreSolvedIn, bare-solved, middle, rigid-sides, differ-unsolved, unify-unsolved, long-solved}
 use Rattle.pure_unify_final.proofs.FirmLaws.{firm-unsolved}

@@ -1,17 +1,16 @@
 -- A bare variable that occurs on a firm path of the other side: no map solves the pair, as its image would have longer and longer firm paths.
-use Rattle.std.proofs.Common.{◌≡◌, ◌⊎◌, ℕ, zero, suc, ◌+◌, ◌≤◌, inl, inr, ⊎_elim, Bool, true, false, ◌&&◌, ◌||◌, ap, refl, sym, subst, ◌∙◌, arith, nat_lt}
+use Rattle.std.proofs.Common.{◌≡◌, ◌⊎◌, ℕ, zero, suc, ◌+◌, ◌≤◌, inl, inr, Bool, true, false, ◌&&◌, ◌||◌, ap, refl, sym, subst, ◌∙◌, arith, nat_lt}
 use Rattle.std.proofs.lemmas.Bool.{lt-ltb}
 use Rattle.std.proofs.lemmas.Bool.Decides.{nat_tests}
 use Rattle.pure_definitions.specs.Types.Typ.{Typ}
 use Rattle.pure_definitions.specs.Terms.Term.{Term, Const, Free, Var, Bound, Abs, App, term_eq}
-use Rattle.pure_definitions.specs.Terms.Bounds.{lift_term, place_at, subst_under}
+use Rattle.pure_definitions.specs.Terms.Bounds.{lift_term, subst_under}
 use Rattle.pure_definitions.specs.Terms.Typing.{node_count}
 use Rattle.pure_definitions.specs.Terms.Subst.{inst_term}
 use Rattle.pure_definitions.specs.Models.Equality.{term_eq-same}
 use Rattle.pure_definitions.specs.Reduction.Beta.{IsAbs, IsBetaNormal}
 use Rattle.pure_definitions.specs.Reduction.Eta.{EtaStep, EtaReduces, IsLongForm}
 use Rattle.pure_definitions.proofs.LiftLaws.{lifted, lift_term-bound}
-use Rattle.pure_definitions.proofs.NormalLemmas.{abstraction-lift}
 use Rattle.pure_term_laws.proofs.MapLaws.{place-below}
 use Rattle.pure_eta.proofs.KeptLaws.{steps_keep_beta_normal}
 use Rattle.pure_reduction.specs.Steps.{BetaStep, BetaReduces}
@@ -324,10 +323,10 @@ module _ (terms : Term → Term) (s : IsTermSubstitution terms) (x i : ℕ) (T :
     standing inner (suc k) (App f a) e h = elim (or-true (term_eq (Var x i T) (front f)) (is_firm_head inner (front f) && (stands_in_arguments (Var x i T) inner f || stands_in (Var x i T) inner a)) e) [
       | inl same ↦ (let here = at-front (suc k) (App f a) (term_eq-same (Var x i T) (front f) same) h in (here.0, here.1, firm-wider true 0 inner (suc k) here.0 (omega arith) here.2))
       | inr inside ↦ (
-            let both = and-true (is_firm_head inner (front f)) (stands_in_arguments (Var x i T) inner f || stands_in (Var x i T) inner a) inside in
-            let shorter = firm-shorter true 0 k (terms (Var x i T)) h in
-            in-application false inner k f a both.0 both.1 (λ there. in-arguments inner k f both.0 there shorter) (λ there. standing inner k a there shorter)
-            )
+          let both = and-true (is_firm_head inner (front f)) (stands_in_arguments (Var x i T) inner f || stands_in (Var x i T) inner a) inside in
+          let shorter = firm-shorter true 0 k (terms (Var x i T)) h in
+          in-application false inner k f a both.0 both.1 (λ there. in-arguments inner k f both.0 there shorter) (λ there. standing inner k a there shorter)
+          )
     ]
     standing inner (suc k) (Var y j U) e h = let same = term_eq-same (Var x i T) (Var y j U) e in (terms (Var y j U), BetaReduces.done, rw same at (firm-wider true 0 inner (suc k) (terms (Var x i T)) (omega arith) h))
     standing inner (suc k) (Const c U) e h = false-true e

@@ -1,18 +1,17 @@
 -- The head of a variable's image, where it is no bound variable, is that of each instance of a side with the variable for its head.
-use Rattle.std.proofs.Common.{◌≡◌, ℕ, zero, suc, ◌+◌, ap, refl, sym, subst, ◌∙◌}
+use Rattle.std.proofs.Common.{◌≡◌, ℕ, ◌+◌, ap, refl, sym, subst, ◌∙◌}
 use Rattle.pure_definitions.specs.Types.Typ.{Typ}
 use Rattle.pure_definitions.specs.Terms.Term.{Term, Const, Free, Var, Bound, Abs, App}
 use Rattle.pure_definitions.specs.Terms.Bounds.{lift_term, subst_under}
 use Rattle.pure_definitions.specs.Terms.Subst.{inst_term}
 use Rattle.pure_definitions.specs.Reduction.Eta.{EtaStep, EtaReduces}
-use Rattle.pure_definitions.proofs.LiftLaws.{lifted, lift_term-bound}
+use Rattle.pure_definitions.proofs.LiftLaws.{lift_term-bound}
 use Rattle.pure_reduction.specs.Steps.{BetaStep, BetaReduces}
 use Rattle.pure_reduction.specs.LongForms.{HaveOneLongForm}
 use Rattle.pure_reduction.proofs.StepLaws.{reduces-then, reduces-body, reduces-application, normal-stays}
 use Rattle.pure_reduction.proofs.ParallelLaws.{beta_steps_are_confluent}
 use Rattle.pure_unify_definitions.specs.Fronts.{front, head}
 use Rattle.pure_solutions.specs.Solutions.{IsTermSubstitution}
-use Rattle.pure_solutions.specs.Ends.{HaveOneEnd}
 use Rattle.pure_solutions.proofs.EndLaws.{long_forms_are_ends}
 use Rattle.pure_solutions.proofs.SolutionLaws.{fixed-stays}
 use Rattle.pure_unify_final.proofs.SideLaws.{IsRigidHead}

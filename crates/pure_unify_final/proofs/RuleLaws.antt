@@ -1,18 +1,16 @@
 -- The rules of simplification: what solves a node solves what a rule makes of it, and a node that fails has no solution.
-use Rattle.std.proofs.Common.{◌≡◌, ◌≢◌, ℕ, zero, suc, ◌+◌, ◌≤◌, inl, inr, List, [], ◌∷◌, ◌++◌, Bool, true, false, ◌||◌, ap, refl, sym, subst, ◌∙◌, arith}
+use Rattle.std.proofs.Common.{◌≡◌, ℕ, ◌≤◌, List, [], ◌∷◌, ◌++◌, Bool, true, false, ◌||◌, ap, refl, sym, subst, ◌∙◌}
 use Rattle.std.specs.Prelude.{if◌then◌else◌}
-use Rattle.pure_text.specs.Lists.{Each, EachTwo}
+use Rattle.pure_text.specs.Lists.{Each}
 use Rattle.pure_text.proofs.ListLaws.{each_of, each_imply, each-append, each-left, each-right}
 use Rattle.pure_definitions.specs.Types.Typ.{Typ}
 use Rattle.pure_definitions.specs.Types.Order.{Algebra}
 use Rattle.pure_definitions.specs.Terms.Term.{Term, Const, Free, Var, Bound, Abs, App, term_eq}
-use Rattle.pure_definitions.specs.Terms.Bounds.{Occurs}
 use Rattle.pure_definitions.specs.Terms.Conditions.{IsVariable}
 use Rattle.pure_definitions.specs.Terms.Typing.{HasType}
 use Rattle.pure_definitions.specs.Terms.Subst.{TermBind, term_image, inst_term}
 use Rattle.pure_definitions.specs.Models.Equality.{term_eq-same}
-use Rattle.pure_definitions.specs.Reduction.Beta.{beta_step, IsBetaSequence, IsBetaAnswer, NormalForm}
-use Rattle.pure_definitions.specs.Reduction.Eta.{IsEtaNormalForm, abstraction_count, arrow_count}
+use Rattle.pure_definitions.specs.Reduction.Beta.{IsBetaSequence}
 use Rattle.pure_term_laws.proofs.TypingLaws.{typed-once}
 use Rattle.pure_eta.proofs.LongLaws.{IsLong}
 use Rattle.pure_logic.specs.Derivable.{Pair}
@@ -20,20 +18,19 @@ use Rattle.pure_reduction.specs.Steps.{BetaReduces}
 use Rattle.pure_reduction.specs.LongForms.{HasLongForm, HaveOneLongForm}
 use Rattle.pure_reduction.proofs.StepLaws.{normal_order_step_is_step}
 use Rattle.pure_reduction.proofs.LongLaws.{long_form_keeps_type}
-use Rattle.pure_unify_definitions.specs.Fronts.{is_schematic, is_flexible, head, pair, argument_pairs}
-use Rattle.pure_unify_definitions.specs.Firm.{occurs_firmly}
+use Rattle.pure_unify_definitions.specs.Fronts.{is_flexible, head, pair, argument_pairs}
 use Rattle.pure_unify_definitions.specs.Node.{Node, Single, bind, with_setting, with_setting_put}
 use Rattle.pure_unify_definitions.specs.LongSides.{Long, ComesTo, is_long, AllLong, AreLong, no_more, both_long}
-use Rattle.pure_unify_definitions.specs.Treatment.{Treatment, Drop, Differ, Fail, Put, Split, Unify, IsTreatment, IsBare, IsBareSide, left_bare, right_bare, AreOfOneTyp, AreRigid}
-use Rattle.pure_unify_definitions.specs.Retyping.{Goes, Fails}
-use Rattle.pure_unify_definitions.specs.Simplification.{IsFirst, with_pairs, with_bind, Applies, Simple, Failed, Simplifies}
+use Rattle.pure_unify_definitions.specs.Treatment.{Differ, Put, Split, Unify, IsTreatment, IsBareSide, left_bare, right_bare, AreRigid}
+use Rattle.pure_unify_definitions.specs.Retyping.{Goes}
+use Rattle.pure_unify_definitions.specs.Simplification.{Applies}
 use Rattle.pure_unify_answers.proofs.PartLaws.{IsOfParts, HasParts, eta-parts}
 use Rattle.pure_unify_answers.proofs.SpineLaws.{HavePartsIn, split-parts}
 use Rattle.pure_unify_answers.proofs.FitLaws.{sides-parts, put-each, set-parts}
 use Rattle.pure_solutions.specs.Solutions.{IsTermSubstitution, SolvesPair, SolvesPairs}
 use Rattle.pure_solutions.proofs.SolutionLaws.{same-instances, instance-typed, image-typed, fixed-stays, eta-instance, one-long-swap, one-long-then, one-long-itself, one-long-eta, solved_by_long_forms}
 use Rattle.pure_unify_final.specs.Laws.{AreLongSides, StepsKeepSolutions}
-use Rattle.pure_unify_final.proofs.SideLaws.{IsLongIn, IsLongPair, long_form-long, argument_pairs-long, IsRigidHead, head-rigid}
+use Rattle.pure_unify_final.proofs.SideLaws.{IsLongIn, IsLongPair, long_form-long, argument_pairs-long, head-rigid}
 use Rattle.pure_unify_final.proofs.SpineLaws.{solved-spines, arguments-solved}
 
 -- Long sides.
@@ -184,7 +181,7 @@ module _ (terms : Term → Term) (s : IsTermSubstitution terms) where
       record {
         long = sides-long long;
         variables = sides-parts AnyTyp V any-parts long
-        (put-each AnyTyp AnyTyp V V (Single (bind x i T u)) (set-parts AnyTyp V V x i T u old (λ w k apart. k)) (front ++ rest) remain.variables);
+            (put-each AnyTyp AnyTyp V V (Single (bind x i T u)) (set-parts AnyTyp V V x i T u old (λ w k apart. k)) (front ++ rest) remain.variables);
         solved = sides-solved terms s long (set-solved x i T u image (front ++ rest) remain.long remain.solved);
       }
 

@@ -1,5 +1,5 @@
 -- The search answers that there is no unifier only where no map solves the pairs.
-use Rattle.std.proofs.Common.{◌≡◌, ℕ, zero, suc, ◌+◌, ◌≤◌, inl, inr, List, [], ◌∷◌, ◌++◌, true, false, ap, refl, sym, subst, ◌∙◌, arith}
+use Rattle.std.proofs.Common.{◌≡◌, ℕ, ◌+◌, ◌≤◌, inl, inr, List, [], ◌∷◌, true, false, ap, refl, sym, subst, ◌∙◌, arith}
 use Rattle.pure_text.specs.Lists.{IsIn, Each}
 use Rattle.pure_text.proofs.ListLaws.{each_at, each-left, each-right}
 use Rattle.pure_definitions.specs.Types.Typ.{Typ}
@@ -9,7 +9,7 @@ use Rattle.pure_definitions.specs.Terms.Subst.{inst_term}
 use Rattle.pure_logic.specs.Derivable.{Pair}
 use Rattle.pure_reduction.specs.LongForms.{HaveOneLongForm}
 use Rattle.pure_unify_definitions.specs.Fronts.{head, is_schematic, is_flexible}
-use Rattle.pure_unify_definitions.specs.Node.{Node, root}
+use Rattle.pure_unify_definitions.specs.Node.{Node}
 use Rattle.pure_unify_definitions.specs.LongSides.{AllLong, AreLong}
 use Rattle.pure_unify_definitions.specs.Retyping.{Goes, IsRetyped}
 use Rattle.pure_unify_definitions.specs.Simplification.{Applies, Simple, Failed, Simplifies, Visits}
@@ -18,10 +18,10 @@ use Rattle.pure_unify_definitions.specs.Search.{NoUnifier, Searches}
 use Rattle.pure_unify_answers.proofs.PartLaws.{HasParts}
 use Rattle.pure_unify_answers.proofs.SpineLaws.{HavePartsIn}
 use Rattle.pure_unify_answers.proofs.FitLaws.{sides-parts}
-use Rattle.pure_solutions.specs.Solutions.{IsTermSubstitution, SolvesPairs}
+use Rattle.pure_solutions.specs.Solutions.{IsTermSubstitution}
 use Rattle.pure_solutions.proofs.SolutionLaws.{one-long-swap}
-use Rattle.pure_unify_final.specs.Laws.{HasVariablesUpTo, AreVariablesUpTo, AreLongSides, ChildrenKeepSolutions, NoUnifierIsFinal}
-use Rattle.pure_unify_final.proofs.SideLaws.{IsLongIn, IsLongPair, long_form-long, head-rigid}
+use Rattle.pure_unify_final.specs.Laws.{HasVariablesUpTo, AreVariablesUpTo, ChildrenKeepSolutions, NoUnifierIsFinal}
+use Rattle.pure_unify_final.proofs.SideLaws.{IsLongIn, IsLongPair, head-rigid}
 use Rattle.pure_unify_final.proofs.RuleLaws.{sides-in_long, AnyTyp, IsUpTo, any-parts, AreSolvedIn, sides-long, sides-solved, step-solved, middle}
 use Rattle.pure_unify_final.proofs.FailLaws.{AreImagesLong, longer-solved, fails-unsolved}
 use Rattle.pure_unify_final.proofs.ChildLaws.{HasSolution, head-parts, image-built, child-solved}

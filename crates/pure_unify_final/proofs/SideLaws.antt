@@ -1,8 +1,8 @@
 -- Sides in long form: their abstractions, their heads and their arguments.
-use Rattle.std.proofs.Common.{◌≡◌, ℕ, zero, suc, ◌+◌, List, [], ◌∷◌, ◌++◌, Bool, true, false, ap, refl, sym, subst, ◌∙◌, arith}
-use Rattle.pure_text.specs.Lists.{Each, EachTwo}
+use Rattle.std.proofs.Common.{◌≡◌, ℕ, zero, suc, ◌+◌, List, [], ◌∷◌, true, false, ap, refl, sym, ◌∙◌, arith}
+use Rattle.pure_text.specs.Lists.{Each}
 use Rattle.pure_text.proofs.ListLaws.{each-append}
-use Rattle.pure_definitions.specs.Types.Typ.{Typ, TFree, TVar, Con, Typs, none, also, arrow}
+use Rattle.pure_definitions.specs.Types.Typ.{Typ, Con, none, also, arrow}
 use Rattle.pure_definitions.specs.Terms.Term.{Term, Const, Free, Var, Bound, Abs, App}
 use Rattle.pure_definitions.specs.Terms.Typing.{HasType}
 use Rattle.pure_definitions.specs.Reduction.Beta.{IsAbs, IsBetaNormal}
@@ -10,7 +10,7 @@ use Rattle.pure_definitions.specs.Reduction.Eta.{EtaReduces, abstraction_count, 
 use Rattle.pure_term_laws.proofs.TypingLaws.{typed-once}
 use Rattle.pure_eta.proofs.LongLaws.{IsLong}
 use Rattle.pure_logic.specs.Derivable.{Pair}
-use Rattle.pure_unify_definitions.specs.Fronts.{abstractions, term_body, front, arguments, head, is_schematic, below, domains, pair, pairs_below, argument_pairs}
+use Rattle.pure_unify_definitions.specs.Fronts.{abstractions, term_body, front, arguments, head, is_schematic, below, domains, pairs_below, argument_pairs}
 
 -- a term in long form, under binders
 abbrev pub IsLongIn : List Typ → Term → Type 0

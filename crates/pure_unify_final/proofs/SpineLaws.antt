@@ -1,21 +1,20 @@
 -- Rigid sides whose instances have one long form have one head, and so for their arguments.
-use Rattle.std.proofs.Common.{◌≡◌, ℕ, zero, suc, ◌+◌, List, [], ◌∷◌, ◌++◌, false, ap, refl, sym, subst, ◌∙◌, arith}
+use Rattle.std.proofs.Common.{◌≡◌, ℕ, zero, suc, List, [], ◌∷◌, ap, refl, sym, subst, ◌∙◌, arith}
 use Rattle.pure_text.specs.Lists.{Each, EachTwo}
 use Rattle.pure_text.proofs.ListLaws.{two-append}
 use Rattle.pure_definitions.specs.Types.Typ.{Typ}
 use Rattle.pure_definitions.specs.Terms.Term.{Term, Const, Free, Var, Bound, Abs, App}
-use Rattle.pure_definitions.specs.Terms.Typing.{HasType}
 use Rattle.pure_definitions.specs.Terms.Subst.{inst_term}
 use Rattle.pure_definitions.specs.Reduction.Eta.{EtaStep, EtaReduces, abstraction_count, arrow_count}
 use Rattle.pure_eta.proofs.LongLaws.{IsLong}
 use Rattle.pure_logic.specs.Derivable.{Pair}
 use Rattle.pure_reduction.specs.Steps.{BetaStep, BetaReduces}
-use Rattle.pure_unify_definitions.specs.Fronts.{abstractions, term_body, front, arguments, head, is_schematic, below, domains, pair, pairs_below, argument_pairs}
+use Rattle.pure_unify_definitions.specs.Fronts.{term_body, front, arguments, head, below, domains, pair, pairs_below, argument_pairs}
 use Rattle.pure_solutions.specs.Solutions.{IsTermSubstitution, SolvesPair, SolvesPairs}
 use Rattle.pure_solutions.specs.Ends.{HaveOneEnd, IsStuck}
 use Rattle.pure_solutions.proofs.EndLaws.{long_forms_are_ends, ends_are_long_forms, ends_of_bodies, ends_of_abstractions, ends_of_applications, beta-parts, eta-parts}
 use Rattle.pure_solutions.proofs.SolutionLaws.{fixed-stays, instance-typed}
-use Rattle.pure_unify_final.proofs.SideLaws.{opened, IsLongIn, IsLongPair, argument_pairs-long, abstractions-domains, IsRigidHead}
+use Rattle.pure_unify_final.proofs.SideLaws.{opened, IsLongPair, argument_pairs-long, abstractions-domains, IsRigidHead}
 
 -- A term without parts stays as it is.
 abbrev IsLeaf : Term → Type 0

@@ -6,7 +6,7 @@ use Rattle.pure_definitions.specs.Terms.Subst.{term_image}
 use Rattle.pure_unify_definitions.specs.Fronts.{pair}
 use Rattle.pure_unify_definitions.specs.Node.{bind}
 use Rattle.pure_unify_answers.specs.Examples.{any_proposition, fixed_proposition, other_proposition}
-use Rattle.pure_solutions.specs.Solutions.{IsTermSubstitution, IsLongMap, SolvesPairs}
+use Rattle.pure_solutions.specs.Solutions.{IsTermSubstitution, SolvesPairs}
 
 -- A and B have none.
 abbrev pub NoSolutionExample : Type 0

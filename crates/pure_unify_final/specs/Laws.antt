@@ -27,17 +27,21 @@ AreVariablesUpTo n p = HasVariablesUpTo n p.left × HasVariablesUpTo n p.right
 
 -- What solves the pairs of a node, whose sides are in long form, solves those of what a step makes of it.
 abbrev pub StepsKeepSolutions : Type 0
-StepsKeepSolutions = (A : Algebra) (maxidx : ℕ) (n m : Node) → Applies A maxidx n (Goes m) → Each AreLongSides n.pairs → (terms : Term → Term) → IsTermSubstitution terms → SolvesPairs terms n.pairs → SolvesPairs terms m.pairs
+StepsKeepSolutions = (A : Algebra) (maxidx : ℕ) (n m : Node) → Applies A maxidx n (Goes m) → Each AreLongSides n.pairs
+    → (terms : Term → Term) → IsTermSubstitution terms → SolvesPairs terms n.pairs → SolvesPairs terms m.pairs
 
 -- A node that fails in a step has no solution.
 abbrev pub FailuresHaveNoSolution : Type 0
-FailuresHaveNoSolution = (A : Algebra) (maxidx : ℕ) (n : Node) → Applies A maxidx n Fails → Each AreLongSides n.pairs → (terms : Term → Term) → IsTermSubstitution terms → ¬ SolvesPairs terms n.pairs
+FailuresHaveNoSolution = (A : Algebra) (maxidx : ℕ) (n : Node) → Applies A maxidx n Fails → Each AreLongSides n.pairs
+    → (terms : Term → Term) → IsTermSubstitution terms → ¬ SolvesPairs terms n.pairs
 
--- Where a node with sides in long form has a solution, some child has one: the same map, but for images of the child's new variables.
+-- Where a node with sides in long form has a solution, some child has one.
 abbrev pub ChildrenKeepSolutions : Type 0
-ChildrenKeepSolutions = (maxidx : ℕ) (m : Node) (flexible rigid : Term) → IsChoice m.pairs flexible rigid → Each AreLongSides m.pairs → Each (AreVariablesUpTo (maxidx + m.path.choices)) m.pairs
-    → (terms : Term → Term) → IsTermSubstitution terms → SolvesPairs terms m.pairs → (c : Node) × IsIn c (children maxidx m flexible rigid) × (others : Term → Term) × IsTermSubstitution others × SolvesPairs others c.pairs
+ChildrenKeepSolutions = (maxidx : ℕ) (m : Node) (flexible rigid : Term) → IsChoice m.pairs flexible rigid → Each AreLongSides m.pairs
+    → Each (AreVariablesUpTo (maxidx + m.path.choices)) m.pairs → (terms : Term → Term) → IsTermSubstitution terms → SolvesPairs terms m.pairs
+    → (c : Node) × IsIn c (children maxidx m flexible rigid) × (others : Term → Term) × IsTermSubstitution others × SolvesPairs others c.pairs
 
 -- Where the search answers that there is no unifier, no map solves the given pairs; so no long map does.
 abbrev pub NoUnifierIsFinal : Type 0
-NoUnifierIsFinal = (A : Algebra) (maxidx : ℕ) (ps : List Pair) → Each (AreVariablesUpTo maxidx) ps → IsUnifyAnswer A maxidx ps NoUnifier → (terms : Term → Term) → IsTermSubstitution terms → ¬ SolvesPairs terms ps
+NoUnifierIsFinal = (A : Algebra) (maxidx : ℕ) (ps : List Pair) → Each (AreVariablesUpTo maxidx) ps → IsUnifyAnswer A maxidx ps NoUnifier
+    → (terms : Term → Term) → IsTermSubstitution terms → ¬ SolvesPairs terms ps

@@ -12,7 +12,7 @@ pub fn failures_have_no_solution()
     ensures { FailuresHaveNoSolution }
 {}
 
-/// What solves a simplified node solves one of its children, with images for that child's new variables.
+/// Where a simplified node has a solution, some child has one.
 pub fn children_keep_solutions()
     ensures { ChildrenKeepSolutions }
 {}
