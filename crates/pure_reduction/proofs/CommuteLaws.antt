@@ -1,5 +1,5 @@
 -- Beta and eta steps of a typed term commute.
-use Rattle.std.proofs.Common.{◌≡◌, ℕ, ◌+◌, inl, inr, List, ◌∷◌, Bool, true, false, ap, refl, sym, subst, ◌∙◌, arith, nat_lt}
+use Rattle.std.proofs.Common.{◌≡◌, ℕ, suc, ◌+◌, inl, inr, List, ◌∷◌, Bool, true, false, ap, refl, sym, subst, ◌∙◌, arith, nat_lt}
 use Rattle.std.proofs.lemmas.Bool.{lt-ltb}
 use Rattle.std.proofs.lemmas.Bool.Decides.{nat_tests}
 use Rattle.std.specs.Prelude.{◌-◌, nat_eq, if◌then◌else◌}
@@ -93,24 +93,29 @@ goes-unlift by from t (Goes.contracted {T = T} {b = b} {c = c} {a = a} {d = d} h
     let redex : t ≡ App (Abs T function.0) whole.1 = whole.2 ∙ ap (λ g. App g whole.1) function.1 in
     (subst_bound r.0 s.0, own ∙ (parts ∙ sym (lift-past-redex by from s.0 r.0)), subst (λ x. Goes x (subst_bound r.0 s.0)) (sym redex) (Goes.contracted r.2 s.2 refl))
 
--- Instantiation of a bound variable with the next one, above which the term was lifted.
-renamed-place : (n p : ℕ) → Beside n p → place_at n (Bound 0) (lifted 1 (n + 1) p) ≡ Bound p
-renamed-place n p (inl low) = let stays : lifted 1 (n + 1) p ≡ p = grind (arith, nat_tests) in rw stays (place-below n (Bound 0) p low)
-renamed-place n p (inr (inl e)) =
-    let stays : lifted 1 (n + 1) p ≡ n = grind (arith, nat_tests) in
-    let here : 0 + n ≡ p = omega arith in
-    rw stays (place-itself n (Bound 0) ∙ ap Bound here)
-renamed-place n p (inr (inr (q, e, high))) =
-    let raised : lifted 1 (n + 1) p ≡ p + 1 = grind (arith, nat_tests) in
-    rw raised (place-above n (Bound 0) p (omega arith))
+-- A term that was lifted above a bound variable, with another put for that one.
+renamed-place : (m n p : ℕ) → Beside m p → place_at m (Bound n) (lifted (suc n) (m + 1) p) ≡ Bound (lifted n m p)
+renamed-place m n p (inl low) =
+    let stays : lifted (suc n) (m + 1) p ≡ p = grind (arith, nat_tests) in
+    let too : lifted n m p ≡ p = grind (arith, nat_tests) in
+    rw (stays, too) (place-below m (Bound n) p low)
+renamed-place m n p (inr (inl e)) =
+    let stays : lifted (suc n) (m + 1) p ≡ m = grind (arith, nat_tests) in
+    let too : lifted n m p ≡ n + m = grind (arith, nat_tests) in
+    let lifts : lifted m 0 n ≡ n + m = grind (arith, nat_tests) in
+    rw (stays, too) (place-itself m (Bound n) ∙ (lift_term-bound m 0 n ∙ ap Bound lifts))
+renamed-place m n p (inr (inr (q, e, high))) =
+    let raised : lifted (suc n) (m + 1) p ≡ (p + n) + 1 = grind (arith, nat_tests) in
+    let too : lifted n m p ≡ p + n = grind (arith, nat_tests) in
+    rw (raised, too) (place-above m (Bound n) (p + n) (omega arith))
 
-subst-renamed : (n : ℕ) (t : Term) → subst_under n (Bound 0) (lift_term 1 (n + 1) t) ≡ t
-subst-renamed n (Const c T) = refl
-subst-renamed n (Free x T) = refl
-subst-renamed n (Var x i T) = refl
-subst-renamed n (Bound p) = ap (subst_under n (Bound 0)) (lift_term-bound 1 (n + 1) p) ∙ renamed-place n p (beside n p)
-subst-renamed n (Abs T b) = ap (Abs T) (subst-renamed (n + 1) b)
-subst-renamed n (App f a) = λ l. App (subst-renamed n f l) (subst-renamed n a l)
+pub subst-renamed : (m n : ℕ) (t : Term) → subst_under m (Bound n) (lift_term (suc n) (m + 1) t) ≡ lift_term n m t
+subst-renamed m n (Const c T) = refl
+subst-renamed m n (Free x T) = refl
+subst-renamed m n (Var x i T) = refl
+subst-renamed m n (Bound p) = ap (subst_under m (Bound n)) (lift_term-bound (suc n) (m + 1) p) ∙ (renamed-place m n p (beside m p) ∙ sym (lift_term-bound n m p))
+subst-renamed m n (Abs T b) = ap (Abs T) (subst-renamed (m + 1) n b)
+subst-renamed m n (App f a) = λ l. App (subst-renamed m n f l) (subst-renamed m n a l)
 
 -- A function of the type that an abstraction has goes on as the abstraction's body does.
 goes-function : (bs : List Typ) (U V W T : Typ) (b c d f w : Term) → f ≡ Abs U b → HasType bs f T → arrow V W ≡ T → Contracts c w → w ≡ d → Goes b d → (x : Term) × Contracts (Abs V c) x × Goes f x
@@ -129,7 +134,7 @@ goes-contraction bs V W T c f g w e typed is k (Goes.applied l Goes.bound) =
 goes-contraction bs V W T c f g w e typed is k (Goes.contracted {T = U} {b = b} {c = body} l Goes.bound own) =
     let whole = lifted-abstraction 1 0 U b f e in
     let r = goes-unlift 1 1 whole.0 l whole.2 in
-    let same : w ≡ r.0 = own ∙ (ap (λ x. subst_bound x (Bound 0)) r.1 ∙ subst-renamed 0 r.0) in
+    let same : w ≡ r.0 = own ∙ (ap (λ x. subst_bound x (Bound 0)) r.1 ∙ subst-renamed 0 0 r.0 ∙ lift-zero 0 r.0) in
     goes-function bs U V W T whole.0 c r.0 f w whole.1 typed is k same r.2
 
 instantiated : (f g a : Term) → g ≡ lift_term 1 0 f → subst_bound (App g (Bound 0)) a ≡ App f a

@@ -18,7 +18,7 @@ use Rattle.pure_reduction.proofs.ParallelLaws.{beta_steps_are_confluent, one_bet
 use Rattle.pure_reduction.proofs.CommuteLaws.{steps_commute}
 use Rattle.pure_reduction.proofs.NormalLaws.{typed_term_has_beta_normal_form}
 
-has_long-normal : (t u : Term) (h : HasLongForm t u) → IsBetaNormal h.normal
+pub has_long-normal : (t u : Term) (h : HasLongForm t u) → IsBetaNormal h.normal
 has_long-normal t u h = steps_keep_beta_normal u h.normal h.long.reduces h.long.normal
 
 pub one_long_form_of_term : OneLongFormOfTerm

@@ -39,7 +39,7 @@ pub eta_steps_under_maps : EtaStepsUnderMaps
 eta_steps_under_maps typs terms closed t u EtaReduces.done = EtaReduces.done
 eta_steps_under_maps typs terms closed t u (EtaReduces.next {u = x} s r) = EtaReduces.next (eta_step-instance typs terms closed s) (eta_steps_under_maps typs terms closed x u r)
 
-respecting-closed : (typs : Typ → Typ) (terms : Term → Term) → IsTypeRespecting typs terms → AreImagesClosed terms
+pub respecting-closed : (typs : Typ → Typ) (terms : Term → Term) → IsTypeRespecting typs terms → AreImagesClosed terms
 respecting-closed typs terms r = record {
   fixed = λ x T. typed-closed (terms (Free x T)) (typ_instance typs T) (r.fixed x T);
   schematic = λ x i T. typed-closed (terms (Var x i T)) (typ_instance typs T) (r.schematic x i T);

@@ -13,7 +13,7 @@ use Rattle.pure_eta.proofs.KeptLaws.{steps_keep_beta_normal}
 use Rattle.pure_eta.proofs.FormLaws.{each_term_has_eta_normal_form}
 use Rattle.pure_reduction.specs.Steps.{BetaStep, BetaReduces}
 use Rattle.pure_reduction.proofs.StepLaws.{reduces-body, steps_keep_type}
-use Rattle.pure_reduction.proofs.LongLaws.{typed_term_has_long_form, long-from_reduct, long_form_of_beta_reduct, long_form_of_eta_reduct}
+use Rattle.pure_reduction.proofs.LongLaws.{has_long-normal, typed_term_has_long_form, long-from_reduct, long_form_of_beta_reduct, long_form_of_eta_reduct}
 use Rattle.pure_solutions.specs.Ends.{HaveOneEnd, IsStuck}
 use Rattle.pure_solutions.specs.Laws.{LongFormsAreEnds, EndsAreLongForms, EndsOfBodies, EndsOfAbstractions, EndsOfApplications}
 
@@ -29,8 +29,8 @@ long_forms_are_ends t u (w, h, k) =
       end = first.0;
       from_left = h.reduces;
       from_right = k.reduces;
-      left_normal = steps_keep_beta_normal w h.normal h.long.reduces h.long.normal;
-      right_normal = steps_keep_beta_normal w k.normal k.long.reduces k.long.normal;
+      left_normal = has_long-normal t w h;
+      right_normal = has_long-normal u w k;
       to_left = first.1.reduces;
       to_right = subst (EtaReduces k.normal) (one_eta_normal_form w second.0 first.0 other one) second.1.reduces;
     }

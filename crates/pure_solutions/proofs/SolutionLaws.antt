@@ -5,16 +5,14 @@ use Rattle.pure_definitions.specs.Terms.Term.{Term, Const, Free, Var, Bound, Abs
 use Rattle.pure_definitions.specs.Terms.Bounds.{Occurs}
 use Rattle.pure_definitions.specs.Terms.Conditions.{IsVariable}
 use Rattle.pure_definitions.specs.Terms.Typing.{HasType}
-use Rattle.pure_definitions.specs.Terms.Subst.{typ_instance, inst_term, term_instance}
+use Rattle.pure_definitions.specs.Terms.Subst.{inst_term, term_instance}
 use Rattle.pure_definitions.specs.Reduction.Eta.{EtaReduces, IsLongForm}
 use Rattle.pure_term_laws.proofs.SubstLaws.{inst_term-alone, typ_instance-identity}
-use Rattle.pure_term_laws.specs.LawsMaps.{AreImagesClosed}
-use Rattle.pure_term_laws.proofs.TypingLaws.{typed-closed}
 use Rattle.pure_term_laws.proofs.TypingBoundLaws.{typing-instance}
 use Rattle.pure_eta.proofs.FormLaws.{long_form_of_long_form}
 use Rattle.pure_reduction.specs.LongForms.{HasLongForm, HaveOneLongForm}
 use Rattle.pure_reduction.proofs.LongLaws.{one_long_form_of_term, typed_term_has_long_form, long_form_keeps_type, long_form_of_normal, long-of_eta_reduct}
-use Rattle.pure_reduction.proofs.MapLaws.{eta_steps_under_maps, long_form_under_map, same_under_maps}
+use Rattle.pure_reduction.proofs.MapLaws.{respecting-closed, eta_steps_under_maps, long_form_under_map, same_under_maps}
 use Rattle.pure_solutions.specs.Solutions.{IsTermSubstitution, SolvesPair}
 use Rattle.pure_solutions.specs.Laws.{SolvedByLongForms, SolvedBySameImages, EachMapHasALongMap}
 
@@ -35,14 +33,8 @@ one-long-swap (w, h, k) = (w, k, h)
 pub one-long-then : {t u v : Term} → HaveOneLongForm t u → HaveOneLongForm u v → HaveOneLongForm t v
 one-long-then {t = t} {u = u} {v = v} (w, h, k) (x, l, m) = let same : x ≡ w = one_long_form_of_term u x w l k in (w, h, subst (HasLongForm v) same m)
 
-substitution-closed : (terms : Term → Term) → IsTermSubstitution terms → AreImagesClosed terms
-substitution-closed terms s = record {
-  fixed = λ x T. typed-closed (terms (Free x T)) (typ_instance (λ v. v) T) (s.respecting.fixed x T);
-  schematic = λ x i T. typed-closed (terms (Var x i T)) (typ_instance (λ v. v) T) (s.respecting.schematic x i T);
-}
-
 pub eta-instance : (terms : Term → Term) → IsTermSubstitution terms → (t u : Term) → EtaReduces t u → EtaReduces (inst_term terms t) (inst_term terms u)
-eta-instance terms s t u r = rw (inst_term-alone terms t, inst_term-alone terms u) (eta_steps_under_maps (λ v. v) terms (substitution-closed terms s) t u r)
+eta-instance terms s t u r = rw (inst_term-alone terms t, inst_term-alone terms u) (eta_steps_under_maps (λ v. v) terms (respecting-closed (λ v. v) terms s.respecting) t u r)
 
 -- A typed term has the long forms of what it reduces to.
 pub one-long-itself : (t : Term) (T : Typ) → HasType [] t T → HaveOneLongForm t t

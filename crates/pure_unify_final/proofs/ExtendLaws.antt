@@ -1,50 +1,25 @@
 -- A map with images for the new variables of a child: under it the child's image becomes the image that the map had.
-use Rattle.std.proofs.Common.{◌≡◌, ℕ, zero, suc, ◌+◌, ◌≤◌, inl, inr, List, [], ◌∷◌, map, length, Bool, true, false, ◌&&◌, ap, refl, sym, subst, ◌∙◌, arith, nat_eq}
+use Rattle.std.proofs.Common.{◌≡◌, ℕ, zero, suc, ◌+◌, ◌≤◌, List, [], ◌∷◌, map, length, Bool, true, false, ◌&&◌, ap, refl, sym, subst, ◌∙◌, arith, nat_eq}
 use Rattle.std.proofs.lemmas.Bool.Decides.{nat_tests}
 use Rattle.std.specs.Prelude.{if◌then◌else◌}
 use Rattle.pure_text.specs.Lists.{Each, EachTwo}
 use Rattle.pure_definitions.specs.Types.Typ.{Typ}
-use Rattle.pure_definitions.specs.Terms.Term.{Term, Const, Free, Var, Bound, Abs, App, term_eq}
-use Rattle.pure_definitions.specs.Terms.Bounds.{lift_term, place_at, subst_under}
+use Rattle.pure_definitions.specs.Terms.Term.{Term, Free, Var, Bound, Abs, App, term_eq}
+use Rattle.pure_definitions.specs.Terms.Bounds.{lift_term}
 use Rattle.pure_definitions.specs.Terms.Typing.{HasType}
 use Rattle.pure_definitions.specs.Terms.Subst.{TermBind, term_variable, inst_term}
 use Rattle.pure_definitions.specs.Models.Equality.{term_eq-same, term_eq-itself}
-use Rattle.pure_definitions.proofs.LiftLaws.{lifted, lift_term-bound}
 use Rattle.pure_term_laws.proofs.BoundLaws.{lift-zero}
-use Rattle.pure_term_laws.proofs.MapLaws.{Beside, beside, place-below, place-itself, place-above}
 use Rattle.pure_term_laws.proofs.TypingLaws.{typed-closed, lift-closed}
 use Rattle.pure_term_laws.proofs.SubstLaws.{typ_instance-identity}
 use Rattle.pure_reduction.specs.Steps.{BetaStep, BetaReduces}
+use Rattle.pure_reduction.proofs.CommuteLaws.{subst-renamed}
 use Rattle.pure_reduction.proofs.StepLaws.{reduces-then, reduces-body, reduces-application}
 use Rattle.pure_unify_definitions.specs.Fronts.{below, function_typ, applied, bounds}
 use Rattle.pure_unify_definitions.specs.Node.{bind}
 use Rattle.pure_unify_definitions.specs.Children.{new_arguments, image_of}
 use Rattle.pure_unify_laws.proofs.SplitLaws.{under}
 use Rattle.pure_solutions.specs.Solutions.{IsTermSubstitution}
-
--- An abstraction that was lifted, applied to a bound variable.
-renamed-place : (m n p : ℕ) → Beside m p → place_at m (Bound n) (lifted (suc n) (m + 1) p) ≡ Bound (lifted n m p)
-renamed-place m n p (inl low) =
-    let stays : lifted (suc n) (m + 1) p ≡ p = grind (arith, nat_tests) in
-    let too : lifted n m p ≡ p = grind (arith, nat_tests) in
-    rw (stays, too) (place-below m (Bound n) p low)
-renamed-place m n p (inr (inl e)) =
-    let stays : lifted (suc n) (m + 1) p ≡ m = grind (arith, nat_tests) in
-    let too : lifted n m p ≡ n + m = grind (arith, nat_tests) in
-    let lifts : lifted m 0 n ≡ n + m = grind (arith, nat_tests) in
-    rw (stays, too) (place-itself m (Bound n) ∙ (lift_term-bound m 0 n ∙ ap Bound lifts))
-renamed-place m n p (inr (inr (q, e, high))) =
-    let raised : lifted (suc n) (m + 1) p ≡ (p + n) + 1 = grind (arith, nat_tests) in
-    let too : lifted n m p ≡ p + n = grind (arith, nat_tests) in
-    rw (raised, too) (place-above m (Bound n) (p + n) (omega arith))
-
-subst-renamed : (m n : ℕ) (t : Term) → subst_under m (Bound n) (lift_term (suc n) (m + 1) t) ≡ lift_term n m t
-subst-renamed m n (Const c T) = refl
-subst-renamed m n (Free x T) = refl
-subst-renamed m n (Var x i T) = refl
-subst-renamed m n (Bound p) = ap (subst_under m (Bound n)) (lift_term-bound (suc n) (m + 1) p) ∙ (renamed-place m n p (beside m p) ∙ sym (lift_term-bound n m p))
-subst-renamed m n (Abs T b) = ap (Abs T) (subst-renamed (m + 1) n b)
-subst-renamed m n (App f a) = λ l. App (subst-renamed m n f l) (subst-renamed m n a l)
 
 reduces-applied : (ts : List Term) {f g : Term} → BetaReduces f g → BetaReduces (applied f ts) (applied g ts)
 reduces-applied [] r = r

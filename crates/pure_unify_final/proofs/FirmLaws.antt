@@ -16,6 +16,7 @@ use Rattle.pure_eta.proofs.KeptLaws.{steps_keep_beta_normal}
 use Rattle.pure_reduction.specs.Steps.{BetaStep, BetaReduces}
 use Rattle.pure_reduction.proofs.StepLaws.{reduces-then, reduces-body, reduces-application, normal-stays}
 use Rattle.pure_reduction.specs.LongForms.{HasLongForm}
+use Rattle.pure_reduction.proofs.LongLaws.{has_long-normal}
 use Rattle.pure_reduction.proofs.ParallelLaws.{beta_steps_are_confluent}
 use Rattle.pure_solutions.specs.Solutions.{IsTermSubstitution}
 use Rattle.pure_solutions.proofs.SolutionLaws.{fixed-stays}
@@ -362,7 +363,7 @@ module _ (terms : Term → Term) (s : IsTermSubstitution terms) (x i : ℕ) (T :
     each-path (suc k) =
         let made = occurring k other firm (each-path k) in
         let joined = beta_steps_are_confluent (inst_term terms other) made.0 h.normal made.1 h.reduces in
-        let normal : h.normal ≡ joined.0 = normal-stays joined.2 (steps_keep_beta_normal (terms (Var x i T)) h.normal h.long.reduces h.long.normal) in
+        let normal : h.normal ≡ joined.0 = normal-stays joined.2 (has_long-normal (inst_term terms other) (terms (Var x i T)) h) in
         firm-etas (suc k) h.long.reduces h.long.normal (subst (HasFirm true 0 (suc k)) (sym normal) (firm-steps true 0 (suc k) joined.1 made.2))
 
     pub firm-unsolved : ⊥
