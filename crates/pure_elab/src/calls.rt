@@ -7,6 +7,7 @@ ghost use Rattle.pure_definitions.specs.Declarations.Certified.{IsCertifiedTyp};
 ghost use Rattle.pure_logic.specs.Content.{Content, IsCertifiedOf, IsProposition};
 ghost use Rattle.pure_tunify.specs.Unifiers.{IsOldPair};
 ghost use Rattle.pure_tunify.specs.Settings.{composed};
+ghost use Rattle.pure_tunify.specs.Working.{HasImagesWithin};
 ghost use Rattle.pure_elab.specs.Sound.{IsSoundVocabulary};
 ghost use Rattle.pure_elab.specs.Faults.{term_faults};
 ghost use Rattle.pure_elab.specs.Numbered.{with_fixed};
@@ -134,6 +135,7 @@ fn finished<L: Language>(
     term: Arc<Term>,
     settings: &Settings,
 ) -> Result<Term, ElabFault>
+    requires { HasImagesWithin settings.now.sets }
     ensures { IsFinished (L.vocabulary language.now) (inst_typ (composed settings.now.sets) term.value) result }
 {
     if has_large_image(settings) {

@@ -33,6 +33,7 @@ pub mod DecidedLaws
 pub mod ReducedLaws
 pub mod AskedLaws
 pub mod NarrowableLaws
+pub mod RenamedLaws
 pub mod OutcomeLaws
 pub mod FallingLaws
 pub mod ReachLaws

@@ -85,7 +85,7 @@ fresh-later index n m (TVar x i s) le h f = h (f.0, (let later = f.1 in omega ar
 fresh-later index n m (TFree x s) le h f = f
 fresh-later index n m (Con k ts) le h f = f
 
-fresh_is_variable : (index n : ℕ) (v : Typ) → IsFresh index n v → IsTypVariable v
+pub fresh_is_variable : (index n : ℕ) (v : Typ) → IsFresh index n v → IsTypVariable v
 fresh_is_variable index n (TVar x i s) f = tt
 fresh_is_variable index n (TFree x s) f = tt
 fresh_is_variable index n (Con k ts) f = f

@@ -1,5 +1,5 @@
 -- Narrowing: the first variable of which more is asked, and a type in which it is replaced by a fresh one.
-use Rattle.std.proofs.Common.{◌≡◌, ℕ, ◌+◌, List, [], ◌∷◌, ◌++◌, map, inl, inr, ◌⊎◌, refl, ap, sym, subst, ◌∙◌, arith, Bool, true, false, cond, append_assoc, length, eqb-true, ◌==◌}
+use Rattle.std.proofs.Common.{◌≡◌, ◌≢◌, ℕ, ◌+◌, List, [], ◌∷◌, ◌++◌, map, inl, inr, ◌⊎◌, refl, ap, sym, subst, ◌∙◌, arith, Bool, true, false, cond, append_assoc, length, eqb-true, ◌==◌}
 use Rattle.std.proofs.lemmas.List.{append-nil}
 use Rattle.pure_text.specs.Lists.{IsIn, Each}
 use Rattle.pure_text.proofs.ListLaws.{each_of, each_at, each_imply, each-append, any_of, any_some, any_imply, in_split, in-append_right}
@@ -9,6 +9,8 @@ use Rattle.pure_definitions.specs.Types.Order.{Algebra, IsClassBelow, itself, Ha
 use Rattle.pure_definitions.specs.Terms.Subst.{TypBind, typ_variable, typ_instance}
 use Rattle.pure_definitions.specs.Models.Equality.{typ_eq-same}
 use Rattle.pure_definitions.proofs.OrderLaws.{below-trans, of_class_up}
+use Rattle.pure_term_laws.specs.LawsOccurs.{IsTypVariable}
+use Rattle.pure_term_laws.proofs.MapLaws.{typ_instance-again}
 use Rattle.pure_tunify.specs.declared.asks.Asked.{Asked}
 use Rattle.pure_tunify.specs.Unifiers.{IsSubstitution, IsFresh, IsOld, AreTogether}
 use Rattle.pure_tunify.specs.Occurrences.{schematics, schematics_of}
@@ -19,9 +21,9 @@ use Rattle.pure_tunify.specs.Procedure.{IsNeeded, NeedsNoMore, IsNeededSort, IsF
 use Rattle.pure_tunify.specs.Asking.{asked_variable, IsAskedClass, IsOwnOrAsked, AsksNoMore, IsUnionAsked, IsFirstAsking}
 use Rattle.pure_tunify.specs.Working.{IsFreeOf, IsNarrowing, IsNarrowed}
 use Rattle.pure_tunify.specs.NarrowingStep.{IsToNarrow}
-use Rattle.pure_tunify.proofs.MapLaws.{setting-cases, setting_is_substitution, changed, changed-cases, changed-itself, changed_is_substitution, fresh-later, variable_is_old, old-instance, together}
+use Rattle.pure_tunify.proofs.MapLaws.{setting-cases, setting-other, setting_is_substitution, after_is_substitution, changed, changed-cases, changed-itself, changed_is_substitution, fresh-later, variable_is_old, old-instance, together}
 use Rattle.pure_tunify.proofs.MeetLaws.{each_is_asked, nothing_to_narrow, asked_classes, meeting, meeting_is_substitution, meeting_meets}
-use Rattle.pure_tunify.proofs.SettingLaws.{setting-new, setting-away, tidy-snoc}
+use Rattle.pure_tunify.proofs.SettingLaws.{as_variable, setting-new, setting-away, tidy-snoc}
 
 -- A class among those that are asked of a variable is asked of it somewhere.
 asked_somewhere : (v : Typ) (asked : List Asked) (c : ℕ) → IsIn c (asked_classes v asked) → IsAskedClass v asked c
@@ -57,17 +59,17 @@ module _ (A : Algebra) (t : Typ) (s : List ℕ) (asked : List Asked) (are : AreA
       let is = each_at (IsOfClass A (typs (asked_variable found.0))) found.0.asked (each_is_asked A t s asked found.0 are found.1 typs sub of) b found.2.1 in
       of_class_up A (typs (asked_variable a)) b c (subst (λ (v : Typ). IsOfClass A (typs v) b) found.2.0 is) below
 
-  needs_no_more : (a : Asked) → AsksNoMore A asked a → NeedsNoMore A t s (asked_variable a)
+  pub needs_no_more : (a : Asked) → AsksNoMore A asked a → NeedsNoMore A t s (asked_variable a)
   needs_no_more a h c need = let found = above_asked a c need in by found.0 found.1 found.2
     where
       by : (b : ℕ) → IsOwnOrAsked asked a b → IsClassBelow A b c → HasClassBelow A a.sort c
       by b (inl own) below = any_of (λ x. IsClassBelow A x c) b a.sort own below
       by b (inr m) below = any_imply (λ x. IsClassBelow A x b) (λ x. IsClassBelow A x c) a.sort (λ x k. below-trans k below) (h b m)
 
-  asks_no_more : (a : Asked) → NeedsNoMore A t s (asked_variable a) → AsksNoMore A asked a
+  pub asks_no_more : (a : Asked) → NeedsNoMore A t s (asked_variable a) → AsksNoMore A asked a
   asks_no_more a h c m = h c (needed_above a c c (inr m) itself)
 
-  needed_sort : (a : Asked) (u : List ℕ) → IsUnionAsked A asked a u → IsNeededSort A t s (asked_variable a) u
+  pub needed_sort : (a : Asked) (u : List ℕ) → IsUnionAsked A asked a u → IsNeededSort A t s (asked_variable a) u
   needed_sort a u h = record {
     needed = λ c. (
       λ k. (let found = h.above c k in needed_above a found.0 c found.1 found.2),
@@ -117,8 +119,22 @@ first_occurs A t s v h = schematics_occur v t (subst (IsIn v) (sym h.stands) (in
 pub is_fresh_of : (index n : ℕ) (v : Typ) (r : List ℕ) → TVar n index r ≡ v → IsFresh index n v
 is_fresh_of index n v r e = rw (sym e) (refl, omega arith)
 
-not_fresh_later : (index n : ℕ) (r : List ℕ) → ¬ IsFresh index (n + 1) (TVar n index r)
+pub not_fresh_later : (index n : ℕ) (r : List ℕ) → ¬ IsFresh index (n + 1) (TVar n index r)
 not_fresh_later index n r f = let h = f.1 in absurd (omega arith)
+
+-- A variable that isn't fresh is set to one that is.
+module _ (p : Progress) (y j : ℕ) (q r : List ℕ) (tidy : IsTidy p) (not_fresh : ¬ IsFresh p.index p.next (TVar y j q)) where
+  pub other_than_fresh : (v : Typ) → ¬ IsFresh p.index p.next v → ¬ OccursInTyp v (TVar p.next p.index r)
+  other_than_fresh v new o = new (is_fresh_of p.index p.next v r (sym o))
+
+  fresh_old : IsOld p.index (p.next + 1) (TVar p.next p.index r)
+  fresh_old = variable_is_old p.index (p.next + 1) p.next p.index r (not_fresh_later p.index p.next r)
+
+  sets_free : Each (λ c. ¬ OccursInTyp (typ_variable c) (TVar p.next p.index r)) p.sets
+  sets_free = each_imply (IsOldBind p.index p.next) (λ c. ¬ OccursInTyp (typ_variable c) (TVar p.next p.index r)) p.sets (λ c h. other_than_fresh (typ_variable c) h.variable) tidy.old
+
+  pub after_tidy : IsTidy (record { sets = p.sets ++ bind y j q (TVar p.next p.index r) ∷ []; index = p.index; next = p.next + 1 })
+  after_tidy = tidy-snoc p (bind y j q (TVar p.next p.index r)) (p.next + 1) tidy (omega arith) (fresh-later p.index p.next (p.next + 1) (TVar y j q) (omega arith) not_fresh) fresh_old sets_free (other_than_fresh (TVar y j q) not_fresh)
 
 -- One variable of a type is replaced by a fresh one.
 module _ (A : Algebra) (p : Progress) (t : Typ) (s : List ℕ) (y j : ℕ) (q r : List ℕ) (tidy : IsTidy p) (old : IsOld p.index p.next t) (free : IsFreeOf p.sets t)
@@ -141,31 +157,11 @@ module _ (A : Algebra) (p : Progress) (t : Typ) (s : List ℕ) (y j : ℕ) (q r 
   not_fresh : ¬ IsFresh p.index p.next (TVar y j q)
   not_fresh = old (TVar y j q) occurs
 
-  other_than_fresh : (v : Typ) → ¬ IsFresh p.index p.next v → ¬ OccursInTyp v fresh
-  other_than_fresh v new o = new (is_fresh_of p.index p.next v r (sym o))
-
-  fresh_old : IsOld p.index (p.next + 1) fresh
-  fresh_old = variable_is_old p.index (p.next + 1) p.next p.index r (not_fresh_later p.index p.next r)
-
-  sets_free : Each (λ c. ¬ OccursInTyp (typ_variable c) fresh) p.sets
-  sets_free = each_imply (IsOldBind p.index p.next) (λ c. ¬ OccursInTyp (typ_variable c) fresh) p.sets (λ c h. other_than_fresh (typ_variable c) h.variable) tidy.old
-
-  pub after_tidy : IsTidy after
-  after_tidy = tidy-snoc p set (p.next + 1) tidy (omega arith) (fresh-later p.index p.next (p.next + 1) (TVar y j q) (omega arith) not_fresh) fresh_old sets_free (other_than_fresh (TVar y j q) not_fresh)
-
-  pub not_set : ¬ IsIn (TVar y j q) (map typ_variable p.sets)
-  not_set m = by p.sets free m
-    where
-      by : (sets : List TypBind) → IsFreeOf sets t → IsIn (TVar y j q) (map typ_variable sets) → ⊥
-      by [] each m = m
-      by (b ∷ bs) each (inl e) = each.0 (subst (λ (v : Typ). OccursInTyp v t) e occurs)
-      by (b ∷ bs) each (inr m) = by bs each.1 m
-
-  sub : IsSubstitution A (setting y j q fresh)
+  pub sub : IsSubstitution A (setting y j q (TVar p.next p.index r))
   sub = setting_is_substitution A y j q fresh (each_of (HasClassBelow A r) q (λ c m. (need.needed c).1 (λ typs v of. each_at (IsOfClass A (typs (TVar y j q))) q (v.respects.schematic y j q) c m)))
 
   images : (z k : ℕ) (o : List ℕ) → ¬ IsFresh p.index p.next (TVar z k o) → IsOld p.index (p.next + 1) (setting y j q fresh (TVar z k o))
-  images z k o h = setting-cases (IsOld p.index (p.next + 1)) y j q fresh (TVar z k o) (λ e. fresh_old)
+  images z k o h = setting-cases (IsOld p.index (p.next + 1)) y j q fresh (TVar z k o) (λ e. fresh_old p y j q r tidy not_fresh)
       (variable_is_old p.index (p.next + 1) z k o (fresh-later p.index p.next (p.next + 1) (TVar z k o) (omega arith) h))
 
   -- A substitution under which the type is of the sort makes one under which the replaced type is.
@@ -194,6 +190,12 @@ module _ (A : Algebra) (p : Progress) (t : Typ) (s : List ℕ) (y j : ℕ) (q r 
   needed_of_fresh c k typs sub_of of = subst (λ (T : Typ). IsOfClass A T c) (changed-itself fresh (typs (TVar y j q)) typs)
       (k (changed (TVar p.next p.index r) (typs (TVar y j q)) typs) (further_substitution typs sub_of of) (of_sort_later typs sub_of of))
 
+  -- Of another variable as much is needed as before.
+  pub needed_kept : (v : Typ) (c : ℕ) → TVar y j q ≢ v → IsTypVariable v → IsNeeded A t s v c → IsNeeded A replaced s v c
+  needed_kept v c other is k typs typs_sub of = subst (λ (T : Typ). IsOfClass A T c) (ap (typ_instance typs) (setting-other y j q fresh v other) ∙ as_variable typs v is)
+      (k (λ w. typ_instance typs (setting y j q (TVar p.next p.index r) w)) (after_is_substitution A (setting y j q fresh) typs sub typs_sub)
+      (subst (λ (T : Typ). IsOfSort A T s) (typ_instance-again (setting y j q fresh) typs t) of))
+
   none_before : HasNoInstance A replaced s → HasNoInstance A t s
   none_before never typs v of = never (changed (TVar p.next p.index r) (typs (TVar y j q)) typs) (further_substitution typs v of) (of_sort_later typs v of)
 
@@ -204,14 +206,14 @@ module _ (A : Algebra) (p : Progress) (t : Typ) (s : List ℕ) (y j : ℕ) (q r 
     onward = λ m rest v n. replace y j q r first need n;
     none = none_before;
     old_typ = old-instance p.index p.next (p.next + 1) (setting y j q fresh) sub.keeps images t old;
-    free = each-append (λ b. ¬ OccursInTyp (typ_variable b) replaced) p.sets (set ∷ []) (sets_free_after p.sets free tidy.old) (setting-away set t (other_than_fresh (TVar y j q) not_fresh), tt);
+    free = each-append (λ b. ¬ OccursInTyp (typ_variable b) replaced) p.sets (set ∷ []) (sets_free_after p.sets free tidy.old) (setting-away set t (other_than_fresh p y j q r tidy not_fresh (TVar y j q) not_fresh), tt);
     absent = λ v is new away m. elim m [ inl e ↦ away (subst (λ (w : Typ). OccursInTyp w t) (sym e) occurs) | inr n ↦ absurd n ];
-    kept = λ v is new away. setting-new v is set t (other_than_fresh v new) away;
+    kept = λ v is new away. setting-new v is set t (other_than_fresh p y j q r tidy not_fresh v new) away;
   }
     where
       sets_free_after : (sets : List TypBind) → IsFreeOf sets t → Each (IsOldBind p.index p.next) sets → Each (λ b. ¬ OccursInTyp (typ_variable b) replaced) sets
       sets_free_after [] each olds = tt
-      sets_free_after (b ∷ bs) each olds = (setting-new (typ_variable b) tt set t (other_than_fresh (typ_variable b) olds.0.variable) each.0, sets_free_after bs each.1 olds.1)
+      sets_free_after (b ∷ bs) each olds = (setting-new (typ_variable b) tt set t (other_than_fresh p y j q r tidy not_fresh (typ_variable b) olds.0.variable) each.0, sets_free_after bs each.1 olds.1)
 
 -- Nothing has been narrowed yet.
 pub narrowing_start : (A : Algebra) (s : List ℕ) (p : Progress) (t : Typ) → IsOld p.index p.next t → IsFreeOf p.sets t → IsNarrowing A s p p t t
@@ -251,28 +253,6 @@ narrowing_then A s p mid new t u w f g = record {
 
     new_later : (v : Typ) → ¬ IsFresh p.index p.next v → ¬ IsFresh mid.index mid.next v
     new_later v fresh = subst (λ (i : ℕ). ¬ IsFresh i mid.next v) (sym f.further.index) (fresh-later p.index p.next mid.next v f.further.later fresh)
-
--- The first variable of which more is asked is replaced.
-module _ (A : Algebra) (p : Progress) (t : Typ) (s : List ℕ) (found : Asked) (n k later : ℕ) (tidy : IsTidy p) (old : IsOld p.index p.next t) (free : IsFreeOf p.sets t)
-    (first : IsToNarrow A t s found) (is_next : n ≡ p.next) (is_index : k ≡ p.index) (is_later : later ≡ n + 1) where
-  image_fresh : TVar n k found.asked ≡ TVar p.next p.index found.asked
-  image_fresh = λ l. TVar (is_next l) (is_index l) found.asked
-
-  later_next : later ≡ p.next + 1
-  later_next = is_later ∙ ap (λ m. m + 1) is_next
-
-  progress : ◌≡◌ {A = Progress} (record { sets = p.sets ++ bind found.name found.index found.sort (TVar n k found.asked) ∷ []; index = p.index; next = later }) (after A p t s found.name found.index found.sort found.asked tidy old free first.0 first.1)
-  progress = λ l. record { sets = p.sets ++ bind found.name found.index found.sort (image_fresh l) ∷ []; index = p.index; next = later_next l }
-
-  pub replaced_tidy : IsTidy (record { sets = p.sets ++ bind found.name found.index found.sort (TVar n k found.asked) ∷ []; index = p.index; next = later })
-  replaced_tidy = subst IsTidy (sym progress) (after_tidy A p t s found.name found.index found.sort found.asked tidy old free first.0 first.1)
-
-  pub replaced_is : (new : Progress) (u : Typ) → new ≡ record { sets = p.sets ++ bind found.name found.index found.sort (TVar n k found.asked) ∷ []; index = p.index; next = later } → u ≡ typ_instance (setting found.name found.index found.sort (TVar n k found.asked)) t → IsNarrowing A s p new t u
-  replaced_is new u e f =
-      let now = e ∙ progress in
-      let type = f ∙ (λ l. typ_instance (setting found.name found.index found.sort (image_fresh l)) t) in
-      subst (λ (q : Progress). IsNarrowing A s p q t u) (sym now) (subst (IsNarrowing A s p (after A p t s found.name found.index found.sort found.asked tidy old free first.0 first.1) t) (sym type)
-      (replaced_narrowing A p t s found.name found.index found.sort found.asked tidy old free first.0 first.1))
 
 -- The type that narrowing has come to is of the sort.
 pub narrowed_fits : (A : Algebra) (s : List ℕ) (p mid new : Progress) (t w u : Typ) → IsNarrowing A s p mid t w → (u ≡ w) × (new ≡ mid) × IsOfSort A w s → IsNarrowed A s p new t u

@@ -86,11 +86,11 @@ module _ (A : Algebra) (asked : List Asked) where
       (asks_no_more_or_more a)
 
 -- A map from schematic variables to schematic variables takes the variables of a type to those of its instance.
-abbrev Renames : (Typ → Typ) → Type 0
+abbrev pub Renames : (Typ → Typ) → Type 0
 Renames f = ((x : ℕ) (s : List ℕ) → f (TFree x s) ≡ TFree x s) × ((x i : ℕ) (s : List ℕ) → schematics (f (TVar x i s)) ≡ f (TVar x i s) ∷ [])
 
 mutual
-  schematics_renamed : (f : Typ → Typ) → Renames f → (t : Typ) → schematics (typ_instance f t) ≡ map f (schematics t)
+  pub schematics_renamed : (f : Typ → Typ) → Renames f → (t : Typ) → schematics (typ_instance f t) ≡ map f (schematics t)
   schematics_renamed f h (TFree x s) = ap schematics (h.0 x s)
   schematics_renamed f h (TVar x i s) = h.1 x i s
   schematics_renamed f h (Con k ts) = schematics_of_renamed f h ts

@@ -1,13 +1,15 @@
 -- A variable is set to a type that has been narrowed to its sort.
-use Rattle.std.proofs.Common.{◌≡◌, ℕ, List, [], ◌∷◌, ◌++◌, map, inl, inr, ◌⊎◌, refl, ap, sym, subst, ◌∙◌, arith, append_assoc, ◌↔◌, Bool, true, false, not, IsTrue, length, Option, Some, None}
+use Rattle.std.proofs.Common.{◌≡◌, ℕ, ◌≤◌, List, [], ◌∷◌, ◌++◌, map, inl, inr, ◌⊎◌, refl, ap, sym, subst, ◌∙◌, arith, append_assoc, ◌↔◌, Bool, true, false, not, IsTrue, length, Option, Some, None}
 use Rattle.std.specs.Prelude.{MatchOption, is_some}
 use Rattle.std.specs.Bool.{OnTrue}
 use Rattle.std.proofs.lemmas.List.{length-map}
 use Rattle.pure_text.specs.Lists.{IsIn}
-use Rattle.pure_definitions.specs.Types.Typ.{Typ, TVar, Con, Typs, typs_of}
+use Rattle.pure_definitions.specs.Types.Typ.{Typ, TVar, Con, Typs, typs_of, typ_size, typ_depth}
 use Rattle.pure_definitions.specs.Types.Occurs.{OccursInTyp}
 use Rattle.pure_definitions.specs.Types.Order.{Algebra}
 use Rattle.pure_definitions.specs.Terms.Subst.{TypBind, typ_variable, typ_instance}
+use Rattle.pure_definitions.specs.Terms.Term.{max_size, max_depth}
+use Rattle.pure_definitions.specs.Terms.Limits.{Leaves, IsWithinTyp}
 use Rattle.pure_definitions.proofs.InstanceLemmas.{typs_instance-of}
 use Rattle.pure_term_laws.proofs.SubstLaws.{typ_instance-identity}
 use Rattle.pure_term_laws.proofs.MapLaws.{typ_instance-again}
@@ -28,12 +30,19 @@ resolved_old p t tidy old = instance-old p.index p.next p.sets t tidy.old old
 pub resolved_free : (p : Progress) (t : Typ) → IsTidy p → IsFreeOf p.sets (typ_instance (composed p.sets) t)
 resolved_free p t tidy = instance-free p.sets tidy.triangular t
 
+-- What has no room for the most nodes, on the longest paths, is beyond the limits.
+without_room : (left room size depth : ℕ) → Leaves left room size depth None → size ≤ left → depth ≤ room → ⊥
+without_room left room size depth beyond small flat = let deeper = beyond small in absurd (omega arith)
+
+pub beyond_limits : (t : Typ) → Leaves max_size max_depth (typ_size t) (typ_depth t) None → ¬ IsWithinTyp t
+beyond_limits t beyond within = without_room max_size max_depth (typ_size t) (typ_depth t) beyond within.size within.depth
+
 -- What a type has been narrowed to is its instance by the settings.
 pub narrows_image : (A : Algebra) (index : ℕ) (s : List ℕ) {n m : ℕ} {t u : Typ} {more : List TypBind} → Narrows A index s n t more m u → typ_instance (composed more) t ≡ u
 narrows_image A index s (fits {t = t} of) = typ_instance-identity t
 narrows_image A index s (replace {n = n} {t = t} {more = more} y j q r first need rest) = sym (typ_instance-again (setting y j q (TVar n index r)) (composed more) t) ∙ narrows_image A index s rest
 
-in_map_split : (xs ys : List TypBind) (v : Typ) → IsIn v (map typ_variable (xs ++ ys)) → IsIn v (map typ_variable xs) ⊎ IsIn v (map typ_variable ys)
+pub in_map_split : (xs ys : List TypBind) (v : Typ) → IsIn v (map typ_variable (xs ++ ys)) → IsIn v (map typ_variable xs) ⊎ IsIn v (map typ_variable ys)
 in_map_split [] ys v m = inr m
 in_map_split (x ∷ xs) ys v (inl e) = inl (inl e)
 in_map_split (x ∷ xs) ys v (inr m) = elim (in_map_split xs ys v m) [ inl a ↦ inl (inr a) | inr b ↦ inr b ]

@@ -183,24 +183,6 @@ pub fn resolve_measured(
     }
 }
 
-/// What is left of the room, as above, and in the same way.
-pub fn measured_leaves(
-    settings: &Settings,
-    t: &Typ,
-    left: u32,
-    room: u32,
-) -> Result<Option<u32>, AllocError>
-    ensures { IfOk result (λ o. Leaves left room (typ_size (typ_instance (composed settings.now.sets) t.now)) (typ_depth (typ_instance (composed settings.now.sets) t.now)) o) }
-{
-    match settings.leaves(t, left, room) {
-        None => Ok(None),
-        Some(_) => {
-            let found = resolved_leaves(settings, t, left, room)?;
-            Ok(found)
-        }
-    }
-}
-
 /// The most nodes, and the greatest depth, of a type that is soon measured without what is known of others.
 const FEW: u32 = 200;
 
@@ -260,7 +242,7 @@ fn written_bind(
 }
 
 /// A copy of the entry.
-fn copied(bind: &TypBind, alloc: Global) -> Result<TypBind, AllocError>
+pub fn copied(bind: &TypBind, alloc: Global) -> Result<TypBind, AllocError>
     ensures { IfOk result (λ b. b ≡ bind.now) }
 {
     let sort = bind.sort.copy(alloc)?;
@@ -325,14 +307,15 @@ pub fn written(settings: &Settings, alloc: Global) -> Result<Option<TypMap>, All
 }
 
 /// Settings that make the same of each type, each image written out: so what an image has of others is made once, and handed
-/// back wherever the variable stands. Where an image isn't within the limits, memory counts as wanted.
+/// back wherever the variable stands.
 pub fn written_out(settings: &Settings, alloc: Global) -> Result<Settings, AllocError>
+    requires { HasImagesWithin settings.now.sets }
     ensures { IfOk result (λ full. MakesTheSame settings.now.sets full.sets) }
 {
     let _ = settings.next();
     let found = written_settings(settings, alloc)?;
     match found {
-        None => Err(AllocError),
+        None => unreachable!(),
         Some(done) => Ok(done),
     }
 }

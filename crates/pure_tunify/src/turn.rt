@@ -3,6 +3,7 @@ ghost use Rattle.std.specs.Prelude.{◌≡◌, ◌∷◌, map, reverse, IfOk, Ma
 ghost use Rattle.std.specs.Bool.{OnTrue};
 ghost use Rattle.pure_text.specs.Lists.{IsIn, Each};
 ghost use Rattle.pure_definitions.specs.Terms.Subst.{typ_variable, typ_instance};
+ghost use Rattle.pure_definitions.specs.Terms.Limits.{IsWithinTyp};
 ghost use Rattle.pure_term_laws.specs.LawsOccurs.{IsTypVariable};
 ghost use Rattle.pure_tunify.specs.Unifiers.{IsFresh, IsOld, IsOldPair};
 ghost use Rattle.pure_tunify.specs.Asks.{HasNoInstance};
@@ -22,7 +23,7 @@ use crate::narrow::narrow;
 use crate::occurs::variable_occurs;
 use crate::pair::TypPair;
 use crate::reached::occurs_resolved;
-use crate::resolve::{Resolved, measured_leaves, resolve_measured};
+use crate::resolve::{Resolved, resolve_measured};
 use crate::settings::Settings;
 use pure_order::Order;
 use pure_typ::{MAX_DEPTH, MAX_SIZE, Sort, Typ, TypBind, TypNode};
@@ -50,7 +51,7 @@ fn is_out_of_sort(
 }
 
 /// What comes of a variable and a type that isn't written out: never where the variable occurs in it, or its constructor is
-/// never of the variable's sort; else the type is beyond the limits, or memory is wanted.
+/// never of the variable's sort; else the type is beyond the limits.
 fn treat_unwritten(
     order: &Order,
     alloc: Global,
@@ -60,6 +61,7 @@ fn treat_unwritten(
 ) -> Result<Turned, AllocError>
     requires schematic { IsSchematic variable.now }
     requires absent { ¬ IsIn variable.now (map typ_variable settings.now.sets) }
+    requires beyond { ¬ IsWithinTyp (typ_instance (composed settings.now.sets) t.now) }
     ensures { IfOk result (IsTreating order.now settings.now settings.now variable.now (typ_instance (composed settings.now.sets) t.now)) }
 {
     let TypNode::TVar { sort, .. } = &variable.node else {
@@ -73,11 +75,7 @@ fn treat_unwritten(
     if out {
         return Ok(Turned::Never);
     }
-    let found = measured_leaves(settings, t, MAX_SIZE, MAX_DEPTH)?;
-    match found {
-        None => Ok(Turned::Large),
-        Some(_) => Err(AllocError),
-    }
+    Ok(Turned::Large)
 }
 
 /// Sets a schematic variable to another type, with all set variables replaced and narrowed to the variable's sort; never

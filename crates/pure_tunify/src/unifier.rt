@@ -378,7 +378,7 @@ pub fn unify_from(
     let map = written(&settings, alloc)?;
     match map {
         Some(map) => Ok((map, next)),
-        None => Err(TypFault::Memory),
+        None => unreachable!(),
     }
 }
 

@@ -26,3 +26,6 @@ returns-in-Ok-clause-fault g c =
     let all = c.args.constraints in
     let found : AreSettled c.order.result.now 2 0 all.pairs.items c.in-Ok.settings = subst (λ (ps : List TypPair). AreSettled c.order.result.now 2 0 ps c.in-Ok.settings) (c.as_slice-all.ensures.value ∙ c.in_ok-pairs.ensures) c.in-Ok.ensures.ok in
     all_large V c.order.result.now c.order.ensures c.args.term.value all c.in-Ok.settings c.finished.result found c.finished.ensures
+
+pub finished-requires : goal.finished-requires
+finished-requires g c = c.in-Ok.ensures.ok.within.images

@@ -1,5 +1,5 @@
-use Rattle.pure_tunify.specs.Working.{IsNarrowing}
+use Rattle.pure_tunify.proofs.RenamedLaws.{HasRenamed}
 use Rattle.pure_tunify.proofs.narrow.narrow.Given as goal
 
-abbrev pub invariant-loop : goal.invariant-loop
-invariant-loop l = IsNarrowing l.order l.sort l.initial.settings l.settings l.initial.narrowed l.narrowed
+abbrev pub invariant-loop-one : goal.invariant-loop-one
+invariant-loop-one l = HasRenamed l.order l.sort l.initial.settings l.settings l.fn.t l.all l.one-index l.renamed

@@ -1,8 +1,15 @@
-use Rattle.std.proofs.Common.{◌≡◌, Some}
+use Rattle.std.proofs.Common.{◌≡◌, Some, None}
 use Rattle.pure_definitions.specs.Types.Typ.{TVar}
+use Rattle.pure_definitions.specs.Terms.Subst.{typ_instance}
+use Rattle.pure_tunify.specs.Settings.{composed}
 use Rattle.pure_tunify.specs.Working.{IsResolved, IsNarrowed}
-use Rattle.pure_tunify.proofs.TreatLaws.{resolved_old, resolved_free, treated_absent, treated_tidy, treated_set}
+use Rattle.pure_tunify.proofs.TreatLaws.{beyond_limits, resolved_old, resolved_free, treated_absent, treated_tidy, treated_set}
 use Rattle.pure_tunify.proofs.turn.treat.Goals as goal
+
+pub treat_unwritten-requires-clause-beyond : goal.treat_unwritten-requires-clause-beyond
+treat_unwritten-requires-clause-beyond c =
+    let large : IsResolved c.args.settings.now.sets c.args.other.now 200000 2000 None = rw c.in_default-found.is at c.in_ok-found.ensures in
+    beyond_limits (typ_instance (composed c.args.settings.now.sets) c.args.other.now) large
 
 pub narrow-requires-clause-old : goal.narrow-requires-clause-old
 narrow-requires-clause-old c =
