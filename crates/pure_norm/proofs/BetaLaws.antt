@@ -1,48 +1,34 @@
 -- Beta steps keep types, certification and closedness; and normal forms.
 use Rattle.std.proofs.Common.{◌≡◌, List, [], ◌∷◌, refl, subst, arith}
 use Rattle.std.specs.Prelude.{Some}
-use Rattle.pure_definitions.specs.Types.Typ.{Typ, arrow}
-use Rattle.pure_definitions.specs.Terms.Term.{Term, Abs, App, IsWithin}
+use Rattle.pure_definitions.specs.Types.Typ.{Typ}
+use Rattle.pure_definitions.specs.Terms.Term.{Term, IsWithin}
 use Rattle.pure_definitions.specs.Terms.Typing.{HasType}
-use Rattle.pure_definitions.specs.Terms.Bounds.{IsClosedUnder, subst_under}
+use Rattle.pure_definitions.specs.Terms.Bounds.{IsClosedUnder}
 use Rattle.pure_definitions.specs.Declarations.Decl.{Decl}
 use Rattle.pure_definitions.specs.Declarations.Certified.{HasCertifiedParts, IsCertified}
 use Rattle.pure_definitions.specs.Reduction.Beta.{IsBetaNormal, beta_step, IsBetaSequence, IsBetaAnswer, NormalForm}
 use Rattle.pure_definitions.proofs.NormalLemmas.{normal-lift, normal-unlift}
 use Rattle.pure_term_laws.proofs.BetaLaws.{one_beta_sequence_to_normal}
-use Rattle.pure_term_laws.proofs.TypingBoundLaws.{typing-subst}
 use Rattle.pure_term_laws.proofs.CertifiedLaws.{parts-subst}
 use Rattle.pure_norm.specs.LawsBeta.{NormalFormIsNormal, NormalFormIsWithin, OneNormalForm, NormalFormOfNormal, StepKeepsType, StepKeepsCertified, StepKeepsClosed, NormalFormKeepsType, NormalFormKeepsCertified, NormalFormKeepsClosed, NormalUnderLift}
-use Rattle.pure_norm.proofs.StepLemmas.{IsStep, contracted, in_function, in_argument, in_body, step-is_step, step-closed}
-
-typing-redex : (bs : List Typ) (T : Typ) (b a : Term) (U : Typ) → HasType bs (App (Abs T b) a) U → HasType bs (subst_under 0 a b) U
-typing-redex bs T b a U h =
-    let V : Typ = h.0 in
-    let W : Typ = h.1.0 in
-    let arrows : arrow T W ≡ arrow V U = h.1.2 in
-    let argument : V ≡ T = cc in
-    let range : W ≡ U = cc in
-    typing-subst [] bs 0 a b T U refl (subst (HasType bs a) argument h.2) (subst (HasType (T ∷ bs) b) range h.1.1)
-
-is_step-type : (bs : List Typ) (t u : Term) (U : Typ) → IsStep t u → HasType bs t U → HasType bs u U
-is_step-type bs t u U (contracted T b a v e) h = subst (λ w. HasType bs w U) e (typing-redex bs T b a U h)
-is_step-type bs t u U (in_function f g a s) h = (h.0, is_step-type bs f g (arrow h.0 U) s h.1, h.2)
-is_step-type bs t u U (in_argument f a b s) h = (h.0, h.1, is_step-type bs a b h.0 s h.2)
-is_step-type bs t u U (in_body T b c s) h = (h.0, is_step-type (T ∷ bs) b c h.0 s h.1, h.2)
+use Rattle.pure_reduction.specs.Steps.{BetaStep, BetaReduces}
+use Rattle.pure_reduction.proofs.StepLaws.{steps_keep_type, normal_order_step_is_step}
+use Rattle.pure_norm.proofs.StepLemmas.{step-closed}
 
 pub step-keeps_type : StepKeepsType
-step-keeps_type bs t u T e h = is_step-type bs t u T (step-is_step t u e) h
+step-keeps_type bs t u T e h = steps_keep_type bs t u T (BetaReduces.next (normal_order_step_is_step t u e) BetaReduces.done) h
 
 -- Certified parts are kept by a step.
 module _ (ds : List Decl) where
-  is_step-parts : (t u : Term) → IsStep t u → HasCertifiedParts ds t → HasCertifiedParts ds u
-  is_step-parts t u (contracted T b a v e) h = subst (HasCertifiedParts ds) e (parts-subst ds 0 a b h.1 h.0.1)
-  is_step-parts t u (in_function f g a s) h = (is_step-parts f g s h.0, h.1)
-  is_step-parts t u (in_argument f a b s) h = (h.0, is_step-parts a b s h.1)
-  is_step-parts t u (in_body T b c s) h = (h.0, is_step-parts b c s h.1)
+  step-parts : {t u : Term} → BetaStep t u → HasCertifiedParts ds t → HasCertifiedParts ds u
+  step-parts (BetaStep.contract {T = T} {b = b} {a = a} e) h = rw e (parts-subst ds 0 a b h.1 h.0.1)
+  step-parts (BetaStep.body s) h = (h.0, step-parts s h.1)
+  step-parts (BetaStep.function s) h = (step-parts s h.0, h.1)
+  step-parts (BetaStep.argument s) h = (h.0, step-parts s h.1)
 
 pub step-keeps_certified : StepKeepsCertified
-step-keeps_certified ds t u e h = record { parts = is_step-parts ds t u (step-is_step t u e) h.parts; typ = h.typ; typed = step-keeps_type [] t u h.typ e h.typed }
+step-keeps_certified ds t u e h = record { parts = step-parts ds (normal_order_step_is_step t u e) h.parts; typ = h.typ; typed = step-keeps_type [] t u h.typ e h.typed }
 
 pub step-keeps_closed : StepKeepsClosed
 step-keeps_closed = step-closed
