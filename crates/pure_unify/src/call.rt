@@ -12,6 +12,7 @@ ghost use Rattle.pure_unify_answers.specs.Maps.{Solves, IsFiniteUnifier};
 ghost use Rattle.pure_unify_nodes.specs.Long.{IsLongPair};
 ghost use Rattle.pure_unify_visits.specs.Visited.{IsVisitAnswer, IsLongVisit};
 ghost use Rattle.pure_unify.specs.Unified.{seen, IsToldAs, IsUnified, IsLeftOver, UnlessStopped, StopsWhere};
+ghost use Rattle.pure_unify.specs.Unsolved.{HaveIndexesUpTo, IsNoFinal};
 ghost use Rattle.pure_unify.specs.Frames.{HoldNodes, CanGoOn, IsSimpleVisit};
 
 use crate::clash::fails_at_once;
@@ -123,6 +124,7 @@ pub fn unify_while<W: Watch>(
     ensures left { UnlessStopped (λ found. IfOk found (λ u. Each IsLeftOver u.flexflex.items)) result }
     ensures solves { (Q : Content) → IsUnifyContent Q → order.now ≡ algebra_of Q.declarations → AreUnifiable Q maxidx pairs.now → UnlessStopped (λ found. IfOk found (λ u. Solves Q pairs.now (seen u))) result }
     ensures finite { (Q : Content) → IsUnifyContent Q → order.now ≡ algebra_of Q.declarations → AreUnifiable Q maxidx pairs.now → UnlessStopped (λ found. IfOk found (λ u. IsFiniteUnifier Q (seen u))) result }
+    ensures unsolved { HaveIndexesUpTo maxidx pairs.now → UnlessStopped (IsNoFinal pairs.now) result }
     ensures stopped { StopsWhere (W.may_say watch.now false) result }
 {
     if fails_at_once(pairs) {
@@ -147,7 +149,8 @@ pub fn unify_while<W: Watch>(
 /// The unifier of the pairs to which the search comes first: nodes in preorder, imitation before projections (Huet, A
 /// unification algorithm for typed lambda-calculus, 1975; Isabelle/Isar Implementation manual, section 4.1). The new
 /// variables have indexes above `maxidx`, which is at least each index in the pairs. Why there is none to answer, the fault
-/// says; where new variables weren't new, since an index is greater, it may be want of memory.
+/// says; where new variables weren't new, since an index is greater, it may be want of memory. That there is no unifier is final:
+/// nothing solves the pairs.
 pub fn unify(
     alloc: Global,
     order: &Order,
@@ -160,6 +163,7 @@ pub fn unify(
     ensures left { IfOk result (λ u. Each IsLeftOver u.flexflex.items) }
     ensures solves { (Q : Content) → IsUnifyContent Q → order.now ≡ algebra_of Q.declarations → AreUnifiable Q maxidx pairs.now → IfOk result (λ u. Solves Q pairs.now (seen u)) }
     ensures finite { (Q : Content) → IsUnifyContent Q → order.now ≡ algebra_of Q.declarations → AreUnifiable Q maxidx pairs.now → IfOk result (λ u. IsFiniteUnifier Q (seen u)) }
+    ensures unsolved { HaveIndexesUpTo maxidx pairs.now → IsNoFinal pairs.now result }
 {
     match unify_while(alloc, order, pairs, maxidx, &Unwatched) {
         Ok(Some(unifier)) => Ok(unifier),

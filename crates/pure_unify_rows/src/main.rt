@@ -1,4 +1,4 @@
-//! Unifiers of terms, and what the nodes of their search come to, held against rows that were written by hand.
+//! Unifiers of terms, and what the nodes of their search come to, held against rows: some were written by hand, others have a planted solution.
 #![tactic(auto)]
 
 mod asked;
@@ -24,15 +24,18 @@ fn add_classes(alloc: Global, order: &mut Order) -> Result<(), OrderFault> {
     order.add_class(alloc, Name(9), &[])
 }
 
-/// Holds the rows of both files against searches under the order.
+/// Holds the rows of the files against searches under the order.
 fn run_under<R: Files + Print + AllocGlobal>(rt: &R, order: &Order) -> ExitCode {
     let unifiers = run_rows(rt, "unifiers.rows", &Unifiers { order });
+    let planted = run_rows(rt, "planted.rows", &Unifiers { order });
     let visits = run_rows(rt, "visits.rows", &Visits { order });
-    if unifiers == ExitCode::SUCCESS {
-        visits
-    } else {
-        unifiers
+    if unifiers != ExitCode::SUCCESS {
+        return unifiers;
     }
+    if planted != ExitCode::SUCCESS {
+        return planted;
+    }
+    visits
 }
 
 fn main(rt: HostRuntime) -> ExitCode {

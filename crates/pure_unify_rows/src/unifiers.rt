@@ -63,6 +63,7 @@ fn read_wanted(row: &Row) -> Option<Wanted<'_>> {
     match row.field(0) {
         b"unifier" if row.len() == 4 => { Some(Wanted::Is(text(row.field(2)), text(row.field(3)))) }
         b"some" if row.len() == 2 => Some(Wanted::Some),
+        b"planted" if row.len() == 3 => Some(Wanted::Some),
         b"none" if row.len() == 3 => Some(Wanted::None(fault(row.field(2))?)),
         _ => None,
     }
