@@ -3,10 +3,12 @@
 
 mod dangling;
 mod directories;
+mod faults;
 mod numbered;
 mod words;
 mod written;
 
+use crate::faults::fault_outcome;
 use crate::words::outcome_of;
 use pure_rows::{Outcome, Row, Subject, run_rows};
 use std::alloc::Global;
@@ -19,6 +21,9 @@ struct Loading;
 
 impl Subject for Loading {
     fn outcome<R: Files + Print + AllocGlobal>(&self, rt: &R, alloc: Global, row: &Row) -> Outcome {
+        if row.field(0) == b"fault".as_slice() {
+            return fault_outcome(alloc, row);
+        }
         match outcome_of(rt, alloc, row) {
             Ok(outcome) => outcome,
             Err(_) => Outcome::Memory,

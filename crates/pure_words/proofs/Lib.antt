@@ -1,2 +1,10 @@
 pub mod Numbers
 pub mod Readings
+mod Tables
+mod Rows
+mod Steps
+mod Fits
+mod Taken
+mod Lines
+mod Jobs
+mod Answered

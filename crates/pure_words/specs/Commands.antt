@@ -1,12 +1,16 @@
 -- The subcommands: the options, flags and arguments of each, and the job that they give.
-use Rattle.std.specs.Prelude.{ℕ, ◌*◌, Bool, true, false, ◌&&◌, List, [], ◌∷◌, Option, Some, None, nat_le, codes, if◌then◌else◌}
+use Rattle.std.specs.Prelude.{◌≡◌, ℕ, ◌*◌, ◌==◌, Bool, true, false, ◌&&◌, ◌||◌, List, [], ◌∷◌, Option, Some, None, length, nat_le, codes, if◌then◌else◌, option_and_then}
 use Rattle.pure_grammar.specs.Theories.Lexeme.{same}
 use Rattle.pure_words.specs.Values.{comma, number_of, within, parts, cancels_in}
+use Rattle.pure_words.specs.Table.{row_of, subcommand_named}
 use Rattle.pure_words.specs.declared.job.CancelWord.{CancelWord}
 use Rattle.pure_words.specs.declared.job.Job.{Job}
 use Rattle.pure_words.specs.declared.job.Job.TheVariants.{Check, Generate}
 use Rattle.pure_words.specs.declared.given.Given.{Given}
 use Rattle.pure_words.specs.declared.command.Size.{Size}
+use Rattle.pure_words.specs.declared.table.Subcommand.{Subcommand}
+use Rattle.pure_words.specs.declared.table.Subcommand.TheVariants as table
+use Rattle.pure_words.specs.declared.table.Takes.{Takes}
 
 -- nothing is given
 abbrev pub is_none : List (List ℕ) → Bool
@@ -63,9 +67,25 @@ abbrev pub generate_of : Given → Option Job
 generate_of g =
     if is_none g.cancels && is_none g.fail_fast then generated (workers_of g.jobs) (size_of g.arguments) else None
 
+-- an option, a flag or an argument is given only where the subcommand takes it, and it has all its arguments
+abbrev pub is_taken : Takes → Given → Bool
+is_taken t g =
+    (t.jobs || is_none g.jobs) && ((t.cancel || is_none g.cancels) && ((t.fail_fast || is_none g.fail_fast) && length g.arguments == t.arguments))
+
+-- the job of a subcommand, by the values of what it takes
+abbrev pub job_given : Subcommand → Given → Option Job
+job_given table.Check g = checked (workers_of g.jobs) (fail_fast_of g.fail_fast) (cancels_of g.cancels)
+job_given table.Generate g = generated (workers_of g.jobs) (size_of g.arguments)
+
+-- the job of a subcommand, where it takes what is given
+abbrev pub job_by : Given → Subcommand → Option Job
+job_by g s = if is_taken (row_of s) g then job_given s g else None
+
 -- The job of the subcommand with this name, where what is given is right for it.
 unfoldable pub job_of : List ℕ → Given → Option Job
-job_of name g =
-    if same name (codes "check") then check_of g
-    else (if same name (codes "generate") then generate_of g
-    else None)
+job_of name g = option_and_then (job_by g) (subcommand_named name)
+
+-- What the table says, by subcommand.
+abbrev pub TableMeans : Type 0
+TableMeans = (name : List ℕ) (g : Given) → job_of name g
+    ≡ (if same name (codes "check") then check_of g else (if same name (codes "generate") then generate_of g else None))

@@ -6,6 +6,7 @@ use crate::cancel;
 use crate::given::Given;
 use crate::job::{CancelWord, Cancels, Job};
 use crate::number::number_within;
+use crate::table::{Subcommand, Takes, row_of, subcommand_named};
 use pure_text::Text;
 use std::alloc::{AllocError, Global};
 
@@ -82,13 +83,20 @@ fn size_in(arguments: &[Text]) -> Option<Size>
     })
 }
 
+/// Whether an option, a flag or an argument is given only where the row has it, and all arguments are there.
+fn is_taken(takes: Takes, given: &Given) -> bool
+    ensures { result ≡ spec.is_taken takes given.now }
+{
+    (takes.jobs || given.jobs.list().is_empty())
+        && (takes.cancel || given.cancels.list().is_empty())
+        && (takes.fail_fast || given.fail_fast.list().is_empty())
+        && given.arguments.list().len() == takes.arguments
+}
+
 /// The job of `check`.
 fn check(alloc: Global, given: &Given) -> Result<Option<Job>, AllocError>
-    ensures { IfOk result (λ found. found ≡ spec.check_of given.now) }
+    ensures { IfOk result (λ found. found ≡ spec.job_given Subcommand.Check given.now) }
 {
-    if !given.arguments.list().is_empty() {
-        return Ok(None);
-    }
     let Some(workers) = workers(given.jobs.list()) else {
         return Ok(None);
     };
@@ -107,11 +115,8 @@ fn check(alloc: Global, given: &Given) -> Result<Option<Job>, AllocError>
 
 /// The job of `generate`.
 fn generate(given: &Given) -> Option<Job>
-    ensures { result ≡ spec.generate_of given.now }
+    ensures { result ≡ spec.job_given Subcommand.Generate given.now }
 {
-    if !given.cancels.list().is_empty() || !given.fail_fast.list().is_empty() {
-        return None;
-    }
     let Some(workers) = workers(given.jobs.list()) else {
         return None;
     };
@@ -126,16 +131,26 @@ fn generate(given: &Given) -> Option<Job>
     })
 }
 
+/// The job of the subcommand, or None where what is given isn't right for it.
+fn job_by(alloc: Global, subcommand: Subcommand, given: &Given) -> Result<Option<Job>, AllocError>
+    ensures { IfOk result (λ found. found ≡ spec.job_by given.now subcommand) }
+{
+    if !is_taken(row_of(subcommand), given) {
+        return Ok(None);
+    }
+    match subcommand {
+        Subcommand::Check => check(alloc, given),
+        Subcommand::Generate => Ok(generate(given)),
+    }
+}
+
 /// The job of the subcommand with this name, or None where there is none or what is given isn't right for it.
 #[tactic(auto, unfolding(crate::specs::Commands::job_of))]
 pub(crate) fn job(alloc: Global, name: &[u8], given: &Given) -> Result<Option<Job>, AllocError>
     ensures { IfOk result (λ found. found ≡ spec.job_of name.now given.now) }
 {
-    if name == b"check".as_slice() {
-        return check(alloc, given);
+    match subcommand_named(name) {
+        Some(subcommand) => job_by(alloc, subcommand, given),
+        None => Ok(None),
     }
-    if name == b"generate".as_slice() {
-        return Ok(generate(given));
-    }
-    Ok(None)
 }

@@ -8,6 +8,7 @@ mod job;
 pub mod laws;
 mod number;
 mod read;
+mod table;
 
 pub use job::{CancelWord, Cancels, Job};
 pub use read::{WordsFault, read_words};

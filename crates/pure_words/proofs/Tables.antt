@@ -1,0 +1,57 @@
+-- The table, written out by subcommand.
+use Rattle.std.proofs.lemmas.Bool.Decides.{nat_tests}
+use Rattle.std.proofs.Common.{◌≡◌, ◌≢◌, suc, arith, ◌∙◌, ℕ, ◌==◌, Bool, true, false, List, [], ◌∷◌, Option, Some, None, length, refl, sym, ap, cond, codes, ◌&&◌}
+use Rattle.std.specs.Prelude.{if◌then◌else◌, option_and_then}
+use Rattle.pure_grammar.specs.Theories.Lexeme.{same}
+use Rattle.pure_words.specs.Commands.{TableMeans, check_of, generate_of, checked, generated, cancels_of, fail_fast_of, is_none, is_taken, job_by, job_of, size_of, workers_of}
+use Rattle.pure_words.specs.Table.{subcommand_named}
+use Rattle.pure_words.specs.declared.job.Job.{Job}
+use Rattle.pure_words.specs.declared.given.Given.{Given}
+use Rattle.pure_words.specs.declared.command.Size.{Size}
+use Rattle.pure_words.specs.declared.table.Subcommand.TheVariants.{Check, Generate}
+
+same_either : {X : Type 0} (b : Bool) (x : X) → cond b x x ≡ x
+same_either true x = refl
+same_either false x = refl
+
+not_zero : (n : ℕ) → (suc n == 0) ≡ false
+not_zero n =
+    let other : suc n ≢ 0 = λ e. absurd (omega (arith, e)) in
+    grind (arith, nat_tests)
+
+-- no arguments
+none_given : (arguments : List (List ℕ)) → (length arguments == 0) ≡ is_none arguments
+none_given [] = refl
+none_given (a ∷ rest) = not_zero (length rest)
+
+check_same : (g : Given) → job_by g Check ≡ check_of g
+check_same g = ap (λ b. if b then checked (workers_of g.jobs) (fail_fast_of g.fail_fast) (cancels_of g.cancels) else None) (none_given g.arguments)
+
+-- three arguments, else there is no size
+sized_same : (workers : Option ℕ) (cancels fail_fast : Bool) (arguments : List (List ℕ))
+    → (if cancels && (fail_fast && length arguments == 3) then generated workers (size_of arguments) else None)
+    ≡ (if cancels && fail_fast then generated workers (size_of arguments) else None)
+sized_same workers false fail_fast arguments = refl
+sized_same workers true false arguments = refl
+sized_same None true true [] = refl
+sized_same (Some n) true true [] = refl
+sized_same None true true (a ∷ []) = refl
+sized_same (Some n) true true (a ∷ []) = refl
+sized_same None true true (a ∷ b ∷ []) = refl
+sized_same (Some n) true true (a ∷ b ∷ []) = refl
+sized_same workers true true (a ∷ b ∷ c ∷ []) = refl
+sized_same None true true (a ∷ b ∷ c ∷ d ∷ rest) = same_either (length (a ∷ b ∷ c ∷ d ∷ rest) == 3) None
+sized_same (Some n) true true (a ∷ b ∷ c ∷ d ∷ rest) = same_either (length (a ∷ b ∷ c ∷ d ∷ rest) == 3) None
+
+generate_same : (g : Given) → job_by g Generate ≡ generate_of g
+generate_same g = sized_same (workers_of g.jobs) (is_none g.cancels) (is_none g.fail_fast) g.arguments
+
+by_name : (check generate : Bool) (g : Given)
+    → option_and_then (job_by g) (cond check (Some Check) (cond generate (Some Generate) None)) ≡ (if check then check_of g else (if generate then generate_of g else None))
+by_name true generate g = check_same g
+by_name false true g = generate_same g
+by_name false false g = refl
+
+pub table_means : TableMeans
+unfolding job_of subcommand_named
+table_means name g = by_name (same name (codes "check")) (same name (codes "generate")) g

@@ -1,0 +1,63 @@
+//! The table of subcommands: what each is called, and what it takes.
+ghost use Rattle.std.specs.Prelude.{◌≡◌};
+ghost use Rattle.pure_words.specs.Table as spec;
+
+/// The subcommands.
+#[derive(Clone, Copy, Debug, PartialEq, Eq)]
+pub(crate) enum Subcommand {
+    Check,
+    Generate,
+}
+
+/// A row of the table: the options and flags that a subcommand takes, and how many arguments, of which there are three at most.
+#[derive(Clone, Copy, Debug)]
+pub(crate) struct Takes {
+    pub(crate) jobs: bool,
+    pub(crate) cancel: bool,
+    pub(crate) fail_fast: bool,
+    pub(crate) arguments: usize,
+}
+
+/// The subcommand's name.
+pub(crate) fn name_of(subcommand: Subcommand) -> &'static str
+    ensures { result.now ≡ spec.name_of subcommand }
+{
+    match subcommand {
+        Subcommand::Check => "check",
+        Subcommand::Generate => "generate",
+    }
+}
+
+/// The subcommand's row.
+pub(crate) fn row_of(subcommand: Subcommand) -> Takes
+    ensures { result ≡ spec.row_of subcommand }
+{
+    match subcommand {
+        Subcommand::Check => Takes {
+            jobs: true,
+            cancel: true,
+            fail_fast: true,
+            arguments: 0,
+        },
+        Subcommand::Generate => Takes {
+            jobs: true,
+            cancel: false,
+            fail_fast: false,
+            arguments: 3,
+        },
+    }
+}
+
+/// The subcommand of this name.
+#[tactic(auto, unfolding(crate::specs::Table::subcommand_named))]
+pub(crate) fn subcommand_named(name: &[u8]) -> Option<Subcommand>
+    ensures { result ≡ spec.subcommand_named name.now }
+{
+    if name == b"check".as_slice() {
+        return Some(Subcommand::Check);
+    }
+    if name == b"generate".as_slice() {
+        return Some(Subcommand::Generate);
+    }
+    None
+}
