@@ -14,13 +14,13 @@ use std::thread::Threads;
 const LOOKS: u32 = 1_000_000_000;
 
 /// How many looks a pause takes.
-const PAUSE: u32 = 40_000_000;
+const PAUSE: u32 = 20_000_000;
 
 /// How many looks a step of a walk takes.
 const STEP: u32 = 20_000;
 
 /// How many steps a walk has.
-const STEPS: u32 = 100_000;
+const STEPS: u32 = 40_000;
 
 /// What a command or a proof does: it pauses, so long that who finds nothing to do sleeps; waits for marks; makes a mark and waits; makes
 /// a mark and takes many steps; waits and is a fault; or pauses and wants memory.
