@@ -42,7 +42,7 @@ pub(crate) fn cut(text: &[u8], mark: u8) -> (&[u8], &[u8]) {
 }
 
 /// The parents whose numbers these digits are.
-fn parents_of(alloc: Global, digits: &[u8]) -> Result<Vec<u32>, Fault> {
+pub(crate) fn parents_of(alloc: Global, digits: &[u8]) -> Result<Vec<u32>, Fault> {
     let mut parents = Vec::new(alloc);
     for digit in digits.chunks(1) {
         parents.push(number(digit)?)?;

@@ -1,6 +1,7 @@
 //! Plays on cores and on boards, held against files of rows.
 #![tactic(auto)]
 
+mod acts;
 mod cores;
 mod fields;
 mod letters;
@@ -9,6 +10,7 @@ mod pools;
 mod searches;
 mod turns;
 
+use crate::acts::acts;
 use crate::cores::{core, drains};
 use crate::plays::plays;
 use crate::pools::{meets, runs};
@@ -32,16 +34,18 @@ enum Kind {
     Runs,
     Meets,
     Breaks,
+    Acts,
 }
 
 /// The first fields of rows.
-const KINDS: [(&[u8], Kind); 6] = [
+const KINDS: [(&[u8], Kind); 7] = [
     (b"drains", Kind::Drains),
     (b"core", Kind::Core),
     (b"plays", Kind::Plays),
     (b"runs", Kind::Runs),
     (b"meets", Kind::Meets),
     (b"breaks", Kind::Breaks),
+    (b"acts", Kind::Acts),
 ];
 
 /// Whether the row holds.
@@ -53,6 +57,7 @@ fn is_met<R: Threads + Wait + Sync>(rt: &R, alloc: Global, row: &Row) -> Result<
         Some(Kind::Runs) => runs(rt, alloc, row),
         Some(Kind::Meets) => meets(rt, alloc, row),
         Some(Kind::Breaks) => breaks(rt, alloc, row),
+        Some(Kind::Acts) => acts(rt, alloc, row),
         None => Err(Fault::Unreadable),
     }
 }

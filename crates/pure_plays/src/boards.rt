@@ -6,6 +6,7 @@ ghost use Rattle.pure_machine.specs.Step.{IsShape};
 ghost use Rattle.pure_board.specs.Boards.{AreAll};
 ghost use Rattle.pure_plays.specs.Seen.{BeginAlike};
 
+use crate::acts::Acts;
 use crate::searches::Searches;
 use pure_board::{Board, Closed, Opened, Seat};
 use pure_core::{Node, Policy, Work};
@@ -95,4 +96,23 @@ pub fn run_searches<R: Threads + Wait + Sync>(
         workers,
         &OpenGate::make(),
     )
+}
+
+/// The acts, run so, with themselves as the gate.
+///
+/// # Errors
+///
+/// Want of memory at the opening, and a session that is none.
+pub fn run_acts<R: Threads + Wait + Sync>(
+    rt: &R,
+    alloc: Global,
+    acts: &Acts,
+    policy: Policy,
+    workers: u32,
+) -> Result<Closed<Acts>, AllocError>
+    requires some { 0 < workers }
+    ensures { IfOk result (λ closed. closed.session ≡ acts.now) }
+{
+    let shape = shape_of(alloc, acts.session())?;
+    run_closed(rt, alloc, acts, shape, policy, workers, acts)
 }

@@ -24,4 +24,8 @@ lemma m8: "Q" by (rule q)
 lemma m9: "Q ==> Q" by (erule q)
 lemma n1: "Q ==> Q" apply (erule pa) done
 lemma n2: "P a" by (unfold pa)
+consts g :: "i => i" h :: "i => i"
+axiomatization where s: "E (F (g a)) (h (F a)) ==> Q"
+lemma n3: "Q" apply (rule s) apply (rule r) done
+lemma n4: "E (g a) (h a)" by (rule r)
 end
