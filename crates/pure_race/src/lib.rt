@@ -4,10 +4,6 @@
 mod attempts;
 mod lanes;
 mod races;
-#[cfg(test)]
-mod scripted;
-#[cfg(test)]
-mod tests;
 mod wins;
 
 pub use attempts::Attempts;
