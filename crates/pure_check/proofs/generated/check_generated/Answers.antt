@@ -1,0 +1,5 @@
+use Rattle.pure_check.proofs.JobLemmas.{generate-done}
+use Rattle.pure_check.proofs.generated.check_generated.Goals as goal
+
+pub returns-clause-ok : goal.returns-clause-ok
+returns-clause-ok g c told = generate-done _ _ _ _ _ c.in-Ok.ensures _ _ c.table_answer.ensures.ok
