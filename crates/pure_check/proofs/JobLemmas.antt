@@ -49,6 +49,10 @@ generate-done workers start theories lemmas made same told (Ok a) is =
     (subst (λ files. IsTabled LastLine (record { workers = workers; fail_fast = false; cancels = [] }) (Some files) (Ok a)) same is)
 generate-done workers start theories lemmas made same told (Err fault) is = tt
 
+-- A job that speaks of none of the library's files is done whatever the library tells.
+pub done-by : (job own : Job) → job ≡ own → (told : Option (List library.File)) (r : Result Answer LoadFault) → ((files : Option (List library.File)) → IsDone own files r) → IsDone job told r
+done-by job own is told r done = subst (λ j. IsDone j told r) (sym is) (done told)
+
 -- What is written of the answer is what the job answers.
 pub given : (job : Job) (told : Option (List library.File)) (a : Answer) → IsAnswer job told a.run a.formed.text a.formed.clean → (run : Option (Ending Checked Fork Outline Outcome)) (text : List ℕ) (clean : Bool) → IsGiven a run text clean
     → IsAnswer job told run text clean
