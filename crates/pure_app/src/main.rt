@@ -7,7 +7,7 @@ ghost use Rattle.std.specs.Process.{exit_status};
 ghost use Rattle.pure_io.specs.Outside.{Rose};
 ghost use Rattle.pure_check.specs.Asked.{IsLooking, IsTaken};
 ghost use Rattle.pure_check.specs.Answer.{IsUntaken, IsComplete, OnSilent, exit_number};
-ghost use Rattle.pure_app.specs.Exit.{IsExit, IsStatus};
+ghost use Rattle.pure_app.specs.Exit.{IsEnd};
 ghost use Rattle.pure_app.specs.Written.{IsWritten};
 ghost use Rattle.pure_app.specs.Message.{message_text};
 ghost use Rattle.pure_app.specs.Words.{words_given, unread_status};
@@ -112,8 +112,7 @@ fn program<R: Files + Print + Eprint + AllocGlobal + Threads + Wait + Sync, L: L
     out: &mut S,
 ) -> ExitCode
     ensures unread { IfErr args (λ error. exit_status result ≡ exit_number (unread_status (error_kind error))) }
-    ensures ends { IfOk args (λ given. IsExit (IsStatus (words_given given) (L.files library.old) (library.new ≡ library.old) (out.new ≡ out.old)
-        (Rose (L.faults library.old) (L.faults library.new)) (Rose (S.faults out.old) (S.faults out.new)) (S.written out.old) (S.written out.new)) (exit_status result)) }
+    ensures ends { IfOk args (λ given. IsEnd L.files L.faults S.written S.faults (words_given given) library.old library.new out.old out.new (exit_status result)) }
 {
     let status = run(rt, args, library, out);
     report(rt, status)

@@ -10,6 +10,7 @@ use crate::answer::Answer;
 use crate::checked::check;
 use crate::ended::Ended;
 use crate::generated::check_generated;
+use crate::laws::job_in_range;
 use crate::status::Status;
 use crate::written::write_answer;
 use pure_graph::LoadFault;
@@ -128,6 +129,7 @@ pub fn pure<R: Files + Print + AllocGlobal + Threads + Wait + Sync, L: Library, 
     ensures later_library { L.faults library.old ≤ L.faults library.new }
     ensures later_out { S.faults out.old ≤ S.faults out.new }
 {
+    job_in_range();
     match read_words(alloc, words) {
         Ok(job) => ended(rt, alloc, &job, library, out, gate),
         Err(WordsFault::Usage) => Ended::early(Status::Usage),

@@ -1,12 +1,14 @@
 //! Laws of the definitions. What each function ensures is the law.
 ghost use Rattle.pure_check.specs.Laws.{CheckMeans, GenerateMeans, JobInRange};
 
-use pure_words::laws::one_reading;
+use pure_words::laws::{one_reading, table_means};
 
 /// The numbers of a job that words ask for are in range.
 pub fn job_in_range()
     ensures { JobInRange }
-{}
+{
+    table_means();
+}
 
 /// Of words that ask for a check, the clauses of `pure` say what they would of a table alone.
 pub fn check_means<L>()

@@ -1,9 +1,8 @@
 use Rattle.pure_check.proofs.JobLemmas.{complete-by, meant, not-looking, wrote-weaker}
-use Rattle.pure_check.proofs.WordsLaws.{job_in_range}
 use Rattle.pure_check.proofs.call.pure.Goals as goal
 
 pub ended-requires-after_bounds : goal.ended-requires-after_bounds
-ended-requires-after_bounds g c κs within = job_in_range _ _ c.in-Ok.ensures.ok
+ended-requires-after_bounds g c κs within = c.job_in_range.ensures _ _ c.in-Ok.ensures.ok
 
 pub returns-in-Ok-clause-unlooked : goal.returns-in-Ok-clause-unlooked
 returns-in-Ok-clause-unlooked g c denied = c.ended.ensures.unlooked (not-looking _ _ c.in-Ok.ensures.ok denied)
