@@ -5,8 +5,10 @@ use Rattle.std.specs.Prelude.{nat_le, codes, ◌*◌, ◌&&◌, if◌then◌else
 use Rattle.pure_grammar.specs.Theories.Lexeme.{same}
 use Rattle.pure_words.specs.Values.{number_of, within}
 use Rattle.pure_words.specs.Words.{IsJob, IsCommand, Item, no_given, given_by}
-use Rattle.pure_words.specs.Commands.{workers_of, fail_fast_of, cancels_of, checked, generated, check_of, generate_of, size_of, sized, job_of, is_none}
-use Rattle.pure_check.specs.Asked.{asked_of, IsInRange, IsGenerate, IsTaken, IsCheck}
+use Rattle.pure_words.specs.Commands.{workers_of, fail_fast_of, cancels_of, checked, generated, check_of, generate_of, size_of, sized, job_of, is_none, TableMeans}
+use Rattle.pure_check.specs.Asked.{IsTaken}
+use Rattle.pure_check.specs.JobAnswers.{IsInRange}
+use Rattle.pure_check.specs.Laws.{JobInRange}
 use Rattle.pure_words.specs.declared.job.CancelWord.{CancelWord}
 use Rattle.pure_words.specs.declared.job.Job.{Job}
 use Rattle.pure_words.specs.declared.job.Job.TheVariants.{Check, Generate}
@@ -85,25 +87,17 @@ either true d one other h k = h
 either false true one other h k = k
 either false false one other h k = _
 
-job-some : (name : List ℕ) (items : List Item) → IfJob (job_of name (given_by no_given items))
-unfolding job_of
-job-some name items = let g = given_by no_given items in either (same name (codes "check")) (same name (codes "generate")) (check_of g) (generate_of g) (check-some items) (generate-some items)
+job-some : TableMeans → (name : List ℕ) (items : List Item) → IfJob (job_of name (given_by no_given items))
+job-some means name items =
+    let g = given_by no_given items in
+    subst IfJob (sym (means name g)) (either (same name (codes "check")) (same name (codes "generate")) (check_of g) (generate_of g) (check-some items) (generate-some items))
 
-command-some : (name : List ℕ) (words : List (List ℕ)) (job : Job) → IsCommand name words job → IsInRange job
-command-some name words job is = subst IfJob is.job_is (job-some name is.items)
+command-some : TableMeans → (name : List ℕ) (words : List (List ℕ)) (job : Job) → IsCommand name words job → IsInRange job
+command-some means name words job is = subst IfJob is.job_is (job-some means name is.items)
 
-pub job_in_range : (words : List (List ℕ)) (job : Job) → IsJob words job → IsInRange job
-job_in_range [] job is = command-some _ [] job is
-job_in_range (name ∷ words) job is = command-some name words job is
-
-pub has_worker : (job : Job) → IsInRange job → 1 ≤ (asked_of job).workers
-has_worker (Check workers fail_fast cancels) h = h
-has_worker (Generate workers start theories lemmas) h = h.0
+pub job_in_range : TableMeans → JobInRange
+job_in_range means [] job is = command-some means _ [] job is
+job_in_range means (name ∷ words) job is = command-some means name words job is
 
 pub no_job : (words : List (List ℕ)) → ((job : Job) → IsJob words job → ⊥) → IsTaken words → ⊥
 no_job words none_is (job, is) = none_is job is
-
--- A job that is no check is that of a generated library.
-pub generate_unless_check : (words : List (List ℕ)) (job : Job) → IsJob words job → (IsCheck words → ⊥) → IsGenerate job
-generate_unless_check words (Check workers fail_fast cancels) is denied = absurd (denied (record { workers = workers; fail_fast = fail_fast; cancels = cancels }, is))
-generate_unless_check words (Generate workers start theories lemmas) is denied = tt
