@@ -1,3 +1,4 @@
+pub mod Exit
 pub mod Message
 pub mod Words
 pub mod Written

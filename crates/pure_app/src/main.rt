@@ -5,8 +5,9 @@ ghost use Rattle.std.specs.Prelude.{◌≡◌, ◌≢◌, ◌≤◌, IfOk, IfErr
 ghost use Rattle.std.specs.IoError.{error_kind};
 ghost use Rattle.std.specs.Process.{exit_status};
 ghost use Rattle.pure_io.specs.Outside.{Rose};
-ghost use Rattle.pure_check.specs.Asked.{IsCheck, IsTaken};
+ghost use Rattle.pure_check.specs.Asked.{IsLooking, IsTaken};
 ghost use Rattle.pure_check.specs.Answer.{IsUntaken, IsComplete, OnSilent, exit_number};
+ghost use Rattle.pure_app.specs.Exit.{IsExit, IsStatus};
 ghost use Rattle.pure_app.specs.Written.{IsWritten};
 ghost use Rattle.pure_app.specs.Message.{message_text};
 ghost use Rattle.pure_app.specs.Words.{words_given, unread_status};
@@ -59,13 +60,13 @@ fn run<R: Files + Print + AllocGlobal + Threads + Wait + Sync, L: Library, S: Si
     ensures usage { IfOk args (λ given. IsTaken (words_given given) → result ≢ Status.Usage) }
     ensures untaken { IfOk args (λ given. ¬ IsTaken (words_given given) → IsUntaken result) }
     ensures unlooked { result ≡ Status.Usage → library.new ≡ library.old }
-    ensures unchecked { IfOk args (λ given. ¬ IsCheck (words_given given) → (library.new ≡ library.old) × (result ≢ Status.ReadFault)) }
+    ensures unchecked { IfOk args (λ given. ¬ IsLooking (words_given given) → (library.new ≡ library.old) × (result ≢ Status.ReadFault)) }
     ensures unwritten { OnSilent result (out.new ≡ out.old) }
     ensures wrote { IfOk args (λ given. IsWritten result (L.files library.old) (words_given given) (S.written out.old) (S.written out.new)) }
     ensures read_fault { result ≡ Status.ReadFault → Rose (L.faults library.old) (L.faults library.new) }
     ensures write_fault { result ≡ Status.WriteFault → Rose (S.faults out.old) (S.faults out.new) }
     ensures complete { IfOk args (λ given. IsTaken (words_given given)
-        → (IsCheck (words_given given) → ¬ Rose (L.faults library.old) (L.faults library.new))
+        → (IsLooking (words_given given) → ¬ Rose (L.faults library.old) (L.faults library.new))
         → ¬ Rose (S.faults out.old) (S.faults out.new) → IsComplete result) }
 {
     let args = match args {
@@ -102,9 +103,24 @@ fn report<R: Eprint>(rt: &R, status: Status) -> ExitCode
     ExitCode::from(status.number())
 }
 
+/// The program on the arguments that the system gave, a library and a sink: all words behind the program's name are handed
+/// to `pure`, and the status that it answers is the exit status and the one that the line on standard error tells.
+fn program<R: Files + Print + Eprint + AllocGlobal + Threads + Wait + Sync, L: Library, S: Sink>(
+    rt: &R,
+    args: io::Result<Args>,
+    library: &mut L,
+    out: &mut S,
+) -> ExitCode
+    ensures unread { IfErr args (λ error. exit_status result ≡ exit_number (unread_status (error_kind error))) }
+    ensures ends { IfOk args (λ given. IsExit (IsStatus (words_given given) (L.files library.old) (library.new ≡ library.old) (out.new ≡ out.old)
+        (Rose (L.faults library.old) (L.faults library.new)) (Rose (S.faults out.old) (S.faults out.new)) (S.written out.old) (S.written out.new)) (exit_status result)) }
+{
+    let status = run(rt, args, library, out);
+    report(rt, status)
+}
+
 fn main(rt: HostRuntime) -> ExitCode {
     let mut library = DirLibrary::make();
     let mut out = StdSink::make();
-    let status = run(&rt, env::args(&rt), &mut library, &mut out);
-    report(&rt, status)
+    program(&rt, env::args(&rt), &mut library, &mut out)
 }

@@ -3,5 +3,6 @@ pub use Rattle.pure_check_work.proofs.Method as Method
 pub use Rattle.pure_check_work.proofs.TheoryRun as TheoryRun
 pub mod AnswerLemmas
 pub mod FormedLemmas
-pub mod JobLaws
+pub mod JobLemmas
+pub mod TableLaws
 pub mod WordsLaws

@@ -6,7 +6,8 @@ use Rattle.pure_grammar.specs.Theories.Lexeme.{same}
 use Rattle.pure_words.specs.Values.{number_of, within}
 use Rattle.pure_words.specs.Words.{IsJob, IsCommand, Item, no_given, given_by}
 use Rattle.pure_words.specs.Commands.{workers_of, fail_fast_of, cancels_of, checked, generated, check_of, generate_of, size_of, sized, job_of, is_none}
-use Rattle.pure_check.specs.Asked.{asked_of, IsInRange, IsGenerate, IsTaken, IsCheck}
+use Rattle.pure_check.specs.Asked.{IsTaken}
+use Rattle.pure_check.specs.JobAnswers.{IsInRange}
 use Rattle.pure_words.specs.declared.job.CancelWord.{CancelWord}
 use Rattle.pure_words.specs.declared.job.Job.{Job}
 use Rattle.pure_words.specs.declared.job.Job.TheVariants.{Check, Generate}
@@ -96,14 +97,5 @@ pub job_in_range : (words : List (List ℕ)) (job : Job) → IsJob words job →
 job_in_range [] job is = command-some _ [] job is
 job_in_range (name ∷ words) job is = command-some name words job is
 
-pub has_worker : (job : Job) → IsInRange job → 1 ≤ (asked_of job).workers
-has_worker (Check workers fail_fast cancels) h = h
-has_worker (Generate workers start theories lemmas) h = h.0
-
 pub no_job : (words : List (List ℕ)) → ((job : Job) → IsJob words job → ⊥) → IsTaken words → ⊥
 no_job words none_is (job, is) = none_is job is
-
--- A job that is no check is that of a generated library.
-pub generate_unless_check : (words : List (List ℕ)) (job : Job) → IsJob words job → (IsCheck words → ⊥) → IsGenerate job
-generate_unless_check words (Check workers fail_fast cancels) is denied = absurd (denied (record { workers = workers; fail_fast = fail_fast; cancels = cancels }, is))
-generate_unless_check words (Generate workers start theories lemmas) is denied = tt

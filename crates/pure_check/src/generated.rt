@@ -1,16 +1,16 @@
 //! Generated libraries, checked: their files stand in memory, so that reading them never fails.
-ghost use Rattle.std.specs.Prelude.{◌≡◌, ◌≢◌, ◌≤◌, Some, is_some};
-ghost use Rattle.pure_io.specs.Outside.{Rose};
-ghost use Rattle.pure_check.specs.Asked.{IsInRange};
-ghost use Rattle.pure_check.specs.Answer.{Wrote, OnSilent, has_run};
+ghost use Rattle.std.specs.Prelude.{◌≡◌, ◌≢◌, ◌≤◌, Err, List, Option};
+ghost use Rattle.pure_io.specs.declared.library.File as library;
 ghost use Rattle.pure_check.specs.Formed.{IsDone};
+ghost use Rattle.pure_words.specs.declared.job.Job.TheVariants as job;
 
-use crate::checked::check;
-use crate::ended::Ended;
-use crate::status::Status;
-use pure_io::{File, Gate, LibFault, Library, MemLibrary, ReadFault, Sink};
+use crate::answer::Answer;
+use crate::formed::Extent;
+use crate::tables::{Asking, table_answer};
+use pure_gen::generate;
+use pure_graph::LoadFault;
+use pure_io::{File, Gate, LibFault, Library, MemLibrary, ReadFault};
 use pure_text::Text;
-use pure_words::Job;
 use std::alloc::Global;
 use std::marker::Model;
 use std::rt::Files;
@@ -71,21 +71,28 @@ impl Library for GeneratedFiles {
     }
 }
 
-/// Has these files of a generated library checked as the job asks, and writes what the job writes of the table's text.
-pub(crate) fn check_generated<
-    R: Files + Print + AllocGlobal + Threads + Wait + Sync,
-    S: Sink,
-    G: Gate,
->(rt: &R, alloc: Global, files: Vec<File>, job: &Job, gate: &G, out: &mut S) -> Ended
-    requires { IsInRange job.now }
-    ensures usage { result.status ≢ Status.Usage }
-    ensures read { result.status ≢ Status.ReadFault }
-    ensures ran { is_some result.run ≡ has_run result.status }
-    ensures unwritten { OnSilent result.status (out.new ≡ out.old) }
-    ensures wrote { Wrote result.status (IsDone (Some files.items) job.now result.run) (S.written out.old) (S.written out.new) }
-    ensures write_fault { result.status ≡ Status.WriteFault → Rose (S.faults out.old) (S.faults out.new) }
-    ensures later { S.faults out.old ≤ S.faults out.new }
+/// Has a generated library checked. It may wait for ever.
+pub(crate) fn check_generated<R: Files + Print + AllocGlobal + Threads + Wait + Sync, G: Gate>(
+    rt: &R,
+    alloc: Global,
+    workers: u32,
+    start: u32,
+    theories: u32,
+    lemmas: u32,
+    gate: &G,
+) -> Result<Answer, LoadFault>
+    requires { (1 ≤ workers) × (start ≤ 65536) × (theories ≤ 64) × (lemmas ≤ 512) }
+    ensures ok { (told : Option (List library.File)) → IsDone (job.Generate workers start theories lemmas) told result }
+    ensures read { result ≢ Err LoadFault.ReadFault }
 {
+    let Ok(files) = generate(alloc, start, theories, lemmas) else {
+        return Err(LoadFault::Memory);
+    };
     let mut library = GeneratedFiles::make(alloc, files);
-    check(rt, alloc, &mut library, job, gate, out)
+    let asking = Asking {
+        workers,
+        fail_fast: false,
+        cancels: &[],
+    };
+    table_answer(rt, alloc, &mut library, &asking, Extent::LastLine, gate)
 }

@@ -1,14 +1,16 @@
 //! The top call: what the words ask for is done with the library's files or with generated ones, and written to the sink.
 #![tactic(auto)]
 
+mod answer;
 mod call;
 mod checked;
 mod ended;
 mod formed;
 mod generated;
-mod job;
 pub mod laws;
 mod status;
+mod tables;
+mod written;
 
 pub use call::pure;
 pub use ended::Ended;

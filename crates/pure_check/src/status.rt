@@ -4,15 +4,15 @@ ghost use Rattle.std.specs.Prelude.{◌≡◌};
 /// How a run ended.
 #[derive(Clone, Copy, Debug, PartialEq, Eq)]
 pub enum Status {
-    /// All that the job writes of the table was written, and every row is declared or proved.
+    /// All that the job writes was written, and it is clean: of a table, every row is declared or proved.
     Clean,
-    /// All that the job writes of the table was written, and some row is neither.
+    /// All that the job writes was written, and it isn't clean: of a table, some row is neither.
     Rows,
     /// The words ask for no job; nothing was written.
     Usage,
     /// Reading the library failed; nothing was written.
     ReadFault,
-    /// Writing failed; a proper part of that was written, from its beginning.
+    /// Writing failed; a proper part of what the job writes was written, from its beginning.
     WriteFault,
     /// Memory ran out; nothing was written.
     Memory,

@@ -1,0 +1,31 @@
+-- What each job means.
+use Rattle.std.specs.Prelude.{ℕ, Bool, List, Option}
+use Rattle.pure_io.specs.declared.library.File as library
+use Rattle.pure_words.specs.declared.job.Job.{Job}
+use Rattle.pure_words.specs.declared.job.Job.TheVariants.{Check, Generate}
+use Rattle.pure_check_work.specs.Declare.Notes.{Fork}
+use Rattle.pure_check_work.specs.Method.declared.outcome.Outcome.{Outcome}
+use Rattle.pure_check_work.specs.TheoryRun.Checked.{Checked}
+use Rattle.pure_check_work.specs.TheoryRun.Outline.{Outline}
+use Rattle.pure_board.specs.Boards.{Ending}
+use Rattle.pure_check.specs.JobMeaning.{JobMeaning}
+use Rattle.pure_check.specs.Jobs.Check as check
+use Rattle.pure_check.specs.Jobs.Generate as generate
+use Rattle.pure_check.specs.Sources.{is_looking, files_in}
+
+-- what the job means
+abbrev pub meaning_of : Job → JobMeaning
+meaning_of (Check workers fail_fast cancels) = check.meaning workers fail_fast cancels
+meaning_of (Generate workers start theories lemmas) = generate.meaning workers start theories lemmas
+
+-- The job's numbers are in range.
+abbrev pub IsInRange : Job → Type 0
+IsInRange job = (meaning_of job).IsInRange
+
+-- whether the job has the library looked at
+abbrev pub is_looking_job : Job → Bool
+is_looking_job job = is_looking (meaning_of job).source
+
+-- By the files that the library tells, the job hands out this board or none, and has this text written, which is clean or isn't.
+abbrev pub IsAnswer : Job → (told : Option (List library.File)) → (run : Option (Ending Checked Fork Outline Outcome)) → (text : List ℕ) → (clean : Bool) → Type 0
+IsAnswer job told run text clean = (meaning_of job).IsAnswer (files_in (meaning_of job).source told) run text clean

@@ -1,0 +1,3 @@
+-- What each job means, in a file of its own.
+pub mod Check
+pub mod Generate
