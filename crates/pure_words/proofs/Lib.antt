@@ -8,3 +8,4 @@ mod Taken
 mod Lines
 mod Jobs
 mod Answered
+mod Calls
