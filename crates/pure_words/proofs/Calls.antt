@@ -54,3 +54,7 @@ got f id v e = ap listed (e ∙ first_value-rows f id)
 
 pub got_none : (f : Found) (id : List ℕ) → None ≡ first_value f id → [] ≡ listed (first_of id (rows_of f))
 got_none f id e = ap listed (e ∙ first_value-rows f id)
+
+-- the first value, by the rows
+pub first_is : (f : Found) (id : List ℕ) (o : Option (List ℕ)) → o ≡ first_value f id → o ≡ first_of id (rows_of f)
+first_is f id o e = e ∙ first_value-rows f id

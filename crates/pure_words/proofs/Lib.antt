@@ -9,3 +9,4 @@ mod Lines
 mod Jobs
 mod Answered
 mod Calls
+mod Builders

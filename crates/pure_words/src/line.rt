@@ -174,15 +174,26 @@ fn found(alloc: Global, matches: &ArgMatches<'_>, id: &str) -> Result<Values, Al
     Ok(values)
 }
 
+/// The flag, where this value of it is `true`.
+fn flag_values(alloc: Global, value: &str) -> Result<Values, AllocError>
+    ensures { IfOk result (λ vs. vs ≡ spec.flag_of (Some value.now)) }
+{
+    if value == "true" {
+        let mut values = Values::none(alloc);
+        values.add(alloc, b"--fail-fast")?;
+        return Ok(values);
+    }
+    Ok(Values::none(alloc))
+}
+
 /// The flag, where it is on.
 fn flag(alloc: Global, matches: &ArgMatches<'_>) -> Result<Values, AllocError>
     ensures { IfOk result (λ vs. vs ≡ spec.flag_in (rows_of (found_of matches.now))) }
 {
-    let mut values = Values::none(alloc);
-    if matches.get_str("fail-fast") == Some("true") {
-        values.add(alloc, b"--fail-fast")?;
+    match matches.get_str("fail-fast") {
+        Some(value) => flag_values(alloc, value),
+        None => Ok(Values::none(alloc)),
     }
-    Ok(values)
 }
 
 /// The arguments.
