@@ -27,8 +27,8 @@ kept old r b is = sym (ap (λ c. with_rule_if c r (app_of old)) is)
 -- three rules, one behind the other
 pub three : (b c d : Bool) (r s t r' s' t' : Rule) (a a1 a2 a3 : App) → a1 ≡ with_rule_if b r a → r ≡ r' → a2 ≡ with_rule_if c s a1 → s ≡ s'
     → a3 ≡ with_rule_if d t a2 → t ≡ t' → a3 ≡ with_rule_if d t' (with_rule_if c s' (with_rule_if b r' a))
-three b c d r s t r' s' t' a a1 a2 a3 one first two second three third =
-    three ∙ ap₂ (with_rule_if d) third (two ∙ ap₂ (with_rule_if c) second (one ∙ ap (λ x. with_rule_if b x a) first))
+three b c d r s t r' s' t' a a1 a2 a3 one first two second last third =
+    last ∙ ap₂ (with_rule_if d) third (two ∙ ap₂ (with_rule_if c) second (one ∙ ap (λ x. with_rule_if b x a) first))
 
 pub made_added : (old sub new : Command) (s : Subcommand) → AddsSubcommand old sub new → app_of sub ≡ subcommand_app s → (out-Command sub).has_globals ≡ false
     → app_of new ≡ with_made (app_of old) s

@@ -2,12 +2,12 @@ use Rattle.std.proofs.Common.{◌≡◌, ◌∙◌}
 use Rattle.pure_words.proofs.Builders.{three}
 use Rattle.pure_words.proofs.line.with_arguments.Goals as goal
 
-pub returns-in_ok-command-3-clause-app : goal.returns-in_ok-command-3-clause-app
-returns-in_ok-command-3-clause-app c =
+pub returns-clause-app : goal.returns-clause-app
+returns-clause-app c =
     three _ _ _ _ _ _ _ _ _ _ _ _ _ (c.in_ok-command.ensures.app c.argument.ensures.here) c.argument.ensures.rule
     (c.in_ok-command-2.ensures.app c.argument-2.ensures.here) c.argument-2.ensures.rule (c.in_ok-command-3.ensures.app c.argument-3.ensures.here) c.argument-3.ensures.rule
 
-pub returns-in_ok-command-3-clause-globals : goal.returns-in_ok-command-3-clause-globals
-returns-in_ok-command-3-clause-globals c =
+pub returns-clause-globals : goal.returns-clause-globals
+returns-clause-globals c =
     c.in_ok-command-3.ensures.globals c.argument-3.ensures.here ∙ c.in_ok-command-2.ensures.globals c.argument-2.ensures.here
     ∙ c.in_ok-command.ensures.globals c.argument.ensures.here

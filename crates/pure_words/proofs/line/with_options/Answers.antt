@@ -2,11 +2,11 @@ use Rattle.std.proofs.Common.{◌≡◌, ◌∙◌}
 use Rattle.pure_words.proofs.Builders.{three}
 use Rattle.pure_words.proofs.line.with_options.Goals as goal
 
-pub returns-in_ok-command-3-clause-app : goal.returns-in_ok-command-3-clause-app
-returns-in_ok-command-3-clause-app c =
+pub returns-clause-app : goal.returns-clause-app
+returns-clause-app c =
     three _ _ _ _ _ _ _ _ _ _ _ _ _ (c.in_ok-command.ensures.app c.jobs.ensures.here) c.jobs.ensures.rule
     (c.in_ok-command-2.ensures.app c.cancel.ensures.here) c.cancel.ensures.rule (c.in_ok-command-3.ensures.app c.fail_fast.ensures.here) c.fail_fast.ensures.rule
 
-pub returns-in_ok-command-3-clause-globals : goal.returns-in_ok-command-3-clause-globals
-returns-in_ok-command-3-clause-globals c =
+pub returns-clause-globals : goal.returns-clause-globals
+returns-clause-globals c =
     c.in_ok-command-3.ensures.globals c.fail_fast.ensures.here ∙ c.in_ok-command-2.ensures.globals c.cancel.ensures.here ∙ c.in_ok-command.ensures.globals c.jobs.ensures.here
