@@ -10,3 +10,4 @@ mod Jobs
 mod Answered
 mod Calls
 mod Builders
+mod Reread
