@@ -1,4 +1,4 @@
-use Rattle.std.proofs.Common.{◌≡◌, ◌∙◌, ◌++◌, ap, sym, rules, append-nil}
+use Rattle.std.proofs.Common.{◌∙◌, ◌++◌, ap, sym, rules, append-nil}
 use Rattle.clap.specs.Matches.{found_of}
 use Rattle.pure_words.proofs.Calls.{got, got_none}
 use Rattle.pure_words.proofs.line.add_found.Goals as goal

@@ -1,4 +1,4 @@
-use Rattle.std.proofs.Common.{◌≡◌, ◌∙◌, ap}
+use Rattle.std.proofs.Common.{◌∙◌, ap}
 use Rattle.clap.specs.Simple.{App}
 use Rattle.pure_words.specs.Line.{with_made}
 use Rattle.pure_words.specs.declared.table.Subcommand.TheVariants.{Check, Generate}

@@ -1,4 +1,4 @@
-use Rattle.std.proofs.Common.{◌≡◌, ◌∙◌}
+use Rattle.std.proofs.Common.{◌∙◌}
 use Rattle.pure_words.proofs.Builders.{made_is}
 use Rattle.pure_words.proofs.line.made.Goals as goal
 

@@ -1,3 +1,4 @@
+use Rattle.std.proofs.Common.{◌∙◌}
 use Rattle.pure_words.proofs.Reread.{one_more_text}
 use Rattle.pure_words.proofs.read.texts_of.Goals as goal
 
