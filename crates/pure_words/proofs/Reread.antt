@@ -1,5 +1,5 @@
 -- Words that are read again.
-use Rattle.std.proofs.Common.{◌≡◌, ◌∙◌, ◌<◌, ℕ, ◌==◌, Bool, false, List, [], ◌∷◌, ◌++◌, Option, Some, None, length, map, take, suc, get_or, sym, ap, ap₂, refl}
+use Rattle.std.proofs.Common.{◌≡◌, ◌∙◌, ◌<◌, ◌+◌, ℕ, ◌==◌, Bool, false, List, [], ◌∷◌, ◌++◌, Option, Some, None, length, map, take, suc, get_or, sym, ap, ap₂, refl, arith}
 use Rattle.std.specs.Prelude.{is_some, unwrap_or}
 use Rattle.std.specs.Borrow.{Bor}
 use Rattle.std.proofs.Math.Seq.{take-suc}
@@ -11,9 +11,11 @@ use Rattle.pure_words.specs.declared.job.Job.{Job}
 
 -- one more word as a text
 pub one_more_text : (xs : List (Bor Text)) (x : Bor Text) (words : List Text) (i : ℕ) (word : Text) → map (λ (s : Bor Text). s.now) xs ≡ take i words → i < length words
-    → word ≡ get_or words i word → x.now ≡ word → map (λ (s : Bor Text). s.now) (xs ++ x ∷ []) ≡ take (suc i) words
+    → word ≡ get_or words i word → x.now ≡ word → map (λ (s : Bor Text). s.now) (xs ++ x ∷ []) ≡ take (i + 1) words
 one_more_text xs x words i word before within read same =
+    let more : suc i ≡ i + 1 = omega arith in
     map-append (λ (s : Bor Text). s.now) xs (x ∷ []) ∙ ap₂ (λ (front : List Text) (last : Text). front ++ last ∷ []) before (same ∙ read) ∙ sym (take-suc words i word within)
+    ∙ ap (λ n. take n words) more
 
 -- a reading of the words as a job that they are finds it
 abbrev pub Rereads : List Text → Option Job → Type 0
