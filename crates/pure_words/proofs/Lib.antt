@@ -8,3 +8,6 @@ mod Taken
 mod Lines
 mod Jobs
 mod Answered
+mod Calls
+mod Builders
+mod Reread

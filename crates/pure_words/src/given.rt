@@ -30,7 +30,7 @@ impl Model for Values {
 
 impl Values {
     /// No texts.
-    fn none(alloc: Global) -> Values
+    pub(crate) fn none(alloc: Global) -> Values
         ensures { result ≡ [] }
     {
         Values {
@@ -46,7 +46,7 @@ impl Values {
     }
 
     /// Adds a text behind the others.
-    fn add(&mut self, alloc: Global, value: &[u8]) -> Result<(), AllocError>
+    pub(crate) fn add(&mut self, alloc: Global, value: &[u8]) -> Result<(), AllocError>
         ensures { OnOk result (self.new ≡ self.old ++ value.now ∷ []) }
     {
         let text = Text::make(alloc, value)?;

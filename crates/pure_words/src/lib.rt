@@ -6,6 +6,7 @@ mod command;
 mod given;
 mod job;
 pub mod laws;
+mod line;
 mod number;
 mod read;
 mod table;

@@ -19,7 +19,7 @@ pub(crate) struct Takes {
 }
 
 /// The subcommand's name.
-pub(crate) fn name_of(subcommand: Subcommand) -> &'static str
+pub(crate) fn name_of<'a>(subcommand: Subcommand) -> &'a str
     ensures { result.now ≡ spec.name_of subcommand }
 {
     match subcommand {
