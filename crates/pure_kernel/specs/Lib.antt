@@ -1,0 +1,29 @@
+pub use Rattle.pure_text.specs as Texts
+pub use Rattle.pure_definitions.specs as Definitions
+pub use Rattle.pure_typ.specs as Types
+pub use Rattle.pure_term.specs as Terms
+pub use Rattle.pure_order.specs as Orders
+pub use Rattle.pure_logic.specs as Logic
+pub use Rattle.pure_theorem.specs as Theorems
+pub use Rattle.pure_certify.specs as Certificates
+pub use Rattle.pure_theory_tables.specs as TheoryTables
+pub use Rattle.pure_declare.specs.Theory as Theory
+pub use Rattle.pure_lookup.specs as Lookup
+pub use Rattle.pure_grammar.specs as Grammar
+pub use Rattle.pure_script.specs as Script
+pub use Rattle.pure_read.specs as Read
+pub use Rattle.pure_elab.specs as Elab
+pub use Rattle.pure_statements.specs as Statements
+pub use Rattle.pure_declare.specs as Declare
+pub use Rattle.pure_rules.specs as Rules
+pub use Rattle.pure_equal.specs as Equal
+pub use Rattle.pure_inst.specs as Inst
+pub use Rattle.pure_conv.specs as Conv
+pub use Rattle.pure_unify_definitions.specs as UnifyDefinitions
+pub use Rattle.pure_unify_nodes.specs as UnifyNodes
+pub use Rattle.pure_resolve.specs.Pairs as Pairs
+pub use Rattle.pure_resolve.specs.GoalSteps as GoalSteps
+pub use Rattle.pure_resolve.specs as Goals
+pub use Rattle.pure_print.specs as Print
+pub mod NameTable
+pub mod TheoryText
