@@ -12,5 +12,5 @@ depth_le-term_depth (Const c T) = omega arith
 depth_le-term_depth (Free x T) = omega arith
 depth_le-term_depth (Var x i T) = omega arith
 depth_le-term_depth (Bound n) = omega arith
-depth_le-term_depth (Abs T b kept) = omega arith
-depth_le-term_depth (App f a kept) = omega arith
+depth_le-term_depth (Abs kept T b) = omega arith
+depth_le-term_depth (App kept f a) = omega arith

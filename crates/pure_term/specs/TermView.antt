@@ -8,5 +8,5 @@ view_term (Const c T) = tree.Const c T
 view_term (Free x T) = tree.Free x T
 view_term (Var x i T) = tree.Var x i T
 view_term (Bound n) = tree.Bound n
-view_term (Abs T b kept) = tree.Abs T b.value
-view_term (App f a kept) = tree.App f.value a.value
+view_term (Abs kept T b) = tree.Abs T b.value
+view_term (App kept f a) = tree.App f.value a.value

@@ -1,7 +1,7 @@
 //! Instances of terms by finite maps.
 ghost use Rattle.std.specs.Prelude.{◌≡◌, IfOk};
-ghost use Rattle.pure_definitions.specs.Terms.Term.{term_size, term_depth};
-ghost use Rattle.pure_definitions.specs.Terms.Subst.{typ_image, term_image, inst_typ, inst_term};
+ghost use Rattle.pure_definitions.specs.Terms.Term.{Const, Free, Var, Abs, App, term_size, term_depth};
+ghost use Rattle.pure_definitions.specs.Terms.Subst.{typ_image, term_image, typ_instance, inst_typ, inst_term};
 ghost use Rattle.pure_definitions.specs.Terms.Limits.{Leaves};
 ghost use Rattle.pure_term.specs.Grown.{IsGrown};
 
@@ -9,7 +9,8 @@ use crate::maps::TermMap;
 use crate::measure::{index_above_of, term_leaves};
 use crate::term::{Term, TermNode, copied};
 use pure_typ::{
-    Grow, MAX_DEPTH, MAX_SIZE, TypMap, instance_leaves, instance_of, node_leaves, typ_leaves,
+    Grow, MAX_DEPTH, MAX_SIZE, Name, Typ, TypMap, instance_leaves, instance_of, node_leaves,
+    typ_leaves,
 };
 use std::alloc::{AllocError, Global};
 use std::sync::Arc;
@@ -58,6 +59,83 @@ fn inst_typ_leaves(t: &Term, binds: &TypMap, left: u32, room: u32) -> Option<u32
     }
 }
 
+/// A constant of this name whose type is the instance. What isn't the recursion stands apart in functions that aren't inlined, so that it takes less stack.
+#[inline(never)]
+fn retyped_const(
+    alloc: Global,
+    name: Name,
+    typ: &Typ,
+    binds: &TypMap,
+) -> Result<Arc<Term>, AllocError>
+    ensures { IfOk result (λ u. u.value ≡ Const name (typ_instance (typ_image binds.now) typ.now)) }
+{
+    let typ = instance_of(alloc, typ, binds)?;
+    let node = TermNode::Const { name, typ };
+    Ok(Arc::new(alloc, Term { node })?)
+}
+
+/// A fixed variable whose type is the instance.
+#[inline(never)]
+fn retyped_free(
+    alloc: Global,
+    name: Name,
+    typ: &Typ,
+    binds: &TypMap,
+) -> Result<Arc<Term>, AllocError>
+    ensures { IfOk result (λ u. u.value ≡ Free name (typ_instance (typ_image binds.now) typ.now)) }
+{
+    let typ = instance_of(alloc, typ, binds)?;
+    let node = TermNode::Free { name, typ };
+    Ok(Arc::new(alloc, Term { node })?)
+}
+
+/// A schematic variable whose type is the instance.
+#[inline(never)]
+fn retyped_var(
+    alloc: Global,
+    name: Name,
+    index: u32,
+    typ: &Typ,
+    binds: &TypMap,
+) -> Result<Arc<Term>, AllocError>
+    ensures { IfOk result (λ u. u.value ≡ Var name index (typ_instance (typ_image binds.now) typ.now)) }
+{
+    let typ = instance_of(alloc, typ, binds)?;
+    let node = TermNode::Var { name, index, typ };
+    Ok(Arc::new(alloc, Term { node })?)
+}
+
+/// An abstraction over a variable whose type is the instance.
+#[inline(never)]
+fn retyped_abs(
+    alloc: Global,
+    typ: &Typ,
+    body: Arc<Term>,
+    binds: &TypMap,
+) -> Result<Arc<Term>, AllocError>
+    ensures { IfOk result (λ u. u.value ≡ Abs (typ_instance (typ_image binds.now) typ.now) body.value) }
+{
+    let typ = instance_of(alloc, typ, binds)?;
+    Ok(Arc::new(alloc, Term::abs(typ, body))?)
+}
+
+/// An abstraction over a variable of this type.
+#[inline(never)]
+fn abstraction(alloc: Global, typ: &Typ, body: Arc<Term>) -> Result<Arc<Term>, AllocError>
+    ensures { IfOk result (λ u. u.value ≡ Abs typ.now body.value) }
+{
+    let typ = typ.copy(alloc)?;
+    Ok(Arc::new(alloc, Term::abs(typ, body))?)
+}
+
+/// An application.
+#[inline(never)]
+fn application(alloc: Global, fun: Arc<Term>, arg: Arc<Term>) -> Result<Arc<Term>, AllocError>
+    ensures { IfOk result (λ u. u.value ≡ App fun.value arg.value) }
+{
+    Ok(Arc::new(alloc, Term::app(fun, arg))?)
+}
+
 /// A part under a type map; one without schematic variables is handed back as it is.
 pub fn retyped(alloc: Global, t: &Arc<Term>, binds: &TypMap) -> Result<Arc<Term>, AllocError>
     ensures { IfOk result (λ u. u.value ≡ inst_typ (typ_image binds.now) t.now.value) }
@@ -67,35 +145,18 @@ pub fn retyped(alloc: Global, t: &Arc<Term>, binds: &TypMap) -> Result<Arc<Term>
         return Arc::try_clone(t);
     }
     match &whole.node {
-        TermNode::Const { name, typ } => {
-            let typ = instance_of(alloc, typ, binds)?;
-            let node = TermNode::Const { name: *name, typ };
-            Ok(Arc::new(alloc, Term { node })?)
-        }
-        TermNode::Free { name, typ } => {
-            let typ = instance_of(alloc, typ, binds)?;
-            let node = TermNode::Free { name: *name, typ };
-            Ok(Arc::new(alloc, Term { node })?)
-        }
-        TermNode::Var { name, index, typ } => {
-            let typ = instance_of(alloc, typ, binds)?;
-            let node = TermNode::Var {
-                name: *name,
-                index: *index,
-                typ,
-            };
-            Ok(Arc::new(alloc, Term { node })?)
-        }
+        TermNode::Const { name, typ } => retyped_const(alloc, *name, typ, binds),
+        TermNode::Free { name, typ } => retyped_free(alloc, *name, typ, binds),
+        TermNode::Var { name, index, typ } => retyped_var(alloc, *name, *index, typ, binds),
         TermNode::Bound { .. } => Arc::try_clone(t),
         TermNode::Abs { typ, body, .. } => {
-            let typ = instance_of(alloc, typ, binds)?;
             let body = retyped(alloc, body, binds)?;
-            Ok(Arc::new(alloc, Term::abs(typ, body))?)
+            retyped_abs(alloc, typ, body, binds)
         }
         TermNode::App { fun, arg, .. } => {
             let fun = retyped(alloc, fun, binds)?;
             let arg = retyped(alloc, arg, binds)?;
-            Ok(Arc::new(alloc, Term::app(fun, arg))?)
+            application(alloc, fun, arg)
         }
     }
 }
@@ -164,14 +225,13 @@ pub fn replaced(alloc: Global, t: &Arc<Term>, binds: &TermMap) -> Result<Arc<Ter
         },
         TermNode::Bound { .. } => Arc::try_clone(t),
         TermNode::Abs { typ, body, .. } => {
-            let typ = typ.copy(alloc)?;
             let body = replaced(alloc, body, binds)?;
-            Ok(Arc::new(alloc, Term::abs(typ, body))?)
+            abstraction(alloc, typ, body)
         }
         TermNode::App { fun, arg, .. } => {
             let fun = replaced(alloc, fun, binds)?;
             let arg = replaced(alloc, arg, binds)?;
-            Ok(Arc::new(alloc, Term::app(fun, arg))?)
+            application(alloc, fun, arg)
         }
     }
 }

@@ -8,6 +8,7 @@ mod measure;
 mod scope;
 mod term;
 mod typing;
+mod walked;
 
 pub use bounds::{abstract_over, lift, lift_under, put_under, subst_bound};
 pub use instance::{inst_term, inst_typ, replaced, retyped};

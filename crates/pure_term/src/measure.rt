@@ -5,25 +5,58 @@ ghost use Rattle.pure_definitions.specs.Terms.Measures.{kept_count, term_index_a
 ghost use Rattle.pure_definitions.specs.Terms.Limits.{cut_off, Leaves};
 ghost use Rattle.pure_definitions.specs.Terms.Typing.{node_count};
 ghost use Rattle.pure_definitions.specs.Terms.Bounds.{Occurs};
-ghost use Rattle.pure_term.specs.TermKept.{AreMeasures};
+ghost use Rattle.pure_term.specs.TermKept.{AreMeasures, short_count};
 
 use crate::term::{Kept, Term, TermNode};
+use crate::walked::{counted_depth, counted_size, greatest_index, greatest_loose};
 use pure_typ::{
-    MAX_DEPTH, MAX_SIZE, Typ, cut, index_above_of_typ, kept_leaves, whole_depth_of_typ,
-    whole_size_of_typ,
+    MAX_DEPTH, MAX_SIZE, Typ, cut, index_above_of_typ, kept_leaves, size_of_typ, whole_depth_of_typ,
 };
+
+/// The number, cut off at `u16::MAX`.
+fn short(n: u64) -> u16
+    ensures { result ≡ short_count n }
+{
+    if n < 65535 { n as u16 } else { u16::MAX }
+}
+
+/// The count of the term's nodes and of those of the types in it, cut off at `u32::MAX`.
+pub fn size(t: &Term) -> u32
+    ensures { result ≡ cut_off (term_size t.now) }
+{
+    match &t.node {
+        TermNode::Const { typ, .. } => size_of_typ(typ).saturating_add(1),
+        TermNode::Free { typ, .. } => size_of_typ(typ).saturating_add(1),
+        TermNode::Var { typ, .. } => size_of_typ(typ).saturating_add(1),
+        TermNode::Bound { .. } => 1,
+        TermNode::Abs { kept, .. } => kept.size,
+        TermNode::App { kept, .. } => kept.size,
+    }
+}
+
+/// The count of nodes on the longest path from the root, into the types too, cut off at `u16::MAX`.
+fn short_depth(t: &Term) -> u16
+    ensures { result ≡ short_count (term_depth t.now) }
+{
+    match &t.node {
+        TermNode::Const { typ, .. } => short(whole_depth_of_typ(typ).saturating_add(1)),
+        TermNode::Free { typ, .. } => short(whole_depth_of_typ(typ).saturating_add(1)),
+        TermNode::Var { typ, .. } => short(whole_depth_of_typ(typ).saturating_add(1)),
+        TermNode::Bound { .. } => 1,
+        TermNode::Abs { kept, .. } => kept.depth,
+        TermNode::App { kept, .. } => kept.depth,
+    }
+}
 
 /// The count of the term's nodes and of those of the types in it, cut off at `u64::MAX`.
 pub fn whole_size(t: &Term) -> u64
     ensures { result ≡ kept_count (term_size t.now) }
 {
-    match &t.node {
-        TermNode::Const { typ, .. } => whole_size_of_typ(typ).saturating_add(1),
-        TermNode::Free { typ, .. } => whole_size_of_typ(typ).saturating_add(1),
-        TermNode::Var { typ, .. } => whole_size_of_typ(typ).saturating_add(1),
-        TermNode::Bound { .. } => 1,
-        TermNode::Abs { kept, .. } => kept.size,
-        TermNode::App { kept, .. } => kept.size,
+    let known = size(t);
+    if known < u32::MAX {
+        u64::from(known)
+    } else {
+        counted_size(t)
     }
 }
 
@@ -31,13 +64,35 @@ pub fn whole_size(t: &Term) -> u64
 pub fn whole_depth(t: &Term) -> u64
     ensures { result ≡ kept_count (term_depth t.now) }
 {
-    match &t.node {
-        TermNode::Const { typ, .. } => whole_depth_of_typ(typ).saturating_add(1),
-        TermNode::Free { typ, .. } => whole_depth_of_typ(typ).saturating_add(1),
-        TermNode::Var { typ, .. } => whole_depth_of_typ(typ).saturating_add(1),
-        TermNode::Bound { .. } => 1,
-        TermNode::Abs { kept, .. } => kept.depth,
-        TermNode::App { kept, .. } => kept.depth,
+    let known = short_depth(t);
+    if known < u16::MAX {
+        u64::from(known)
+    } else {
+        counted_depth(t)
+    }
+}
+
+/// What a node that keeps this has for its greatest index.
+fn whole_index(kept: u32, t: &Term) -> u64
+    requires { kept ≡ cut_off (term_index_above t.now) }
+    ensures { result ≡ term_index_above t.now }
+{
+    if kept < u32::MAX {
+        u64::from(kept)
+    } else {
+        greatest_index(t)
+    }
+}
+
+/// What a node that keeps this has for its greatest loose bound variable.
+fn whole_place(kept: u16, t: &Term) -> u64
+    requires { kept ≡ short_count (loose_above t.now) }
+    ensures { result ≡ loose_above t.now }
+{
+    if kept < u16::MAX {
+        u64::from(kept)
+    } else {
+        greatest_loose(t)
     }
 }
 
@@ -50,8 +105,8 @@ pub fn index_above_of(t: &Term) -> u64
         TermNode::Free { typ, .. } => index_above_of_typ(typ),
         TermNode::Var { index, typ, .. } => (u64::from(*index) + 1).max(index_above_of_typ(typ)),
         TermNode::Bound { .. } => 0,
-        TermNode::Abs { kept, .. } => kept.above,
-        TermNode::App { kept, .. } => kept.above,
+        TermNode::Abs { kept, .. } => whole_index(kept.above, t),
+        TermNode::App { kept, .. } => whole_index(kept.above, t),
     }
 }
 
@@ -64,8 +119,8 @@ pub fn loose_above_of(t: &Term) -> u64
         TermNode::Free { .. } => 0,
         TermNode::Var { .. } => 0,
         TermNode::Bound { place } => u64::from(*place) + 1,
-        TermNode::Abs { kept, .. } => kept.loose,
-        TermNode::App { kept, .. } => kept.loose,
+        TermNode::Abs { kept, .. } => whole_place(kept.loose, t),
+        TermNode::App { kept, .. } => whole_place(kept.loose, t),
     }
 }
 
@@ -74,14 +129,16 @@ pub fn abs_measures(typ: &Typ, body: &Term) -> Kept
     ensures { AreMeasures (Abs typ.now body.now) result }
 {
     Kept {
-        size: whole_size_of_typ(typ)
-            .saturating_add(whole_size(body))
+        size: size_of_typ(typ)
+            .saturating_add(size(body))
             .saturating_add(1),
-        depth: whole_depth_of_typ(typ)
-            .max(whole_depth(body))
-            .saturating_add(1),
-        above: index_above_of_typ(typ).max(index_above_of(body)),
-        loose: loose_above_of(body).saturating_sub(1),
+        above: cut(index_above_of_typ(typ).max(index_above_of(body))),
+        depth: short(
+            whole_depth_of_typ(typ)
+                .max(whole_depth(body))
+                .saturating_add(1),
+        ),
+        loose: short(loose_above_of(body).saturating_sub(1)),
     }
 }
 
@@ -90,20 +147,11 @@ pub fn app_measures(fun: &Term, arg: &Term) -> Kept
     ensures { AreMeasures (App fun.now arg.now) result }
 {
     Kept {
-        size: whole_size(fun)
-            .saturating_add(whole_size(arg))
-            .saturating_add(1),
-        depth: whole_depth(fun).max(whole_depth(arg)).saturating_add(1),
-        above: index_above_of(fun).max(index_above_of(arg)),
-        loose: loose_above_of(fun).max(loose_above_of(arg)),
+        size: size(fun).saturating_add(size(arg)).saturating_add(1),
+        above: cut(index_above_of(fun).max(index_above_of(arg))),
+        depth: short(whole_depth(fun).max(whole_depth(arg)).saturating_add(1)),
+        loose: short(loose_above_of(fun).max(loose_above_of(arg))),
     }
-}
-
-/// The count of the term's nodes and of those of the types in it, cut off at `u32::MAX`.
-pub fn size(t: &Term) -> u32
-    ensures { result ≡ cut_off (term_size t.now) }
-{
-    cut(whole_size(t))
 }
 
 /// The count of nodes on the longest path from the root, into the types too, cut off at `u32::MAX`.
@@ -158,5 +206,11 @@ pub fn occurs(v: &Term, t: &Term) -> bool
 pub fn term_leaves(t: &Term, left: u32, room: u32) -> Option<u32>
     ensures { Leaves left room (term_size t.now) (term_depth t.now) result }
 {
+    if size(t) > left {
+        return None;
+    }
+    if u32::from(short_depth(t)) > room {
+        return None;
+    }
     kept_leaves(left, room, whole_size(t), whole_depth(t))
 }

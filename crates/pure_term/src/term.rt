@@ -41,24 +41,24 @@ pub enum TermNode {
         place: u32,
     },
     Abs {
+        kept: Kept,
         typ: Typ,
         body: Arc<Term>,
-        kept: Kept,
     },
     App {
+        kept: Kept,
         fun: Arc<Term>,
         arg: Arc<Term>,
-        kept: Kept,
     },
 }
 
-/// The measures of a term: its size and its depth, cut off at `u64::MAX`; one above the greatest index of a schematic variable, those of types among them, or 0; and one above the greatest loose bound variable, or 0.
+/// The measures of a term: its size; one above the greatest index of a schematic variable, those of types among them, or 0; its depth; and one above the greatest loose bound variable, or 0. Each is cut off at the greatest number of its type, and then tells no more than that. They stand before a node's parts, where they take the least room.
 #[derive(Clone, Copy, Debug)]
 pub struct Kept {
-    pub size: u64,
-    pub depth: u64,
-    pub above: u64,
-    pub loose: u64,
+    pub size: u32,
+    pub above: u32,
+    pub depth: u16,
+    pub loose: u16,
 }
 
 impl Model for Term {
@@ -90,7 +90,7 @@ impl Term {
     {
         let kept = abs_measures(&typ, &body);
         Term {
-            node: TermNode::Abs { typ, body, kept },
+            node: TermNode::Abs { kept, typ, body },
         }
     }
 
@@ -100,7 +100,7 @@ impl Term {
     {
         let kept = app_measures(&fun, &arg);
         Term {
-            node: TermNode::App { fun, arg, kept },
+            node: TermNode::App { kept, fun, arg },
         }
     }
 
@@ -134,18 +134,18 @@ impl Term {
             TermNode::Bound { place } => Ok(Term {
                 node: TermNode::Bound { place: *place },
             }),
-            TermNode::Abs { typ, body, kept } => {
+            TermNode::Abs { kept, typ, body } => {
                 let typ = typ.copy(alloc)?;
-                let (body, kept) = (Arc::try_clone(body)?, *kept);
+                let (kept, body) = (*kept, Arc::try_clone(body)?);
                 Ok(Term {
-                    node: TermNode::Abs { typ, body, kept },
+                    node: TermNode::Abs { kept, typ, body },
                 })
             }
-            TermNode::App { fun, arg, kept } => {
+            TermNode::App { kept, fun, arg } => {
                 let fun = Arc::try_clone(fun)?;
-                let (arg, kept) = (Arc::try_clone(arg)?, *kept);
+                let (kept, arg) = (*kept, Arc::try_clone(arg)?);
                 Ok(Term {
-                    node: TermNode::App { fun, arg, kept },
+                    node: TermNode::App { kept, fun, arg },
                 })
             }
         }
