@@ -89,7 +89,7 @@ fn is_written(fault: CertFault, letter: &[u8], number: u32) -> bool {
 /// Whether the theory refuses to certify the term by this letter and number.
 fn is_refused(theory: &Theory, t: &Term, letter: &[u8], number: u32) -> bool {
     match theory.certify(t) {
-        Ok(_) => false,
+        Ok(_typ) => false,
         Err(fault) => is_written(fault, letter, number),
     }
 }
