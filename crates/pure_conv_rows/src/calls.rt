@@ -1,7 +1,7 @@
 //! Rows by their words.
 use crate::answers::{Answer, compared};
-use crate::constants::replaced;
-use pure_conv::{abs_conv, all_conv, comb_conv, then_conv, unfold};
+use crate::constants::{Asked, replaced};
+use pure_conv::{ConvFault, abs_conv, all_conv, comb_conv, then_conv, unfold};
 use pure_rows::{Outcome, Row};
 use pure_shown::{Classes, Theories, is_closed_under, is_variable, term, theorem};
 use pure_term::{Term, typ_of};
@@ -53,7 +53,7 @@ fn of_typed(alloc: Global, thy: &Classes, call: OfBoth, t: &Term, th: &Thm) -> O
     };
     match call {
         OfBoth::Unfold => Some(unfold(alloc, thy, th, t)),
-        _ => Some(replaced(alloc, thy, t, th)),
+        _ => Some(replaced(alloc, thy, t, th, &Asked::new())),
     }
 }
 
@@ -82,6 +82,26 @@ fn of_theorem(alloc: Global, thy: &Classes, call: OfBoth, th: &Thm, row: &Row) -
 fn of_both(alloc: Global, thy: &Classes, call: OfBoth, row: &Row) -> Option<Outcome> {
     let th = theorem(alloc, row.field(3))?;
     of_theorem(alloc, thy, call, &th, row)
+}
+
+/// Whether `bottom` asks so of the constants of a term, if the theorem says what they are equal to; none where it may not be asked.
+fn asks(alloc: Global, thy: &Classes, t: &Term, th: &Thm, numbers: u32) -> Option<Outcome> {
+    let Ok(_) = typ_of(alloc, t) else {
+        return None;
+    };
+    let asked = Asked::new();
+    match replaced(alloc, thy, t, th, &asked) {
+        Err(ConvFault::Memory) => Some(Outcome::Memory),
+        _ => Some(Outcome::of(asked.numbers() == u64::from(numbers))),
+    }
+}
+
+/// What comes of a row of a term, a theorem, and the numbers of the constants that are asked of.
+fn of_asked(alloc: Global, thy: &Classes, row: &Row) -> Option<Outcome> {
+    let numbers = row.number(4)?;
+    let th = theorem(alloc, row.field(3))?;
+    let t = term(alloc, row.field(2))?;
+    asks(alloc, thy, &t, &th, numbers)
 }
 
 /// What a call on two theorems answers.
@@ -116,6 +136,7 @@ pub(crate) fn outcome_of(alloc: Global, theories: &Theories, row: &Row) -> Optio
         (b"abs_conv", 5) => of_both(alloc, thy, OfBoth::Abs, row),
         (b"unfold", 5) => of_both(alloc, thy, OfBoth::Unfold, row),
         (b"bottom", 5) => of_both(alloc, thy, OfBoth::Bottom, row),
+        (b"asks", 5) => of_asked(alloc, thy, row),
         _ => None,
     }
 }

@@ -10,9 +10,10 @@ ghost use Rattle.pure_conv.specs.Bottom.{IsEquationFrom};
 use crate::answers::Answer;
 use pure_conv::{ConvFault, bottom};
 use pure_shown::Classes;
-use pure_term::Term;
+use pure_term::{Term, TermNode};
 use pure_theorem::{Thm, are_same, as_equation};
 use std::alloc::Global;
+use std::sync::atomic::{AtomicU64, Ordering};
 
 /// Whether the theorem has neither hypotheses nor pairs.
 fn is_alone(th: &Thm) -> bool
@@ -56,12 +57,46 @@ fn told(alloc: Global, th: &Thm, constant: &Term) -> Result<Option<Thm>, ConvFau
     Ok(Some(th.copy(alloc)?))
 }
 
+/// What was asked of, in order: the numbers of the constants' names, two digits for each.
+#[derive(Drop)]
+pub(crate) struct Asked {
+    numbers: AtomicU64,
+}
+
+impl Asked {
+    /// Nothing was asked of yet.
+    pub(crate) fn new() -> Asked {
+        Asked {
+            numbers: AtomicU64::new(0),
+        }
+    }
+
+    /// The numbers.
+    pub(crate) fn numbers(&self) -> u64 {
+        self.numbers.load(Ordering::SeqCst)
+    }
+
+    /// Adds the constant.
+    fn add(&self, constant: &Term) {
+        let number = match &constant.node {
+            TermNode::Const { name, .. } => u64::from(name.0),
+            _ => 99,
+        };
+        let before = self.numbers();
+        let after = before.wrapping_mul(100).wrapping_add(number);
+        self.numbers.store(after, Ordering::SeqCst);
+    }
+}
+
 /// The constants of the term replaced as the theorem says.
-pub(crate) fn replaced(alloc: Global, thy: &Classes, t: &Term, th: &Thm) -> Answer
+pub(crate) fn replaced(alloc: Global, thy: &Classes, t: &Term, th: &Thm, asked: &Asked) -> Answer
     requires { IsTyped t.now }
 {
     let say = |_thy: &Classes, constant: &Term| -> Result<Option<Thm>, ConvFault>
         ensures { (own : logic.Theorem) → result ≡ Ok (Some own) → IsEquationFrom constant.now own }
-    { told(alloc, th, constant) };
+    {
+        asked.add(constant);
+        told(alloc, th, constant)
+    };
     bottom(alloc, thy, &say, t)
 }

@@ -65,3 +65,40 @@ pub(crate) fn define_row(alloc: Global, kept: &mut Kept, row: &Row) -> Result<Ou
     let there = wanted.is_some() || has_both(last(stages)?, constant, fact);
     Ok(Outcome::of(answered && there))
 }
+
+/// The letter of a refusal to certify, and the number of its name, or its place.
+fn letter_of(fault: CertFault) -> (u8, u32) {
+    match fault {
+        CertFault::UnknownType { name } => (b'T', name.0),
+        CertFault::WrongCount { name } => (b'W', name.0),
+        CertFault::UnknownClass { name } => (b'C', name.0),
+        CertFault::UnknownConst { name } => (b'K', name.0),
+        CertFault::NotInstance { name } => (b'I', name.0),
+        CertFault::SortFails { var } => (b'S', var.0),
+        CertFault::NotTyped { place } => (b'P', place),
+        CertFault::Memory => (b'M', 0),
+    }
+}
+
+/// Whether the refusal is written by this letter and number.
+fn is_written(fault: CertFault, letter: &[u8], number: u32) -> bool {
+    let (own, told) = letter_of(fault);
+    told == number && letter == [own].as_slice()
+}
+
+/// Whether the theory refuses to certify the term by this letter and number.
+fn is_refused(theory: &Theory, t: &Term, letter: &[u8], number: u32) -> bool {
+    match theory.certify(t) {
+        Ok(_typ) => false,
+        Err(fault) => is_written(fault, letter, number),
+    }
+}
+
+/// `uncertified`: declarations, a term, and the letter and number of the refusal to certify it.
+pub(crate) fn uncertified_row(alloc: Global, kept: &mut Kept, row: &Row) -> Result<Outcome, Stop> {
+    let number = number(row, 4)?;
+    declared(alloc, &mut kept.stages, given(row, 1))?;
+    let t = term_of(alloc, row.field(2))?;
+    let theory = last(&kept.stages)?;
+    Ok(Outcome::of(is_refused(theory, &t, row.field(3), number)))
+}

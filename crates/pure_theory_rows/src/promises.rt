@@ -146,12 +146,25 @@ pub(crate) fn handed_row(
     outcome
 }
 
-/// The promise that is written so.
-fn promise_of(text: &[u8]) -> Result<Decl, Stop> {
+/// The declaration of this name and the mark of its kind.
+fn decl_marked(name: Name, mark: u8) -> Result<Decl, Stop> {
+    match mark {
+        b'?' => Ok(Decl::Promise { name, label: LABEL }),
+        b'<' => Ok(Decl::Class { name }),
+        b'/' => Ok(Decl::Con { name }),
+        b'.' => Ok(Decl::Const { name }),
+        b'!' => Ok(Decl::Axiom { name }),
+        _ => Err(Stop::Unreadable),
+    }
+}
+
+/// The declaration that is written so.
+fn decl_of(text: &[u8]) -> Result<Decl, Stop> {
     match text {
-        [byte, b'?'] => Ok(Decl::Promise {
-            name: name(*byte),
-            label: LABEL,
+        [byte, mark] => decl_marked(name(*byte), *mark),
+        [con, b':', class] => Ok(Decl::Arity {
+            con: name(*con),
+            class: name(*class),
         }),
         _ => Err(Stop::Unreadable),
     }
@@ -175,14 +188,17 @@ fn is_missed(theorem: &Cthm, to: &Stage, wanted: Decl) -> Result<Outcome, Stop> 
             mem::forget(more);
             Ok(Outcome::Differs)
         }
-        Err(TransferFault::Missing { declaration }) => Ok(Outcome::of(declaration == wanted)),
+        Err(TransferFault::Missing { declaration }) => {
+            let missing = (&**theorem.stage()).missing(&**to);
+            Ok(Outcome::of(declaration == wanted && missing == Some(wanted)))
+        }
         Err(TransferFault::Memory) => Err(Stop::Memory),
     }
 }
 
 /// Whether the row's other theory lacks what the row says.
 fn missed(alloc: Global, kept: &mut Kept, theorem: &Cthm, row: &Row) -> Result<Outcome, Stop> {
-    let wanted = promise_of(row.field(3))?;
+    let wanted = decl_of(row.field(3))?;
     put_other(alloc, kept, row.field(2))?;
     is_missed(theorem, last_stage(&kept.stages)?, wanted)
 }
@@ -192,6 +208,25 @@ pub(crate) fn lacks_row(alloc: Global, kept: &mut Kept, row: &Row) -> Result<Out
     declared(alloc, &mut kept.stages, given(row, 1))?;
     let theorem = theorem(alloc, last_stage(&kept.stages)?)?;
     let outcome = missed(alloc, kept, &theorem, row);
+    mem::forget(theorem);
+    outcome
+}
+
+/// Whether the theory of the row's count of declarations lacks what the row says.
+fn missed_before(stages: &[Stage], theorem: &Cthm, row: &Row) -> Result<Outcome, Stop> {
+    let wanted = decl_of(row.field(3))?;
+    let count = number(row, 2)?;
+    match stages.get(count as usize) {
+        Some(stage) => is_missed(theorem, stage, wanted),
+        None => Err(Stop::Unreadable),
+    }
+}
+
+/// `back`: declarations with a promise, how many of the others the other theory has, and the declaration that this lacks first.
+pub(crate) fn back_row(alloc: Global, kept: &mut Kept, row: &Row) -> Result<Outcome, Stop> {
+    declared(alloc, &mut kept.stages, given(row, 1))?;
+    let theorem = theorem(alloc, last_stage(&kept.stages)?)?;
+    let outcome = missed_before(&kept.stages, &theorem, row);
     mem::forget(theorem);
     outcome
 }

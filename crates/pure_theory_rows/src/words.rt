@@ -1,11 +1,11 @@
 //! The words of `theories.rows`.
 use crate::begins::{begins_row, may_row, refused_row};
 use crate::declarations::declare_row;
-use crate::definitions::define_row;
+use crate::definitions::{define_row, uncertified_row};
 use crate::instances::{instance_row, unsorted_row};
 use crate::kept::Kept;
 use crate::notation::entry_of;
-use crate::promises::{handed_row, label_row, lacks_row};
+use crate::promises::{back_row, handed_row, label_row, lacks_row};
 use crate::stop::Stop;
 use pure_rows::{Outcome, Row, Subject};
 use std::alloc::Global;
@@ -24,12 +24,14 @@ enum Word {
     Handed,
     Copied,
     Lacks,
+    Back,
+    Uncertified,
     Instance,
     Unsorted,
 }
 
 /// The words with how many fields a row of each has.
-static WORDS: [(&[u8], (usize, Word)); 11] = [
+static WORDS: [(&[u8], (usize, Word)); 13] = [
     (b"declare", (5, Word::Declare)),
     (b"define", (7, Word::Define)),
     (b"begins", (4, Word::Begins)),
@@ -39,6 +41,8 @@ static WORDS: [(&[u8], (usize, Word)); 11] = [
     (b"handed", (3, Word::Handed)),
     (b"copied", (3, Word::Copied)),
     (b"lacks", (4, Word::Lacks)),
+    (b"back", (4, Word::Back)),
+    (b"uncertified", (5, Word::Uncertified)),
     (b"instance", (4, Word::Instance)),
     (b"unsorted", (4, Word::Unsorted)),
 ];
@@ -59,6 +63,8 @@ fn outcome_of(alloc: Global, kept: &mut Kept, row: &Row) -> Result<Outcome, Stop
         Word::Handed => handed_row(alloc, kept, row, false),
         Word::Copied => handed_row(alloc, kept, row, true),
         Word::Lacks => lacks_row(alloc, kept, row),
+        Word::Back => back_row(alloc, kept, row),
+        Word::Uncertified => uncertified_row(alloc, kept, row),
         Word::Instance => instance_row(alloc, kept, row),
         Word::Unsorted => unsorted_row(alloc, kept, row),
     }

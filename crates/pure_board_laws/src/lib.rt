@@ -1,0 +1,4 @@
+//! What the seats of a board have seen while it is open.
+#![tactic(auto)]
+
+pub mod fronts;

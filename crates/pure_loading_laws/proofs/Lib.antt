@@ -1,0 +1,6 @@
+mod OutcomeLaws
+mod GraphLaws
+mod OrderLaws
+mod NameLaws
+mod ListingLaws
+mod SessionLaws

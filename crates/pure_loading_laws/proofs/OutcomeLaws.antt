@@ -1,0 +1,228 @@
+-- What a file says by itself, for any bytes: its tokens are read or have a fault, and so has their text.
+use Rattle.std.proofs.Common.{◌≡◌, ◌⊎◌, ◌∙◌, inl, inr, ℕ, ◌+◌, ◌<◌, ◌≤◌, Bool, true, false, List, [], ◌∷◌, length, map, Option, Some, None, nat_lt, refl, sym, ap, subst, arith, true≢false, if◌then◌else◌}
+use Rattle.std.specs.Prelude.{codes}
+use Rattle.std.proofs.lemmas.Bool.{cases_lt}
+use Rattle.pure_grammar.specs.declared.token.Token.{Token}
+use Rattle.pure_grammar.specs.declared.token.TokenKind.{TokenKind}
+use Rattle.pure_grammar.specs.declared.token.TokenKind.TheVariants as kind
+use Rattle.pure_grammar.specs.declared.lexeme.Keyword.TheVariants as keyword
+use Rattle.pure_grammar.specs.declared.lexeme.Sign.TheVariants as sign
+use Rattle.pure_grammar.specs.Tokens.Spelling.{Spells, HasFault}
+use Rattle.pure_grammar.specs.Theories.TheoryText.{Span, Command, TheoryText}
+use Rattle.pure_grammar.specs.Theories.Lexeme.{Lexeme, Reserved, Signed, Plain, Dotted, Variable, Numeral, Quoted, Other, Ends, same, is_word, ident_in, lexeme_of, lexeme, lexemes, word_lexeme, command_lexeme, proof_lexeme, symbol_lexeme}
+use Rattle.pure_grammar.specs.Theories.Outer.{SpellsTheory, HasSyntaxFault, place_of}
+use Rattle.pure_grammar.specs.Theories.Reader.{State, Header, Place, Turn, Moves, Adds, Refuses, AtStart, AtTheoryName, AfterTheoryName, AtImport, AfterImport, InBody, AtLast, Through, Stuck, goes_if, goes_with, goes_on, body_begun, after_import, body_state, body_next, is_after_end, turn, next, run, expected}
+use Rattle.pure_grammar.specs.Theories.Reader as reader
+use Rattle.pure_grammar.proofs.FaultLemmas.{Gets-IsTheory, goes-wrong, is_last}
+use Rattle.pure_lex.proofs.Existence.{some_reading}
+use Rattle.pure_graph.specs.Limits.{most_bytes, most_files}
+use Rattle.pure_graph.specs.Outcome.{Outcome, Refused, IsSourceOutcome, IsBytesOutcome, syntax_at, tree_outcome}
+use Rattle.pure_graph.specs.Reading.{Answer, File, IsTried, AreReadFrom, counted, command_count}
+use Rattle.pure_graph.specs.declared.outcome.Reason.TheVariants.{TooManyFiles, NoFile, TooLarge}
+use Rattle.pure_loading_laws.specs.Loading.{EachFileSaysSomething}
+
+-- ---- no token is the end
+abbrev is_end : Lexeme → Bool
+is_end Ends = true
+is_end _ = false
+
+-- of these lexemes the first whose test holds, else another
+abbrev first_of : List (Bool × Lexeme) → Lexeme → Lexeme
+first_of [] other = other
+first_of (p ∷ ps) other = if p.0 then p.1 else first_of ps other
+
+abbrev all_go : List (Bool × Lexeme) → Bool
+all_go [] = true
+all_go (p ∷ ps) = if is_end p.1 then false else all_go ps
+
+chosen : (b c : Bool) (x y : Lexeme) (more : Bool) → is_end x ≡ c → (if c then false else more) ≡ true → (more ≡ true → is_end y ≡ false) → is_end (if b then x else y) ≡ false
+chosen b true x y more h a f = absurd (true≢false (sym a))
+chosen true false x y more h a f = h
+chosen false false x y more h a f = f a
+
+first-goes : (ps : List (Bool × Lexeme)) (other : Lexeme) → all_go ps ≡ true → is_end other ≡ false → is_end (first_of ps other) ≡ false
+first-goes [] other a e = e
+first-goes (p ∷ ps) other a e = chosen p.0 (is_end p.1) p.1 (first_of ps other) (all_go ps) refl a (λ more. first-goes ps other more e)
+
+proof-goes : (bs : List ℕ) → is_end (proof_lexeme bs) ≡ false
+unfolding proof_lexeme
+proof-goes bs = first-goes ((same bs (codes "apply"), Reserved keyword.Apply) ∷ (same bs (codes "done"), Reserved keyword.Done) ∷ (same bs (codes "by"), Reserved keyword.By)
+    ∷ (same bs (codes "prefer"), Reserved keyword.Prefer) ∷ (same bs (codes "defer"), Reserved keyword.Defer) ∷ (same bs (codes "have"), Reserved keyword.Have) ∷ []) (Other kind.Word) refl refl
+
+command-goes : (bs : List ℕ) → is_end (command_lexeme bs) ≡ false
+unfolding command_lexeme
+command-goes bs = first-goes ((same bs (codes "class"), Reserved keyword.Class) ∷ (same bs (codes "typedecl"), Reserved keyword.Typedecl) ∷ (same bs (codes "arities"), Reserved keyword.Arities)
+    ∷ (same bs (codes "consts"), Reserved keyword.Consts) ∷ (same bs (codes "axiomatization"), Reserved keyword.Axiomatization) ∷ (same bs (codes "where"), Reserved keyword.Where)
+    ∷ (same bs (codes "and"), Reserved keyword.And) ∷ (same bs (codes "definition"), Reserved keyword.Definition) ∷ (same bs (codes "lemma"), Reserved keyword.Lemma)
+    ∷ (same bs (codes "theorem"), Reserved keyword.Theorem) ∷ []) (proof_lexeme bs) refl (proof-goes bs)
+
+word-goes : (bs : List ℕ) → is_end (word_lexeme bs) ≡ false
+unfolding word_lexeme
+word-goes bs = first-goes ((same bs (codes "theory"), Reserved keyword.Theory) ∷ (same bs (codes "imports"), Reserved keyword.Imports) ∷ (same bs (codes "begin"), Reserved keyword.Begin)
+    ∷ (same bs (codes "end"), Reserved keyword.End) ∷ (same bs (codes "version"), Reserved keyword.Version) ∷ []) (command_lexeme bs) refl (command-goes bs)
+
+symbol-goes : (bs : List ℕ) → is_end (symbol_lexeme bs) ≡ false
+unfolding symbol_lexeme
+symbol-goes bs = first-goes ((same bs (codes "<"), Signed sign.Less) ∷ (same bs (codes ","), Signed sign.Comma) ∷ (same bs (codes ":"), Signed sign.Colon)
+    ∷ (same bs (codes "::"), Signed sign.DoubleColon) ∷ (same bs (codes "("), Signed sign.OpenParenthesis) ∷ (same bs (codes ")"), Signed sign.CloseParenthesis)
+    ∷ (same bs (codes "{"), Signed sign.OpenBrace) ∷ (same bs (codes "}"), Signed sign.CloseBrace) ∷ []) (Other kind.Symbol) refl refl
+
+kind-goes : (k : TokenKind) (bs : List ℕ) (at : Span) → is_end (lexeme_of k bs at) ≡ false
+kind-goes kind.Word bs at = word-goes bs
+kind-goes kind.Ident bs at = refl
+kind-goes kind.Qualified bs at = refl
+kind-goes kind.TypeVar bs at = refl
+kind-goes kind.Schem bs at = refl
+kind-goes kind.BoundName bs at = refl
+kind-goes kind.Number bs at = refl
+kind-goes kind.Quote bs at = refl
+kind-goes kind.Symbol bs at = symbol-goes bs
+kind-goes kind.End bs at = refl
+
+token-goes : (source : List ℕ) (t : Token) → is_end (lexeme source t) ≡ false
+token-goes source t = kind-goes t.kind _ _
+
+-- ---- the reader is through at the end alone
+none-some : {A : Type 0} (x : A) → None ≡ Some x → ⊥
+none-some x e = cc e
+
+some-same : {A : Type 0} (x y : A) → Some x ≡ Some y → x ≡ y
+some-same x y e = cc e
+
+if-inside : (b : Bool) (s v : State) → is_last s ≡ false → goes_if b s ≡ Some v → is_last v ≡ false
+if-inside true s v f e = subst (λ u. is_last u ≡ false) (some-same s v e) f
+if-inside false s v f e = absurd (none-some v e)
+
+with-inside : {A : Type 0} (state : A → State) → ((x : A) → is_last (state x) ≡ false) → (o : Option A) (v : State) → goes_with state o ≡ Some v → is_last v ≡ false
+with-inside state f None v e = absurd (none-some v e)
+with-inside state f (Some x) v e = subst (λ u. is_last u ≡ false) (some-same (state x) v e) (f x)
+
+either-inside : (b : Bool) (s v : State) (o : Option State) → is_last s ≡ false → (o ≡ Some v → is_last v ≡ false) → (if b then Some s else o) ≡ Some v → is_last v ≡ false
+either-inside true s v o f g e = subst (λ u. is_last u ≡ false) (some-same s v e) f
+either-inside false s v o f g e = g e
+
+import-inside : (h : Header) (l : Lexeme) (o : Option (List ℕ)) (v : State) → after_import h l o ≡ Some v → is_last v ≡ false
+import-inside h l None v e = if-inside _ _ v refl e
+import-inside h l (Some x) v e = subst (λ u. is_last u ≡ false) (some-same _ v e) refl
+
+body-inside : (h : Header) (cs : List Command) (to : Turn) (v : State) → body_state h cs to ≡ Some v → is_last v ≡ false
+body-inside h cs (Moves place) v e = subst (λ u. is_last u ≡ false) (some-same _ v e) refl
+body-inside h cs (Adds c place) v e = subst (λ u. is_last u ≡ false) (some-same _ v e) refl
+body-inside h cs Refuses v e = absurd (none-some v e)
+
+place-inside : (h : Header) (cs : List Command) (place : Place) (l : Lexeme) (v : State) → is_end l ≡ false → body_next h cs place l ≡ Some v → is_last v ≡ false
+place-inside h cs place Ends v n e = absurd (true≢false n)
+place-inside h cs place (Reserved w) v n e = body-inside h cs (turn place (Reserved w)) v e
+place-inside h cs place (Signed s) v n e = body-inside h cs (turn place (Signed s)) v e
+place-inside h cs place (Plain x at) v n e = body-inside h cs (turn place (Plain x at)) v e
+place-inside h cs place (Dotted x at) v n e = body-inside h cs (turn place (Dotted x at)) v e
+place-inside h cs place (Variable x at) v n e = body-inside h cs (turn place (Variable x at)) v e
+place-inside h cs place (Numeral m) v n e = body-inside h cs (turn place (Numeral m)) v e
+place-inside h cs place (Quoted at) v n e = body-inside h cs (turn place (Quoted at)) v e
+place-inside h cs place (Other k) v n e = body-inside h cs (turn place (Other k)) v e
+
+next-inside : (u : State) (l : Lexeme) (v : State) → is_end l ≡ false → next u l ≡ Some v → is_last v ≡ false
+next-inside AtStart l v n e = if-inside _ _ v refl e
+next-inside AtTheoryName l v n e = with-inside (λ x. AfterTheoryName x) (λ x. refl) (ident_in l) v e
+next-inside (AfterTheoryName x) l v n e =
+    let begun : State = body_begun (record { name = x; imports = codes "Pure" ∷ [] }) in
+    either-inside (is_word keyword.Imports l) (AtImport x) v (goes_if (is_word keyword.Begin l) begun) refl (λ f. if-inside (is_word keyword.Begin l) begun v refl f) e
+next-inside (AtImport x) l v n e = with-inside (λ i. AfterImport (record { name = x; imports = i ∷ [] })) (λ i. refl) (ident_in l) v e
+next-inside (AfterImport h) l v n e = import-inside h l (ident_in l) v e
+next-inside (InBody h cs place) l v n e = place-inside h cs place l v n e
+next-inside (AtLast t) l v n e = absurd (none-some v e)
+
+last-if : (b : Bool) (t : TheoryText) (v : State) → goes_if b (AtLast t) ≡ Some v → (u : TheoryText) × (v ≡ AtLast u)
+last-if true t v e = (t, sym (some-same (AtLast t) v e))
+last-if false t v e = absurd (none-some v e)
+
+ends-last : (u v : State) → next u Ends ≡ Some v → (t : TheoryText) × (v ≡ AtLast t)
+ends-last AtStart v e = absurd (none-some v e)
+ends-last AtTheoryName v e = absurd (none-some v e)
+ends-last (AfterTheoryName x) v e = absurd (none-some v e)
+ends-last (AtImport x) v e = absurd (none-some v e)
+ends-last (AfterImport h) v e = absurd (none-some v e)
+ends-last (InBody h cs place) v e = last-if (is_after_end place) _ v e
+ends-last (AtLast t) v e = absurd (none-some v e)
+
+abbrev is_through : reader.Outcome → Bool
+is_through (Through s) = true
+is_through (Stuck s found rest) = false
+
+through-same : (s u : State) → Through s ≡ Through u → s ≡ u
+through-same s u e = cc e
+
+stuck-same : (s u : State) (l m : Lexeme) (ls ms : List Lexeme) → Stuck s l ls ≡ Stuck u m ms → s ≡ u
+stuck-same s u l m ls ms e = cc e
+
+through : (source : List ℕ) (ts : List Token) (u s : State) → run u (lexemes source ts) ≡ Through s → (t : TheoryText) × (s ≡ AtLast t)
+through source [] u s e = at-end (next u Ends) refl e
+  where
+    at-end : (o : Option State) → next u Ends ≡ o → goes_on o (Stuck u Ends []) (λ v. run v []) ≡ Through s → (t : TheoryText) × (s ≡ AtLast t)
+    at-end None h k = absurd (true≢false (sym (ap is_through k)))
+    at-end (Some v) h k = let w = ends-last u v h in (w.0, sym (through-same v s k) ∙ w.1)
+through source (x ∷ ts) u s e = at-token (next u (lexeme source x)) (λ v k. through source ts v s k) e
+  where
+    at-token : (o : Option State) → ((v : State) → run v (lexemes source ts) ≡ Through s → (t : TheoryText) × (s ≡ AtLast t))
+        → goes_on o (Stuck u (lexeme source x) (lexemes source ts)) (λ v. run v (lexemes source ts)) ≡ Through s → (t : TheoryText) × (s ≡ AtLast t)
+    at-token None again k = absurd (true≢false (sym (ap is_through k)))
+    at-token (Some v) again k = again v k
+
+stuck-inside : (source : List ℕ) (ts : List Token) (u s : State) (found : Lexeme) (rest : List Lexeme) → is_last u ≡ false → run u (lexemes source ts) ≡ Stuck s found rest → is_last s ≡ false
+stuck-inside source [] u s found rest f e = at-end (next u Ends) e
+  where
+    at-end : (o : Option State) → goes_on o (Stuck u Ends []) (λ v. run v []) ≡ Stuck s found rest → is_last s ≡ false
+    at-end None k = subst (λ v. is_last v ≡ false) (stuck-same u s _ found _ rest k) f
+    at-end (Some v) k = absurd (true≢false (ap is_through k))
+stuck-inside source (x ∷ ts) u s found rest f e = at-token (next u (lexeme source x)) refl (λ v inside k. stuck-inside source ts v s found rest inside k) e
+  where
+    at-token : (o : Option State) → next u (lexeme source x) ≡ o → ((v : State) → is_last v ≡ false → run v (lexemes source ts) ≡ Stuck s found rest → is_last s ≡ false)
+        → goes_on o (Stuck u (lexeme source x) (lexemes source ts)) (λ v. run v (lexemes source ts)) ≡ Stuck s found rest → is_last s ≡ false
+    at-token None h again k = subst (λ v. is_last v ≡ false) (stuck-same u s _ found _ rest k) f
+    at-token (Some v) h again k = again v (next-inside u (lexeme source x) v (token-goes source x) h) k
+
+-- the tokens of a source spell a theory, or have a fault of syntax
+pub theory_or_not : (source : List ℕ) (ts : List Token) → ((t : TheoryText) × SpellsTheory source ts t) ⊎ ((at : ℕ) × (kind : TokenKind) × HasSyntaxFault source ts at kind)
+theory_or_not source ts = by (run AtStart (lexemes source ts)) refl
+  where
+    by : (o : reader.Outcome) → run AtStart (lexemes source ts) ≡ o → ((t : TheoryText) × SpellsTheory source ts t) ⊎ ((at : ℕ) × (kind : TokenKind) × HasSyntaxFault source ts at kind)
+    by (Through s) e = let w = through source ts AtStart s e in inl (w.0, Gets-IsTheory (lexemes source ts) w.0 (e ∙ ap (λ u. Through u) w.1))
+    by (Stuck s found rest) e =
+        let w = goes-wrong (lexemes source ts) s found rest e (stuck-inside source ts AtStart s found rest refl e) in
+        inr (place_of ts (length source) (length w.before), expected s, record { before = w.before; found = found; rest = rest; wrong = w.wrong; follows = w.follows; at_place = refl })
+
+-- ---- one file
+source-says : (theory source : List ℕ) → (outcome : Outcome) × IsSourceOutcome theory source outcome
+source-says theory source = read (some_reading (length source) source (omega arith))
+  where
+    spelled : (ts : List Token) → Spells (length source) ts source → ((t : TheoryText) × SpellsTheory source ts t) ⊎ ((at : ℕ) × (kind : TokenKind) × HasSyntaxFault source ts at kind) → (outcome : Outcome) × IsSourceOutcome theory source outcome
+    spelled ts spells (inl w) = (tree_outcome theory source w.0, inr (w.0, (ts, spells, w.1), refl))
+    spelled ts spells (inr w) = (Refused (syntax_at source w.0), inl (w.0, inr (ts, w.1, spells, w.2), refl))
+
+    read : ((ts : List Token) × Spells (length source) ts source) ⊎ ((place : ℕ) × HasFault (length source) source place) → (outcome : Outcome) × IsSourceOutcome theory source outcome
+    read (inl w) = spelled w.0 w.1 (theory_or_not source w.0)
+    read (inr w) = (Refused (syntax_at source w.0), inl (w.0, inl w.1, refl))
+
+bytes-say : (theory source : List ℕ) → (outcome : Outcome) × IsBytesOutcome theory source outcome
+bytes-say theory source = by (cases_lt most_bytes (length source))
+  where
+    by : (most_bytes < length source) ⊎ (length source ≤ most_bytes) → (outcome : Outcome) × IsBytesOutcome theory source outcome
+    by (inl many) = (Refused TooLarge, inl (many, refl))
+    by (inr few) = let w = source-says theory source in (w.0, inr (few, w.1))
+
+pub file-says : EachFileSaysSomething
+file-says theory None = (Refused (NoFile theory), refl)
+file-says theory (Some source) = bytes-say theory source
+
+-- ---- all files
+tried : (is_read : Bool) (a : Answer) → (outcome : Outcome) × IsTried is_read a outcome
+tried true a = file-says a.theory a.bytes
+tried false a = (Refused TooManyFiles, refl)
+
+-- the files of theories, each with what it says, in order
+pub files-say : (place before : ℕ) (answers : List Answer) → (files : List File) × AreReadFrom place before answers files × (map (λ (f : File). f.theory) files ≡ map (λ (a : Answer). a.theory) answers)
+files-say place before [] = ([], tt, refl)
+files-say place before (a ∷ answers) =
+    let own = tried (nat_lt place most_files) a in
+    let rest = files-say (place + 1) (before + command_count (counted before own.0)) answers in
+    (record { theory = a.theory; outcome = counted before own.0 } ∷ rest.0, (own.0, own.1, refl, rest.1), ap (λ ts. a.theory ∷ ts) rest.2)
