@@ -1,0 +1,2 @@
+//! Rewriting by one equation.
+#![tactic(auto)]
