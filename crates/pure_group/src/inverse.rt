@@ -14,7 +14,7 @@ use pure_kernel::{
 use std::alloc::Global;
 
 /// The term that the text says at the type.
-fn term_at(
+pub(crate) fn term_at(
     alloc: Global,
     thy: &Theory,
     names: &NamesByBase,

@@ -4,12 +4,14 @@
 mod inverse;
 mod print;
 mod propositions;
+mod simplified;
 mod stop;
 mod theory;
 
 use crate::inverse::right_inverse;
 use crate::print::print_line;
 use crate::propositions::{decide_all, decide_goal};
+use crate::simplified::simplified;
 use crate::stop::Stop;
 use crate::theory::{group_names, group_theory};
 use pure_kernel::{NamesByBase, Theory};
@@ -26,6 +28,8 @@ fn run_in<R: Print>(
 ) -> Result<(), Stop> {
     let th = right_inverse(alloc, thy, names)?;
     print_line(rt, alloc, names, "right_inverse", &th.prop)?;
+    let simple = simplified(alloc, thy, names)?;
+    print_line(rt, alloc, names, "simplified", &simple.prop)?;
     decide_goal(rt, alloc, pure, names, "right_inverse in Pure", &th.prop)?;
     decide_all(rt, alloc, thy, names)
 }

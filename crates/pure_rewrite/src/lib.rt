@@ -1,2 +1,7 @@
-//! Rewriting by one equation.
+//! A conversion of one's own over the kernel: rewriting by one equation, wherever an instance of its left side stands.
 #![tactic(auto)]
+
+mod matching;
+mod rewriting;
+
+pub use rewriting::rewrite;
