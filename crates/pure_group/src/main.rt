@@ -2,14 +2,14 @@
 #![tactic(auto)]
 
 mod inverse;
-mod print;
+mod lines;
 mod propositions;
 mod simplified;
 mod stop;
 mod theory;
 
 use crate::inverse::right_inverse;
-use crate::print::print_line;
+use crate::lines::print_line;
 use crate::propositions::{decide_all, decide_goal};
 use crate::simplified::simplified;
 use crate::stop::Stop;

@@ -50,22 +50,28 @@ pub(crate) fn name_of(names: &NamesByBase, text: &[u8]) -> Result<Name, Stop> {
     names.names().find(text).ok_or(Stop::Missing)
 }
 
-/// The theory, over Pure, before anything is declared in it.
-fn begun(alloc: Global, names: &NamesByBase) -> Result<Theory, Stop> {
-    let name = name_of(names, b"Group")?;
-    let parents = parents(alloc)?;
-    if !Theory::may_begin(alloc, 1, name, &parents)? {
-        return Err(Stop::Missing);
-    }
-    let thy = Theory::begin(alloc, 1, name, &parents)?;
-    Ok(thy)
-}
-
-/// Pure alone.
+/// Pure alone, as parents.
 fn parents(alloc: Global) -> Result<Vec<Arc<Theory>>, AllocError> {
     let mut parents = Vec::new(alloc);
     parents.push(Arc::new(alloc, Theory::pure(alloc)?)?)?;
     Ok(parents)
+}
+
+/// A theory of this name over the parents, before anything is declared in it.
+fn begun_over(alloc: Global, name: Name, parents: &[Arc<Theory>]) -> Result<Theory, Stop> {
+    if !Theory::may_begin(alloc, 1, name, parents)? {
+        return Err(Stop::Missing);
+    }
+    let thy = Theory::begin(alloc, 1, name, parents)?;
+    Ok(thy)
+}
+
+/// The theory before anything is declared in it.
+fn begun(alloc: Global, names: &NamesByBase) -> Result<Theory, Stop> {
+    let name = name_of(names, b"Group")?;
+    let parents = parents(alloc)?;
+    let thy = begun_over(alloc, name, &parents)?;
+    Ok(thy)
 }
 
 /// The theory with a type of elements.
