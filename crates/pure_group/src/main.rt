@@ -14,32 +14,53 @@ use crate::propositions::{decide_all, decide_goal};
 use crate::simplified::simplified;
 use crate::stop::Stop;
 use crate::theory::{group_names, group_theory};
-use pure_kernel::{NamesByBase, Theory};
+use pure_kernel::{NamesByBase, Theory, Thm};
 use std::alloc::Global;
+use std::mem;
 use std::process::ExitCode;
 
-/// Proves and prints in the theory of groups. What is proved of groups isn't certified in Pure.
-fn run_in<R: Print>(
+/// Decides the theorem once more in Pure, where it isn't certified.
+fn decide_in_pure<R: Print>(
+    rt: &R,
+    alloc: Global,
+    names: &NamesByBase,
+    th: &Thm,
+) -> Result<(), Stop> {
+    let pure = Theory::pure(alloc)?;
+    let done = decide_goal(rt, alloc, &pure, names, "right_inverse in Pure", &th.prop);
+    mem::forget(pure);
+    done
+}
+
+/// Proves and prints in the theory of groups.
+fn run_over<R: Print>(
     rt: &R,
     alloc: Global,
     thy: &Theory,
     names: &NamesByBase,
-    pure: &Theory,
 ) -> Result<(), Stop> {
     let th = right_inverse(alloc, thy, names)?;
     print_line(rt, alloc, names, "right_inverse", &th.prop)?;
+    decide_in_pure(rt, alloc, names, &th)?;
     let simple = simplified(alloc, thy, names)?;
     print_line(rt, alloc, names, "simplified", &simple.prop)?;
-    decide_goal(rt, alloc, pure, names, "right_inverse in Pure", &th.prop)?;
     decide_all(rt, alloc, thy, names)
 }
 
 /// Declares the theory, and goes on in it.
+fn run_with<R: Print>(rt: &R, alloc: Global, names: &NamesByBase) -> Result<(), Stop> {
+    let thy = group_theory(alloc, names)?;
+    let done = run_over(rt, alloc, &thy, names);
+    mem::forget(thy);
+    done
+}
+
+/// Makes the table of names, and goes on with it.
 fn run<R: Print>(rt: &R, alloc: Global) -> Result<(), Stop> {
     let names = group_names(alloc)?;
-    let thy = group_theory(alloc, &names)?;
-    let pure = Theory::pure(alloc)?;
-    run_in(rt, alloc, &thy, &names, &pure)
+    let done = run_with(rt, alloc, &names);
+    mem::forget(names);
+    done
 }
 
 fn main(rt: HostRuntime) -> ExitCode {

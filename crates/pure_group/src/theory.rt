@@ -2,6 +2,7 @@
 use crate::stop::Stop;
 use pure_kernel::{Name, NamesByBase, Theory, constant_typ_of_text, name_table, statement_of_text};
 use std::alloc::{AllocError, Global};
+use std::mem;
 use std::sync::Arc;
 
 /// The texts of all names: those of the theory, and of variables.
@@ -50,15 +51,20 @@ pub(crate) fn name_of(names: &NamesByBase, text: &[u8]) -> Result<Name, Stop> {
     names.names().find(text).ok_or(Stop::Missing)
 }
 
-/// Pure alone, as parents.
-fn parents(alloc: Global) -> Result<Vec<Arc<Theory>>, AllocError> {
-    let mut parents = Vec::new(alloc);
-    parents.push(Arc::new(alloc, Theory::pure(alloc)?)?)?;
-    Ok(parents)
+/// Pure, to be a parent.
+fn pure_stage(alloc: Global) -> Result<Stage, Stop> {
+    let thy = Theory::pure(alloc)?;
+    match Arc::new(alloc, thy) {
+        Ok(stage) => Ok(stage),
+        Err(failed) => {
+            mem::forget(failed);
+            Err(Stop::Memory)
+        }
+    }
 }
 
 /// A theory of this name over the parents, before anything is declared in it.
-fn begun_over(alloc: Global, name: Name, parents: &[Arc<Theory>]) -> Result<Theory, Stop> {
+fn begun_over(alloc: Global, name: Name, parents: &[Stage]) -> Result<Theory, Stop> {
     if !Theory::may_begin(alloc, 1, name, parents)? {
         return Err(Stop::Missing);
     }
@@ -69,9 +75,10 @@ fn begun_over(alloc: Global, name: Name, parents: &[Arc<Theory>]) -> Result<Theo
 /// The theory before anything is declared in it.
 fn begun(alloc: Global, names: &NamesByBase) -> Result<Theory, Stop> {
     let name = name_of(names, b"Group")?;
-    let parents = parents(alloc)?;
-    let thy = begun_over(alloc, name, &parents)?;
-    Ok(thy)
+    let parents = [pure_stage(alloc)?];
+    let begun = begun_over(alloc, name, &parents);
+    mem::forget(parents);
+    begun
 }
 
 /// The theory with a type of elements.
@@ -110,23 +117,34 @@ fn with_axiom(
     Ok(more)
 }
 
+/// What follows a theory, which isn't let go of: to prove that of all its tables anew is dear.
+fn after(thy: Theory, more: Result<Theory, Stop>) -> Result<Theory, Stop> {
+    mem::forget(thy);
+    more
+}
+
 /// The theory with the constants of groups.
 fn with_constants(alloc: Global, names: &NamesByBase) -> Result<Theory, Stop> {
-    let begun = begun(alloc, names)?;
-    let elements = with_typ(&begun, names, b"Group.g")?;
-    let one = with_const(alloc, &elements, names, b"Group.one", b"g")?;
-    let mul = with_const(alloc, &one, names, b"Group.mul", b"g => g => g")?;
-    let inv = with_const(alloc, &mul, names, b"Group.inv", b"g => g")?;
-    Ok(inv)
+    let thy = begun(alloc, names)?;
+    let more = with_typ(&thy, names, b"Group.g");
+    let thy = after(thy, more)?;
+    let more = with_const(alloc, &thy, names, b"Group.one", b"g");
+    let thy = after(thy, more)?;
+    let more = with_const(alloc, &thy, names, b"Group.mul", b"g => g => g");
+    let thy = after(thy, more)?;
+    let more = with_const(alloc, &thy, names, b"Group.inv", b"g => g");
+    after(thy, more)
 }
 
 /// The theory of groups: the operation is associative, `one` is its left unit, and `inv x` a left inverse of x.
 pub(crate) fn group_theory(alloc: Global, names: &NamesByBase) -> Result<Theory, Stop> {
-    let constants = with_constants(alloc, names)?;
-    let assoc = b"mul (mul x y) z == mul x (mul y z)";
-    let assoc = with_axiom(alloc, &constants, names, b"Group.assoc", assoc)?;
-    let one = with_axiom(alloc, &assoc, names, b"Group.left_one", b"mul one x == x")?;
-    let inverse = b"mul (inv x) x == one";
-    let inverse = with_axiom(alloc, &one, names, b"Group.left_inverse", inverse)?;
-    Ok(inverse)
+    let thy = with_constants(alloc, names)?;
+    let prop = b"mul (mul x y) z == mul x (mul y z)";
+    let more = with_axiom(alloc, &thy, names, b"Group.assoc", prop);
+    let thy = after(thy, more)?;
+    let more = with_axiom(alloc, &thy, names, b"Group.left_one", b"mul one x == x");
+    let thy = after(thy, more)?;
+    let prop = b"mul (inv x) x == one";
+    let more = with_axiom(alloc, &thy, names, b"Group.left_inverse", prop);
+    after(thy, more)
 }
