@@ -1,6 +1,8 @@
 //! The theory of groups, declared by calls.
 use crate::stop::Stop;
-use pure_kernel::{Name, NamesByBase, Theory, constant_typ_of_text, name_table, statement_of_text};
+use pure_kernel::{
+    Name, NamesByBase, Stage, Theory, constant_typ_of_text, name_table, statement_of_text,
+};
 use std::alloc::{AllocError, Global};
 use std::mem;
 use std::sync::Arc;
