@@ -1,7 +1,7 @@
 -- The subcommands: the options, flags and arguments of each, and the job that they give.
 use Rattle.std.specs.Prelude.{◌≡◌, ℕ, ◌*◌, ◌==◌, Bool, true, false, ◌&&◌, ◌||◌, List, [], ◌∷◌, Option, Some, None, length, nat_le, codes, if◌then◌else◌, option_and_then}
 use Rattle.pure_grammar.specs.Theories.Lexeme.{same}
-use Rattle.pure_words.specs.Values.{comma, number_of, within, parts, cancels_in}
+use Rattle.pure_words.specs.Values.{comma, number_of, within, parts, cancels_in, full_name_of}
 use Rattle.pure_words.specs.Table.{row_of, subcommand_named}
 use Rattle.pure_words.specs.declared.job.CancelWord.{CancelWord}
 use Rattle.pure_words.specs.declared.job.Job.{Job}
@@ -46,6 +46,11 @@ abbrev pub size_of : List (List ℕ) → Option Size
 size_of (start ∷ theories ∷ lemmas ∷ []) =
     sized (within 0 65536 (number_of start)) (within 1 64 (number_of theories)) (within 1 512 (number_of lemmas))
 size_of _ = None
+
+-- NAME, the only argument: a qualified name
+abbrev pub name_given : List (List ℕ) → Option (List ℕ)
+name_given (name ∷ []) = full_name_of name
+name_given _ = None
 
 -- the job of `check`, where all its values are right
 abbrev pub checked : Option ℕ → Option Bool → Option (List CancelWord) → Option Job

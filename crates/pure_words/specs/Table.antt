@@ -1,5 +1,5 @@
 -- The table of subcommands: what each is called, and what it takes.
-use Rattle.std.specs.Prelude.{ℕ, Bool, true, false, List, [], ◌∷◌, Option, codes, find}
+use Rattle.std.specs.Prelude.{ℕ, true, false, List, [], ◌∷◌, Option, codes, find}
 use Rattle.pure_grammar.specs.Theories.Lexeme.{same}
 use Rattle.pure_words.specs.declared.table.Subcommand.{Subcommand}
 use Rattle.pure_words.specs.declared.table.Subcommand.TheVariants.{Check, Generate}

@@ -5,6 +5,7 @@ ghost use Rattle.pure_words.specs.Commands as spec;
 use crate::cancel;
 use crate::given::Given;
 use crate::job::{CancelWord, Cancels, Job};
+use crate::name::full_name;
 use crate::number::number_within;
 use crate::table::{Subcommand, Takes, row_of, subcommand_named};
 use pure_text::Text;
@@ -81,6 +82,16 @@ fn size_in(arguments: &[Text]) -> Option<Size>
         theories,
         lemmas,
     })
+}
+
+/// The qualified name that the only argument is.
+fn name_in(alloc: Global, arguments: &[Text]) -> Result<Option<Text>, AllocError>
+    ensures { IfOk result (λ found. found ≡ spec.name_given arguments.now) }
+{
+    match arguments.len() {
+        1 => full_name(alloc, arguments[0].bytes()),
+        _ => Ok(None),
+    }
 }
 
 /// Whether an option, a flag or an argument is given only where the row has it, and all arguments are there.
