@@ -142,6 +142,19 @@ fn generate(given: &Given) -> Option<Job>
     })
 }
 
+/// The job of `try`.
+fn try_lemma(alloc: Global, given: &Given) -> Result<Option<Job>, AllocError>
+    ensures { IfOk result (λ found. found ≡ spec.job_given Subcommand.Try given.now) }
+{
+    let Some(workers) = workers(given.jobs.list()) else {
+        return Ok(None);
+    };
+    match name_in(alloc, given.arguments.list())? {
+        Some(name) => Ok(Some(Job::Try { workers, name })),
+        None => Ok(None),
+    }
+}
+
 /// The job of the subcommand, or None where what is given isn't right for it.
 fn job_by(alloc: Global, subcommand: Subcommand, given: &Given) -> Result<Option<Job>, AllocError>
     ensures { IfOk result (λ found. found ≡ spec.job_by given.now subcommand) }
@@ -152,6 +165,7 @@ fn job_by(alloc: Global, subcommand: Subcommand, given: &Given) -> Result<Option
     match subcommand {
         Subcommand::Check => check(alloc, given),
         Subcommand::Generate => Ok(generate(given)),
+        Subcommand::Try => try_lemma(alloc, given),
     }
 }
 
