@@ -10,8 +10,8 @@ pub trait Attempts: Sync {
     // How many attempts there are.
     ghost many: { Self → ℕ };
 
-    // Whether the attempt of this number wins.
-    ghost wins: { Self → ℕ → Bool };
+    // That the attempt of this number wins, or doesn't.
+    ghost wins: { Self → ℕ → Bool → Type 0 };
 
     // The attempt of this number under way, which hasn't told yet whether it wins.
     ghost tries: { Self → ℕ → Self.Trying → Type 0 };
@@ -40,7 +40,7 @@ pub trait Attempts: Sync {
         requires number { number < many self.now }
         requires trying { tries self.now number trying.old }
         ensures told { IfOk result (λ told. MatchOption told
-            (tries self.now number trying.new × (steps_left trying.new < steps_left trying.old)) (λ won. won ≡ wins self.now number)) }
+            (tries self.now number trying.new × (steps_left trying.new < steps_left trying.old)) (λ won. wins self.now number won)) }
         ensures lacks { OnErr result (tries self.now number trying.new × (lacks trying.new ≡ true)) }
         ensures stays { lacks trying.old ≡ true → OnOk result ⊥ };
 }

@@ -19,7 +19,7 @@ pub(crate) enum End {
 /// Whether an attempt wins; none where it was left, since a lesser one is known to win.
 fn attempt<A: Attempts>(attempts: &A, wins: &Wins, number: u32) -> Result<Option<bool>, AllocError>
     requires { number < A.many attempts.now }
-    ensures { IfOk result (λ told. IfSome told (λ won. won ≡ A.wins attempts.now number)) }
+    ensures { IfOk result (λ told. IfSome told (λ won. A.wins attempts.now number won)) }
 {
     if wins.has_lesser(number) {
         return Ok(None);
@@ -38,7 +38,7 @@ fn attempt<A: Attempts>(attempts: &A, wins: &Wins, number: u32) -> Result<Option
 /// Whether an attempt wins.
 fn whole_attempt<A: Attempts>(attempts: &A, number: u32) -> Result<bool, AllocError>
     requires { number < A.many attempts.now }
-    ensures { IfOk result (λ won. won ≡ A.wins attempts.now number) }
+    ensures { IfOk result (λ won. A.wins attempts.now number won) }
 {
     let mut trying = attempts.start(number)?;
     loop {

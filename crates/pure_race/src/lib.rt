@@ -3,7 +3,12 @@
 
 mod attempts;
 mod lanes;
+pub mod laws;
 mod races;
+#[cfg(test)]
+mod scripted;
+#[cfg(test)]
+mod tests;
 mod wins;
 
 pub use attempts::Attempts;

@@ -1,3 +1,4 @@
+mod Names
 pub mod Numbers
 pub mod Readings
 mod Tables

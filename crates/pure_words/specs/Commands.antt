@@ -1,11 +1,11 @@
 -- The subcommands: the options, flags and arguments of each, and the job that they give.
 use Rattle.std.specs.Prelude.{◌≡◌, ℕ, ◌*◌, ◌==◌, Bool, true, false, ◌&&◌, ◌||◌, List, [], ◌∷◌, Option, Some, None, length, nat_le, codes, if◌then◌else◌, option_and_then}
 use Rattle.pure_grammar.specs.Theories.Lexeme.{same}
-use Rattle.pure_words.specs.Values.{comma, number_of, within, parts, cancels_in}
+use Rattle.pure_words.specs.Values.{comma, number_of, within, parts, cancels_in, full_name_of}
 use Rattle.pure_words.specs.Table.{row_of, subcommand_named}
 use Rattle.pure_words.specs.declared.job.CancelWord.{CancelWord}
 use Rattle.pure_words.specs.declared.job.Job.{Job}
-use Rattle.pure_words.specs.declared.job.Job.TheVariants.{Check, Generate}
+use Rattle.pure_words.specs.declared.job.Job.TheVariants.{Check, Generate, Try}
 use Rattle.pure_words.specs.declared.given.Given.{Given}
 use Rattle.pure_words.specs.declared.command.Size.{Size}
 use Rattle.pure_words.specs.declared.table.Subcommand.{Subcommand}
@@ -47,6 +47,11 @@ size_of (start ∷ theories ∷ lemmas ∷ []) =
     sized (within 0 65536 (number_of start)) (within 1 64 (number_of theories)) (within 1 512 (number_of lemmas))
 size_of _ = None
 
+-- NAME, the only argument: a qualified name
+abbrev pub name_given : List (List ℕ) → Option (List ℕ)
+name_given (name ∷ []) = full_name_of name
+name_given _ = None
+
 -- the job of `check`, where all its values are right
 abbrev pub checked : Option ℕ → Option Bool → Option (List CancelWord) → Option Job
 checked (Some workers) (Some fail_fast) (Some cancels) = Some (Check workers fail_fast cancels)
@@ -56,6 +61,11 @@ checked _ _ _ = None
 abbrev pub generated : Option ℕ → Option Size → Option Job
 generated (Some workers) (Some size) = Some (Generate workers size.start size.theories size.lemmas)
 generated _ _ = None
+
+-- the job of `try`, where all its values are right
+abbrev pub tried : Option ℕ → Option (List ℕ) → Option Job
+tried (Some workers) (Some name) = Some (Try workers name)
+tried _ _ = None
 
 -- `check`: --jobs, --fail-fast and --cancel, and no arguments
 abbrev pub check_of : Given → Option Job
@@ -67,6 +77,11 @@ abbrev pub generate_of : Given → Option Job
 generate_of g =
     if is_none g.cancels && is_none g.fail_fast then generated (workers_of g.jobs) (size_of g.arguments) else None
 
+-- `try`: --jobs, and NAME
+abbrev pub try_of : Given → Option Job
+try_of g =
+    if is_none g.cancels && is_none g.fail_fast then tried (workers_of g.jobs) (name_given g.arguments) else None
+
 -- an option, a flag or an argument is given only where the subcommand takes it, and it has all its arguments
 abbrev pub is_taken : Takes → Given → Bool
 is_taken t g =
@@ -76,6 +91,7 @@ is_taken t g =
 abbrev pub job_given : Subcommand → Given → Option Job
 job_given table.Check g = checked (workers_of g.jobs) (fail_fast_of g.fail_fast) (cancels_of g.cancels)
 job_given table.Generate g = generated (workers_of g.jobs) (size_of g.arguments)
+job_given table.Try g = tried (workers_of g.jobs) (name_given g.arguments)
 
 -- the job of a subcommand, where it takes what is given
 abbrev pub job_by : Given → Subcommand → Option Job
@@ -88,4 +104,7 @@ job_of name g = option_and_then (job_by g) (subcommand_named name)
 -- What the table says, by subcommand.
 abbrev pub TableMeans : Type 0
 TableMeans = (name : List ℕ) (g : Given) → job_of name g
-    ≡ (if same name (codes "check") then check_of g else (if same name (codes "generate") then generate_of g else None))
+    ≡ (if same name (codes "check") then check_of g
+    else (if same name (codes "generate") then generate_of g
+    else (if same name (codes "try") then try_of g
+    else None)))

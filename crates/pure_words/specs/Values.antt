@@ -1,7 +1,8 @@
 -- What the values of options and arguments mean.
-use Rattle.std.specs.Prelude.{ℕ, ◌==◌, ◌&&◌, List, [], ◌∷◌, Option, Some, None, nat_le, option_map, if◌then◌else◌}
+use Rattle.std.specs.Prelude.{ℕ, ◌==◌, Bool, false, ◌&&◌, List, [], ◌∷◌, length, Option, Some, None, nat_le, option_map, if◌then◌else◌}
 use Rattle.std.specs.List.{slice_split}
-use Rattle.pure_grammar.specs.Tokens.Token.{is_number}
+use Rattle.pure_grammar.specs.Tokens.Bytes.{dot}
+use Rattle.pure_grammar.specs.Tokens.Token.{is_number, is_spelling}
 use Rattle.pure_grammar.specs.Theories.Lexeme.{value_behind}
 use Rattle.pure_lex.specs.Identifier.{is_identifier}
 use Rattle.pure_words.specs.declared.job.CancelWord.{CancelWord}
@@ -40,3 +41,16 @@ with_cancel _ _ = None
 abbrev pub cancels_in : List (List ℕ) → Option (List CancelWord)
 cancels_in [] = Some []
 cancels_in (text ∷ texts) = with_cancel (cancel_of (parts colon text)) (cancels_in texts)
+
+-- a letter, then letters, digits, `_` and `'`, at most 64 bytes; it may be a keyword
+abbrev pub is_short_spelling : List ℕ → Bool
+is_short_spelling text = is_spelling text && nat_le (length text) 64
+
+-- two spellings
+abbrev pub are_spellings : List (List ℕ) → Bool
+are_spellings (theory ∷ base ∷ []) = is_short_spelling theory && is_short_spelling base
+are_spellings _ = false
+
+-- A qualified name `T.x`, by the texts between its dots: two spellings.
+abbrev pub full_name_of : List ℕ → Option (List ℕ)
+full_name_of text = if are_spellings (parts dot text) then Some text else None

@@ -9,7 +9,7 @@ use pure_text::Text;
 use std::alloc::{AllocError, Global};
 
 /// The texts between these bytes.
-fn parts(alloc: Global, separator: u8, text: &[u8]) -> Result<Vec<&[u8]>, AllocError>
+pub(crate) fn parts(alloc: Global, separator: u8, text: &[u8]) -> Result<Vec<&[u8]>, AllocError>
     ensures { IfOk result (λ parts. map (λ part. part.now) parts.items ≡ spec.parts separator text.now) }
 {
     text.split(|b| *b == separator).collect(alloc)

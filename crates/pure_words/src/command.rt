@@ -5,6 +5,7 @@ ghost use Rattle.pure_words.specs.Commands as spec;
 use crate::cancel;
 use crate::given::Given;
 use crate::job::{CancelWord, Cancels, Job};
+use crate::name::full_name;
 use crate::number::number_within;
 use crate::table::{Subcommand, Takes, row_of, subcommand_named};
 use pure_text::Text;
@@ -83,6 +84,16 @@ fn size_in(arguments: &[Text]) -> Option<Size>
     })
 }
 
+/// The qualified name that the only argument is.
+fn name_in(alloc: Global, arguments: &[Text]) -> Result<Option<Text>, AllocError>
+    ensures { IfOk result (λ found. found ≡ spec.name_given arguments.now) }
+{
+    match arguments.len() {
+        1 => full_name(alloc, arguments[0].bytes()),
+        _ => Ok(None),
+    }
+}
+
 /// Whether an option, a flag or an argument is given only where the row has it, and all arguments are there.
 fn is_taken(takes: Takes, given: &Given) -> bool
     ensures { result ≡ spec.is_taken takes given.now }
@@ -131,6 +142,19 @@ fn generate(given: &Given) -> Option<Job>
     })
 }
 
+/// The job of `try`.
+fn try_lemma(alloc: Global, given: &Given) -> Result<Option<Job>, AllocError>
+    ensures { IfOk result (λ found. found ≡ spec.job_given Subcommand.Try given.now) }
+{
+    let Some(workers) = workers(given.jobs.list()) else {
+        return Ok(None);
+    };
+    match name_in(alloc, given.arguments.list())? {
+        Some(name) => Ok(Some(Job::Try { workers, name })),
+        None => Ok(None),
+    }
+}
+
 /// The job of the subcommand, or None where what is given isn't right for it.
 fn job_by(alloc: Global, subcommand: Subcommand, given: &Given) -> Result<Option<Job>, AllocError>
     ensures { IfOk result (λ found. found ≡ spec.job_by given.now subcommand) }
@@ -141,6 +165,7 @@ fn job_by(alloc: Global, subcommand: Subcommand, given: &Given) -> Result<Option
     match subcommand {
         Subcommand::Check => check(alloc, given),
         Subcommand::Generate => Ok(generate(given)),
+        Subcommand::Try => try_lemma(alloc, given),
     }
 }
 

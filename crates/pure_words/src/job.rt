@@ -69,4 +69,9 @@ pub enum Job {
         theories: u32,
         lemmas: u32,
     },
+    /// Look for a proof in one step of the lemma with this full name.
+    Try {
+        workers: u32,
+        name: Text,
+    },
 }

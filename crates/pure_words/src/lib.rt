@@ -7,6 +7,7 @@ mod given;
 mod job;
 pub mod laws;
 mod line;
+mod name;
 mod number;
 mod read;
 mod table;
