@@ -1,0 +1,3 @@
+pub mod WithoutLaws
+pub mod KeptProofs
+pub mod CitedLaws

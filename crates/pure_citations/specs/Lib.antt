@@ -1,0 +1,3 @@
+pub mod Without
+pub mod Cites
+pub mod Laws

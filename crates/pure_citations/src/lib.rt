@@ -1,0 +1,4 @@
+//! What lemmas cite: the axioms and definitions on which a proof rests.
+#![tactic(auto)]
+
+pub mod laws;
