@@ -1,3 +1,5 @@
 pub mod WithoutLaws
 pub mod KeptProofs
 pub mod CitedLaws
+pub mod RowLaws
+pub mod ReachedLaws

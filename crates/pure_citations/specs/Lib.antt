@@ -1,3 +1,4 @@
 pub mod Without
 pub mod Cites
 pub mod Laws
+pub mod Reached
