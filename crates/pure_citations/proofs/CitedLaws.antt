@@ -24,9 +24,9 @@ use Rattle.pure_promise_fates.proofs.LabelSets.{first_below, rest_is_set, not_it
 use Rattle.pure_promise_fates.proofs.FateLaws.{one_of_label}
 use Rattle.pure_print.specs.declared.row.Row.{Row}
 use Rattle.pure_print.specs.declared.row.RowStatus.TheVariants as status
-use Rattle.pure_promise.specs.Entries.{LemmaEntry, plain}
-use Rattle.pure_promise.specs.Rows.{IsRowOf}
-use Rattle.pure_promise.proofs.FateLaws.{proved_row}
+use Rattle.pure_table.specs.Promise.Entries.{LemmaEntry, plain}
+use Rattle.pure_table.specs.Promise.Rows.{IsRowOf}
+use Rattle.pure_table.proofs.Promise.FateLaws.{proved_row}
 use Rattle.pure_statements.proofs.JoinLaws.{schematic-is_generalised}
 use Rattle.pure_table.specs.Declare.Notes.{Fork, Note}
 use Rattle.pure_table.specs.Method.Facts.{theorem}
@@ -38,10 +38,10 @@ use Rattle.pure_table.specs.SessionMeaning.Statements.{forks_of, AreStatements}
 use Rattle.pure_table.specs.SessionMeaning.Laws.{IsSomeFork}
 use Rattle.pure_table.proofs.SessionMeaning.OrderlyLaws.{runs_orderly}
 use Rattle.pure_table.specs.Table.{IsOwn, IsEntryOf, AreEntriesOf}
-use Rattle.pure_table.proofs.ClaimLaws.{IsEarlier, AreBound, one_lemma, own-shown, ordered}
-use Rattle.pure_table.proofs.DerivedLaws.{standing, provable, some_fork, bound, entries_of}
+use Rattle.pure_table.proofs.ClaimLaws.{IsEarlier, AreBound, one_lemma, own-shown}
+use Rattle.pure_table.proofs.DerivedLaws.{standing, provable, some_fork, bound, has_fates}
 use Rattle.pure_citations.specs.Without.{with_axioms}
-use Rattle.pure_citations.specs.Cites.{NamesAxiom, IsReachedFrom, Cites}
+use Rattle.pure_citations.specs.Cites.{IsReachedFrom, Cites}
 use Rattle.pure_citations.specs.Laws.{AreAllCited, IsDerivedByCited, CitedSuffice}
 use Rattle.pure_citations.proofs.WithoutLaws.{kept-in, proposition-kept, content-kept, unify-kept, below-kept}
 use Rattle.pure_citations.proofs.KeptProofs.{proof-kept}
@@ -85,7 +85,7 @@ module _ (texts : List (List ℕ)) (theories : List Loaded) (loaded : IsLoadedSe
   became f e m is own same = record { entry = plain e; stands = in-map plain e es m; of_label = is.label; own_is = same }
 
   lists : IsLabelSet (map fates.Entry.label ps)
-  lists = (ordered fs es (bound texts theories loaded notes statements) (entries_of texts theories loaded notes statements cancelled es are)).ascend
+  lists = (has_fates texts theories loaded notes statements cancelled es are).ascend
 
   -- A lemma that became shown has a proof that comes to the same promises.
   proof-of : (f : Fork) → IsIn f fs → (rests : List Label) → Became ps f.label (Shown rests) → IsProof texts f.content f.fixed f.script (Ok rests)
@@ -177,8 +177,7 @@ two_through R S T P f (a ∷ xs) (b ∷ ys) (c ∷ zs) p h k = (f a b c (p a (in
 pub cited_suffice : CitedSuffice
 cited_suffice S loaded cancelled t table =
     let fs = forks_of t.notes in
-    let b = bound S.names S.theories loaded t.notes table.statements in
-    let es = ordered fs t.entries b (entries_of S.names S.theories loaded t.notes table.statements cancelled t.entries table.entries) in
+    let es = has_fates S.names S.theories loaded t.notes table.statements cancelled t.entries table.entries in
     two_through (IsEntryOf S.names cancelled) (IsRowOf S.names t.entries) (λ (f : Fork) (row : Row). row.status ≡ status.Proved → (names : List ℕ) → AreAllCited S t f names → IsDerivableAlone (with_axioms names f.content) f.prop)
     (λ f. IsIn f fs)
     (λ f e row m entry is proved names cited.

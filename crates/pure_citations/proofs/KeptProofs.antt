@@ -22,7 +22,7 @@ use Rattle.pure_table.specs.Method.Facts.{IsFound, named_facts, MeansPromise, Is
 use Rattle.pure_table.specs.Method.Unfolding.{UnfoldStep}
 use Rattle.pure_table.specs.Method.Proof.{ByFacts, WithOne, Gives, Closes, Proved, Ends, IsProof}
 use Rattle.pure_citations.specs.Without.{kept, with_axioms}
-use Rattle.pure_citations.specs.Cites.{MeansAxiom, NamesAxiom}
+use Rattle.pure_citations.specs.Named.{MeansAxiom, NamesAxiom}
 use Rattle.pure_citations.specs.Laws.{ProofIsKept}
 use Rattle.pure_citations.proofs.WithoutLaws.{Stays, in-kept, kept-in, algebra-kept, content-kept}
 
@@ -74,11 +74,11 @@ module _ (texts : List (List ℕ)) (Q : Content) (names : List ℕ) where
   found-still : (written : List ℕ) (fact : Fact) → IsListed written → IsFoundFact texts Q written (Some fact) → IsFoundFact texts R written (Some fact)
   found-still written (BuiltFact place) listed (m, meant, is) = (m, meant-still written m (subst IsStill (sym is) tt) meant, is)
   found-still written (AxiomFact n A) listed (m, meant, is) =
-      let stays : IsIn (AxiomDecl n A) R.declarations = in-kept names (AxiomDecl n A) Q.declarations (inr (listed n (A, m, meant, is))) is.1 in
-      (m, meant-still written m (subst IsStill (sym is.0) (inl (A, stays))) meant, is.0, stays)
+      let stays : IsIn (AxiomDecl n A) R.declarations = in-kept names (AxiomDecl n A) Q.declarations (inr (listed n (A, (m, meant, is)))) is.1 in
+      (m, meant-still written m (subst IsStill (sym is.0) (inl (A, stays))) meant, (is.0, stays))
   found-still written (PromisedFact n l A) listed (m, meant, is) =
       let stays : IsIn (PromiseDecl n l A) R.declarations = in-kept names (PromiseDecl n l A) Q.declarations tt is.1 in
-      (m, meant-still written m (subst IsStill (sym is.0) (inr (l, A, stays))) meant, is.0, stays)
+      (m, meant-still written m (subst IsStill (sym is.0) (inr (l, A, stays))) meant, (is.0, stays))
 
   is_found-still : (written : List ℕ) (th : Theorem) → IsListed written → IsFound texts Q written th → IsFound texts R written th
   is_found-still written th listed h = record { fact = h.fact; found = found-still written h.fact listed h.found; is = h.is }
@@ -95,14 +95,14 @@ module _ (texts : List (List ℕ)) (Q : Content) (names : List ℕ) where
 
   -- What a step gives it gives over the smaller content.
   gives-still : (step : Step) (s new : State) → AreListed (named_facts step) → Gives texts Q step s (Ok new) → Gives texts R step s (Ok new)
-  gives-still (Rule fact) s new listed (ByFacts.known {facts = facts} found (th, e, f)) =
-      ByFacts.known (all_found-still (fact ∷ []) facts listed found) (th, e, subst (λ (A : Algebra). RuleStep A s th (Ok new)) (sym (algebra-kept names Q.declarations)) f)
-  gives-still (Erule fact) s new listed (ByFacts.known {facts = facts} found (th, e, f)) =
-      ByFacts.known (all_found-still (fact ∷ []) facts listed found) (th, e, subst (λ (A : Algebra). EliminationStep A s th (Ok new)) (sym (algebra-kept names Q.declarations)) f)
-  gives-still (Drule fact) s new listed (ByFacts.known {facts = facts} found (th, e, f)) =
-      ByFacts.known (all_found-still (fact ∷ []) facts listed found) (th, e, subst (λ (A : Algebra). DestructionStep A s th (Ok new)) (sym (algebra-kept names Q.declarations)) f)
-  gives-still (Unfold written) s new listed (ByFacts.known {facts = facts} found f) =
-      ByFacts.known (all_found-still written facts listed found) (subst (λ (A : Algebra). UnfoldStep A s facts (Ok new)) (sym (algebra-kept names Q.declarations)) f)
+  gives-still (Rule fact) s new listed (ByFacts.known {facts = ths} found (th, e, f)) =
+      ByFacts.known (all_found-still (fact ∷ []) ths listed found) (th, e, subst (λ (A : Algebra). RuleStep A s th (Ok new)) (sym (algebra-kept names Q.declarations)) f)
+  gives-still (Erule fact) s new listed (ByFacts.known {facts = ths} found (th, e, f)) =
+      ByFacts.known (all_found-still (fact ∷ []) ths listed found) (th, e, subst (λ (A : Algebra). EliminationStep A s th (Ok new)) (sym (algebra-kept names Q.declarations)) f)
+  gives-still (Drule fact) s new listed (ByFacts.known {facts = ths} found (th, e, f)) =
+      ByFacts.known (all_found-still (fact ∷ []) ths listed found) (th, e, subst (λ (A : Algebra). DestructionStep A s th (Ok new)) (sym (algebra-kept names Q.declarations)) f)
+  gives-still (Unfold written) s new listed (ByFacts.known {facts = ths} found f) =
+      ByFacts.known (all_found-still written ths listed found) (subst (λ (A : Algebra). UnfoldStep A s ths (Ok new)) (sym (algebra-kept names Q.declarations)) f)
   gives-still Assumption s new listed f = subst (λ (A : Algebra). AssumptionStep A s (Ok new)) (sym (algebra-kept names Q.declarations)) f
   gives-still (Prefer n) s new listed f = f
   gives-still Defer s new listed f = f
@@ -138,10 +138,10 @@ module _ (texts : List (List ℕ)) (Q : Content) (names : List ℕ) where
     promises-back l (w ∷ ws) (th ∷ ths) listed h (inr m) = inr (promises-back l ws ths (λ n a. listed n (inr a)) h.1 m)
 
     step-back : (l : Label) (step : Step) (s new : State) → AreListed (named_facts step) → Gives texts Q step s (Ok new) → AnyOf (MeansPromise texts R l) (named_facts step) → AnyOf (MeansPromise texts Q l) (named_facts step)
-    step-back l (Rule fact) s new listed (ByFacts.known {facts = facts} found f) m = promises-back l (fact ∷ []) facts listed found m
-    step-back l (Erule fact) s new listed (ByFacts.known {facts = facts} found f) m = promises-back l (fact ∷ []) facts listed found m
-    step-back l (Drule fact) s new listed (ByFacts.known {facts = facts} found f) m = promises-back l (fact ∷ []) facts listed found m
-    step-back l (Unfold written) s new listed (ByFacts.known {facts = facts} found f) m = promises-back l written facts listed found m
+    step-back l (Rule fact) s new listed (ByFacts.known {facts = ths} found f) m = promises-back l (fact ∷ []) ths listed found m
+    step-back l (Erule fact) s new listed (ByFacts.known {facts = ths} found f) m = promises-back l (fact ∷ []) ths listed found m
+    step-back l (Drule fact) s new listed (ByFacts.known {facts = ths} found f) m = promises-back l (fact ∷ []) ths listed found m
+    step-back l (Unfold written) s new listed (ByFacts.known {facts = ths} found f) m = promises-back l written ths listed found m
     step-back l Assumption s new listed f m = absurd m
     step-back l (Prefer n) s new listed f m = absurd m
     step-back l Defer s new listed f m = absurd m
@@ -163,7 +163,7 @@ module _ (texts : List (List ℕ)) (Q : Content) (names : List ℕ) where
   promise-still : (l : Label) (written : List ℕ) → MeansPromise texts Q l written → MeansPromise texts R l written
   promise-still l written (n, A, (m, meant, is)) =
       let stays : IsIn (PromiseDecl n l A) R.declarations = in-kept names (PromiseDecl n l A) Q.declarations tt is.1 in
-      (n, A, (m, meant-still written m (subst IsStill (sym is.0) (inr (l, A, stays))) meant, is.0, stays))
+      (n, A, (m, meant-still written m (subst IsStill (sym is.0) (inr (l, A, stays))) meant, (is.0, stays)))
 
   named-still : (l : Label) (steps : List Step) → IsNamed texts Q steps l → IsNamed texts R steps l
   named-still l steps h =

@@ -3,3 +3,4 @@ pub mod KeptProofs
 pub mod CitedLaws
 pub mod RowLaws
 pub mod ReachedLaws
+pub mod NamedLaws

@@ -133,14 +133,14 @@ grown-unshown es place d at not old p e there = (λ h. inl h, λ h. elim h [ inl
         let own : d.own ≡ Shown ks = ap Entry.own (at-once es place d c at here) ∙ shown in
         elim not [ inl fault ↦ shown-fault ks (sym own ∙ fault) | inr gone ↦ shown-cancelled ks (sym own ∙ gone) ]
 
-pub grown-held : (es : List Entry) (place : ℕ) (old new : List ℕ) → Holds old place → ((p : ℕ) (e : Entry) → IsAt es p e → Holds new p ↔ (Holds old p ⊎ IsRestAt es place e.label)) → IsGrown es place old new
-grown-held es place old new held put p e at = (
+pub grown_held : (es : List Entry) (place : ℕ) (old new : List ℕ) → Holds old place → ((p : ℕ) (e : Entry) → IsAt es p e → Holds new p ↔ (Holds old p ⊎ IsRestAt es place e.label)) → IsGrown es place old new
+grown_held es place old new held put p e at = (
   λ h. elim ((put p e at).0 h) [ inl o ↦ inl o | inr w ↦ inr (held, w) ],
   λ h. elim h [ inl o ↦ (put p e at).1 (inl o) | inr w ↦ (put p e at).1 (inr w.1) ],
 )
 
-pub grown-not : (es : List Entry) (place : ℕ) (old : List ℕ) → ¬ Holds old place → IsGrown es place old old
-grown-not es place old not p e at = (λ h. inl h, λ h. elim h [ inl o ↦ o | inr w ↦ absurd (not w.0) ])
+pub grown_not : (es : List Entry) (place : ℕ) (old : List ℕ) → ¬ Holds old place → IsGrown es place old old
+grown_not es place old not p e at = (λ h. inl h, λ h. elim h [ inl o ↦ o | inr w ↦ absurd (not w.0) ])
 
 walk-begins : (es : List Entry) (first : List ℕ) (bound : ℕ) → length es ≤ bound → IsWalked es first first bound
 walk-begins es first bound all = record {

@@ -16,7 +16,8 @@ use Rattle.pure_table.specs.SessionLaws.Loaded.{IsLoadedSession}
 use Rattle.pure_table.specs.SessionMeaning.Statements.{forks_of}
 use Rattle.pure_table.specs.Table.{Table, IsTable}
 use Rattle.pure_citations.specs.Without.{with_axioms}
-use Rattle.pure_citations.specs.Cites.{NamesAxiom, Cites}
+use Rattle.pure_citations.specs.Named.{NamesAxiom}
+use Rattle.pure_citations.specs.Cites.{Cites}
 
 -- A proof that comes to promises comes to the same ones over the content without the axioms that its steps don't name.
 abbrev pub ProofIsKept : Type 0

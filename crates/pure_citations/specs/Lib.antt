@@ -1,4 +1,6 @@
 pub mod Without
+pub mod Named
 pub mod Cites
 pub mod Laws
 pub mod Reached
+pub mod Axioms

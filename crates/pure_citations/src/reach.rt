@@ -49,7 +49,7 @@ fn put_of<E: Reported>(
 }
 
 /// The same where the row holds the place.
-#[tactic(auto, using(crate::proofs::ReachedLaws::grown-held, crate::proofs::ReachedLaws::grown-not))]
+#[tactic(auto, using(crate::proofs::ReachedLaws::grown_held, crate::proofs::ReachedLaws::grown_not))]
 fn put_next<E: Reported>(
     entries: &[E],
     place: usize,
