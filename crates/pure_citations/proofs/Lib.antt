@@ -4,3 +4,4 @@ pub mod CitedLaws
 pub mod RowLaws
 pub mod ReachedLaws
 pub mod NamedLaws
+pub mod CitedCode

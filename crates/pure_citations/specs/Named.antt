@@ -1,5 +1,5 @@
 -- Which axioms the steps of a proof name.
-use Rattle.std.specs.Prelude.{ℕ, List, Some}
+use Rattle.std.specs.Prelude.{◌≡◌, ◌↔◌, ℕ, List, Option, Some, None}
 use Rattle.pure_text.specs.Lists.{AnyOf}
 use Rattle.pure_definitions.specs.Terms.Term.{Term}
 use Rattle.pure_grammar.specs.Theories.TheoryText.{Step}
@@ -19,3 +19,8 @@ NamesAxiom texts Q script name = AnyOf (λ step. AnyOf (MeansAxiom texts Q name)
 abbrev pub IsNoAxiom : Fact → Type 0
 IsNoAxiom (AxiomFact name A) = ⊥
 IsNoAxiom _ = Unit {0}
+
+-- The answer to the question which axiom is written so: its name, or none where the written name means no axiom.
+abbrev pub IsAxiomWritten : (texts : List (List ℕ)) → Content → (written : List ℕ) → Option ℕ → Type 0
+IsAxiomWritten texts Q written (Some name) = (n : ℕ) → MeansAxiom texts Q n written ↔ (n ≡ name)
+IsAxiomWritten texts Q written None = (n : ℕ) → ¬ MeansAxiom texts Q n written

@@ -1,5 +1,5 @@
 //! The axioms that the steps of a proof name.
-ghost use Rattle.std.specs.Prelude.{◌≡◌, ◌↔◌, ◌⊎◌, ℕ, MatchOption, OnOk};
+ghost use Rattle.std.specs.Prelude.{◌≡◌, ◌↔◌, ◌⊎◌, ℕ, MatchOption, IfOk, OnOk};
 ghost use Rattle.pure_text.specs.Lists.{AnyOf};
 ghost use Rattle.pure_definitions.specs.Terms.Term.{Term};
 ghost use Rattle.pure_logic.specs.Content.{IsContent};
@@ -9,7 +9,7 @@ ghost use Rattle.pure_order_tables.specs.Rows.{Holds};
 ghost use Rattle.pure_script.specs.Seen.{seen_step, seen_steps};
 ghost use Rattle.pure_table.specs.Theory.FactView.{seen_fact};
 ghost use Rattle.pure_table.specs.Method.Facts.{named_facts};
-ghost use Rattle.pure_citations.specs.Named.{MeansAxiom, NamesAxiom, IsNoAxiom};
+ghost use Rattle.pure_citations.specs.Named.{MeansAxiom, NamesAxiom, IsNoAxiom, IsAxiomWritten};
 
 use crate::rows::put;
 use pure_table::theory::{Fact, Theory};
@@ -28,12 +28,35 @@ fn axiom_of(fact: &Fact) -> Option<Name>
     }
 }
 
+/// Lets the fact go.
+fn discard(_fact: Fact) {}
+
 /// Puts the name into the row.
 fn put_name(cited: &mut Vec<u64>, name: Name) -> Result<(), AllocError>
     ensures { OnOk result ((n : ℕ) → Holds cited.new.items n ↔ ((n ≡ name) ⊎ Holds cited.old.items n)) }
 {
     put(cited, name.0 as usize)?;
     Ok(())
+}
+
+/// The name of the axiom that is written so, if it is one.
+fn written_axiom(
+    names: &NamesByBase,
+    theory: &Theory,
+    written: &[u8],
+) -> Result<Option<Name>, AllocError>
+    requires session { IsInSession names.now theory.now }
+    requires content { IsContent theory.now }
+    ensures { IfOk result (IsAxiomWritten names.now theory.now written.now) }
+{
+    match theory.find_fact(names, written)? {
+        Some(fact) => {
+            let name = axiom_of(&fact);
+            discard(fact);
+            Ok(name)
+        }
+        None => Ok(None),
+    }
 }
 
 /// Puts in the axiom that is written so, if it is one.
@@ -47,10 +70,7 @@ fn put_fact(
     requires content { IsContent theory.now }
     ensures { OnOk result ((n : ℕ) → Holds cited.new.items n ↔ (MeansAxiom names.now theory.now n written.now ⊎ Holds cited.old.items n)) }
 {
-    let Some(fact) = theory.find_fact(names, written)? else {
-        return Ok(());
-    };
-    match axiom_of(&fact) {
+    match written_axiom(names, theory, written)? {
         Some(name) => {
             put_name(cited, name)?;
             Ok(())
@@ -77,7 +97,7 @@ fn put_facts(
 }
 
 /// Puts in the axiom that a step names alone.
-#[tactic(auto, using(crate::proofs::NamedLaws::alone))]
+
 fn put_alone(
     names: &NamesByBase,
     theory: &Theory,
@@ -93,7 +113,7 @@ fn put_alone(
 }
 
 /// Puts in the axioms that the step names.
-#[tactic(auto, using(crate::proofs::NamedLaws::unchanged))]
+
 fn put_step(
     names: &NamesByBase,
     theory: &Theory,
