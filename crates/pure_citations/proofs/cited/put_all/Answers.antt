@@ -1,0 +1,13 @@
+use Rattle.std.proofs.Common.{◌≡◌, map, length, subst, sym, arith}
+use Rattle.pure_text.proofs.LoopLaws.{turned}
+use Rattle.pure_table.specs.Promise.Seen.{reported}
+use Rattle.pure_citations.specs.Cited.{IsNamedAt}
+use Rattle.pure_citations.proofs.CitedCode.{before-next, before-none}
+use Rattle.pure_citations.proofs.cited.put_all.Goals as goal
+
+pub loop-place-init : goal.loop-place-init
+loop-place-init c = λ n. before-none _ _
+
+pub loop-place-preserved : goal.loop-place-preserved
+loop-place-preserved c = λ n.
+    turned _ _ _ _ _ _ (before-next (IsNamedAt c.args.names.now c.args.row.now (map (λ d. d.value) c.args.duties.now) (map reported c.args.entries.now) n) c.loop-place.place) (c.in_ok-put_at.ensures n) (c.loop-place.invariant n)

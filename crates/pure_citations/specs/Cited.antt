@@ -1,0 +1,32 @@
+-- Which axioms are cited, by the places of lemmas.
+use Rattle.std.specs.Prelude.{◌≡◌, ◌<◌, ◌↔◌, ℕ, List}
+use Rattle.pure_text.specs.Lists.{IsIn}
+use Rattle.pure_definitions.specs.Names.{Label}
+use Rattle.pure_order_tables.specs.Rows.{Holds}
+use Rattle.pure_promise_fates.specs.Entries as fates
+use Rattle.pure_promise_fates.specs.Entries.{Shown}
+use Rattle.pure_promise_fates.specs.Reach.{IsAt}
+use Rattle.pure_table.specs.Declare.Notes.{Fork}
+use Rattle.pure_table.specs.Promise.Entries.{LemmaEntry}
+use Rattle.pure_citations.specs.Named.{NamesAxiom}
+use Rattle.pure_citations.specs.Cites.{Cites}
+
+-- A proof shows the lemma, and its steps name the axiom.
+abbrev pub IsNamedBy : (texts : List (List ℕ)) → Fork → fates.Entry → (axiom : ℕ) → Type 0
+IsNamedBy texts f e axiom = ((rests : List Label) × (e.own ≡ Shown rests)) × NamesAxiom texts f.content f.script axiom
+
+-- The row holds the place, a proof shows the lemma there, and its steps name the axiom.
+abbrev pub IsNamedAt : (texts : List (List ℕ)) → (row : List ℕ) → List Fork → List fates.Entry → (axiom place : ℕ) → Type 0
+IsNamedAt texts row fs es axiom place = (f : Fork) × (e : fates.Entry) × IsAt fs place f × IsAt es place e × Holds row place × IsNamedBy texts f e axiom
+
+-- It is so at a place before this one.
+abbrev pub IsBefore : (P : ℕ → Type 0) → (place : ℕ) → Type 0
+IsBefore P place = (q : ℕ) × (q < place) × P q
+
+-- The lemma at the place has the name.
+abbrev pub HasNameAt : List LemmaEntry → (name place : ℕ) → Type 0
+HasNameAt es name place = (e : LemmaEntry) × IsAt es place e × (e.name ≡ name)
+
+-- The row holds the axioms that lemmas of the name cite, and no others.
+abbrev pub AreCitedBy : (texts : List (List ℕ)) → List Fork → List LemmaEntry → (name : ℕ) → (row : List ℕ) → Type 0
+AreCitedBy texts fs es name row = (axiom : ℕ) → Holds row axiom ↔ ((e : LemmaEntry) × IsIn e es × (e.name ≡ name) × Cites texts fs es e.label axiom)

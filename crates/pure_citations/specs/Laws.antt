@@ -1,0 +1,36 @@
+-- Laws of what lemmas cite: a proved lemma is derivable from what it cites alone.
+use Rattle.std.specs.Prelude.{◌≡◌, ℕ, List, Ok}
+use Rattle.pure_text.specs.Lists.{IsIn, EachTwo}
+use Rattle.pure_definitions.specs.Names.{Label}
+use Rattle.pure_definitions.specs.Terms.Term.{Term}
+use Rattle.pure_grammar.specs.Theories.TheoryText.{Step}
+use Rattle.pure_logic.specs.Content.{Content, IsContent}
+use Rattle.pure_logic.specs.Derivable.{IsDerivableAlone}
+use Rattle.pure_lookup.specs.Laws.{IsInSession}
+use Rattle.pure_graph.specs.Session.{Session}
+use Rattle.pure_print.specs.declared.row.Row.{Row}
+use Rattle.pure_print.specs.declared.row.RowStatus.TheVariants.{Proved}
+use Rattle.pure_table.specs.Declare.Notes.{Fork}
+use Rattle.pure_table.specs.Method.Proof.{IsProof}
+use Rattle.pure_table.specs.SessionLaws.Loaded.{IsLoadedSession}
+use Rattle.pure_table.specs.SessionMeaning.Statements.{forks_of}
+use Rattle.pure_table.specs.Table.{Table, IsTable}
+use Rattle.pure_citations.specs.Without.{with_axioms}
+use Rattle.pure_citations.specs.Named.{NamesAxiom}
+use Rattle.pure_citations.specs.Cites.{Cites}
+
+-- A proof that comes to promises comes to the same ones over the content without the axioms that its steps don't name.
+abbrev pub ProofIsKept : Type 0
+ProofIsKept = (texts : List (List ℕ)) (Q : Content) → IsInSession texts Q → IsContent Q → (names : List ℕ) (statement : Term) (script : List Step) (labels : List Label)
+    → ((name : ℕ) → NamesAxiom texts Q script name → IsIn name names) → IsProof texts Q statement script (Ok labels) → IsProof texts (with_axioms names Q) statement script (Ok labels)
+
+-- These names are those of all axioms that the lemma cites.
+abbrev pub AreAllCited : Session → Table → Fork → (names : List ℕ) → Type 0
+AreAllCited S t f names = (name : ℕ) → Cites S.names (forks_of t.notes) t.entries f.label name → IsIn name names
+
+-- The statement of each lemma whose row is printed as proved is derivable from the axioms that it cites and Pure's own alone: over its content without the theories' other axioms, whatever list has the names of those that it cites.
+abbrev pub IsDerivedByCited : Session → Table → Type 0
+IsDerivedByCited S t = EachTwo (λ (f : Fork) (row : Row). row.status ≡ Proved → (names : List ℕ) → AreAllCited S t f names → IsDerivableAlone (with_axioms names f.content) f.prop) (forks_of t.notes) t.lemmas
+
+abbrev pub CitedSuffice : Type 0
+CitedSuffice = (S : Session) → IsLoadedSession S.names S.theories → (cancelled : List Label) (t : Table) → IsTable S cancelled t → IsDerivedByCited S t

@@ -1,0 +1,7 @@
+pub mod Without
+pub mod Named
+pub mod Cites
+pub mod Laws
+pub mod Reached
+pub mod Axioms
+pub mod Cited

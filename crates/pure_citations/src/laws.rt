@@ -1,0 +1,12 @@
+//! What the definitions mean: laws, each carried by the contract of a function that does nothing.
+ghost use Rattle.pure_citations.specs.Laws.{CitedSuffice, ProofIsKept};
+
+/// A proof stays one over the content without the axioms that its steps don't name.
+pub fn proof_is_kept()
+    ensures { ProofIsKept }
+{}
+
+/// What is printed as proved is derivable from the axioms that it cites alone.
+pub fn cited_suffice()
+    ensures { CitedSuffice }
+{}

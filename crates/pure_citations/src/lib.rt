@@ -1,0 +1,10 @@
+//! What lemmas cite: the axioms and definitions on which a proof rests.
+#![tactic(auto)]
+
+mod cited;
+mod facts;
+pub mod laws;
+mod reach;
+mod rows;
+
+pub use cited::cited_axioms;
