@@ -1,5 +1,7 @@
 -- What the calls answer, from what their parts answer.
-use Rattle.std.proofs.Common.{◌≡◌, ℕ, zero, suc, List, [], ◌∷◌, map, Some, None, Result, Ok, Err, IfOk, IfErr, slice_get, inl, inr, refl, ap, sym, subst, ◌∙◌}
+use Rattle.std.specs.declared.sync.Arc.{Arc}
+use Rattle.std.specs.declared.alloc.Global.{Global}
+use Rattle.std.proofs.Common.{◌≡◌, ℕ, zero, suc, List, [], ◌∷◌, map, Option, Some, None, Result, Ok, Err, IfOk, IfErr, slice_get, inl, inr, refl, ap, sym, subst, ◌∙◌}
 use Rattle.pure_text.specs.Lists.{Each}
 use Rattle.pure_definitions.specs.Types.Typ.{Typ, prop}
 use Rattle.pure_definitions.specs.Types.Order.{Algebra}
@@ -26,7 +28,7 @@ use Rattle.pure_elab.specs.Written.{AreSorts, term_classes}
 use Rattle.pure_elab.specs.Numbered.{with_fixed}
 use Rattle.pure_elab.specs.Drafts.{Constraint, Draft, whole_draft, pair_of}
 use Rattle.pure_elab.specs.Drafted.{constraint_place}
-use Rattle.pure_elab.specs.Finished.{IsFinished, IsNameRefusal, IsFaultFrom, HasConstraintsOf}
+use Rattle.pure_elab.specs.Finished.{IsLimited, IsSolution, IsFinished, IsNameRefusal, IsFaultFrom, HasConstraintsOf}
 use Rattle.pure_elab.specs.Answers.{IsFixedTyp, fault_of, IsTyped, IsTypingFault, IsDraftOf, IsElaborated, IsElabFault, IsElabTypFault}
 use Rattle.pure_elab.specs.Laws.{IsMostGeneralTerm}
 use Rattle.pure_elab.proofs.EarliestLaws.{earliest_decides, none_found}
@@ -149,6 +151,15 @@ pub all_large : (V : Vocabulary) (A : Algebra) → A ≡ V.algebra → (t : Term
     → IsFinished V (inst_typ (composed p.sets) t) r → IfErr r (λ f. (d : Draft) → HasConstraintsOf d t all → IsTypingFault V d f)
 all_large V A order t all p (Ok u) found finished = tt
 all_large V A order t all p (Err f) found finished = λ d has. typed_large V A order d t all has p f found finished
+
+-- What is finished of a solution of the constraints, of each draft with these.
+pub solution_typed : (V : Vocabulary) (t : Term) (all : Constraints) (o : Option (Arc Term Global)) (r : Result Term ElabFault) → IsSolution V.algebra all.pairs.items t o
+    → ((u : Term) → IsLimited u o → IsFinished V u r) → IfOk r (λ u. (d : Draft) → HasConstraintsOf d t all → IsTyped V d u)
+solution_typed V t all o r found finished = all_typed V V.algebra refl t all found.unifier r found.settled (finished (inst_typ (composed found.unifier.sets) t) found.limited)
+
+pub solution_large : (V : Vocabulary) (t : Term) (all : Constraints) (o : Option (Arc Term Global)) (r : Result Term ElabFault) → IsSolution V.algebra all.pairs.items t o
+    → ((u : Term) → IsLimited u o → IsFinished V u r) → IfErr r (λ f. (d : Draft) → HasConstraintsOf d t all → IsTypingFault V d f)
+solution_large V t all o r found finished = all_large V V.algebra refl t all found.unifier r found.settled (finished (inst_typ (composed found.unifier.sets) t) found.limited)
 
 -- What the draft of a text comes to is what the text says.
 pub elaborated_ok : (V : Vocabulary) (t : RawTree) (T : Typ) (d : Draft) (u : Term) (all : Constraints) (r : Result Term ElabFault) → IsDraftOf V t T d → HasConstraintsOf d u all

@@ -1,6 +1,13 @@
 -- What the parts of elaboration answer behind the draft.
-use Rattle.std.specs.Prelude.{◌≡◌, ℕ, List, map, Some, Result, Ok, Err, slice_get}
+use Rattle.std.specs.Prelude.{◌≡◌, ℕ, List, map, Option, Some, MatchOption, Result, Ok, Err, slice_get}
+use Rattle.std.specs.declared.sync.Arc.{Arc}
+use Rattle.std.specs.declared.alloc.Global.{Global}
+use Rattle.pure_definitions.specs.Types.Order.{Algebra}
 use Rattle.pure_definitions.specs.Terms.Term.{Term, IsWithin}
+use Rattle.pure_definitions.specs.Terms.Subst.{inst_typ}
+use Rattle.pure_tunify.specs.Settings.{composed, Progress}
+use Rattle.pure_tunify.specs.Answers.{AreSettled}
+use Rattle.pure_tunify.specs.declared.pair.TypPair.{TypPair}
 use Rattle.pure_tunify.specs.declared.fault.TypFault.{TypFault}
 use Rattle.pure_tunify.specs.declared.fault.TypFault.TheVariants as typing
 use Rattle.pure_elab.specs.declared.draft.Constraints.{Constraints}
@@ -11,7 +18,18 @@ use Rattle.pure_elab.specs.Vocabulary.{Vocabulary}
 use Rattle.pure_elab.specs.Numbered.{with_fixed}
 use Rattle.pure_elab.specs.Drafts.{Draft, pair_of}
 use Rattle.pure_elab.specs.Drafted.{constraint_place}
+use Rattle.pure_elab.specs.Typings.{fresh_index}
 use Rattle.pure_elab.specs.Answers.{IsNameFault}
+
+-- This is the term, which is within the limits, or none, and then it isn't.
+abbrev pub IsLimited : Term → Option (Arc Term Global) → Type 0
+IsLimited t o = MatchOption o (¬ IsWithin t) (λ u. (u.value ≡ t) × IsWithin t)
+
+-- This is the term under the unifier of the pairs, in the sense above.
+pub record IsSolution (A : Algebra) (pairs : List TypPair) (t : Term) (o : Option (Arc Term Global)) : Type 0 where
+  pub unifier : Progress
+  pub settled : AreSettled A fresh_index 0 pairs unifier
+  pub limited : IsLimited (inst_typ (composed unifier.sets) t) o
 
 -- The term, with its unknowns made fixed, where it is within the limits.
 abbrev pub IsFinished : Vocabulary → Term → Result Term ElabFault → Type 0

@@ -2,11 +2,13 @@
 ghost use Rattle.std.specs.Prelude.{◌≡◌, [], IfOk, IfErr, OnOk};
 ghost use Rattle.pure_text.specs.Lists.{Each};
 ghost use Rattle.pure_definitions.specs.Types.Typ as tree;
+ghost use Rattle.pure_definitions.specs.Terms.Term as term_tree;
 ghost use Rattle.pure_definitions.specs.Terms.Subst.{inst_typ};
 ghost use Rattle.pure_definitions.specs.Declarations.Certified.{IsCertifiedTyp};
 ghost use Rattle.pure_logic.specs.Content.{Content, IsCertifiedOf, IsProposition};
 ghost use Rattle.pure_tunify.specs.Unifiers.{IsOldPair};
 ghost use Rattle.pure_tunify.specs.Settings.{composed};
+ghost use Rattle.pure_tunify.specs.Answers.{AreSettled, IsDecided};
 ghost use Rattle.pure_tunify.specs.Working.{HasImagesWithin};
 ghost use Rattle.pure_elab.specs.Sound.{IsSoundVocabulary};
 ghost use Rattle.pure_elab.specs.Faults.{term_faults};
@@ -17,7 +19,7 @@ ghost use Rattle.pure_elab.specs.Typings.{fresh_index};
 ghost use Rattle.pure_elab.specs.Answers as answers;
 ghost use Rattle.pure_elab.specs.Answers.{IsFixedTyp, IsDraftOf, IsTyped, IsTypingFault, IsElaborated, IsElabFault, IsElaboratedTyp, IsElabTypFault};
 ghost use Rattle.pure_elab.specs.Laws.{IsMostGeneralTerm};
-ghost use Rattle.pure_elab.specs.Finished.{IsFinished, IsNameRefusal, IsFaultFrom, HasConstraintsOf};
+ghost use Rattle.pure_elab.specs.Finished.{IsLimited, IsSolution, IsFinished, IsNameRefusal, IsFaultFrom, HasConstraintsOf};
 
 use crate::draft::{Constraints, constrain_to, draft, raw_place};
 use crate::fault::{ElabFault, FaultAt, NameFault};
@@ -31,7 +33,7 @@ use crate::sorts::{VariableSort, sorts_of_term, sorts_of_typ};
 use crate::written::written_typ;
 use pure_read::{Raw, RawNode, RawTyp};
 use pure_term::Term;
-use pure_tunify::{Settings, TypFault, pairs_of, settle, settle_given, written_out};
+use pure_tunify::{Equation, Settings, TypFault, pairs_of, settle, settle_given, written_out};
 use pure_typ::{Args, Name, Typ, TypNode, whole_size_of_typ};
 use std::alloc::{AllocError, Global};
 use std::sync::Arc;
@@ -108,16 +110,33 @@ fn has_large_image(settings: &Settings) -> bool {
     false
 }
 
-/// The draft's term under the settings, with the unknowns that are left made fixed.
-fn finished_under<L: Language>(
+/// The draft's term under the settings; none exactly where it isn't within the limits. Where an image is large, the images are
+/// written out first, so that each is made once and is one part wherever it stands. The draft is let go of.
+fn put_in(
     alloc: Global,
-    language: &L,
     term: Arc<Term>,
     settings: &Settings,
-) -> Result<Term, ElabFault>
-    ensures { IsFinished (L.vocabulary language.now) (inst_typ (composed settings.now.sets) term.value) result }
+) -> Result<Option<Arc<Term>>, AllocError>
+    requires { HasImagesWithin settings.now.sets }
+    ensures { IfOk result (IsLimited (inst_typ (composed settings.now.sets) term.value)) }
 {
+    if has_large_image(settings) {
+        let full = written_out(settings, alloc)?;
+        let found = settled(&full, alloc, &term)?;
+        return Ok(found);
+    }
     let found = settled(settings, alloc, &term)?;
+    Ok(found)
+}
+
+/// The term with the unknowns that are left made fixed, where it is within the limits.
+fn finished<L: Language>(
+    alloc: Global,
+    language: &L,
+    found: Option<Arc<Term>>,
+) -> Result<Term, ElabFault>
+    ensures { (t : term_tree.Term) → IsLimited t found → IsFinished (L.vocabulary language.now) t result }
+{
     match found {
         None => Err(ElabFault::Big),
         Some(term) => {
@@ -125,24 +144,6 @@ fn finished_under<L: Language>(
             Ok(term)
         }
     }
-}
-
-/// The same. Where an image is large, the images are written out first, so that each is made once and is one part wherever it
-/// stands.
-fn finished<L: Language>(
-    alloc: Global,
-    language: &L,
-    term: Arc<Term>,
-    settings: &Settings,
-) -> Result<Term, ElabFault>
-    requires { HasImagesWithin settings.now.sets }
-    ensures { IsFinished (L.vocabulary language.now) (inst_typ (composed settings.now.sets) term.value) result }
-{
-    if has_large_image(settings) {
-        let full = written_out(settings, alloc)?;
-        return finished_under(alloc, language, term, &full);
-    }
-    finished_under(alloc, language, term, settings)
 }
 
 /// Why the constraints have no typing.
@@ -159,6 +160,38 @@ fn typing_fault(places: &[u32], fault: TypFault) -> ElabFault
     }
 }
 
+/// The unifier of the pairs, which are let go of.
+fn settings_of<L: Language>(
+    alloc: Global,
+    language: &L,
+    pairs: Vec<Equation>,
+) -> Result<Settings, TypFault>
+    requires { Each (IsOldPair fresh_index 0) pairs.items }
+    ensures ok { IfOk result (AreSettled (L.vocabulary language.now).algebra fresh_index 0 pairs.items) }
+    ensures fault { IfErr result (IsDecided (L.vocabulary language.now).algebra fresh_index 0 pairs.items) }
+{
+    let pairs = pairs_of(alloc, pairs)?;
+    let all = pairs.as_slice();
+    let settings = settle(alloc, language.order(), all, FRESH_INDEX, 0)?;
+    Ok(settings)
+}
+
+/// The draft's term under the unifier of the pairs; none where it isn't within the limits. Draft, pairs and unifier are let go of.
+fn solved<L: Language>(
+    alloc: Global,
+    language: &L,
+    term: Arc<Term>,
+    pairs: Vec<Equation>,
+) -> Result<Option<Arc<Term>>, TypFault>
+    requires { Each (IsOldPair fresh_index 0) pairs.items }
+    ensures ok { IfOk result (IsSolution (L.vocabulary language.now).algebra pairs.items term.value) }
+    ensures fault { IfErr result (IsDecided (L.vocabulary language.now).algebra fresh_index 0 pairs.items) }
+{
+    let settings = settings_of(alloc, language, pairs)?;
+    let found = put_in(alloc, term, &settings)?;
+    Ok(found)
+}
+
 /// The term under the unifier of the constraints.
 fn typed<L: Language>(
     alloc: Global,
@@ -171,11 +204,9 @@ fn typed<L: Language>(
     ensures fault { IfErr result (λ f. (d : drafts.Draft) → HasConstraintsOf d term.value constraints → IsTypingFault (L.vocabulary language.now) d f) }
 {
     let Constraints { pairs, places, .. } = constraints;
-    let pairs = pairs_of(alloc, pairs)?;
-    let all = pairs.as_slice();
-    match settle(alloc, language.order(), all, FRESH_INDEX, 0) {
+    match solved(alloc, language, term, pairs) {
         Err(fault) => Err(typing_fault(places.as_slice(), fault)),
-        Ok(settings) => finished(alloc, language, term, &settings),
+        Ok(found) => finished(alloc, language, found),
     }
 }
 
@@ -217,6 +248,21 @@ fn text_draft<L: Language>(
     Ok(found)
 }
 
+/// The same, where one pass over the pairs finds the unifier.
+fn solved_soon<L: Language>(
+    alloc: Global,
+    language: &L,
+    term: Arc<Term>,
+    pairs: Vec<Equation>,
+) -> Result<Option<Arc<Term>>, AllocError>
+    requires { Each (IsOldPair fresh_index 0) pairs.items }
+    ensures { IfOk result (IsSolution (L.vocabulary language.now).algebra pairs.items term.value) }
+{
+    let settings = settle_given(alloc, language.order(), pairs, FRESH_INDEX, 0)?;
+    let found = put_in(alloc, term, &settings)?;
+    Ok(found)
+}
+
 /// The term under the unifier of the constraints, where one pass over them finds it.
 fn typed_soon<L: Language>(
     alloc: Global,
@@ -228,8 +274,8 @@ fn typed_soon<L: Language>(
     ensures { IfOk result (λ t. (d : drafts.Draft) → HasConstraintsOf d term.value constraints → IsTyped (L.vocabulary language.now) d t) }
 {
     let Constraints { pairs, .. } = constraints;
-    let settings = settle_given(alloc, language.order(), pairs, FRESH_INDEX, 0)?;
-    finished(alloc, language, term, &settings)
+    let found = solved_soon(alloc, language, term, pairs)?;
+    finished(alloc, language, found)
 }
 
 /// The term that the text says at this type, where one pass over its draft finds it.

@@ -1,6 +1,7 @@
 //! The classes that are written at the type variables of a text.
 ghost use Rattle.std.specs.Prelude.{◌≡◌, ◌++◌, OnOk};
 ghost use Rattle.pure_grammar.specs.Terms.RawTree.{raw_typs_of};
+ghost use Rattle.pure_read.specs.RawView.{seen_annotation};
 ghost use Rattle.pure_elab.specs.Written as spec;
 
 use crate::faults::behind_mark;
@@ -111,10 +112,10 @@ fn add_typs<L: Language>(
 /// Adds the classes in the type of a binder, if one is written.
 fn add_annotation<L: Language>(
     language: &L,
-    typ: &Option<RawTyp>,
+    typ: &Option<Box<RawTyp>>,
     written: &mut Vec<WrittenClass>,
 ) -> Result<(), AllocError>
-    ensures { OnOk result (written.new.items ≡ written.old.items ++ spec.annotation_classes (L.vocabulary language.now) typ.now) }
+    ensures { OnOk result (written.new.items ≡ written.old.items ++ spec.annotation_classes (L.vocabulary language.now) (seen_annotation typ.now)) }
 {
     match typ {
         None => Ok(()),

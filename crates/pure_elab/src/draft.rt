@@ -2,6 +2,7 @@
 ghost use Rattle.std.specs.Prelude.{◌≡◌, ◌+◌, ℕ, [], ◌∷◌, IfOk, OnOk};
 ghost use Rattle.pure_definitions.specs.Types.Typ as tree;
 ghost use Rattle.pure_definitions.specs.Terms.Term as term_tree;
+ghost use Rattle.pure_read.specs.RawView.{seen_annotation};
 ghost use Rattle.pure_elab.specs.Drafts as spec;
 ghost use Rattle.pure_elab.specs.Drafts.{texts_of};
 ghost use Rattle.pure_elab.specs.Written as written;
@@ -210,11 +211,11 @@ fn binder_typ<L: Language>(
     language: &L,
     sorts: &[VariableSort],
     constraints: &mut Constraints,
-    annotation: &Option<RawTyp>,
+    annotation: &Option<Box<RawTyp>>,
 ) -> Result<Typ, AllocError>
-    ensures typ { IfOk result (λ t. t ≡ spec.binder_typ (L.vocabulary language.now) (sort_among sorts.now) annotation.now constraints.old.next) }
-    ensures added { OnOk result (AreAdded [] (spec.behind_binder annotation.now constraints.old.next) constraints.old constraints.new) }
-    ensures sound { OnOk result (annotation_faults (L.vocabulary language.now) annotation.now ≡ []) }
+    ensures typ { IfOk result (λ t. t ≡ spec.binder_typ (L.vocabulary language.now) (sort_among sorts.now) (seen_annotation annotation.now) constraints.old.next) }
+    ensures added { OnOk result (AreAdded [] (spec.behind_binder (seen_annotation annotation.now) constraints.old.next) constraints.old constraints.new) }
+    ensures sound { OnOk result (annotation_faults (L.vocabulary language.now) (seen_annotation annotation.now) ≡ []) }
 {
     match annotation {
         None => {

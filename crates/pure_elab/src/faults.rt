@@ -2,6 +2,7 @@
 ghost use Rattle.std.specs.Prelude.{◌≡◌, IfOk, Some, None};
 ghost use Rattle.pure_grammar.specs.Tokens.Token.{tail};
 ghost use Rattle.pure_grammar.specs.Terms.RawTree.{raw_typs_of};
+ghost use Rattle.pure_read.specs.RawView.{seen_annotation};
 ghost use Rattle.pure_elab.specs.Faults as spec;
 ghost use Rattle.pure_elab.specs.Drafts.{texts_of};
 ghost use Rattle.pure_elab.specs.Scope.{binders_of};
@@ -177,10 +178,10 @@ fn with_typs<L: Language>(language: &L, args: &[RawTyp], best: Option<FaultAt>) 
 /// The same with the faults of the type of a binder, if one is written.
 fn with_annotation<L: Language>(
     language: &L,
-    typ: &Option<RawTyp>,
+    typ: &Option<Box<RawTyp>>,
     best: Option<FaultAt>,
 ) -> Option<FaultAt>
-    ensures { result ≡ spec.earliest best (spec.annotation_faults (L.vocabulary language.now) typ.now) }
+    ensures { result ≡ spec.earliest best (spec.annotation_faults (L.vocabulary language.now) (seen_annotation typ.now)) }
 {
     match typ {
         None => best,

@@ -1,15 +1,17 @@
 -- What is meant by each kind of term in an environment.
-use Rattle.std.proofs.Common.{◌≡◌, ◌∙◌, ◌⊎◌, inl, inr, ℕ, ◌+◌, ◌<◌, ◌≤◌, true, false, refl, ap, sym, arith}
+use Rattle.std.proofs.Common.{◌≡◌, ◌∙◌, ◌⊎◌, inl, inr, ℕ, zero, suc, ◌+◌, ◌<◌, ◌≤◌, true, false, refl, ap, sym, arith}
 use Rattle.std.proofs.lemmas.Bool.Decides.{nat_tests}
 use Rattle.std.specs.Prelude.{◌-◌, nat_lt}
 use Rattle.pure_definitions.specs.Types.Typ.{Typ}
 use Rattle.pure_definitions.specs.Terms.Term.{Term, Const, Free, Var, Bound, Abs, App, term_size, term_depth}
 use Rattle.pure_definitions.specs.Terms.Bounds.{lift_term, subst_under}
+use Rattle.pure_definitions.specs.Terms.Measures.{loose_above}
 use Rattle.pure_definitions.proofs.LiftLaws.{lift-lift, subst-lift}
+use Rattle.pure_definitions.proofs.MeasureLemmas.{lift_stays, put_stays}
 use Rattle.pure_definitions.proofs.TermLemmas.{term_size-lift, term_depth-lift}
 use Rattle.pure_term_laws.proofs.BoundLaws.{lift-zero, lift-again}
 use Rattle.pure_term_laws.proofs.MapLaws.{place-below, place-itself, beside, subst-past-lift, size-le-subst, depth-le-subst}
-use Rattle.pure_norm.specs.Env.{Env, Empty, Bind, Under, Raise, meant_under, meant}
+use Rattle.pure_norm.specs.Env.{Env, Empty, Bind, Under, Raise, meant_under, meant, Stay}
 use Rattle.pure_norm.specs.Pieces.{IsLeaf}
 
 leaf-subst : (n : ℕ) (c t : Term) → IsLeaf t → subst_under n c t ≡ t
@@ -135,3 +137,18 @@ depth-le-meant n (Bind c i r) t =
     omega arith
 depth-le-meant n (Under r) t = depth-le-meant (n + 1) r t
 depth-le-meant n (Raise by r) t = let rest = depth-le-meant n r t in let same = term_depth-lift by n (meant_under n r t) in omega arith
+
+-- A term whose loose bound variables are the own ones means itself.
+meant-closed : (n : ℕ) (e : Env) (t : Term) → loose_above t ≤ n → meant_under n e t ≡ t
+meant-closed n Empty t h = refl
+meant-closed n (Bind c i r) t h = ap (subst_under n (meant_under 0 i c)) (meant-closed (n + 1) r t (omega arith)) ∙ put_stays n (meant_under 0 i c) t h
+meant-closed n (Under r) t h = meant-closed (n + 1) r t (omega arith)
+meant-closed n (Raise by r) t h = ap (lift_term by n) (meant-closed n r t h) ∙ lift_stays by n t h
+
+-- So does one with further ones whose binders stay.
+pub meant-staying : (n k : ℕ) (e : Env) (t : Term) → Stay k e → loose_above t ≤ n + k → meant_under n e t ≡ t
+meant-staying n zero e t h low = meant-closed n e t (omega arith)
+meant-staying n (suc k) Empty t h low = refl
+meant-staying n (suc k) (Bind c i r) t h low = absurd h
+meant-staying n (suc k) (Under r) t h low = meant-staying (n + 1) k r t h (omega arith)
+meant-staying n (suc k) (Raise by r) t h low = absurd h

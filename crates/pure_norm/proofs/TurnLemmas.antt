@@ -1,16 +1,22 @@
 -- Walks to an abstraction and to a normal form, by what is found on the way.
-use Rattle.std.proofs.Common.{◌≡◌, ℕ, zero, suc, ◌+◌, ◌*◌, ◌<◌, ◌≤◌, refl, sym, subst, arith}
+use Rattle.std.proofs.Common.{◌≡◌, ◌∙◌, ℕ, zero, suc, ◌+◌, ◌*◌, ◌<◌, ◌≤◌, Bool, true, false, true≢false, IsTrue, refl, sym, subst, arith}
+use Rattle.std.specs.Bool.{OnTrue}
+use Rattle.std.proofs.lemmas.Bool.{OnTrue_at, OnTrue_from}
 use Rattle.pure_definitions.specs.Types.Typ.{Typ}
 use Rattle.pure_definitions.specs.Terms.Term.{Term, Const, Free, Var, Bound, Abs, App, term_size}
+use Rattle.pure_definitions.specs.Terms.Measures.{loose_above}
 use Rattle.pure_definitions.specs.Reduction.Beta.{IsAbs, IsBetaNormal}
 use Rattle.pure_norm.specs.declared.contract.Walk.{Walk}
+use Rattle.pure_norm.specs.declared.scope.Closure.{Closure}
 use Rattle.pure_norm.specs.declared.fault.NormFault.{NormFault}
 use Rattle.pure_norm.specs.declared.fault.NormFault.TheVariants.{Steps, Big, Memory}
 use Rattle.pure_norm.specs.declared.walk.Turn.{Turn}
 use Rattle.pure_norm.specs.declared.walk.Turn.TheVariants as turn
 use Rattle.pure_norm.specs.Held.{IsBound, closure_term}
-use Rattle.pure_norm.specs.Turn.{head_term, turns, IsTurn, IsFoundTurn}
+use Rattle.pure_norm.specs.Env.{Env, Stay, meant}
+use Rattle.pure_norm.specs.Turn.{head_term, turns, IsTurn, IsOver, IsFoundTurn}
 use Rattle.pure_norm.specs.Walk.{Abstraction, Normal, Leads, CanWalk, Walked, Fails, Contracted, CannotContract}
+use Rattle.pure_norm.proofs.MeantLemmas.{meant-staying}
 use Rattle.pure_norm.proofs.WalkLemmas.{walked-chain, fails-chain, can_walk-after, walked-nowhere}
 use Rattle.pure_norm.proofs.DescendLemmas.{can_walk-body, walked-body, fails-body, can_walk-function, walked-function, fails-function, walked-redex, fails-redex, can_walk-argument, IsFunctionOver, walked-after_function, fails-after_function}
 
@@ -137,3 +143,14 @@ turn-same deep before now c d t u x e f h =
 
 pub fails-same : (deep : ℕ) (before : Walk) (t u : Term) (fault : NormFault) → t ≡ u → Fails Abstraction deep before u fault → Fails Abstraction deep before t fault
 fails-same deep before t u fault e h = subst (λ (v : Term). Fails Abstraction deep before v fault) (sym e) h
+
+-- A term that is no abstraction and normal, and whose loose bound variables have binders that stay, is over.
+pub held-over : (c : Closure) (a s b : Bool) (n : ℕ) (e : Env) → a ≡ false → (IsAbs c.piece.term.now → IsTrue a) → s ≡ true → OnTrue s (Stay n e) → n ≡ loose_above c.piece.term.now → e ≡ c.scope.value
+    → (IsTrue b → IsBetaNormal c.piece.term.now) → OnTrue b (IsOver c)
+held-over c a s b n e other_abs told stayed staying low same normal =
+    let stays : meant e c.piece.term.now ≡ c.piece.term.now = meant-staying 0 n e c.piece.term.now (OnTrue_at stayed staying) (omega arith) in
+    OnTrue_from b (IsOver c) (λ so. record {
+      itself = subst (λ (f : Env). meant f c.piece.term.now ≡ c.piece.term.now) same stays;
+      other = λ abs. true≢false (sym (told abs) ∙ other_abs);
+      normal = normal so;
+    })

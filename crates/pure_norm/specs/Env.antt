@@ -1,5 +1,5 @@
 -- A term that is held unchanged in an environment, which says what stands for its loose bound variables.
-use Rattle.std.specs.Prelude.{ℕ, ◌+◌, max}
+use Rattle.std.specs.Prelude.{ℕ, zero, suc, ◌+◌, max}
 use Rattle.pure_definitions.specs.Terms.Term.{Term}
 use Rattle.pure_definitions.specs.Terms.Bounds.{lift_term, subst_under}
 
@@ -27,3 +27,11 @@ env_height Empty = 0
 env_height (Bind c inner rest) = 1 + max (env_height inner) (env_height rest)
 env_height (Under rest) = 1 + env_height rest
 env_height (Raise by rest) = 1 + env_height rest
+
+-- The binders of so many bound variables, the innermost ones, stay.
+abbrev pub Stay : ℕ → Env → Type 0
+Stay zero e = Unit {0}
+Stay (suc k) Empty = Unit {0}
+Stay (suc k) (Bind c inner rest) = ⊥
+Stay (suc k) (Under rest) = Stay k rest
+Stay (suc k) (Raise by rest) = ⊥

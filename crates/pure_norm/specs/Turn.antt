@@ -3,6 +3,7 @@ use Rattle.std.specs.Prelude.{◌≡◌, ℕ, ◌+◌, ◌*◌, ◌<◌}
 use Rattle.pure_definitions.specs.Terms.Term.{Term, Bound}
 use Rattle.pure_definitions.specs.Reduction.Beta.{IsAbs, IsBetaNormal}
 use Rattle.pure_norm.specs.declared.contract.Walk.{Walk}
+use Rattle.pure_norm.specs.declared.scope.Closure.{Closure}
 use Rattle.pure_norm.specs.declared.walk.Head.{Head}
 use Rattle.pure_norm.specs.declared.walk.Head.TheVariants as head
 use Rattle.pure_norm.specs.declared.walk.Turn.{Turn}
@@ -31,6 +32,12 @@ turns walk t = 2 * walk.steps
 abbrev pub IsTurn : (deep : ℕ) → (before now : Walk) → (c t : Term) → Turn → Type 0
 IsTurn deep before now c t (turn.Over h) = Walked Abstraction deep before now t (head_term h) × IsHead h
 IsTurn deep before now c t (turn.Next d) = Walked Abstraction deep before now t (closure_term d) × (turns now d.piece.term.now < turns before c) × IsPiece d.piece
+
+-- What is held means itself, and is no abstraction and normal.
+pub record IsOver (c : Closure) : Type 0 where
+  pub itself : closure_term c ≡ c.piece.term.now
+  pub other : ¬ IsAbs c.piece.term.now
+  pub normal : IsBetaNormal c.piece.term.now
 
 -- The turn at a bound variable that means t: t is found, or held as another term.
 abbrev pub IsFoundTurn : Term → Turn → Type 0

@@ -71,7 +71,7 @@ pub fn is_normal(t: &Term) -> bool
 }
 
 /// Whether the term is an abstraction.
-fn is_abs(t: &Term) -> bool
+pub fn is_abs(t: &Term) -> bool
     ensures { IsAbs t.now → IsTrue result }
 {
     match &t.node {

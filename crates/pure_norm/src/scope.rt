@@ -1,9 +1,10 @@
 //! Terms that are held unchanged, each in a scope that says what stands for its loose bound variables.
 ghost use Rattle.std.specs.Prelude.{◌≡◌, ◌++◌, IfOk};
+ghost use Rattle.std.specs.Bool.{OnTrue};
 ghost use Rattle.pure_definitions.specs.Terms.Term as tree;
 ghost use Rattle.pure_definitions.specs.Terms.Bounds.{lift_term};
 ghost use Rattle.pure_norm.specs.Env as env;
-ghost use Rattle.pure_norm.specs.Env.{meant};
+ghost use Rattle.pure_norm.specs.Env.{meant, Stay};
 ghost use Rattle.pure_norm.specs.Measures.{measures, measure_of};
 ghost use Rattle.pure_norm.specs.Pieces.{IsPiece};
 
@@ -123,6 +124,21 @@ pub fn scope_with<'t>(
         rest,
     };
     Ok(Rc::new(alloc, Scope { node })?)
+}
+
+/// Whether the binders of so many bound variables, the innermost ones, stay.
+pub fn stay(scope: &Scope<'_>, count: u64) -> bool
+    ensures { OnTrue result (Stay count scope.now) }
+{
+    if count == 0 {
+        return true;
+    }
+    match &scope.node {
+        ScopeNode::Empty => true,
+        ScopeNode::Bind { .. } => false,
+        ScopeNode::Under { rest } => stay(rest, count - 1),
+        ScopeNode::Raise { .. } => false,
+    }
 }
 
 /// Lists the measures of what stands for the variables, the innermost first.

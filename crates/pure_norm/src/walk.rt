@@ -1,18 +1,20 @@
 //! The walk through a term, which takes steps on the way. Terms are held unchanged in scopes: a step binds its argument there.
 ghost use Rattle.std.specs.Prelude.{◌≡◌, ◌+◌, ◌*◌, ◌<◌, ◌≤◌, IfOk, IfErr};
+ghost use Rattle.std.specs.Bool.{OnTrue};
 ghost use Rattle.pure_definitions.specs.Terms.Term as tree;
 ghost use Rattle.pure_definitions.specs.Reduction.Beta.{IsBetaNormal};
 ghost use Rattle.pure_norm.specs.Env.{meant};
 ghost use Rattle.pure_norm.specs.Walk.{Normal, Abstraction, CanWalk, Walked, Fails};
 ghost use Rattle.pure_norm.specs.Pieces.{IsPiece, IsLeaf};
-ghost use Rattle.pure_norm.specs.Turn.{head_term, IsHead, IsTurn, IsFoundTurn};
+ghost use Rattle.pure_norm.specs.Turn.{head_term, IsHead, IsTurn, IsOver, IsFoundTurn};
 
+use crate::beta::{is_abs, is_normal};
 use crate::contract::{Function, Walk, contract};
 use crate::fault::NormFault;
 use crate::held::{Found, find};
 use crate::pieces::{Form, Piece, form_of};
-use crate::scope::{Closure, Scope, scope_under};
-use pure_term::{Term, TermNode, Typ, copied};
+use crate::scope::{Closure, Scope, scope_under, stay};
+use pure_term::{Term, TermNode, Typ, copied, loose_above_of};
 use std::alloc::{AllocError, Global};
 use std::rc::Rc;
 use std::sync::Arc;
@@ -170,7 +172,8 @@ fn leaf<'t>(alloc: Global, t: &Term) -> Result<Head<'t>, AllocError>
     Ok(Head::Reduced(copied(alloc, t)?))
 }
 
-/// The turn at a bound variable: it is over where the variable stays, and else goes on at the term that it stands for.
+/// The turn at a bound variable: it is over where the variable stays, or stands for a term that is over itself, which is handed
+/// back; and else goes on at the term that it stands for.
 fn at_bound<'t>(alloc: Global, place: u32, scope: &Rc<Scope<'t>>) -> Result<Turn<'t>, AllocError>
     ensures { IfOk result (λ turn. IsFoundTurn (meant scope.now.value (tree.Bound place)) turn) }
 {
@@ -180,8 +183,28 @@ fn at_bound<'t>(alloc: Global, place: u32, scope: &Rc<Scope<'t>>) -> Result<Turn
             let variable = bound(alloc, place)?;
             Ok(Turn::Over(Head::Reduced(variable)))
         }
-        Found::Kept(held) => Ok(Turn::Next(held.closure)),
+        Found::Kept(held) => {
+            if is_over(&held.closure) {
+                let same = copied(alloc, held.closure.piece.term)?;
+                return Ok(Turn::Over(Head::Reduced(same)));
+            }
+            Ok(Turn::Next(held.closure))
+        }
     }
+}
+
+/// Whether what is held means itself, and is no abstraction and normal. The walk through it would make it anew.
+fn is_over(held: &Closure<'_>) -> bool
+    ensures { OnTrue result (IsOver held.now) }
+{
+    let term = held.piece.term;
+    if is_abs(term) {
+        return false;
+    }
+    if !stay(&held.scope, loose_above_of(term)) {
+        return false;
+    }
+    is_normal(term)
 }
 
 /// A bound variable.

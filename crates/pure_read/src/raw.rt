@@ -1,6 +1,7 @@
 //! The trees of terms and types as they are written.
 ghost use Rattle.std.specs.Prelude.{◌≡◌, IfOk, codes, [], ◌∷◌};
 ghost use Rattle.pure_grammar.specs.Terms.RawTree as tree;
+ghost use Rattle.pure_read.specs.RawView.{seen_annotation};
 
 use pure_grammar::TokenKind;
 use pure_text::Text;
@@ -79,7 +80,8 @@ pub struct Raw {
 }
 
 /// A variable or constant by its token, an abstraction, an application, or a term with a type; `==>`, `==` and `!!` are
-/// applications of the constants `Pure.imp`, `Pure.eq` and `Pure.all`. Each node has the place of its first token.
+/// applications of the constants `Pure.imp`, `Pure.eq` and `Pure.all`. Each node has the place of its first token. Types stand apart, so that
+/// a node takes little room.
 #[cycle(raw)]
 #[derive(Debug, Drop)]
 pub enum RawNode {
@@ -91,7 +93,7 @@ pub enum RawNode {
     Abs {
         at: u32,
         var: Text,
-        typ: Option<RawTyp>,
+        typ: Option<Box<RawTyp>>,
         body: Box<Raw>,
     },
     App {
@@ -102,7 +104,7 @@ pub enum RawNode {
     Typed {
         at: u32,
         term: Box<Raw>,
-        typ: RawTyp,
+        typ: Box<RawTyp>,
     },
 }
 
@@ -125,6 +127,19 @@ impl Model for Raw {
     ghost use Rattle.pure_read.specs.RawFalls.{depth_le-raw_depth};
 
     ghost size_decreases = { λ t h. depth_le-raw_depth t.node };
+}
+
+/// The type in a block of its own, if there is one, so that a binder without a type takes little room.
+fn boxed(alloc: Global, typ: Option<RawTyp>) -> Result<Option<Box<RawTyp>>, AllocError>
+    ensures { IfOk result (λ found. seen_annotation found ≡ typ) }
+{
+    match typ {
+        None => Ok(None),
+        Some(typ) => {
+            let typ = Box::new(alloc, typ)?;
+            Ok(Some(typ))
+        }
+    }
 }
 
 impl Raw {
@@ -151,6 +166,7 @@ impl Raw {
     ) -> Result<Box<Raw>, AllocError>
         ensures { IfOk result (λ t. t.value ≡ tree.Abs at var typ body.value) }
     {
+        let typ = boxed(alloc, typ)?;
         let node = RawNode::Abs { at, var, typ, body };
         Ok(Box::new(alloc, Raw { node })?)
     }
@@ -177,6 +193,7 @@ impl Raw {
     ) -> Result<Box<Raw>, AllocError>
         ensures { IfOk result (λ t. t.value ≡ tree.Typed at term.value typ) }
     {
+        let typ = Box::new(alloc, typ)?;
         let node = RawNode::Typed { at, term, typ };
         Ok(Box::new(alloc, Raw { node })?)
     }

@@ -66,7 +66,7 @@ pub(crate) fn say_typ(alloc: Global, shown: &mut Vec<u8>, typ: &RawTyp) -> Resul
 fn say_typ_or_none(
     alloc: Global,
     shown: &mut Vec<u8>,
-    typ: &Option<RawTyp>,
+    typ: &Option<Box<RawTyp>>,
 ) -> Result<(), AllocError> {
     match typ {
         None => say(shown, "-"),
