@@ -1,0 +1,5 @@
+mod SendLaws
+mod FactLaws
+mod FirstLaws
+mod TryLaws
+mod AnswerLaws

@@ -1,0 +1,5 @@
+pub mod Methods
+pub mod First
+pub mod Proofs
+pub mod Codes
+pub mod Answers
