@@ -91,9 +91,7 @@ fn put(
 fn law(alloc: Global, thy: &Theory, names: &NamesByBase, name: &[u8], x: &[u8]) -> Result<Thm, Stop>
     ensures { IfOk result (IsDerivable thy.now) }
 {
-    let name = name_of(names, name)?;
-    has_theory_content(thy);
-    let general = axiom(alloc, thy, name)?;
+    let general = stated(alloc, thy, names, name)?;
     let th = put(alloc, thy, names, &general, b"x", x)?;
     Ok(th)
 }
@@ -115,6 +113,64 @@ fn associative(
     Ok(third)
 }
 
+/// From `t == u`: `u == t`.
+fn back(alloc: Global, thy: &Theory, th: &Thm) -> Result<Thm, Stop>
+    requires { IsDerivable thy.now th.now }
+    ensures { IfOk result (IsDerivable thy.now) }
+{
+    has_theory_content(thy);
+    let th = symmetric(alloc, thy, th)?;
+    Ok(th)
+}
+
+/// From `t == u` and `u == v`: `t == v`.
+fn then(alloc: Global, thy: &Theory, first: &Thm, second: &Thm) -> Result<Thm, Stop>
+    requires first { IsDerivable thy.now first.now }
+    requires second { IsDerivable thy.now second.now }
+    ensures { IfOk result (IsDerivable thy.now) }
+{
+    has_theory_content(thy);
+    let th = transitive(alloc, thy, first, second)?;
+    Ok(th)
+}
+
+/// From `f == g` and `a == b`: `f a == g b`.
+fn applied(alloc: Global, thy: &Theory, function: &Thm, argument: &Thm) -> Result<Thm, Stop>
+    requires function { IsDerivable thy.now function.now }
+    requires argument { IsDerivable thy.now argument.now }
+    ensures { IfOk result (IsDerivable thy.now) }
+{
+    has_theory_content(thy);
+    let th = combination(alloc, thy, function, argument)?;
+    Ok(th)
+}
+
+/// The theorem with the fixed variable x made schematic.
+fn general(alloc: Global, thy: &Theory, names: &NamesByBase, th: &Thm) -> Result<Thm, Stop>
+    requires { IsDerivable thy.now th.now }
+    ensures { IfOk result (IsDerivable thy.now) }
+{
+    let x = name_of(names, b"x")?;
+    has_theory_content(thy);
+    let th = generalise(alloc, thy, &[], &[x], 0, th)?;
+    Ok(th)
+}
+
+/// The axiom of this name.
+pub(crate) fn stated(
+    alloc: Global,
+    thy: &Theory,
+    names: &NamesByBase,
+    name: &[u8],
+) -> Result<Thm, Stop>
+    ensures { IfOk result (IsDerivable thy.now) }
+{
+    let name = name_of(names, name)?;
+    has_theory_content(thy);
+    let th = axiom(alloc, thy, name)?;
+    Ok(th)
+}
+
 /// From `a == b`: `f a == f b`, for the function that the text says.
 fn below(
     alloc: Global,
@@ -127,8 +183,7 @@ fn below(
     ensures { IfOk result (IsDerivable thy.now) }
 {
     let function = same(alloc, thy, names, function, b"g => g")?;
-    has_theory_content(thy);
-    let th = combination(alloc, thy, &function, th)?;
+    let th = applied(alloc, thy, &function, th)?;
     Ok(th)
 }
 
@@ -145,9 +200,8 @@ fn times(
 {
     let mul = same(alloc, thy, names, b"mul", b"g => g => g")?;
     let element = same(alloc, thy, names, element, b"g")?;
-    has_theory_content(thy);
-    let function = combination(alloc, thy, &mul, th)?;
-    let th = combination(alloc, thy, &function, &element)?;
+    let function = applied(alloc, thy, &mul, th)?;
+    let th = applied(alloc, thy, &function, &element)?;
     Ok(th)
 }
 
@@ -159,10 +213,9 @@ fn absorbed(alloc: Global, thy: &Theory, names: &NamesByBase) -> Result<Thm, Sto
     let inverse = law(alloc, thy, names, b"Group.left_inverse", b"x")?;
     let inverse = times(alloc, thy, names, &inverse, b"inv x")?;
     let unit = law(alloc, thy, names, b"Group.left_one", b"inv x")?;
-    has_theory_content(thy);
-    let back = symmetric(alloc, thy, &assoc)?;
-    let th = transitive(alloc, thy, &back, &inverse)?;
-    let th = transitive(alloc, thy, &th, &unit)?;
+    let right = back(alloc, thy, &assoc)?;
+    let th = then(alloc, thy, &right, &inverse)?;
+    let th = then(alloc, thy, &th, &unit)?;
     Ok(th)
 }
 
@@ -181,9 +234,8 @@ fn product_is_one(alloc: Global, thy: &Theory, names: &NamesByBase) -> Result<Th
     let absorbed = absorbed(alloc, thy, names)?;
     let absorbed = below(alloc, thy, names, b"mul (inv (inv x))", &absorbed)?;
     let inverse = law(alloc, thy, names, b"Group.left_inverse", b"inv x")?;
-    has_theory_content(thy);
-    let th = transitive(alloc, thy, &assoc, &absorbed)?;
-    let th = transitive(alloc, thy, &th, &inverse)?;
+    let th = then(alloc, thy, &assoc, &absorbed)?;
+    let th = then(alloc, thy, &th, &inverse)?;
     Ok(th)
 }
 
@@ -194,8 +246,7 @@ fn product_is_right(alloc: Global, thy: &Theory, names: &NamesByBase) -> Result<
     let inverse = law(alloc, thy, names, b"Group.left_inverse", b"inv x")?;
     let inverse = times(alloc, thy, names, &inverse, b"mul x (inv x)")?;
     let unit = law(alloc, thy, names, b"Group.left_one", b"mul x (inv x)")?;
-    has_theory_content(thy);
-    let th = transitive(alloc, thy, &inverse, &unit)?;
+    let th = then(alloc, thy, &inverse, &unit)?;
     Ok(th)
 }
 
@@ -205,10 +256,8 @@ pub(crate) fn right_inverse(alloc: Global, thy: &Theory, names: &NamesByBase) ->
 {
     let right = product_is_right(alloc, thy, names)?;
     let one = product_is_one(alloc, thy, names)?;
-    let x = name_of(names, b"x")?;
-    has_theory_content(thy);
-    let back = symmetric(alloc, thy, &right)?;
-    let th = transitive(alloc, thy, &back, &one)?;
-    let th = generalise(alloc, thy, &[], &[x], 0, &th)?;
+    let right = back(alloc, thy, &right)?;
+    let th = then(alloc, thy, &right, &one)?;
+    let th = general(alloc, thy, names, &th)?;
     Ok(th)
 }
