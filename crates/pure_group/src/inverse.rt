@@ -205,48 +205,102 @@ fn times(
     Ok(th)
 }
 
-/// `mul (inv x) (mul x (inv x)) == inv x`
-fn absorbed(alloc: Global, thy: &Theory, names: &NamesByBase) -> Result<Thm, Stop>
+/// `mul (mul (inv x) x) t == mul one t`, for the elements x and t.
+fn cancelled(
+    alloc: Global,
+    thy: &Theory,
+    names: &NamesByBase,
+    x: &[u8],
+    t: &[u8],
+) -> Result<Thm, Stop>
+    ensures { IfOk result (IsDerivable thy.now) }
+{
+    let inverse = law(alloc, thy, names, b"Group.left_inverse", x)?;
+    let th = times(alloc, thy, names, &inverse, t)?;
+    Ok(th)
+}
+
+/// `mul (mul (inv x) x) t == t`, for the elements x and t.
+fn absorbed(
+    alloc: Global,
+    thy: &Theory,
+    names: &NamesByBase,
+    x: &[u8],
+    t: &[u8],
+) -> Result<Thm, Stop>
+    ensures { IfOk result (IsDerivable thy.now) }
+{
+    let cancelled = cancelled(alloc, thy, names, x, t)?;
+    let unit = law(alloc, thy, names, b"Group.left_one", t)?;
+    let th = then(alloc, thy, &cancelled, &unit)?;
+    Ok(th)
+}
+
+/// `mul (inv x) (mul x (inv x)) == mul (mul (inv x) x) (inv x)`
+fn regrouped(alloc: Global, thy: &Theory, names: &NamesByBase) -> Result<Thm, Stop>
     ensures { IfOk result (IsDerivable thy.now) }
 {
     let assoc = associative(alloc, thy, names, b"inv x", b"x", b"inv x")?;
-    let inverse = law(alloc, thy, names, b"Group.left_inverse", b"x")?;
-    let inverse = times(alloc, thy, names, &inverse, b"inv x")?;
-    let unit = law(alloc, thy, names, b"Group.left_one", b"inv x")?;
-    let right = back(alloc, thy, &assoc)?;
-    let th = then(alloc, thy, &right, &inverse)?;
-    let th = then(alloc, thy, &th, &unit)?;
+    let th = back(alloc, thy, &assoc)?;
+    Ok(th)
+}
+
+/// `mul (inv x) (mul x (inv x)) == inv x`
+fn inner(alloc: Global, thy: &Theory, names: &NamesByBase) -> Result<Thm, Stop>
+    ensures { IfOk result (IsDerivable thy.now) }
+{
+    let regrouped = regrouped(alloc, thy, names)?;
+    let absorbed = absorbed(alloc, thy, names, b"x", b"inv x")?;
+    let th = then(alloc, thy, &regrouped, &absorbed)?;
+    Ok(th)
+}
+
+/// `mul (inv (inv x)) (mul (inv x) (mul x (inv x))) == mul (inv (inv x)) (inv x)`
+fn outer(alloc: Global, thy: &Theory, names: &NamesByBase) -> Result<Thm, Stop>
+    ensures { IfOk result (IsDerivable thy.now) }
+{
+    let inner = inner(alloc, thy, names)?;
+    let th = below(alloc, thy, names, b"mul (inv (inv x))", &inner)?;
+    Ok(th)
+}
+
+/// `mul (mul (inv (inv x)) (inv x)) (mul x (inv x)) == mul (inv (inv x)) (inv x)`
+fn whole(alloc: Global, thy: &Theory, names: &NamesByBase) -> Result<Thm, Stop>
+    ensures { IfOk result (IsDerivable thy.now) }
+{
+    let product = b"mul x (inv x)";
+    let assoc = associative(alloc, thy, names, b"inv (inv x)", b"inv x", product)?;
+    let outer = outer(alloc, thy, names)?;
+    let th = then(alloc, thy, &assoc, &outer)?;
     Ok(th)
 }
 
 /// `mul (mul (inv (inv x)) (inv x)) (mul x (inv x)) == one`
-fn product_is_one(alloc: Global, thy: &Theory, names: &NamesByBase) -> Result<Thm, Stop>
+fn whole_is_one(alloc: Global, thy: &Theory, names: &NamesByBase) -> Result<Thm, Stop>
     ensures { IfOk result (IsDerivable thy.now) }
 {
-    let assoc = associative(
-        alloc,
-        thy,
-        names,
-        b"inv (inv x)",
-        b"inv x",
-        b"mul x (inv x)",
-    )?;
-    let absorbed = absorbed(alloc, thy, names)?;
-    let absorbed = below(alloc, thy, names, b"mul (inv (inv x))", &absorbed)?;
+    let whole = whole(alloc, thy, names)?;
     let inverse = law(alloc, thy, names, b"Group.left_inverse", b"inv x")?;
-    let th = then(alloc, thy, &assoc, &absorbed)?;
-    let th = then(alloc, thy, &th, &inverse)?;
+    let th = then(alloc, thy, &whole, &inverse)?;
     Ok(th)
 }
 
-/// `mul (mul (inv (inv x)) (inv x)) (mul x (inv x)) == mul x (inv x)`
-fn product_is_right(alloc: Global, thy: &Theory, names: &NamesByBase) -> Result<Thm, Stop>
+/// `mul x (inv x) == mul (mul (inv (inv x)) (inv x)) (mul x (inv x))`
+fn right_is_whole(alloc: Global, thy: &Theory, names: &NamesByBase) -> Result<Thm, Stop>
     ensures { IfOk result (IsDerivable thy.now) }
 {
-    let inverse = law(alloc, thy, names, b"Group.left_inverse", b"inv x")?;
-    let inverse = times(alloc, thy, names, &inverse, b"mul x (inv x)")?;
-    let unit = law(alloc, thy, names, b"Group.left_one", b"mul x (inv x)")?;
-    let th = then(alloc, thy, &inverse, &unit)?;
+    let absorbed = absorbed(alloc, thy, names, b"inv x", b"mul x (inv x)")?;
+    let th = back(alloc, thy, &absorbed)?;
+    Ok(th)
+}
+
+/// `mul x (inv x) == one`
+fn fixed(alloc: Global, thy: &Theory, names: &NamesByBase) -> Result<Thm, Stop>
+    ensures { IfOk result (IsDerivable thy.now) }
+{
+    let right = right_is_whole(alloc, thy, names)?;
+    let one = whole_is_one(alloc, thy, names)?;
+    let th = then(alloc, thy, &right, &one)?;
     Ok(th)
 }
 
@@ -254,10 +308,7 @@ fn product_is_right(alloc: Global, thy: &Theory, names: &NamesByBase) -> Result<
 pub(crate) fn right_inverse(alloc: Global, thy: &Theory, names: &NamesByBase) -> Result<Thm, Stop>
     ensures { IfOk result (IsDerivable thy.now) }
 {
-    let right = product_is_right(alloc, thy, names)?;
-    let one = product_is_one(alloc, thy, names)?;
-    let right = back(alloc, thy, &right)?;
-    let th = then(alloc, thy, &right, &one)?;
-    let th = general(alloc, thy, names, &th)?;
+    let fixed = fixed(alloc, thy, names)?;
+    let th = general(alloc, thy, names, &fixed)?;
     Ok(th)
 }
