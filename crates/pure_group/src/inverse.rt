@@ -91,9 +91,7 @@ fn put(
 fn law(alloc: Global, thy: &Theory, names: &NamesByBase, name: &[u8], x: &[u8]) -> Result<Thm, Stop>
     ensures { IfOk result (IsDerivable thy.now) }
 {
-    let name = name_of(names, name)?;
-    has_theory_content(thy);
-    let general = axiom(alloc, thy, name)?;
+    let general = stated(alloc, thy, names, name)?;
     let th = put(alloc, thy, names, &general, b"x", x)?;
     Ok(th)
 }
@@ -115,6 +113,64 @@ fn associative(
     Ok(third)
 }
 
+/// From `t == u`: `u == t`.
+fn back(alloc: Global, thy: &Theory, th: &Thm) -> Result<Thm, Stop>
+    requires { IsDerivable thy.now th.now }
+    ensures { IfOk result (IsDerivable thy.now) }
+{
+    has_theory_content(thy);
+    let th = symmetric(alloc, thy, th)?;
+    Ok(th)
+}
+
+/// From `t == u` and `u == v`: `t == v`.
+fn then(alloc: Global, thy: &Theory, first: &Thm, second: &Thm) -> Result<Thm, Stop>
+    requires first { IsDerivable thy.now first.now }
+    requires second { IsDerivable thy.now second.now }
+    ensures { IfOk result (IsDerivable thy.now) }
+{
+    has_theory_content(thy);
+    let th = transitive(alloc, thy, first, second)?;
+    Ok(th)
+}
+
+/// From `f == g` and `a == b`: `f a == g b`.
+fn applied(alloc: Global, thy: &Theory, function: &Thm, argument: &Thm) -> Result<Thm, Stop>
+    requires function { IsDerivable thy.now function.now }
+    requires argument { IsDerivable thy.now argument.now }
+    ensures { IfOk result (IsDerivable thy.now) }
+{
+    has_theory_content(thy);
+    let th = combination(alloc, thy, function, argument)?;
+    Ok(th)
+}
+
+/// The theorem with the fixed variable x made schematic.
+fn general(alloc: Global, thy: &Theory, names: &NamesByBase, th: &Thm) -> Result<Thm, Stop>
+    requires { IsDerivable thy.now th.now }
+    ensures { IfOk result (IsDerivable thy.now) }
+{
+    let x = name_of(names, b"x")?;
+    has_theory_content(thy);
+    let th = generalise(alloc, thy, &[], &[x], 0, th)?;
+    Ok(th)
+}
+
+/// The axiom of this name.
+pub(crate) fn stated(
+    alloc: Global,
+    thy: &Theory,
+    names: &NamesByBase,
+    name: &[u8],
+) -> Result<Thm, Stop>
+    ensures { IfOk result (IsDerivable thy.now) }
+{
+    let name = name_of(names, name)?;
+    has_theory_content(thy);
+    let th = axiom(alloc, thy, name)?;
+    Ok(th)
+}
+
 /// From `a == b`: `f a == f b`, for the function that the text says.
 fn below(
     alloc: Global,
@@ -127,8 +183,7 @@ fn below(
     ensures { IfOk result (IsDerivable thy.now) }
 {
     let function = same(alloc, thy, names, function, b"g => g")?;
-    has_theory_content(thy);
-    let th = combination(alloc, thy, &function, th)?;
+    let th = applied(alloc, thy, &function, th)?;
     Ok(th)
 }
 
@@ -145,57 +200,107 @@ fn times(
 {
     let mul = same(alloc, thy, names, b"mul", b"g => g => g")?;
     let element = same(alloc, thy, names, element, b"g")?;
-    has_theory_content(thy);
-    let function = combination(alloc, thy, &mul, th)?;
-    let th = combination(alloc, thy, &function, &element)?;
+    let function = applied(alloc, thy, &mul, th)?;
+    let th = applied(alloc, thy, &function, &element)?;
+    Ok(th)
+}
+
+/// `mul (mul (inv x) x) t == mul one t`, for the elements x and t.
+fn cancelled(
+    alloc: Global,
+    thy: &Theory,
+    names: &NamesByBase,
+    x: &[u8],
+    t: &[u8],
+) -> Result<Thm, Stop>
+    ensures { IfOk result (IsDerivable thy.now) }
+{
+    let inverse = law(alloc, thy, names, b"Group.left_inverse", x)?;
+    let th = times(alloc, thy, names, &inverse, t)?;
+    Ok(th)
+}
+
+/// `mul (mul (inv x) x) t == t`, for the elements x and t.
+fn absorbed(
+    alloc: Global,
+    thy: &Theory,
+    names: &NamesByBase,
+    x: &[u8],
+    t: &[u8],
+) -> Result<Thm, Stop>
+    ensures { IfOk result (IsDerivable thy.now) }
+{
+    let cancelled = cancelled(alloc, thy, names, x, t)?;
+    let unit = law(alloc, thy, names, b"Group.left_one", t)?;
+    let th = then(alloc, thy, &cancelled, &unit)?;
+    Ok(th)
+}
+
+/// `mul (inv x) (mul x (inv x)) == mul (mul (inv x) x) (inv x)`
+fn regrouped(alloc: Global, thy: &Theory, names: &NamesByBase) -> Result<Thm, Stop>
+    ensures { IfOk result (IsDerivable thy.now) }
+{
+    let assoc = associative(alloc, thy, names, b"inv x", b"x", b"inv x")?;
+    let th = back(alloc, thy, &assoc)?;
     Ok(th)
 }
 
 /// `mul (inv x) (mul x (inv x)) == inv x`
-fn absorbed(alloc: Global, thy: &Theory, names: &NamesByBase) -> Result<Thm, Stop>
+fn inner(alloc: Global, thy: &Theory, names: &NamesByBase) -> Result<Thm, Stop>
     ensures { IfOk result (IsDerivable thy.now) }
 {
-    let assoc = associative(alloc, thy, names, b"inv x", b"x", b"inv x")?;
-    let inverse = law(alloc, thy, names, b"Group.left_inverse", b"x")?;
-    let inverse = times(alloc, thy, names, &inverse, b"inv x")?;
-    let unit = law(alloc, thy, names, b"Group.left_one", b"inv x")?;
-    has_theory_content(thy);
-    let back = symmetric(alloc, thy, &assoc)?;
-    let th = transitive(alloc, thy, &back, &inverse)?;
-    let th = transitive(alloc, thy, &th, &unit)?;
+    let regrouped = regrouped(alloc, thy, names)?;
+    let absorbed = absorbed(alloc, thy, names, b"x", b"inv x")?;
+    let th = then(alloc, thy, &regrouped, &absorbed)?;
+    Ok(th)
+}
+
+/// `mul (inv (inv x)) (mul (inv x) (mul x (inv x))) == mul (inv (inv x)) (inv x)`
+fn outer(alloc: Global, thy: &Theory, names: &NamesByBase) -> Result<Thm, Stop>
+    ensures { IfOk result (IsDerivable thy.now) }
+{
+    let inner = inner(alloc, thy, names)?;
+    let th = below(alloc, thy, names, b"mul (inv (inv x))", &inner)?;
+    Ok(th)
+}
+
+/// `mul (mul (inv (inv x)) (inv x)) (mul x (inv x)) == mul (inv (inv x)) (inv x)`
+fn whole(alloc: Global, thy: &Theory, names: &NamesByBase) -> Result<Thm, Stop>
+    ensures { IfOk result (IsDerivable thy.now) }
+{
+    let product = b"mul x (inv x)";
+    let assoc = associative(alloc, thy, names, b"inv (inv x)", b"inv x", product)?;
+    let outer = outer(alloc, thy, names)?;
+    let th = then(alloc, thy, &assoc, &outer)?;
     Ok(th)
 }
 
 /// `mul (mul (inv (inv x)) (inv x)) (mul x (inv x)) == one`
-fn product_is_one(alloc: Global, thy: &Theory, names: &NamesByBase) -> Result<Thm, Stop>
+fn whole_is_one(alloc: Global, thy: &Theory, names: &NamesByBase) -> Result<Thm, Stop>
     ensures { IfOk result (IsDerivable thy.now) }
 {
-    let assoc = associative(
-        alloc,
-        thy,
-        names,
-        b"inv (inv x)",
-        b"inv x",
-        b"mul x (inv x)",
-    )?;
-    let absorbed = absorbed(alloc, thy, names)?;
-    let absorbed = below(alloc, thy, names, b"mul (inv (inv x))", &absorbed)?;
+    let whole = whole(alloc, thy, names)?;
     let inverse = law(alloc, thy, names, b"Group.left_inverse", b"inv x")?;
-    has_theory_content(thy);
-    let th = transitive(alloc, thy, &assoc, &absorbed)?;
-    let th = transitive(alloc, thy, &th, &inverse)?;
+    let th = then(alloc, thy, &whole, &inverse)?;
     Ok(th)
 }
 
-/// `mul (mul (inv (inv x)) (inv x)) (mul x (inv x)) == mul x (inv x)`
-fn product_is_right(alloc: Global, thy: &Theory, names: &NamesByBase) -> Result<Thm, Stop>
+/// `mul x (inv x) == mul (mul (inv (inv x)) (inv x)) (mul x (inv x))`
+fn right_is_whole(alloc: Global, thy: &Theory, names: &NamesByBase) -> Result<Thm, Stop>
     ensures { IfOk result (IsDerivable thy.now) }
 {
-    let inverse = law(alloc, thy, names, b"Group.left_inverse", b"inv x")?;
-    let inverse = times(alloc, thy, names, &inverse, b"mul x (inv x)")?;
-    let unit = law(alloc, thy, names, b"Group.left_one", b"mul x (inv x)")?;
-    has_theory_content(thy);
-    let th = transitive(alloc, thy, &inverse, &unit)?;
+    let absorbed = absorbed(alloc, thy, names, b"inv x", b"mul x (inv x)")?;
+    let th = back(alloc, thy, &absorbed)?;
+    Ok(th)
+}
+
+/// `mul x (inv x) == one`
+fn fixed(alloc: Global, thy: &Theory, names: &NamesByBase) -> Result<Thm, Stop>
+    ensures { IfOk result (IsDerivable thy.now) }
+{
+    let right = right_is_whole(alloc, thy, names)?;
+    let one = whole_is_one(alloc, thy, names)?;
+    let th = then(alloc, thy, &right, &one)?;
     Ok(th)
 }
 
@@ -203,12 +308,7 @@ fn product_is_right(alloc: Global, thy: &Theory, names: &NamesByBase) -> Result<
 pub(crate) fn right_inverse(alloc: Global, thy: &Theory, names: &NamesByBase) -> Result<Thm, Stop>
     ensures { IfOk result (IsDerivable thy.now) }
 {
-    let right = product_is_right(alloc, thy, names)?;
-    let one = product_is_one(alloc, thy, names)?;
-    let x = name_of(names, b"x")?;
-    has_theory_content(thy);
-    let back = symmetric(alloc, thy, &right)?;
-    let th = transitive(alloc, thy, &back, &one)?;
-    let th = generalise(alloc, thy, &[], &[x], 0, &th)?;
+    let fixed = fixed(alloc, thy, names)?;
+    let th = general(alloc, thy, names, &fixed)?;
     Ok(th)
 }
