@@ -22,12 +22,12 @@ abbrev pub Heads : (head full : List ℕ) → Type 0
 Heads head full = (head ≡ axiom_word ++ full) ⊎ ((constant : List ℕ) × (full ≡ constant ++ definition_end) × (head ≡ definition_word ++ constant))
 
 -- A lemma of the name cites the axiom.
-abbrev pub CitesByName : (texts : List (List ℕ)) → (lemmas : List Fork) → (entries : List LemmaEntry) → (name : List ℕ) → (axiom : ℕ) → Type 0
-CitesByName texts lemmas entries name axiom = (e : LemmaEntry) × IsIn e entries × HasText texts e.name name × Cites texts lemmas entries e.label axiom
+abbrev pub CitesByName : (texts : List (List ℕ)) → (lemmas : List Fork) → (entries : List LemmaEntry) → (name : List ℕ) → (n : ℕ) → Type 0
+CitesByName texts lemmas entries name n = (e : LemmaEntry) × IsIn e entries × HasText texts e.name name × Cites texts lemmas entries e.label n
 
 -- The row declares an axiom or a definition that a lemma of the name cites.
 abbrev pub IsCitedRow : (texts : List (List ℕ)) → (lemmas : List Fork) → (entries : List LemmaEntry) → (name : List ℕ) → Row → Type 0
-IsCitedRow texts lemmas entries name row = (row.status ≡ Declared) × (axiom : ℕ) × CitesByName texts lemmas entries name axiom × (full : List ℕ) × HasText texts axiom full × Heads row.head full
+IsCitedRow texts lemmas entries name row = (row.status ≡ Declared) × (n : ℕ) × CitesByName texts lemmas entries name n × (full : List ℕ) × HasText texts n full × Heads row.head full
 
 -- The row is that of another lemma which failed, and which a lemma of the name reaches.
 abbrev pub IsFaultRow : (texts : List (List ℕ)) → (entries : List LemmaEntry) → (name : List ℕ) → Row → Type 0
