@@ -18,7 +18,6 @@ use Rattle.pure_lookup.specs.Laws.{IsInSession}
 use Rattle.pure_table.specs.Promise.Entries.{LemmaEntry, plain}
 use Rattle.pure_table.specs.Promise.declared.entry.Entry.{Entry}
 use Rattle.pure_table.specs.Promise.Seen.{seen, seen_entry, reported}
-use Rattle.pure_citations.specs.Named.{NamesAxiom}
 use Rattle.pure_citations.specs.Cites.{IsReachedFrom, Cites}
 use Rattle.pure_citations.specs.Reached.{IsFrom}
 use Rattle.pure_citations.proofs.NamedLaws.{unchanged}
@@ -109,14 +108,18 @@ module _ (texts : List (List ℕ)) (fs : List Fork) (es : List LemmaEntry) (name
           let b = beside-at IsBeside fs es two q f there in
           let same : d ≡ plain b.0 = at-once ps q d (plain b.0) at (at-map plain es q b.0 b.1) in
           let label : d.label ≡ f.label = ap (λ (x : fates.Entry). x.label) same ∙ b.2 in
-          let from = from-named d.label ((g.row_is q d at).0 held) in
-          (from.0, from.1, from.2, record {
-            lemma = f;
-            stands = at-in fs q f there;
-            reached = subst (λ l. IsReachedFrom es from.0.label l) label from.3;
-            shown = (shown.0.0, record { entry = d; stands = at-in ps q d at; of_label = label; own_is = shown.0.1 });
-            names = shown.1;
-          })
+          let from = from-named d.label ((g.row_is q d at).0 held) in (
+            from.0,
+            from.1,
+            from.2,
+            record {
+              lemma = f;
+              stands = at-in fs q f there;
+              reached = subst (λ l. IsReachedFrom es from.0.label l) label from.3;
+              shown = (shown.0.0, record { entry = d; stands = at-in ps q d at; of_label = label; own_is = shown.0.1 });
+              names = shown.1;
+            },
+          )
 
   cited-gathered : (n : ℕ) (e : LemmaEntry) → IsIn e es → e.name ≡ name → Cites texts fs es e.label n → Holds axioms n
   cited-gathered n e m is c =

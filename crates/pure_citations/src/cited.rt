@@ -33,11 +33,7 @@ fn theory_of(duty: &Duty) -> &Theory
 }
 
 /// Puts in the axioms that the steps of the proof name.
-fn put_named(
-    names: &NamesByBase,
-    duty: &Duty,
-    cited: &mut Vec<u64>,
-) -> Result<(), AllocError>
+fn put_named(names: &NamesByBase, duty: &Duty, cited: &mut Vec<u64>) -> Result<(), AllocError>
     requires { IsInSession names.now duty.now.content }
     ensures { OnOk result ((n : ℕ) → Holds cited.new.items n ↔ (NamesAxiom names.now duty.now.content duty.now.script n ⊎ Holds cited.old.items n)) }
 {

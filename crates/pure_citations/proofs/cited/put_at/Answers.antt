@@ -1,7 +1,4 @@
 use Rattle.pure_citations.proofs.CitedCode.{session-at, shown-at}
-use Rattle.std.proofs.Common.{subst, sym}
-use Rattle.pure_lookup.specs.Laws.{IsInSession}
-use Rattle.pure_table.specs.Declare.Notes.{Fork}
 use Rattle.pure_citations.proofs.cited.put_at.Goals as goal
 
 pub put_shown-requires : goal.put_shown-requires
