@@ -86,7 +86,7 @@ module _ (texts : List (List ℕ)) (theories : List Loaded) (loaded : IsLoadedSe
   lists = (has_fates texts theories loaded notes statements cancelled es are).ascend
 
   -- A lemma that became shown has a proof that comes to the same promises.
-  proof-of : (f : Fork) → IsIn f fs → (rests : List Label) → Became ps f.label (Shown rests) → IsProof texts f.content f.fixed f.script (Ok rests)
+  pub proof-of : (f : Fork) → IsIn f fs → (rests : List Label) → Became ps f.label (Shown rests) → IsProof texts f.content f.fixed f.script (Ok rests)
   proof-of f m rests b =
       let found = beside (IsEntryOf texts cancelled) fs es are f m in
       let e = found.0 in

@@ -4,3 +4,4 @@ pub mod Cites
 pub mod Laws
 pub mod Reached
 pub mod Cited
+pub mod Edges
