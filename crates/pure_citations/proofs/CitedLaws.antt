@@ -1,20 +1,18 @@
 -- What is printed as proved is derivable from the axioms that it cites alone.
 use Rattle.std.proofs.Common.{◌≡◌, ◌∙◌, ℕ, List, [], ◌∷◌, ◌++◌, inl, inr, refl, sym, ap, subst, map, append_assoc}
-use Rattle.std.specs.Prelude.{Some, None, Ok, Err, Option}
+use Rattle.std.specs.Prelude.{Some, Ok}
 use Rattle.std.specs.declared.cmp.Ordering.TheVariants.{Less}
-use Rattle.pure_text.specs.Lists.{IsIn, Each, EachTwo}
+use Rattle.pure_text.specs.Lists.{IsIn, EachTwo}
 use Rattle.pure_text.proofs.ListLaws.{in-map, in_split, in-append_right, each_of}
 use Rattle.pure_definitions.specs.Names.{Label}
 use Rattle.pure_definitions.specs.Terms.Term.{Term}
 use Rattle.pure_definitions.specs.Declarations.Decl.{PromiseDecl}
-use Rattle.pure_logic.specs.Content.{Content, IsContent}
 use Rattle.pure_logic.specs.Derivable.{IsDerivable, IsDerivableAlone}
 use Rattle.pure_logic.specs.Laws.Maps as maps
 use Rattle.pure_logic.specs.Laws.Maps.{everything}
 use Rattle.pure_logic.specs.Laws.Promises.{IsSettled}
 use Rattle.pure_logic.proofs.PromiseLaws.{settled_is_derivable}
 use Rattle.pure_logic.proofs.WeakeningLaws.{weakening_of_derivable}
-use Rattle.pure_theorem.specs.Facts.{IsPromise}
 use Rattle.pure_theorem.specs.Sets.{label_cmp, IsLabelSet}
 use Rattle.pure_unify_laws.specs.Condition.{IsUnifyContent}
 use Rattle.pure_graph.specs.Order.{Loaded}
@@ -30,7 +28,7 @@ use Rattle.pure_table.proofs.Promise.FateLaws.{proved_row}
 use Rattle.pure_statements.proofs.JoinLaws.{schematic-is_generalised}
 use Rattle.pure_table.specs.Declare.Notes.{Fork, Note}
 use Rattle.pure_table.specs.Method.Facts.{theorem}
-use Rattle.pure_table.specs.Method.Proof.{ProofOutcome, IsProof}
+use Rattle.pure_table.specs.Method.Proof.{IsProof}
 use Rattle.pure_table.proofs.Method.ReadyLaws.{unify_content, no-schematic}
 use Rattle.pure_table.proofs.Method.SoundLaws.{proved-derivable}
 use Rattle.pure_table.specs.SessionLaws.Loaded.{IsLoadedSession}
@@ -38,11 +36,11 @@ use Rattle.pure_table.specs.SessionMeaning.Statements.{forks_of, AreStatements}
 use Rattle.pure_table.specs.SessionMeaning.Laws.{IsSomeFork}
 use Rattle.pure_table.proofs.SessionMeaning.OrderlyLaws.{runs_orderly}
 use Rattle.pure_table.specs.Table.{IsOwn, IsEntryOf, AreEntriesOf}
-use Rattle.pure_table.proofs.ClaimLaws.{IsEarlier, AreBound, one_lemma, own-shown}
+use Rattle.pure_table.proofs.ClaimLaws.{own-shown}
 use Rattle.pure_table.proofs.DerivedLaws.{standing, provable, some_fork, bound, has_fates}
 use Rattle.pure_citations.specs.Without.{with_axioms}
 use Rattle.pure_citations.specs.Cites.{IsReachedFrom, Cites}
-use Rattle.pure_citations.specs.Laws.{AreAllCited, IsDerivedByCited, CitedSuffice}
+use Rattle.pure_citations.specs.Laws.{AreAllCited, CitedSuffice}
 use Rattle.pure_citations.proofs.WithoutLaws.{kept-in, proposition-kept, content-kept, unify-kept, below-kept}
 use Rattle.pure_citations.proofs.KeptProofs.{proof-kept}
 
@@ -88,7 +86,7 @@ module _ (texts : List (List ℕ)) (theories : List Loaded) (loaded : IsLoadedSe
   lists = (has_fates texts theories loaded notes statements cancelled es are).ascend
 
   -- A lemma that became shown has a proof that comes to the same promises.
-  proof-of : (f : Fork) → IsIn f fs → (rests : List Label) → Became ps f.label (Shown rests) → IsProof texts f.content f.fixed f.script (Ok rests)
+  pub proof-of : (f : Fork) → IsIn f fs → (rests : List Label) → Became ps f.label (Shown rests) → IsProof texts f.content f.fixed f.script (Ok rests)
   proof-of f m rests b =
       let found = beside (IsEntryOf texts cancelled) fs es are f m in
       let e = found.0 in
@@ -107,7 +105,7 @@ module _ (texts : List (List ℕ)) (theories : List Loaded) (loaded : IsLoadedSe
         let u = unify f m in
         let prop : maps.generalised (everything 0) f.fixed ≡ f.prop = sym (p.statement.prop ∙ schematic-is_generalised f.fixed) in
         let proof = proof-kept texts f.content names p.in_session u.content f.fixed f.script rests
-            (λ n h. cited n (record { lemma = f; stands = m; reached = reached; shown = (rests, b); names = h })) (proof-of f m rests b) in
+        (λ n h. cited n (record { lemma = f; stands = m; reached = reached; shown = (rests, b); names = h })) (proof-of f m rests b) in
         subst (λ (A : Term). IsDerivable (with_axioms names f.content) (theorem A rests)) prop
         (proved-derivable texts (with_axioms names f.content) (unify-kept names f.content u) f.fixed (no-schematic f.fixed p.statement.fixed) rests f.script proof (proposition-kept names f.content f.fixed p.proposition))
 
@@ -143,7 +141,7 @@ module _ (texts : List (List ℕ)) (theories : List Loaded) (loaded : IsLoadedSe
         let on : RestsOn ps f.label g.label = (rests, is, subst (λ j. IsIn j rests) (sym earlier.label) among) in
         let alone = before g earlier.stands (subst (λ j. label_cmp j f.label ≡ Less) (sym earlier.label) earlier.earlier) (through_one f.label g.label reached on) (rested f.label g earlier.stands on none no_cancelled) in
         weakening_of_derivable (with_axioms names g.content) Q (content-kept names g.content (unify g earlier.stands).content) (below-kept names g.content f.content earlier.below) (theorem A [])
-            (subst (λ (B : Term). IsDerivableAlone (with_axioms names g.content) B) earlier.prop alone)))
+        (subst (λ (B : Term). IsDerivableAlone (with_axioms names g.content) B) earlier.prop alone)))
         (derivable f m reached rests is)
 
     all_settled : (done left : List Fork) → fs ≡ done ++ left → ((g : Fork) → IsIn g done → Settled g) → (g : Fork) → IsIn g left → Settled g
@@ -181,6 +179,6 @@ cited_suffice S loaded cancelled t table =
     two_through (IsEntryOf S.names cancelled) (IsRowOf S.names t.entries) (λ (f : Fork) (row : Row). row.status ≡ status.Proved → (names : List ℕ) → AreAllCited S t f names → IsDerivableAlone (with_axioms names f.content) f.prop)
     (λ f. IsIn f fs)
     (λ f e row m entry is proved names cited.
-        derived-by_cited S.names S.theories loaded t.notes table.statements cancelled t.entries table.entries f m
-            (subst (λ k. IsFate (map plain t.entries) k fates.Proved) entry.label ((proved_row S.names t.entries es e row is).0 proved)) names cited)
+    derived-by_cited S.names S.theories loaded t.notes table.statements cancelled t.entries table.entries f m
+    (subst (λ k. IsFate (map plain t.entries) k fates.Proved) entry.label ((proved_row S.names t.entries es e row is).0 proved)) names cited)
     fs t.entries t.lemmas (λ f m. m) table.entries table.rows

@@ -1,5 +1,5 @@
 -- A proof stays one over the content without the axioms that its steps don't name.
-use Rattle.std.proofs.Common.{◌≡◌, ◌⊎◌, ℕ, ◌+◌, List, [], ◌∷◌, inl, inr, refl, ap, sym, subst}
+use Rattle.std.proofs.Common.{◌≡◌, ℕ, ◌+◌, List, [], ◌∷◌, inl, inr, sym, subst}
 use Rattle.std.specs.Prelude.{Some, Ok}
 use Rattle.std.proofs.lemmas.Option.{same_Some}
 use Rattle.pure_text.specs.Lists.{IsIn, AnyOf, EachTwo}
@@ -7,24 +7,23 @@ use Rattle.pure_text.proofs.ListLaws.{any_imply}
 use Rattle.pure_definitions.specs.Names.{Label}
 use Rattle.pure_definitions.specs.Types.Order.{Algebra}
 use Rattle.pure_definitions.specs.Terms.Term.{Term}
-use Rattle.pure_definitions.specs.Declarations.Decl.{Decl, AxiomDecl, PromiseDecl, algebra_of}
+use Rattle.pure_definitions.specs.Declarations.Decl.{AxiomDecl, PromiseDecl}
 use Rattle.pure_grammar.specs.Theories.TheoryText.{Step, Rule, Erule, Drule, Assumption, Unfold, Prefer, Defer, Close, Done}
 use Rattle.pure_logic.specs.Content.{Content, IsContent}
 use Rattle.pure_logic.specs.Derivable.{Theorem}
-use Rattle.pure_lookup.specs.Meaning.{facts, IsDeclaredIn, IsWritable, Meaning, Declared, Built, IsVisible, IsMeant}
+use Rattle.pure_lookup.specs.Meaning.{facts, IsDeclaredIn, Meaning, Declared, Built, IsVisible, IsMeant}
 use Rattle.pure_lookup.specs.LookUps.{Fact, BuiltFact, AxiomFact, PromisedFact, IsFoundFact}
 use Rattle.pure_lookup.specs.Laws.{IsInSession}
 use Rattle.pure_lookup.proofs.MeaningLaws.{one_fact}
 use Rattle.pure_resolve.specs.GoalSteps.State.{State}
-use Rattle.pure_resolve.specs.GoalSteps.Follows.{Outcome}
 use Rattle.pure_resolve.specs.GoalSteps.Steps.{RuleStep, EliminationStep, DestructionStep, AssumptionStep}
 use Rattle.pure_table.specs.Method.Facts.{IsFound, named_facts, MeansPromise, IsNamed}
 use Rattle.pure_table.specs.Method.Unfolding.{UnfoldStep}
-use Rattle.pure_table.specs.Method.Proof.{ByFacts, WithOne, Gives, Closes, Proved, Ends, IsProof}
-use Rattle.pure_citations.specs.Without.{kept, with_axioms}
+use Rattle.pure_table.specs.Method.Proof.{ByFacts, Gives, Closes, Proved, Ends, IsProof}
+use Rattle.pure_citations.specs.Without.{with_axioms}
 use Rattle.pure_citations.specs.Named.{MeansAxiom, NamesAxiom}
 use Rattle.pure_citations.specs.Laws.{ProofIsKept}
-use Rattle.pure_citations.proofs.WithoutLaws.{Stays, in-kept, kept-in, algebra-kept, content-kept}
+use Rattle.pure_citations.proofs.WithoutLaws.{in-kept, kept-in, algebra-kept, content-kept}
 
 module _ (texts : List (List ℕ)) (Q : Content) (names : List ℕ) where
   abbrev R : Content
@@ -128,7 +127,7 @@ module _ (texts : List (List ℕ)) (Q : Content) (names : List ℕ) where
     promise-back : (l : Label) (written : List ℕ) (th : Theorem) → IsListed written → IsFound texts Q written th → MeansPromise texts R l written → MeansPromise texts Q l written
     promise-back l written th listed h (n, A, found) =
         let same : h.fact ≡ PromisedFact n l A = same_Some h.fact (PromisedFact n l A)
-            (one_fact texts R smaller-session (content-kept names Q content) written (Some h.fact) (Some (PromisedFact n l A)) (found-still written h.fact listed h.found) found) in
+        (one_fact texts R smaller-session (content-kept names Q content) written (Some h.fact) (Some (PromisedFact n l A)) (found-still written h.fact listed h.found) found) in
         (n, A, subst (λ (f : Fact). IsFoundFact texts Q written (Some f)) same h.found)
 
     promises-back : (l : Label) (written : List (List ℕ)) (ths : List Theorem) → AreListed written → EachTwo (IsFound texts Q) written ths → AnyOf (MeansPromise texts R l) written → AnyOf (MeansPromise texts Q l) written

@@ -5,3 +5,4 @@ pub mod RowLaws
 pub mod ReachedLaws
 pub mod NamedLaws
 pub mod CitedCode
+pub mod EdgeLaws

@@ -1,5 +1,5 @@
 -- The axioms that written names mean.
-use Rattle.std.proofs.Common.{◌≡◌, ◌↔◌, ◌⊎◌, ℕ, List, inl, inr, refl, sym, subst}
+use Rattle.std.proofs.Common.{◌≡◌, ◌↔◌, ◌⊎◌, ℕ, List, inl, inr, sym, subst}
 use Rattle.std.specs.Prelude.{Option, Some, None, MatchOption}
 use Rattle.std.proofs.lemmas.Option.{same_Some}
 use Rattle.pure_definitions.specs.Terms.Term.{Term}

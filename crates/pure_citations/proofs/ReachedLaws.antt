@@ -1,5 +1,5 @@
 -- The walk back through lemmas finds what they reach.
-use Rattle.std.proofs.Common.{◌≡◌, ◌↔◌, ◌⊎◌, ◌∙◌, ℕ, suc, ◌+◌, ◌-◌, ◌<◌, ◌≤◌, List, [], ◌∷◌, ◌++◌, inl, inr, refl, sym, ap, subst, map, length, arith}
+use Rattle.std.proofs.Common.{◌≡◌, ◌↔◌, ◌⊎◌, ◌∙◌, ℕ, ◌+◌, ◌-◌, ◌<◌, ◌≤◌, List, [], ◌∷◌, ◌++◌, inl, inr, refl, sym, ap, subst, map, length, arith}
 use Rattle.std.specs.declared.cmp.Ordering.TheVariants.{Less}
 use Rattle.std.proofs.lemmas.Bool.{cases_lt}
 use Rattle.pure_text.specs.Lists.{IsIn, Each}
@@ -7,7 +7,7 @@ use Rattle.pure_text.proofs.ListLaws.{each_at, each_of, in_split, in-append_left
 use Rattle.pure_definitions.specs.Names.{Label}
 use Rattle.pure_theorem.specs.Sets.{label_cmp, IsLabelSet}
 use Rattle.pure_order_tables.specs.Rows.{Holds}
-use Rattle.pure_promise_fates.specs.Entries.{Own, Shown, IsNotShown, Entry, Became, RestsOn, Reaches, directly, through, RestsOnEarlier, AreEntries}
+use Rattle.pure_promise_fates.specs.Entries.{Shown, IsNotShown, Entry, Became, RestsOn, Reaches, directly, through, RestsOnEarlier, AreEntries}
 use Rattle.pure_promise_fates.specs.Reach.{IsAt}
 use Rattle.pure_promise_fates.proofs.FateLaws.{became_once, shown-fault, shown-cancelled}
 use Rattle.pure_promise_fates.proofs.PlaceLaws.{at-in, at-once, at-within, one_place, place_before}

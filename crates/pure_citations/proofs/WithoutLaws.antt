@@ -3,15 +3,15 @@ use Rattle.std.proofs.Common.{◌≡◌, ◌⊎◌, ◌∙◌, ℕ, List, [], �
 use Rattle.std.proofs.lemmas.Bool.{eq-eqb, eqb-true}
 use Rattle.pure_text.specs.Lists.{IsIn, Each}
 use Rattle.pure_text.proofs.ListLaws.{each_at, each_of, each_imply}
-use Rattle.pure_definitions.specs.Names.{fun_name, prop_name, all_name, imp_name, eq_name, protect_name}
-use Rattle.pure_definitions.specs.Types.Typ.{Typ, TFree, TVar, Con, Typs, none, also, prop, typs_count}
-use Rattle.pure_definitions.specs.Types.Order.{Class, Arity, Algebra, IsCoregular}
+use Rattle.pure_definitions.specs.Names.{protect_name}
+use Rattle.pure_definitions.specs.Types.Typ.{Typ, TFree, TVar, Con, Typs, none, also, typs_count}
+use Rattle.pure_definitions.specs.Types.Order.{Algebra, IsCoregular}
 use Rattle.pure_definitions.specs.Terms.Term.{Term, Const, Free, Var, Bound, Abs, App}
 use Rattle.pure_definitions.specs.Terms.Subst.{IsSortRespecting}
 use Rattle.pure_definitions.specs.Declarations.Decl.{Decl, ClassDecl, ConDecl, ArityDecl, ConstDecl, AxiomDecl, PromiseDecl, classes_of, arities_of, algebra_of, IsDeclaredClass}
-use Rattle.pure_definitions.specs.Declarations.Certified.{IsCertifiedSort, IsCertifiedTyp, AreCertifiedTyps, IsInstance, IsCertifiedConst, HasCertifiedParts, IsCertified}
-use Rattle.pure_logic.specs.Content.{Content, IsContent, IsCertifiedOf, IsProposition, IsStatement, IsWellFormed, IsBelow}
-use Rattle.pure_logic.specs.PureContent.{pure_declarations, pure_content}
+use Rattle.pure_definitions.specs.Declarations.Certified.{IsCertifiedSort, IsCertifiedTyp, AreCertifiedTyps, IsCertifiedConst, HasCertifiedParts}
+use Rattle.pure_logic.specs.Content.{Content, IsContent, IsProposition, IsStatement, IsWellFormed, IsBelow}
+use Rattle.pure_logic.specs.PureContent.{pure_declarations}
 use Rattle.pure_tunify.specs.Closed.{AreClassesDeclared}
 use Rattle.pure_unify_laws.specs.Condition.{IsUnifyContent}
 use Rattle.pure_citations.specs.Without.{is_one_of, kept, with_axioms}

@@ -12,12 +12,12 @@ use Rattle.pure_citations.specs.Named.{NamesAxiom}
 use Rattle.pure_citations.specs.Cites.{Cites}
 
 -- A proof shows the lemma, and its steps name the axiom.
-abbrev pub IsNamedBy : (texts : List (List ℕ)) → Fork → fates.Entry → (axiom : ℕ) → Type 0
-IsNamedBy texts f e axiom = ((rests : List Label) × (e.own ≡ Shown rests)) × NamesAxiom texts f.content f.script axiom
+abbrev pub IsNamedBy : (texts : List (List ℕ)) → Fork → fates.Entry → (n : ℕ) → Type 0
+IsNamedBy texts f e n = ((rests : List Label) × (e.own ≡ Shown rests)) × NamesAxiom texts f.content f.script n
 
 -- The row holds the place, a proof shows the lemma there, and its steps name the axiom.
-abbrev pub IsNamedAt : (texts : List (List ℕ)) → (row : List ℕ) → List Fork → List fates.Entry → (axiom place : ℕ) → Type 0
-IsNamedAt texts row fs es axiom place = (f : Fork) × (e : fates.Entry) × IsAt fs place f × IsAt es place e × Holds row place × IsNamedBy texts f e axiom
+abbrev pub IsNamedAt : (texts : List (List ℕ)) → (row : List ℕ) → List Fork → List fates.Entry → (n place : ℕ) → Type 0
+IsNamedAt texts row fs es n place = (f : Fork) × (e : fates.Entry) × IsAt fs place f × IsAt es place e × Holds row place × IsNamedBy texts f e n
 
 -- It is so at a place before this one.
 abbrev pub IsBefore : (P : ℕ → Type 0) → (place : ℕ) → Type 0
@@ -29,4 +29,4 @@ HasNameAt es name place = (e : LemmaEntry) × IsAt es place e × (e.name ≡ nam
 
 -- The row holds the axioms that lemmas of the name cite, and no others.
 abbrev pub AreCitedBy : (texts : List (List ℕ)) → List Fork → List LemmaEntry → (name : ℕ) → (row : List ℕ) → Type 0
-AreCitedBy texts fs es name row = (axiom : ℕ) → Holds row axiom ↔ ((e : LemmaEntry) × IsIn e es × (e.name ≡ name) × Cites texts fs es e.label axiom)
+AreCitedBy texts fs es name row = (n : ℕ) → Holds row n ↔ ((e : LemmaEntry) × IsIn e es × (e.name ≡ name) × Cites texts fs es e.label n)

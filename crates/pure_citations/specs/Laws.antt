@@ -1,5 +1,5 @@
 -- Laws of what lemmas cite: a proved lemma is derivable from what it cites alone.
-use Rattle.std.specs.Prelude.{◌≡◌, ℕ, List, Ok}
+use Rattle.std.specs.Prelude.{◌≡◌, ◌↔◌, ℕ, List, map, Ok}
 use Rattle.pure_text.specs.Lists.{IsIn, EachTwo}
 use Rattle.pure_definitions.specs.Names.{Label}
 use Rattle.pure_definitions.specs.Terms.Term.{Term}
@@ -7,17 +7,20 @@ use Rattle.pure_grammar.specs.Theories.TheoryText.{Step}
 use Rattle.pure_logic.specs.Content.{Content, IsContent}
 use Rattle.pure_logic.specs.Derivable.{IsDerivableAlone}
 use Rattle.pure_lookup.specs.Laws.{IsInSession}
+use Rattle.pure_promise_fates.specs.Entries.{Reaches}
 use Rattle.pure_graph.specs.Session.{Session}
 use Rattle.pure_print.specs.declared.row.Row.{Row}
 use Rattle.pure_print.specs.declared.row.RowStatus.TheVariants.{Proved}
 use Rattle.pure_table.specs.Declare.Notes.{Fork}
 use Rattle.pure_table.specs.Method.Proof.{IsProof}
+use Rattle.pure_table.specs.Promise.Entries.{plain}
 use Rattle.pure_table.specs.SessionLaws.Loaded.{IsLoadedSession}
 use Rattle.pure_table.specs.SessionMeaning.Statements.{forks_of}
 use Rattle.pure_table.specs.Table.{Table, IsTable}
 use Rattle.pure_citations.specs.Without.{with_axioms}
 use Rattle.pure_citations.specs.Named.{NamesAxiom}
 use Rattle.pure_citations.specs.Cites.{Cites}
+use Rattle.pure_citations.specs.Edges.{OfAxiom, OfLemma, Leads}
 
 -- A proof that comes to promises comes to the same ones over the content without the axioms that its steps don't name.
 abbrev pub ProofIsKept : Type 0
@@ -34,3 +37,12 @@ IsDerivedByCited S t = EachTwo (λ (f : Fork) (row : Row). row.status ≡ Proved
 
 abbrev pub CitedSuffice : Type 0
 CitedSuffice = (S : Session) → IsLoadedSession S.names S.theories → (cancelled : List Label) (t : Table) → IsTable S cancelled t → IsDerivedByCited S t
+
+-- A lemma cites just the axioms to which edges lead from it, and reaches just the lemmas.
+abbrev pub CitedAreLedTo : Type 0
+CitedAreLedTo = (S : Session) → IsLoadedSession S.names S.theories → (cancelled : List Label) (t : Table) → IsTable S cancelled t → (l : Label) (name : ℕ)
+    → Cites S.names (forks_of t.notes) t.entries l name ↔ Leads S.names (forks_of t.notes) t.entries (OfAxiom name) l
+
+abbrev pub ReachedAreLedTo : Type 0
+ReachedAreLedTo = (S : Session) → IsLoadedSession S.names S.theories → (cancelled : List Label) (t : Table) → IsTable S cancelled t → (l k : Label)
+    → Reaches (map plain t.entries) l k ↔ Leads S.names (forks_of t.notes) t.entries (OfLemma k) l

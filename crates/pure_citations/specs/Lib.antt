@@ -3,5 +3,5 @@ pub mod Named
 pub mod Cites
 pub mod Laws
 pub mod Reached
-pub mod Axioms
 pub mod Cited
+pub mod Edges

@@ -1,5 +1,5 @@
 //! The axioms that a lemma cites: those that its proof names, and the proofs of the lemmas that it reaches.
-ghost use Rattle.std.specs.Prelude.{◌≡◌, ◌↔◌, ◌⊎◌, ◌<◌, ℕ, IfOk, OnOk, length, map};
+ghost use Rattle.std.specs.Prelude.{◌≡◌, ◌↔◌, ◌⊎◌, ◌<◌, ℕ, IsTrue, IfOk, OnOk, length, map};
 ghost use Rattle.pure_text.specs.Lists.{Each, EachTwo};
 ghost use Rattle.pure_lookup.specs.Laws.{IsInSession};
 ghost use Rattle.pure_order_tables.specs.Rows.{Holds};
@@ -33,11 +33,7 @@ fn theory_of(duty: &Duty) -> &Theory
 }
 
 /// Puts in the axioms that the steps of the proof name.
-fn put_named(
-    names: &NamesByBase,
-    duty: &Duty,
-    cited: &mut Vec<u64>,
-) -> Result<(), AllocError>
+fn put_named(names: &NamesByBase, duty: &Duty, cited: &mut Vec<u64>) -> Result<(), AllocError>
     requires { IsInSession names.now duty.now.content }
     ensures { OnOk result ((n : ℕ) → Holds cited.new.items n ↔ (NamesAxiom names.now duty.now.content duty.now.script n ⊎ Holds cited.old.items n)) }
 {
@@ -104,6 +100,22 @@ fn put_all(
     Ok(())
 }
 
+/// The number of the name.
+fn number_of(name: Name) -> u32
+    ensures { result ≡ name }
+{
+    name.0
+}
+
+/// Whether the lemma has this name.
+fn has_name(entry: &Entry, name: Name) -> bool
+    ensures { IsTrue result ↔ (entry.now.name ≡ name) }
+{
+    let own = number_of(entry.name);
+    let other = number_of(name);
+    own == other
+}
+
 /// Puts in the place of the lemma, if it has this name.
 fn put_if_named(
     entries: &[Entry],
@@ -114,7 +126,7 @@ fn put_if_named(
     requires { place < length entries.now }
     ensures { OnOk result ((p : ℕ) → Holds row.new.items p ↔ (((p ≡ place) × HasNameAt (seen entries.now) name place) ⊎ Holds row.old.items p)) }
 {
-    if entries[place].name == name {
+    if has_name(&entries[place], name) {
         put(row, place)?;
         return Ok(());
     }

@@ -12,8 +12,8 @@ ghost use Rattle.pure_table.specs.Method.Facts.{named_facts};
 ghost use Rattle.pure_citations.specs.Named.{MeansAxiom, NamesAxiom, IsNoAxiom, IsAxiomWritten};
 
 use crate::rows::put;
-use pure_table::theory::{Fact, Theory};
 use pure_script::{Step, TextList};
+use pure_table::theory::{Fact, Theory};
 use pure_typ::{Name, NamesByBase};
 use std::alloc::AllocError;
 

@@ -1,5 +1,5 @@
 //! What the definitions mean: laws, each carried by the contract of a function that does nothing.
-ghost use Rattle.pure_citations.specs.Laws.{CitedSuffice, ProofIsKept};
+ghost use Rattle.pure_citations.specs.Laws.{CitedAreLedTo, CitedSuffice, ProofIsKept, ReachedAreLedTo};
 
 /// A proof stays one over the content without the axioms that its steps don't name.
 pub fn proof_is_kept()
@@ -9,4 +9,10 @@ pub fn proof_is_kept()
 /// What is printed as proved is derivable from the axioms that it cites alone.
 pub fn cited_suffice()
     ensures { CitedSuffice }
+{}
+
+/// A lemma cites just the axioms to which edges lead from it, and reaches just the lemmas.
+pub fn cited_are_led_to()
+    ensures axioms { CitedAreLedTo }
+    ensures lemmas { ReachedAreLedTo }
 {}

@@ -30,11 +30,7 @@ fn put_rests<E: Reported>(
 }
 
 /// Puts in the places of the promises on which the proof of the lemma at the place rests.
-fn put_of<E: Reported>(
-    entries: &[E],
-    place: usize,
-    row: &mut Vec<u64>,
-) -> Result<(), AllocError>
+fn put_of<E: Reported>(entries: &[E], place: usize, row: &mut Vec<u64>) -> Result<(), AllocError>
     requires entries { AreEntries (map E.entry entries.now) }
     requires within { place < length entries.now }
     ensures { OnOk result ((p : ℕ) (e : Entry) → IsAt (map E.entry entries.now) p e → Holds row.new.items p ↔ (Holds row.old.items p ⊎ IsRestAt (map E.entry entries.now) place e.label)) }
@@ -50,11 +46,7 @@ fn put_of<E: Reported>(
 
 /// The same where the row holds the place.
 #[tactic(auto, using(crate::proofs::ReachedLaws::grown_held, crate::proofs::ReachedLaws::grown_not))]
-fn put_next<E: Reported>(
-    entries: &[E],
-    place: usize,
-    row: &mut Vec<u64>,
-) -> Result<(), AllocError>
+fn put_next<E: Reported>(entries: &[E], place: usize, row: &mut Vec<u64>) -> Result<(), AllocError>
     requires entries { AreEntries (map E.entry entries.now) }
     requires within { place < length entries.now }
     ensures { OnOk result (IsGrown (map E.entry entries.now) place row.old.items row.new.items) }

@@ -1,4 +1,4 @@
-use Rattle.std.proofs.Common.{◌≡◌, ℕ, get_or, take, sym, arith}
+use Rattle.std.proofs.Common.{◌≡◌, get_or, take, sym, arith}
 use Rattle.std.proofs.lemmas.List.{take_all}
 use Rattle.std.proofs.lemmas.Option.{get_or_from_slice_get}
 use Rattle.pure_text.proofs.LoopLaws.{any_turn, turned}

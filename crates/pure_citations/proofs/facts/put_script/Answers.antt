@@ -1,4 +1,3 @@
-use Rattle.std.proofs.Common.{◌⊎◌, ◌↔◌, ℕ, List, inl, inr, sym, arith}
 use Rattle.std.proofs.lemmas.List.{take_all}
 use Rattle.pure_text.specs.Lists.{AnyOf}
 use Rattle.pure_text.proofs.ListLaws.{any-map}
