@@ -1,0 +1,5 @@
+pub mod LinkLaws
+pub mod StepLaws
+pub mod NameLaws
+pub mod FoundLaws
+pub mod LoopLaws

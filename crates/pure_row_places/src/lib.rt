@@ -1,0 +1,9 @@
+//! The rows of a table, each behind the file, line and column where its command stands.
+#![tactic(auto)]
+
+mod lines;
+mod reasons;
+mod scan;
+
+pub use lines::push_lines;
+pub use scan::{RefusedScan, Scan, scanned};
