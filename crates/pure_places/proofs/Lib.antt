@@ -3,3 +3,4 @@ pub mod StepLaws
 pub mod NameLaws
 pub mod FoundLaws
 pub mod LoopLaws
+pub mod ReadLaws

@@ -32,9 +32,10 @@ pub places-all : (source : List ℕ) (len whole : ℕ) (all : List Token) (n : �
 places-all source len whole all n [] e same = tt
 places-all source len whole all n (t ∷ ts) e same =
     let here : n + suc (length (lexemes source ts)) ≡ whole = e in
-    let at : whole - suc (length (lexemes source ts)) ≡ n + 0 = omega (arith, here) in
-    (ap (place_of all len) at ∙ same 0,
-    places-all source len whole all (n + 1) ts (omega (arith, here)) (λ k. ap (place_of all len) (omega arith) ∙ same (suc k)))
+    let at : whole - suc (length (lexemes source ts)) ≡ n + 0 = omega (arith, here) in (
+      ap (place_of all len) at ∙ same 0,
+      places-all source len whole all (n + 1) ts (omega (arith, here)) (λ k. ap (place_of all len) (omega arith) ∙ same (suc k)),
+    )
 
 if-map : {A B : Type 0} (f : A → B) (b : Bool) (u v : List B) (x y : List A) → u ≡ map f x → v ≡ map f y → (if b then u else v) ≡ map f (if b then x else y)
 if-map f true u v x y e g = e

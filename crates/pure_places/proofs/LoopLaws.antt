@@ -92,7 +92,7 @@ second-none (t ∷ u ∷ ts) len few = absurd (omega (arith, few))
 
 pub slices-each : (source : List ℕ) (from to : ℕ) (ts : List Token) → AreSlices source from to ts → Each (IsSlice source) ts
 slices-each source from to [] are = tt
-slices-each source from to (t ∷ ts) are = (are.1.0, slices-each source t.to to ts are.1.1)
+slices-each source from to (t ∷ ts) are = (are.1, slices-each source t.to to ts are.2)
 
 each-drop : {A : Type 0} (P : A → Type 0) (n : ℕ) (xs : List A) → Each P xs → Each P (drop n xs)
 each-drop P zero xs each = each

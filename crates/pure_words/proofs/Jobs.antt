@@ -9,7 +9,7 @@ use Rattle.pure_grammar.specs.Tokens.Bytes.{is_digit, is_letter}
 use Rattle.pure_grammar.specs.Tokens.Token.{is_number}
 use Rattle.pure_grammar.specs.Theories.Lexeme.{same}
 use Rattle.pure_lex.specs.Identifier.{is_identifier}
-use Rattle.pure_words.specs.Commands.{cancels_of, checked, fail_fast_of, generated, is_none, is_taken, job_by, job_given, job_of, size_of, workers_of}
+use Rattle.pure_words.specs.Commands.{cancels_of, checked, fail_fast_of, generated, is_none, is_taken, job_by, job_given, job_of, size_of, with_places, workers_of}
 use Rattle.pure_words.specs.Table.{name_of, row_of, subcommand_named}
 use Rattle.pure_words.specs.Values.{cancel_of, cancels_in, colon, comma, number_of, parts, with_cancel, within}
 use Rattle.pure_words.specs.declared.given.Given.{Given}
@@ -17,7 +17,7 @@ use Rattle.pure_words.specs.declared.job.CancelWord.{CancelWord}
 use Rattle.pure_words.specs.declared.job.Job.{Job}
 use Rattle.pure_words.specs.declared.command.Size.{Size}
 use Rattle.pure_words.specs.declared.table.Subcommand.{Subcommand}
-use Rattle.pure_words.specs.declared.table.Subcommand.TheVariants.{Check, Generate}
+use Rattle.pure_words.specs.declared.table.Subcommand.TheVariants.{Check, Generate, Places}
 use Rattle.pure_words.proofs.Fits.{Fits, at_most_once, at_most_one, is_plain}
 use Rattle.pure_words.proofs.Rows.{some_not_none}
 
@@ -103,6 +103,10 @@ generated_all : (workers : Option ℕ) (size : Option Size) (job : Job) → gene
 generated_all (Some n) size job e = (n, refl)
 generated_all None size job e = absurd (not_none job e)
 
+placed_all : (workers : Option ℕ) (job : Job) → with_places workers ≡ Some job → (n : ℕ) × (workers ≡ Some n)
+placed_all (Some n) job e = (n, refl)
+placed_all None job e = absurd (not_none job e)
+
 -- a test that was passed
 passed : {X : Type 0} (b : Bool) (o : Option X) (x : X) → (if b then o else None) ≡ Some x → (b ≡ true) × (o ≡ Some x)
 passed true o x e = (refl, e)
@@ -140,6 +144,21 @@ job_fits Generate g job e =
       whole,
     )
 
+job_fits Places g job e =
+    let both = passed (is_taken (row_of Places) g) (job_given Places g) job e in
+    let one = and_parts (is_none g.cancels) (is_none g.fail_fast && length g.arguments == 0) both.0 in
+    let two = and_parts (is_none g.fail_fast) (length g.arguments == 0) one.1 in
+    let whole : length g.arguments ≡ 0 = same_number (length g.arguments) 0 two.1 in
+    let workers = placed_all (workers_of g.jobs) job both.1 in (
+      record {
+        jobs = jobs_fit g.jobs workers.0 workers.1;
+        cancels = none_fits g.cancels one.0;
+        fail_fast = no_flag_fits g.fail_fast two.0;
+        arguments = omega (arith, whole);
+      },
+      whole,
+    )
+
 -- ---- names
 
 pub record IsNamed (name : List ℕ) (g : Given) (job : Job) : Type 0 where
@@ -150,10 +169,11 @@ pub record IsNamed (name : List ℕ) (g : Given) (job : Job) : Type 0 where
 -- the subcommand whose job it is
 pub named : (name : List ℕ) (g : Given) (job : Job) → job_of name g ≡ Some job → IsNamed name g job
 unfolding job_of subcommand_named
-named name g job e = pick (same name (codes "check")) refl (same name (codes "generate")) refl e
+named name g job e = pick (same name (codes "check")) refl (same name (codes "generate")) refl (same name (codes "places")) refl e
   where
-    pick : (b : Bool) → same name (codes "check") ≡ b → (c : Bool) → same name (codes "generate") ≡ c
-        → option_and_then (job_by g) (cond b (Some Check) (cond c (Some Generate) None)) ≡ Some job → IsNamed name g job
-    pick true is c other e' = record { subcommand = Check; name_is = (bytes_eq-Decides name (codes "check")).0 is; job_is = e' }
-    pick false is true other e' = record { subcommand = Generate; name_is = (bytes_eq-Decides name (codes "generate")).0 other; job_is = e' }
-    pick false is false other e' = absurd (not_none job e')
+    pick : (b : Bool) → same name (codes "check") ≡ b → (c : Bool) → same name (codes "generate") ≡ c → (d : Bool) → same name (codes "places") ≡ d
+        → option_and_then (job_by g) (cond b (Some Check) (cond c (Some Generate) (cond d (Some Places) None))) ≡ Some job → IsNamed name g job
+    pick true is c other d last e' = record { subcommand = Check; name_is = (bytes_eq-Decides name (codes "check")).0 is; job_is = e' }
+    pick false is true other d last e' = record { subcommand = Generate; name_is = (bytes_eq-Decides name (codes "generate")).0 other; job_is = e' }
+    pick false is false other true last e' = record { subcommand = Places; name_is = (bytes_eq-Decides name (codes "places")).0 last; job_is = e' }
+    pick false is false other false last e' = absurd (not_none job e')

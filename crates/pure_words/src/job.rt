@@ -69,4 +69,6 @@ pub enum Job {
         theories: u32,
         lemmas: u32,
     },
+    /// Check the theories of the directory, and say of each row where its command stands.
+    Places { workers: u32 },
 }

@@ -7,6 +7,7 @@ ghost use Rattle.pure_words.specs.Table as spec;
 pub(crate) enum Subcommand {
     Check,
     Generate,
+    Places,
 }
 
 /// A row of the table: the options and flags that a subcommand takes, and how many arguments, of which there are three at most.
@@ -25,6 +26,7 @@ pub(crate) fn name_of<'a>(subcommand: Subcommand) -> &'a str
     match subcommand {
         Subcommand::Check => "check",
         Subcommand::Generate => "generate",
+        Subcommand::Places => "places",
     }
 }
 
@@ -45,6 +47,12 @@ pub(crate) fn row_of(subcommand: Subcommand) -> Takes
             fail_fast: false,
             arguments: 3,
         },
+        Subcommand::Places => Takes {
+            jobs: true,
+            cancel: false,
+            fail_fast: false,
+            arguments: 0,
+        },
     }
 }
 
@@ -58,6 +66,9 @@ pub(crate) fn subcommand_named(name: &[u8]) -> Option<Subcommand>
     }
     if name == b"generate".as_slice() {
         return Some(Subcommand::Generate);
+    }
+    if name == b"places".as_slice() {
+        return Some(Subcommand::Places);
     }
     None
 }
