@@ -33,7 +33,7 @@ fn run_session<R: Threads + Wait + Sync, G: Gate>(
     alloc: Global,
     session: Session,
     asking: &Asking,
-    extent: Extent,
+    extent: Extent<'_>,
     gate: &G,
 ) -> Result<Answer, AllocError>
     requires loaded { IsLoadedSession session.names (all_loaded session.theories.items) }
@@ -57,12 +57,12 @@ fn run_session<R: Threads + Wait + Sync, G: Gate>(
 }
 
 /// The same, with want of memory as the one fault.
-fn session_answer<R: Threads + Wait + Sync, G: Gate>(
+pub(crate) fn session_answer<R: Threads + Wait + Sync, G: Gate>(
     rt: &R,
     alloc: Global,
     session: Session,
     asking: &Asking,
-    extent: Extent,
+    extent: Extent<'_>,
     gate: &G,
 ) -> Result<Answer, LoadFault>
     requires loaded { IsLoadedSession session.names (all_loaded session.theories.items) }
@@ -87,7 +87,7 @@ pub(crate) fn table_answer<
     alloc: Global,
     library: &mut L,
     asking: &Asking,
-    extent: Extent,
+    extent: Extent<'_>,
     gate: &G,
 ) -> Result<Answer, LoadFault>
     requires { 1 ≤ asking.now.workers }

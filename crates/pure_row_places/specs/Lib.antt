@@ -2,3 +2,4 @@ pub mod Reasons
 pub mod Lines
 pub mod Scans
 pub mod Texts
+pub mod Headers

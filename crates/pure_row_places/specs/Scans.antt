@@ -1,5 +1,6 @@
 -- What contracts see of scanned theories.
 use Rattle.std.specs.Prelude.{◌≡◌, ℕ, List, map, Option, Some, None, option_map}
+use Rattle.pure_session.specs.declared.order.Loaded.{Loaded}
 use Rattle.pure_places.specs.Seen.{seen_places, ArePlaces}
 use Rattle.pure_row_places.specs.Lines.{Theory, Refusal}
 use Rattle.pure_row_places.specs.declared.scan.Scan.{Scan}
@@ -22,3 +23,7 @@ pub record IsScanOf (name source : List ℕ) (t : Theory) : Type 0 where
   pub name_is : t.name ≡ name
   pub source_is : t.source ≡ source
   pub places : ArePlaces source t.places
+
+-- the same of a loaded theory, as the program holds both
+abbrev pub IsScannedAs : Loaded → Scan → Type 0
+IsScannedAs l s = IsScanOf l.name l.source (seen_scan s)

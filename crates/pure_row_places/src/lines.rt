@@ -18,12 +18,7 @@ use pure_text::Text;
 use std::alloc::{AllocError, Global};
 
 /// Puts the line and the column of a place in the source.
-fn push_place(
-    alloc: Global,
-    text: &mut Vec<u8>,
-    source: &[u8],
-    at: u32,
-) -> Result<(), AllocError>
+fn push_place(alloc: Global, text: &mut Vec<u8>, source: &[u8], at: u32) -> Result<(), AllocError>
     ensures { OnOk result (text.new.items ≡ text.old.items ++ spec.place_text source.now at) }
 {
     if source.len() >= u32::MAX as usize {
@@ -191,7 +186,7 @@ fn push_theory(
     theory: &Scan,
     rows: &[Row],
 ) -> Result<usize, AllocError>
-    ensures { IfOk result (λ n. n ≡ spec.row_count (seen_scan theory.now) rows.now) }
+    ensures count { IfOk result (λ n. n ≡ spec.row_count (seen_scan theory.now) rows.now) }
     ensures lines { IfOk result (λ _. text.new.items ≡ text.old.items ++ spec.theory_lines (seen_scan theory.now) rows.now) }
 {
     if is_barred(&theory.name, rows) {

@@ -1,8 +1,10 @@
 //! Theories with the places of their parts.
 ghost use Rattle.std.specs.Prelude.{◌≡◌, IfOk};
-ghost use Rattle.pure_row_places.specs.Scans.{seen_scan, IsScanOf};
+ghost use Rattle.pure_text.specs.Lists.{EachTwo};
+ghost use Rattle.pure_row_places.specs.Scans.{seen_scan, IsScanOf, IsScannedAs};
 
 use pure_places::{Places, find_places};
+use pure_session::Loaded;
 use pure_text::Text;
 use std::alloc::{AllocError, Global};
 
@@ -40,4 +42,19 @@ pub fn scanned(alloc: Global, name: &Text, source: &Text) -> Result<Scan, AllocE
         source,
         places,
     })
+}
+
+/// The theories with the places of their parts.
+///
+/// # Errors
+///
+/// Want of memory alone.
+pub fn scans(alloc: Global, theories: &[Loaded]) -> Result<Vec<Scan>, AllocError>
+    ensures { IfOk result (λ found. EachTwo IsScannedAs theories.now found.items) }
+{
+    let mut found = Vec::new(alloc);
+    for theory in theories {
+        found.push(scanned(alloc, &theory.name, &theory.source)?)?;
+    }
+    Ok(found)
 }
