@@ -13,10 +13,13 @@ use Rattle.pure_row_places.specs.Lines.{Theory, Refusal}
 use Rattle.pure_row_places.specs.Scans.{IsScanOf, seen_refusal}
 use Rattle.pure_row_places.specs.declared.scan.RefusedScan.{RefusedScan}
 
--- the reason speaks of the file's header: of its name or of an import
+-- the reason names an import
+abbrev pub names_import : (reason : List ℕ) → Bool
+names_import reason = begins no_file_text reason || begins parent_refused_text reason
+
+-- the reason speaks of the file's header: of its name, or of an import
 abbrev pub speaks_of_header : (reason : List ℕ) → Bool
-speaks_of_header reason =
-    same reason header_name_text || (same reason cyclic_imports_text || (begins no_file_text reason || begins parent_refused_text reason))
+speaks_of_header reason = same reason header_name_text || (same reason cyclic_imports_text || names_import reason)
 
 -- The theory is that of the file of this name, of whose text no more is read than a file may have; or there is no such file. A library that tells no files may have any.
 abbrev pub IsTheoryOf : (told : Option (List library.File)) → (name : List ℕ) → Option Theory → Type 0

@@ -1,5 +1,5 @@
 -- What a row's reason says of its place.
-use Rattle.std.specs.Prelude.{ℕ, ◌+◌, ◌-◌, ◌*◌, Bool, true, false, ◌||◌, List, [], ◌∷◌, length, take, drop, codes, Option, Some, None, if◌then◌else◌, get_or, zero, suc, nat_eq}
+use Rattle.std.specs.Prelude.{ℕ, ◌+◌, ◌-◌, ◌*◌, Bool, true, false, ◌||◌, List, [], ◌∷◌, length, take, drop, codes, Option, Some, None, if◌then◌else◌, get_or, nat_eq, ◌==◌}
 use Rattle.std.specs.Cmp.Lexicographic.{pointwise}
 use Rattle.pure_grammar.specs.Tokens.Bytes.{is_digit}
 use Rattle.pure_grammar.specs.Theories.Lexeme.{same}
@@ -37,10 +37,15 @@ begins front text = pointwise nat_eq (take (length front) text) front
 abbrev pub behind : List ℕ → List ℕ → Option (List ℕ)
 behind front text = if begins front text then Some (drop (length front) text) else None
 
+-- the first, if it is there, else the other
+abbrev pub first_some : Option (List ℕ) → Option (List ℕ) → Option (List ℕ)
+first_some None other = other
+first_some (Some text) other = Some text
+
 -- the line and the column that a reason names, `syntax at 2:17`: what stands behind the first ` at `
 abbrev pub named_place : List ℕ → Option (List ℕ)
 named_place [] = None
-named_place (b ∷ bs) = if begins at_word (b ∷ bs) then Some (drop (length at_word) (b ∷ bs)) else named_place bs
+named_place (b ∷ bs) = first_some (behind at_word (b ∷ bs)) (named_place bs)
 
 abbrev pub is_refused : RowStatus → Bool
 is_refused Refused = true
@@ -59,6 +64,11 @@ abbrev pub front_value : (before : ℕ) → List ℕ → ℕ
 front_value before [] = before
 front_value before (b ∷ bs) = if is_digit b then front_value (before * 10 + (b - 48)) bs else before
 
+-- what the value comes to, where it stands with this digit before more, or at its end
+abbrev pub value_on : Option ℕ → (value : ℕ) → (more : List ℕ) → ℕ
+value_on None value more = value
+value_on (Some next) value more = front_value next more
+
 abbrev pub value_in : Option (List ℕ) → ℕ
 value_in None = 0
 value_in (Some text) = front_value 0 text
@@ -69,8 +79,7 @@ failed_step row = if is_failed row.status then value_in (behind step_word row.ta
 
 -- the place of the step with this number, counted from 1; of step 0, that of the command's name
 abbrev pub step_place : Part ℕ → (step : ℕ) → ℕ
-step_place p zero = p.name
-step_place p (suc n) = get_or p.steps n p.name
+step_place p step = if step == 0 then p.name else get_or p.steps (step - 1) p.name
 
 -- the import that the reason of a refused theory or file names
 abbrev pub import_named : (tail : List ℕ) → Option (List ℕ)

@@ -4,6 +4,7 @@ ghost use Rattle.pure_text.specs.Lists.{EachTwo};
 ghost use Rattle.pure_io.specs.Outside.{Rose};
 ghost use Rattle.pure_graph.specs.Listing.{file_name};
 ghost use Rattle.pure_row_places.specs.Headers as spec;
+ghost use Rattle.pure_row_places.specs.Reasons.{begins};
 ghost use Rattle.pure_row_places.specs.Headers.{IsLookedAtAs, IsTheoryOf};
 ghost use Rattle.pure_row_places.specs.Scans.{seen_scan};
 
@@ -18,15 +19,36 @@ use std::rt::Files;
 /// The most bytes that a file may have; one more is read, to see that a file has more.
 const MOST_BYTES: u32 = 262_144;
 
+/// Whether the text begins so.
+fn begins(text: &[u8], front: &[u8]) -> bool
+    ensures { result ≡ begins front.now text.now }
+{
+    text.starts_with(front)
+}
+
+/// Whether the reason names an import.
+#[tactic(auto, unfolding(pure_graph::specs::Session::no_file_text, pure_graph::specs::Session::parent_refused_text))]
+fn names_import(reason: &[u8]) -> bool
+    ensures { result ≡ spec.names_import reason.now }
+{
+    if begins(reason, b"no file ") {
+        return true;
+    }
+    begins(reason, b"parent refused ")
+}
+
 /// Whether the reason speaks of the file's header.
-#[tactic(auto, unfolding(pure_graph::specs::Session::no_file_text, pure_graph::specs::Session::header_name_text, pure_graph::specs::Session::cyclic_imports_text, pure_graph::specs::Session::parent_refused_text))]
+#[tactic(auto, unfolding(pure_graph::specs::Session::header_name_text, pure_graph::specs::Session::cyclic_imports_text))]
 fn speaks_of_header(reason: &[u8]) -> bool
     ensures { result ≡ spec.speaks_of_header reason.now }
 {
-    reason == b"header name".as_slice()
-        || reason == b"cyclic imports".as_slice()
-        || reason.starts_with(b"no file ")
-        || reason.starts_with(b"parent refused ")
+    if reason == b"header name".as_slice() {
+        return true;
+    }
+    if reason == b"cyclic imports".as_slice() {
+        return true;
+    }
+    names_import(reason)
 }
 
 /// The name of a theory's file.

@@ -1,5 +1,6 @@
 //! What a row's reason says of its place.
-ghost use Rattle.std.specs.Prelude.{◌≡◌, IfOk, map};
+ghost use Rattle.std.specs.Prelude.{◌≡◌, ◌<◌, ◌+◌, ◌∷◌, ℕ, List, IfOk, map, drop, get_or, length};
+ghost use Rattle.pure_grammar.specs.Tokens.Bytes.{is_digit};
 ghost use Rattle.pure_places.specs.Seen.{seen_part, seen_import, seen_places};
 ghost use Rattle.pure_row_places.specs.Reasons as spec;
 ghost use Rattle.pure_row_places.specs.Texts.{seen_text};
@@ -8,13 +9,29 @@ use pure_places::{Import, Part, Places};
 use pure_print::{Row, RowStatus};
 use std::alloc::AllocError;
 
-/// What stands behind the first ` at `.
+/// What stands behind ` at `, where the text begins so.
 #[tactic(auto, unfolding(crate::specs::Reasons::at_word))]
+fn behind_at(text: &[u8]) -> Option<&[u8]>
+    ensures { seen_text result ≡ spec.behind spec.at_word text.now }
+{
+    text.strip_prefix(b" at ")
+}
+
+/// What stands behind ` at ` at this place, if it stands there.
+fn named_at(text: &[u8], place: usize) -> Option<&[u8]>
+    requires { place < length text.now }
+    ensures { spec.first_some (seen_text result) (spec.named_place (drop (place + 1) text.now)) ≡ spec.named_place (drop place text.now) }
+{
+    let found = behind_at(&text[place..]);
+    found
+}
+
+/// What stands behind the first ` at `.
 fn named_place(text: &[u8]) -> Option<&[u8]>
     ensures { seen_text result ≡ spec.named_place text.now }
 {
     for place in 0..text.len() {
-        if let Some(rest) = text[place..].strip_prefix(b" at ") {
+        if let Some(rest) = named_at(text, place) {
             return Some(rest);
         }
     }
@@ -31,22 +48,39 @@ pub(crate) fn reason_place(row: &Row) -> Option<&[u8]>
     }
 }
 
-/// The value of the digits at the front. More than nine of them never come.
+/// Whether the byte is a digit.
+fn is_digit(byte: u8) -> bool
+    ensures { result ≡ is_digit byte }
+{
+    byte >= b'0' && byte <= b'9'
+}
+
+/// The value with one more digit, or none where the byte is none. More than nine of them never come.
+fn with_digit(value: u32, byte: u8) -> Result<Option<u32>, AllocError>
+    ensures { IfOk result (λ next. (more : List ℕ) → spec.front_value value (byte ∷ more) ≡ spec.value_on next value more) }
+{
+    if !is_digit(byte) {
+        return Ok(None);
+    }
+    let Some(tens) = value.checked_mul(10) else {
+        return Err(AllocError);
+    };
+    let Some(next) = tens.checked_add(u32::from(byte.saturating_sub(b'0'))) else {
+        return Err(AllocError);
+    };
+    Ok(Some(next))
+}
+
+/// The value of the digits at the front.
 fn front_value(text: &[u8]) -> Result<u32, AllocError>
     ensures { IfOk result (λ value. value ≡ spec.front_value 0 text.now) }
 {
     let mut value: u32 = 0;
     for byte in text {
-        if !byte.is_ascii_digit() {
-            return Ok(value);
+        match with_digit(value, *byte)? {
+            Some(next) => value = next,
+            None => return Ok(value),
         }
-        let Some(tens) = value.checked_mul(10) else {
-            return Err(AllocError);
-        };
-        let Some(next) = tens.checked_add(u32::from(byte.saturating_sub(b'0'))) else {
-            return Err(AllocError);
-        };
-        value = next;
     }
     Ok(value)
 }
@@ -65,15 +99,25 @@ fn failed_step(row: &Row) -> Result<u32, AllocError>
     }
 }
 
+/// The element at this place, or another where there is none.
+fn get_or(steps: &[u32], place: usize, other: u32) -> u32
+    ensures { result ≡ get_or steps.now place other }
+{
+    if place < steps.len() {
+        return steps[place];
+    }
+    other
+}
+
 /// The place of the command's step that failed, if one did, or that of its name.
 pub(crate) fn step_place(part: &Part, row: &Row) -> Result<u32, AllocError>
     ensures { IfOk result (λ at. at ≡ spec.step_place (seen_part part.now) (spec.failed_step row.now)) }
 {
-    let step = failed_step(row)? as usize;
-    if step == 0 || step > part.steps.len() {
+    let step = failed_step(row)?;
+    if step == 0 {
         return Ok(part.name);
     }
-    Ok(part.steps[step - 1])
+    Ok(get_or(part.steps.as_slice(), (step - 1) as usize, part.name))
 }
 
 /// The import that the reason of a refused theory or file names.

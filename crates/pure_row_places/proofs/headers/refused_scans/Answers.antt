@@ -1,6 +1,6 @@
-use Rattle.std.proofs.Common.{refl, arith, ◌∙◌, subst}
+use Rattle.std.proofs.Common.{refl, arith, ◌∙◌}
 use Rattle.pure_row_places.specs.Headers.{IsLookedAtAs}
-use Rattle.pure_row_places.proofs.LoopLaws.{two-more, two-all}
+use Rattle.pure_row_places.proofs.LoopLaws.{two-more, two-all, told-moved}
 use Rattle.pure_row_places.proofs.headers.refused_scans.Goals as goal
 
 pub loop-file-init : goal.loop-file-init
@@ -13,7 +13,7 @@ loop-file-init g c = record {
 pub loop-file-preserved : goal.loop-file-preserved
 loop-file-preserved g c = record {
   so_far = two-more (IsLookedAtAs (g.L.Library.files c.args.library.now)) c.args.refused.now c.loop-file.file-index _ c.loop-file.found.items _ _ c.loop-file-test.true c.file-item.is c.loop-file.invariant.so_far
-      (subst (λ t. IsLookedAtAs t _ _) c.loop-file.invariant.same c.in_ok-scan.ensures.told) c.in_ok-put.ensures;
+      (told-moved _ _ c.loop-file.invariant.same _ _ c.in_ok-scan.ensures.told) c.in_ok-put.ensures;
   same = c.in_ok-scan.ensures.files ∙ c.loop-file.invariant.same;
   later = omega arith;
 }

@@ -1,0 +1,8 @@
+use Rattle.std.proofs.Common.{drop, map}
+use Rattle.pure_places.specs.Seen.{seen_part}
+use Rattle.pure_row_places.specs.Scans.{seen_scan}
+use Rattle.pure_row_places.proofs.LoopLaws.{commands-ended}
+use Rattle.pure_row_places.proofs.lines.push_commands.Goals as goal
+
+pub returns-then-place-rows : goal.returns-then-place-rows
+returns-then-place-rows c = commands-ended (seen_scan c.args.theory.now) _ c.args.rows.now c.loop-place.place c.loop-place.text.items _ c.if-place-rows.true c.loop-place.invariant
