@@ -22,10 +22,15 @@ two-all R xs i ys full h = rw (take_all i xs full) at h
 pub told-moved : (told now : Option (List library.File)) → now ≡ told → (f : RefusedFile) (s : RefusedScan) → IsLookedAtAs now f s → IsLookedAtAs told f s
 told-moved told now same f s is = subst (λ t. IsLookedAtAs t f s) same is
 
+named-next : (text : List ℕ) (i : ℕ) → i < length text → (found : Option (List ℕ)) → found ≡ behind at_word (drop i text) → first_some found (named_place (drop (suc i) text)) ≡ named_place (drop i text)
+named-next [] i within found is = absurd (omega (arith, within))
+named-next (b ∷ bs) zero within found is = ap (λ z. first_some z (named_place bs)) is
+named-next (b ∷ bs) (suc i) within found is = named-next bs i (omega (arith, within)) found is
+
 pub named-step : (text : List ℕ) (i : ℕ) → i < length text → (found : Option (List ℕ)) → found ≡ behind at_word (drop i text) → first_some found (named_place (drop (i + 1) text)) ≡ named_place (drop i text)
-named-step [] i within found is = absurd (omega (arith, within))
-named-step (b ∷ bs) zero within found is = ap (λ z. first_some z (named_place bs)) is
-named-step (b ∷ bs) (suc i) within found is = named-step bs i (omega (arith, within)) found is
+named-step text i within found is =
+    let next : i + 1 ≡ suc i = omega arith in
+    ap (λ n. first_some found (named_place (drop n text))) next ∙ named-next text i within found is
 
 no-lines : (t : Theory) (ps : List (Part ℕ)) → command_lines t ps [] ≡ []
 no-lines t [] = refl

@@ -17,13 +17,21 @@ fn behind_at(text: &[u8]) -> Option<&[u8]>
     text.strip_prefix(b" at ")
 }
 
+/// The text from this place on.
+fn rest_of(text: &[u8], place: usize) -> &[u8]
+    requires { place < length text.now }
+    ensures { result.now ≡ drop place text.now }
+{
+    &text[place..]
+}
+
 /// What stands behind ` at ` at this place, if it stands there.
 fn named_at(text: &[u8], place: usize) -> Option<&[u8]>
     requires { place < length text.now }
     ensures { spec.first_some (seen_text result) (spec.named_place (drop (place + 1) text.now)) ≡ spec.named_place (drop place text.now) }
 {
-    let found = behind_at(&text[place..]);
-    found
+    let rest = rest_of(text, place);
+    behind_at(rest)
 }
 
 /// What stands behind the first ` at `.
@@ -49,10 +57,11 @@ pub(crate) fn reason_place(row: &Row) -> Option<&[u8]>
 }
 
 /// Whether the byte is a digit.
+#[tactic(auto, unfolding(pure_grammar::specs::Tokens::Bytes::is_digit))]
 fn is_digit(byte: u8) -> bool
     ensures { result ≡ is_digit byte }
 {
-    byte >= b'0' && byte <= b'9'
+    byte.is_ascii_digit()
 }
 
 /// The value with one more digit, or none where the byte is none. More than nine of them never come.
