@@ -101,13 +101,8 @@ fn placed_text(
 }
 
 /// As much of a table's text as is asked for.
-fn text_of(
-    alloc: Global,
-    extent: Extent<'_>,
-    files: u32,
-    rows: &[Row],
-) -> Result<Text, AllocError>
-    ensures { IfOk result (λ text. text ≡ rows_text extent files rows.now) }
+fn text_of(alloc: Global, extent: Extent<'_>, files: u32, rows: &[Row]) -> Result<Text, AllocError>
+    ensures { IfOk result (λ text. text ≡ rows_text extent.entry files rows.now) }
 {
     match extent {
         Extent::Whole => print_table(alloc, files, rows),
@@ -127,7 +122,7 @@ pub(crate) fn form(
 ) -> Result<Formed, AllocError>
     requires session { board.now.session ≡ work.now }
     requires finished { IsFinished board.now.core }
-    ensures { IfOk result (λ f. (S : graph.Session) → S.names ≡ work.now.texts → S.theories ≡ work.now.theories → all_refused refused.now ≡ map shown S.refused → S.files ≡ files → IsFormed S (board.now.core).promises extent f.text f.clean) }
+    ensures { IfOk result (λ f. (S : graph.Session) → S.names ≡ work.now.texts → S.theories ≡ work.now.theories → all_refused refused.now ≡ map shown S.refused → S.files ≡ files → IsFormed S (board.now.core).promises extent.entry f.text f.clean) }
 {
     work.is_loaded_session();
     let Said { closed, entries } = said_by(work, board)?;

@@ -22,11 +22,7 @@ use std::thread::Threads;
 
 /// Has the session checked, and forms the text of its table with the places of its rows. Of files that are refused it reads
 /// the headers once more where their reasons speak of them. It may wait for ever.
-fn placed_answer<
-    R: Files + Print + AllocGlobal + Threads + Wait + Sync,
-    L: Library,
-    G: Gate,
->(
+fn placed_answer<R: Files + Print + AllocGlobal + Threads + Wait + Sync, L: Library, G: Gate>(
     rt: &R,
     alloc: Global,
     session: Session,
@@ -60,13 +56,7 @@ pub(crate) fn check_placed<
     R: Files + Print + AllocGlobal + Threads + Wait + Sync,
     L: Library,
     G: Gate,
->(
-    rt: &R,
-    alloc: Global,
-    workers: u32,
-    library: &mut L,
-    gate: &G,
-) -> Result<Answer, LoadFault>
+>(rt: &R, alloc: Global, workers: u32, library: &mut L, gate: &G) -> Result<Answer, LoadFault>
     requires { 1 ≤ workers }
     ensures ok { IsDone (job.Places workers) (L.files library.old) result }
     ensures read_fault { result ≡ Err LoadFault.ReadFault → Rose (L.faults library.old) (L.faults library.new) }
