@@ -72,6 +72,12 @@ placed-text s told workers asked asked_is theories theories_are scans scanned t 
     (subst (λ p. IsTextOf S (asked_for workers) p a.run a.formed.text a.formed.clean) place_is (subst (λ q. IsTextOf S q place a.run a.formed.text a.formed.clean) asked_is (all S is)))
 placed-text s told workers asked asked_is theories theories_are scans scanned t t_is refused refused_are looked are_looked r r_is place place_is (Err fault) all = tt
 
+-- The same of what the library told before.
+pub placed-moved : (told now : Option (List library.File)) → now ≡ told → (workers : ℕ) (s : code.Session) (a : Result Answer LoadFault) → IfOk a (λ a. (S : Session) → IsSeenSession S s → IsPlacedTextOf S now workers a.run a.formed.text a.formed.clean)
+    → IfOk a (λ a. (S : Session) → IsSeenSession S s → IsPlacedTextOf S told workers a.run a.formed.text a.formed.clean)
+placed-moved told now same workers s (Ok a) all = λ S is. subst (λ t. IsPlacedTextOf S t workers a.run a.formed.text a.formed.clean) same (all S is)
+placed-moved told now same workers s (Err fault) all = tt
+
 -- The text of a session that was loaded of a library is the job's answer.
 pub places-done : (told : Option (List library.File)) (S : Session) → IsToldSession told S → IsLoadedSession S.names S.theories → (workers : ℕ) (IsSeen : Session → Type 0) → IsSeen S
     → (a : Result Answer LoadFault) → IfOk a (λ a. (R : Session) → IsSeen R → IsPlacedTextOf R told workers a.run a.formed.text a.formed.clean) → IsDone (Places workers) told a
