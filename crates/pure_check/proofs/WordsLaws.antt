@@ -5,13 +5,13 @@ use Rattle.std.specs.Prelude.{nat_le, codes, ◌*◌, ◌&&◌, if◌then◌else
 use Rattle.pure_grammar.specs.Theories.Lexeme.{same}
 use Rattle.pure_words.specs.Values.{number_of, within}
 use Rattle.pure_words.specs.Words.{IsJob, IsCommand, Item, no_given, given_by}
-use Rattle.pure_words.specs.Commands.{workers_of, fail_fast_of, cancels_of, checked, generated, check_of, generate_of, size_of, sized, job_of, is_none, TableMeans}
+use Rattle.pure_words.specs.Commands.{workers_of, fail_fast_of, cancels_of, checked, generated, with_places, check_of, generate_of, places_of, size_of, sized, job_of, is_none, TableMeans}
 use Rattle.pure_check.specs.Asked.{IsTaken}
 use Rattle.pure_check.specs.JobAnswers.{IsInRange}
 use Rattle.pure_check.specs.Laws.{JobInRange}
 use Rattle.pure_words.specs.declared.job.CancelWord.{CancelWord}
 use Rattle.pure_words.specs.declared.job.Job.{Job}
-use Rattle.pure_words.specs.declared.job.Job.TheVariants.{Check, Generate}
+use Rattle.pure_words.specs.declared.job.Job.TheVariants.{Check, Generate, Places}
 
 abbrev IfJob : Option Job → Type 0
 IfJob None = Unit {0}
@@ -82,15 +82,28 @@ generate-some items = let g = given_by no_given items in by (is_none g.cancels &
         generated-some (workers_of g.jobs) g.arguments (workers-within g.jobs)
     by false = _
 
-either : (b d : Bool) (one other : Option Job) → IfJob one → IfJob other → IfJob (if b then one else (if d then other else None))
-either true d one other h k = h
-either false true one other h k = k
-either false false one other h k = _
+placed-some : (workers : Option ℕ) → IsBetween 1 64 workers → IfJob (with_places workers)
+placed-some None w = _
+placed-some (Some n) w = w.0
+
+places-some : (items : List Item) → IfJob (places_of (given_by no_given items))
+places-some items = let g = given_by no_given items in by (is_none g.cancels && (is_none g.fail_fast && is_none g.arguments))
+  where
+    by : (b : Bool) → IfJob (if b then with_places (workers_of (given_by no_given items).jobs) else None)
+    by true = let g = given_by no_given items in placed-some (workers_of g.jobs) (workers-within g.jobs)
+    by false = _
+
+either : (b d p : Bool) (one other last : Option Job) → IfJob one → IfJob other → IfJob last → IfJob (if b then one else (if d then other else (if p then last else None)))
+either true d p one other last h k l = h
+either false true p one other last h k l = k
+either false false true one other last h k l = l
+either false false false one other last h k l = _
 
 job-some : TableMeans → (name : List ℕ) (items : List Item) → IfJob (job_of name (given_by no_given items))
 job-some means name items =
     let g = given_by no_given items in
-    subst IfJob (sym (means name g)) (either (same name (codes "check")) (same name (codes "generate")) (check_of g) (generate_of g) (check-some items) (generate-some items))
+    subst IfJob (sym (means name g))
+    (either (same name (codes "check")) (same name (codes "generate")) (same name (codes "places")) (check_of g) (generate_of g) (places_of g) (check-some items) (generate-some items) (places-some items))
 
 command-some : TableMeans → (name : List ℕ) (words : List (List ℕ)) (job : Job) → IsCommand name words job → IsInRange job
 command-some means name words job is = subst IfJob is.job_is (job-some means name is.items)

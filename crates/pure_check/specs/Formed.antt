@@ -12,7 +12,7 @@ use Rattle.pure_session.specs.declared.session.Session as code
 use Rattle.pure_check_work.specs.Table.Table.{Table, IsTable, table_rows}
 use Rattle.pure_words.specs.declared.job.Job.{Job}
 use Rattle.pure_check.specs.declared.formed.Extent.{Extent}
-use Rattle.pure_check.specs.declared.formed.Extent.TheVariants.{Whole, LastLine}
+use Rattle.pure_check.specs.declared.formed.Extent.TheVariants.{Whole, LastLine, Placed}
 use Rattle.pure_check_work.specs.Declare.Notes.{Fork}
 use Rattle.pure_check_work.specs.Method.declared.outcome.Outcome.{Outcome}
 use Rattle.pure_check_work.specs.TheoryRun.Checked.{Checked}
@@ -25,6 +25,8 @@ use Rattle.pure_check_work.specs.Cancelled.{cancelled_labels, entries_of}
 use Rattle.pure_check_work.specs.Heeded.{lot_of, gone_labels}
 use Rattle.pure_policy.specs.Asked.{Asked}
 use Rattle.pure_check.specs.JobAnswers.{IsAnswer}
+use Rattle.pure_row_places.specs.Scans.{seen_scans, seen_refusals}
+use Rattle.pure_check.specs.Jobs.Places.{places_text}
 use Rattle.pure_check.specs.Meaning.{IsRunOf, IsTableAnswer, is_good}
 use Rattle.pure_check.specs.declared.answer.Answer.{Answer}
 use Rattle.pure_check.specs.declared.tables.Asking.{Asking}
@@ -36,10 +38,11 @@ pub record IsSeenSession (S : Session) (s : code.Session) : Type 0 where
   pub refused : all_refused s.refused.items ≡ map shown S.refused
   pub files : S.files ≡ s.files
 
--- the whole text of a table of these rows, for so many files, or its last line
+-- the whole text of a table of these rows, for so many files, or its last line, or the text with the places of the rows
 abbrev pub rows_text : Extent → (files : ℕ) → List Row → List ℕ
 rows_text Whole files rows = table_text files rows
 rows_text LastLine files rows = total_line files rows
+rows_text (Placed theories refused) files rows = places_text (seen_scans theories.now) (seen_refusals refused.now) files rows
 
 -- the extent of the text of a session's table
 abbrev pub extent_text : Extent → Session → Table → List ℕ

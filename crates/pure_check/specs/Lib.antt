@@ -9,5 +9,6 @@ pub mod JobMeaning
 pub mod Jobs
 pub mod Laws
 pub mod Meaning
+pub mod PlacedText
 pub mod Sources
 pub mod Tables

@@ -11,6 +11,7 @@ use crate::checked::check;
 use crate::ended::Ended;
 use crate::generated::check_generated;
 use crate::laws::job_in_range;
+use crate::placed::check_placed;
 use crate::status::Status;
 use crate::written::write_answer;
 use pure_graph::LoadFault;
@@ -50,6 +51,7 @@ fn done<R: Files + Print + AllocGlobal + Threads + Wait + Sync, L: Library, G: G
             theories,
             lemmas,
         } => check_generated(rt, alloc, *workers, *start, *theories, *lemmas, gate),
+        Job::Places { workers } => check_placed(rt, alloc, *workers, library, gate),
     }
 }
 

@@ -6,6 +6,8 @@ ghost use Rattle.pure_graph.specs.Session.{shown};
 ghost use Rattle.pure_session.specs.Refused.{all_refused};
 ghost use Rattle.pure_machine.specs.Step.{IsFinished};
 ghost use Rattle.pure_print.specs.RowText.{row_text, total_line};
+ghost use Rattle.pure_row_places.specs.Scans.{seen_scans, seen_refusals};
+ghost use Rattle.pure_check.specs.Jobs.Places.{places_text};
 ghost use Rattle.pure_check.specs.Formed.{IsFormed, rows_text};
 ghost use Rattle.pure_check.specs.Meaning as spec;
 
@@ -13,17 +15,23 @@ use pure_board::Closed;
 use pure_check_work::table::table;
 use pure_check_work::{Checking, Said, said_by};
 use pure_print::{Row, RowStatus, print_row, print_table};
+use pure_row_places::{RefusedScan, Scan, push_lines};
 use pure_session::RefusedFile;
 use pure_text::Text;
 use std::alloc::{AllocError, Global};
 
 /// How much of a table's text is formed.
-#[derive(Clone, Copy, Debug, PartialEq, Eq)]
-pub(crate) enum Extent {
+#[derive(Clone, Copy)]
+pub(crate) enum Extent<'e> {
     /// All of it.
     Whole,
     /// The last line alone.
     LastLine,
+    /// All of it, each row behind the place at which its command stands in these theories and refused files.
+    Placed {
+        theories: &'e [Scan],
+        refused: &'e [RefusedScan],
+    },
 }
 
 /// The text of a table, all of it or its last line, and whether each row of the table is declared or proved.
@@ -76,12 +84,29 @@ fn last_line(alloc: Global, files: u32, rows: &[Row]) -> Result<Text, AllocError
     Text::make(alloc, &text.bytes()[len..])
 }
 
+/// A table's text, each row behind the place at which its command stands.
+fn placed_text(
+    alloc: Global,
+    theories: &[Scan],
+    refused: &[RefusedScan],
+    files: u32,
+    rows: &[Row],
+) -> Result<Text, AllocError>
+    ensures { IfOk result (λ text. text ≡ places_text (seen_scans theories.now) (seen_refusals refused.now) files rows.now) }
+{
+    let mut text = Vec::new(alloc);
+    push_lines(alloc, &mut text, theories, refused, rows)?;
+    text.extend_from_slice(last_line(alloc, files, rows)?.bytes())?;
+    Ok(Text::from(text))
+}
+
 /// As much of a table's text as is asked for.
-fn text_of(alloc: Global, extent: Extent, files: u32, rows: &[Row]) -> Result<Text, AllocError>
-    ensures { IfOk result (λ text. text ≡ rows_text extent files rows.now) }
+fn text_of(alloc: Global, extent: Extent<'_>, files: u32, rows: &[Row]) -> Result<Text, AllocError>
+    ensures { IfOk result (λ text. text ≡ rows_text extent.entry files rows.now) }
 {
     match extent {
         Extent::Whole => print_table(alloc, files, rows),
+        Extent::Placed { theories, refused } => placed_text(alloc, theories, refused, files, rows),
         Extent::LastLine => last_line(alloc, files, rows),
     }
 }
@@ -93,11 +118,11 @@ pub(crate) fn form(
     board: &Closed<Checking>,
     refused: &[RefusedFile],
     files: u32,
-    extent: Extent,
+    extent: Extent<'_>,
 ) -> Result<Formed, AllocError>
     requires session { board.now.session ≡ work.now }
     requires finished { IsFinished board.now.core }
-    ensures { IfOk result (λ f. (S : graph.Session) → S.names ≡ work.now.texts → S.theories ≡ work.now.theories → all_refused refused.now ≡ map shown S.refused → S.files ≡ files → IsFormed S (board.now.core).promises extent f.text f.clean) }
+    ensures { IfOk result (λ f. (S : graph.Session) → S.names ≡ work.now.texts → S.theories ≡ work.now.theories → all_refused refused.now ≡ map shown S.refused → S.files ≡ files → IsFormed S (board.now.core).promises extent.entry f.text f.clean) }
 {
     work.is_loaded_session();
     let Said { closed, entries } = said_by(work, board)?;

@@ -8,6 +8,7 @@ mod ended;
 mod formed;
 mod generated;
 pub mod laws;
+mod placed;
 mod status;
 mod tables;
 mod written;

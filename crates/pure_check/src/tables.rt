@@ -33,12 +33,12 @@ fn run_session<R: Threads + Wait + Sync, G: Gate>(
     alloc: Global,
     session: Session,
     asking: &Asking,
-    extent: Extent,
+    extent: Extent<'_>,
     gate: &G,
 ) -> Result<Answer, AllocError>
     requires loaded { IsLoadedSession session.names (all_loaded session.theories.items) }
     requires some { 1 ≤ asking.now.workers }
-    ensures { IfOk result (λ a. (S : graph.Session) → IsSeenSession S session → IsTextOf S (asked_by asking.now) extent a.run a.formed.text a.formed.clean) }
+    ensures { IfOk result (λ a. (S : graph.Session) → IsSeenSession S session → IsTextOf S (asked_by asking.now) extent.entry a.run a.formed.text a.formed.clean) }
 {
     let Session {
         names,
@@ -57,17 +57,17 @@ fn run_session<R: Threads + Wait + Sync, G: Gate>(
 }
 
 /// The same, with want of memory as the one fault.
-fn session_answer<R: Threads + Wait + Sync, G: Gate>(
+pub(crate) fn session_answer<R: Threads + Wait + Sync, G: Gate>(
     rt: &R,
     alloc: Global,
     session: Session,
     asking: &Asking,
-    extent: Extent,
+    extent: Extent<'_>,
     gate: &G,
 ) -> Result<Answer, LoadFault>
     requires loaded { IsLoadedSession session.names (all_loaded session.theories.items) }
     requires some { 1 ≤ asking.now.workers }
-    ensures ok { IfOk result (λ a. (S : graph.Session) → IsSeenSession S session → IsTextOf S (asked_by asking.now) extent a.run a.formed.text a.formed.clean) }
+    ensures ok { IfOk result (λ a. (S : graph.Session) → IsSeenSession S session → IsTextOf S (asked_by asking.now) extent.entry a.run a.formed.text a.formed.clean) }
     ensures fault { result ≢ Err LoadFault.ReadFault }
 {
     match run_session(rt, alloc, session, asking, extent, gate) {
@@ -87,11 +87,11 @@ pub(crate) fn table_answer<
     alloc: Global,
     library: &mut L,
     asking: &Asking,
-    extent: Extent,
+    extent: Extent<'_>,
     gate: &G,
 ) -> Result<Answer, LoadFault>
     requires { 1 ≤ asking.now.workers }
-    ensures ok { IsTabled extent (asked_by asking.now) (L.files library.old) result }
+    ensures ok { IsTabled extent.entry (asked_by asking.now) (L.files library.old) result }
     ensures read_fault { result ≡ Err LoadFault.ReadFault → Rose (L.faults library.old) (L.faults library.new) }
     ensures files { L.files library.new ≡ L.files library.old }
     ensures later { L.faults library.old ≤ L.faults library.new }

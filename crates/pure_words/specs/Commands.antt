@@ -5,7 +5,7 @@ use Rattle.pure_words.specs.Values.{comma, number_of, within, parts, cancels_in,
 use Rattle.pure_words.specs.Table.{row_of, subcommand_named}
 use Rattle.pure_words.specs.declared.job.CancelWord.{CancelWord}
 use Rattle.pure_words.specs.declared.job.Job.{Job}
-use Rattle.pure_words.specs.declared.job.Job.TheVariants.{Check, Generate, Try}
+use Rattle.pure_words.specs.declared.job.Job.TheVariants.{Check, Generate, Places, Try}
 use Rattle.pure_words.specs.declared.given.Given.{Given}
 use Rattle.pure_words.specs.declared.command.Size.{Size}
 use Rattle.pure_words.specs.declared.table.Subcommand.{Subcommand}
@@ -62,6 +62,11 @@ abbrev pub generated : Option ℕ → Option Size → Option Job
 generated (Some workers) (Some size) = Some (Generate workers size.start size.theories size.lemmas)
 generated _ _ = None
 
+-- the job of `places`, where all its values are right
+abbrev pub with_places : Option ℕ → Option Job
+with_places (Some workers) = Some (Places workers)
+with_places None = None
+
 -- the job of `try`, where all its values are right
 abbrev pub tried : Option ℕ → Option (List ℕ) → Option Job
 tried (Some workers) (Some name) = Some (Try workers name)
@@ -77,6 +82,11 @@ abbrev pub generate_of : Given → Option Job
 generate_of g =
     if is_none g.cancels && is_none g.fail_fast then generated (workers_of g.jobs) (size_of g.arguments) else None
 
+-- `places`: --jobs, and no arguments
+abbrev pub places_of : Given → Option Job
+places_of g =
+    if is_none g.cancels && (is_none g.fail_fast && is_none g.arguments) then with_places (workers_of g.jobs) else None
+
 -- `try`: --jobs, and NAME
 abbrev pub try_of : Given → Option Job
 try_of g =
@@ -91,6 +101,7 @@ is_taken t g =
 abbrev pub job_given : Subcommand → Given → Option Job
 job_given table.Check g = checked (workers_of g.jobs) (fail_fast_of g.fail_fast) (cancels_of g.cancels)
 job_given table.Generate g = generated (workers_of g.jobs) (size_of g.arguments)
+job_given table.Places g = with_places (workers_of g.jobs)
 job_given table.Try g = tried (workers_of g.jobs) (name_given g.arguments)
 
 -- the job of a subcommand, where it takes what is given
@@ -106,5 +117,6 @@ abbrev pub TableMeans : Type 0
 TableMeans = (name : List ℕ) (g : Given) → job_of name g
     ≡ (if same name (codes "check") then check_of g
     else (if same name (codes "generate") then generate_of g
+    else (if same name (codes "places") then places_of g
     else (if same name (codes "try") then try_of g
-    else None)))
+    else None))))

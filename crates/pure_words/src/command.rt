@@ -142,6 +142,16 @@ fn generate(given: &Given) -> Option<Job>
     })
 }
 
+/// The job of `places`.
+fn places(given: &Given) -> Option<Job>
+    ensures { result ≡ spec.job_given Subcommand.Places given.now }
+{
+    let Some(workers) = workers(given.jobs.list()) else {
+        return None;
+    };
+    Some(Job::Places { workers })
+}
+
 /// The job of `try`.
 fn try_lemma(alloc: Global, given: &Given) -> Result<Option<Job>, AllocError>
     ensures { IfOk result (λ found. found ≡ spec.job_given Subcommand.Try given.now) }
@@ -165,6 +175,7 @@ fn job_by(alloc: Global, subcommand: Subcommand, given: &Given) -> Result<Option
     match subcommand {
         Subcommand::Check => check(alloc, given),
         Subcommand::Generate => Ok(generate(given)),
+        Subcommand::Places => Ok(places(given)),
         Subcommand::Try => try_lemma(alloc, given),
     }
 }

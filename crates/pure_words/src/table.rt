@@ -7,6 +7,7 @@ ghost use Rattle.pure_words.specs.Table as spec;
 pub(crate) enum Subcommand {
     Check,
     Generate,
+    Places,
     Try,
 }
 
@@ -26,6 +27,7 @@ pub(crate) fn name_of<'a>(subcommand: Subcommand) -> &'a str
     match subcommand {
         Subcommand::Check => "check",
         Subcommand::Generate => "generate",
+        Subcommand::Places => "places",
         Subcommand::Try => "try",
     }
 }
@@ -47,6 +49,12 @@ pub(crate) fn row_of(subcommand: Subcommand) -> Takes
             fail_fast: false,
             arguments: 3,
         },
+        Subcommand::Places => Takes {
+            jobs: true,
+            cancel: false,
+            fail_fast: false,
+            arguments: 0,
+        },
         Subcommand::Try => Takes {
             jobs: true,
             cancel: false,
@@ -66,6 +74,9 @@ pub(crate) fn subcommand_named(name: &[u8]) -> Option<Subcommand>
     }
     if name == b"generate".as_slice() {
         return Some(Subcommand::Generate);
+    }
+    if name == b"places".as_slice() {
+        return Some(Subcommand::Places);
     }
     if name == b"try".as_slice() {
         return Some(Subcommand::Try);

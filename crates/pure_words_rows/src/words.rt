@@ -79,6 +79,10 @@ fn push_job(alloc: Global, text: &mut Vec<u8>, job: &Job) -> Result<(), AllocErr
             push_number(alloc, text, *theories)?;
             push_number(alloc, text, *lemmas)
         }
+        Job::Places { workers } => {
+            text.extend_from_slice(b"places")?;
+            push_number(alloc, text, *workers)
+        }
         Job::Try { workers, name } => {
             text.extend_from_slice(b"try")?;
             push_number(alloc, text, *workers)?;

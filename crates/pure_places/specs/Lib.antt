@@ -1,0 +1,7 @@
+pub mod Parts
+pub mod Marks
+pub mod Found
+pub mod Seen
+pub mod Laws
+pub mod Idents
+pub mod Steps

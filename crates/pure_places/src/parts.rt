@@ -1,0 +1,26 @@
+//! Places of a theory's parts.
+use pure_text::Text;
+
+/// Where a command's name stands, and, of a lemma, the word of each numbered step of its proof: of a method its word, of
+/// `prefer`, `defer` and `done` the keyword, of the end that `by` makes the word `by`. Places count bytes from 0.
+#[derive(Drop)]
+pub struct Part {
+    pub name: u32,
+    pub steps: Vec<u32>,
+}
+
+/// An import in a header, and where it stands.
+#[derive(Drop)]
+pub struct Import {
+    pub theory: Text,
+    pub at: u32,
+}
+
+/// Where the name in a theory's header stands, its imports and its commands, in their order. Each item of `consts` and each
+/// part of `axiomatization` is a command.
+#[derive(Drop)]
+pub struct Places {
+    pub name: u32,
+    pub imports: Vec<Import>,
+    pub commands: Vec<Part>,
+}

@@ -1,0 +1,179 @@
+//! The search for a theory's parts among its tokens.
+ghost use Rattle.std.specs.Prelude.{◌≡◌, ◌++◌, ◌+◌, ◌∷◌, [], ◌<◌, ◌≤◌, List, ℕ, IfOk, drop, length, map};
+ghost use Rattle.pure_text.specs.Lists.{Each};
+ghost use Rattle.pure_grammar.specs.Tokens.Spelling.{IsSlice, AreSlices};
+ghost use Rattle.pure_grammar.specs.Theories.Outer.{place_of};
+ghost use Rattle.pure_places.specs.Marks.{first_mark, steps_of};
+ghost use Rattle.pure_places.specs.Found as spec;
+ghost use Rattle.pure_places.specs.Found.{found_commands, found_imports, token_mark, token_place};
+ghost use Rattle.pure_places.specs.Seen.{seen_part, seen_import, seen_places, ArePlaces};
+
+use crate::laws::finds_parts;
+use crate::mark::{Before, Mark, behind, ident, is_begin, is_name, mark_of};
+use crate::parts::{Import, Part, Places};
+use crate::steps::steps_in;
+use pure_grammar::Token;
+use pure_lex::{LexFault, tokens};
+use pure_text::Text;
+use std::alloc::{AllocError, Global};
+
+/// The tokens from this place on.
+fn rest_of(tokens: &[Token], place: usize) -> &[Token]
+    ensures { result.now ≡ drop place tokens.now }
+{
+    if place >= tokens.len() {
+        return &[];
+    }
+    &tokens[place..]
+}
+
+/// The mark of the first token, or that of a text's end.
+fn first_of(source: &[u8], tokens: &[Token]) -> Mark
+    requires { Each (IsSlice source.now) tokens.now }
+    ensures { result ≡ first_mark (token_mark source.now) tokens.now }
+{
+    if tokens.is_empty() {
+        return Mark::Word;
+    }
+    mark_of(source, tokens[0])
+}
+
+/// Where the steps of a command's proof stand, of whose tokens these are behind the name.
+fn steps_behind(
+    alloc: Global,
+    source: &[u8],
+    tokens: &[Token],
+    before: Before,
+) -> Result<Vec<u32>, AllocError>
+    requires { Each (IsSlice source.now) tokens.now }
+    ensures { IfOk result (λ steps. steps.items ≡ steps_of (token_mark source.now) token_place before tokens.now) }
+{
+    match before {
+        Before::Lemma => steps_in(alloc, source, rest_of(tokens, 2)),
+        Before::Kind => Ok(Vec::new(alloc)),
+        Before::Other => Ok(Vec::new(alloc)),
+    }
+}
+
+/// Takes the token at this place.
+fn meet(
+    alloc: Global,
+    source: &[u8],
+    tokens: &[Token],
+    place: usize,
+    before: Before,
+    found: &mut Vec<Part>,
+) -> Result<Before, AllocError>
+    requires within { place < length tokens.now }
+    requires slices { Each (IsSlice source.now) tokens.now }
+    ensures { IfOk result (λ b. map seen_part found.new.items ++ found_commands source.now b (drop (place + 1) tokens.now) ≡ map seen_part found.old.items ++ found_commands source.now before (drop place tokens.now)) }
+{
+    let token = tokens[place];
+    let mark = mark_of(source, token);
+    let rest = rest_of(tokens, place + 1);
+    if !is_name(before, mark, first_of(source, rest)) {
+        return Ok(behind(before, mark));
+    }
+    let steps = steps_behind(alloc, source, rest, before)?;
+    found.push(Part {
+        name: token.from,
+        steps,
+    })?;
+    Ok(Before::Other)
+}
+
+/// The commands among the tokens.
+fn commands_in(alloc: Global, source: &[u8], tokens: &[Token]) -> Result<Vec<Part>, AllocError>
+    requires { Each (IsSlice source.now) tokens.now }
+    ensures { IfOk result (λ found. map seen_part found.items ≡ found_commands source.now Before.Other tokens.now) }
+{
+    let mut found = Vec::new(alloc);
+    let mut before = Before::Other;
+    for place in 0..tokens.len() {
+        before = meet(alloc, source, tokens, place, before, &mut found)?;
+    }
+    Ok(found)
+}
+
+/// Puts the import that the token is, if it is an identifier.
+fn put_import(
+    alloc: Global,
+    source: &[u8],
+    token: Token,
+    found: &mut Vec<Import>,
+) -> Result<(), AllocError>
+    requires { IsSlice source.now token }
+    ensures { IfOk result (λ _. map seen_import found.new.items ≡ map seen_import found.old.items ++ spec.import_of source.now token) }
+{
+    match ident(source, token) {
+        Some(text) => {
+            let theory = Text::make(alloc, text)?;
+            found.push(Import {
+                theory,
+                at: token.from,
+            })?;
+            Ok(())
+        }
+        None => Ok(()),
+    }
+}
+
+/// The imports among the tokens behind the header's name.
+fn imports_in(alloc: Global, source: &[u8], tokens: &[Token]) -> Result<Vec<Import>, AllocError>
+    requires { Each (IsSlice source.now) tokens.now }
+    ensures { IfOk result (λ found. map seen_import found.items ≡ found_imports source.now tokens.now) }
+{
+    let mut found = Vec::new(alloc);
+    for token in tokens {
+        if is_begin(mark_of(source, *token)) {
+            return Ok(found);
+        }
+        put_import(alloc, source, *token, &mut found)?;
+    }
+    Ok(found)
+}
+
+/// Where the second token stands, or the source's end.
+fn name_place(source: &[u8], tokens: &[Token]) -> u32
+    requires { length source.now < 4294967296 }
+    ensures { result ≡ place_of tokens.now (length source.now) 1 }
+{
+    if tokens.len() >= 2 {
+        return tokens[1].from;
+    }
+    source.len() as u32
+}
+
+/// The places of the parts of the theory that the tokens of the source spell, found without its grammar: a command's name has a
+/// colon behind it, or is the first identifier behind `class` or `typedecl`; a method's word is an identifier behind `apply`,
+/// `by`, a parenthesis or a comma.
+pub fn found_among(alloc: Global, source: &[u8], tokens: &[Token]) -> Result<Places, AllocError>
+    requires small { length source.now < 4294967296 }
+    requires slices { Each (IsSlice source.now) tokens.now }
+    ensures { IfOk result (λ p. seen_places p ≡ spec.found source.now tokens.now) }
+{
+    let imports = imports_in(alloc, source, rest_of(tokens, 2))?;
+    let commands = commands_in(alloc, source, tokens)?;
+    Ok(Places {
+        name: name_place(source, tokens),
+        imports,
+        commands,
+    })
+}
+
+/// The places of the parts of the theory that the source is. Of another source nothing is said.
+pub fn find_places(alloc: Global, source: &[u8]) -> Result<Places, AllocError>
+    requires { length source.now < 4294967296 }
+    ensures { IfOk result (λ p. ArePlaces source.now (seen_places p)) }
+{
+    finds_parts();
+    match tokens(alloc, source, 0, source.len() as u32) {
+        Ok(found) => found_among(alloc, source, found.as_slice()),
+        Err(LexFault::At { .. }) => Ok(Places {
+            name: 0,
+            imports: Vec::new(alloc),
+            commands: Vec::new(alloc),
+        }),
+        Err(LexFault::Memory) => Err(AllocError),
+    }
+}

@@ -1,0 +1,5 @@
+pub mod Reasons
+pub mod Lines
+pub mod Scans
+pub mod Texts
+pub mod Headers

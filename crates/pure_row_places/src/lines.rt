@@ -1,0 +1,240 @@
+//! Lines of rows with their places.
+ghost use Rattle.std.specs.Prelude.{◌≡◌, ◌++◌, ◌∷◌, ◌≤◌, List, ℕ, IfOk, OnOk, drop, length, take};
+ghost use Rattle.std.specs.Fmt.{decimal};
+ghost use Rattle.pure_print.specs.RowText.{row_text};
+ghost use Rattle.pure_print.specs.declared.row.Row as print;
+ghost use Rattle.pure_places.specs.Seen.{seen_part, seen_places};
+ghost use Rattle.pure_places.specs.Parts as parts;
+ghost use Rattle.pure_row_places.specs.Lines as spec;
+ghost use Rattle.pure_row_places.specs.Reasons as reasons;
+ghost use Rattle.pure_row_places.specs.Scans.{seen_scan, seen_refusal, seen_scans, seen_refusals};
+
+use crate::reasons::{header_place, reason_place, step_place};
+use crate::scan::{RefusedScan, Scan};
+use pure_lex::line_col;
+use pure_places::Part;
+use pure_print::{Row, print_row};
+use pure_text::Text;
+use std::alloc::{AllocError, Global};
+
+/// Puts the line and the column of a place in the source.
+fn push_place(alloc: Global, text: &mut Vec<u8>, source: &[u8], at: u32) -> Result<(), AllocError>
+    ensures { OnOk result (text.new.items ≡ text.old.items ++ spec.place_text source.now at) }
+{
+    if source.len() >= u32::MAX as usize {
+        return Err(AllocError);
+    }
+    let at = at.min(source.len() as u32);
+    let (line, column) = line_col(source, at);
+    text.extend_from_slice(line.to_string(alloc)?.as_bytes())?;
+    text.extend_from_slice(b":")?;
+    text.extend_from_slice(column.to_string(alloc)?.as_bytes())?;
+    Ok(())
+}
+
+/// Puts the theory's file before a row's place.
+#[tactic(auto, unfolding(crate::specs::Lines::file_mark))]
+fn push_file(text: &mut Vec<u8>, theory: &Text) -> Result<(), AllocError>
+    ensures { OnOk result (text.new.items ≡ text.old.items ++ (theory.now ++ spec.file_mark)) }
+{
+    text.extend_from_slice(theory.bytes())?;
+    text.extend_from_slice(b".thy:")?;
+    Ok(())
+}
+
+/// Puts the row behind its place.
+#[tactic(auto, unfolding(crate::specs::Lines::row_mark))]
+fn push_row(alloc: Global, text: &mut Vec<u8>, row: &Row) -> Result<(), AllocError>
+    ensures { OnOk result (text.new.items ≡ text.old.items ++ (spec.row_mark ++ row_text row.now)) }
+{
+    text.extend_from_slice(b": ")?;
+    text.extend_from_slice(print_row(alloc, row)?.bytes())?;
+    Ok(())
+}
+
+/// Puts the place that the row's reason names, or that of a place in the source.
+fn push_first(
+    alloc: Global,
+    text: &mut Vec<u8>,
+    row: &Row,
+    source: &Text,
+    at: u32,
+) -> Result<(), AllocError>
+    ensures { OnOk result (text.new.items ≡ text.old.items ++ spec.first_of (reasons.reason_place row.now) (spec.place_text source.now at)) }
+{
+    match reason_place(row) {
+        Some(place) => {
+            text.extend_from_slice(place)?;
+            Ok(())
+        }
+        None => push_place(alloc, text, source.bytes(), at),
+    }
+}
+
+/// Puts the line of a command's row.
+fn push_command(
+    alloc: Global,
+    text: &mut Vec<u8>,
+    theory: &Scan,
+    part: &Part,
+    row: &Row,
+) -> Result<(), AllocError>
+    ensures { IfOk result (λ _. text.new.items ≡ text.old.items ++ spec.line_text (seen_scan theory.now).name (spec.command_place (seen_scan theory.now).source (seen_part part.now) row.now) row.now) }
+{
+    push_file(text, &theory.name)?;
+    push_first(alloc, text, row, &theory.source, step_place(part, row)?)?;
+    push_row(alloc, text, row)?;
+    Ok(())
+}
+
+/// Puts the line of the row of a theory that is refused.
+fn push_refused_theory(
+    alloc: Global,
+    text: &mut Vec<u8>,
+    theory: &Scan,
+    row: &Row,
+) -> Result<(), AllocError>
+    ensures { IfOk result (λ _. text.new.items ≡ text.old.items ++ spec.line_text (seen_scan theory.now).name (spec.theory_place (seen_scan theory.now) row.now) row.now) }
+{
+    let at = header_place(&theory.places, row.tail.bytes());
+    push_file(text, &theory.name)?;
+    push_first(alloc, text, row, &theory.source, at)?;
+    push_row(alloc, text, row)?;
+    Ok(())
+}
+
+/// Puts the place that the row's reason names, or that of the file's beginning.
+#[tactic(auto, unfolding(crate::specs::Lines::beginning))]
+fn push_beginning(text: &mut Vec<u8>, row: &Row) -> Result<(), AllocError>
+    ensures { OnOk result (text.new.items ≡ text.old.items ++ spec.first_of (reasons.reason_place row.now) spec.beginning) }
+{
+    match reason_place(row) {
+        Some(place) => text.extend_from_slice(place)?,
+        None => text.extend_from_slice(b"1:1")?,
+    }
+    Ok(())
+}
+
+/// Puts the line of the row of a file that is refused.
+fn push_refused(
+    alloc: Global,
+    text: &mut Vec<u8>,
+    file: &RefusedScan,
+    row: &Row,
+) -> Result<(), AllocError>
+    ensures { IfOk result (λ _. text.new.items ≡ text.old.items ++ spec.line_text (seen_refusal file.now).name (spec.refused_place (seen_refusal file.now).theory row.now) row.now) }
+{
+    push_file(text, &file.name)?;
+    match &file.scan {
+        Some(theory) => {
+            let at = header_place(&theory.places, row.tail.bytes());
+            push_first(alloc, text, row, &theory.source, at)?;
+        }
+        None => push_beginning(text, row)?,
+    }
+    push_row(alloc, text, row)?;
+    Ok(())
+}
+
+/// The rows from this place on.
+fn rest_of(rows: &[Row], place: usize) -> &[Row]
+    ensures { result.now ≡ drop place rows.now }
+{
+    if place >= rows.len() {
+        return &[];
+    }
+    &rows[place..]
+}
+
+/// Whether the first row is that of this theory, which was refused.
+#[tactic(auto, unfolding(crate::specs::Reasons::theory_word))]
+fn is_barred(theory: &Text, rows: &[Row]) -> bool
+    ensures { result ≡ spec.is_barred theory.now rows.now }
+{
+    if rows.is_empty() {
+        return false;
+    }
+    match rows[0].head.bytes().strip_prefix(b"theory ") {
+        Some(name) => name == theory.bytes(),
+        None => false,
+    }
+}
+
+/// Puts the lines of a theory's commands.
+fn push_commands(
+    alloc: Global,
+    text: &mut Vec<u8>,
+    theory: &Scan,
+    rows: &[Row],
+) -> Result<(), AllocError>
+    ensures { IfOk result (λ _. text.new.items ≡ text.old.items ++ spec.command_lines (seen_scan theory.now) (seen_scan theory.now).places.commands rows.now) }
+{
+    let parts = theory.places.commands.as_slice();
+    for place in 0..parts.len() {
+        if place >= rows.len() {
+            return Ok(());
+        }
+        push_command(alloc, text, theory, &parts[place], &rows[place])?;
+    }
+    Ok(())
+}
+
+/// Puts the lines of a theory, and tells how many rows it has.
+fn push_theory(
+    alloc: Global,
+    text: &mut Vec<u8>,
+    theory: &Scan,
+    rows: &[Row],
+) -> Result<usize, AllocError>
+    ensures count { IfOk result (λ n. n ≡ spec.row_count (seen_scan theory.now) rows.now) }
+    ensures lines { IfOk result (λ _. text.new.items ≡ text.old.items ++ spec.theory_lines (seen_scan theory.now) rows.now) }
+{
+    if is_barred(&theory.name, rows) {
+        push_refused_theory(alloc, text, theory, &rows[0])?;
+        return Ok(1);
+    }
+    push_commands(alloc, text, theory, rows)?;
+    Ok(theory.places.commands.len())
+}
+
+/// Puts the lines of the files that are refused.
+fn push_refused_files(
+    alloc: Global,
+    text: &mut Vec<u8>,
+    refused: &[RefusedScan],
+    rows: &[Row],
+) -> Result<(), AllocError>
+    ensures { IfOk result (λ _. text.new.items ≡ text.old.items ++ spec.refused_lines (seen_refusals refused.now) rows.now) }
+{
+    for place in 0..refused.len() {
+        if place >= rows.len() {
+            return Ok(());
+        }
+        push_refused(alloc, text, &refused[place], &rows[place])?;
+    }
+    Ok(())
+}
+
+/// Puts the rows of a table, each behind the file, line and column where its command stands: first those of the theories, in
+/// their order, and then those of the files that are refused.
+///
+/// # Errors
+///
+/// Want of memory alone.
+pub fn push_lines(
+    alloc: Global,
+    text: &mut Vec<u8>,
+    theories: &[Scan],
+    refused: &[RefusedScan],
+    rows: &[Row],
+) -> Result<(), AllocError>
+    ensures { IfOk result (λ _. text.new.items ≡ text.old.items ++ spec.all_lines (seen_scans theories.now) (seen_refusals refused.now) rows.now) }
+{
+    let mut rest = rows;
+    for theory in theories {
+        let count = push_theory(alloc, text, theory, rest)?;
+        rest = rest_of(rest, count);
+    }
+    push_refused_files(alloc, text, refused, rest)?;
+    Ok(())
+}
