@@ -3,15 +3,15 @@ use pure_kernel::{DeclFault, InstFault, RuleFault, TextFault};
 use std::alloc::AllocError;
 use std::io;
 
-/// The call that is refused, with its reason.
+/// The kind of call that is refused.
 #[derive(Clone, Copy)]
 pub(crate) enum Stop {
-    /// The table lacks this name, or the theory may not begin.
+    /// The table lacks a name, or the theory may not begin.
     Missing,
-    Text(TextFault),
-    Declaration(DeclFault),
-    Inference(RuleFault),
-    Instance(InstFault),
+    Text,
+    Declaration,
+    Inference,
+    Instance,
     Output,
     Memory,
 }
@@ -23,26 +23,26 @@ impl From<io::Error> for Stop {
 }
 
 impl From<TextFault> for Stop {
-    fn from(fault: TextFault) -> Stop {
-        Stop::Text(fault)
+    fn from(_: TextFault) -> Stop {
+        Stop::Text
     }
 }
 
 impl From<DeclFault> for Stop {
-    fn from(fault: DeclFault) -> Stop {
-        Stop::Declaration(fault)
+    fn from(_: DeclFault) -> Stop {
+        Stop::Declaration
     }
 }
 
 impl From<RuleFault> for Stop {
-    fn from(fault: RuleFault) -> Stop {
-        Stop::Inference(fault)
+    fn from(_: RuleFault) -> Stop {
+        Stop::Inference
     }
 }
 
 impl From<InstFault> for Stop {
-    fn from(fault: InstFault) -> Stop {
-        Stop::Instance(fault)
+    fn from(_: InstFault) -> Stop {
+        Stop::Instance
     }
 }
 

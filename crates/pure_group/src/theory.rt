@@ -50,7 +50,10 @@ pub(crate) fn group_names(alloc: Global) -> Result<NamesByBase, AllocError> {
 
 /// The name of this text.
 pub(crate) fn name_of(names: &NamesByBase, text: &[u8]) -> Result<Name, Stop> {
-    names.names().find(text).ok_or(Stop::Missing)
+    match names.names().find(text) {
+        Some(name) => Ok(name),
+        None => Err(Stop::Missing),
+    }
 }
 
 /// Pure, to be a parent.
