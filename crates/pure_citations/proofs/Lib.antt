@@ -6,3 +6,4 @@ pub mod ReachedLaws
 pub mod NamedLaws
 pub mod CitedCode
 pub mod EdgeLaws
+pub mod HeadLaws

@@ -5,3 +5,4 @@ pub mod Laws
 pub mod Reached
 pub mod Cited
 pub mod Edges
+pub mod Heads

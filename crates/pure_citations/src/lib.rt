@@ -3,8 +3,10 @@
 
 mod cited;
 mod facts;
+mod heads;
 pub mod laws;
 mod reach;
 mod rows;
 
 pub use cited::cited_axioms;
+pub use heads::cited_text;
