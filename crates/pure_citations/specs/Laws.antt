@@ -3,6 +3,7 @@ use Rattle.std.specs.Prelude.{◌≡◌, ◌↔◌, ℕ, List, map, Ok}
 use Rattle.pure_text.specs.Lists.{IsIn, EachTwo}
 use Rattle.pure_definitions.specs.Names.{Label}
 use Rattle.pure_definitions.specs.Terms.Term.{Term}
+use Rattle.pure_definitions.specs.Declarations.Decl.{Decl}
 use Rattle.pure_grammar.specs.Theories.TheoryText.{Step}
 use Rattle.pure_logic.specs.Content.{Content, IsContent}
 use Rattle.pure_logic.specs.Derivable.{IsDerivableAlone}
@@ -17,10 +18,14 @@ use Rattle.pure_table.specs.Promise.Entries.{plain}
 use Rattle.pure_table.specs.SessionLaws.Loaded.{IsLoadedSession}
 use Rattle.pure_table.specs.SessionMeaning.Statements.{forks_of}
 use Rattle.pure_table.specs.Table.{Table, IsTable}
-use Rattle.pure_citations.specs.Without.{with_axioms}
+use Rattle.pure_citations.specs.Without.{with_axioms, Stays}
 use Rattle.pure_citations.specs.Named.{NamesAxiom}
 use Rattle.pure_citations.specs.Cites.{Cites}
 use Rattle.pure_citations.specs.Edges.{OfAxiom, OfLemma, Leads}
+
+-- Of a content's declarations those stay that are no axioms, Pure's own axiom, and the axioms of the names.
+abbrev pub StaysExactly : Type 0
+StaysExactly = (names : List ℕ) (Q : Content) (d : Decl) → IsIn d (with_axioms names Q).declarations ↔ (IsIn d Q.declarations × Stays names d)
 
 -- A proof that comes to promises comes to the same ones over the content without the axioms that its steps don't name.
 abbrev pub ProofIsKept : Type 0

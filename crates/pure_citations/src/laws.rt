@@ -1,5 +1,10 @@
 //! What the definitions mean: laws, each carried by the contract of a function that does nothing.
-ghost use Rattle.pure_citations.specs.Laws.{CitedAreLedTo, CitedSuffice, ProofIsKept, ReachedAreLedTo};
+ghost use Rattle.pure_citations.specs.Laws.{CitedAreLedTo, CitedSuffice, ProofIsKept, ReachedAreLedTo, StaysExactly};
+
+/// Of a content's declarations those stay that are no axioms, Pure's own axiom, and the axioms that are listed.
+pub fn stays_exactly()
+    ensures { StaysExactly }
+{}
 
 /// A proof stays one over the content without the axioms that its steps don't name.
 pub fn proof_is_kept()
