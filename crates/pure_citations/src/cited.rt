@@ -1,14 +1,11 @@
 //! The axioms that a lemma cites: those that its proof names, and the proofs of the lemmas that it reaches.
 ghost use Rattle.std.specs.Prelude.{◌≡◌, ◌↔◌, ◌⊎◌, ◌<◌, ℕ, IsTrue, IfOk, OnOk, length, map};
-ghost use Rattle.pure_text.specs.Lists.{Each, EachTwo};
 ghost use Rattle.pure_lookup.specs.Laws.{IsInSession};
 ghost use Rattle.pure_order_tables.specs.Rows.{Holds};
 ghost use Rattle.pure_promise_fates.specs.Entries.{AreEntries};
-ghost use Rattle.pure_table.specs.Declare.Notes.{Fork};
-ghost use Rattle.pure_table.specs.Promise.Entries.{LemmaEntry};
 ghost use Rattle.pure_table.specs.Promise.Seen.{seen, reported};
 ghost use Rattle.pure_table.specs.Theory.Stage.{IsSound};
-ghost use Rattle.pure_citations.specs.Cited.{IsNamedBy, IsNamedAt, IsBefore, HasNameAt, AreCitedBy};
+ghost use Rattle.pure_citations.specs.Cited.{forks, AreInSession, AreBeside, IsNamedBy, IsNamedAt, IsBefore, HasNameAt, AreCitedBy};
 ghost use Rattle.pure_citations.specs.Named.{NamesAxiom};
 
 use crate::facts::put_script;
@@ -69,10 +66,10 @@ fn put_at(
     place: usize,
     cited: &mut Vec<u64>,
 ) -> Result<(), AllocError>
-    requires session { Each (λ (f : Fork). IsInSession names.now f.content) (map (λ d. d.value) duties.now) }
+    requires session { AreInSession names.now (forks duties.now) }
     requires entry { place < length entries.now }
     requires duty { place < length duties.now }
-    ensures { OnOk result ((n : ℕ) → Holds cited.new.items n ↔ (IsNamedAt names.now row.now (map (λ d. d.value) duties.now) (map reported entries.now) n place ⊎ Holds cited.old.items n)) }
+    ensures { OnOk result ((n : ℕ) → Holds cited.new.items n ↔ (IsNamedAt names.now row.now (forks duties.now) (map reported entries.now) n place ⊎ Holds cited.old.items n)) }
 {
     if holds(row, place) {
         let duty = &*duties[place];
@@ -90,9 +87,9 @@ fn put_all(
     row: &[u64],
     cited: &mut Vec<u64>,
 ) -> Result<(), AllocError>
-    requires session { Each (λ (f : Fork). IsInSession names.now f.content) (map (λ d. d.value) duties.now) }
+    requires session { AreInSession names.now (forks duties.now) }
     requires long { length duties.now ≡ length entries.now }
-    ensures { OnOk result ((n : ℕ) → Holds cited.new.items n ↔ (IsBefore (IsNamedAt names.now row.now (map (λ d. d.value) duties.now) (map reported entries.now) n) (length entries.now) ⊎ Holds cited.old.items n)) }
+    ensures { OnOk result ((n : ℕ) → Holds cited.new.items n ↔ (IsBefore (IsNamedAt names.now row.now (forks duties.now) (map reported entries.now) n) (length entries.now) ⊎ Holds cited.old.items n)) }
 {
     for place in 0..entries.len() {
         put_at(names, entries, duties, row, place, cited)?;
@@ -157,10 +154,10 @@ pub fn cited_axioms(
     name: Name,
 ) -> Result<Vec<u64>, AllocError>
     requires entries { AreEntries (map reported entries.now) }
-    requires session { Each (λ (f : Fork). IsInSession names.now f.content) (map (λ d. d.value) duties.now) }
-    requires beside { EachTwo (λ (f : Fork) (e : LemmaEntry). e.label ≡ f.label) (map (λ d. d.value) duties.now) (seen entries.now) }
+    requires session { AreInSession names.now (forks duties.now) }
+    requires beside { AreBeside (forks duties.now) (seen entries.now) }
     requires long { length duties.now ≡ length entries.now }
-    ensures { IfOk result (λ row. AreCitedBy names.now (map (λ d. d.value) duties.now) (seen entries.now) name row.items) }
+    ensures { IfOk result (λ row. AreCitedBy names.now (forks duties.now) (seen entries.now) name row.items) }
 {
     let mut row = Vec::new(alloc);
     put_lemmas(entries, name, &mut row)?;
