@@ -7,6 +7,7 @@ ghost use Rattle.pure_table.specs.Promise.Seen.{seen, reported};
 ghost use Rattle.pure_table.specs.Theory.Stage.{IsSound};
 ghost use Rattle.pure_citations.specs.Cited.{forks, AreInSession, AreBeside, IsNamedBy, IsNamedAt, IsBefore, HasNameAt, AreCitedBy};
 ghost use Rattle.pure_citations.specs.Named.{NamesAxiom};
+ghost use Rattle.pure_citations.specs.Reached.{Gains};
 
 use crate::facts::put_script;
 use crate::reach::put_reached;
@@ -32,7 +33,7 @@ fn theory_of(duty: &Duty) -> &Theory
 /// Puts in the axioms that the steps of the proof name.
 fn put_named(names: &NamesByBase, duty: &Duty, cited: &mut Vec<u64>) -> Result<(), AllocError>
     requires { IsInSession names.now duty.now.content }
-    ensures { OnOk result ((n : ℕ) → Holds cited.new.items n ↔ (NamesAxiom names.now duty.now.content duty.now.script n ⊎ Holds cited.old.items n)) }
+    ensures { OnOk result (Gains (λ n. NamesAxiom names.now duty.now.content duty.now.script n) cited.old.items cited.new.items) }
 {
     put_script(names, theory_of(duty), duty.script.as_slice(), cited)?;
     Ok(())
@@ -46,7 +47,7 @@ fn put_shown(
     cited: &mut Vec<u64>,
 ) -> Result<(), AllocError>
     requires { IsInSession names.now duty.now.content }
-    ensures { OnOk result ((n : ℕ) → Holds cited.new.items n ↔ (IsNamedBy names.now duty.now (reported entry.now) n ⊎ Holds cited.old.items n)) }
+    ensures { OnOk result (Gains (λ n. IsNamedBy names.now duty.now (reported entry.now) n) cited.old.items cited.new.items) }
 {
     match entry.rests() {
         Some(_) => {
@@ -69,7 +70,7 @@ fn put_at(
     requires session { AreInSession names.now (forks duties.now) }
     requires entry { place < length entries.now }
     requires duty { place < length duties.now }
-    ensures { OnOk result ((n : ℕ) → Holds cited.new.items n ↔ (IsNamedAt names.now row.now (forks duties.now) (map reported entries.now) n place ⊎ Holds cited.old.items n)) }
+    ensures { OnOk result (Gains (λ n. IsNamedAt names.now row.now (forks duties.now) (map reported entries.now) n place) cited.old.items cited.new.items) }
 {
     if holds(row, place) {
         let duty = &*duties[place];
@@ -89,7 +90,7 @@ fn put_all(
 ) -> Result<(), AllocError>
     requires session { AreInSession names.now (forks duties.now) }
     requires long { length duties.now ≡ length entries.now }
-    ensures { OnOk result ((n : ℕ) → Holds cited.new.items n ↔ (IsBefore (IsNamedAt names.now row.now (forks duties.now) (map reported entries.now) n) (length entries.now) ⊎ Holds cited.old.items n)) }
+    ensures { OnOk result (Gains (λ n. IsBefore (IsNamedAt names.now row.now (forks duties.now) (map reported entries.now) n) (length entries.now)) cited.old.items cited.new.items) }
 {
     for place in 0..entries.len() {
         put_at(names, entries, duties, row, place, cited)?;
