@@ -7,3 +7,4 @@ pub mod NamedLaws
 pub mod CitedCode
 pub mod EdgeLaws
 pub mod HeadLaws
+pub mod FaultCode

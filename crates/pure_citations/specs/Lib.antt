@@ -6,3 +6,4 @@ pub mod Reached
 pub mod Cited
 pub mod Edges
 pub mod Heads
+pub mod Faults

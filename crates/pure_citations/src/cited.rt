@@ -132,7 +132,11 @@ fn put_if_named(
 }
 
 /// Puts in the places of the lemmas of this name.
-fn put_lemmas(entries: &[Entry], name: Name, row: &mut Vec<u64>) -> Result<(), AllocError>
+pub(crate) fn put_lemmas(
+    entries: &[Entry],
+    name: Name,
+    row: &mut Vec<u64>,
+) -> Result<(), AllocError>
     ensures { OnOk result ((p : ℕ) → Holds row.new.items p ↔ (((p < length entries.now) × HasNameAt (seen entries.now) name p) ⊎ Holds row.old.items p)) }
 {
     for place in 0..entries.len() {

@@ -32,7 +32,7 @@ fn axiom_of(fact: &Fact) -> Option<Name>
 fn discard(_fact: Fact) {}
 
 /// Puts the name into the row.
-fn put_name(cited: &mut Vec<u64>, name: Name) -> Result<(), AllocError>
+pub(crate) fn put_name(cited: &mut Vec<u64>, name: Name) -> Result<(), AllocError>
     ensures { OnOk result (Gains (λ n. n ≡ name) cited.old.items cited.new.items) }
 {
     put(cited, name.0 as usize)?;
