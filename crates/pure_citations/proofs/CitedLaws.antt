@@ -40,7 +40,7 @@ use Rattle.pure_table.proofs.ClaimLaws.{own-shown}
 use Rattle.pure_table.proofs.DerivedLaws.{standing, provable, some_fork, bound, has_fates}
 use Rattle.pure_citations.specs.Without.{with_axioms}
 use Rattle.pure_citations.specs.Cites.{IsReachedFrom, Cites}
-use Rattle.pure_citations.specs.Laws.{AreAllCited, CitedSuffice}
+use Rattle.pure_citations.specs.Laws.{AreAllCited, CitedSuffice, HeldSuffice}
 use Rattle.pure_citations.proofs.WithoutLaws.{kept-in, proposition-kept, content-kept, unify-kept, below-kept}
 use Rattle.pure_citations.proofs.KeptProofs.{proof-kept}
 
@@ -182,3 +182,16 @@ cited_suffice S loaded cancelled t table =
     derived-by_cited S.names S.theories loaded t.notes table.statements cancelled t.entries table.entries f m
     (subst (λ k. IsFate (map plain t.entries) k fates.Proved) entry.label ((proved_row S.names t.entries es e row is).0 proved)) names cited)
     fs t.entries t.lemmas (λ f m. m) table.entries table.rows
+
+two_imply : {A B : Type 0} (R T : A → B → Type 0) → (xs : List A) (ys : List B) → ((a : A) (b : B) → IsIn a xs → R a b → T a b) → EachTwo R xs ys → EachTwo T xs ys
+two_imply R T [] [] f h = tt
+two_imply R T [] (b ∷ ys) f h = absurd h
+two_imply R T (a ∷ xs) [] f h = absurd h
+two_imply R T (a ∷ xs) (b ∷ ys) f h = (f a b (inl refl) h.0, two_imply R T xs ys (λ c d m. f c d (inr m)) h.1)
+
+pub held_suffice : HeldSuffice
+held_suffice S loaded cancelled t table =
+    two_imply _ _ (forks_of t.notes) t.lemmas (λ f row m derived proved held are names listed.
+    let entry = beside (IsEntryOf S.names cancelled) (forks_of t.notes) t.entries table.entries f m in
+    derived proved names (λ name cites. listed name ((are name).1 (entry.0, entry.1, entry.2.name, subst (λ l. Cites S.names (forks_of t.notes) t.entries l name) (sym entry.2.label) cites))))
+    (cited_suffice S loaded cancelled t table)

@@ -6,3 +6,5 @@ pub mod ReachedLaws
 pub mod NamedLaws
 pub mod CitedCode
 pub mod EdgeLaws
+pub mod HeadLaws
+pub mod FaultCode

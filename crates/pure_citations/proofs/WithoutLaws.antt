@@ -14,7 +14,8 @@ use Rattle.pure_logic.specs.Content.{Content, IsContent, IsProposition, IsStatem
 use Rattle.pure_logic.specs.PureContent.{pure_declarations}
 use Rattle.pure_tunify.specs.Closed.{AreClassesDeclared}
 use Rattle.pure_unify_laws.specs.Condition.{IsUnifyContent}
-use Rattle.pure_citations.specs.Without.{is_one_of, kept, with_axioms}
+use Rattle.pure_citations.specs.Without.{is_one_of, kept, with_axioms, Stays}
+use Rattle.pure_citations.specs.Laws.{StaysExactly}
 
 -- A name is one of these where the test says so.
 one-of : (names : List ℕ) (n : ℕ) → IsIn n names → is_one_of names n ≡ true
@@ -25,11 +26,6 @@ one-of (x ∷ xs) n (inr m) = rw (one-of xs n m) (or_true (nat_eq n x))
     or_true : (b : Bool) → (b || true) ≡ true
     or_true true = refl
     or_true false = refl
-
--- The axiom stays: it is Pure's own, or has one of the names. Whatever is no axiom does.
-abbrev pub Stays : (names : List ℕ) → Decl → Type 0
-Stays names (AxiomDecl n A) = IsIn n (protect_name ∷ names)
-Stays names _ = Unit {0}
 
 module _ (names : List ℕ) where
   -- an element of a list stays one of each that it becomes by an element more or none
@@ -207,3 +203,6 @@ module _ (names : List ℕ) where
   -- Without the same axioms a content is below each above it.
   pub below-kept : (Q R : Content) → IsBelow Q R → IsBelow (with_axioms names Q) (with_axioms names R)
   below-kept Q R below d m = in-kept d R.declarations (kept-stays d Q.declarations m) (below d (kept-in d Q.declarations m))
+
+pub stays_exactly : StaysExactly
+stays_exactly names Q d = (λ m. (kept-in names d Q.declarations m, kept-stays names d Q.declarations m), λ w. in-kept names d Q.declarations w.1 w.0)

@@ -1,7 +1,10 @@
 -- Which axioms are cited, by the places of lemmas.
-use Rattle.std.specs.Prelude.{◌≡◌, ◌<◌, ◌↔◌, ℕ, List}
-use Rattle.pure_text.specs.Lists.{IsIn}
+use Rattle.std.specs.Prelude.{◌≡◌, ◌<◌, ◌↔◌, ℕ, List, map}
+use Rattle.std.specs.declared.alloc.Global.{Global}
+use Rattle.std.specs.declared.sync.Arc.{Arc}
+use Rattle.pure_text.specs.Lists.{IsIn, Each, EachTwo}
 use Rattle.pure_definitions.specs.Names.{Label}
+use Rattle.pure_lookup.specs.Laws.{IsInSession}
 use Rattle.pure_order_tables.specs.Rows.{Holds}
 use Rattle.pure_promise_fates.specs.Entries as fates
 use Rattle.pure_promise_fates.specs.Entries.{Shown}
@@ -10,6 +13,18 @@ use Rattle.pure_table.specs.Declare.Notes.{Fork}
 use Rattle.pure_table.specs.Promise.Entries.{LemmaEntry}
 use Rattle.pure_citations.specs.Named.{NamesAxiom}
 use Rattle.pure_citations.specs.Cites.{Cites}
+
+-- the lemmas behind pointers
+abbrev pub forks : List (Arc Fork Global) → List Fork
+forks = map (λ d. d.value)
+
+-- The contents of the lemmas are those of a session.
+abbrev pub AreInSession : (texts : List (List ℕ)) → List Fork → Type 0
+AreInSession texts fs = Each (λ f. IsInSession texts f.content) fs
+
+-- The entries are those of the lemmas, in order.
+abbrev pub AreBeside : List Fork → List LemmaEntry → Type 0
+AreBeside fs es = EachTwo (λ f e. e.label ≡ f.label) fs es
 
 -- A proof shows the lemma, and its steps name the axiom.
 abbrev pub IsNamedBy : (texts : List (List ℕ)) → Fork → fates.Entry → (n : ℕ) → Type 0

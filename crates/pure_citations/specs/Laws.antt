@@ -3,10 +3,12 @@ use Rattle.std.specs.Prelude.{◌≡◌, ◌↔◌, ℕ, List, map, Ok}
 use Rattle.pure_text.specs.Lists.{IsIn, EachTwo}
 use Rattle.pure_definitions.specs.Names.{Label}
 use Rattle.pure_definitions.specs.Terms.Term.{Term}
+use Rattle.pure_definitions.specs.Declarations.Decl.{Decl}
 use Rattle.pure_grammar.specs.Theories.TheoryText.{Step}
 use Rattle.pure_logic.specs.Content.{Content, IsContent}
 use Rattle.pure_logic.specs.Derivable.{IsDerivableAlone}
 use Rattle.pure_lookup.specs.Laws.{IsInSession}
+use Rattle.pure_order_tables.specs.Rows.{Holds}
 use Rattle.pure_promise_fates.specs.Entries.{Reaches}
 use Rattle.pure_graph.specs.Session.{Session}
 use Rattle.pure_print.specs.declared.row.Row.{Row}
@@ -17,10 +19,15 @@ use Rattle.pure_table.specs.Promise.Entries.{plain}
 use Rattle.pure_table.specs.SessionLaws.Loaded.{IsLoadedSession}
 use Rattle.pure_table.specs.SessionMeaning.Statements.{forks_of}
 use Rattle.pure_table.specs.Table.{Table, IsTable}
-use Rattle.pure_citations.specs.Without.{with_axioms}
+use Rattle.pure_citations.specs.Without.{with_axioms, Stays}
 use Rattle.pure_citations.specs.Named.{NamesAxiom}
 use Rattle.pure_citations.specs.Cites.{Cites}
+use Rattle.pure_citations.specs.Cited.{AreCitedBy}
 use Rattle.pure_citations.specs.Edges.{OfAxiom, OfLemma, Leads}
+
+-- Of a content's declarations those stay that are no axioms, Pure's own axiom, and the axioms of the names.
+abbrev pub StaysExactly : Type 0
+StaysExactly = (names : List ℕ) (Q : Content) (d : Decl) → IsIn d (with_axioms names Q).declarations ↔ (IsIn d Q.declarations × Stays names d)
 
 -- A proof that comes to promises comes to the same ones over the content without the axioms that its steps don't name.
 abbrev pub ProofIsKept : Type 0
@@ -37,6 +44,15 @@ IsDerivedByCited S t = EachTwo (λ (f : Fork) (row : Row). row.status ≡ Proved
 
 abbrev pub CitedSuffice : Type 0
 CitedSuffice = (S : Session) → IsLoadedSession S.names S.theories → (cancelled : List Label) (t : Table) → IsTable S cancelled t → IsDerivedByCited S t
+
+-- So it is of what the call finds that looks for the axioms which the lemmas of a name cite: a list that has those that the set holds has all.
+abbrev pub IsDerivedByHeld : Session → Table → Type 0
+IsDerivedByHeld S t =
+    EachTwo (λ (f : Fork) (row : Row). row.status ≡ Proved → (held : List ℕ) → AreCitedBy S.names (forks_of t.notes) t.entries f.name held → (names : List ℕ) → ((name : ℕ) → Holds held name → IsIn name names)
+    → IsDerivableAlone (with_axioms names f.content) f.prop) (forks_of t.notes) t.lemmas
+
+abbrev pub HeldSuffice : Type 0
+HeldSuffice = (S : Session) → IsLoadedSession S.names S.theories → (cancelled : List Label) (t : Table) → IsTable S cancelled t → IsDerivedByHeld S t
 
 -- A lemma cites just the axioms to which edges lead from it, and reaches just the lemmas.
 abbrev pub CitedAreLedTo : Type 0

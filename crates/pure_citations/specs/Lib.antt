@@ -5,3 +5,5 @@ pub mod Laws
 pub mod Reached
 pub mod Cited
 pub mod Edges
+pub mod Heads
+pub mod Faults

@@ -1,10 +1,14 @@
 -- What lemmas reach, by their places.
-use Rattle.std.specs.Prelude.{◌≡◌, ◌⊎◌, ℕ, List}
+use Rattle.std.specs.Prelude.{◌≡◌, ◌⊎◌, ◌↔◌, ℕ, List}
 use Rattle.pure_text.specs.Lists.{IsIn}
 use Rattle.pure_definitions.specs.Names.{Label}
 use Rattle.pure_order_tables.specs.Rows.{Holds}
 use Rattle.pure_promise_fates.specs.Entries.{Entry, Shown, Reaches}
 use Rattle.pure_promise_fates.specs.Reach.{IsAt}
+
+-- The new set holds, beside what the old one holds, just the numbers with the property.
+abbrev pub Gains : (P : ℕ → Type 0) → (old new : List ℕ) → Type 0
+Gains P old new = (n : ℕ) → Holds new n ↔ (P n ⊎ Holds old n)
 
 -- One of the lemmas at the places that the row holds has the label, or reaches it.
 abbrev pub IsFrom : List Entry → (row : List ℕ) → Label → Type 0

@@ -1,5 +1,6 @@
 -- Contents without the theories' axioms that aren't listed. Pure's own axiom stays.
 use Rattle.std.specs.Prelude.{ℕ, List, [], ◌∷◌, Bool, false, ◌||◌, nat_eq, if◌then◌else◌}
+use Rattle.pure_text.specs.Lists.{IsIn}
 use Rattle.pure_definitions.specs.Names.{protect_name}
 use Rattle.pure_definitions.specs.Declarations.Decl.{Decl, AxiomDecl}
 use Rattle.pure_logic.specs.Content.{Content}
@@ -18,3 +19,8 @@ kept names (d ∷ ds) = d ∷ kept names ds
 -- the content with no axioms of theories but those of these names
 abbrev pub with_axioms : (names : List ℕ) → Content → Content
 with_axioms names Q = record { declarations = kept names Q.declarations; own = Q.own; ancestors = Q.ancestors }
+
+-- The declaration stays: it is no axiom, or Pure's own, or has one of the names.
+abbrev pub Stays : (names : List ℕ) → Decl → Type 0
+Stays names (AxiomDecl n A) = IsIn n (protect_name ∷ names)
+Stays names _ = Unit {0}

@@ -1,15 +1,13 @@
 //! The axioms that a lemma cites: those that its proof names, and the proofs of the lemmas that it reaches.
 ghost use Rattle.std.specs.Prelude.{◌≡◌, ◌↔◌, ◌⊎◌, ◌<◌, ℕ, IsTrue, IfOk, OnOk, length, map};
-ghost use Rattle.pure_text.specs.Lists.{Each, EachTwo};
 ghost use Rattle.pure_lookup.specs.Laws.{IsInSession};
 ghost use Rattle.pure_order_tables.specs.Rows.{Holds};
 ghost use Rattle.pure_promise_fates.specs.Entries.{AreEntries};
-ghost use Rattle.pure_table.specs.Declare.Notes.{Fork};
-ghost use Rattle.pure_table.specs.Promise.Entries.{LemmaEntry};
 ghost use Rattle.pure_table.specs.Promise.Seen.{seen, reported};
 ghost use Rattle.pure_table.specs.Theory.Stage.{IsSound};
-ghost use Rattle.pure_citations.specs.Cited.{IsNamedBy, IsNamedAt, IsBefore, HasNameAt, AreCitedBy};
+ghost use Rattle.pure_citations.specs.Cited.{forks, AreInSession, AreBeside, IsNamedBy, IsNamedAt, IsBefore, HasNameAt, AreCitedBy};
 ghost use Rattle.pure_citations.specs.Named.{NamesAxiom};
+ghost use Rattle.pure_citations.specs.Reached.{Gains};
 
 use crate::facts::put_script;
 use crate::reach::put_reached;
@@ -35,7 +33,7 @@ fn theory_of(duty: &Duty) -> &Theory
 /// Puts in the axioms that the steps of the proof name.
 fn put_named(names: &NamesByBase, duty: &Duty, cited: &mut Vec<u64>) -> Result<(), AllocError>
     requires { IsInSession names.now duty.now.content }
-    ensures { OnOk result ((n : ℕ) → Holds cited.new.items n ↔ (NamesAxiom names.now duty.now.content duty.now.script n ⊎ Holds cited.old.items n)) }
+    ensures { OnOk result (Gains (λ n. NamesAxiom names.now duty.now.content duty.now.script n) cited.old.items cited.new.items) }
 {
     put_script(names, theory_of(duty), duty.script.as_slice(), cited)?;
     Ok(())
@@ -49,7 +47,7 @@ fn put_shown(
     cited: &mut Vec<u64>,
 ) -> Result<(), AllocError>
     requires { IsInSession names.now duty.now.content }
-    ensures { OnOk result ((n : ℕ) → Holds cited.new.items n ↔ (IsNamedBy names.now duty.now (reported entry.now) n ⊎ Holds cited.old.items n)) }
+    ensures { OnOk result (Gains (λ n. IsNamedBy names.now duty.now (reported entry.now) n) cited.old.items cited.new.items) }
 {
     match entry.rests() {
         Some(_) => {
@@ -69,10 +67,10 @@ fn put_at(
     place: usize,
     cited: &mut Vec<u64>,
 ) -> Result<(), AllocError>
-    requires session { Each (λ (f : Fork). IsInSession names.now f.content) (map (λ d. d.value) duties.now) }
+    requires session { AreInSession names.now (forks duties.now) }
     requires entry { place < length entries.now }
     requires duty { place < length duties.now }
-    ensures { OnOk result ((n : ℕ) → Holds cited.new.items n ↔ (IsNamedAt names.now row.now (map (λ d. d.value) duties.now) (map reported entries.now) n place ⊎ Holds cited.old.items n)) }
+    ensures { OnOk result (Gains (λ n. IsNamedAt names.now row.now (forks duties.now) (map reported entries.now) n place) cited.old.items cited.new.items) }
 {
     if holds(row, place) {
         let duty = &*duties[place];
@@ -90,9 +88,9 @@ fn put_all(
     row: &[u64],
     cited: &mut Vec<u64>,
 ) -> Result<(), AllocError>
-    requires session { Each (λ (f : Fork). IsInSession names.now f.content) (map (λ d. d.value) duties.now) }
+    requires session { AreInSession names.now (forks duties.now) }
     requires long { length duties.now ≡ length entries.now }
-    ensures { OnOk result ((n : ℕ) → Holds cited.new.items n ↔ (IsBefore (IsNamedAt names.now row.now (map (λ d. d.value) duties.now) (map reported entries.now) n) (length entries.now) ⊎ Holds cited.old.items n)) }
+    ensures { OnOk result (Gains (λ n. IsBefore (IsNamedAt names.now row.now (forks duties.now) (map reported entries.now) n) (length entries.now)) cited.old.items cited.new.items) }
 {
     for place in 0..entries.len() {
         put_at(names, entries, duties, row, place, cited)?;
@@ -134,7 +132,11 @@ fn put_if_named(
 }
 
 /// Puts in the places of the lemmas of this name.
-fn put_lemmas(entries: &[Entry], name: Name, row: &mut Vec<u64>) -> Result<(), AllocError>
+pub(crate) fn put_lemmas(
+    entries: &[Entry],
+    name: Name,
+    row: &mut Vec<u64>,
+) -> Result<(), AllocError>
     ensures { OnOk result ((p : ℕ) → Holds row.new.items p ↔ (((p < length entries.now) × HasNameAt (seen entries.now) name p) ⊎ Holds row.old.items p)) }
 {
     for place in 0..entries.len() {
@@ -157,10 +159,10 @@ pub fn cited_axioms(
     name: Name,
 ) -> Result<Vec<u64>, AllocError>
     requires entries { AreEntries (map reported entries.now) }
-    requires session { Each (λ (f : Fork). IsInSession names.now f.content) (map (λ d. d.value) duties.now) }
-    requires beside { EachTwo (λ (f : Fork) (e : LemmaEntry). e.label ≡ f.label) (map (λ d. d.value) duties.now) (seen entries.now) }
+    requires session { AreInSession names.now (forks duties.now) }
+    requires beside { AreBeside (forks duties.now) (seen entries.now) }
     requires long { length duties.now ≡ length entries.now }
-    ensures { IfOk result (λ row. AreCitedBy names.now (map (λ d. d.value) duties.now) (seen entries.now) name row.items) }
+    ensures { IfOk result (λ row. AreCitedBy names.now (forks duties.now) (seen entries.now) name row.items) }
 {
     let mut row = Vec::new(alloc);
     put_lemmas(entries, name, &mut row)?;

@@ -1,15 +1,15 @@
 //! The axioms that the steps of a proof name.
-ghost use Rattle.std.specs.Prelude.{◌≡◌, ◌↔◌, ◌⊎◌, ℕ, MatchOption, IfOk, OnOk};
+ghost use Rattle.std.specs.Prelude.{◌≡◌, ◌⊎◌, MatchOption, IfOk, OnOk};
 ghost use Rattle.pure_text.specs.Lists.{AnyOf};
 ghost use Rattle.pure_definitions.specs.Terms.Term.{Term};
 ghost use Rattle.pure_logic.specs.Content.{IsContent};
 ghost use Rattle.pure_lookup.specs.LookUps.{AxiomFact};
 ghost use Rattle.pure_lookup.specs.Laws.{IsInSession};
-ghost use Rattle.pure_order_tables.specs.Rows.{Holds};
 ghost use Rattle.pure_script.specs.Seen.{seen_step, seen_steps};
 ghost use Rattle.pure_table.specs.Theory.FactView.{seen_fact};
 ghost use Rattle.pure_table.specs.Method.Facts.{named_facts};
 ghost use Rattle.pure_citations.specs.Named.{MeansAxiom, NamesAxiom, IsNoAxiom, IsAxiomWritten};
+ghost use Rattle.pure_citations.specs.Reached.{Gains};
 
 use crate::rows::put;
 use pure_script::{Step, TextList};
@@ -32,8 +32,8 @@ fn axiom_of(fact: &Fact) -> Option<Name>
 fn discard(_fact: Fact) {}
 
 /// Puts the name into the row.
-fn put_name(cited: &mut Vec<u64>, name: Name) -> Result<(), AllocError>
-    ensures { OnOk result ((n : ℕ) → Holds cited.new.items n ↔ ((n ≡ name) ⊎ Holds cited.old.items n)) }
+pub(crate) fn put_name(cited: &mut Vec<u64>, name: Name) -> Result<(), AllocError>
+    ensures { OnOk result (Gains (λ n. n ≡ name) cited.old.items cited.new.items) }
 {
     put(cited, name.0 as usize)?;
     Ok(())
@@ -68,7 +68,7 @@ fn put_fact(
 ) -> Result<(), AllocError>
     requires session { IsInSession names.now theory.now }
     requires content { IsContent theory.now }
-    ensures { OnOk result ((n : ℕ) → Holds cited.new.items n ↔ (MeansAxiom names.now theory.now n written.now ⊎ Holds cited.old.items n)) }
+    ensures { OnOk result (Gains (λ n. MeansAxiom names.now theory.now n written.now) cited.old.items cited.new.items) }
 {
     match written_axiom(names, theory, written)? {
         Some(name) => {
@@ -88,7 +88,7 @@ fn put_facts(
 ) -> Result<(), AllocError>
     requires session { IsInSession names.now theory.now }
     requires content { IsContent theory.now }
-    ensures { OnOk result ((n : ℕ) → Holds cited.new.items n ↔ (AnyOf (MeansAxiom names.now theory.now n) written.now ⊎ Holds cited.old.items n)) }
+    ensures { OnOk result (Gains (λ n. AnyOf (MeansAxiom names.now theory.now n) written.now) cited.old.items cited.new.items) }
 {
     for place in 0..written.len() {
         put_fact(names, theory, written.at(place), cited)?;
@@ -106,7 +106,7 @@ fn put_alone(
 ) -> Result<(), AllocError>
     requires session { IsInSession names.now theory.now }
     requires content { IsContent theory.now }
-    ensures { OnOk result ((n : ℕ) → Holds cited.new.items n ↔ ((MeansAxiom names.now theory.now n written.now ⊎ ⊥) ⊎ Holds cited.old.items n)) }
+    ensures { OnOk result (Gains (λ n. MeansAxiom names.now theory.now n written.now ⊎ ⊥) cited.old.items cited.new.items) }
 {
     put_fact(names, theory, written, cited)?;
     Ok(())
@@ -122,7 +122,7 @@ fn put_step(
 ) -> Result<(), AllocError>
     requires session { IsInSession names.now theory.now }
     requires content { IsContent theory.now }
-    ensures { OnOk result ((n : ℕ) → Holds cited.new.items n ↔ (AnyOf (MeansAxiom names.now theory.now n) (named_facts (seen_step step.now)) ⊎ Holds cited.old.items n)) }
+    ensures { OnOk result (Gains (λ n. AnyOf (MeansAxiom names.now theory.now n) (named_facts (seen_step step.now))) cited.old.items cited.new.items) }
 {
     match step {
         Step::Rule { fact } => put_alone(names, theory, fact.bytes(), cited),
@@ -146,7 +146,7 @@ pub(crate) fn put_script(
 ) -> Result<(), AllocError>
     requires session { IsInSession names.now theory.now }
     requires content { IsContent theory.now }
-    ensures { OnOk result ((n : ℕ) → Holds cited.new.items n ↔ (NamesAxiom names.now theory.now (seen_steps script.now) n ⊎ Holds cited.old.items n)) }
+    ensures { OnOk result (Gains (λ n. NamesAxiom names.now theory.now (seen_steps script.now) n) cited.old.items cited.new.items) }
 {
     for step in script {
         put_step(names, theory, step, cited)?;

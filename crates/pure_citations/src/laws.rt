@@ -1,14 +1,20 @@
 //! What the definitions mean: laws, each carried by the contract of a function that does nothing.
-ghost use Rattle.pure_citations.specs.Laws.{CitedAreLedTo, CitedSuffice, ProofIsKept, ReachedAreLedTo};
+ghost use Rattle.pure_citations.specs.Laws.{CitedAreLedTo, CitedSuffice, HeldSuffice, ProofIsKept, ReachedAreLedTo, StaysExactly};
+
+/// Of a content's declarations those stay that are no axioms, Pure's own axiom, and the axioms that are listed.
+pub fn stays_exactly()
+    ensures { StaysExactly }
+{}
 
 /// A proof stays one over the content without the axioms that its steps don't name.
 pub fn proof_is_kept()
     ensures { ProofIsKept }
 {}
 
-/// What is printed as proved is derivable from the axioms that it cites alone.
+/// What is printed as proved is derivable from the axioms that it cites alone; and so from those that `cited_axioms` finds.
 pub fn cited_suffice()
-    ensures { CitedSuffice }
+    ensures cited { CitedSuffice }
+    ensures held { HeldSuffice }
 {}
 
 /// A lemma cites just the axioms to which edges lead from it, and reaches just the lemmas.

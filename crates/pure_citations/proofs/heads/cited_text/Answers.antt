@@ -1,0 +1,12 @@
+use Rattle.std.proofs.Common.{take}
+use Rattle.pure_text.proofs.LoopLaws.{longer_by}
+use Rattle.pure_citations.proofs.HeadLaws.{text-begins, text-more}
+use Rattle.pure_citations.proofs.heads.cited_text.Goals as goal
+
+pub loop-row-init : goal.loop-row-init
+loop-row-init c = rw c.new-text.ensures.items (text-begins c.args.names.now c.args.cited.now)
+
+pub loop-row-preserved : goal.loop-row-preserved
+loop-row-preserved c =
+    rw (longer_by c.args.rows.now c.loop-row.row-index c.row-item.result c.loop-row-test.true c.row-item.is)
+    (text-more c.args.names.now c.args.cited.now (take c.loop-row.row-index c.args.rows.now) c.row-item.result c.loop-row.text.items _ c.loop-row.invariant c.in_ok-put_if_cited.ensures)
