@@ -161,8 +161,7 @@ fn settle_term(
 {
     let whole: &Term = t;
     if index_above_of(whole) == 0 {
-        let found = stays(t, left, room)?;
-        return Ok(found);
+        return stays(t, left, room);
     }
     if left == 0 {
         return Ok(None);
@@ -172,21 +171,15 @@ fn settle_term(
     }
     match &whole.node {
         TermNode::Const { name, typ } => {
-            let found = settle_constant(settings, alloc, *name, typ, left - 1, room - 1)?;
-            Ok(found)
+            settle_constant(settings, alloc, *name, typ, left - 1, room - 1)
         }
         TermNode::Free { name, typ } => {
-            let found = settle_fixed(settings, alloc, *name, typ, left - 1, room - 1)?;
-            Ok(found)
+            settle_fixed(settings, alloc, *name, typ, left - 1, room - 1)
         }
         TermNode::Var { name, index, typ } => {
-            let found = settle_schematic(settings, alloc, *name, *index, typ, left - 1, room - 1)?;
-            Ok(found)
+            settle_schematic(settings, alloc, *name, *index, typ, left - 1, room - 1)
         }
-        TermNode::Bound { .. } => {
-            let found = stays(t, left, room)?;
-            Ok(found)
-        }
+        TermNode::Bound { .. } => stays(t, left, room),
         TermNode::Abs { typ, body, .. } => {
             let domain = resolved_in_room(settings, alloc, typ, left - 1, room - 1)?;
             let Some(image) = domain else {
@@ -194,8 +187,7 @@ fn settle_term(
             };
             let Resolved { typ, left: rest } = image;
             let body = settle_term(settings, alloc, body, rest, room - 1)?;
-            let found = settled_abstraction(alloc, typ, body)?;
-            Ok(found)
+            settled_abstraction(alloc, typ, body)
         }
         TermNode::App { fun, arg, .. } => {
             let function = settle_term(settings, alloc, fun, left - 1, room - 1)?;
@@ -203,8 +195,7 @@ fn settle_term(
                 return Ok(None);
             };
             let argument = settle_term(settings, alloc, arg, front.left, room - 1)?;
-            let found = settled_application(alloc, front.term, argument)?;
-            Ok(found)
+            settled_application(alloc, front.term, argument)
         }
     }
 }
