@@ -70,7 +70,9 @@ pub enum Job {
         lemmas: u32,
     },
     /// Check the theories of the directory, and say of each row where its command stands.
-    Places { workers: u32 },
+    Places {
+        workers: u32,
+    },
     /// Look for a proof in one step of the lemma with this full name.
     Try {
         workers: u32,
