@@ -12,17 +12,18 @@ ghost use Rattle.pure_app.specs.Written.{IsWritten};
 ghost use Rattle.pure_app.specs.Message.{message_text};
 ghost use Rattle.pure_app.specs.Words.{words_given, unread_status};
 
-use pure_check::{Status, pure};
+use pure_check::{Ended, Status, pure};
 use pure_io::{DirLibrary, Library, OpenGate, Sink, StdSink};
 use pure_text::Text;
+use pure_threads::run_beside;
 use std::alloc::{AllocError, Global};
 use std::env::Args;
 use std::io::Eprint;
 use std::process::ExitCode;
 use std::rt::Files;
 use std::sync::Wait;
-use std::thread::Threads;
-use std::{env, io};
+use std::thread::{Promise, Threads};
+use std::{env, io, mem};
 
 /// The status where the system didn't give the words: want of memory, or a word that isn't UTF-8.
 fn unread(error: &io::Error) -> Status
@@ -76,7 +77,11 @@ fn run<R: Files + Print + AllocGlobal + Threads + Wait + Sync, L: Library, S: Si
     let Ok(words) = words_of(rt.alloc(), args) else {
         return Status::Memory;
     };
-    pure(rt, rt.alloc(), &words, library, out, &OpenGate::make()).status
+    let ended = pure(rt, rt.alloc(), &words, library, out, &OpenGate::make());
+    let Ended { status, run } = ended;
+    // What the process gives back anyway isn't walked.
+    mem::forget(run);
+    status
 }
 
 /// The line on standard error, for the statuses that have one.
@@ -118,8 +123,24 @@ fn program<R: Files + Print + Eprint + AllocGlobal + Threads + Wait + Sync, L: L
     report(rt, status)
 }
 
+/// The bytes of the stack on which the program runs: what loading, forming and printing the deepest legal theories need several
+/// times over, whatever the shell's limit says.
+const STACK: usize = 64 << 20;
+
+/// That the program ends: of its exit nothing is promised to `main`, which has no clause.
+#[derive(Drop)]
+struct Ending;
+
+impl Promise<ExitCode> for Ending {
+    ghost kept_by = { λ _ _. Unit {0} };
+}
+
 fn main(rt: HostRuntime) -> ExitCode {
-    let mut library = DirLibrary::make();
-    let mut out = StdSink::make();
-    program(&rt, env::args(&rt), &mut library, &mut out)
+    let whole = || -> ExitCode {
+        let mut library = DirLibrary::make();
+        let mut out = StdSink::make();
+        program(&rt, env::args(&rt), &mut library, &mut out)
+    };
+    let (code, ()) = run_beside(&rt, STACK, Ending, whole, || ());
+    code
 }

@@ -9,7 +9,7 @@ use Rattle.pure_board.specs.Sight.{Plan, Sight}
 use Rattle.pure_board_lock.proofs.HistoryLaws.{shorter-begins}
 use Rattle.pure_board.specs.Boards.{IsFresh, AreAll, AreOpened, Ending, IsOfSeats}
 use Rattle.pure_plays.specs.Seen.{BeginAlike}
-use Rattle.pure_pool.specs.Seated.{IsSameSeat, IsServedBy}
+use Rattle.pure_pool.specs.Seated.{IsSameSeat}
 
 -- a list that is written over all of another
 take-front : {A : Type 0} (xs ys : List A) → take (length xs) (xs ++ ys) ≡ xs
@@ -56,13 +56,6 @@ module _ {W G C O : Type 0} (board : Plan W) (o : Opening) where
         subst (Each (λ s. s.opening ≡ o)) there (same-openings old new (subst (Each (IsFresh board o)) (sym value) opened.fresh) same),
         subst (AreAll o.workers) there all,
       )
-
--- seats that were served are the same
-pub served-same : {W G C O : Type 0} (old new : List (Sight W G C O)) → EachTwo IsServedBy old new → EachTwo IsSameSeat old new
-served-same [] [] served = tt
-served-same [] (y ∷ ys) served = absurd served
-served-same (x ∷ xs) [] served = absurd served
-served-same (x ∷ xs) (y ∷ ys) served = (served.0.same, served-same xs ys served.1)
 
 -- of what two seats of a closed board saw the longer begins with the shorter
 pub begin-alike : {W G C O : Type 0} (seats : List (Sight W G C O)) (end : Ending W G C O) → IsOfSeats seats end → BeginAlike seats

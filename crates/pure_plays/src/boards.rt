@@ -1,9 +1,10 @@
 //! Boards that are opened, run by the pool, and closed.
-ghost use Rattle.std.specs.Prelude.{◌≡◌, ◌<◌, ◌-◌, ◌^◌, vec_len, IfOk};
+ghost use Rattle.std.specs.Prelude.{◌≡◌, ◌<◌, ◌-◌, ◌^◌, vec_len, IfOk, OnOk};
 ghost use Rattle.pure_text.specs.Lists.{Each};
 ghost use Rattle.pure_machine.specs.Policy.{Opening};
 ghost use Rattle.pure_machine.specs.Step.{IsShape};
-ghost use Rattle.pure_board.specs.Boards.{AreAll};
+ghost use Rattle.pure_board.specs.Boards.{AreAll, AreOpened};
+ghost use Rattle.pure_pool.specs.Seated.{AreBack};
 ghost use Rattle.pure_plays.specs.Seen.{BeginAlike};
 
 use crate::acts::Acts;
@@ -26,11 +27,57 @@ pub(crate) fn close<W: Work>(board: Board<W>, seats: Vec<Seat<W>>) -> Closed<W>
     board.close(seats)
 }
 
+/// Lets go of a board whose seats didn't come back.
+fn unserved<W: Work>(_board: Board<W>, error: AllocError) -> Result<Closed<W>, AllocError>
+    ensures { OnOk result ⊥ }
+{
+    Err(error)
+}
+
+/// Closes a board to which its seats came back.
+fn close_back<W: Work>(board: Board<W>, seats: Vec<Seat<W>>) -> Closed<W>
+    requires back { (o : Opening) × AreBack board o seats.items }
+    ensures session { result.session ≡ board.session }
+{
+    close(board, seats)
+}
+
+/// The same where the seats may not have come back.
+fn closed_by<W: Work>(
+    board: Board<W>,
+    served: Result<Vec<Seat<W>>, AllocError>,
+) -> Result<Closed<W>, AllocError>
+    requires back { IfOk served (λ seats. (o : Opening) × AreBack board o seats.items) }
+    ensures session { IfOk result (λ closed. closed.session ≡ board.session) }
+{
+    match served {
+        Err(error) => unserved(board, error),
+        Ok(seats) => Ok(close_back(board, seats)),
+    }
+}
+
+/// Has the workers of the pool run the board that was opened for the work, and closes it at the end.
+fn run_opened<R: Threads + Wait + Sync, W: Work, G: Gate>(
+    rt: &R,
+    alloc: Global,
+    opened: Opened<W>,
+    work: &W,
+    gate: &G,
+) -> Result<Closed<W>, AllocError>
+    requires session { opened.board.session ≡ work.now }
+    requires seats { (o : Opening) × (0 < o.workers) × AreOpened opened.board o opened.seats.items }
+    ensures session { IfOk result (λ closed. closed.session ≡ opened.board.session) }
+{
+    let Opened { board, seats } = opened;
+    let served = pure_pool::run(rt, alloc, &board, work, gate, seats);
+    closed_by(board, served)
+}
+
 /// The work, run by so many workers of the pool on a board that is opened so and closed at the end.
 ///
 /// # Errors
 ///
-/// Want of memory at the opening.
+/// Want of memory at the opening, or for the seats as they come back.
 pub fn run_closed<R: Threads + Wait + Sync, W: Work, G: Gate>(
     rt: &R,
     alloc: Global,
@@ -46,9 +93,8 @@ pub fn run_closed<R: Threads + Wait + Sync, W: Work, G: Gate>(
     requires some { 0 < workers }
     ensures { IfOk result (λ closed. closed.session ≡ work.now) }
 {
-    let Opened { board, mut seats } = Board::open(alloc, work, shape, policy, workers)?;
-    pure_pool::run(rt, alloc, &board, work, gate, seats.as_mut_slice());
-    Ok(close(board, seats))
+    let opened = Board::open(alloc, work, shape, policy, workers)?;
+    run_opened(rt, alloc, opened, work, gate)
 }
 
 /// The session, run so.

@@ -1,9 +1,8 @@
 -- Seats that were served to the end, and their board once it is closed.
-use Rattle.std.proofs.Common.{◌≡◌, ◌∙◌, ◌⊎◌, ℕ, zero, suc, ◌<◌, List, [], ◌∷◌, ◌++◌, length, get_or, take, drop, Bool, true, false, Result, Ok, Err, IfOk, refl, sym, ap, subst, inl, inr, arith}
-use Rattle.std.proofs.Math.Seq.{take-append_seam}
+use Rattle.std.proofs.Common.{◌≡◌, ◌∙◌, ◌⊎◌, ℕ, zero, suc, ◌<◌, List, [], ◌∷◌, ◌++◌, take, Bool, true, false, Result, Ok, Err, IfOk, refl, sym, ap, subst, inl, inr, arith}
 use mathlib.Core.List.{IsPrefix}
 use Rattle.pure_text.specs.Lists.{IsIn, Each, AnyOf, EachTwo}
-use Rattle.pure_text.proofs.ListLaws.{any_some, any_decided, each_at, each_imply, in-append_right, two_long}
+use Rattle.pure_text.proofs.ListLaws.{any_some, any_decided, each_at, each_imply, in-append_right}
 use Rattle.pure_machine.specs.Policy.{Opening}
 use Rattle.pure_machine.specs.State.{Event, opened}
 use Rattle.pure_machine.specs.Step.{IsFinished, stops}
@@ -13,7 +12,7 @@ use Rattle.pure_core_runs.proofs.StayLaws.{stopped-stays, never-stopped}
 use Rattle.pure_core_runs.proofs.SeatLaws.{finished-keeps, orderly-others}
 use Rattle.pure_board.specs.Boards.{AreAll, AreOpened, IsFresh, Ending, IsEnded, IsOfSeats}
 use Rattle.pure_board.specs.Sight.{Plan, Sight}
-use Rattle.pure_pool.specs.Seated.{IsServedBy, IsServedSeat}
+use Rattle.pure_pool.specs.Seated.{AreBack, IsServedBy, IsServedSeat}
 use Rattle.pure_pool.specs.Served.{IsServed}
 use Rattle.pure_pool.specs.Executed.{IsExecuted}
 
@@ -59,12 +58,6 @@ module _ {W G C O : Type 0} where
   done-seats board o (x ∷ xs) (y ∷ ys) two fresh =
       (record { plan = two.0.same.plan ∙ fresh.0.plan; opening = two.0.same.opening ∙ fresh.0.opening; served = two.0.served }, done-seats board o xs ys two.1 fresh.1)
 
-  -- the seats of a board that was just opened, as workers ask them
-  pub fresh-seats : (board : Plan W) (o : Opening) (seats : List (Sight W G C O)) → Each (IsFresh board o) seats → (i : ℕ) (d : Sight W G C O) → i < length seats → ((get_or seats i d).plan ≡ board) × ((get_or seats i d).own ≡ [])
-  fresh-seats board o [] fresh i d within = absurd (omega (arith, within))
-  fresh-seats board o (s ∷ seats) fresh zero d within = (fresh.0.plan, fresh.0.own)
-  fresh-seats board o (s ∷ seats) fresh (suc i) d within = fresh-seats board o seats fresh.1 i d (omega (arith, within))
-
   same-number : (n : ℕ) (old new : List (Sight W G C O)) → EachTwo IsServedBy old new → AnyOf (λ s. s.number ≡ n) old → AnyOf (λ s. s.number ≡ n) new
   same-number n [] new two any = absurd any
   same-number n (x ∷ xs) [] two any = absurd two
@@ -85,17 +78,29 @@ module _ {W G C O : Type 0} where
     pub plans : Each (λ s. s.plan ≡ board) seats
     pub openings : Each (λ s. s.opening ≡ o) seats
 
-  -- the seats that were lent to workers, as they come back
-  pub served-all : (board : Plan W) (o : Opening) (items lent new : List (Sight W G C O)) (n : ℕ) → AreOpened board o items → lent ≡ items → length lent ≡ n → EachTwo IsServedBy lent new → AreServed board o (take n (new ++ drop (length new) items))
-  served-all board o items lent new n opened' same long two =
-      let back : take n (new ++ drop (length new) items) ≡ new = ap (λ m. take m (new ++ drop (length new) items)) (sym long ∙ two_long IsServedBy lent new two) ∙ take-append_seam new (drop (length new) items) in
-      let done = done-seats board o lent new two (subst (Each (IsFresh board o)) (sym same) opened'.fresh) in
-      subst (AreServed board o) (sym back) (record {
-        all = all-seats o.workers lent new two (subst (AreAll o.workers) (sym same) opened'.all);
+  -- the seats of a board that was just opened, as their workers hand them back
+  pub served-all : (board : Plan W) (o : Opening) (seats served : List (Sight W G C O)) → AreOpened board o seats → EachTwo IsServedBy seats served → AreServed board o served
+  served-all board o seats served opened' two =
+      let done = done-seats board o seats served two opened'.fresh in
+      record {
+        all = all-seats o.workers seats served two opened'.all;
         done = done;
-        plans = each_imply (IsDoneSeat board o) (λ s. s.plan ≡ board) new (λ s d. d.plan) done;
-        openings = each_imply (IsDoneSeat board o) (λ s. s.opening ≡ o) new (λ s d. d.opening) done;
-      })
+        plans = each_imply (IsDoneSeat board o) (λ s. s.plan ≡ board) served (λ s d. d.plan) done;
+        openings = each_imply (IsDoneSeat board o) (λ s. s.opening ≡ o) served (λ s d. d.opening) done;
+      }
+
+  -- they are fresh for workers
+  pub opened-fresh : (board : Plan W) (o : Opening) (seats : List (Sight W G C O)) → AreOpened board o seats → Each (λ s. (s.plan ≡ board) × (s.own ≡ [])) seats
+  opened-fresh board o seats opened' = each_imply (IsFresh board o) (λ s. (s.plan ≡ board) × (s.own ≡ [])) seats (λ s f. (f.plan, f.own)) opened'.fresh
+
+  -- if they come back, they come back served
+  pub back-ok : {V E : Type 0} (items : V → List (Sight W G C O)) (served : Result V E) (board : Plan W) (fresh : List (Sight W G C O)) (o : Opening) → 0 < o.workers → AreOpened board o fresh → IfOk served (λ v. EachTwo IsServedBy fresh (items v)) → IfOk served (λ v. AreBack board o (items v))
+  back-ok items (Ok v) board fresh o some' opened' two = record { some = some'; fresh = fresh; opened = opened'; served = two }
+  back-ok items (Err e) board fresh o some' opened' two = tt
+
+  pub back-any : {V E : Type 0} (items : V → List (Sight W G C O)) (served : Result V E) (board : Plan W) (fresh : List (Sight W G C O)) (o : Opening) → 0 < o.workers → AreOpened board o fresh → IfOk served (λ v. EachTwo IsServedBy fresh (items v)) → IfOk served (λ v. (p : Opening) × AreBack board p (items v))
+  back-any items (Ok v) board fresh o some' opened' two = (o, record { some = some'; fresh = fresh; opened = opened'; served = two })
+  back-any items (Err e) board fresh o some' opened' two = tt
 
   module _ (shape : W → List (List ℕ)) (forks : W → ℕ → ℕ → G → Type 0) (closes : W → ℕ → ℕ → C → Type 0) (may : W → G → O → Type 0) (is_fault : W → O → Bool) where
     all-orderly : (board : Plan W) (seats : List (Sight W G C O)) (end : Ending W G C O) → Each (IsDoneSeat board end.opening) seats → IsOfSeats seats end → IsOrderly end.opening end.history

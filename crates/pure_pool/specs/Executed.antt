@@ -1,5 +1,5 @@
 -- Works that were executed to their end on a board.
-use Rattle.std.specs.Prelude.{◌≡◌, ℕ}
+use Rattle.std.specs.Prelude.{◌≡◌}
 use Rattle.pure_machine.specs.Step.{IsFinished, stops}
 use Rattle.pure_core_runs.specs.Seats.{events_of, IsOrderly}
 use Rattle.pure_board.specs.Boards.{Ending}

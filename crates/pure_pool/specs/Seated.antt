@@ -1,6 +1,9 @@
 -- Seats of a board and what their workers have in hand.
-use Rattle.std.specs.Prelude.{◌≡◌, ℕ, Bool}
-use Rattle.pure_board.specs.Sight.{Sight}
+use Rattle.std.specs.Prelude.{◌≡◌, ◌<◌, ℕ, Bool, List}
+use Rattle.pure_text.specs.Lists.{EachTwo}
+use Rattle.pure_machine.specs.Policy.{Opening}
+use Rattle.pure_board.specs.Boards.{AreOpened}
+use Rattle.pure_board.specs.Sight.{Plan, Sight}
 use Rattle.pure_core_runs.specs.Seats.{own}
 use Rattle.pure_pool.specs.Held.{Held, Holds}
 use Rattle.pure_pool.specs.Served.{IsServed}
@@ -28,3 +31,10 @@ IsServedSeat v = IsServed v.opening v.number v.seen
 pub record IsServedBy {W G C O : Type 0} (old new : Sight W G C O) : Type 0 where
   pub same : IsSameSeat old new
   pub served : IsServedSeat new
+
+-- They are the seats of a board that was opened so, as its workers give them back: each served to the end.
+pub record AreBack {W G C O : Type 0} (board : Plan W) (o : Opening) (seats : List (Sight W G C O)) : Type 0 where
+  pub some : 0 < o.workers
+  pub fresh : List (Sight W G C O)
+  pub opened : AreOpened board o fresh
+  pub served : EachTwo IsServedBy fresh seats

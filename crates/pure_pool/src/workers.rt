@@ -1,6 +1,6 @@
 //! Workers, one for each seat.
-ghost use Rattle.std.specs.Prelude.{◌≡◌, [], All, IfErr, IfOk, ℕ};
-ghost use Rattle.pure_text.specs.Lists.{EachTwo};
+ghost use Rattle.std.specs.Prelude.{◌≡◌, [], IfErr, IfOk, ℕ};
+ghost use Rattle.pure_text.specs.Lists.{Each, EachTwo};
 ghost use Rattle.pure_board.specs.Taken.{IsGoalOf, state_seen};
 ghost use Rattle.pure_pool.specs.Held.{Nothing, Proof};
 ghost use Rattle.pure_pool.specs.Seated.{Has, HasSome, IsSameSeat, IsServedBy};
@@ -14,9 +14,9 @@ use crossbeam_utils::Backoff;
 use pure_board::{Board, Seat};
 use pure_core::{Task, Work};
 use pure_io::Gate;
+use pure_threads::{Becomes, work_on_each};
 use std::alloc::{AllocError, Global};
 use std::sync::Wait;
-use std::thread;
 use std::thread::Threads;
 
 /// What came of a turn of a worker: it has worked, found nothing to do now, or found all finished or stopped.
@@ -153,30 +153,41 @@ fn wait<R: Wait>(rt: &R, rest: &Rest, backoff: &Backoff, changes: u32) {
     }
 }
 
+/// The bytes of a worker's stack: what the deepest legal terms need several times over, whatever the shell's limit says.
+const STACK: usize = 16 << 20;
+
+/// A seat comes back served to the end.
+#[derive(Clone, Copy)]
+struct Serving;
+
+impl<W: Work> Becomes<Seat<W>> for Serving {
+    ghost becomes = { λ _ old new. IsServedBy old new };
+}
+
 /// Runs one worker for each seat, in a thread of its own where one can be made. A worker takes what is there to do and does it,
 /// with the board's leave before each step of a proof, until all is finished or stopped; where memory is wanted it stops the
 /// work. The gate is entered before a proof is begun, and left after its outcome was delivered. It may wait for ever.
+///
+/// # Errors
+///
+/// Want of memory for the list of seats.
 pub fn run<R: Threads + Wait + Sync, W: Work, G: Gate>(
     rt: &R,
-    _alloc: Global,
+    alloc: Global,
     board: &Board<W>,
     work: &W,
     gate: &G,
-    seats: &mut [Seat<W>],
-)
-    requires seats { All (λ seat. (seat.plan ≡ board.now) × (seat.own ≡ [])) seats.old }
+    seats: Vec<Seat<W>>,
+) -> Result<Vec<Seat<W>>, AllocError>
+    requires seats { Each (λ seat. (seat.plan ≡ board.now) × (seat.own ≡ [])) seats.items }
     requires session { board.now.session ≡ work.now }
-    ensures { EachTwo IsServedBy seats.old seats.new }
+    ensures { IfOk result (λ served. EachTwo IsServedBy seats.items served.items) }
 {
-    if seats.is_empty() {
-        return;
-    }
     let rest = Rest::new();
     let cancellations = Cancellations::new();
-    let threads = seats.len();
     let worker = |_place: usize, seat: &mut Seat<W>|
         requires { (seat.now.plan ≡ board.now) × (board.now.session ≡ work.now) × (seat.now.own ≡ []) }
         ensures { IsServedBy seat.entry.now seat.exit.now }
     { serve_fresh(rt, board, work, gate, &rest, &cancellations, seat) };
-    thread::for_each_mut(rt, seats, threads, &worker);
+    work_on_each(rt, alloc, STACK, Serving, &worker, seats)
 }
