@@ -18,6 +18,7 @@ pub mod PursueLaws
 pub mod ReductionLaws
 pub mod NameLaws
 pub mod MeantLaws
+pub mod StandingLaws
 pub mod WrittenLaws
 pub mod MeasureLaws
 pub mod UnifyLaws

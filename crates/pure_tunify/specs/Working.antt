@@ -28,6 +28,11 @@ twice_applied k t = Con k (typs_of (t ∷ t ∷ []))
 abbrev pub IsPutTwice : (name room : ℕ) → (half whole : Option Resolved) → Type 0
 IsPutTwice k room half whole = (t : Typ) (left deep : ℕ) → 0 < left → 0 < deep → deep - 1 ≡ room → IsPutIn t (left - 1) room half → IsPutIn (twice_applied k t) left deep whole
 
+-- It is the type, and leaves so much room.
+abbrev pub IsConstructed : Typ → (left : ℕ) → Option Resolved → Type 0
+IsConstructed t left None = ⊥
+IsConstructed t left (Some r) = (r.typ ≡ t) × (r.left ≡ left)
+
 -- The type with all set variables replaced, and the room that it leaves; none exactly where it doesn't fit.
 abbrev pub IsResolved : List TypBind → Typ → (left room : ℕ) → Option Resolved → Type 0
 IsResolved sets t left room None = Leaves left room (typ_size (typ_instance (composed sets) t)) (typ_depth (typ_instance (composed sets) t)) None

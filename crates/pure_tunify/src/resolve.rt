@@ -2,10 +2,10 @@
 ghost use Rattle.std.specs.Prelude.{◌≡◌, reverse, IfOk, MatchOption};
 ghost use Rattle.std.specs.Bool.{OnTrue};
 ghost use Rattle.pure_definitions.specs.Terms.Subst.{IsTypMap, typ_instance};
-ghost use Rattle.pure_definitions.specs.Types.Typ.{typ_size, typ_depth};
+ghost use Rattle.pure_definitions.specs.Types.Typ.{Con, typs_of, typ_size, typ_depth};
 ghost use Rattle.pure_definitions.specs.Terms.Limits.{Leaves, IsWithinTyp};
 ghost use Rattle.pure_tunify.specs.Settings.{composed};
-ghost use Rattle.pure_tunify.specs.Working.{IsPutIn, IsPutTwice, IsResolved, HasImagesWithin, IsSmall, IsWrittenInOrder, AreWrittenOut, MakesTheSame};
+ghost use Rattle.pure_tunify.specs.Working.{IsPutIn, IsPutTwice, IsConstructed, IsResolved, HasImagesWithin, IsSmall, IsWrittenInOrder, AreWrittenOut, MakesTheSame};
 
 use crate::doubled::{applied_twice, twice};
 use crate::free::is_settled;
@@ -61,8 +61,22 @@ fn put_twice(
     }
 }
 
+/// The constructor applied to parts that were put in, which left so much room.
+#[inline(never)]
+fn constructed(
+    alloc: Global,
+    name: Name,
+    parts: Vec<Typ>,
+    left: u32,
+) -> Result<Option<Resolved>, AllocError>
+    ensures { IfOk result (IsConstructed (Con name (typs_of parts.items)) left) }
+{
+    let typ = Typ::constructed(alloc, name, parts)?;
+    Ok(Some(Resolved { typ, left }))
+}
+
 /// The type with all set variables replaced, in a room for so many nodes on paths of so many; none exactly where it
-/// doesn't fit. A part without schematic variables is handed back as it is, and so is an image in which no variable is set.
+/// doesn't fit. What isn't the recursion stands apart, so that it takes less stack. A part without schematic variables is handed back as it is, and so is an image in which no variable is set.
 pub fn resolve(
     settings: &Settings,
     alloc: Global,
@@ -80,34 +94,19 @@ pub fn resolve(
     }
     let top = settings.head(t)?;
     if index_above_of_typ(top) == 0 {
-        let found = put_in(alloc, top, left, room)?;
-        return Ok(found);
+        return put_in(alloc, top, left, room);
     }
     if is_settled(settings, t, top) {
-        let image = put_in(alloc, top, left, room)?;
-        return Ok(image);
+        return put_in(alloc, top, left, room);
     }
     match &top.node {
-        TypNode::TFree { .. } => {
-            let typ = top.copy(alloc)?;
-            Ok(Some(Resolved {
-                typ,
-                left: left - 1,
-            }))
-        }
-        TypNode::TVar { .. } => {
-            let typ = top.copy(alloc)?;
-            Ok(Some(Resolved {
-                typ,
-                left: left - 1,
-            }))
-        }
+        TypNode::TFree { .. } => put_in(alloc, top, left, room),
+        TypNode::TVar { .. } => put_in(alloc, top, left, room),
         TypNode::Con { name, args } => {
             let args = args.as_slice();
             if let Some(part) = twice(args) {
                 let half = resolve(settings, alloc, part, left - 1, room - 1)?;
-                let whole = put_twice(alloc, *name, half, room - 1)?;
-                return Ok(whole);
+                return put_twice(alloc, *name, half, room - 1);
             }
             let mut images = Vec::with_capacity(alloc, args.len())?;
             let mut rest = left - 1;
@@ -120,8 +119,7 @@ pub fn resolve(
                 rest = less;
                 images.push(typ)?;
             }
-            let typ = Typ::constructed(alloc, *name, images)?;
-            Ok(Some(Resolved { typ, left: rest }))
+            constructed(alloc, *name, images, rest)
         }
     }
 }
