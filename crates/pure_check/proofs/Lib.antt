@@ -4,5 +4,6 @@ pub use Rattle.pure_check_work.proofs.TheoryRun as TheoryRun
 pub mod AnswerLemmas
 pub mod FormedLemmas
 pub mod JobLemmas
+pub mod TryLemmas
 pub mod TableLaws
 pub mod WordsLaws

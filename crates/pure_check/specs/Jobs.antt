@@ -1,3 +1,4 @@
 -- What each job means, in a file of its own.
 pub mod Check
 pub mod Generate
+pub mod Try

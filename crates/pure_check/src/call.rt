@@ -12,6 +12,7 @@ use crate::ended::Ended;
 use crate::generated::check_generated;
 use crate::laws::job_in_range;
 use crate::status::Status;
+use crate::tried::tried;
 use crate::written::write_answer;
 use pure_graph::LoadFault;
 use pure_io::{Gate, Library, Sink};
@@ -50,6 +51,7 @@ fn done<R: Files + Print + AllocGlobal + Threads + Wait + Sync, L: Library, G: G
             theories,
             lemmas,
         } => check_generated(rt, alloc, *workers, *start, *theories, *lemmas, gate),
+        Job::Try { workers, name } => tried(rt, alloc, *workers, name, library),
     }
 }
 

@@ -10,6 +10,7 @@ mod generated;
 pub mod laws;
 mod status;
 mod tables;
+mod tried;
 mod written;
 
 pub use call::pure;

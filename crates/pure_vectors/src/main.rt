@@ -27,7 +27,7 @@ use std::sync::Wait;
 use std::thread::Threads;
 
 /// The files of rows.
-const FILES: [&str; 9] = [
+const FILES: [&str; 10] = [
     "examples.rows",
     "guide.rows",
     "worked.rows",
@@ -37,6 +37,7 @@ const FILES: [&str; 9] = [
     "faults.rows",
     "generated.rows",
     "policies.rows",
+    "tries.rows",
 ];
 
 /// Holds each row of the file against its runs. Fails where one doesn't hold, where there is none, or the file can't be read.
