@@ -1,5 +1,5 @@
 -- The numbers of jobs are in range.
-use Rattle.std.proofs.Common.{◌≡◌, ◌≤◌, ◌⊎◌, inl, inr, ℕ, Bool, true, false, List, [], ◌∷◌, Option, Some, None, refl, sym, ap, ◌∙◌, subst, true≢false, arith}
+use Rattle.std.proofs.Common.{◌≡◌, ◌≤◌, ℕ, Bool, true, false, List, [], ◌∷◌, Option, Some, None, refl, sym, subst, arith}
 use Rattle.std.proofs.lemmas.Bool.Decides.{nat_tests}
 use Rattle.std.specs.Prelude.{nat_le, codes, ◌*◌, ◌&&◌, if◌then◌else◌}
 use Rattle.pure_grammar.specs.Theories.Lexeme.{same}
@@ -11,7 +11,6 @@ use Rattle.pure_check.specs.JobAnswers.{IsInRange}
 use Rattle.pure_check.specs.Laws.{JobInRange}
 use Rattle.pure_words.specs.declared.job.CancelWord.{CancelWord}
 use Rattle.pure_words.specs.declared.job.Job.{Job}
-use Rattle.pure_words.specs.declared.job.Job.TheVariants.{Check, Generate, Try}
 
 abbrev IfJob : Option Job → Type 0
 IfJob None = Unit {0}
