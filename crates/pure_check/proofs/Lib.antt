@@ -5,5 +5,6 @@ pub mod AnswerLemmas
 pub mod FormedLemmas
 pub mod JobLemmas
 pub mod PlacedLemmas
+pub mod TryLemmas
 pub mod TableLaws
 pub mod WordsLaws

@@ -1,17 +1,16 @@
 -- The numbers of jobs are in range.
-use Rattle.std.proofs.Common.{◌≡◌, ◌≤◌, ◌⊎◌, inl, inr, ℕ, Bool, true, false, List, [], ◌∷◌, Option, Some, None, refl, sym, ap, ◌∙◌, subst, true≢false, arith}
+use Rattle.std.proofs.Common.{◌≡◌, ◌≤◌, ℕ, Bool, true, false, List, [], ◌∷◌, Option, Some, None, refl, sym, subst, arith}
 use Rattle.std.proofs.lemmas.Bool.Decides.{nat_tests}
 use Rattle.std.specs.Prelude.{nat_le, codes, ◌*◌, ◌&&◌, if◌then◌else◌}
 use Rattle.pure_grammar.specs.Theories.Lexeme.{same}
 use Rattle.pure_words.specs.Values.{number_of, within}
 use Rattle.pure_words.specs.Words.{IsJob, IsCommand, Item, no_given, given_by}
-use Rattle.pure_words.specs.Commands.{workers_of, fail_fast_of, cancels_of, checked, generated, with_places, check_of, generate_of, places_of, size_of, sized, job_of, is_none, TableMeans}
+use Rattle.pure_words.specs.Commands.{workers_of, fail_fast_of, cancels_of, checked, generated, with_places, check_of, generate_of, places_of, try_of, tried, name_given, size_of, sized, job_of, is_none, TableMeans}
 use Rattle.pure_check.specs.Asked.{IsTaken}
 use Rattle.pure_check.specs.JobAnswers.{IsInRange}
 use Rattle.pure_check.specs.Laws.{JobInRange}
 use Rattle.pure_words.specs.declared.job.CancelWord.{CancelWord}
 use Rattle.pure_words.specs.declared.job.Job.{Job}
-use Rattle.pure_words.specs.declared.job.Job.TheVariants.{Check, Generate, Places}
 
 abbrev IfJob : Option Job → Type 0
 IfJob None = Unit {0}
@@ -93,17 +92,32 @@ places-some items = let g = given_by no_given items in by (is_none g.cancels && 
     by true = let g = given_by no_given items in placed-some (workers_of g.jobs) (workers-within g.jobs)
     by false = _
 
-either : (b d p : Bool) (one other last : Option Job) → IfJob one → IfJob other → IfJob last → IfJob (if b then one else (if d then other else (if p then last else None)))
-either true d p one other last h k l = h
-either false true p one other last h k l = k
-either false false true one other last h k l = l
-either false false false one other last h k l = _
+tried-some : (workers : Option ℕ) (name : Option (List ℕ)) → IsBetween 1 64 workers → IfJob (tried workers name)
+tried-some None name w = _
+tried-some (Some n) None w = _
+tried-some (Some n) (Some name) w = w
+
+try-some : (items : List Item) → IfJob (try_of (given_by no_given items))
+try-some items = let g = given_by no_given items in by (is_none g.cancels && is_none g.fail_fast)
+  where
+    by : (b : Bool) → IfJob (if b then tried (workers_of (given_by no_given items).jobs) (name_given (given_by no_given items).arguments) else None)
+    by true =
+        let g = given_by no_given items in
+        tried-some (workers_of g.jobs) (name_given g.arguments) (workers-within g.jobs)
+    by false = _
+
+either : (b : Bool) (one other : Option Job) → IfJob one → IfJob other → IfJob (if b then one else other)
+either true one other h k = h
+either false one other h k = k
 
 job-some : TableMeans → (name : List ℕ) (items : List Item) → IfJob (job_of name (given_by no_given items))
 job-some means name items =
     let g = given_by no_given items in
     subst IfJob (sym (means name g))
-    (either (same name (codes "check")) (same name (codes "generate")) (same name (codes "places")) (check_of g) (generate_of g) (places_of g) (check-some items) (generate-some items) (places-some items))
+    (either (same name (codes "check")) (check_of g) _ (check-some items)
+    (either (same name (codes "generate")) (generate_of g) _ (generate-some items)
+    (either (same name (codes "places")) (places_of g) _ (places-some items)
+    (either (same name (codes "try")) (try_of g) None (try-some items) _))))
 
 command-some : TableMeans → (name : List ℕ) (words : List (List ℕ)) (job : Job) → IsCommand name words job → IsInRange job
 command-some means name words job is = subst IfJob is.job_is (job-some means name is.items)

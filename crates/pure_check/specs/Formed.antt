@@ -1,5 +1,5 @@
 -- What a session that was loaded comes to.
-use Rattle.std.specs.Prelude.{◌≡◌, ℕ, Bool, List, map, Option, Some, Result, Ok, Err}
+use Rattle.std.specs.Prelude.{◌≡◌, ℕ, Bool, List, map, Option, Some, None, Result, Ok, Err}
 use Rattle.std.specs.List.{list_all}
 use Rattle.pure_io.specs.declared.library.File as library
 use Rattle.pure_graph.specs.Session.{Session, shown}
@@ -24,6 +24,10 @@ use Rattle.pure_policy.specs.Heeded.{IsPolicyHeeded}
 use Rattle.pure_check_work.specs.Cancelled.{cancelled_labels, entries_of}
 use Rattle.pure_check_work.specs.Heeded.{lot_of, gone_labels}
 use Rattle.pure_policy.specs.Asked.{Asked}
+use Rattle.pure_graph.specs.Order.{Loaded}
+use Rattle.pure_try.specs.Answers as said
+use Rattle.pure_try.specs.Answers.{is_found, line_of}
+use Rattle.pure_try.specs.declared.answer.Answer as tried
 use Rattle.pure_check.specs.JobAnswers.{IsAnswer}
 use Rattle.pure_row_places.specs.Scans.{seen_scans, seen_refusals}
 use Rattle.pure_check.specs.Jobs.Places.{places_text}
@@ -72,6 +76,14 @@ pub record IsTextOf (S : Session) (asked : Asked) (extent : Extent) (run : Optio
   pub run_of : IsRunOf S asked table board
   pub text_is : text ≡ extent_text extent S table
   pub clean_is : list_all is_good (table_rows S table) ≡ clean
+
+-- The line and whether it is clean are what comes of trying on the session's lemma with this name, and no board is handed out.
+pub record IsLineOf (texts : List (List ℕ)) (theories : List Loaded) (name : List ℕ) (a : Answer) : Type 0 where
+  pub answer : tried.Answer
+  pub is_answer : said.IsAnswer texts theories name answer
+  pub no_board : a.run ≡ None
+  pub text_is : a.formed.text ≡ line_of name answer
+  pub clean_is : a.formed.clean ≡ is_found answer
 
 -- Where the files could be read and memory sufficed, this is the answer of a table of so much of its text.
 abbrev pub IsTabled : Extent → Asked → (files : Option (List library.File)) → Result Answer LoadFault → Type 0

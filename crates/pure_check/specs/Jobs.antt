@@ -2,3 +2,4 @@
 pub mod Check
 pub mod Generate
 pub mod Places
+pub mod Try

@@ -13,6 +13,7 @@ use crate::generated::check_generated;
 use crate::laws::job_in_range;
 use crate::placed::check_placed;
 use crate::status::Status;
+use crate::tried::tried;
 use crate::written::write_answer;
 use pure_graph::LoadFault;
 use pure_io::{Gate, Library, Sink};
@@ -52,6 +53,7 @@ fn done<R: Files + Print + AllocGlobal + Threads + Wait + Sync, L: Library, G: G
             lemmas,
         } => check_generated(rt, alloc, *workers, *start, *theories, *lemmas, gate),
         Job::Places { workers } => check_placed(rt, alloc, *workers, library, gate),
+        Job::Try { workers, name } => tried(rt, alloc, *workers, name, library),
     }
 }
 

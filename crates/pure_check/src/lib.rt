@@ -11,6 +11,7 @@ pub mod laws;
 mod placed;
 mod status;
 mod tables;
+mod tried;
 mod written;
 
 pub use call::pure;

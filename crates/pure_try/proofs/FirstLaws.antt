@@ -1,6 +1,6 @@
 -- The first method that proves a lemma: from the least number that wins, and that it is one.
-use Rattle.std.proofs.Common.{◌≡◌, ◌∙◌, ◌<◌, ℕ, zero, suc, Bool, true, false, List, [], ◌∷◌, map, length, refl, sym, ap, subst, arith, true≢false, Option, Some, None, Ok, Err}
-use Rattle.std.specs.Prelude.{slice_get, option_map, option_and_then}
+use Rattle.std.proofs.Common.{◌≡◌, ℕ, zero, suc, Bool, true, false, List, [], ◌∷◌, map, length, refl, sym, ap, subst, arith, true≢false, Option, Some, None, Ok, Err}
+use Rattle.std.specs.Prelude.{slice_get, option_and_then}
 use Rattle.std.proofs.lemmas.Option.{same_Some}
 use Rattle.pure_definitions.specs.Declarations.Decl.{algebra_of}
 use Rattle.pure_logic.specs.Content.{IsContent}
@@ -12,7 +12,7 @@ use Rattle.pure_check_work.specs.Method.Laws.{ProofOnce}
 use Rattle.pure_check_work.specs.Method.Proof.{ProofOutcome, IsProof}
 use Rattle.pure_try.specs.declared.method.Method.{Method}
 use Rattle.pure_try.specs.Methods.{methods_of, script_of}
-use Rattle.pure_try.specs.First.{IsFirst, nothing, proves, fails, IsTried, Tells, TriedOnce}
+use Rattle.pure_try.specs.First.{IsFirst, nothing, proves, fails, Tells, TriedOnce}
 use Rattle.pure_try.specs.Proofs.{Wins, by_method}
 
 -- from the least number that wins

@@ -1,17 +1,15 @@
 -- Proofs of a lemma by methods can be run, and their steps are turns of a race.
-use Rattle.std.proofs.Common.{◌≡◌, ◌≢◌, ◌∙◌, ◌<◌, ◌≤◌, ℕ, zero, suc, ◌+◌, ◌-◌, Bool, true, false, List, [], ◌∷◌, map, length, drop, get_or, add-one, drop-cons, refl, sym, ap, subst, arith, true≢false, inl, inr, Option, Some, None, Ok, Err}
+use Rattle.std.proofs.Common.{◌≡◌, ◌≢◌, ◌∙◌, ◌<◌, ℕ, zero, suc, ◌+◌, Bool, true, false, List, [], ◌∷◌, map, length, drop, get_or, add-one, drop-cons, refl, sym, ap, subst, arith, true≢false, inl, inr, Some}
 use Rattle.std.specs.Prelude.{slice_get, find, cond}
 use Rattle.std.proofs.lemmas.List.{length-drop}
 use Rattle.std.proofs.lemmas.Option.{same_Some}
 use Rattle.pure_text.specs.Lists.{Each, IsIn}
 use Rattle.pure_grammar.specs.Theories.TheoryText as tree
 use Rattle.pure_grammar.specs.Theories.TheoryText.{Step}
-use Rattle.pure_graph.specs.Order.{Loaded}
 use Rattle.pure_check_work.specs.Declare.Notes.{Fork}
-use Rattle.pure_check_work.specs.Declare.Tidy.{IsTidyFork}
 use Rattle.pure_check_work.specs.Method.Outcome.{IsProvable, IsOutcomeOf}
 use Rattle.pure_check_work.specs.Method.Outcomes.{IsScript, ends_here, goes_further}
-use Rattle.pure_check_work.specs.Method.Running.{IsBroken, place_left}
+use Rattle.pure_check_work.specs.Method.Running.{place_left}
 use Rattle.pure_check_work.specs.Method.declared.outcome.Outcome.{Outcome}
 use Rattle.pure_check_work.specs.Method.declared.outcome.Outcome.TheVariants.{Proved, Fault}
 use Rattle.pure_check_work.specs.Method.declared.proving.Place.{Place}

@@ -5,7 +5,7 @@ use Rattle.pure_check_work.specs.Declare.Notes.{Fork}
 use Rattle.pure_check_work.specs.Method.Outcome.{IsProvable}
 use Rattle.pure_check_work.specs.Method.Running.{Proves}
 use Rattle.pure_check_work.specs.Method.declared.proving.Place.{Place}
-use Rattle.pure_check_work.specs.Method.declared.proving.Place.TheVariants.{Runs, Refused, Broken}
+use Rattle.pure_check_work.specs.Method.declared.proving.Place.TheVariants.{Runs, Broken}
 use Rattle.pure_check_work.specs.Method.declared.proving.Proving.{Proving}
 use Rattle.pure_check_work.specs.Method.declared.outcome.Outcome.{Outcome}
 use Rattle.pure_check_work.specs.Method.declared.outcome.Outcome.TheVariants.{Proved, Fault}

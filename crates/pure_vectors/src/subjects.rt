@@ -4,7 +4,7 @@ use crate::gates::holds;
 use crate::generated::{generates, generates_file};
 use crate::missing::misses;
 use crate::sessions::{Session, heeds, verdict};
-use crate::tables::rows;
+use crate::tables::{prints, rows};
 use pure_rows::{Fault, Outcome, Row, named};
 use std::alloc::Global;
 use std::rt::Files;
@@ -15,6 +15,7 @@ use std::thread::Threads;
 #[derive(Clone, Copy)]
 enum Kind {
     Rows,
+    Prints,
     Writes(Part),
     Cuts,
     Counts,
@@ -30,8 +31,9 @@ enum Kind {
 }
 
 /// The first fields of rows.
-const KINDS: [(&[u8], Kind); 15] = [
+const KINDS: [(&[u8], Kind); 16] = [
     (b"rows", Kind::Rows),
+    (b"prints", Kind::Prints),
     (b"writes", Kind::Writes(Part::Whole)),
     (b"begins", Kind::Writes(Part::Front)),
     (b"ends", Kind::Writes(Part::End)),
@@ -57,6 +59,7 @@ fn is_met<R: Files + Print + AllocGlobal + Threads + Wait + Sync>(
 ) -> Result<bool, Fault> {
     match named(&KINDS, row.field(0)).ok_or(Fault::Unreadable)? {
         Kind::Rows => rows(rt, alloc, row),
+        Kind::Prints => prints(rt, alloc, row),
         Kind::Writes(part) => writes(rt, alloc, row, part),
         Kind::Cuts => cuts(rt, alloc, row),
         Kind::Counts => counts(rt, alloc, row),

@@ -109,3 +109,28 @@ pub(crate) fn rows<R: Files + Print + AllocGlobal + Threads + Wait + Sync>(
     let files = theories_of(alloc, theories)?;
     Ok(check_rows(rt, alloc, &files, lines, rows)?)
 }
+
+/// The lines, with a line feed behind the last one.
+fn ended(alloc: Global, lines: &[u8]) -> Result<Vec<u8>, AllocError> {
+    let mut text = Vec::from_slice(alloc, lines)?;
+    text.push(b'\n')?;
+    Ok(text)
+}
+
+/// Whether the row `prints WORDS THEORIES LINES` holds.
+pub(crate) fn prints<R: Files + Print + AllocGlobal + Threads + Wait + Sync>(
+    rt: &R,
+    alloc: Global,
+    row: &Row,
+) -> Result<bool, Fault> {
+    let [_, words, theories, lines] = row.fields_from(0) else {
+        return Err(Fault::Unreadable);
+    };
+    let files = theories_of(alloc, theories)?;
+    let text = ended(alloc, lines)?;
+    let wanted = Wanted {
+        status: Status::Clean,
+        written: Written::Whole(&text),
+    };
+    Ok(check(rt, alloc, World::of_files(&files), words, wanted)?)
+}

@@ -1,5 +1,4 @@
-use Rattle.std.proofs.Common.{◌∙◌, ap, subst}
-use Rattle.pure_try.specs.Methods.{methods_of}
+use Rattle.std.proofs.Common.{subst}
 use Rattle.pure_try.proofs.AnswerLaws.{IsLeast, least-within, methods-are, tried-none, tried-some}
 use Rattle.pure_try.proofs.named.first_method.Goals as goal
 
