@@ -92,9 +92,9 @@ fn push_command(
     part: &Part,
     row: &Row,
 ) -> Result<Cursor, AllocError>
-    requires { IsAt (seen_scan theory.now).source cursor }
-    ensures text { IfOk result (λ _. text.new.items ≡ text.old.items ++ spec.line_text (seen_scan theory.now).name (spec.command_place (seen_scan theory.now).source (seen_part part.now) row.now) row.now) }
-    ensures cursor { IfOk result (IsAt (seen_scan theory.now).source) }
+    requires { IsAt theory.now.source cursor }
+    ensures text { IfOk result (λ _. text.new.items ≡ text.old.items ++ spec.line_text theory.now.name (spec.command_place theory.now.source (seen_part part.now) row.now) row.now) }
+    ensures cursor { IfOk result (IsAt theory.now.source) }
 {
     let at = step_place(part, row)?;
     push_file(text, &theory.name)?;
@@ -110,7 +110,7 @@ fn push_refused_theory(
     theory: &Scan,
     row: &Row,
 ) -> Result<(), AllocError>
-    ensures { IfOk result (λ _. text.new.items ≡ text.old.items ++ spec.line_text (seen_scan theory.now).name (spec.theory_place (seen_scan theory.now) row.now) row.now) }
+    ensures { IfOk result (λ _. text.new.items ≡ text.old.items ++ spec.line_text theory.now.name (spec.theory_place (seen_scan theory.now) row.now) row.now) }
 {
     let at = header_place(&theory.places, row.tail.bytes());
     push_file(text, &theory.name)?;
