@@ -1,9 +1,12 @@
 -- From a table's text with the places of its rows to the answer of a job.
 use Rattle.std.proofs.Common.{◌≡◌, ℕ, Bool, false, List, [], ◌∷◌, map, refl, sym, ◌∙◌, ap, subst, Option, Result, Ok, Err, IfOk}
 use Rattle.std.specs.Borrow.{Bor}
-use Rattle.pure_text.specs.Lists.{EachTwo}
+use Rattle.pure_text.specs.Lists.{Each, EachTwo}
+use Rattle.pure_text.proofs.ListLaws.{each_of}
 use Rattle.pure_io.specs.declared.library.File as library
-use Rattle.pure_graph.specs.Session.{Session, Shown, shown}
+use Rattle.pure_graph.specs.Order as order
+use Rattle.pure_graph.specs.Reading.{Answer as FileAnswer}
+use Rattle.pure_graph.specs.Session.{Session, Shown, Refusal, shown, IsLoadingOf}
 use Rattle.pure_graph.specs.declared.fault.LoadFault.{LoadFault}
 use Rattle.pure_session.specs.Refused.{seen_refused, all_refused}
 use Rattle.pure_session.specs.Waiting.{seen_loaded, all_loaded}
@@ -18,6 +21,7 @@ use Rattle.pure_check_work.specs.TheoryRun.Checked.{Checked}
 use Rattle.pure_check_work.specs.TheoryRun.Outline.{Outline}
 use Rattle.pure_check_work.specs.Heeded.{gone_labels}
 use Rattle.pure_check_work.proofs.Table.DerivedLaws.{table_is_derived}
+use Rattle.pure_check_work.proofs.SessionLaws.StoodLaws.{IsOwn, loaded-own}
 use Rattle.pure_board.specs.Boards.{Ending}
 use Rattle.pure_policy.specs.Asked.{Asked}
 use Rattle.pure_row_places.specs.declared.scan.Scan.{Scan}
@@ -27,7 +31,7 @@ use Rattle.pure_row_places.specs.Headers.{IsLookedAt, IsLookedAtAs}
 use Rattle.pure_check.specs.Formed.{IsSeenSession, IsTextOf, IsDone}
 use Rattle.pure_check.specs.Meaning.{IsToldSession}
 use Rattle.pure_check.specs.PlacedText.{IsPlacedTextOf}
-use Rattle.pure_check.specs.Jobs.Places.{asked_for, IsScan, IsPlacesAnswer}
+use Rattle.pure_check.specs.Jobs.Places.{asked_for, IsRead, IsScan, IsPlacesAnswer}
 use Rattle.pure_check.specs.declared.answer.Answer.{Answer}
 use Rattle.pure_check.specs.declared.formed.Extent.{Extent}
 use Rattle.pure_check.specs.declared.formed.Extent.TheVariants as extent
@@ -78,6 +82,15 @@ pub placed-moved : (told now : Option (List library.File)) → now ≡ told → 
 placed-moved told now same workers s (Ok a) all = λ S is. subst (λ t. IsPlacedTextOf S t workers a.run a.formed.text a.formed.clean) same (all S is)
 placed-moved told now same workers s (Err fault) all = tt
 
+own-read : (l : order.Loaded) → IsOwn l.name l.source l.text → IsRead l
+own-read l own =
+    let spelled = own.spelled in
+    record { tokens = spelled.0; file = spelled.2.file; read = record { tokens_are = spelled.1; spelled = spelled.2.spelled }; means = spelled.2.means }
+
+-- Each theory that is loaded is a text of the grammar.
+loaded-read : (answers : List FileAnswer) (theories : List order.Loaded) (refused : List Refusal) (n : ℕ) → IsLoadingOf answers theories refused n → Each IsRead theories
+loaded-read answers theories refused n loading = each_of IsRead theories (λ l m. own-read l (loaded-own answers theories refused n loading l m))
+
 -- The text of a session that was loaded of a library is the job's answer.
 pub places-done : (told : Option (List library.File)) (S : Session) → IsToldSession told S → IsLoadedSession S.names S.theories → (workers : ℕ) (IsSeen : Session → Type 0) → IsSeen S
     → (a : Result Answer LoadFault) → IfOk a (λ a. (R : Session) → IsSeen R → IsPlacedTextOf R told workers a.run a.formed.text a.formed.clean) → IsDone (Places workers) told a
@@ -96,6 +109,7 @@ places-done told S session loaded workers IsSeen is (Ok a) all =
         derived = table_is_derived S loaded (gone_labels of.table.entries) of.table of.is_table;
         run_of = of.run_of;
       };
+      are_read = loaded-read session.answers S.theories S.refused S.files session.session.loading;
       theories = of.theories;
       are_scanned = of.are_scanned;
       refused = of.refused;

@@ -88,8 +88,9 @@ fn ended<R: Files + Print + AllocGlobal + Threads + Wait + Sync, L: Library, S: 
 
 /// Reads the words, does the job that they ask for, and writes its answer: of a check the table of the library's theories,
 /// which as many workers as the words ask for have checked on a board (the manual of Isabelle/Isar's implementation, chapter
-/// 2; Wenzel, Parallel Proof Checking in Isabelle/Isar, 2009), and of a generated library the last line of its table. The gate
-/// is entered before each proof and left after its outcome was delivered. The call may wait for ever.
+/// 2; Wenzel, Parallel Proof Checking in Isabelle/Isar, 2009), of places the same with each row behind the place at which its
+/// command stands, and of a generated library the last line of its table. The gate is entered before each proof and left after
+/// its outcome was delivered. The call may wait for ever.
 ///
 /// Which status comes when, and what was written with it, the clauses say; want of memory alone is free.
 /// The text is whole before its first byte is written, and writing it takes no memory.

@@ -1,5 +1,5 @@
 -- What contracts see of the places that were found.
-use Rattle.std.specs.Prelude.{◌≡◌, ℕ, List, length, map}
+use Rattle.std.specs.Prelude.{◌≡◌, ℕ, List, ◌++◌, length, map}
 use Rattle.pure_grammar.specs.declared.token.Token.{Token}
 use Rattle.pure_grammar.specs.Tokens.Spelling.{Spells}
 use Rattle.pure_grammar.specs.Theories.Lexeme.{lexemes}
@@ -7,6 +7,8 @@ use Rattle.pure_grammar.specs.Theories.Phrase.{FilePhrase}
 use Rattle.pure_grammar.specs.Theories.PhraseText.{file_text}
 use Rattle.pure_places.specs.Parts as parts
 use Rattle.pure_places.specs.Parts.{Parts, places_of}
+use Rattle.pure_places.specs.Found.{found_commands}
+use Rattle.pure_places.specs.declared.mark.Before.{Before}
 use Rattle.pure_places.specs.declared.parts.Part.{Part}
 use Rattle.pure_places.specs.declared.parts.Import.{Import}
 use Rattle.pure_places.specs.declared.parts.Places.{Places}
@@ -19,6 +21,10 @@ seen_import i = record { theory = i.theory; at = i.at }
 
 abbrev pub seen_places : Places → Parts ℕ
 seen_places p = record { name = p.name; imports = map seen_import p.imports.items; commands = map seen_part p.commands.items }
+
+-- the commands that were found so far, and those that are still to be found among these tokens
+abbrev pub found_with : (source : List ℕ) → List Part → Before → List Token → List (parts.Part ℕ)
+found_with source found before rest = map seen_part found ++ found_commands source before rest
 
 -- The source is a text of the grammar, with these tokens and this phrase.
 pub record IsReadAs (source : List ℕ) (tokens : List Token) (f : FilePhrase) : Type 0 where

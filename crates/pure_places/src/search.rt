@@ -6,7 +6,7 @@ ghost use Rattle.pure_grammar.specs.Theories.Outer.{place_of};
 ghost use Rattle.pure_places.specs.Marks.{first_mark, steps_of};
 ghost use Rattle.pure_places.specs.Found as spec;
 ghost use Rattle.pure_places.specs.Found.{found_commands, found_imports, token_mark, token_place};
-ghost use Rattle.pure_places.specs.Seen.{seen_part, seen_import, seen_places, ArePlaces};
+ghost use Rattle.pure_places.specs.Seen.{seen_part, seen_import, seen_places, found_with, ArePlaces};
 
 use crate::laws::finds_parts;
 use crate::mark::{Before, Mark, behind, ident, is_begin, is_name, mark_of};
@@ -66,7 +66,7 @@ fn meet(
 ) -> Result<Before, AllocError>
     requires within { place < length tokens.now }
     requires slices { Each (IsSlice source.now) tokens.now }
-    ensures { IfOk result (λ b. map seen_part found.new.items ++ found_commands source.now b (drop (place + 1) tokens.now) ≡ map seen_part found.old.items ++ found_commands source.now before (drop place tokens.now)) }
+    ensures { IfOk result (λ b. found_with source.now found.new.items b (drop (place + 1) tokens.now) ≡ found_with source.now found.old.items before (drop place tokens.now)) }
 {
     let token = tokens[place];
     let mark = mark_of(source, token);

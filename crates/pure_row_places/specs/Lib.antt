@@ -3,3 +3,4 @@ pub mod Lines
 pub mod Scans
 pub mod Texts
 pub mod Headers
+pub mod Cursors

@@ -1,5 +1,5 @@
 -- The rows of a table, each behind the file, line and column where its command stands.
-use Rattle.std.specs.Prelude.{ℕ, Bool, true, false, List, [], ◌∷◌, ◌++◌, length, take, drop, codes, Option, Some, None, if◌then◌else◌}
+use Rattle.std.specs.Prelude.{ℕ, Bool, false, List, [], ◌∷◌, ◌++◌, length, take, drop, codes, Option, Some, None, if◌then◌else◌}
 use Rattle.std.specs.Fmt.{decimal}
 use Rattle.pure_grammar.specs.Theories.Lexeme.{same}
 use Rattle.pure_lex.specs.Lines.{line_behind, column_behind}

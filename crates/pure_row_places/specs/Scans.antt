@@ -1,5 +1,5 @@
 -- What contracts see of scanned theories.
-use Rattle.std.specs.Prelude.{◌≡◌, ℕ, List, map, Option, Some, None, option_map}
+use Rattle.std.specs.Prelude.{◌≡◌, ℕ, List, map, option_map}
 use Rattle.pure_session.specs.declared.order.Loaded.{Loaded}
 use Rattle.pure_places.specs.Seen.{seen_places, ArePlaces}
 use Rattle.pure_row_places.specs.Lines.{Theory, Refusal}

@@ -1,6 +1,7 @@
 //! The rows of a table, each behind the file, line and column where its command stands.
 #![tactic(auto)]
 
+mod cursor;
 mod headers;
 mod lines;
 mod reasons;

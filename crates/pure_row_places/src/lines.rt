@@ -7,29 +7,38 @@ ghost use Rattle.pure_places.specs.Seen.{seen_part, seen_places};
 ghost use Rattle.pure_places.specs.Parts as parts;
 ghost use Rattle.pure_row_places.specs.Lines as spec;
 ghost use Rattle.pure_row_places.specs.Reasons as reasons;
+ghost use Rattle.pure_row_places.specs.Cursors.{IsAt};
 ghost use Rattle.pure_row_places.specs.Scans.{seen_scan, seen_refusal, seen_scans, seen_refusals};
 
+use crate::cursor::{Cursor, beginning, moved};
 use crate::reasons::{header_place, reason_place, step_place};
 use crate::scan::{RefusedScan, Scan};
-use pure_lex::line_col;
 use pure_places::Part;
 use pure_print::{Row, print_row};
 use pure_text::Text;
 use std::alloc::{AllocError, Global};
 
-/// Puts the line and the column of a place in the source.
-fn push_place(alloc: Global, text: &mut Vec<u8>, source: &[u8], at: u32) -> Result<(), AllocError>
-    ensures { OnOk result (text.new.items ≡ text.old.items ++ spec.place_text source.now at) }
+/// Puts the line and the column of a place in the source, to which the cursor goes.
+fn push_place(
+    alloc: Global,
+    text: &mut Vec<u8>,
+    source: &[u8],
+    cursor: Cursor,
+    at: u32,
+) -> Result<Cursor, AllocError>
+    requires { IsAt source.now cursor }
+    ensures text { IfOk result (λ _. text.new.items ≡ text.old.items ++ spec.place_text source.now at) }
+    ensures cursor { IfOk result (IsAt source.now) }
 {
     if source.len() >= u32::MAX as usize {
         return Err(AllocError);
     }
     let at = at.min(source.len() as u32);
-    let (line, column) = line_col(source, at);
-    text.extend_from_slice(line.to_string(alloc)?.as_bytes())?;
+    let now = moved(source, cursor, at);
+    text.extend_from_slice(now.line.to_string(alloc)?.as_bytes())?;
     text.extend_from_slice(b":")?;
-    text.extend_from_slice(column.to_string(alloc)?.as_bytes())?;
-    Ok(())
+    text.extend_from_slice(now.column.to_string(alloc)?.as_bytes())?;
+    Ok(now)
 }
 
 /// Puts the theory's file before a row's place.
@@ -52,22 +61,25 @@ fn push_row(alloc: Global, text: &mut Vec<u8>, row: &Row) -> Result<(), AllocErr
     Ok(())
 }
 
-/// Puts the place that the row's reason names, or that of a place in the source.
+/// Puts the place that the row's reason names, or that of a place in the source, to which the cursor goes.
 fn push_first(
     alloc: Global,
     text: &mut Vec<u8>,
     row: &Row,
     source: &Text,
+    cursor: Cursor,
     at: u32,
-) -> Result<(), AllocError>
-    ensures { OnOk result (text.new.items ≡ text.old.items ++ spec.first_of (reasons.reason_place row.now) (spec.place_text source.now at)) }
+) -> Result<Cursor, AllocError>
+    requires { IsAt source.now cursor }
+    ensures text { IfOk result (λ _. text.new.items ≡ text.old.items ++ spec.first_of (reasons.reason_place row.now) (spec.place_text source.now at)) }
+    ensures cursor { IfOk result (IsAt source.now) }
 {
     match reason_place(row) {
         Some(place) => {
             text.extend_from_slice(place)?;
-            Ok(())
+            Ok(cursor)
         }
-        None => push_place(alloc, text, source.bytes(), at),
+        None => push_place(alloc, text, source.bytes(), cursor, at),
     }
 }
 
@@ -76,15 +88,19 @@ fn push_command(
     alloc: Global,
     text: &mut Vec<u8>,
     theory: &Scan,
+    cursor: Cursor,
     part: &Part,
     row: &Row,
-) -> Result<(), AllocError>
-    ensures { IfOk result (λ _. text.new.items ≡ text.old.items ++ spec.line_text (seen_scan theory.now).name (spec.command_place (seen_scan theory.now).source (seen_part part.now) row.now) row.now) }
+) -> Result<Cursor, AllocError>
+    requires { IsAt theory.now.source cursor }
+    ensures text { IfOk result (λ _. text.new.items ≡ text.old.items ++ spec.line_text theory.now.name (spec.command_place theory.now.source (seen_part part.now) row.now) row.now) }
+    ensures cursor { IfOk result (IsAt theory.now.source) }
 {
+    let at = step_place(part, row)?;
     push_file(text, &theory.name)?;
-    push_first(alloc, text, row, &theory.source, step_place(part, row)?)?;
+    let cursor = push_first(alloc, text, row, &theory.source, cursor, at)?;
     push_row(alloc, text, row)?;
-    Ok(())
+    Ok(cursor)
 }
 
 /// Puts the line of the row of a theory that is refused.
@@ -94,11 +110,11 @@ fn push_refused_theory(
     theory: &Scan,
     row: &Row,
 ) -> Result<(), AllocError>
-    ensures { IfOk result (λ _. text.new.items ≡ text.old.items ++ spec.line_text (seen_scan theory.now).name (spec.theory_place (seen_scan theory.now) row.now) row.now) }
+    ensures { IfOk result (λ _. text.new.items ≡ text.old.items ++ spec.line_text theory.now.name (spec.theory_place (seen_scan theory.now) row.now) row.now) }
 {
     let at = header_place(&theory.places, row.tail.bytes());
     push_file(text, &theory.name)?;
-    push_first(alloc, text, row, &theory.source, at)?;
+    push_first(alloc, text, row, &theory.source, beginning(), at)?;
     push_row(alloc, text, row)?;
     Ok(())
 }
@@ -128,7 +144,7 @@ fn push_refused(
     match &file.scan {
         Some(theory) => {
             let at = header_place(&theory.places, row.tail.bytes());
-            push_first(alloc, text, row, &theory.source, at)?;
+            push_first(alloc, text, row, &theory.source, beginning(), at)?;
         }
         None => push_beginning(text, row)?,
     }
@@ -170,11 +186,12 @@ fn push_commands(
     ensures { IfOk result (λ _. text.new.items ≡ text.old.items ++ spec.command_lines (seen_scan theory.now) (seen_scan theory.now).places.commands rows.now) }
 {
     let parts = theory.places.commands.as_slice();
+    let mut cursor = beginning();
     for place in 0..parts.len() {
         if place >= rows.len() {
             return Ok(());
         }
-        push_command(alloc, text, theory, &parts[place], &rows[place])?;
+        cursor = push_command(alloc, text, theory, cursor, &parts[place], &rows[place])?;
     }
     Ok(())
 }

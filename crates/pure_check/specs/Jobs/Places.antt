@@ -1,7 +1,10 @@
 -- Places: the theories of the library are checked without cancellations, and each row of the table is written behind the place at which its command stands; then comes the last line.
 use Rattle.std.specs.Prelude.{◌≡◌, ◌≤◌, ℕ, Bool, false, List, [], ◌++◌, map, Option, Some}
 use Rattle.std.specs.List.{list_all}
-use Rattle.pure_text.specs.Lists.{EachTwo}
+use Rattle.pure_text.specs.Lists.{Each, EachTwo}
+use Rattle.pure_grammar.specs.declared.token.Token.{Token}
+use Rattle.pure_grammar.specs.Theories.Phrase.{FilePhrase}
+use Rattle.pure_grammar.specs.Theories.PhraseTree.{file_tree}
 use Rattle.pure_io.specs.declared.library.File as library
 use Rattle.pure_graph.specs.Order.{Loaded}
 use Rattle.pure_graph.specs.Session.{Session, shown}
@@ -14,6 +17,7 @@ use Rattle.pure_check_work.specs.TheoryRun.Checked.{Checked}
 use Rattle.pure_check_work.specs.TheoryRun.Outline.{Outline}
 use Rattle.pure_board.specs.Boards.{Ending}
 use Rattle.pure_policy.specs.Asked.{Asked}
+use Rattle.pure_places.specs.Seen.{IsReadAs}
 use Rattle.pure_row_places.specs.Lines.{Theory, Refusal, all_lines}
 use Rattle.pure_row_places.specs.Scans.{IsScanOf}
 use Rattle.pure_row_places.specs.Headers.{IsLookedAt}
@@ -28,6 +32,13 @@ places_text theories refused files rows = all_lines theories refused rows ++ tot
 abbrev pub asked_for : (workers : ℕ) → Asked
 asked_for workers = record { workers = workers; fail_fast = false; cancels = [] }
 
+-- A loaded theory is a text of the grammar, whose phrase means its tree.
+pub record IsRead (l : Loaded) : Type 0 where
+  pub tokens : List Token
+  pub file : FilePhrase
+  pub read : IsReadAs l.source tokens file
+  pub means : file_tree file ≡ l.text
+
 -- It is the loaded theory, with the places of its parts.
 abbrev pub IsScan : Loaded → Theory → Type 0
 IsScan l t = IsScanOf l.name l.source t
@@ -39,6 +50,7 @@ pub record IsPlacesAnswer (workers : ℕ) (files : Option (List library.File)) (
   pub board : Ending Checked Fork Outline Outcome
   pub is_run : run ≡ Some board
   pub checked : IsCheckedSession files (asked_for workers) board session table
+  pub are_read : Each IsRead session.theories
   pub theories : List Theory
   pub are_scanned : EachTwo IsScan session.theories theories
   pub refused : List Refusal
