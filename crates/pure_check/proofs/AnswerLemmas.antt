@@ -1,6 +1,5 @@
 -- From what is left on a board to the answer of a table.
 use Rattle.std.proofs.Common.{◌≡◌, ℕ, Bool, List, map, refl, sym, ◌∙◌, ap, subst, Option, Some, Result, Ok, Err, IfOk}
-use Rattle.std.specs.Option.{IfSome}
 use Rattle.pure_io.specs.declared.library.File as library
 use Rattle.pure_graph.specs.Session.{Session, Shown, shown}
 use Rattle.pure_graph.specs.declared.fault.LoadFault.{LoadFault}
@@ -19,7 +18,7 @@ use Rattle.pure_check_work.specs.SessionMeaning.Statements.{forks_of, IsFork, Ar
 use Rattle.pure_check_work.proofs.SessionMeaning.StatementLaws.{statements_once}
 use Rattle.pure_check_work.specs.TheoryRun.Checked.{Checked}
 use Rattle.pure_check_work.specs.TheoryRun.Outline.{Outline}
-use Rattle.pure_check_work.specs.Table.Table.{Table, IsTable}
+use Rattle.pure_check_work.specs.Table.Table.{IsTable}
 use Rattle.pure_check_work.proofs.Table.DerivedLaws.{table_is_derived}
 use Rattle.pure_check_work.proofs.Table.PrintedLaws.{said_are_statements}
 use Rattle.pure_machine.specs.Policy.{Policy}

@@ -14,7 +14,7 @@ use Rattle.pure_check_work.specs.Promise.declared.entry.Entry.{Entry}
 use Rattle.pure_check_work.specs.SessionLaws.Loaded.{IsLoadedSession}
 use Rattle.pure_check_work.specs.TheoryRun.Outline.{Outline}
 use Rattle.pure_check_work.specs.Table.Table.{table_rows}
-use Rattle.pure_check_work.specs.Table.Printed.{Parts, ArePartsOf, AreTableRows}
+use Rattle.pure_check_work.specs.Table.Printed.{ArePartsOf, AreTableRows}
 use Rattle.pure_machine.specs.State.{Promise}
 use Rattle.pure_check_work.specs.Cancelled.{cancelled_labels}
 use Rattle.pure_check_work.specs.Said.{AreLeft, AreSaidBy}

@@ -1,5 +1,5 @@
 -- From the answer of a table to that of a job, and from a job's answer to what is written.
-use Rattle.std.proofs.Common.{◌≡◌, ◌≢◌, ℕ, Bool, true, false, List, [], refl, sym, ◌∙◌, subst, Option, Some, None, Result, Ok, Err}
+use Rattle.std.proofs.Common.{◌≡◌, ◌≢◌, ℕ, Bool, true, false, List, [], refl, sym, ◌∙◌, subst, Option, Some, Result, Ok, Err}
 use Rattle.pure_io.specs.declared.library.File as library
 use Rattle.pure_io.specs.Outside.{Appends, AppendsProperPrefix}
 use Rattle.pure_gen.specs.Generated.{files_of}
@@ -16,7 +16,7 @@ use Rattle.pure_check_work.specs.TheoryRun.Checked.{Checked}
 use Rattle.pure_check_work.specs.TheoryRun.Outline.{Outline}
 use Rattle.pure_board.specs.Boards.{Ending}
 use Rattle.pure_policy.specs.Asked.{Asked}
-use Rattle.pure_check.specs.Answer.{WroteAll, WrotePart, WroteAnswer, OnSilent, IsComplete}
+use Rattle.pure_check.specs.Answer.{WroteAll, WrotePart, WroteAnswer, IsComplete}
 use Rattle.pure_check.specs.Asked.{IsLooking, IsMeantBy}
 use Rattle.pure_check.specs.Formed.{IsTabled, IsDone, IsGiven, extent_text}
 use Rattle.pure_check.specs.JobAnswers.{IsAnswer, is_looking_job}

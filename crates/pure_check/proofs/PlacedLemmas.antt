@@ -1,12 +1,12 @@
 -- From a table's text with the places of its rows to the answer of a job.
-use Rattle.std.proofs.Common.{◌≡◌, ℕ, Bool, false, List, [], ◌∷◌, map, refl, sym, ◌∙◌, ap, subst, Option, Result, Ok, Err, IfOk}
+use Rattle.std.proofs.Common.{◌≡◌, ℕ, Bool, List, [], ◌∷◌, map, sym, ◌∙◌, ap, subst, Option, Result, Ok, Err, IfOk}
 use Rattle.std.specs.Borrow.{Bor}
 use Rattle.pure_text.specs.Lists.{Each, EachTwo}
 use Rattle.pure_text.proofs.ListLaws.{each_of}
 use Rattle.pure_io.specs.declared.library.File as library
 use Rattle.pure_graph.specs.Order as order
 use Rattle.pure_graph.specs.Reading.{Answer as FileAnswer}
-use Rattle.pure_graph.specs.Session.{Session, Shown, Refusal, shown, IsLoadingOf}
+use Rattle.pure_graph.specs.Session.{Session, Refusal, shown, IsLoadingOf}
 use Rattle.pure_graph.specs.declared.fault.LoadFault.{LoadFault}
 use Rattle.pure_session.specs.Refused.{seen_refused, all_refused}
 use Rattle.pure_session.specs.Waiting.{seen_loaded, all_loaded}
@@ -31,7 +31,7 @@ use Rattle.pure_row_places.specs.Headers.{IsLookedAt, IsLookedAtAs}
 use Rattle.pure_check.specs.Formed.{IsSeenSession, IsTextOf, IsDone}
 use Rattle.pure_check.specs.Meaning.{IsToldSession}
 use Rattle.pure_check.specs.PlacedText.{IsPlacedTextOf}
-use Rattle.pure_check.specs.Jobs.Places.{asked_for, IsRead, IsScan, IsPlacesAnswer}
+use Rattle.pure_check.specs.Jobs.Places.{asked_for, IsRead, IsScan}
 use Rattle.pure_check.specs.declared.answer.Answer.{Answer}
 use Rattle.pure_check.specs.declared.formed.Extent.{Extent}
 use Rattle.pure_check.specs.declared.formed.Extent.TheVariants as extent
