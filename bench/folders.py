@@ -75,28 +75,46 @@ def full_pipe():
 
 
 def until_it_writes(process):
-    """Waits until the process waits or ends, and answers its largest stack and memory in KB as last seen; a main thread's stack never shrinks. What the system tells of a process that has ended would count the memory of the one that started it, too."""
-    figures, pause = (0, 0), 0.0005
+    """Waits until a thread of the process writes or it ends, and answers in KB that thread's stack then and the largest memory as last seen. What the stacks of other threads were isn't seen; what the system tells of a process that has ended would count the memory of the one that started it, too."""
+    memory, pause = 0, 0.0005
     while True:
         with open(f"/proc/{process}/status") as status:
             lines = dict(line.split(":", 1) for line in status)
-        if "VmStk" in lines:
-            figures = int(lines["VmStk"].split()[0]), int(lines["VmHWM"].split()[0])
+        if "VmHWM" in lines:
+            memory = int(lines["VmHWM"].split()[0])
         if lines["State"].split()[0] in "ZX":
-            return figures
-        if lines["State"].split()[0] == "S" and waits_to_write(process):
-            return figures
+            return 0, memory
+        if lines["State"].split()[0] == "S" and (top := writer(process)) is not None:
+            return stack_at(process, top), memory
         time.sleep(pause)
         pause = min(pause * 2, 0.02)
 
 
-def waits_to_write(process):
-    """Whether it stands in the system's call to write."""
-    try:
-        with open(f"/proc/{process}/syscall") as call:
-            return call.read().split()[0] == "1"
-    except OSError:
-        return False
+def writer(process):
+    """The top of the stack of the thread that stands in the system's call to write, if one does."""
+    for task in os.listdir(f"/proc/{process}/task"):
+        try:
+            with open(f"/proc/{process}/task/{task}/syscall") as call:
+                fields = call.read().split()
+        except OSError:
+            continue
+        if fields[0] == "1":
+            return int(fields[7], 16)
+    return None
+
+
+def stack_at(process, top):
+    """How many KB there are of the mapping that holds this place."""
+    is_here = False
+    with open(f"/proc/{process}/smaps") as mappings:
+        for line in mappings:
+            fields = line.split()
+            if "-" in fields[0] and not fields[0].endswith(":"):
+                begin, end = (int(it, 16) for it in fields[0].split("-"))
+                is_here = begin <= top < end
+            elif is_here and fields[0] == "Rss:":
+                return int(fields[1])
+    return 0
 
 
 def checked(program, files, **limits):
