@@ -29,10 +29,6 @@ abbrev pub from_each : {A B : Type 0} → (A → List Lexeme → List B) → (A 
 from_each given text [] r = []
 from_each given text (x ∷ xs) r = given x (each text xs r) ++ from_each given text xs r
 
--- the text from an item on
-abbrev pub from_here : {A : Type 0} → (A → List Lexeme → List Lexeme) → A → List Lexeme → List (List Lexeme)
-from_here text x r = text x r ∷ []
-
 -- Each basic method begins with its word.
 abbrev pub more_methods : List BasicPhrase → List Lexeme → List (List Lexeme)
 more_methods [] r = []
