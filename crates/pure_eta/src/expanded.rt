@@ -20,13 +20,13 @@ pub fn is_expanded(t: &Term, scope: &Scope, is_applied: bool) -> bool
         TermNode::Bound { .. } => is_expanded_here(t, scope, is_applied),
         TermNode::Abs { typ, body, .. } => is_expanded(body, &Scope::Under(typ, &*scope), false),
         TermNode::App { fun, arg, .. } => {
+            if !is_expanded_here(t, scope, is_applied) {
+                return false;
+            }
             if !is_expanded(fun, scope, true) {
                 return false;
             }
-            if !is_expanded(arg, scope, false) {
-                return false;
-            }
-            is_expanded_here(t, scope, is_applied)
+            is_expanded(arg, scope, false)
         }
     }
 }

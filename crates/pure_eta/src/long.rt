@@ -29,7 +29,7 @@ pub fn long_form(alloc: Global, t: &Term) -> Result<Term, Grow>
         return Err(Grow::Big);
     };
     let t = copied(alloc, t)?;
-    let long = lengthen(alloc, &t, &scope, false)?;
+    let long = long_under(alloc, &t, &scope)?;
     Ok(long.copy(alloc)?)
 }
 
@@ -41,7 +41,7 @@ pub fn lengthened(alloc: Global, t: &Term) -> Result<Term, AllocError>
 {
     let scope = Scope::Empty;
     let t = copied(alloc, t)?;
-    let long = lengthen(alloc, &t, &scope, false)?;
+    let long = long_under(alloc, &t, &scope)?;
     Ok(long.copy(alloc)?)
 }
 
