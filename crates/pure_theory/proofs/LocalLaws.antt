@@ -1,13 +1,13 @@
 -- Promises that are local to a lemma.
-use Rattle.std.proofs.Common.{◌≡◌, ◌↔◌, ℕ, List, ◌++◌, ◌∷◌, refl, sym, ◌∙◌, inl, subst}
+use Rattle.std.proofs.Common.{◌≡◌, ◌↔◌, ℕ, List, ◌∷◌, refl, sym, ◌∙◌, inl, subst}
 use Rattle.std.proofs.lemmas.Option.{same_Some, none-some}
-use Rattle.std.specs.Prelude.{Option, Some, None, Result, Ok, Err, IfOk, MatchOption, slice_get}
+use Rattle.std.specs.Prelude.{Option, Some, None, Result, Ok, Err, IfOk, MatchOption}
 use Rattle.pure_text.specs.Lists.{IsIn}
 use Rattle.pure_text.proofs.ListLaws.{in-append_right}
 use Rattle.pure_definitions.specs.Names.{Label}
 use Rattle.pure_definitions.specs.Terms.Term.{Term}
 use Rattle.pure_definitions.specs.Declarations.Decl.{Decl, PromiseDecl}
-use Rattle.pure_typ.specs.NameTexts.{name_texts, HasText}
+use Rattle.pure_typ.specs.NameTexts.{HasText}
 use Rattle.pure_logic.specs.Content.{Content}
 use Rattle.pure_theory_tables.specs.Facts.{Stated, fact, fact_decl}
 use Rattle.pure_lookup.specs.Meaning.{full_text}
