@@ -1,18 +1,20 @@
 -- What a written name means: one thing at most, what is declared, and what one declaration more changes.
 use Rattle.std.proofs.Common.{◌≡◌, ◌≢◌, ◌⊎◌, ◌↔◌, ℕ, ◌+◌, ◌<◌, ◌≤◌, List, [], ◌∷◌, ◌++◌, refl, ap, sym, ◌∙◌, inl, inr, arith}
 use Rattle.std.specs.Prelude.{Option, Some, None, slice_get}
+use Rattle.std.proofs.lemmas.Option.{slice_get_within}
 use Rattle.pure_text.specs.Lists.{IsIn}
 use Rattle.pure_text.proofs.ListLaws.{in-append_left, in-append_right, in_split, each_at}
-use Rattle.pure_definitions.specs.Names.{protect_name}
+use Rattle.pure_definitions.specs.Names.{Label, builtin_count, protect_name}
+use Rattle.pure_definitions.specs.Terms.Term.{Term}
 use Rattle.pure_definitions.specs.Declarations.Decl.{Decl, ClassDecl, ConDecl, ConstDecl, AxiomDecl, PromiseDecl}
 use Rattle.pure_typ.specs.NameTexts.{builtin_texts, HasText}
-use Rattle.pure_typ.proofs.NamesLemmas.{slice_get-left, Some-inj}
+use Rattle.pure_typ.proofs.NamesLemmas.{slice_get-left, length-builtin_texts, Some-inj}
 use Rattle.pure_logic.specs.Content.{TheoryId, Content, IsContent}
 use Rattle.pure_logic.specs.Beginning.{theories_of}
 use Rattle.pure_logic.proofs.AncestorLaws.{in-theories, theories-in, theories_are_told_apart}
 use Rattle.pure_lookup.specs.Meaning.{Space, classes, constructors, constants, facts, IsDeclaredIn, pure_text, full_text, Meaning, Declared, Built, IsWritable, IsOfPure, IsOfTheory, IsVisible, IsMeant}
-use Rattle.pure_lookup.specs.LookUps.{Fact, BuiltFact, AxiomFact, PromisedFact, IsFoundName, HasMeaning, IsFoundFact}
-use Rattle.pure_lookup.specs.Laws.{IsInSession, Declares, with_decl}
+use Rattle.pure_lookup.specs.LookUps.{Fact, BuiltFact, AxiomFact, PromisedFact, IsFoundName, HasMeaning, IsFoundFact, IsLocal, IsFoundLocal, local, elsewhere}
+use Rattle.pure_lookup.specs.Laws.{IsInSession, IsTheoryText, Declares, with_decl}
 use Rattle.pure_lookup.proofs.TextLemmas.{one_builtin, one_built, builtin-not_built, one_name, pure-has_no_dot, one_cut}
 
 -- Under one full name there is one thing at most in Pure, and one in the other theories.
@@ -106,6 +108,42 @@ one_fact texts Q s q written (Some f) (Some g) h k =
     let same = one_meaning texts Q s facts written h.0 k.0 h.1 k.1 in
     ap Some (fact-once Q q f g k.0 (rw (← same) h.2) k.2)
 
+-- A fact is local to a lemma under one name, so there is one at most.
+local-once : (texts : List (List ℕ)) (Q : Content) → IsInSession texts Q → IsContent Q → (lemma : ℕ) (written : List ℕ) (m n : ℕ) (k l : Label) (A B : Term)
+    → IsLocal texts Q lemma written m k A → IsLocal texts Q lemma written n l B → PromisedFact m k A ≡ PromisedFact n l B
+local-once texts Q s q lemma written m n k l A B h j =
+    let text : h.text ≡ j.text = Some-inj (sym h.lemma_text ∙ j.lemma_text) in
+    let names : m ≡ n = one_name texts s.names (full_text j.text written) m n (rw (← text) h.full) j.full in
+    let same = q.named_once (PromiseDecl m k A) (PromiseDecl n l B) h.promised j.promised names in
+    cc
+
+pub one_local : (texts : List (List ℕ)) (Q : Content) → IsInSession texts Q → IsContent Q → (lemma : ℕ) (written : List ℕ) (a b : Option Fact)
+    → IsFoundLocal texts Q lemma written a → IsFoundLocal texts Q lemma written b → a ≡ b
+one_local texts Q s q lemma written (Some (PromisedFact m k A)) (Some (PromisedFact n l B)) (local h) (local j) = ap Some (local-once texts Q s q lemma written m n k l A B h j)
+one_local texts Q s q lemma written (Some (PromisedFact m k A)) b (local h) (elsewhere none f) = absurd (none m k A h)
+one_local texts Q s q lemma written a (Some (PromisedFact n l B)) (elsewhere none f) (local j) = absurd (none n l B j)
+one_local texts Q s q lemma written a b (elsewhere none f) (elsewhere other g) = one_fact texts Q s q written a b f g
+
+-- A full name with two dots isn't that of a theory's own.
+three_parts : (theory lemma base other part : List ℕ) → (¬ IsIn 46 theory) → (¬ IsIn 46 other) → (¬ IsIn 46 part) → full_text theory (full_text lemma base) ≡ full_text other part → ⊥
+three_parts theory lemma base other part clean apart plain e =
+    let cut = one_cut theory other (full_text lemma base) part clean apart e in
+    plain (rw (← cut.1) (in-append_right 46 lemma (46 ∷ base) (inl refl)))
+
+local-unseen : (texts : List (List ℕ)) (Q : Content) → IsInSession texts Q → (theory lemma base : List ℕ) → (¬ IsIn 46 theory) → (n : ℕ) → builtin_count ≤ n
+    → HasText texts n (full_text theory (full_text lemma base)) → (space : Space) (place : ℕ) (other part : List ℕ) → (¬ IsIn 46 part) → IsVisible texts Q space place other part (Declared n) → ⊥
+local-unseen texts Q s theory lemma base clean n late full space place other part plain (inl h) =
+    let few = slice_get_within builtin_texts n (full_text other part) h.2.1 in
+    let six = length-builtin_texts in
+    absurd (omega (arith, late, few, six))
+local-unseen texts Q s theory lemma base clean n late full space place other part plain (inr (t, i, at, text, h)) =
+    three_parts theory lemma base other part clean (s.theories t other i text).0 plain (Some-inj (sym full ∙ h.1))
+
+pub local_is_never_meant : (texts : List (List ℕ)) (Q : Content) → IsInSession texts Q → (theory lemma base : List ℕ) → (¬ IsIn 46 theory) → (n : ℕ) → builtin_count ≤ n
+    → HasText texts n (full_text theory (full_text lemma base)) → (space : Space) (written : List ℕ) → ¬ IsMeant texts Q space written (Declared n)
+local_is_never_meant texts Q s theory lemma base clean n late full space written (inl h) = local-unseen texts Q s theory lemma base clean n late full space h.1.place h.1.theory h.1.base h.1.clean h.1.visible
+local_is_never_meant texts Q s theory lemma base clean n late full space written (inr h) = local-unseen texts Q s theory lemma base clean n late full space h.1.place h.1.theory written h.0 h.1.visible
+
 -- What is visible under a name may be written.
 pub visible-writable : (texts : List (List ℕ)) (Q : Content) (space : Space) (p : ℕ) (t b : List ℕ) (n : ℕ) → IsVisible texts Q space p t b (Declared n) → IsWritable Q space n
 visible-writable texts Q space p t b n (inl h) = h.2.0
@@ -160,18 +198,18 @@ module _ (texts : List (List ℕ)) (Q : Content) (d : Decl) (space : Space) wher
   abbrev IsOld : List ℕ → Type 0
   IsOld full = (n : ℕ) → Declares d space n → ¬ HasText texts n full
 
-  visible-back : (p : ℕ) (t b : List ℕ) (m : Meaning) → IsOld (full_text t b) → IsVisible texts (with_decl Q d) space p t b m → IsVisible texts Q space p t b m
-  visible-back p t b (Declared n) old (inl h) = inl (h.0, h.1, (writable-back n (λ new. old n new (slice_get-left builtin_texts texts n (full_text t b) h.2.1)) h.2.0, h.2.1))
+  visible-back : (p : ℕ) (t b : List ℕ) (m : Meaning) → (IsTheoryText texts Q t → IsOld (full_text t b)) → IsVisible texts (with_decl Q d) space p t b m → IsVisible texts Q space p t b m
+  visible-back p t b (Declared n) old (inl h) = inl (h.0, h.1, (writable-back n (λ new. old (inl h.1) n new (slice_get-left builtin_texts texts n (full_text t b) h.2.1)) h.2.0, h.2.1))
   visible-back p t b (Built i) old (inl h) = inl h
-  visible-back p t b (Declared n) old (inr (v, i, place, text, h)) = inr (v, i, place, text, (writable-back n (λ new. old n new h.1) h.0, h.1))
+  visible-back p t b (Declared n) old (inr (v, i, place, text, h)) = inr (v, i, place, text, (writable-back n (λ new. old (inr (v, i, text)) n new h.1) h.0, h.1))
   visible-back p t b (Built j) old (inr h) = inr h
 
-  module _ (written : List ℕ) (other : (n : ℕ) (theory base : List ℕ) → Declares d space n → HasText texts n (full_text theory base) → (written ≢ full_text theory base) × (written ≢ base)) where
-    old-in_full : (t b : List ℕ) → written ≡ full_text t b → IsOld (full_text t b)
-    old-in_full t b e n new text = (other n t b new text).0 e
+  module _ (written : List ℕ) (other : (n : ℕ) (theory base : List ℕ) → Declares d space n → IsTheoryText texts Q theory → HasText texts n (full_text theory base) → (written ≢ full_text theory base) × (written ≢ base)) where
+    old-in_full : (t b : List ℕ) → written ≡ full_text t b → IsTheoryText texts Q t → IsOld (full_text t b)
+    old-in_full t b e theory n new text = (other n t b new theory text).0 e
 
-    old-by_base : (t : List ℕ) → IsOld (full_text t written)
-    old-by_base t n new text = (other n t written new text).1 refl
+    old-by_base : (t : List ℕ) → IsTheoryText texts Q t → IsOld (full_text t written)
+    old-by_base t theory n new text = (other n t written new theory text).1 refl
 
     meant-more : (m : Meaning) → IsMeant texts Q space written m → IsMeant texts (with_decl Q d) space written m
     meant-more m (inl (dot, h)) = inl (dot, record { place = h.place; theory = h.theory; base = h.base; full = h.full; clean = h.clean; visible = visible-more h.place h.theory h.base m h.visible })

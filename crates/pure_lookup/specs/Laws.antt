@@ -1,13 +1,13 @@
 -- Laws of the look-ups: one answer, what is found, and what one declaration more changes.
-use Rattle.std.specs.Prelude.{◌≡◌, ◌≢◌, ◌↔◌, ℕ, List, [], ◌∷◌, ◌++◌, Option, Some}
+use Rattle.std.specs.Prelude.{◌≡◌, ◌≢◌, ◌⊎◌, ◌≤◌, ◌↔◌, ℕ, List, [], ◌∷◌, ◌++◌, Option, Some}
 use Rattle.pure_text.specs.Lists.{IsIn}
-use Rattle.pure_definitions.specs.Names.{protect_name}
+use Rattle.pure_definitions.specs.Names.{builtin_count, protect_name}
 use Rattle.pure_definitions.specs.Declarations.Decl.{Decl}
 use Rattle.pure_typ.specs.NameTexts.{AreSessionTexts, HasText}
 use Rattle.pure_logic.specs.Content.{TheoryId, Content, IsContent}
 use Rattle.pure_logic.specs.Beginning.{theories_of, HasTheoriesApart}
 use Rattle.pure_lookup.specs.Meaning.{Space, IsDeclaredIn, pure_text, full_text, Meaning, Declared, IsMeant}
-use Rattle.pure_lookup.specs.LookUps.{Fact, IsFoundName, IsFoundFact}
+use Rattle.pure_lookup.specs.LookUps.{Fact, IsFoundName, IsFoundFact, IsFoundLocal}
 
 -- What a session gives with each of its contents: its names have their texts, the content's theories are told apart, and their texts have no dot (46) and aren't Pure's.
 pub record IsInSession (texts : List (List ℕ)) (Q : Content) : Type 0 where
@@ -32,6 +32,16 @@ FoundIsDeclared = (texts : List (List ℕ)) (Q : Content) (space : Space) (writt
 abbrev pub ProtectIsNeverFound : Type 0
 ProtectIsNeverFound = (texts : List (List ℕ)) (Q : Content) (space : Space) (written : List ℕ) → ¬ IsMeant texts Q space written (Declared protect_name)
 
+-- In a proof, too.
+abbrev pub OneLocalFact : Type 0
+OneLocalFact = (texts : List (List ℕ)) (Q : Content) → IsInSession texts Q → IsContent Q → (lemma : ℕ) (written : List ℕ) (a b : Option Fact)
+    → IsFoundLocal texts Q lemma written a → IsFoundLocal texts Q lemma written b → a ≡ b
+
+-- What stands under the full name of a lemma with one part more isn't found by any written name.
+abbrev pub LocalIsNeverMeant : Type 0
+LocalIsNeverMeant = (texts : List (List ℕ)) (Q : Content) → IsInSession texts Q → (theory lemma base : List ℕ) → (¬ IsIn 46 theory) → (n : ℕ) → builtin_count ≤ n
+    → HasText texts n (full_text theory (full_text lemma base)) → (space : Space) (written : List ℕ) → ¬ IsMeant texts Q space written (Declared n)
+
 -- the content with one declaration more
 abbrev pub with_decl : Content → Decl → Content
 with_decl Q d = record { declarations = Q.declarations ++ d ∷ []; own = Q.own; ancestors = Q.ancestors }
@@ -40,10 +50,14 @@ with_decl Q d = record { declarations = Q.declarations ++ d ∷ []; own = Q.own;
 abbrev pub Declares : Decl → Space → ℕ → Type 0
 Declares d space n = IsDeclaredIn space (d ∷ []) n
 
--- What is declared beside it changes no meaning of a written name, unless a name that is new in its name space has the written text, or one with that base.
+-- It is the text of Pure, or of one of the content's theories.
+abbrev pub IsTheoryText : (texts : List (List ℕ)) → Content → (theory : List ℕ) → Type 0
+IsTheoryText texts Q theory = (theory ≡ pure_text) ⊎ ((t : TheoryId) × IsIn t (theories_of Q) × HasText texts t.name theory)
+
+-- What is declared beside it changes no meaning of a written name, unless a name that is new in its name space, and is the full name of something in a theory of the content, has the written text, or one with that base.
 abbrev pub MeaningIsKept : Type 0
 MeaningIsKept = (texts : List (List ℕ)) (Q : Content) (d : Decl) (space : Space) (written : List ℕ)
-    → ((n : ℕ) (theory base : List ℕ) → Declares d space n → HasText texts n (full_text theory base) → (written ≢ full_text theory base) × (written ≢ base))
+    → ((n : ℕ) (theory base : List ℕ) → Declares d space n → IsTheoryText texts Q theory → HasText texts n (full_text theory base) → (written ≢ full_text theory base) × (written ≢ base))
     → (m : Meaning) → IsMeant texts Q space written m ↔ IsMeant texts (with_decl Q d) space written m
 
 -- A name that is declared in the content's own theory is found by its full name and by its base, whatever stood there before.

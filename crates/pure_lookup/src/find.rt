@@ -10,8 +10,8 @@ ghost use Rattle.pure_lookup.specs.Places.{IsPlaceOf, IsTheoryIn, IsBest};
 use crate::scope::Scope;
 use pure_typ::{BUILTIN_COUNT, Name, Names, NamesByBase};
 
-/// What stands in front of the text's first dot.
-fn theory_in(text: &[u8]) -> Option<&[u8]>
+/// What stands in front of the text's first dot; none where it has no dot.
+pub fn theory_in(text: &[u8]) -> Option<&[u8]>
     ensures { MatchOption result (¬ IsIn 46 text.now) (λ theory. IsTheoryIn text.now theory.now) }
 {
     for (at, byte) in text.iter().enumerate() {

@@ -6,5 +6,5 @@ mod find;
 pub mod laws;
 mod scope;
 
-pub use find::find_name;
+pub use find::{find_name, theory_in};
 pub use scope::Scope;

@@ -11,3 +11,4 @@ pub mod FactLookupLaws
 pub mod CertifiedLaws
 pub mod AgreedLaws
 pub mod PlainLaws
+pub mod LocalLaws

@@ -6,7 +6,7 @@ use Rattle.pure_text.specs.Lists.{IsIn, Each}
 use Rattle.pure_text.proofs.ListLaws.{in-append_right, each_at, each_of}
 use Rattle.pure_typ.specs.NameTexts.{AreSessionTexts, HasText, name_texts}
 use Rattle.pure_logic.specs.Content.{TheoryId, Content}
-use Rattle.pure_logic.specs.Beginning.{theories_of, HasTheoriesApart}
+use Rattle.pure_logic.specs.Beginning.{HasTheoriesApart}
 use Rattle.pure_logic.proofs.AncestorLaws.{in-theories, theories-in}
 use Rattle.pure_lookup.specs.Meaning.{pure_text}
 use Rattle.pure_lookup.specs.Laws.{IsInSession}

@@ -1,5 +1,5 @@
 -- Theories whose texts look-ups tell from others.
-use Rattle.std.specs.Prelude.{◌≡◌, ◌≢◌, ℕ, List}
+use Rattle.std.specs.Prelude.{◌≢◌, ℕ, List}
 use Rattle.pure_text.specs.Lists.{IsIn}
 use Rattle.pure_typ.specs.NameTexts.{HasText}
 use Rattle.pure_logic.specs.Content.{TheoryId}

@@ -10,6 +10,7 @@ mod declare;
 mod definition;
 mod facts;
 mod fault;
+mod local;
 mod lookup;
 mod plain;
 mod pure;

@@ -6,7 +6,7 @@ use pure_term::{Name, Term};
 use pure_theorem::Built;
 use pure_theory::{Fact, Theory};
 use pure_typ::NamesByBase;
-use std::alloc::Global;
+use std::alloc::{AllocError, Global};
 use std::mem;
 
 /// A name space.
@@ -101,6 +101,19 @@ fn meaning_of_fact(alloc: Global, fact: &Fact) -> Meaning {
     }
 }
 
+/// What was found among facts.
+fn meaning_found(alloc: Global, found: Result<Option<Fact>, AllocError>) -> Result<Meaning, Stop> {
+    match found {
+        Ok(Some(fact)) => {
+            let meaning = meaning_of_fact(alloc, &fact);
+            mem::forget(fact);
+            Ok(meaning)
+        }
+        Ok(None) => Ok(Meaning::Nothing),
+        Err(_) => Err(Stop::Memory),
+    }
+}
+
 /// What the written name means among facts; names have to serve look-ups in the theory.
 fn fact(
     alloc: Global,
@@ -112,15 +125,23 @@ fn fact(
     if !theory.may_look_up(names) {
         return Err(Stop::Unreadable);
     }
-    match theory.find_fact(names, written) {
-        Ok(Some(fact)) => {
-            let meaning = meaning_of_fact(alloc, &fact);
-            mem::forget(fact);
-            Ok(meaning)
-        }
-        Ok(None) => Ok(Meaning::Nothing),
-        Err(_) => Err(Stop::Memory),
+    meaning_found(alloc, theory.find_fact(names, written))
+}
+
+/// What it means in a proof of the lemma with this text.
+pub(crate) fn local_fact(
+    alloc: Global,
+    theory: &Theory,
+    names: &NamesByBase,
+    lemma: &[u8],
+    written: &[u8],
+) -> Result<Meaning, Stop> {
+    let lemma = name_of(names, lemma)?;
+    names.are_session_texts();
+    if !theory.may_look_up(names) {
+        return Err(Stop::Unreadable);
     }
+    meaning_found(alloc, theory.find_local(names, written, lemma))
 }
 
 /// What the written name means among classes, types or constants.

@@ -1,7 +1,7 @@
 //! The words of `look_ups.rows`.
 use crate::ancestors::{SETTINGS, put_theories};
 use crate::kept::Kept;
-use crate::look_ups::{found, meaning_of, space_of};
+use crate::look_ups::{found, local_fact, meaning_of, space_of};
 use crate::names::{no_names, own_names};
 use crate::notation::given;
 use crate::stop::Stop;
@@ -46,6 +46,17 @@ impl LookUps<'_> {
         Ok(Outcome::Holds)
     }
 
+    /// `local`: a lemma, a written name, and its meanings in the lemma's proofs.
+    fn local_row(&self, alloc: Global, row: &Row) -> Result<Outcome, Stop> {
+        for (setting, stage) in SETTINGS.iter().zip(self.over.iter()) {
+            let wanted = meaning_of(self.names, row.field(setting.field))?;
+            if local_fact(alloc, &**stage, self.names, row.field(1), given(row, 2))? != wanted {
+                return Ok(Outcome::Differs);
+            }
+        }
+        Ok(Outcome::Holds)
+    }
+
     /// `pure`: a name space, a written name, and its meaning.
     fn pure_row(&self, alloc: Global, row: &Row) -> Result<Outcome, Stop> {
         let holds = is_meant(alloc, &**self.pure, self.own, row, 3)?;
@@ -56,6 +67,9 @@ impl LookUps<'_> {
     fn outcome_of(&self, alloc: Global, row: &Row) -> Result<Outcome, Stop> {
         if row.field(0) == b"over".as_slice() && row.len() == 6 {
             return self.over_row(alloc, row);
+        }
+        if row.field(0) == b"local".as_slice() && row.len() == 6 {
+            return self.local_row(alloc, row);
         }
         if row.field(0) == b"pure".as_slice() && row.len() == 4 {
             return self.pure_row(alloc, row);

@@ -3,9 +3,9 @@ use Rattle.std.specs.Prelude.{ℕ, ◌+◌, ◌*◌, ◌%◌, Option, Some, None
 use Rattle.pure_definitions.specs.Names.{Label}
 use Rattle.pure_definitions.specs.Declarations.Decl.{Decl, ClassDecl, ArityDecl}
 
--- The number of a label. Labels of one number are rare: in a session with fewer theories than 4,096, fewer commands in each than 65,536 and fewer parts than 16 there are none.
+-- The number of a label. Labels of one number are rare: in a session with at most 2,048 theories, 1,024 commands in each and 2,048 parts in a command there are none.
 unfoldable pub label_key : Label → ℕ
-label_key l = (l.theory * 1048576 + l.command * 16 + l.part) % 4294967296
+label_key l = (l.theory * 2097152 + l.command * 2048 + l.part) % 4294967296
 
 -- The number of an arity. Arities of one number are rare: in a session with fewer names than 65,599 there are none.
 unfoldable pub arity_key : (con class : ℕ) → ℕ

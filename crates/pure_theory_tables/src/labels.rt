@@ -23,7 +23,7 @@ pub struct Labels {
 fn key_of(label: Label) -> u32
     ensures { result ≡ label_key label }
 {
-    let sum = label.theory as u64 * 1048576 + label.command as u64 * 16 + label.part as u64;
+    let sum = label.theory as u64 * 2097152 + label.command as u64 * 2048 + label.part as u64;
     (sum % 4294967296) as u32
 }
 

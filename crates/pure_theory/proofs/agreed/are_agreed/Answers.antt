@@ -1,7 +1,7 @@
 use Rattle.std.proofs.Common.{◌∙◌}
 use Rattle.pure_text.proofs.AnswerLaws.{test_fails, yes_as, no_as}
 use Rattle.pure_theory.specs.Begin.{contents}
-use Rattle.pure_theory.proofs.MergeLaws.{all_parents, some_parent}
+use Rattle.pure_theory.proofs.MergeLaws.{all_parents}
 use Rattle.pure_theory.proofs.AgreedLaws.{agreed_once, agreed_first, agreed_turn, turn_named, fits_where_agreed}
 use Rattle.pure_theory.proofs.agreed.are_agreed.Goals as goal
 

@@ -1,5 +1,4 @@
 use Rattle.std.proofs.Common.{take_all}
-use Rattle.pure_text.specs.Lists.{Each}
 use Rattle.pure_text.proofs.AnswerLaws.{test_fails, yes_as, no_as}
 use Rattle.pure_text.proofs.ListLaws.{each_read}
 use Rattle.pure_text.proofs.LoopLaws.{each_turn}
