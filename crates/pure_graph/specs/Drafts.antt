@@ -7,14 +7,14 @@ use Rattle.pure_graph.specs.Listing.{file_name}
 use Rattle.pure_graph.specs.Seen.{seen_outcome}
 use Rattle.pure_graph.specs.Told.{IsHeld, IsTriedOf}
 use Rattle.pure_graph.specs.declared.drafts.Known.{Known}
-use Rattle.pure_graph.specs.declared.drafts.Known.TheVariants.{Read, Said, Wanting}
+use Rattle.pure_graph.specs.declared.drafts.Known.TheVariants.{Read, Said, Taken}
 use Rattle.pure_graph.specs.declared.drafts.Draft.{Draft}
 
--- This is known of the file of a theory at this place: of one among the first, its bytes as the library tells them; or what it says; or nothing, since memory ran out.
+-- This is known of the file of a theory at this place: of one among the first, its bytes as the library tells them; or what it says; or nothing.
 abbrev pub IsKnownOf : (told : Option (List library.File)) → (place : ℕ) → (theory : List ℕ) → Known → Type 0
 IsKnownOf told place theory (Read bytes) = (place < most_files) × IfSome told (λ files. IsHeld (text_named (file_name theory) files) bytes)
 IsKnownOf told place theory (Said outcome) = IsTriedOf told (nat_lt place most_files) theory (seen_outcome outcome)
-IsKnownOf told place theory Wanting = Unit {0}
+IsKnownOf told place theory Taken = Unit {0}
 
 -- these are drafts of the theories' files, the first at this place
 abbrev pub AreDraftsFrom : (told : Option (List library.File)) → (place : ℕ) → List (List ℕ) → List Draft → Type 0

@@ -21,8 +21,8 @@ pub(crate) enum Known {
     Read { bytes: Option<Text> },
     /// What it says by itself.
     Said { outcome: Outcome },
-    /// Nothing: memory ran out.
-    Wanting,
+    /// Nothing: it is taken to be worked on.
+    Taken,
 }
 
 /// A theory, and what is known of its file.
@@ -32,17 +32,17 @@ pub(crate) struct Draft {
     pub(crate) known: Known,
 }
 
-/// What is known once what was read has said what it says.
+/// What is known once what was read has said what it says. Where memory runs out it stays as it was read.
 fn said(alloc: Global, theory: &Text, known: Known) -> Known
     ensures { (told : Option (List library.File)) (place : ℕ) → IsKnownOf told place theory.now known → IsKnownOf told place theory.now result }
 {
     match known {
         Known::Read { bytes } => match own_outcome(alloc, theory, bytes) {
             Ok(outcome) => Known::Said { outcome },
-            Err(_) => Known::Wanting,
+            Err(bytes) => Known::Read { bytes },
         },
         Known::Said { outcome } => Known::Said { outcome },
-        Known::Wanting => Known::Wanting,
+        Known::Taken => Known::Taken,
     }
 }
 
@@ -50,11 +50,11 @@ fn said(alloc: Global, theory: &Text, known: Known) -> Known
 fn say(alloc: Global, draft: &mut Draft)
     ensures { IsSaidOf draft.old draft.new }
 {
-    let known = mem::replace(&mut draft.known, Known::Wanting);
+    let known = mem::replace(&mut draft.known, Known::Taken);
     draft.known = said(alloc, &draft.theory, known);
 }
 
-/// Has each file say what it says, in so many threads at most.
+/// Has each file say what it says, in so many threads at most. One for which a thread finds no memory stays as it was read.
 pub(crate) fn say_all<T: Threads + Sync>(
     threads: &T,
     alloc: Global,
@@ -69,7 +69,7 @@ pub(crate) fn say_all<T: Threads + Sync>(
     thread::for_each_mut(threads, drafts, number.max(1), &worker);
 }
 
-/// What a file says by itself.
+/// What a file says by itself; it is asked here where it hasn't said it yet.
 pub(crate) fn own_file(alloc: Global, draft: Draft) -> Result<TheoryFile, AllocError>
     ensures theory { IfOk result (λ file. file.theory ≡ draft.theory) }
     ensures own { IfOk result (λ file. (told : Option (List library.File)) (place : ℕ) → IsKnownOf told place draft.theory draft.known → IsTriedOf told (nat_lt place most_files) draft.theory (seen_outcome file.outcome)) }

@@ -7,4 +7,4 @@ use Rattle.pure_graph.proofs.drafts.said.Goals as goal
 pub returns-in-Ok : goal.returns-in-Ok
 returns-in-Ok c told place known =
     let read = subst (IsKnownOf told place c.args.theory.now) c.in-Read.is known in
-    read-file told c.args.theory.now place c.in-Read.bytes (seen_outcome c.in-Ok.outcome) read.0 read.1 c.in-Ok.ensures
+    read-file told c.args.theory.now place c.in-Read.bytes (seen_outcome c.in-Ok.outcome) read.0 read.1 c.in-Ok.ensures.ok
