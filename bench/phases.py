@@ -24,13 +24,14 @@ use pure_theory_run::{Checker, Statements};
 use std::alloc::Global;
 use std::rt::{Clock, Files};
 use std::test::Fail;
+use std::thread::Threads;
 use std::time::Instant;
 
-fn loaded<R: Files + Print + AllocGlobal>(rt: &R) -> Result<Session, Fail>
+fn loaded<R: Files + Print + AllocGlobal + Threads + Sync>(rt: &R) -> Result<Session, Fail>
     ensures { IfOk result (λ s. IsLoadedSession s.names (all_loaded s.theories.items)) }
 {
     let mut library = DirLibrary::make();
-    match load(rt, rt.alloc(), &mut library) {
+    match load(rt, rt.alloc(), &mut library, rt, 1) {
         Ok(session) => {
             session.names.are_session_texts();
             Ok(session)

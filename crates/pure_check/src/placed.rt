@@ -63,7 +63,7 @@ pub(crate) fn check_placed<
     ensures files { L.files library.new ≡ L.files library.old }
     ensures later { L.faults library.old ≤ L.faults library.new }
 {
-    match load(rt, alloc, library) {
+    match load(rt, alloc, library, rt, workers as usize) {
         Ok(session) => {
             session.names.are_session_texts();
             placed_answer(rt, alloc, session, workers, library, gate)

@@ -96,7 +96,7 @@ pub(crate) fn table_answer<
     ensures files { L.files library.new ≡ L.files library.old }
     ensures later { L.faults library.old ≤ L.faults library.new }
 {
-    match load(rt, alloc, library) {
+    match load(rt, alloc, library, rt, asking.workers as usize) {
         Ok(session) => {
             session.names.are_session_texts();
             session_answer(rt, alloc, session, asking, extent, gate)

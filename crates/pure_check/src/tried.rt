@@ -81,7 +81,7 @@ pub(crate) fn tried<R: Files + Print + AllocGlobal + Threads + Sync, L: Library>
     ensures files { L.files library.new ≡ L.files library.old }
     ensures later { L.faults library.old ≤ L.faults library.new }
 {
-    match load(rt, alloc, library) {
+    match load(rt, alloc, library, rt, workers as usize) {
         Ok(session) => {
             session.names.are_session_texts();
             session_line(rt, alloc, session, workers, name)

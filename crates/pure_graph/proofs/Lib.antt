@@ -4,3 +4,4 @@ pub mod SourceLemmas
 pub mod FilesLemmas
 pub mod Ascending
 pub mod LawsLemmas
+pub mod DraftLemmas

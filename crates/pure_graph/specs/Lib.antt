@@ -8,5 +8,6 @@ pub mod SessionNames
 pub mod Session
 pub mod Seen
 pub mod Told
+pub mod Drafts
 pub mod Parsed
 pub mod Laws

@@ -1,5 +1,5 @@
 //! Why nothing is loaded.
-use crate::outcome::TheoryFile;
+use crate::drafts::Draft;
 use std::alloc::{AllocError, AllocFailed};
 use thiserror::Error;
 
@@ -23,13 +23,13 @@ impl From<AllocError> for LoadFault {
     }
 }
 
-impl From<AllocFailed<TheoryFile>> for LoadFault {
+impl From<AllocFailed<Draft>> for LoadFault {
     ghost use Rattle.std.specs.Prelude.{◌≡◌};
     ghost use Rattle.pure_graph.specs.declared.fault.LoadFault.TheVariants.{Memory};
 
     ghost from_gives = { λ _ fault. fault ≡ Memory };
 
-    fn from(_failed: AllocFailed<TheoryFile>) -> LoadFault {
+    fn from(_failed: AllocFailed<Draft>) -> LoadFault {
         LoadFault::Memory
     }
 }

@@ -1,21 +1,24 @@
 //! The files of a library's theories.
-ghost use Rattle.std.specs.Prelude.{◌≡◌, ◌+◌, ◌≤◌, length, map, nat_lt, IfOk, IfSome};
+ghost use Rattle.std.specs.Prelude.{◌≡◌, ℕ, ◌+◌, ◌≤◌, List, Option, length, map, IfOk, IfSome};
+ghost use Rattle.pure_io.specs.declared.library.File as library;
 ghost use Rattle.pure_io.specs.Outside.{Rose, text_named};
 ghost use Rattle.pure_graph.specs.Limits.{most_files, most_bytes};
 ghost use Rattle.pure_graph.specs.Listing.{file_name};
-ghost use Rattle.pure_graph.specs.Outcome.{IsOwnOutcome};
-ghost use Rattle.pure_graph.specs.Seen.{seen_outcome, seen_files};
-ghost use Rattle.pure_graph.specs.Told.{IsHeld, IsTriedOf, AreReadOf, AreFilesOf};
+ghost use Rattle.pure_graph.specs.Drafts.{IsKnownOf, AreDraftsFrom};
+ghost use Rattle.pure_graph.specs.Seen.{seen_files};
+ghost use Rattle.pure_graph.specs.Told.{IsHeld, AreReadOf, AreFilesOf};
 
+use crate::drafts::{Draft, Known, own_file, say_all};
 use crate::fault::LoadFault;
 use crate::listing::{file_of, theories_of};
 use crate::outcome::{Outcome, Reason, TheoryFile};
-use crate::source::{MOST_BYTES, own_outcome};
+use crate::source::MOST_BYTES;
 use crate::sum::{command_count, counted};
 use pure_io::{LibFault, Library, ReadFault};
 use pure_text::Text;
-use std::alloc::Global;
+use std::alloc::{AllocError, Global};
 use std::rt::Files;
+use std::thread::Threads;
 
 /// The most files that are read.
 const MOST_FILES: usize = 256;
@@ -63,62 +66,75 @@ fn held_bytes<R: Files + Print + AllocGlobal, L: Library>(
     }
 }
 
-/// What the file of a theory says by itself, if it is read at all: behind the first files none is.
-fn outcome_at<R: Files + Print + AllocGlobal, L: Library>(
+/// What is read of the file of a theory, if it is read at all: behind the first files none is.
+fn known_at<R: Files + Print + AllocGlobal, L: Library>(
     rt: &R,
     alloc: Global,
     library: &mut L,
     place: usize,
     theory: &Text,
-) -> Result<Outcome, LoadFault>
-    ensures told { IfOk result (λ outcome. IsTriedOf (L.files library.old) (nat_lt place most_files) theory.now (seen_outcome outcome)) }
+) -> Result<Known, LoadFault>
+    ensures told { IfOk result (λ known. IsKnownOf (L.files library.old) place theory.now known) }
     ensures unread { most_files ≤ place → library.new ≡ library.old }
     ensures fault { result ≡ Err LoadFault.ReadFault → Rose (L.faults library.old) (L.faults library.new) }
     ensures files { L.files library.new ≡ L.files library.old }
     ensures later { L.faults library.old ≤ L.faults library.new }
 {
     if place >= MOST_FILES {
-        return Ok(Outcome::Refused {
+        let outcome = Outcome::Refused {
             reason: Reason::TooManyFiles,
-        });
+        };
+        return Ok(Known::Said { outcome });
     }
-    let held = held_bytes(rt, alloc, library, theory)?;
-    match own_outcome(alloc, theory, held) {
-        Ok(outcome) => Ok(outcome),
-        Err(_) => Err(LoadFault::Memory),
-    }
+    let bytes = held_bytes(rt, alloc, library, theory)?;
+    Ok(Known::Read { bytes })
 }
 
-/// The files of these theories, each with what it says by itself and by its place.
-fn read_theories<R: Files + Print + AllocGlobal, L: Library>(
+/// What is read of the files of these theories.
+fn read_drafts<R: Files + Print + AllocGlobal, L: Library>(
     rt: &R,
     alloc: Global,
     library: &mut L,
     theories: &[Text],
-) -> Result<Vec<TheoryFile>, LoadFault>
-    ensures told { IfOk result (λ files. AreReadOf (L.files library.old) theories.now (seen_files files.items)) }
+) -> Result<Vec<Draft>, LoadFault>
+    ensures told { IfOk result (λ drafts. AreDraftsFrom (L.files library.old) 0 theories.now drafts.items) }
     ensures fault { result ≡ Err LoadFault.ReadFault → Rose (L.faults library.old) (L.faults library.new) }
     ensures files { L.files library.new ≡ L.files library.old }
     ensures later { L.faults library.old ≤ L.faults library.new }
 {
+    let mut drafts = Vec::new(alloc);
+    for theory in theories {
+        let known = known_at(rt, alloc, library, drafts.len(), theory)?;
+        let theory = theory.copy(alloc)?;
+        drafts.push(Draft { theory, known })?;
+    }
+    Ok(drafts)
+}
+
+/// The files, each with what it says by itself and by its place.
+fn counted_files(alloc: Global, drafts: Vec<Draft>) -> Result<Vec<TheoryFile>, AllocError>
+    ensures { IfOk result (λ files. (told : Option (List library.File)) (theories : List (List ℕ)) → AreDraftsFrom told 0 theories drafts.items → AreReadOf told theories (seen_files files.items)) }
+{
     let mut files = Vec::new(alloc);
     let mut before = 0;
-    for theory in theories {
-        let own = outcome_at(rt, alloc, library, files.len(), theory)?;
-        let outcome = counted(before, own);
+    for draft in drafts {
+        let TheoryFile { theory, outcome } = own_file(alloc, draft)?;
+        let outcome = counted(before, outcome);
         before += command_count(&outcome);
-        let theory = theory.copy(alloc)?;
         files.push(TheoryFile { theory, outcome })?;
     }
     Ok(files)
 }
 
 /// The files of a library's theories in byte order, each with what it says by itself and by its place. At most one byte
-/// more than a file may have is read of each, and nothing of those behind the first 256.
-pub fn read_files<R: Files + Print + AllocGlobal, L: Library>(
+/// more than a file may have is read of each, and nothing of those behind the first 256. They are read one after the other,
+/// and what they say is found in so many threads at most.
+pub fn read_files<R: Files + Print + AllocGlobal, T: Threads + Sync, L: Library>(
     rt: &R,
     alloc: Global,
     library: &mut L,
+    threads: &T,
+    number: usize,
 ) -> Result<Vec<TheoryFile>, LoadFault>
     ensures told { IfOk result (λ files. AreFilesOf (L.files library.old) (seen_files files.items)) }
     ensures fault { result ≡ Err LoadFault.ReadFault → Rose (L.faults library.old) (L.faults library.new) }
@@ -127,6 +143,8 @@ pub fn read_files<R: Files + Print + AllocGlobal, L: Library>(
 {
     let names = list(rt, alloc, library)?;
     let theories = theories_of(alloc, &names)?;
-    let files = read_theories(rt, alloc, library, &theories)?;
+    let mut drafts = read_drafts(rt, alloc, library, &theories)?;
+    say_all(threads, alloc, number, drafts.as_mut_slice());
+    let files = counted_files(alloc, drafts)?;
     Ok(files)
 }

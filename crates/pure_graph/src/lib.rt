@@ -1,6 +1,7 @@
 //! The theories of a directory: which of its files are loaded, and why the others are refused.
 #![tactic(auto)]
 
+mod drafts;
 mod fault;
 mod files;
 mod header;

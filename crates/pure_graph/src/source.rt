@@ -1,5 +1,5 @@
 //! What the bytes of a theory's file say.
-ghost use Rattle.std.specs.Prelude.{◌≡◌, ◌≤◌, length, IfOk};
+ghost use Rattle.std.specs.Prelude.{◌≡◌, ◌≤◌, length, IfErr, IfOk, None};
 ghost use Rattle.pure_graph.specs.Limits.{most_bytes};
 ghost use Rattle.pure_graph.specs.Outcome.{IsOwnOutcome, IsBytesOutcome, syntax_at};
 ghost use Rattle.pure_graph.specs.Parsed.{IsParsed};
@@ -48,38 +48,63 @@ fn syntax_at(source: &[u8], at: u32) -> Reason
     Reason::Syntax { line, column }
 }
 
-/// What the bytes of a theory's file say.
-fn bytes_outcome(alloc: Global, theory: &Text, source: Text) -> Result<Outcome, AllocError>
-    ensures { IfOk result (λ outcome. IsBytesOutcome theory.now source (seen_outcome outcome)) }
+/// What the bytes of a theory's file say of which this was read.
+fn parsed_outcome(theory: &Text, source: Text, parsed: Parsed) -> Outcome
+    requires small { length source ≤ most_bytes }
+    requires parsed { IsParsed source parsed }
+    ensures { IsBytesOutcome theory.now source (seen_outcome result) }
+{
+    match parsed {
+        Parsed::Outside { at } => Outcome::Refused {
+            reason: syntax_at(source.bytes(), at),
+        },
+        Parsed::Theory { text } => tree_outcome(theory, source, text),
+    }
+}
+
+/// What the bytes of a theory's file say. Where memory runs out they come back.
+fn bytes_outcome(alloc: Global, theory: &Text, source: Text) -> Result<Outcome, Text>
+    ensures ok { IfOk result (λ outcome. IsBytesOutcome theory.now source (seen_outcome outcome)) }
+    ensures err { IfErr result (λ left. left ≡ source) }
 {
     if source.bytes().len() > MOST_BYTES as usize {
         return Ok(Outcome::Refused {
             reason: Reason::TooLarge,
         });
     }
-    match parse(alloc, source.bytes())? {
-        Parsed::Outside { at } => Ok(Outcome::Refused {
-            reason: syntax_at(source.bytes(), at),
-        }),
-        Parsed::Theory { text } => Ok(tree_outcome(theory, source, text)),
+    match parse(alloc, source.bytes()) {
+        Ok(parsed) => Ok(parsed_outcome(theory, source, parsed)),
+        Err(_) => Err(source),
     }
 }
 
-/// What the file of a theory says by itself: these are its bytes, or it is missing.
+/// What is said where a theory's file is missing.
+fn missing_outcome(alloc: Global, theory: &Text) -> Result<Outcome, AllocError>
+    ensures { IfOk result (λ outcome. IsOwnOutcome theory.now None (seen_outcome outcome)) }
+{
+    let theory = theory.copy(alloc)?;
+    Ok(Outcome::Refused {
+        reason: Reason::NoFile { theory },
+    })
+}
+
+/// What the file of a theory says by itself: these are its bytes, or it is missing. Where memory runs out they come back.
 pub(crate) fn own_outcome(
     alloc: Global,
     theory: &Text,
     bytes: Option<Text>,
-) -> Result<Outcome, AllocError>
-    ensures { IfOk result (λ outcome. IsOwnOutcome theory.now bytes (seen_outcome outcome)) }
+) -> Result<Outcome, Option<Text>>
+    ensures ok { IfOk result (λ outcome. IsOwnOutcome theory.now bytes (seen_outcome outcome)) }
+    ensures err { IfErr result (λ left. left ≡ bytes) }
 {
     match bytes {
-        None => {
-            let theory = theory.copy(alloc)?;
-            Ok(Outcome::Refused {
-                reason: Reason::NoFile { theory },
-            })
-        }
-        Some(source) => bytes_outcome(alloc, theory, source),
+        None => match missing_outcome(alloc, theory) {
+            Ok(outcome) => Ok(outcome),
+            Err(_) => Err(None),
+        },
+        Some(source) => match bytes_outcome(alloc, theory, source) {
+            Ok(outcome) => Ok(outcome),
+            Err(source) => Err(Some(source)),
+        },
     }
 }

@@ -5,6 +5,7 @@ use crate::sink::{Failed, Sink};
 use std::io;
 use std::marker::Model;
 use std::rt::Files;
+use std::thread::yield_now;
 
 /// Standard output. Tells no bytes. Contracts see it as its count of faults.
 #[derive(Debug, Drop)]
@@ -52,12 +53,35 @@ impl Sink for StdSink {
         ensures failed { OnErr result (self.new ≡ next_count self.old) }
         ensures later { self.old ≤ self.new }
     {
-        let answer = answer_of(rt.write_some(piece), piece);
+        let answer = answer_of(written_some(rt, piece), piece);
         if answer.is_err() {
             self.faults = self.faults.saturating_add(1);
         }
         answer
     }
+}
+
+/// Whether the system took nothing since it would have had to wait.
+fn is_blocked(written: &io::Result<usize>) -> bool {
+    match written {
+        Ok(_) => false,
+        Err(error) => error.kind() == io::ErrorKind::WouldBlock,
+    }
+}
+
+/// Has the system write some bytes of the piece. Where standard output takes none now, as a full pipe that doesn't block, the
+/// processor is left to others and the system asked again.
+fn written_some<R: Files + Print + AllocGlobal>(rt: &R, piece: &[u8]) -> io::Result<usize>
+    ensures { IfOk result (λ n. n ≤ length piece.now) }
+{
+    for _ in 0..u64::MAX {
+        let written = rt.write_some(piece);
+        if !is_blocked(&written) {
+            return written;
+        }
+        yield_now();
+    }
+    rt.write_some(piece)
 }
 
 /// What a write of the system means for a sink: one that takes nothing of a piece that isn't empty

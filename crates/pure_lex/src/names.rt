@@ -36,6 +36,9 @@ const KEYWORDS: [&[u8]; 21] = [
     b"version",
 ];
 
+/// The keyword of two bytes.
+const OF_TWO: [&[u8]; 1] = [b"by"];
+
 /// The keywords of three bytes.
 const OF_THREE: [&[u8]; 2] = [b"end", b"and"];
 
@@ -45,15 +48,24 @@ const OF_FOUR: [&[u8]; 2] = [b"done", b"have"];
 /// Those of five.
 const OF_FIVE: [&[u8]; 6] = [b"begin", b"class", b"where", b"lemma", b"apply", b"defer"];
 
+/// Those of six.
+const OF_SIX: [&[u8]; 3] = [b"theory", b"consts", b"prefer"];
+
+/// Those of seven.
+const OF_SEVEN: [&[u8]; 4] = [b"imports", b"arities", b"theorem", b"version"];
+
 /// Whether the text is a keyword. Only those of its length are looked at, where many texts have it.
 pub(crate) fn is_keyword(text: &[u8]) -> bool
     ensures { result ≡ is_keyword text.now }
 {
     match text.len() {
         1 => false,
+        2 => OF_TWO.contains(&text),
         3 => OF_THREE.contains(&text),
         4 => OF_FOUR.contains(&text),
         5 => OF_FIVE.contains(&text),
+        6 => OF_SIX.contains(&text),
+        7 => OF_SEVEN.contains(&text),
         9 => false,
         _ => KEYWORDS.contains(&text),
     }

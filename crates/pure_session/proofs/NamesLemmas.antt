@@ -1,5 +1,5 @@
 -- The names of theories, united.
-use Rattle.std.proofs.Common.{◌≡◌, ◌⊎◌, ◌↔◌, inl, inr, ℕ, List, [], ◌∷◌, ◌++◌, length, get_or, map, refl, sym, ◌∙◌, ap, arith}
+use Rattle.std.proofs.Common.{◌≡◌, ◌⊎◌, ◌↔◌, inl, inr, ℕ, List, [], ◌∷◌, ◌++◌, length, get_or, map, refl, sym, ◌∙◌, ap, arith, Result, Ok, Err, IfOk}
 use Rattle.std.specs.Prelude.{Vec}
 use Rattle.std.specs.declared.alloc.Global.{Global}
 use Rattle.std.specs.BTreeSet.{BTreeSet}
@@ -30,6 +30,10 @@ parts-mapped f xs front back parts = ap (map f) parts ∙ map-append f front bac
 pub names-none : (theories : List Loaded) (texts : List (List ℕ)) → theories ≡ [] → texts ≡ [] → AreNames theories texts
 unfolding IsStrictlySortedBy
 names-none theories texts no_theories no_texts = rw (no_theories, no_texts) (record { ascend = tt; given = λ t. (λ m. m, λ m. m) })
+
+pub names-ascend : {E : Type 0} (found : Result (List (List ℕ)) E) (theories : List Loaded) → IfOk found (AreNames theories) → IfOk found (IsStrictlySortedBy byte_order)
+names-ascend (Ok texts) theories names = names.ascend
+names-ascend (Err error) theories names = tt
 
 -- The texts of a theory's set are its names.
 pub names-one : (loaded : Loaded) (old new : BTreeSet (Vec ℕ Global)) (texts : List (List ℕ)) → old.keys ≡ [] → Gains old new (IsGiven loaded) → texts ≡ texts_in new → IsStrictlySortedBy byte_order texts

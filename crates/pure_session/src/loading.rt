@@ -19,6 +19,7 @@ use pure_graph::{LoadFault, TheoryFile, read_files};
 use pure_io::Library;
 use std::alloc::{AllocError, Global};
 use std::rt::Files;
+use std::thread::Threads;
 
 /// The theories of a library: those that are loaded, in load order, the files that are refused, in byte order of their
 /// names, and the number of all files.
@@ -57,18 +58,20 @@ fn loaded_from(alloc: Global, files: Vec<TheoryFile>) -> Result<Theories, AllocE
 }
 
 /// The theories of a library. At most one byte more than a file may have is read of each, and nothing of those behind the
-/// first 256.
-pub fn load_theories<R: Files + Print + AllocGlobal, L: Library>(
+/// first 256. What they say by themselves is found in so many threads at most.
+pub fn load_theories<R: Files + Print + AllocGlobal, T: Threads + Sync, L: Library>(
     rt: &R,
     alloc: Global,
     library: &mut L,
+    threads: &T,
+    number: usize,
 ) -> Result<Theories, LoadFault>
     ensures told { IfOk result (λ t. AreTheoriesOf (L.files library.old) (all_loaded t.loaded.items) (all_refused t.refused.items) t.files) }
     ensures fault { result ≡ Err LoadFault.ReadFault → Rose (L.faults library.old) (L.faults library.new) }
     ensures files { L.files library.new ≡ L.files library.old }
     ensures later { L.faults library.old ≤ L.faults library.new }
 {
-    let files = read_files(rt, alloc, library)?;
+    let files = read_files(rt, alloc, library, threads, number)?;
     match loaded_from(alloc, files) {
         Ok(theories) => Ok(theories),
         Err(_) => Err(LoadFault::Memory),

@@ -1,11 +1,13 @@
 //! The names of a session.
-ghost use Rattle.std.specs.Prelude.{◌≡◌, ◌≢◌, ◌↔◌, ◌∷◌, ◌++◌, ℕ, List, [], codes, slice_get, IfOk, OnOk, Some};
+ghost use Rattle.std.specs.Prelude.{◌≡◌, ◌≢◌, ◌↔◌, ◌≤◌, ◌∷◌, ◌++◌, ℕ, List, [], codes, slice_get, IfOk, OnOk, Some};
+ghost use Rattle.std.specs.Thread.{IsSync};
 ghost use Rattle.std.specs.List.Sorted.{IsStrictlySortedBy};
 ghost use Rattle.std.specs.Ordering.{nat_cmp};
 ghost use Rattle.std.specs.Cmp.Lexicographic.{slice_cmp};
 ghost use Rattle.pure_text.specs.Lists.{IsIn, AnyOf};
 ghost use Rattle.pure_script.specs.Seen.{seen_command, seen_commands};
 ghost use Rattle.pure_typ.specs.NameTexts.{builtin_texts};
+ghost use Rattle.pure_graph.specs.Order as graph;
 ghost use Rattle.pure_graph.specs.SessionNames.{full_name, full_names, IsGiven, AreNames};
 ghost use Rattle.pure_session.specs.NameSets.{texts_in, Gains};
 ghost use Rattle.pure_session.specs.Plain.{ArePlain};
@@ -20,6 +22,7 @@ use pure_text::{Text, TextList};
 use pure_typ::Names;
 use std::alloc::{AllocError, Global};
 use std::collections::BTreeSet;
+use std::thread::{Threads, join};
 
 /// Names are fewer than these.
 const MOST_TEXTS: usize = 2_147_483_648;
@@ -134,6 +137,85 @@ fn texts_of(alloc: Global, theories: &[Loaded]) -> Result<TextList, AllocError>
     Ok(all)
 }
 
+/// Lets go of what the other thread found where memory failed.
+fn lost(_other: Result<TextList, AllocError>, error: AllocError) -> Result<TextList, AllocError>
+    ensures { OnOk result ⊥ }
+{
+    Err(error)
+}
+
+/// The texts of both lists, in byte order.
+fn both(alloc: Global, left: TextList, right: TextList) -> Result<TextList, AllocError>
+    requires left { IsStrictlySortedBy (slice_cmp nat_cmp) left }
+    requires right { IsStrictlySortedBy (slice_cmp nat_cmp) right }
+    ensures { (first second : List graph.Loaded) → AreNames first left → AreNames second right → IfOk result (AreNames (first ++ second)) }
+{
+    let all = left.union(alloc, &right)?;
+    Ok(all)
+}
+
+/// The texts of both, in byte order, if the other thread found some.
+fn united(
+    alloc: Global,
+    left: TextList,
+    right: Result<TextList, AllocError>,
+) -> Result<TextList, AllocError>
+    requires left { IsStrictlySortedBy (slice_cmp nat_cmp) left }
+    requires right { IfOk right (IsStrictlySortedBy (slice_cmp nat_cmp)) }
+    ensures { (first second : List graph.Loaded) → AreNames first left → IfOk right (AreNames second) → IfOk result (AreNames (first ++ second)) }
+{
+    match right {
+        Err(error) => Err(error),
+        Ok(right) => both(alloc, left, right),
+    }
+}
+
+/// The texts that the theories give, in byte order, found in so many threads at most.
+#[cycle(halves)]
+fn texts_beside<T: Threads + Sync>(
+    threads: &T,
+    alloc: Global,
+    number: usize,
+    theories: &[Loaded],
+) -> Result<TextList, AllocError>
+    ensures { IfOk result (λ texts. AreNames (all_loaded theories.now) texts) }
+{
+    let count = theories.len();
+    if number < 2 || count < 2 {
+        return texts_of(alloc, theories);
+    }
+    let (left, right) = theories.split_at(count / 2);
+    let half = number / 2;
+    let first = move || -> Result<TextList, AllocError>
+        requires { IsSync T.row }
+        ensures { IfOk result (AreNames (all_loaded left.entry.now)) }
+    { texts_beside(threads, alloc, half, left) };
+    let second = move || -> Result<TextList, AllocError>
+        requires { (half ≤ number) × IsSync T.row }
+        ensures { IfOk result (AreNames (all_loaded right.entry.now)) }
+    { texts_beside(threads, alloc, number - half, right) };
+    let (left, right) = join(threads, first, second);
+    match left {
+        Err(error) => lost(right, error),
+        Ok(left) => united(alloc, left, right),
+    }
+}
+
+/// The same; where memory runs out beside others, it is asked for once more by one thread alone.
+fn all_texts<T: Threads + Sync>(
+    threads: &T,
+    alloc: Global,
+    number: usize,
+    theories: &[Loaded],
+) -> Result<TextList, AllocError>
+    ensures { IfOk result (λ texts. AreNames (all_loaded theories.now) texts) }
+{
+    match texts_beside(threads, alloc, number, theories) {
+        Ok(texts) => Ok(texts),
+        Err(_) => texts_of(alloc, theories),
+    }
+}
+
 /// The names with these texts, if they aren't too many; else memory fails.
 fn named(texts: TextList) -> Result<Names, AllocError>
     requires ascend { IsStrictlySortedBy (slice_cmp nat_cmp) texts }
@@ -146,12 +228,17 @@ fn named(texts: TextList) -> Result<Names, AllocError>
     Ok(Names::of_list(texts))
 }
 
-/// The names of the session of these theories.
-pub(crate) fn names_of(alloc: Global, theories: &[Loaded]) -> Result<Names, AllocError>
+/// The names of the session of these theories, found in so many threads at most.
+pub(crate) fn names_of<T: Threads + Sync>(
+    threads: &T,
+    alloc: Global,
+    number: usize,
+    theories: &[Loaded],
+) -> Result<Names, AllocError>
     requires { ArePlain (all_loaded theories.now) }
     ensures { IfOk result (λ names. AreNames (all_loaded theories.now) names) }
 {
-    let texts = texts_of(alloc, theories)?;
+    let texts = all_texts(threads, alloc, number, theories)?;
     let names = named(texts)?;
     Ok(names)
 }

@@ -15,6 +15,7 @@ use pure_io::Library;
 use pure_typ::Names;
 use std::alloc::Global;
 use std::rt::Files;
+use std::thread::Threads;
 
 /// The session of a library: its names, the theories that are loaded, in load order, the files that are refused, in byte
 /// order of their names, and the number of all files.
@@ -27,11 +28,13 @@ pub struct Session {
 }
 
 /// The session of a library. At most one byte more than a file may have is read of each, and nothing of those behind the
-/// first 256.
-pub fn load<R: Files + Print + AllocGlobal, L: Library>(
+/// first 256. What they say by themselves, and the names, are found in so many threads at most.
+pub fn load<R: Files + Print + AllocGlobal, T: Threads + Sync, L: Library>(
     rt: &R,
     alloc: Global,
     library: &mut L,
+    threads: &T,
+    number: usize,
 ) -> Result<Session, LoadFault>
     ensures told { IfOk result (λ s. AreTheoriesOf (L.files library.old) (all_loaded s.theories.items) (all_refused s.refused.items) s.files) }
     ensures named { IfOk result (λ s. AreNames (all_loaded s.theories.items) s.names) }
@@ -44,8 +47,8 @@ pub fn load<R: Files + Print + AllocGlobal, L: Library>(
         loaded,
         refused,
         files,
-    } = load_theories(rt, alloc, library)?;
-    match names_of(alloc, loaded.as_slice()) {
+    } = load_theories(rt, alloc, library, threads, number)?;
+    match names_of(threads, alloc, number, loaded.as_slice()) {
         Ok(names) => Ok(Session {
             names,
             theories: loaded,

@@ -21,9 +21,6 @@ pub(crate) fn put_far(
 ) -> Result<(), AllocError>
     ensures { OnOk result (Gains texts.old texts.new (λ t. t ≡ text.now)) }
 {
-    if texts.contains(text) {
-        return Ok(());
-    }
     texts.insert(Vec::from_slice(alloc, text)?)?;
     Ok(())
 }

@@ -60,7 +60,7 @@ pub(crate) fn merged<V: Drop>(
     ensures ascends { IfOk result (λ run. Ascends (pairs_of run.items)) }
     ensures same { IfOk result (λ run. HasSame (pairs_of run.items) (pairs_of first.now ++ pairs_of second.now)) }
 {
-    let mut run = Vec::new(alloc);
+    let mut run = Vec::with_capacity(alloc, first.len().saturating_add(second.len()))?;
     let mut of_first = 0;
     let mut of_second = 0;
     while of_first < first.len() && of_second < second.len() {

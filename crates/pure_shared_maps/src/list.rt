@@ -6,8 +6,11 @@ use std::alloc::{AllocError, Global};
 use std::marker::Model;
 use std::sync::Arc;
 
-/// With so many elements behind its front a list makes a new front of all of them.
-const MOST: usize = 32;
+/// With so many elements behind a small front a list makes a new front of all of them.
+const FEW: usize = 32;
+
+/// Behind a larger front may stand the so many-th part of what it has.
+const PART: usize = 16;
 
 /// A list, which contracts see as such. Its front stands behind a pointer that the lists which grow from it share; few elements stand behind the front.
 #[derive(Drop)]
@@ -120,7 +123,8 @@ impl<T: Drop> GrownList<T> {
         ensures ok { OnOk result (self.new ≡ self.old ++ item.value ∷ []) }
         ensures err { OnErr result (self.new ≡ self.old) }
     {
-        if self.rest.len() >= MOST {
+        let most = FEW.max(pointers(&self.front).len() / PART);
+        if self.rest.len() >= most {
             self.fold(alloc)?;
         }
         self.rest.push(item)?;

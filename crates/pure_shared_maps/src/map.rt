@@ -11,8 +11,11 @@ use std::collections::BTreeMap;
 use std::marker::Model;
 use std::sync::Arc;
 
-/// As many entries at most stand behind a map's front.
-const MOST: usize = 32;
+/// As many entries may stand behind a small front.
+const FEW: usize = 32;
+
+/// Behind a larger front may stand the so many-th part of what it has.
+const PART: usize = 16;
 
 /// A finite map from numbers, which contracts see as such. Its front stands behind a pointer that the maps which grow from it share; few entries stand behind the front, the latest last.
 #[derive(Drop)]
@@ -58,6 +61,14 @@ fn last_found<V>(entries: &[Entry<V>], key: u32) -> Option<&V>
         }
     }
     found
+}
+
+/// As many entries at most stand behind the front: behind a large one more, since each new front copies all of it.
+fn most_behind<V>(front: &Option<Arc<BTreeMap<u32, Arc<V>>>>) -> usize {
+    match front {
+        None => FEW,
+        Some(front) => FEW.max(front.len() / PART),
+    }
 }
 
 /// A pointer to the same front.
@@ -174,7 +185,8 @@ impl<V: Drop> GrownMap<V> {
         ensures err { OnErr result (self.new ≡ self.old) }
     {
         let mut entries = entries;
-        if self.rest.len() + entries.len() > MOST {
+        let most = most_behind(&self.front);
+        if self.rest.len() + entries.len() > most {
             self.fold(alloc, entries.as_slice())?;
         } else {
             self.rest.append(&mut entries)?;

@@ -7,9 +7,13 @@ pub returns-in-1 : goal.returns-in-1
 unfolding is_keyword keywords
 returns-in-1 c = same-length keywords c.args.text.now 1 c.in-1.is
 
+pub returns-in-2 : goal.returns-in-2
+unfolding is_keyword keywords
+returns-in-2 c = c.contains.ensures.value ∙ same-length keywords c.args.text.now 2 c.in-2.is
+
 pub returns-in-3 : goal.returns-in-3
 unfolding is_keyword keywords
-returns-in-3 c = c.contains.ensures.value ∙ same-length keywords c.args.text.now 3 c.in-3.is
+returns-in-3 c = c.contains-in-3.ensures.value ∙ same-length keywords c.args.text.now 3 c.in-3.is
 
 pub returns-in-4 : goal.returns-in-4
 unfolding is_keyword keywords
@@ -18,6 +22,14 @@ returns-in-4 c = c.contains-in-4.ensures.value ∙ same-length keywords c.args.t
 pub returns-in-5 : goal.returns-in-5
 unfolding is_keyword keywords
 returns-in-5 c = c.contains-in-5.ensures.value ∙ same-length keywords c.args.text.now 5 c.in-5.is
+
+pub returns-in-6 : goal.returns-in-6
+unfolding is_keyword keywords
+returns-in-6 c = c.contains-in-6.ensures.value ∙ same-length keywords c.args.text.now 6 c.in-6.is
+
+pub returns-in-7 : goal.returns-in-7
+unfolding is_keyword keywords
+returns-in-7 c = c.contains-in-7.ensures.value ∙ same-length keywords c.args.text.now 7 c.in-7.is
 
 pub returns-in-9 : goal.returns-in-9
 unfolding is_keyword keywords

@@ -1,0 +1,122 @@
+-- Drafts of files: as they are read, once they say what they say, and as they are counted.
+use Rattle.std.proofs.Common.{◌≡◌, ℕ, suc, ◌+◌, ◌<◌, ◌≤◌, List, [], ◌∷◌, ◌++◌, length, get_or, take, drop, take_all, refl, sym, ap, ◌∙◌, subst, arith, append_assoc, length-append, Option, nat_lt}
+use Rattle.std.proofs.lemmas.List.{length-map, map-append, append-nil}
+use Rattle.pure_io.specs.declared.library.File as library
+use Rattle.pure_text.specs.Lists.{EachTwo}
+use Rattle.std.proofs.Math.Seq.{take-append_seam}
+use Rattle.pure_text.proofs.ListLaws.{two_long}
+use Rattle.pure_text.proofs.LoopLaws.{longer_by}
+use Rattle.pure_graph.specs.Limits.{most_files}
+use Rattle.pure_graph.specs.Outcome.{Outcome}
+use Rattle.pure_graph.specs.Reading.{counted, command_count}
+use Rattle.pure_graph.specs.Told.{IsTriedOf, AreReadOf}
+use Rattle.pure_graph.specs.Seen.{seen_outcome, seen_file, seen_files}
+use Rattle.pure_graph.specs.Drafts.{IsKnownOf, AreDraftsFrom, IsSaidOf}
+use Rattle.pure_graph.specs.declared.drafts.Draft.{Draft}
+use Rattle.pure_graph.specs.declared.outcome.TheoryFile.{TheoryFile}
+use Rattle.pure_graph.proofs.FilesLemmas.{IsReadSoFar, IsReadSoFar-none, IsReadSoFar-more, IsReadSoFar-all}
+
+-- what holds at each place holds of two lists
+pub two_of : {A : Type 0} (R : A → A → Type 0) (xs ys : List A) → length ys ≡ length xs → ((i : ℕ) (d : A) → i < length xs → R (get_or xs i d) (get_or ys i d)) → EachTwo R xs ys
+two_of R [] [] same h = tt
+two_of R [] (y ∷ ys) same h = absurd (omega (arith, same))
+two_of R (x ∷ xs) [] same h = absurd (omega (arith, same))
+two_of R (x ∷ xs) (y ∷ ys) same h = (h 0 x (omega arith), two_of R xs ys (omega (arith, same)) (λ i d within. h (suc i) d (omega (arith, within))))
+
+-- ---- as they are read
+drafts-snoc : (told : Option (List library.File)) (place : ℕ) (theories : List (List ℕ)) (theory : List ℕ) (drafts : List Draft) (draft : Draft)
+    → AreDraftsFrom told place theories drafts → draft.theory ≡ theory → IsKnownOf told (place + length drafts) theory draft.known → AreDraftsFrom told place (theories ++ theory ∷ []) (drafts ++ draft ∷ [])
+drafts-snoc told place [] theory [] draft all is known = (is, subst (λ n. IsKnownOf told n theory draft.known) (omega arith) known, tt)
+drafts-snoc told place [] theory (d ∷ drafts) draft all is known = absurd all
+drafts-snoc told place (t ∷ theories) theory [] draft all is known = absurd all
+drafts-snoc told place (t ∷ theories) theory (d ∷ drafts) draft all is known =
+    (all.0, all.1, drafts-snoc told (place + 1) theories theory drafts draft all.2 is (subst (λ n. IsKnownOf told n theory draft.known) (omega arith) known))
+
+zero-plus : (m n : ℕ) → m ≡ n → m ≡ 0 + n
+zero-plus m n e = omega (arith, e)
+
+-- one turn of the loop
+pub drafts-turn : (told now : Option (List library.File)) (theories : List (List ℕ)) (i : ℕ) (theory : List ℕ) (drafts drafts' : List Draft) (draft : Draft) (place : ℕ)
+    → now ≡ told → i < length theories → theory ≡ get_or theories i theory → place ≡ length drafts → AreDraftsFrom told 0 (take i theories) drafts
+    → IsKnownOf now place theory draft.known → draft.theory ≡ theory → drafts' ≡ drafts ++ draft ∷ [] → AreDraftsFrom told 0 (take (i + 1) theories) drafts'
+drafts-turn told now theories i theory drafts drafts' draft place same within read place_is so_far known is longer =
+    rw (longer_by theories i theory within read, longer)
+    (drafts-snoc told 0 (take i theories) theory drafts draft so_far is (subst (λ n. IsKnownOf told n theory draft.known) (zero-plus place (length drafts) place_is) (subst (λ o. IsKnownOf o place theory draft.known) same known)))
+
+pub drafts-end : (told : Option (List library.File)) (theories : List (List ℕ)) (i : ℕ) (drafts : List Draft) → length theories ≤ i → AreDraftsFrom told 0 (take i theories) drafts → AreDraftsFrom told 0 theories drafts
+drafts-end told theories i drafts past so_far = rw (take_all i theories past) at so_far
+
+-- ---- once they say what they say
+pub drafts-said : (told : Option (List library.File)) (place : ℕ) (theories : List (List ℕ)) (old new : List Draft) → EachTwo IsSaidOf old new → AreDraftsFrom told place theories old → AreDraftsFrom told place theories new
+drafts-said told place [] [] [] two all = tt
+drafts-said told place [] [] (n ∷ new) two all = absurd two
+drafts-said told place [] (o ∷ old) new two all = absurd all
+drafts-said told place (t ∷ theories) [] new two all = absurd all
+drafts-said told place (t ∷ theories) (o ∷ old) [] two all = absurd two
+drafts-said told place (t ∷ theories) (o ∷ old) (n ∷ new) two all =
+    (two.0.theory ∙ all.0, subst (λ (th : List ℕ). IsKnownOf told place th n.known) all.0 (two.0.known told place (subst (λ (th : List ℕ). IsKnownOf told place th o.known) (sym all.0) all.1)), drafts-said told (place + 1) theories old new two.1 all.2)
+
+-- the drafts that were lent to the threads, as they come back
+pub lent-back : (old lent new : List Draft) (n : ℕ) → lent ≡ old → length lent ≡ n → EachTwo IsSaidOf lent new → EachTwo IsSaidOf old (take n (new ++ drop (length new) old))
+lent-back old lent new n same long two =
+    let back : take n (new ++ drop (length new) old) ≡ new = ap (λ m. take m (new ++ drop (length new) old)) (sym long ∙ two_long IsSaidOf lent new two) ∙ take-append_seam new (drop (length new) old) in
+    subst (EachTwo IsSaidOf old) (sym back) (subst (λ (ds : List Draft). EachTwo IsSaidOf ds new) same two)
+
+-- ---- as they are counted
+-- These files are of the drafts passed; what is left of the drafts is of the theories left.
+pub record AreCounted (drafts left : List Draft) (files : List TheoryFile) (before : ℕ) : Type 0 where
+  pub so_far : (told : Option (List library.File)) (theories : List (List ℕ)) → AreDraftsFrom told 0 theories drafts
+      → (done : List (List ℕ)) × (others : List (List ℕ)) × (theories ≡ done ++ others) × IsReadSoFar told done (seen_files files) before × AreDraftsFrom told (length files) others left
+
+pub counted-none : (drafts left : List Draft) (files : List TheoryFile) → files ≡ [] → left ≡ drafts → AreCounted drafts left files 0
+counted-none drafts left files none same = record {
+  so_far = λ told theories all.
+      ([], theories, refl, IsReadSoFar-none told (seen_files files) (ap seen_files none), subst (λ n. AreDraftsFrom told n theories left) (ap length (sym none)) (subst (AreDraftsFrom told 0 theories) (sym same) all));
+}
+
+counted-one : (told : Option (List library.File)) (done others : List (List ℕ)) (drafts rest : List Draft) (draft : Draft) (files : List TheoryFile) (file : TheoryFile) (own : Outcome) (before : ℕ)
+    → IsReadSoFar told done (seen_files files) before → AreDraftsFrom told (length files) others (draft ∷ rest) → file.theory ≡ draft.theory
+    → ((told : Option (List library.File)) (place : ℕ) → IsKnownOf told place draft.theory draft.known → IsTriedOf told (nat_lt place most_files) draft.theory own) → seen_outcome file.outcome ≡ counted before own
+    → (more : List (List ℕ)) × (rest_theories : List (List ℕ)) × (done ++ others ≡ more ++ rest_theories) × IsReadSoFar told more (seen_files (files ++ file ∷ [])) (before + command_count (counted before own)) × AreDraftsFrom told (length (files ++ file ∷ [])) rest_theories rest
+counted-one told done [] drafts rest draft files file own before so_far all same tells said = absurd all
+counted-one told done (t ∷ others) drafts rest draft files file own before so_far all same tells said =
+    let theory : draft.theory ≡ t = all.0 in
+    let places : length files ≡ length (seen_files files) = sym (length-map files seen_file) in
+    let tried : IsTriedOf told (nat_lt (length (seen_files files)) most_files) t own =
+    subst (λ n. IsTriedOf told (nat_lt n most_files) t own) places
+    (subst (λ (th : List ℕ). IsTriedOf told (nat_lt (length files) most_files) th own) theory (tells told (length files) (subst (λ (th : List ℕ). IsKnownOf told (length files) th draft.known) (sym theory) all.1))) in
+    let seen : seen_file file ≡ record { theory = t; outcome = counted before own } = λ j. record { theory = (same ∙ theory) j; outcome = said j } in
+    let grown : seen_files (files ++ file ∷ []) ≡ seen_files files ++ seen_file file ∷ [] = map-append seen_file files (file ∷ []) in (
+      done ++ t ∷ [],
+      others,
+      sym (append_assoc done (t ∷ []) others),
+      subst (λ fs. IsReadSoFar told (done ++ t ∷ []) fs (before + command_count (counted before own))) (sym grown) (IsReadSoFar-more told done t (seen_files files) (seen_file file) before own so_far tried seen),
+      subst (λ n. AreDraftsFrom told n others rest) (sym (length-append files (file ∷ []))) all.2,
+    )
+
+-- one turn of the loop
+pub counted-turn : (drafts left rest : List Draft) (draft : Draft) (files files' : List TheoryFile) (file : TheoryFile) (own : Outcome) (before count : ℕ)
+    → left ≡ draft ∷ rest → file.theory ≡ draft.theory
+    → ((told : Option (List library.File)) (place : ℕ) → IsKnownOf told place draft.theory draft.known → IsTriedOf told (nat_lt place most_files) draft.theory own) → seen_outcome file.outcome ≡ counted before own
+    → count ≡ command_count (seen_outcome file.outcome) → files' ≡ files ++ file ∷ [] → AreCounted drafts left files before → AreCounted drafts rest files' (before + count)
+counted-turn drafts left rest draft files files' file own before count first same tells said count_is longer on = record {
+  so_far = λ told theories all.
+      (let was = on.so_far told theories all in
+      let one = counted-one told was.0 was.1 drafts rest draft files file own before was.3 (subst (AreDraftsFrom told (length files) was.1) first was.4) same tells said in
+      let counts : before + command_count (counted before own) ≡ before + count = ap (λ n. before + n) (sym (count_is ∙ ap command_count said)) in (
+        one.0,
+        one.1,
+        was.2 ∙ one.2,
+        subst (λ n. IsReadSoFar told one.0 (seen_files files') n) counts (subst (λ fs. IsReadSoFar told one.0 (seen_files fs) (before + command_count (counted before own))) (sym longer) one.3),
+        subst (λ (fs : List TheoryFile). AreDraftsFrom told (length fs) one.1 rest) (sym longer) one.4,
+      ));
+}
+
+pub counted-end : (drafts left : List Draft) (files : List TheoryFile) (before : ℕ) → length left ≡ 0 → AreCounted drafts left files before
+    → (told : Option (List library.File)) (theories : List (List ℕ)) → AreDraftsFrom told 0 theories drafts → AreReadOf told theories (seen_files files)
+counted-end drafts [] files before none on told theories all = let was = on.so_far told theories all in counted-whole told theories was.0 was.1 files before was.2 was.3 was.4
+  where
+    counted-whole : (told : Option (List library.File)) (theories done others : List (List ℕ)) (files : List TheoryFile) (before : ℕ) → theories ≡ done ++ others → IsReadSoFar told done (seen_files files) before → AreDraftsFrom told (length files) others [] → AreReadOf told theories (seen_files files)
+    counted-whole told theories done [] files before cut so_far rest = subst (λ ts. AreReadOf told ts (seen_files files)) (sym (cut ∙ append-nil done)) (IsReadSoFar-all told done (seen_files files) before so_far)
+    counted-whole told theories done (t ∷ others) files before cut so_far rest = absurd rest
+counted-end drafts (d ∷ left) files before none on told theories all = absurd (omega arith)
