@@ -1,5 +1,5 @@
 -- Matches of a declared type with a type, and the sorts of what they put for its variables.
-use Rattle.std.specs.Prelude.{◌≡◌, ◌↔◌, ℕ, List, [], ◌∷◌, ◌++◌, map}
+use Rattle.std.specs.Prelude.{◌≡◌, ◌↔◌, ℕ, Bool, List, [], ◌∷◌, ◌++◌, map, MatchBool}
 use Rattle.pure_text.specs.Lists.{IsIn, Each}
 use Rattle.pure_definitions.specs.Types.Typ.{Typ, TFree, TVar, Con, Typs, none, also}
 use Rattle.pure_definitions.specs.Types.Order.{Algebra, IsOfSort}
@@ -70,3 +70,7 @@ pub record IsGrown (property : (Typ → Typ) → Type 0) (variables : List Typ) 
 -- No map that gives the entries has the property.
 abbrev pub IsExcluded : ((Typ → Typ) → Type 0) → List TypBind → Type 0
 IsExcluded property old = (typs : Typ → Typ) → KeepsFixedTyps typs → Gives typs old → ¬ property typs
+
+-- The answer whether a map that gives the entries may have the property: if so, the entries have grown by it.
+abbrev pub IsMatching : (property : (Typ → Typ) → Type 0) → (variables : List Typ) → (old new : List TypBind) → Bool → Type 0
+IsMatching property variables old new matches = MatchBool matches (IsGrown property variables old new) (IsExcluded property old)

@@ -1,10 +1,10 @@
 //! Matches of declared types with types.
-ghost use Rattle.std.specs.Prelude.{◌≡◌, ◌≢◌, [], ◌∷◌, map, MatchBool, MatchOption, IfOk};
+ghost use Rattle.std.specs.Prelude.{◌≡◌, ◌≢◌, [], ◌∷◌, map, MatchOption, IfOk};
 ghost use Rattle.pure_text.specs.Lists.{IsIn};
 ghost use Rattle.pure_definitions.specs.Types.Typ as tree;
 ghost use Rattle.pure_definitions.specs.Types.Typ.{typs_of};
 ghost use Rattle.pure_definitions.specs.Terms.Subst.{typ_variable, typ_instance, typs_instance};
-ghost use Rattle.pure_certify.specs.Matching.{schematics, all_schematics, IsGrown, IsExcluded};
+ghost use Rattle.pure_certify.specs.Matching.{schematics, all_schematics, IsMatching};
 
 use pure_typ::{Name, Sort, Typ, TypBind, TypMap, TypNode};
 use std::alloc::{AllocError, Global};
@@ -13,9 +13,7 @@ use std::alloc::{AllocError, Global};
 fn is_bound_to(binds: &TypMap, name: Name, index: u32, sort: &Sort, typ: &Typ) -> Option<bool>
     ensures { MatchOption result
         (¬ IsIn (tree.TVar name index sort.now) (map typ_variable binds.now))
-        (λ same. MatchBool same
-        (IsGrown (λ typs. typs (tree.TVar name index sort.now) ≡ typ.now) (tree.TVar name index sort.now ∷ []) binds.now binds.now)
-        (IsExcluded (λ typs. typs (tree.TVar name index sort.now) ≡ typ.now) binds.now)) }
+        (IsMatching (λ typs. typs (tree.TVar name index sort.now) ≡ typ.now) (tree.TVar name index sort.now ∷ []) binds.now binds.now) }
 {
     match binds.find(name, index, sort) {
         None => None,
@@ -32,9 +30,7 @@ fn match_variable(
     typ: &Typ,
     binds: &mut TypMap,
 ) -> Result<bool, AllocError>
-    ensures { IfOk result (λ matches. MatchBool matches
-        (IsGrown (λ typs. typs (tree.TVar name index sort.now) ≡ typ.now) (tree.TVar name index sort.now ∷ []) binds.old binds.new)
-        (IsExcluded (λ typs. typs (tree.TVar name index sort.now) ≡ typ.now) binds.old)) }
+    ensures { IfOk result (IsMatching (λ typs. typs (tree.TVar name index sort.now) ≡ typ.now) (tree.TVar name index sort.now ∷ []) binds.old binds.new) }
 {
     match is_bound_to(binds, name, index, sort, typ) {
         Some(same) => Ok(same),
@@ -73,9 +69,7 @@ pub fn match_typ(
     typ: &Typ,
     binds: &mut TypMap,
 ) -> Result<bool, AllocError>
-    ensures { IfOk result (λ matches. MatchBool matches
-        (IsGrown (λ typs. typ_instance typs declared.now ≡ typ.now) (schematics declared.now) binds.old binds.new)
-        (IsExcluded (λ typs. typ_instance typs declared.now ≡ typ.now) binds.old)) }
+    ensures { IfOk result (IsMatching (λ typs. typ_instance typs declared.now ≡ typ.now) (schematics declared.now) binds.old binds.new) }
 {
     match &declared.node {
         TypNode::TFree { .. } => Ok(declared == typ),
@@ -104,9 +98,7 @@ fn match_types(
     types: &[Typ],
     binds: &mut TypMap,
 ) -> Result<bool, AllocError>
-    ensures { IfOk result (λ matches. MatchBool matches
-        (IsGrown (λ typs. typs_instance typs (typs_of declared.now) ≡ typs_of types.now) (all_schematics (typs_of declared.now)) binds.old binds.new)
-        (IsExcluded (λ typs. typs_instance typs (typs_of declared.now) ≡ typs_of types.now) binds.old)) }
+    ensures { IfOk result (IsMatching (λ typs. typs_instance typs (typs_of declared.now) ≡ typs_of types.now) (all_schematics (typs_of declared.now)) binds.old binds.new) }
 {
     if declared.len() != types.len() {
         return Ok(false);

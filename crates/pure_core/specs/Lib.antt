@@ -1,3 +1,4 @@
 pub mod Turns
 pub mod Legal
 pub mod Replies
+pub mod Laws

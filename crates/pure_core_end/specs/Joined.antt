@@ -1,7 +1,10 @@
 -- What theories left of which each is closed and each promise settled or cancelled (Wenzel, Parallel Proof Checking in Isabelle/Isar, 2009).
-use Rattle.std.specs.Prelude.{◌≡◌, ℕ, suc, List, [], ◌∷◌, ◌++◌, length, Some, slice_get}
+use Rattle.std.specs.Prelude.{◌≡◌, ℕ, suc, List, Bool, [], ◌∷◌, ◌++◌, length, Some, slice_get}
 use Rattle.pure_text.specs.Lists.{Each}
-use Rattle.pure_machine.specs.State.{Promise, Standing, Settled, Cancelled}
+use Rattle.pure_machine.specs.State.{State, Progress, Promise, Standing, Settled, Cancelled, theory_at}
+use Rattle.pure_machine.specs.Step.{IsFinished, value_of}
+use Rattle.pure_core.specs.Legal.{IsLegal}
+use Rattle.pure_core_end.specs.Promises.{promises_of}
 
 -- It stands so at the end: settled by an outcome that the goal may have, or cancelled.
 abbrev pub EndsSo : {G O : Type 0} → (may : G → O → Type 0) → G → Standing O → Type 0
@@ -24,3 +27,8 @@ AreJoinedFrom forks closes may i (value ∷ values) promises = (own : _) × (oth
 pub record AreJoined {G C O : Type 0} (shape : List (List ℕ)) (forks : ℕ → ℕ → G → Type 0) (closes : ℕ → ℕ → C → Type 0) (may : G → O → Type 0) (values : List C) (promises : List (Promise G O)) : Type 0 where
   pub all : length values ≡ length shape
   pub left : AreJoinedFrom forks closes may 1 values promises
+
+-- Where a legal run has finished all, each theory left a value that may close it, and its promises ended as their goals may.
+abbrev pub TheoriesAreJoined : {G C O : Type 0} → (shape : List (List ℕ)) → (forks : ℕ → ℕ → G → Type 0) → (closes : ℕ → ℕ → C → Type 0) → (may : G → O → Type 0) → (is_fault : O → Bool) → Type 0
+TheoriesAreJoined {G} {C} {O} shape forks closes may is_fault = (s : State G C O) → IsLegal shape forks closes may is_fault s → IsFinished s
+    → (i : ℕ) (t : Progress C) → theory_at s.theories i ≡ Some t → (value : C) × (value_of t ≡ Some value) × IsJoined forks closes may i value (promises_of i s.promises)

@@ -1,10 +1,8 @@
 //! What legal runs of a work leave: laws, each carried by the contract of a function that does nothing.
-ghost use Rattle.std.specs.Prelude.{◌≡◌, ℕ, Some};
-ghost use Rattle.pure_machine.specs.State.{State, Progress, theory_at};
-ghost use Rattle.pure_machine.specs.Step.{IsFinished, value_of};
+ghost use Rattle.std.specs.Prelude.{◌≡◌};
+ghost use Rattle.pure_machine.specs.State.{State};
 ghost use Rattle.pure_core.specs.Legal.{IsLegal};
-ghost use Rattle.pure_core_end.specs.Promises.{promises_of};
-ghost use Rattle.pure_core_end.specs.Joined.{IsJoined};
+ghost use Rattle.pure_core_end.specs.Joined.{TheoriesAreJoined};
 ghost use Rattle.pure_core_end.specs.Places.{AreForked, HaveSmallerNumbers};
 ghost use Rattle.pure_core_end.specs.Uncancelled.{no_policy, NoneCancelled};
 
@@ -12,10 +10,7 @@ use pure_core::Work;
 
 /// Where all is finished, each theory left a value that may close it, and its promises ended as their goals may.
 pub fn theories_are_joined<W: Work>(work: &W)
-    ensures { (s : State W.Goal W.Closed W.Outcome)
-        → IsLegal (W.shape work.now) (W.forks work.now) (W.closes work.now) (W.may work.now) (W.faults work.now) s → IsFinished s
-        → (i : ℕ) (t : Progress W.Closed) → theory_at s.theories i ≡ Some t
-        → (value : W.Closed) × (value_of t ≡ Some value) × IsJoined (W.forks work.now) (W.closes work.now) (W.may work.now) i value (promises_of i s.promises) }
+    ensures { TheoriesAreJoined (W.shape work.now) (W.forks work.now) (W.closes work.now) (W.may work.now) (W.faults work.now) }
 {
     let _ = work;
 }

@@ -1,17 +1,18 @@
 -- What the calls answer, from what their parts answer.
 use Rattle.std.specs.declared.sync.Arc.{Arc}
 use Rattle.std.specs.declared.alloc.Global.{Global}
-use Rattle.std.proofs.Common.{◌≡◌, ℕ, zero, suc, List, [], ◌∷◌, map, Option, Some, None, Result, Ok, Err, IfOk, IfErr, slice_get, inl, inr, refl, ap, sym, subst, ◌∙◌}
+use Rattle.std.proofs.Common.{◌≡◌, ◌<◌, ◌+◌, ℕ, zero, suc, List, length, [], ◌∷◌, map, Option, Some, None, Result, Ok, Err, IfOk, IfErr, slice_get, inl, inr, refl, ap, sym, subst, arith, ◌∙◌}
+use Rattle.std.proofs.lemmas.List.{length-map}
 use Rattle.pure_text.specs.Lists.{Each}
 use Rattle.pure_definitions.specs.Types.Typ.{Typ, prop}
 use Rattle.pure_definitions.specs.Types.Order.{Algebra}
 use Rattle.pure_definitions.specs.Terms.Term.{Term, IsWithin}
-use Rattle.pure_definitions.specs.Terms.Subst.{inst_typ}
+use Rattle.pure_definitions.specs.Terms.Subst.{TypBind, inst_typ}
 use Rattle.pure_tunify.specs.declared.pair.TypPair.{TypPair}
 use Rattle.pure_tunify.specs.declared.fault.TypFault.{TypFault}
 use Rattle.pure_tunify.specs.declared.fault.TypFault.TheVariants as typing
 use Rattle.pure_tunify.specs.Settings.{composed, Progress}
-use Rattle.pure_tunify.specs.Procedure.{Outcome, Unified, NotTyped, TooBig, Unifies}
+use Rattle.pure_tunify.specs.Procedure.{Outcome, Unified, NotTyped, TooBig, Unifies, over, no_typing, big, next}
 use Rattle.pure_tunify.specs.Answers.{AreSettled, IsDecided}
 use Rattle.pure_tunify.specs.Unifiers.{IsOldPair}
 use Rattle.pure_grammar.specs.Terms.RawTree.{RawTree, RawTypTree}
@@ -28,7 +29,7 @@ use Rattle.pure_elab.specs.Written.{AreSorts, term_classes}
 use Rattle.pure_elab.specs.Numbered.{with_fixed}
 use Rattle.pure_elab.specs.Drafts.{Constraint, Draft, whole_draft, pair_of}
 use Rattle.pure_elab.specs.Drafted.{constraint_place}
-use Rattle.pure_elab.specs.Finished.{IsLimited, IsSolution, IsFinished, IsNameRefusal, IsFaultFrom, HasConstraintsOf}
+use Rattle.pure_elab.specs.Finished.{IsLimited, IsSolution, IsFinished, IsNameRefusal, NamesAPlace, IsFaultFrom, HasConstraintsOf}
 use Rattle.pure_elab.specs.Answers.{IsFixedTyp, fault_of, IsTyped, IsTypingFault, IsDraftOf, IsElaborated, IsElabFault, IsElabTypFault}
 use Rattle.pure_elab.specs.Laws.{IsMostGeneralTerm}
 use Rattle.pure_elab.proofs.EarliestLaws.{earliest_decides, none_found}
@@ -104,17 +105,42 @@ module _ (V : Vocabulary) (A : Algebra) (order : A ≡ V.algebra) (d : Draft) (t
   no_typing_fault k (IllTyped at) u h =
       let found = place_found d.constraints k at (subst (λ (l : List ℕ). slice_get l k ≡ Some at) has.places h) in
       record { number = k; constraint = found.0; unifies = comes (NotTyped k) u; stands = found.1; place = found.2 }
-  no_typing_fault k (UnknownName at) u h = memory_fault (UnknownName at) h
-  no_typing_fault k (UnknownSort at) u h = memory_fault (UnknownSort at) h
-  no_typing_fault k (WrongCount at) u h = memory_fault (WrongCount at) h
-  no_typing_fault k (Schematic at) u h = memory_fault (Schematic at) h
-  no_typing_fault k Big u h = memory_fault Big h
-  no_typing_fault k Memory u h = tt
+  no_typing_fault k (UnknownName at) u h = absurd h
+  no_typing_fault k (UnknownSort at) u h = absurd h
+  no_typing_fault k (WrongCount at) u h = absurd h
+  no_typing_fault k (Schematic at) u h = absurd h
+  no_typing_fault k Big u h = absurd h
+  no_typing_fault k Memory u h = absurd h
 
   pub typing_refused : (reason : TypFault) (fault : ElabFault) → IsDecided A 2 0 all.pairs.items reason → IsFaultFrom all.places.items reason fault → IsTypingFault V d fault
   typing_refused (typing.NoTyping k) fault u h = no_typing_fault k fault u h
   typing_refused (typing.Big k) fault u h = subst (λ (f : ElabFault). IsTypingFault V d f) (sym h) (inr (k, comes (TooBig k) u))
   typing_refused typing.Memory fault u h = memory_fault fault h
+
+-- The number of a pair without a unifier is below this one.
+abbrev IsNumberBelow : ℕ → Outcome → Type 0
+IsNumberBelow m (NotTyped k) = k < m
+IsNumberBelow m (Unified sets first) = Unit {0}
+IsNumberBelow m (TooBig k) = Unit {0}
+
+-- It is that of one of the pairs.
+unifies_below : {A : Algebra} {at n : ℕ} {sets : List TypBind} {ps : List TypPair} {outcome : Outcome} → Unifies A 2 at n sets ps outcome → IsNumberBelow (at + length ps) outcome
+unifies_below over = tt
+unifies_below (no_typing b) = omega arith
+unifies_below (big e beyond) = tt
+unifies_below (next {at = at} {p = p} {ps = ps} {outcome = outcome} e within rest) =
+    let same : (at + 1) + length ps ≡ at + length (p ∷ ps) = omega arith in
+    subst (λ (m : ℕ). IsNumberBelow m outcome) same (unifies_below rest)
+
+-- So what a fault of unification names is a place.
+pub names_a_place : (A : Algebra) (pairs : List TypPair) (places : List ℕ) (reason : TypFault) → length pairs ≡ length places → IsDecided A 2 0 pairs reason → NamesAPlace places reason
+names_a_place A pairs places (typing.NoTyping k) as_many u = let below : k < 0 + length pairs = unifies_below u in omega (arith, below, as_many)
+names_a_place A pairs places (typing.Big k) as_many u = tt
+names_a_place A pairs places typing.Memory as_many u = tt
+
+-- A draft has a place for each pair.
+pub as_many_places : (d : Draft) (t : Term) (all : Constraints) → HasConstraintsOf d t all → length all.pairs.items ≡ length all.places.items
+as_many_places d t all has = ap length has.pairs ∙ length-map d.constraints pair_of ∙ sym (length-map d.constraints constraint_place) ∙ sym (ap length has.places)
 
 -- A typing fault is one of the text.
 pub not_typed : (V : Vocabulary) (t : RawTree) (T : Typ) (d : Draft) (fault : ElabFault) → IsDraftOf V t T d → IsTypingFault V d fault → IsElabFault V t T fault

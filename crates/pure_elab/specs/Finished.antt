@@ -1,5 +1,5 @@
 -- What the parts of elaboration answer behind the draft.
-use Rattle.std.specs.Prelude.{◌≡◌, ℕ, List, map, Option, Some, MatchOption, Result, Ok, Err, slice_get}
+use Rattle.std.specs.Prelude.{◌≡◌, ◌<◌, ℕ, List, length, map, Option, Some, MatchOption, Result, Ok, Err, slice_get}
 use Rattle.std.specs.declared.sync.Arc.{Arc}
 use Rattle.std.specs.declared.alloc.Global.{Global}
 use Rattle.pure_definitions.specs.Types.Order.{Algebra}
@@ -45,11 +45,17 @@ IsNameRefusal faults Big = ⊥
 IsNameRefusal faults (IllTyped at) = ⊥
 IsNameRefusal faults fault = IsNameFault faults fault
 
--- The fault of typing that a fault of unification is, where constraints have these places. With no place for its number memory is wanted.
+-- A fault of unification that names a constraint names one of these places.
+abbrev pub NamesAPlace : List ℕ → TypFault → Type 0
+NamesAPlace places (typing.NoTyping k) = k < length places
+NamesAPlace places _ = Unit {0}
+
+-- The fault of typing that a fault of unification is, where constraints have these places.
 abbrev pub IsFaultFrom : List ℕ → TypFault → ElabFault → Type 0
 IsFaultFrom places (typing.NoTyping k) (IllTyped at) = slice_get places k ≡ Some at
+IsFaultFrom places (typing.NoTyping k) _ = ⊥
 IsFaultFrom places (typing.Big k) fault = fault ≡ Big
-IsFaultFrom places _ fault = fault ≡ Memory
+IsFaultFrom places typing.Memory fault = fault ≡ Memory
 
 -- The term and the constraints are those of the draft.
 pub record HasConstraintsOf (d : Draft) (t : Term) (all : Constraints) : Type 0 where

@@ -1,5 +1,5 @@
 //! The calls that elaborate.
-ghost use Rattle.std.specs.Prelude.{◌≡◌, [], IfOk, IfErr, OnOk};
+ghost use Rattle.std.specs.Prelude.{◌≡◌, [], length, IfOk, IfErr, OnOk};
 ghost use Rattle.pure_text.specs.Lists.{Each};
 ghost use Rattle.pure_definitions.specs.Types.Typ as tree;
 ghost use Rattle.pure_definitions.specs.Terms.Term as term_tree;
@@ -19,7 +19,7 @@ ghost use Rattle.pure_elab.specs.Typings.{fresh_index};
 ghost use Rattle.pure_elab.specs.Answers as answers;
 ghost use Rattle.pure_elab.specs.Answers.{IsFixedTyp, IsDraftOf, IsTyped, IsTypingFault, IsElaborated, IsElabFault, IsElaboratedTyp, IsElabTypFault};
 ghost use Rattle.pure_elab.specs.Laws.{IsMostGeneralTerm};
-ghost use Rattle.pure_elab.specs.Finished.{IsLimited, IsSolution, IsFinished, IsNameRefusal, IsFaultFrom, HasConstraintsOf};
+ghost use Rattle.pure_elab.specs.Finished.{IsLimited, IsSolution, IsFinished, IsNameRefusal, NamesAPlace, IsFaultFrom, HasConstraintsOf};
 
 use crate::draft::{Constraints, constrain_to, draft, raw_place};
 use crate::fault::{ElabFault, FaultAt, NameFault};
@@ -148,12 +148,12 @@ fn finished<L: Language>(
 
 /// Why the constraints have no typing.
 fn typing_fault(places: &[u32], fault: TypFault) -> ElabFault
+    requires { NamesAPlace places.now fault }
     ensures { IsFaultFrom places.now fault result }
 {
     match fault {
-        TypFault::NoTyping { index } => match places.get(index as usize) {
-            Some(at) => ElabFault::IllTyped { at: *at },
-            None => ElabFault::Memory,
+        TypFault::NoTyping { index } => ElabFault::IllTyped {
+            at: places[index as usize],
         },
         TypFault::Big { .. } => ElabFault::Big,
         TypFault::Memory => ElabFault::Memory,
@@ -199,7 +199,8 @@ fn typed<L: Language>(
     term: Arc<Term>,
     constraints: Constraints,
 ) -> Result<Term, ElabFault>
-    requires { Each (IsOldPair fresh_index 0) constraints.pairs.items }
+    requires old { Each (IsOldPair fresh_index 0) constraints.pairs.items }
+    requires placed { length constraints.pairs.items ≡ length constraints.places.items }
     ensures ok { IfOk result (λ t. (d : drafts.Draft) → HasConstraintsOf d term.value constraints → IsTyped (L.vocabulary language.now) d t) }
     ensures fault { IfErr result (λ f. (d : drafts.Draft) → HasConstraintsOf d term.value constraints → IsTypingFault (L.vocabulary language.now) d f) }
 {

@@ -1,5 +1,6 @@
 //! What a name or variable of a written term means under binders.
 ghost use Rattle.std.specs.Prelude.{◌≡◌, IfOk};
+ghost use Rattle.pure_grammar.specs.declared.token.TokenKind.TheVariants as kinds;
 ghost use Rattle.pure_elab.specs.Meant as spec;
 ghost use Rattle.pure_elab.specs.Drafts.{texts_of};
 ghost use Rattle.pure_elab.specs.Scope.{binders_of};
@@ -57,7 +58,7 @@ fn plain_meaning<L: Language>(
     scope: &Scope<'_, '_>,
     text: &[u8],
 ) -> Result<Meaning, AllocError>
-    ensures { IfOk result (λ m. m ≡ spec.bound_or (spec.bound_place (texts_of (binders_of scope.now)) text.now) (spec.constant_or ((L.vocabulary language.now).constant_written text.now) (spec.fixed_or_unknown ((L.vocabulary language.now).name_written text.now)))) }
+    ensures { IfOk result (λ m. m ≡ spec.meant (L.vocabulary language.now) (texts_of (binders_of scope.now)) kinds.Ident text.now) }
 {
     let place = bound_place(scope, text)?;
     match place {

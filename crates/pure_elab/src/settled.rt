@@ -1,8 +1,9 @@
 //! The draft's term under the settings that unification has found.
-ghost use Rattle.std.specs.Prelude.{◌≡◌, IfOk, MatchOption};
-ghost use Rattle.pure_definitions.specs.Terms.Term.{Const, Free, Var, Abs, App, IsWithin};
+ghost use Rattle.std.specs.Prelude.{IfOk};
+ghost use Rattle.pure_definitions.specs.Terms.Term.{Const, Free, Var, Abs, App};
 ghost use Rattle.pure_definitions.specs.Terms.Subst.{typ_instance, inst_typ};
 ghost use Rattle.pure_tunify.specs.Settings.{composed};
+ghost use Rattle.pure_elab.specs.Finished.{IsLimited};
 ghost use Rattle.pure_elab.specs.PutIn.{IsLeafPutIn, IsNodeOver, IsPutIn};
 
 use crate::nodes::{abstraction, application};
@@ -207,8 +208,7 @@ pub(crate) fn settled(
     alloc: Global,
     term: &Arc<Term>,
 ) -> Result<Option<Arc<Term>>, AllocError>
-    ensures { IfOk result (λ o. MatchOption o (¬ IsWithin (inst_typ (composed settings.now.sets) term.now.value))
-        (λ u. (u.value ≡ inst_typ (composed settings.now.sets) term.now.value) × IsWithin (inst_typ (composed settings.now.sets) term.now.value))) }
+    ensures { IfOk result (IsLimited (inst_typ (composed settings.now.sets) term.now.value)) }
 {
     let found = settle_term(settings, alloc, term, MAX_SIZE, MAX_DEPTH)?;
     match found {

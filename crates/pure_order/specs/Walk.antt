@@ -1,5 +1,5 @@
 -- What the arities whose places a set holds ask of types.
-use Rattle.std.specs.Prelude.{◌≡◌, ◌↔◌, ◌<◌, ◌≤◌, ℕ, List, [], length, get_or}
+use Rattle.std.specs.Prelude.{◌≡◌, ◌↔◌, ◌<◌, ◌≤◌, ℕ, Bool, List, [], length, get_or, MatchBool}
 use Rattle.pure_text.specs.Lists.{EachTwo}
 use Rattle.pure_definitions.specs.Types.Typ.{Typ}
 use Rattle.pure_definitions.specs.Types.Order.{Arity, Algebra, IsOfSort, IsCoregular}
@@ -59,3 +59,7 @@ AreOfDomains A places ts = (place : ℕ) → Holds places place → EachTwo (IsO
 pub record AsksMore (A : Algebra) (count : ℕ) (P : List Typ → Type 0) (old new : List ℕ) : Type 0 where
   pub have : HaveDomains A count new
   pub ask : (ts : List Typ) → AreOfDomains A new ts ↔ (P ts × AreOfDomains A old ts)
+
+-- The answer whether so many arguments can have the property: if so, more is asked, and else none have it.
+abbrev pub AreAsked : (A : Algebra) → (count : ℕ) → (P : List Typ → Type 0) → (old new : List ℕ) → Bool → Type 0
+AreAsked A count P old new can = MatchBool can (AsksMore A count P old new) ((ts : List Typ) → length ts ≡ count → ¬ P ts)

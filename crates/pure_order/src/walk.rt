@@ -1,10 +1,10 @@
 //! The walk that asks a type's arguments once for all that a sort asks of them.
-ghost use Rattle.std.specs.Prelude.{◌≡◌, ◌↔◌, ◌<◌, ℕ, List, IsTrue, MatchBool, MatchOption, length};
+ghost use Rattle.std.specs.Prelude.{◌≡◌, ◌↔◌, ◌<◌, ℕ, List, IsTrue, MatchOption, length};
 ghost use Rattle.pure_definitions.specs.Types.Typ as tree;
 ghost use Rattle.pure_definitions.specs.Types.Typ.{Con, typs_of};
 ghost use Rattle.pure_definitions.specs.Types.Order.{IsOfClass, IsOfSort, IsSortBelow};
 ghost use Rattle.pure_order_tables.specs.Rows.{Holds};
-ghost use Rattle.pure_order.specs.Walk.{IsWalkable, domains_at, domain_at, HasDomain, IsGreatestPlace, HaveDomain, HaveDomains, IsOfDomain, AreOfDomains, AsksMore};
+ghost use Rattle.pure_order.specs.Walk.{IsWalkable, domains_at, domain_at, HasDomain, IsGreatestPlace, HaveDomain, HaveDomains, IsOfDomain, AreOfDomains, AreAsked};
 
 use crate::places::Places;
 use pure_order_tables::Tables;
@@ -45,7 +45,7 @@ fn greatest(tables: &Tables, con: Name, class: Name, count: usize) -> Option<usi
 fn put_greatest(tables: &Tables, places: &mut Places, con: Name, sort: &Sort, count: usize) -> bool
     requires walkable { IsWalkable tables.now }
     requires have { HaveDomains tables.now count places.old }
-    ensures { MatchBool result (AsksMore tables.now count (λ ts. IsOfSort tables.now (Con con (typs_of ts)) sort.now) places.old places.new) ((ts : List tree.Typ) → length ts ≡ count → ¬ IsOfSort tables.now (Con con (typs_of ts)) sort.now) }
+    ensures { AreAsked tables.now count (λ ts. IsOfSort tables.now (Con con (typs_of ts)) sort.now) places.old places.new result }
 {
     for class in sort.classes() {
         let Some(place) = greatest(tables, con, *class, count) else {
@@ -81,7 +81,7 @@ fn put_all_greatest(
     requires walkable { IsWalkable tables.now }
     requires have { HaveDomain tables.now index places.now }
     requires next { HaveDomains tables.now count next.old }
-    ensures { MatchBool result (AsksMore tables.now count (λ ts. IsOfDomain tables.now places.now index (Con con (typs_of ts))) next.old next.new) ((ts : List tree.Typ) → length ts ≡ count → ¬ IsOfDomain tables.now places.now index (Con con (typs_of ts))) }
+    ensures { AreAsked tables.now count (λ ts. IsOfDomain tables.now places.now index (Con con (typs_of ts))) next.old next.new result }
 {
     for place in places.start()..places.end() {
         if !places.contains(place) {

@@ -62,6 +62,15 @@ fn nobody_starts_one_above_a_win_that_is_seen(rt: HostRuntime) -> Result<(), Fai
 }
 
 #[test]
+fn a_win_is_told_by_its_own_number(rt: HostRuntime) -> Result<(), Fail> {
+    let wins = Wins::none(rt.alloc(), 2)?;
+    wins.tell(rt.alloc(), 1, 2)?;
+    assert!(rt; !wins.has_lesser(2));
+    assert!(rt; wins.has_lesser(3));
+    Ok(())
+}
+
+#[test]
 fn an_attempt_is_left_before_its_next_step(rt: HostRuntime) -> Result<(), Fail> {
     let wins = Wins::none(rt.alloc(), 2)?;
     let attempts = Beaten {

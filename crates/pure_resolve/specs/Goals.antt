@@ -10,8 +10,9 @@ use Rattle.pure_theorem.specs.Sets.{label_cmp, IsSetOf}
 use Rattle.pure_theorem.specs.Shapes.{IsTyped}
 use Rattle.pure_unify_definitions.specs.LongSides as sides
 use Rattle.pure_unify_definitions.specs.LongSides.{Long, Ends, ComesTo}
+use Rattle.pure_unify_definitions.specs.Search.{Unifier}
 use Rattle.pure_goal_steps.specs.State.{State, IsTheoremOf, IsGoal}
-use Rattle.pure_goal_steps.specs.Follows.{Outcome}
+use Rattle.pure_goal_steps.specs.Follows.{Outcome, Attempt, Becomes, with_unifier}
 use Rattle.pure_goal_steps.specs.declared.fault.StepFault.{StepFault}
 use Rattle.pure_goal_steps.specs.declared.fault.StepFault.TheVariants.{Steps, Big, Memory}
 use Rattle.pure_resolve.specs.declared.state.Goal.{Goal}
@@ -31,6 +32,15 @@ IsOutcome Gives Rests (Err fault) = Gives (Err fault)
 -- The same of a step from the goal's state, which is one that steps may start from.
 abbrev pub IsStep : (Gives : State → Outcome → Type 0) → (goal : Theorem) → (Rests : List Label → Type 0) → Result Goal StepFault → Type 0
 IsStep Gives goal Rests result = (s : State) × IsTheoremOf s goal × IsGoal s × IsOutcome (Gives s) Rests result
+
+-- The same of what is given from each state whose theorem this is, with the subgoals behind its first, where the labels are these.
+abbrev pub IsOutcomeFrom : (goal : Theorem) → (Gives : State → (others : List Term) → Outcome → Type 0) → (rests : List Label) → Result Goal StepFault → Type 0
+IsOutcomeFrom goal Gives rests result = (s : State) → (first : Term) → (others : List Term) → IsTheoremOf s goal → s.subgoals ≡ first ∷ others → IsOutcome (Gives s others) (λ all. all ≡ rests) result
+
+-- The same of the state that the unifier makes of an attempt with these premises.
+abbrev pub IsMadeFrom : (goal : Theorem) → (premises : List Term) → Unifier → (rests : List Label) → Result Goal StepFault → Type 0
+IsMadeFrom goal premises u rests result = (s : State) → (first : Term) → (others : List Term) → (a : Attempt) → IsTheoremOf s goal → s.subgoals ≡ first ∷ others → a.premises ≡ premises
+    → IsOutcome (Becomes (with_unifier s others a u)) (λ all. all ≡ rests) result
 
 -- The left side of the pair has a type under no binders.
 abbrev pub IsLeftTyped : Pair → Type 0

@@ -1,19 +1,24 @@
 -- What calls on goals ask of the goal and of the fact; and the ways to use a hypothesis.
-use Rattle.std.specs.Prelude.{◌≡◌, ℕ, List, [], take, drop}
+use Rattle.std.specs.Prelude.{◌≡◌, ℕ, List, [], ◌∷◌, map, take, drop, Result}
+use Rattle.pure_definitions.specs.Names.{Label}
+use Rattle.pure_definitions.specs.Types.Order.{Algebra}
 use Rattle.pure_definitions.specs.Terms.Term.{Term}
 use Rattle.pure_definitions.specs.Reduction.Beta.{IsBetaNormal}
 use Rattle.pure_logic.specs.Connectives.{imp}
 use Rattle.pure_logic.specs.Content.{Content}
 use Rattle.pure_logic.specs.Derivable.{Theorem, IsDerivable}
 use Rattle.pure_theorem.specs.Facts.{IsTheoryContent}
-use Rattle.pure_goal_steps.specs.Reading.{Place, places, IsRuleOf, rule_maxidx}
-use Rattle.pure_goal_steps.specs.Follows.{Attempt}
+use Rattle.pure_goal_steps.specs.Reading.{Place, places, around, IsRuleOf, rule_maxidx}
+use Rattle.pure_goal_steps.specs.Follows.{Attempt, FollowsByFirst}
+use Rattle.pure_goal_steps.specs.declared.fault.StepFault.{StepFault}
 use Rattle.pure_goal_steps.specs.Steps.{rule_attempt, elimination_attempt, destruction_attempt, assumption_attempt}
 use Rattle.pure_goal_rules.specs.declared.item.Item.{Item}
 use Rattle.pure_goal_rules.specs.declared.read.Parts.{Parts}
 use Rattle.pure_goal_rules.specs.Shown.{shown}
 use Rattle.pure_goal_rules.specs.Attempts.{seen_attempt}
-use Rattle.pure_resolve.specs.Goals.{IsGoalTheorem}
+use Rattle.pure_resolve.specs.Goals.{IsGoalTheorem, IsOutcomeFrom}
+use Rattle.pure_resolve.specs.Settled.{MayAttempt}
+use Rattle.pure_resolve.specs.declared.state.Goal.{Goal}
 use Rattle.pure_resolve.specs.declared.resolve.Resolver.{Resolver}
 use Rattle.pure_resolve.specs.declared.resolve.Trying.{Trying}
 use Rattle.pure_resolve.specs.declared.trial.Use.{Use}
@@ -64,3 +69,16 @@ pub record IsFactAttempt (goal fact : Theorem) (parts : Parts) (t : Trying) : Ty
 -- the places of the hypotheses from an item on
 abbrev pub places_from : List Item → ℕ → List Place
 places_from items from = places (shown (take from items)) (shown (drop from items))
+
+-- the attempts to use the hypotheses from an item on
+abbrev pub attempts_from : Use → (C : Term) → List Item → ℕ → List Attempt
+attempts_from used C items from = map (attempted used C) (places_from items from)
+
+-- Whatever premises the rule has, its use on the hypothesis at each place may be attempted.
+abbrev pub MayAttemptEach : (goal : Theorem) → Parts → Resolver → (attempt : (C P : Term) → List Term → (B : Term) → Place → Attempt) → Type 0
+MayAttemptEach goal parts r attempt = (P : Term) → (As : List Term) → r.rule.premises.items ≡ P ∷ As → (p : Place) → shown parts.prefix.items ≡ around p → MayAttempt goal (attempt parts.conclusion.now P As r.rule.conclusion p)
+
+-- Whatever premises the rule has: what follows from its use on the first hypothesis that serves.
+abbrev pub IsFirstServed : Algebra → (goal : Theorem) → Parts → Resolver → (attempt : (C P : Term) → List Term → (B : Term) → Place → Attempt) → (rests : List Label) → Result Goal StepFault → Type 0
+IsFirstServed A goal parts r attempt rests result = (P : Term) → (As : List Term) → r.rule.premises.items ≡ P ∷ As
+    → IsOutcomeFrom goal (λ s others. FollowsByFirst A r.maxidx s others (map (attempt parts.conclusion.now P As r.rule.conclusion) (places_from parts.prefix.items 0))) rests result

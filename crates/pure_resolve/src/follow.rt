@@ -1,7 +1,6 @@
 //! What follows from an attempt to make a step.
-ghost use Rattle.std.specs.Prelude.{◌≡◌, ◌∷◌, ◌++◌, [], List, IfOk};
+ghost use Rattle.std.specs.Prelude.{◌≡◌, ◌++◌, IfOk};
 ghost use Rattle.pure_text.specs.Lists.{Each};
-ghost use Rattle.pure_definitions.specs.Terms.Term as tree;
 ghost use Rattle.pure_definitions.specs.Declarations.Decl.{algebra_of};
 ghost use Rattle.pure_logic.specs.Connectives.{chain};
 ghost use Rattle.pure_logic.specs.Laws.Maps.{instantiated};
@@ -9,10 +8,10 @@ ghost use Rattle.pure_theorem.specs.Shapes.{IsTyped};
 ghost use Rattle.pure_theorem.specs.Sets.{IsLabelSet};
 ghost use Rattle.pure_unify_nodes.specs.SideAnswer.{AreSidesTyped};
 ghost use Rattle.pure_unify.specs.Unified.{seen, IsUnified, IsLeftOver};
-ghost use Rattle.pure_goal_steps.specs.State.{State, IsTheoremOf};
+ghost use Rattle.pure_goal_steps.specs.State.{State};
 ghost use Rattle.pure_goal_steps.specs.Follows as follows;
 ghost use Rattle.pure_goal_rules.specs.Attempts.{seen_attempt};
-ghost use Rattle.pure_resolve.specs.Goals.{IsConcluded, IsOutcome};
+ghost use Rattle.pure_resolve.specs.Goals.{IsConcluded, IsOutcome, IsOutcomeFrom, IsMadeFrom};
 ghost use Rattle.pure_resolve.specs.Settled as settling;
 ghost use Rattle.pure_resolve.specs.Settled.{HasFirst, HasLongFront, MayAttempt, IsBefore};
 
@@ -105,7 +104,7 @@ fn with_instances<B: Ordered>(
     requires typed { Each IsTyped premises.items }
     requires left { Each IsLeftOver unifier.flexflex.items }
     requires set { IsLabelSet rests.items }
-    ensures { (s : State) → (first : tree.Term) → (others : List tree.Term) → (a : follows.Attempt) → IsTheoremOf s goal.now → s.subgoals ≡ first ∷ others → a.premises ≡ premises.items → IsOutcome (follows.Becomes (follows.with_unifier s others a (seen unifier))) (λ all. all ≡ rests.items) result }
+    ensures { IsMadeFrom goal.now premises.items (seen unifier) rests.items result }
 {
     let Some((_, rest)) = as_implication(&goal.prop) else {
         unreachable!();
@@ -172,7 +171,7 @@ pub fn with_unifier<B: Ordered>(
     requires typed { Each IsTyped premises.items }
     requires left { Each IsLeftOver unifier.flexflex.items }
     requires set { IsLabelSet rests.items }
-    ensures { (s : State) → (first : tree.Term) → (others : List tree.Term) → (a : follows.Attempt) → IsTheoremOf s goal.now → s.subgoals ≡ first ∷ others → a.premises ≡ premises.items → IsOutcome (follows.Becomes (follows.with_unifier s others a (seen unifier))) (λ all. all ≡ rests.items) result }
+    ensures { IsMadeFrom goal.now premises.items (seen unifier) rests.items result }
 {
     let Some((_, rest)) = as_implication(&goal.prop) else {
         unreachable!();
@@ -197,7 +196,7 @@ pub fn followed<B: Ordered, W: Watch>(
     requires goal { HasFirst goal.now }
     requires attempt { MayAttempt goal.now (seen_attempt attempt) }
     requires set { IsLabelSet rests.items }
-    ensures { (s : State) → (first : tree.Term) → (others : List tree.Term) → IsTheoremOf s goal.now → s.subgoals ≡ first ∷ others → IsOutcome (follows.FollowsBy (algebra_of (B.content thy.now).declarations) maxidx s others (seen_attempt attempt)) (λ all. all ≡ rests.items) result }
+    ensures { IsOutcomeFrom goal.now (λ s others. follows.FollowsBy (algebra_of (B.content thy.now).declarations) maxidx s others (seen_attempt attempt)) rests.items result }
 {
     let Attempt { matched, premises } = attempt;
     match unified(alloc, thy, goal, matched, maxidx, watch) {

@@ -1,18 +1,13 @@
 //! Steps that use a hypothesis: assumption, elimination and destruction.
-ghost use Rattle.std.specs.Prelude.{◌≡◌, ◌∷◌, ◌++◌, [], List, map, IfOk, Err};
-ghost use Rattle.pure_definitions.specs.Terms.Term as tree;
+ghost use Rattle.std.specs.Prelude.{◌≡◌, ◌++◌, [], IfOk, Err};
 ghost use Rattle.pure_definitions.specs.Declarations.Decl.{algebra_of};
 ghost use Rattle.pure_logic.specs.Derivable.{IsDerivable};
 ghost use Rattle.pure_theorem.specs.Sets.{label_cmp, IsLabelSet, IsSetOf};
 ghost use Rattle.pure_unify_laws.specs.Condition.{IsUnifyContent};
-ghost use Rattle.pure_goal_steps.specs.State.{State, IsTheoremOf};
-ghost use Rattle.pure_goal_steps.specs.Reading.{Place, around};
-ghost use Rattle.pure_goal_steps.specs.Follows.{FollowsByFirst};
 ghost use Rattle.pure_goal_steps.specs.Steps.{elimination_attempt, destruction_attempt, EliminationStep, DestructionStep, AssumptionStep};
-ghost use Rattle.pure_goal_rules.specs.Shown.{shown};
-ghost use Rattle.pure_resolve.specs.Goals.{IsOutcome, IsStep};
-ghost use Rattle.pure_resolve.specs.Settled.{HasFirst, MayAttempt};
-ghost use Rattle.pure_resolve.specs.Uses.{MayStep, MayUse, IsFirstSubgoal, places_from};
+ghost use Rattle.pure_resolve.specs.Goals.{IsStep};
+ghost use Rattle.pure_resolve.specs.Settled.{HasFirst};
+ghost use Rattle.pure_resolve.specs.Uses.{MayStep, MayUse, IsFirstSubgoal, MayAttemptEach, IsFirstServed};
 
 use crate::resolve::{Resolver, discard, rule_on, united_rests};
 use crate::state::Goal;
@@ -62,10 +57,10 @@ fn eliminated_by<B: Ordered, W: Watch>(
     watch: &W,
 ) -> Result<Goal, StepFault>
     requires first { HasFirst goal.now }
-    requires may { (P : tree.Term) → (As : List tree.Term) → resolver.now.rule.premises.items ≡ P ∷ As → (p : Place) → shown parts.now.prefix.items ≡ around p → MayAttempt goal.now (elimination_attempt parts.now.conclusion.now P As resolver.now.rule.conclusion p) }
+    requires may { MayAttemptEach goal.now parts.now resolver.now elimination_attempt }
     requires set { IsLabelSet rests.now }
     ensures none { resolver.now.rule.premises.items ≡ [] → result ≡ Err StepFault.NoPremise }
-    ensures some { (P : tree.Term) → (As : List tree.Term) → resolver.now.rule.premises.items ≡ P ∷ As → (s : State) → (first : tree.Term) → (others : List tree.Term) → IsTheoremOf s goal.now → s.subgoals ≡ first ∷ others → IsOutcome (FollowsByFirst (algebra_of (B.content thy.now).declarations) resolver.now.maxidx s others (map (elimination_attempt parts.now.conclusion.now P As resolver.now.rule.conclusion) (places_from parts.now.prefix.items 0))) (λ all. all ≡ rests.now) result }
+    ensures some { IsFirstServed (algebra_of (B.content thy.now).declarations) goal.now parts.now resolver.now elimination_attempt rests.now result }
 {
     let premises = resolver.rule.premises.as_slice();
     let Some((first, others)) = premises.split_first() else {
@@ -119,10 +114,10 @@ fn destructed_by<B: Ordered, W: Watch>(
     watch: &W,
 ) -> Result<Goal, StepFault>
     requires first { HasFirst goal.now }
-    requires may { (P : tree.Term) → (As : List tree.Term) → resolver.now.rule.premises.items ≡ P ∷ As → (p : Place) → shown parts.now.prefix.items ≡ around p → MayAttempt goal.now (destruction_attempt parts.now.conclusion.now P As resolver.now.rule.conclusion p) }
+    requires may { MayAttemptEach goal.now parts.now resolver.now destruction_attempt }
     requires set { IsLabelSet rests.now }
     ensures none { resolver.now.rule.premises.items ≡ [] → result ≡ Err StepFault.NoPremise }
-    ensures some { (P : tree.Term) → (As : List tree.Term) → resolver.now.rule.premises.items ≡ P ∷ As → (s : State) → (first : tree.Term) → (others : List tree.Term) → IsTheoremOf s goal.now → s.subgoals ≡ first ∷ others → IsOutcome (FollowsByFirst (algebra_of (B.content thy.now).declarations) resolver.now.maxidx s others (map (destruction_attempt parts.now.conclusion.now P As resolver.now.rule.conclusion) (places_from parts.now.prefix.items 0))) (λ all. all ≡ rests.now) result }
+    ensures some { IsFirstServed (algebra_of (B.content thy.now).declarations) goal.now parts.now resolver.now destruction_attempt rests.now result }
 {
     let premises = resolver.rule.premises.as_slice();
     let Some((first, others)) = premises.split_first() else {

@@ -1,18 +1,16 @@
 //! Hypotheses tried one after the other.
-ghost use Rattle.std.specs.Prelude.{◌≡◌, ◌∷◌, List, take, drop, map, IfOk, ◌<◌, length, get_or, MatchBool, ◌≢◌};
-ghost use Rattle.pure_definitions.specs.Terms.Term as tree;
+ghost use Rattle.std.specs.Prelude.{◌≡◌, IfOk, ◌<◌, length, get_or, MatchBool, ◌≢◌};
 ghost use Rattle.pure_definitions.specs.Declarations.Decl.{algebra_of};
 ghost use Rattle.pure_text.specs.Lists.{Each};
 ghost use Rattle.pure_theorem.specs.Sets.{IsLabelSet};
 ghost use Rattle.pure_theorem.specs.Shapes.{IsTyped};
 ghost use Rattle.pure_unify.specs.Unified.{seen, IsLeftOver};
-ghost use Rattle.pure_goal_steps.specs.State.{State, IsTheoremOf};
 ghost use Rattle.pure_goal_steps.specs.Reading as reading;
 ghost use Rattle.pure_goal_steps.specs.Follows.{Becomes, with_unifier, FollowsBy, FollowsByFirst};
 ghost use Rattle.pure_goal_rules.specs.Shown.{shown, seen_place};
-ghost use Rattle.pure_resolve.specs.Goals.{IsOutcome};
+ghost use Rattle.pure_resolve.specs.Goals.{IsOutcomeFrom};
 ghost use Rattle.pure_resolve.specs.Settled.{HasFirst, MayAttempt};
-ghost use Rattle.pure_resolve.specs.Uses.{attempted};
+ghost use Rattle.pure_resolve.specs.Uses.{attempted, attempts_from};
 
 use crate::follow::{step_fault, unified, with_unifier};
 use crate::state::Goal;
@@ -96,7 +94,7 @@ fn made_at<B: Ordered>(
     requires typed { Each IsTyped (attempted used.now trial.now.conclusion.now (seen_place spot.now)).premises }
     requires left { Each IsLeftOver unifier.flexflex.items }
     requires set { IsLabelSet trial.now.rests.now }
-    ensures { (s : State) → (first : tree.Term) → (others : List tree.Term) → IsTheoremOf s trial.now.goal.now → s.subgoals ≡ first ∷ others → IsOutcome (Becomes (with_unifier s others (attempted used.now trial.now.conclusion.now (seen_place spot.now)) (seen unifier))) (λ all. all ≡ trial.now.rests.now) result }
+    ensures { IsOutcomeFrom trial.now.goal.now (λ s others. Becomes (with_unifier s others (attempted used.now trial.now.conclusion.now (seen_place spot.now)) (seen unifier))) trial.now.rests.now result }
 {
     let premises = premises_at(alloc, trial.items, trial.conclusion, used, spot)?;
     let rests = Vec::from_slice(alloc, trial.rests)?;
@@ -116,7 +114,7 @@ fn tried_at<B: Ordered, W: Watch>(
     requires first { HasFirst trial.now.goal.now }
     requires may { MayAttempt trial.now.goal.now (attempted used.now trial.now.conclusion.now (seen_place spot.now)) }
     requires set { IsLabelSet trial.now.rests.now }
-    ensures { (s : State) → (first : tree.Term) → (others : List tree.Term) → IsTheoremOf s trial.now.goal.now → s.subgoals ≡ first ∷ others → IsOutcome (FollowsBy (algebra_of (B.content thy.now).declarations) trial.now.maxidx s others (attempted used.now trial.now.conclusion.now (seen_place spot.now))) (λ all. all ≡ trial.now.rests.now) result }
+    ensures { IsOutcomeFrom trial.now.goal.now (λ s others. FollowsBy (algebra_of (B.content thy.now).declarations) trial.now.maxidx s others (attempted used.now trial.now.conclusion.now (seen_place spot.now))) trial.now.rests.now result }
 {
     let matched = pairs_at(alloc, trial.items, trial.conclusion, used, spot)?;
     match unified(alloc, thy, trial.goal, matched, trial.maxidx, watch) {
@@ -155,8 +153,7 @@ pub fn tried_from<B: Ordered, W: Watch>(
     requires first { HasFirst trial.now.goal.now }
     requires may { (p : reading.Place) → shown trial.now.items.now ≡ reading.around p → MayAttempt trial.now.goal.now (attempted used.now trial.now.conclusion.now p) }
     requires set { IsLabelSet trial.now.rests.now }
-    ensures { (s : State) → (first : tree.Term) → (others : List tree.Term) → IsTheoremOf s trial.now.goal.now → s.subgoals ≡ first ∷ others
-        → IsOutcome (FollowsByFirst (algebra_of (B.content thy.now).declarations) trial.now.maxidx s others (map (attempted used.now trial.now.conclusion.now) (reading.places (shown (take from trial.now.items.now)) (shown (drop from trial.now.items.now))))) (λ all. all ≡ trial.now.rests.now) result }
+    ensures { IsOutcomeFrom trial.now.goal.now (λ s others. FollowsByFirst (algebra_of (B.content thy.now).declarations) trial.now.maxidx s others (attempts_from used.now trial.now.conclusion.now trial.now.items.now from)) trial.now.rests.now result }
 {
     if from >= trial.items.len() {
         return Err(StepFault::NoHypothesis);
