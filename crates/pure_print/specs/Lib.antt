@@ -4,6 +4,7 @@ pub mod Notation
 pub mod TermText
 pub mod Forms
 pub mod RowText
+pub mod Growing
 pub mod Readable
 pub mod ReadBack
 pub mod Laws

@@ -5,7 +5,7 @@ ghost use Rattle.std.specs.Fmt.{decimal};
 use std::alloc::AllocError;
 
 /// Appends the number in decimal digits.
-pub(crate) fn push_number(text: &mut Vec<u8>, number: usize) -> Result<(), AllocError>
+pub fn push_number(text: &mut Vec<u8>, number: usize) -> Result<(), AllocError>
     ensures { OnOk result (text.new.items ≡ text.old.items ++ decimal number) }
 {
     if number >= 10 {

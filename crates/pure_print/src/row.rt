@@ -1,9 +1,7 @@
-//! Rows and the table as they are printed.
+//! Rows as they are printed.
 ghost use Rattle.std.specs.Prelude.{◌≡◌, ◌++◌, IfOk, OnOk};
-ghost use Rattle.std.specs.List.{count_by, flat_map};
 ghost use Rattle.pure_print.specs.RowText as spec;
 
-use crate::number::push_number;
 use pure_text::Text;
 use std::alloc::{AllocError, Global};
 
@@ -42,17 +40,6 @@ impl Row {
     }
 }
 
-/// The statuses in the order of the last line.
-const STATUSES: [RowStatus; 7] = [
-    RowStatus::Declared,
-    RowStatus::Refused,
-    RowStatus::Proved,
-    RowStatus::Failed,
-    RowStatus::Tainted,
-    RowStatus::Cancelled,
-    RowStatus::Unsettled,
-];
-
 /// The line of a row, with its line feed.
 pub fn print_row(alloc: Global, row: &Row) -> Result<Text, AllocError>
     ensures { IfOk result (λ text. text ≡ spec.row_text row.now) }
@@ -62,21 +49,9 @@ pub fn print_row(alloc: Global, row: &Row) -> Result<Text, AllocError>
     Ok(Text::from(text))
 }
 
-/// The text of the table: a line for each row, and the last line with the number of theory files and of the rows of each
-/// status.
-pub fn print_table(alloc: Global, theories: u32, rows: &[Row]) -> Result<Text, AllocError>
-    ensures { IfOk result (λ text. text ≡ spec.table_text theories rows.now) }
-{
-    let mut text = Vec::new(alloc);
-    for row in rows {
-        push_row(&mut text, row)?;
-    }
-    push_total(&mut text, theories, rows)?;
-    Ok(Text::from(text))
-}
-
+/// The word of a status.
 #[tactic(auto, unfolding(crate::specs::RowText::status_text))]
-fn status_word(status: RowStatus) -> &'static [u8]
+pub fn status_word(status: RowStatus) -> &'static [u8]
     ensures { result.now ≡ spec.status_text status }
 {
     match status {
@@ -90,7 +65,7 @@ fn status_word(status: RowStatus) -> &'static [u8]
     }
 }
 
-fn push_row(text: &mut Vec<u8>, row: &Row) -> Result<(), AllocError>
+pub(crate) fn push_row(text: &mut Vec<u8>, row: &Row) -> Result<(), AllocError>
     ensures { OnOk result (text.new.items ≡ text.old.items ++ spec.row_text row.now) }
 {
     text.extend_from_slice(status_word(row.status))?;
@@ -98,62 +73,5 @@ fn push_row(text: &mut Vec<u8>, row: &Row) -> Result<(), AllocError>
     text.extend_from_slice(row.head.bytes())?;
     text.extend_from_slice(row.tail.bytes())?;
     text.extend_from_slice(b"\n")?;
-    Ok(())
-}
-
-fn status_place(status: RowStatus) -> u8
-    ensures { result ≡ spec.status_place status }
-{
-    match status {
-        RowStatus::Declared => 0,
-        RowStatus::Refused => 1,
-        RowStatus::Proved => 2,
-        RowStatus::Failed => 3,
-        RowStatus::Tainted => 4,
-        RowStatus::Cancelled => 5,
-        RowStatus::Unsettled => 6,
-    }
-}
-
-fn has_status(status: RowStatus, row: &Row) -> bool
-    ensures { result ≡ spec.has_status status row.now }
-{
-    status_place(row.status) == status_place(status)
-}
-
-fn count(status: RowStatus, rows: &[Row]) -> usize
-    ensures { result ≡ count_by (spec.has_status status) rows.now }
-{
-    rows.iter().filter(|row| has_status(status, row)).count()
-}
-
-fn push_count(text: &mut Vec<u8>, status: RowStatus, rows: &[Row]) -> Result<(), AllocError>
-    ensures { OnOk result (text.new.items ≡ text.old.items ++ spec.count_text rows.now status) }
-{
-    text.extend_from_slice(b", ")?;
-    push_number(text, count(status, rows))?;
-    text.push(b' ')?;
-    text.extend_from_slice(status_word(status))?;
-    Ok(())
-}
-
-fn push_counts(text: &mut Vec<u8>, statuses: &[RowStatus], rows: &[Row]) -> Result<(), AllocError>
-    ensures { OnOk result (text.new.items ≡ text.old.items ++ flat_map (spec.count_text rows.now) statuses.now) }
-{
-    for status in statuses {
-        push_count(text, *status, rows)?;
-    }
-    Ok(())
-}
-
-#[tactic(auto, unfolding(crate::specs::RowText::total_text, crate::specs::RowText::theories_text))]
-fn push_total(text: &mut Vec<u8>, theories: u32, rows: &[Row]) -> Result<(), AllocError>
-    ensures { OnOk result (text.new.items ≡ text.old.items ++ spec.total_line theories rows.now) }
-{
-    text.extend_from_slice(b"total: ")?;
-    push_number(text, theories as usize)?;
-    text.extend_from_slice(b" theories")?;
-    push_counts(text, &STATUSES, rows)?;
-    text.push(b'\n')?;
     Ok(())
 }

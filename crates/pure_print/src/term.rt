@@ -18,8 +18,16 @@ pub fn print_term(alloc: Global, names: &Names, t: &Term) -> Result<Text, AllocE
     ensures read_back { IfOk result (λ text. IsReadable names.now t.now → IsReadBack names.now t.now text) }
 {
     let mut text = Vec::new(alloc);
-    push_term(&mut text, names, 0, 0, t)?;
+    push_text_of_term(&mut text, names, t)?;
     Ok(Text::from(text))
+}
+
+/// Appends the printed form of a term.
+pub fn push_text_of_term(text: &mut Vec<u8>, names: &Names, t: &Term) -> Result<(), AllocError>
+    ensures { OnOk result (text.new.items ≡ text.old.items ++ term_text names.now t.now) }
+{
+    push_term(text, names, 0, 0, t)?;
+    Ok(())
 }
 
 /// Appends a term under so many binders, in parentheses where it binds less tightly than the level.

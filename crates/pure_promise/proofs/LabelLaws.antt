@@ -16,6 +16,7 @@ use Rattle.pure_promise_fates.proofs.PlaceLaws.{at-in, at-once, at-read}
 use Rattle.pure_promise_fates.proofs.CodeLaws.{at-seen}
 use Rattle.pure_promise.specs.declared.entry.Entry.{Entry}
 use Rattle.pure_promise.specs.Seen.{seen, reported}
+use Rattle.pure_promise.specs.Lemmas.{IsLabelAt}
 use Rattle.pure_print.specs.NameText.{text_of_name}
 use Rattle.pure_promise.specs.RowText.{label_text}
 
@@ -59,3 +60,7 @@ no_items (x ∷ xs) b is = (
   λ h. let none : length (x ∷ xs) ≡ 0 = eqb-true (length (x ∷ xs)) 0 (sym is ∙ h) in absurd (omega arith),
   λ h. absurd cc,
 )
+
+-- the lemma that is read at a place has the label where a test says so
+pub label_there : (es : List Entry) (p : ℕ) (r : Entry) (l : Label) (b : Bool) → p < length es → r ≡ get_or es p r → b ≡ label_eq (get_or es p r).label l → IsTrue b → IsLabelAt es p l
+label_there es p r l b within is tells same = record { within = within; at = (reported r, at-seen reported es p r within is, ap (λ (e : Entry). e.label) is ∙ label_same (get_or es p r).label l (sym tells ∙ same)) }

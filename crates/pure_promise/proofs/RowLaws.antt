@@ -8,11 +8,14 @@ use Rattle.pure_promise_fates.specs.Entries.{Fate, IsFate}
 use Rattle.pure_promise_fates.specs.Reach.{IsAt}
 use Rattle.pure_promise_fates.proofs.PlaceLaws.{at-map, at-within, at-once, at-read}
 use Rattle.pure_promise_fates.proofs.CodeLaws.{seen-length}
+use Rattle.pure_promise_fates.specs.Entries as fates
 use Rattle.pure_print.specs.declared.row.Row.{Row}
+use Rattle.pure_print.specs.declared.row.RowStatus.{RowStatus}
+use Rattle.pure_promise.specs.Lemmas.{IsRowSuchThat}
 use Rattle.pure_promise.specs.declared.entry.Entry.{Entry}
 use Rattle.pure_promise.specs.Entries.{plain}
 use Rattle.pure_promise.specs.Seen.{seen, seen_entry, reported}
-use Rattle.pure_promise.specs.RowText.{fate_row}
+use Rattle.pure_promise.specs.RowText.{fate_row, status_of}
 use Rattle.pure_promise.specs.Rows.{IsRowOf, AreRowsOf}
 
 -- entries as fates see them
@@ -37,6 +40,18 @@ pub row_there : (texts : List (List ℕ)) (es : List Entry) (p : ℕ) (r : Entry
 row_there texts es p r fate row within is fated shown e at =
     let same : r ≡ e = at-once es p r e (subst (IsAt es p) (sym is) (at-read es p r within)) at in
     subst (λ (x : Entry). IsRowOf texts (seen es) (seen_entry x) row) same (fate, subst (λ ds. IsFate ds r.label fate) (sym (reported-plain es)) fated, shown)
+
+-- the status of the row of the lemma at a place
+pub status_there : (texts : List (List ℕ)) (es : List Entry) (p : ℕ) (fate : Fate) (status : RowStatus) → ((e : fates.Entry) → IsAt (map reported es) p e → IsFate (map reported es) e.label fate) → status ≡ status_of fate
+    → (e : Entry) → IsAt es p e → IsRowSuchThat texts (seen es) (seen_entry e) (λ row. row.status ≡ status)
+status_there texts es p fate status fated is e at =
+    (fate_row texts (seen es) (seen_entry e) fate, (fate, subst (λ ds. IsFate ds e.label fate) (sym (reported-plain es)) (fated (reported e) (at-map reported es p e at)), refl), sym is)
+
+-- what is done with the row of the lemma that is read at a place
+pub put_there : (texts : List (List ℕ)) (es : List Entry) (p : ℕ) (r : Entry) (fate : Fate) (Taken : Row → Type 0) → p < length es → r ≡ get_or es p r → IsFate (map reported es) r.label fate → Taken (fate_row texts (seen es) (seen_entry r) fate)
+    → (e : Entry) → IsAt es p e → IsRowSuchThat texts (seen es) (seen_entry e) Taken
+put_there texts es p r fate Taken within is fated taken e at =
+    (fate_row texts (seen es) (seen_entry r) fate, row_there texts es p r fate (fate_row texts (seen es) (seen_entry r) fate) within is fated refl e at, taken)
 
 -- one row more
 pub next_row : (texts : List (List ℕ)) (es : List Entry) (p : ℕ) (rows more : List Row) (row : Row) → p < length es → EachTwo (IsRowOf texts (seen es)) (take p (seen es)) rows

@@ -1,10 +1,13 @@
 //! The row of a lemma with its fate.
-ghost use Rattle.std.specs.Prelude.{◌≡◌, ◌++◌, IfOk, map};
+ghost use Rattle.std.specs.Prelude.{◌≡◌, ◌++◌, ◌∷◌, [], List, IfOk, OnOk, map};
 ghost use Rattle.pure_text.specs.Lists.{IsIn, Each};
 ghost use Rattle.pure_promise_fates.specs.Entries as fates;
 ghost use Rattle.pure_promise_fates.specs.Entries.{AreEntries, IsFate};
 ghost use Rattle.pure_promise_fates.specs.Seen.{seen_fate};
 ghost use Rattle.pure_theorem.specs.Sets.{IsLabelSet};
+ghost use Rattle.pure_print.specs.declared.row.Row as print;
+ghost use Rattle.pure_print.specs.Growing.{HoldsRows};
+ghost use Rattle.pure_print.specs.RowText.{row_text};
 ghost use Rattle.pure_print.specs.NameText.{text_of_name};
 ghost use Rattle.pure_print.specs.TermText.{term_text};
 ghost use Rattle.pure_promise.specs.declared.entry.Own.TheVariants as own;
@@ -15,7 +18,9 @@ use crate::entry::{Entry, Own};
 use crate::fault_text::fault_words;
 use crate::names_text::push_labels;
 use pure_goal_steps::StepFault;
-use pure_print::{Row, RowStatus, print_term, push_text_of_name};
+use pure_print::{
+    Row, RowStatus, TableText, push_number, push_text_of_name, push_text_of_term, status_word,
+};
 use pure_promise_fates::Fate;
 use pure_term::{Label, Name, Names, Text};
 use std::alloc::{AllocError, Global};
@@ -29,56 +34,75 @@ fn head_of(alloc: Global, names: &Names, name: Name) -> Result<Text, AllocError>
     Ok(Text::from(text))
 }
 
-/// A colon and the statement.
+/// Appends a colon and the statement.
 #[tactic(auto, unfolding(crate::specs::RowText::colon))]
-fn proved_tail(alloc: Global, names: &Names, entry: &Entry) -> Result<Text, AllocError>
-    ensures { IfOk result (λ text. text ≡ spec.colon ++ term_text names.now entry.now.prop.value) }
+fn push_statement(text: &mut Vec<u8>, names: &Names, entry: &Entry) -> Result<(), AllocError>
+    ensures { OnOk result (text.new.items ≡ text.old.items ++ (spec.colon ++ term_text names.now entry.now.prop.value)) }
 {
-    let mut text = Vec::from_slice(alloc, b": ")?;
-    let printed = print_term(alloc, names, &*entry.prop)?;
-    text.extend_from_slice(printed.bytes())?;
-    Ok(Text::from(text))
+    text.extend_from_slice(b": ")?;
+    push_text_of_term(text, names, &*entry.prop)?;
+    Ok(())
 }
 
-/// The step that failed, and why.
+/// Appends the step that failed, and why.
 #[tactic(auto, unfolding(crate::specs::RowText::colon, crate::specs::RowText::step_word))]
-fn fault_tail(alloc: Global, step: u32, fault: StepFault) -> Result<Text, AllocError>
-    ensures { IfOk result (λ text. text ≡ spec.failed_tail (seen_own (own.Fault step fault))) }
+fn push_fault(text: &mut Vec<u8>, step: u32, fault: StepFault) -> Result<(), AllocError>
+    ensures { OnOk result (text.new.items ≡ text.old.items ++ spec.failed_tail (seen_own (own.Fault step fault))) }
 {
-    let mut text = Vec::from_slice(alloc, b": step ")?;
-    let digits = step.to_string(alloc)?;
-    text.extend_from_slice(digits.as_bytes())?;
+    text.extend_from_slice(b": step ")?;
+    push_number(text, step as usize)?;
     text.extend_from_slice(b": ")?;
     text.extend_from_slice(fault_words(fault))?;
-    Ok(Text::from(text))
+    Ok(())
 }
 
-/// What the row of a failed lemma says.
-fn failed_tail(alloc: Global, own: &Own) -> Result<Text, AllocError>
-    ensures { IfOk result (λ text. text ≡ spec.failed_tail (seen_own own.now)) }
+/// Appends what the row of a failed lemma says.
+fn push_failed(text: &mut Vec<u8>, own: &Own) -> Result<(), AllocError>
+    ensures { OnOk result (text.new.items ≡ text.old.items ++ spec.failed_tail (seen_own own.now)) }
 {
     match own {
-        Own::Fault { step, fault } => fault_tail(alloc, *step, *fault),
-        Own::Proved { .. } => Ok(Text::from(Vec::new(alloc))),
-        Own::Cancelled => Ok(Text::from(Vec::new(alloc))),
+        Own::Fault { step, fault } => push_fault(text, *step, *fault),
+        Own::Proved { .. } => Ok(()),
+        Own::Cancelled => Ok(()),
     }
 }
 
-/// The failed lemmas that a tainted one reaches.
+/// Appends the failed lemmas that a tainted one reaches.
 #[tactic(auto, unfolding(crate::specs::RowText::by_word))]
-fn tainted_tail(
-    alloc: Global,
+fn push_tainted(
+    text: &mut Vec<u8>,
     names: &Names,
     entries: &[Entry],
     faults: &[Label],
-) -> Result<Text, AllocError>
+) -> Result<(), AllocError>
     requires ascend { IsLabelSet (map fates.Entry.label (map reported entries.now)) }
     requires stand { Each (λ l. IsIn l (map fates.Entry.label (map reported entries.now))) faults.now }
-    ensures { IfOk result (λ text. text ≡ spec.by_word ++ spec.labels_text names.now (seen entries.now) faults.now) }
+    ensures { OnOk result (text.new.items ≡ text.old.items ++ (spec.by_word ++ spec.labels_text names.now (seen entries.now) faults.now)) }
 {
-    let mut text = Vec::from_slice(alloc, b": by ")?;
-    push_labels(&mut text, names, entries, faults)?;
-    Ok(Text::from(text))
+    text.extend_from_slice(b": by ")?;
+    push_labels(text, names, entries, faults)?;
+    Ok(())
+}
+
+/// Appends what stands behind the name.
+fn push_tail(
+    text: &mut Vec<u8>,
+    names: &Names,
+    entries: &[Entry],
+    entry: &Entry,
+    fate: &Fate,
+) -> Result<(), AllocError>
+    requires entries { AreEntries (map reported entries.now) }
+    requires fate { IsFate (map reported entries.now) entry.now.label (seen_fate fate.now) }
+    ensures { OnOk result (text.new.items ≡ text.old.items ++ spec.tail_text names.now (seen entries.now) (seen_entry entry.now) (seen_fate fate.now)) }
+{
+    match fate {
+        Fate::Proved => push_statement(text, names, entry),
+        Fate::Failed => push_failed(text, &entry.own),
+        Fate::Tainted { faults } => push_tainted(text, names, entries, faults),
+        Fate::Gone => Ok(()),
+        Fate::Unsettled => Ok(()),
+    }
 }
 
 /// What stands behind the name.
@@ -93,17 +117,13 @@ fn tail_of(
     requires fate { IsFate (map reported entries.now) entry.now.label (seen_fate fate.now) }
     ensures { IfOk result (λ text. text ≡ spec.tail_text names.now (seen entries.now) (seen_entry entry.now) (seen_fate fate.now)) }
 {
-    match fate {
-        Fate::Proved => proved_tail(alloc, names, entry),
-        Fate::Failed => failed_tail(alloc, &entry.own),
-        Fate::Tainted { faults } => tainted_tail(alloc, names, entries, faults),
-        Fate::Gone => Ok(Text::from(Vec::new(alloc))),
-        Fate::Unsettled => Ok(Text::from(Vec::new(alloc))),
-    }
+    let mut text = Vec::new(alloc);
+    push_tail(&mut text, names, entries, entry, fate)?;
+    Ok(Text::from(text))
 }
 
 /// The status of a row that says this fate.
-fn status_of(fate: &Fate) -> RowStatus
+pub(crate) fn status_of(fate: &Fate) -> RowStatus
     ensures { result ≡ spec.status_of (seen_fate fate.now) }
 {
     match fate {
@@ -134,4 +154,41 @@ pub(crate) fn row_of(
         head,
         tail,
     })
+}
+
+/// Appends the line of the lemma with this fate.
+fn push_line(
+    text: &mut Vec<u8>,
+    names: &Names,
+    entries: &[Entry],
+    entry: &Entry,
+    fate: &Fate,
+) -> Result<(), AllocError>
+    requires entries { AreEntries (map reported entries.now) }
+    requires fate { IsFate (map reported entries.now) entry.now.label (seen_fate fate.now) }
+    ensures { OnOk result (text.new.items ≡ text.old.items ++ row_text (spec.fate_row names.now (seen entries.now) (seen_entry entry.now) (seen_fate fate.now))) }
+{
+    text.extend_from_slice(status_word(status_of(fate)))?;
+    text.push(b' ')?;
+    push_text_of_name(text, names, entry.name)?;
+    push_tail(text, names, entries, entry, fate)?;
+    text.push(b'\n')?;
+    Ok(())
+}
+
+/// Puts the row of the lemma with this fate behind the others: its bytes go into the table's text at once.
+pub(crate) fn put_row_of(
+    table: &mut TableText,
+    names: &Names,
+    entries: &[Entry],
+    entry: &Entry,
+    fate: &Fate,
+) -> Result<(), AllocError>
+    requires entries { AreEntries (map reported entries.now) }
+    requires fate { IsFate (map reported entries.now) entry.now.label (seen_fate fate.now) }
+    ensures { OnOk result ((rows : List print.Row) → HoldsRows table.old rows → HoldsRows table.new (rows ++ spec.fate_row names.now (seen entries.now) (seen_entry entry.now) (seen_fate fate.now) ∷ [])) }
+{
+    push_line(&mut table.text, names, entries, entry, fate)?;
+    table.statuses.push(status_of(fate))?;
+    Ok(())
 }

@@ -1,11 +1,10 @@
 -- What is proved is derivable: lemmas and their entries as claims.
-use Rattle.std.proofs.Common.{◌≡◌, List, [], ◌∷◌, inl, inr, refl, sym, ◌∙◌, ap, subst, map, Some, None, Ok, Err, Option}
+use Rattle.std.proofs.Common.{◌≡◌, List, [], ◌∷◌, inl, inr, refl, sym, ◌∙◌, ap, map, Some, None, Ok, Err, Option}
 use Rattle.std.specs.declared.cmp.Ordering.TheVariants.{Less}
 use Rattle.pure_text.specs.Lists.{IsIn, Each, EachTwo}
 use Rattle.pure_text.proofs.ListLaws.{in-map, each_at, each_of}
 use Rattle.pure_definitions.specs.Names.{Label}
 use Rattle.pure_definitions.specs.Terms.Term.{Term}
-use Rattle.pure_definitions.specs.Declarations.Decl.{PromiseDecl}
 use Rattle.pure_logic.specs.Content.{IsContent, IsBelow}
 use Rattle.pure_logic.specs.Derivable.{IsDerivable, IsDerivableAlone}
 use Rattle.pure_theorem.specs.Facts.{IsPromise}

@@ -12,7 +12,6 @@ use Rattle.pure_promise_fates.proofs.LabelSets.{not_both, not_itself, first_belo
 use Rattle.pure_graph.specs.Order.{Loaded}
 use Rattle.pure_promise.specs.Accepting.{IsForkedBefore}
 use Rattle.pure_theory_run.specs.Declare.Notes.{Fork, Note}
-use Rattle.pure_theory_run.specs.Method.Facts.{theorem}
 use Rattle.pure_theory_run.specs.SessionLaws.Loaded.{IsLoadedSession}
 use Rattle.pure_theory_run.specs.SessionMeaning.Statements.{forks_of, AreStatements}
 use Rattle.pure_table.specs.Fulfilled.{IsResultOf, ResultsFulfil}

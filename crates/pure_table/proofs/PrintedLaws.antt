@@ -1,19 +1,22 @@
 -- What is printed is the table of the session.
-use Rattle.std.proofs.Common.{◌≡◌, ℕ, List, [], ◌∷◌, ◌++◌, take, drop, refl, sym, ◌∙◌, ap, subst, map}
+use Rattle.std.proofs.Common.{◌≡◌, List, [], ◌∷◌, ◌++◌, take, drop, refl, sym, ◌∙◌, ap, subst, map, append-nil, append_assoc}
 use Rattle.std.specs.List.{flat_map}
 use Rattle.pure_text.specs.Lists.{EachTwo}
 use Rattle.pure_definitions.specs.Names.{Label}
 use Rattle.pure_graph.specs.Session.{Session}
 use Rattle.pure_print.specs.declared.row.Row.{Row}
 use Rattle.pure_theory_run.specs.Declare.Notes.{Note, Said, Forked}
+use Rattle.pure_promise_fates.specs.Entries.{AreEntries}
+use Rattle.pure_promise.specs.Entries.{plain}
 use Rattle.pure_promise.specs.Rows.{AreRowsOf}
 use Rattle.pure_theory_run.specs.SessionMeaning.Verdicts.{Verdict, Barred, Ran}
 use Rattle.pure_theory_run.specs.SessionMeaning.Statements.{notes_of}
 use Rattle.pure_theory_run.specs.Outline.{outline, row_of, rows_of}
 use Rattle.pure_table.specs.Table.{IsEntryOf, with_rows, refusal_row}
 use Rattle.pure_table.specs.Laws.{SaidAreStatements, SaidAreParts}
-use Rattle.pure_table.specs.Filling.{places_of, filled}
-use Rattle.pure_table.specs.Printed.{Parts, ArePartsOf, AreTableRows}
+use Rattle.pure_table.specs.Filling.{places_of, filled, Fills}
+use Rattle.pure_table.proofs.FillingLaws.{rows_there}
+use Rattle.pure_table.specs.Printed.{Parts, ArePartsOf, AreTableRows, TakesTableRows}
 
 -- the rows of notes are filled
 filled-notes : (notes : List Note) (lemmas : List Row) → filled (rows_of notes) lemmas ≡ with_rows notes lemmas
@@ -68,3 +71,23 @@ said_are_parts S cancelled p forks texts said entries refused = record {
   entries = subst (λ fs. EachTwo (IsEntryOf S.names cancelled) fs p.entries) said.closed.forks_are entries;
   refused = refused;
 }
+
+-- What takes the rows of the theories, and then those of the files that are refused, takes those of the session's table.
+pub takes-table : (p : Parts) → AreEntries (map plain p.entries) → (old now new : List Row → Type 0)
+    → ((rows : List Row) → AreRowsOf p.texts p.entries rows → (left : List Row) × Fills old now (flat_map places_of p.values) rows left)
+    → ((taken : List Row) → now taken → new (taken ++ map refusal_row p.refused))
+    → (S : Session) (cancelled : List Label) → ArePartsOf S cancelled p → TakesTableRows old new S cancelled p.entries
+takes-table p entries old now new fills refusals S cancelled of =
+    let lemmas = rows_there p.texts p.entries entries in
+    let places = flat_map places_of p.values in
+    let put = fills lemmas.0 lemmas.1 in
+    let t = table-rows p lemmas.0 (filled places lemmas.0 ++ map refusal_row p.refused) lemmas.1 refl S cancelled of in (
+      t.0,
+      t.1,
+      t.2,
+      λ taken held.
+          let all = put.1 taken held in
+          let is : all.0 ≡ taken ++ filled places lemmas.0 = sym (append-nil all.0) ∙ all.2 [] ∙ ap (λ ps. taken ++ filled ps lemmas.0) (append-nil places) in
+          subst new (ap (λ rows. rows ++ map refusal_row p.refused) is ∙ append_assoc taken (filled places lemmas.0) (map refusal_row p.refused) ∙ ap (λ rows. taken ++ rows) t.3)
+          (refusals all.0 all.1),
+    )

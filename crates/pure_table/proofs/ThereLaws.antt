@@ -1,16 +1,12 @@
 -- A session comes to a table.
-use Rattle.std.proofs.Common.{ℕ, List, [], ◌∷◌, Some, None, map, inl, inr, refl}
+use Rattle.std.proofs.Common.{ℕ, List, Some, None, inl, inr, refl}
 use Rattle.std.specs.List.{flat_map}
-use Rattle.pure_text.specs.Lists.{IsIn, EachTwo}
-use Rattle.pure_text.proofs.ListLaws.{in-map}
 use Rattle.pure_definitions.specs.Names.{Label}
 use Rattle.pure_graph.specs.Order.{Loaded}
 use Rattle.pure_theory_run.specs.Declare.Notes.{Fork}
 use Rattle.pure_lookup.proofs.MeantLaws.{found_somehow}
-use Rattle.pure_promise_fates.proofs.ThereLaws.{among_or_not, some_fate}
-use Rattle.pure_promise.specs.Entries.{LemmaEntry, plain}
-use Rattle.pure_promise.specs.Rows.{IsRowOf}
-use Rattle.pure_promise.specs.RowText.{fate_row}
+use Rattle.pure_promise_fates.proofs.ThereLaws.{among_or_not}
+use Rattle.pure_promise.specs.Entries.{LemmaEntry}
 use Rattle.pure_theory_run.proofs.Method.ReadyLaws.{ready, ready-fact, no-schematic}
 use Rattle.pure_theory_run.proofs.Method.ValueLaws.{proof_has_a_value}
 use Rattle.pure_theory_run.proofs.SessionMeaning.OrderlyLaws.{runs_orderly}
@@ -21,6 +17,7 @@ use Rattle.pure_table.specs.Table.{IsEntryOf}
 use Rattle.pure_table.specs.There.{ProofsHaveValues, TableIsThere}
 use Rattle.pure_theory_run.proofs.SessionMeaning.CloseLaws.{statements_there}
 use Rattle.pure_table.proofs.DerivedLaws.{standing, provable, some_fork, has_fates}
+use Rattle.pure_table.proofs.FillingLaws.{beside, rows_there}
 
 pub proofs_have_values : ProofsHaveValues
 proofs_have_values texts theories loaded f some =
@@ -30,11 +27,6 @@ proofs_have_values texts theories loaded f some =
     proof_has_a_value texts f.content p.in_session r.unify
     (record { found = found_somehow texts f.content; normal = λ written th h. (ready-fact texts f.content r written th h).normal })
     f.fixed p.proposition (no-schematic f.fixed p.statement.fixed) f.script p.script
-
--- A list beside another, each two related.
-beside : {A B : Type 0} (R : A → B → Type 0) (xs : List A) → ((x : A) → IsIn x xs → (y : B) × R x y) → (ys : List B) × EachTwo R xs ys
-beside R [] f = ([], tt)
-beside R (x ∷ xs) f = (let one = f x (inl refl) in let rest = beside R xs (λ y m. f y (inr m)) in (one.0 ∷ rest.0, (one.1, rest.1)))
 
 module _ (texts : List (List ℕ)) (theories : List Loaded) (loaded : IsLoadedSession texts theories) (cancelled : List Label) where
   entry_there : (f : Fork) → IsSomeFork texts theories f → (e : LemmaEntry) × IsEntryOf texts cancelled f e
@@ -50,7 +42,5 @@ table_is_there S loaded cancelled =
     let notes = flat_map notes_of s.0 in
     let entries = beside (IsEntryOf S.names cancelled) (forks_of notes) (λ f m. entry_there S.names S.theories loaded cancelled f (some_fork S.names S.theories loaded notes s.1 f m)) in
     let ordered = has_fates S.names S.theories loaded notes s.1 cancelled entries.0 entries.1 in
-    let rows = beside (IsRowOf S.names entries.0) entries.0 (λ e m.
-    let w = some_fate (map plain entries.0) ordered (plain e) (in-map plain e entries.0 m) in
-    (fate_row S.names entries.0 e w.0, (w.0, w.1, refl))) in
+    let rows = rows_there S.names entries.0 ordered in
     (record { notes = notes; entries = entries.0; lemmas = rows.0 }, record { statements = s.1; entries = entries.1; rows = rows.1 })

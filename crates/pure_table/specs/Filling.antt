@@ -1,5 +1,5 @@
 -- The rows of lemmas put into the places that theories left for them.
-use Rattle.std.specs.Prelude.{List, [], ◌∷◌, ◌++◌, take, drop, Option, Some, None}
+use Rattle.std.specs.Prelude.{◌≡◌, List, [], ◌∷◌, ◌++◌, take, drop, Option, Some, None}
 use Rattle.pure_print.specs.declared.row.Row.{Row}
 use Rattle.pure_theory_run.specs.Outline.{Outline, Barred, Ran}
 
@@ -13,3 +13,7 @@ abbrev pub filled : List (Option Row) → (lemmas : List Row) → List Row
 filled [] lemmas = []
 filled (Some row ∷ places) lemmas = row ∷ filled places lemmas
 filled (None ∷ places) lemmas = take 1 lemmas ++ filled places (drop 1 lemmas)
+
+-- Between two states of what takes rows, these places are filled: behind the rows that were taken before come those that fill the places, and these rows of lemmas are left.
+abbrev pub Fills : (old new : List Row → Type 0) → List (Option Row) → (lemmas left : List Row) → Type 0
+Fills old new places lemmas left = (rows : List Row) → old rows → (all : List Row) × new all × ((more : List (Option Row)) → all ++ filled more left ≡ rows ++ filled (places ++ more) lemmas)

@@ -1,5 +1,5 @@
 -- What the rows of a table are made of, and that they are, or the text is, the table of a session.
-use Rattle.std.specs.Prelude.{◌≡◌, ℕ, List, length, map}
+use Rattle.std.specs.Prelude.{◌≡◌, ◌++◌, ℕ, List, length, map}
 use Rattle.std.specs.List.{flat_map}
 use Rattle.pure_definitions.specs.Names.{Label}
 use Rattle.pure_graph.specs.Session.{Session, Shown, shown}
@@ -30,3 +30,7 @@ pub record ArePartsOf (S : Session) (cancelled : List Label) (p : Parts) : Type 
 -- They are the rows of the table to which the session comes, with these entries of its lemmas.
 abbrev pub AreTableRows : Session → (cancelled : List Label) → List LemmaEntry → List Row → Type 0
 AreTableRows S cancelled entries rows = (t : Table) × IsTable S cancelled t × (t.entries ≡ entries) × (rows ≡ table_rows S t)
+
+-- Between two states of what takes rows, those of the table to which the session comes, with these entries of its lemmas, are taken behind the others.
+abbrev pub TakesTableRows : (old new : List Row → Type 0) → Session → (cancelled : List Label) → List LemmaEntry → Type 0
+TakesTableRows old new S cancelled entries = (t : Table) × IsTable S cancelled t × (t.entries ≡ entries) × ((rows : List Row) → old rows → new (rows ++ table_rows S t))

@@ -6,5 +6,5 @@ use Rattle.pure_print.proofs.term.print_term.Goals as goal
 
 pub returns-clause-read_back : goal.returns-clause-read_back
 returns-clause-read_back c = λ h.
-    let text : c.from.result ≡ term_text c.args.names.now c.args.t.now = written-alone _ _ _ _ c.from.ensures c.in_ok-push_term.ensures c.new-text.ensures.items in
+    let text : c.from.result ≡ term_text c.args.names.now c.args.t.now = written-alone _ _ _ _ c.from.ensures c.in_ok-push_text_of_term.ensures c.new-text.ensures.items in
     rw text (term-read_back c.args.names.now c.args.t.now h)

@@ -1,6 +1,6 @@
 use Rattle.pure_print.specs.RowText.{total_text, theories_text}
 use Rattle.pure_text.proofs.Joins.{joined_5}
-use Rattle.pure_print.proofs.row.push_total.Goals as goal
+use Rattle.pure_print.proofs.table.push_total.Goals as goal
 
 pub returns : goal.returns
 unfolding total_text theories_text
