@@ -11,5 +11,5 @@ mod typ;
 
 pub use name::push_text_of_name;
 pub use row::{Row, RowStatus, print_row, print_table};
-pub use term::print_term;
+pub use term::{print_state_term, print_term};
 pub use typ::print_typ;
