@@ -152,6 +152,16 @@ fn places(given: &Given) -> Option<Job>
     Some(Job::Places { workers })
 }
 
+/// The job of `show`.
+fn show(alloc: Global, given: &Given) -> Result<Option<Job>, AllocError>
+    ensures { IfOk result (λ found. found ≡ spec.job_given Subcommand.Show given.now) }
+{
+    match name_in(alloc, given.arguments.list())? {
+        Some(name) => Ok(Some(Job::Show { name })),
+        None => Ok(None),
+    }
+}
+
 /// The job of `try`.
 fn try_lemma(alloc: Global, given: &Given) -> Result<Option<Job>, AllocError>
     ensures { IfOk result (λ found. found ≡ spec.job_given Subcommand.Try given.now) }
@@ -176,6 +186,7 @@ fn job_by(alloc: Global, subcommand: Subcommand, given: &Given) -> Result<Option
         Subcommand::Check => check(alloc, given),
         Subcommand::Generate => Ok(generate(given)),
         Subcommand::Places => Ok(places(given)),
+        Subcommand::Show => show(alloc, given),
         Subcommand::Try => try_lemma(alloc, given),
     }
 }

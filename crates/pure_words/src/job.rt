@@ -73,6 +73,10 @@ pub enum Job {
     Places {
         workers: u32,
     },
+    /// Show the states of the proof of the lemma with this full name.
+    Show {
+        name: Text,
+    },
     /// Look for a proof in one step of the lemma with this full name.
     Try {
         workers: u32,
