@@ -19,3 +19,5 @@ pub mod CloseLaws
 pub mod StartLaws
 pub mod StepPlaces
 pub mod PlaceLaws
+pub mod CourseLaws
+pub mod FurtherLaws

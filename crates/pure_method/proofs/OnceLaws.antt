@@ -24,10 +24,10 @@ use Rattle.pure_method.specs.Unfolding.{IsSmallEquation, TakesFact, ComesByFacts
 use Rattle.pure_method.specs.Proof.{ByFacts, WithOne, Gives, Closes, ProofFault, ProofOutcome, Ending, Proved, Failed, Ends, IsProof}
 use Rattle.pure_method.proofs.FactLaws.{all_found-once, all_found-known}
 
-ok-same : {A E : Type 0} (x y : A) → ◌≡◌ {A = Result A E} (Ok x) (Ok y) → x ≡ y
+pub ok-same : {A E : Type 0} (x y : A) → ◌≡◌ {A = Result A E} (Ok x) (Ok y) → x ≡ y
 ok-same x y e = cc
 
-not-both : {A E : Type 0} (x : A) (f : E) → ◌≡◌ {A = Result A E} (Ok x) (Err f) → ⊥
+pub not-both : {A E : Type 0} (x : A) (f : E) → ◌≡◌ {A = Result A E} (Ok x) (Err f) → ⊥
 not-both x f e = cc
 
 err-same : {A E : Type 0} (f g : E) → ◌≡◌ {A = Result A E} (Err f) (Err g) → f ≡ g
@@ -111,7 +111,7 @@ module _ (texts : List (List ℕ)) (Q : Content) (session : IsInSession texts Q)
       let fact : k.0 ≡ h.0 = cc in
       once h.0 one other h.2 (subst (λ (th : Theorem). With th other) fact k.2)
 
-  gives-once : (step : Step) (s : State) (one other : Outcome) → Gives texts Q step s one → Gives texts Q step s other → one ≡ other
+  pub gives-once : (step : Step) (s : State) (one other : Outcome) → Gives texts Q step s one → Gives texts Q step s other → one ≡ other
   gives-once (Rule fact) s = by_facts-once (WithOne (RuleStep (algebra_of Q.declarations) s)) (with_one-once (RuleStep (algebra_of Q.declarations) s) (rule_once (algebra_of Q.declarations) anti s)) (fact ∷ [])
   gives-once (Erule fact) s = by_facts-once (WithOne (EliminationStep (algebra_of Q.declarations) s)) (with_one-once (EliminationStep (algebra_of Q.declarations) s) (elimination_once (algebra_of Q.declarations) anti s)) (fact ∷ [])
   gives-once (Drule fact) s = by_facts-once (WithOne (DestructionStep (algebra_of Q.declarations) s)) (with_one-once (DestructionStep (algebra_of Q.declarations) s) (destruction_once (algebra_of Q.declarations) anti s)) (fact ∷ [])
@@ -122,7 +122,7 @@ module _ (texts : List (List ℕ)) (Q : Content) (session : IsInSession texts Q)
   gives-once Close s = λ one other h k. absurd h
   gives-once Done s = λ one other h k. absurd h
 
-  closes-once : (s one other : State) → Closes (algebra_of Q.declarations) s one → Closes (algebra_of Q.declarations) s other → one ≡ other
+  pub closes-once : (s one other : State) → Closes (algebra_of Q.declarations) s one → Closes (algebra_of Q.declarations) s other → one ≡ other
   closes-once s one other (Closes.stops h) (Closes.stops k) = refl
   closes-once s one other (Closes.stops {f = f} h) (Closes.goes_on {next = next} k rest) = absurd (not-both next f (assumption_once (algebra_of Q.declarations) anti s (Ok next) (Err f) k h))
   closes-once s one other (Closes.goes_on {next = next} k rest) (Closes.stops {f = f} h) = absurd (not-both next f (assumption_once (algebra_of Q.declarations) anti s (Ok next) (Err f) k h))
@@ -134,7 +134,7 @@ module _ (texts : List (List ℕ)) (Q : Content) (session : IsInSession texts Q)
   abbrev at : ℕ → StepFault → Ending
   at number f = Failed (record { step = number; fault = f })
 
-  ends-once : (number : ℕ) (s : State) (steps : List Step) (one other : Ending) → Ends texts Q number s steps one → Ends texts Q number s steps other → one ≡ other
+  pub ends-once : (number : ℕ) (s : State) (steps : List Step) (one other : Ending) → Ends texts Q number s steps one → Ends texts Q number s steps other → one ≡ other
   ends-once number s steps one other (Ends.finished h) (Ends.finished k) = refl
   ends-once number s steps one other (Ends.finished {th = th} h) (Ends.unfinished {f = f} k) = absurd (not-both th f (ends_as-once s (Ok th) (Err f) h k))
   ends-once number s steps one other (Ends.finished h) (Ends.refused k) = absurd k
@@ -161,10 +161,10 @@ module _ (texts : List (List ℕ)) (Q : Content) (session : IsInSession texts Q)
       let same : then ≡ next = ok-same then next (gives-once step s (Ok then) (Ok next) k h) in
       ends-once (number + 1) next left one other rest (subst (λ (x : State). Ends texts Q (number + 1) x left other) same more)
 
-  begins-same : (statement : Term) (s other : State) → BeginsAs statement (Ok s) → BeginsAs statement (Ok other) → other ≡ s
+  pub begins-same : (statement : Term) (s other : State) → BeginsAs statement (Ok s) → BeginsAs statement (Ok other) → other ≡ s
   begins-same statement s other h k = ok-same other s (becomes-once _ (Ok other) (Ok s) k h)
 
-  begins-both : (statement : Term) (s : State) (f : StepFault) → BeginsAs statement (Ok s) → BeginsAs statement (Err f) → ⊥
+  pub begins-both : (statement : Term) (s : State) (f : StepFault) → BeginsAs statement (Ok s) → BeginsAs statement (Err f) → ⊥
   begins-both statement s f h k = not-both s f (becomes-once _ (Ok s) (Err f) h k)
 
   faults-same : (f g : ProofFault) → Failed f ≡ Failed g → f ≡ g

@@ -6,7 +6,7 @@ use Rattle.pure_script.specs.Seen.{seen_step}
 use Rattle.pure_script.specs.declared.theory.Step.{Step}
 use Rattle.pure_script.specs.declared.theory.Step.TheVariants.{Rule, Erule, Drule, Assumption, Unfold, Prefer, Defer, Close, Done}
 use Rattle.pure_declare.specs.Notes.{Fork}
-use Rattle.pure_method.specs.Running.{IsRun, IsNext, IsPlace, IsTurn, Proves, IsBroken, place_left, steps_left, turn_shown}
+use Rattle.pure_method.specs.Running.{IsRun, IsNext, IsPlace, IsTurn, LeadsOn, StopsAt, Proves, IsBroken, place_left, steps_left, turn_shown}
 use Rattle.pure_method.specs.declared.run.Run.{Run}
 use Rattle.pure_method.specs.declared.run.Next.{Next}
 use Rattle.pure_method.specs.declared.run.Next.TheVariants.{Goes, Ends}
@@ -58,12 +58,12 @@ left-behind script at behind h e = subst (λ (n : ℕ). length (drop n script) +
 runs-unbroken : (run : Run) → Runs run ≢ Broken
 runs-unbroken run e = let no : ⊥ = cc in no
 
-pub turn-there : (texts : List (List ℕ)) (f : Fork) (run : Run) → IsRun texts f run → (next : Next) → IsNext texts f run.at next → IsTurn texts f (Runs run) (turn_shown next)
-turn-there texts f run h (Goes more) k = record { stands = k.0; unbroken = runs-unbroken more; outcome = left-behind f.script run.at more.at (some-left f.script run.at h.script) k.1 }
-turn-there texts f run h (Ends same outcome) k = record { stands = k.0; unbroken = runs-unbroken same; outcome = k.1 }
+pub turn-there : (texts : List (List ℕ)) (f : Fork) (run : Run) → IsRun texts f run → (next : Next) → IsNext texts f run next → IsTurn texts f (Runs run) (turn_shown next)
+turn-there texts f run h (Goes more) k = record { stands = k.0; unbroken = runs-unbroken more; outcome = left-behind f.script run.at more.at (some-left f.script run.at h.script) k.1; step = k.2 }
+turn-there texts f run h (Ends same outcome) k = record { stands = k.0; unbroken = runs-unbroken same; outcome = k.1; step = k.2 }
 
 pub refused-turn : (texts : List (List ℕ)) (f : Fork) (place : Place) → place ≡ Refused → IsPlace texts f place → IsTurn texts f place (record { place = Refused; outcome = Some (Fault 0 Big) })
-refused-turn texts f place e h = record { stands = h_refused; unbroken = refused-unbroken; outcome = h_refused }
+refused-turn texts f place e h = record { stands = h_refused; unbroken = refused-unbroken; outcome = h_refused; step = subst (λ (p : Place). StopsAt texts f p (Fault 0 Big)) (sym e) refl }
   where
     h_refused : IsPlace texts f Refused
     h_refused = subst (IsPlace texts f) e h
@@ -81,6 +81,11 @@ pub turn-outcome : (texts : List (List ℕ)) (f : Fork) (place : Place) (turn : 
     → MatchOption answer (steps_left f new + 1 ≡ steps_left f old) (IsOutcomeOf texts f)
 turn-outcome texts f place turn t old new e d answer a =
     subst (λ (k : (Place × Place) × Option Outcome). MatchOption k.1 (place_left f k.0.0 + 1 ≡ place_left f k.0.1) (IsOutcomeOf texts f)) (λ i. ((sym d i, e i), sym a i)) t.outcome
+
+pub turn-step : (texts : List (List ℕ)) (f : Fork) (place : Place) (turn : Turn) → IsTurn texts f place turn → (old new : Proving) → place ≡ old.place → new.place ≡ turn.place → (answer : Option Outcome) → answer ≡ turn.outcome
+    → MatchOption answer (LeadsOn texts f old.place new.place) (StopsAt texts f old.place)
+turn-step texts f place turn t old new e d answer a =
+    subst (λ (k : (Place × Place) × Option Outcome). MatchOption k.1 (LeadsOn texts f k.0.1 k.0.0) (StopsAt texts f k.0.1)) (λ i. ((sym d i, e i), sym a i)) t.step
 
 pub turn-along : {E : Type 0} (texts : List (List ℕ)) (f : Fork) (run : Run) (place : Place) → place ≡ Runs run → (result : Result Turn E) → IfOk result (IsTurn texts f (Runs run)) → IfOk result (IsTurn texts f place)
 turn-along texts f run place e result h = subst (λ (p : Place). IfOk result (IsTurn texts f p)) (sym e) h

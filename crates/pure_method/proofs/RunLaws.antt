@@ -29,7 +29,8 @@ use Rattle.pure_method.specs.Facts.{theorem, named_facts, MeansPromise, IsNamed}
 use Rattle.pure_method.specs.Proof.{Gives, Ending, Proved, Failed, Ends, IsProof}
 use Rattle.pure_method.specs.Outcomes.{IsScript}
 use Rattle.pure_method.specs.Outcome.{is_numbered, IsProvable, IsOutcomeOf}
-use Rattle.pure_method.specs.Running.{GainsNamed, EndsWhole, HasCome}
+use Rattle.pure_method.specs.Running.{GainsNamed, EndsWhole, HasCome, StopsSo}
+use Rattle.pure_method.specs.declared.run.Run.{Run}
 use Rattle.pure_method.specs.Closing.{IsClosed}
 use Rattle.pure_method.specs.declared.outcome.Outcome as code
 use Rattle.pure_method.specs.declared.outcome.Outcome.TheVariants as outcome
@@ -50,7 +51,7 @@ count-numbered step steps e = rw (sum_by-cons _ step steps, e) refl
 count-other : (step : Step) (steps : List Step) → is_numbered step ≡ false → count_by is_numbered (step ∷ steps) ≡ count_by is_numbered steps
 count-other step steps e = rw (sum_by-cons _ step steps, e) (omega arith)
 
-numbered : (step : Step) → step ≢ Close → is_numbered step ≡ true
+pub numbered : (step : Step) → step ≢ Close → is_numbered step ≡ true
 numbered (Rule fact) n = refl
 numbered (Erule fact) n = refl
 numbered (Drule fact) n = refl
@@ -66,7 +67,7 @@ script-behind : (step : Step) (steps : List Step) → step ≢ Done → IsScript
 script-behind step steps n (IsScript.ends_here) = absurd (n refl)
 script-behind step steps n (IsScript.goes_further d rest) = rest
 
-script-end : (step : Step) (steps : List Step) → step ≡ Done → IsScript (step ∷ steps) → steps ≡ []
+pub script-end : (step : Step) (steps : List Step) → step ≡ Done → IsScript (step ∷ steps) → steps ≡ []
 script-end step steps e (IsScript.ends_here) = refl
 script-end step steps e (IsScript.goes_further d rest) = absurd (d e)
 
@@ -186,7 +187,7 @@ module _ (texts : List (List ℕ)) (f : Fork) where
       subst (λ (A : Term). IsDerivable Q (theorem A labels)) (sym same) (proved-derivable texts Q k f.fixed (no-schematic f.fixed p.statement.fixed) labels f.script proof p.proposition)
 
 -- What a fault that isn't want of memory says of the step.
-step-fault : (G : State → Outcome → Type 0) (R : List Label → Type 0) (goal : Theorem) (fault : StepFault) → (fault ≡ Memory → ⊥) → IsStep G goal R (Err fault) → (s : State) × IsTheoremOf s goal × G s (Err fault)
+pub step-fault : (G : State → Outcome → Type 0) (R : List Label → Type 0) (goal : Theorem) (fault : StepFault) → (fault ≡ Memory → ⊥) → IsStep G goal R (Err fault) → (s : State) × IsTheoremOf s goal × G s (Err fault)
 step-fault G R goal Memory n h = absurd (n refl)
 step-fault G R goal UnknownFact n (s, is, kept, f) = (s, is, f)
 step-fault G R goal NoSubgoal n (s, is, kept, f) = (s, is, f)
@@ -200,7 +201,7 @@ step-fault G R goal Big n (s, is, kept, f) = (s, is, f)
 step-fault G R goal NoHypothesis n (s, is, kept, f) = (s, is, f)
 step-fault G R goal SubgoalsLeft n (s, is, kept, f) = (s, is, f)
 
-end-fault : (goal : Theorem) (fault : StepFault) → (fault ≡ Memory → ⊥) → IsEnd goal (Err fault) → (s : State) × IsTheoremOf s goal × EndsAs s (Err fault)
+pub end-fault : (goal : Theorem) (fault : StepFault) → (fault ≡ Memory → ⊥) → IsEnd goal (Err fault) → (s : State) × IsTheoremOf s goal × EndsAs s (Err fault)
 end-fault goal Memory n h = absurd (n refl)
 end-fault goal UnknownFact n h = h
 end-fault goal NoSubgoal n h = h
@@ -214,7 +215,7 @@ end-fault goal Big n h = h
 end-fault goal NoHypothesis n h = h
 end-fault goal SubgoalsLeft n h = h
 
-begin-fault : (C : Term) (R : List Label → Type 0) (fault : StepFault) → (fault ≡ Memory → ⊥) → IsOutcome (BeginsAs C) R (Err fault) → BeginsAs C (Err fault)
+pub begin-fault : (C : Term) (R : List Label → Type 0) (fault : StepFault) → (fault ≡ Memory → ⊥) → IsOutcome (BeginsAs C) R (Err fault) → BeginsAs C (Err fault)
 begin-fault C R Memory n h = absurd (n refl)
 begin-fault C R UnknownFact n h = h
 begin-fault C R NoSubgoal n h = h
@@ -269,9 +270,10 @@ module _ (texts : List (List ℕ)) (f : Fork) (p : IsProvable texts f) where
         let found = end-fault goal fault n h in
         come-unfinished texts f goal number step (drop (at + 1) f.script) here e found.0 found.1 fault found.2
 
-pub shown-result : {E : Type 0} (texts : List (List ℕ)) (f : Fork) (rests : List Label) → IsProof texts f.content f.fixed f.script (Ok rests) → (result : Result code.Outcome E) → IfOk result (λ made. made ≡ outcome.Proved (record { content = f.content; theorem = theorem f.prop rests })) → IfOk result (IsOutcomeOf texts f)
-shown-result texts f rests proof (Ok made) e = shown-proved texts f rests proof made e
-shown-result texts f rests proof (Err fault) e = tt
+pub shown-result : {E : Type 0} (texts : List (List ℕ)) (f : Fork) (run : Run) (rests : List Label) → IsProof texts f.content f.fixed f.script (Ok rests) → ((c : _) → StopsSo texts f run (outcome.Proved c))
+    → (result : Result code.Outcome E) → IfOk result (λ made. made ≡ outcome.Proved (record { content = f.content; theorem = theorem f.prop rests })) → IfOk result (λ made. IsOutcomeOf texts f made × StopsSo texts f run made)
+shown-result texts f run rests proof stops (Ok made) e = (shown-proved texts f rests proof made e, subst (StopsSo texts f run) (sym e) (stops (record { content = f.content; theorem = theorem f.prop rests })))
+shown-result texts f run rests proof stops (Err fault) e = tt
 
 -- A step over a theory whose content is that of the lemma.
 pub step-over : (texts : List (List ℕ)) (R Q : Content) → R ≡ Q → (step : Step) (goal : Theorem) (result : Result Goal StepFault) → IsStep (λ s. Gives texts R step s) goal (GainsNamed texts R (named_facts step) goal.rests) result

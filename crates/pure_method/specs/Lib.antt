@@ -7,6 +7,7 @@ pub mod Laws
 pub mod Outcomes
 pub mod Examples
 pub mod Outcome
+pub mod Course
 pub mod Running
 pub mod Taking
 pub mod Closing

@@ -1,5 +1,5 @@
 -- How far a proof has come, and what is known of it there.
-use Rattle.std.specs.Prelude.{◌≡◌, ◌≢◌, MatchOption, ◌↔◌, ◌⊎◌, ◌≤◌, ℕ, ◌+◌, List, length, drop, count_by, Ok, Err, Some, None}
+use Rattle.std.specs.Prelude.{◌≡◌, ◌≢◌, MatchOption, ◌↔◌, ◌⊎◌, ◌≤◌, ℕ, ◌+◌, List, ◌∷◌, length, drop, count_by, Ok, Err, Some, None}
 use Rattle.pure_text.specs.Lists.{IsIn, AnyOf}
 use Rattle.pure_definitions.specs.Names.{Label}
 use Rattle.pure_grammar.specs.Theories.TheoryText.{Step}
@@ -10,14 +10,19 @@ use Rattle.pure_theorem.specs.Sets.{IsLabelSet}
 use Rattle.pure_unify_laws.specs.Condition.{IsUnifyContent}
 use Rattle.pure_resolve.specs.GoalSteps.State.{State, IsTheoremOf}
 use Rattle.pure_resolve.specs.GoalSteps.Steps.{BeginsAs}
+use Rattle.pure_resolve.specs.GoalSteps.declared.fault.StepFault.{StepFault}
 use Rattle.pure_resolve.specs.GoalSteps.declared.fault.StepFault.TheVariants.{Big}
 use Rattle.pure_resolve.specs.Uses.{MayStep}
 use Rattle.pure_declare.specs.Notes.{Fork}
 use Rattle.pure_declare.specs.Tidy.{IsTidy}
 use Rattle.pure_method.specs.Facts.{MeansPromise, IsNamed}
-use Rattle.pure_method.specs.Proof.{Ending, Ends, IsProof}
+use Rattle.pure_method.specs.Proof as proof
+use Rattle.pure_method.specs.Proof.{Ending, Failed, Ends, IsProof}
+use Rattle.pure_method.specs.Course.{Leads, Stops, number_behind}
 use Rattle.pure_method.specs.Outcomes.{IsScript}
 use Rattle.pure_method.specs.Outcome.{is_numbered, IsOutcomeOf}
+use Rattle.pure_method.specs.declared.outcome.Outcome.{Outcome}
+use Rattle.pure_method.specs.declared.outcome.Outcome.TheVariants.{Proved, Fault}
 use Rattle.pure_method.specs.declared.run.Run.{Run}
 use Rattle.pure_method.specs.declared.run.Next.{Next}
 use Rattle.pure_method.specs.declared.run.Next.TheVariants.{Goes, Ends as EndsWith}
@@ -56,10 +61,32 @@ pub record HasCome (texts : List (List ℕ)) (f : Fork) (goal : Theorem) (number
 abbrev pub IsRun : (texts : List (List ℕ)) → Fork → Run → Type 0
 IsRun texts f run = HasCome texts f run.goal.thm run.number (drop run.at f.script)
 
+-- By one step the run has come further: on its state the step was made that comes next, and it leads to the state of the next run.
+pub record IsFurther (texts : List (List ℕ)) (f : Fork) (run next : Run) : Type 0 where
+  pub step : Step
+  pub steps : List Step
+  pub left : drop run.at f.script ≡ step ∷ steps
+  pub behind : drop next.at f.script ≡ steps
+  pub number : next.number ≡ number_behind run.number step
+  pub before : State
+  pub is_before : IsTheoremOf before run.goal.thm
+  pub after : State
+  pub is_after : IsTheoremOf after next.goal.thm
+  pub leads : Leads texts f.content step before after
+
+-- how a proof ends of which this comes
+abbrev pub shown_ending : Outcome → Ending
+shown_ending (Proved c) = proof.Proved
+shown_ending (Fault step fault) = Failed (record { step = step; fault = fault })
+
+-- With the step that comes next the proof ends so on the run's state.
+abbrev pub StopsSo : (texts : List (List ℕ)) → Fork → Run → Outcome → Type 0
+StopsSo texts f run outcome = (s : State) × IsTheoremOf s run.goal.thm × Stops texts f.content run.number s (drop run.at f.script) (shown_ending outcome)
+
 -- What a step leaves of a run: a run that is one step further; or the run, and what comes of the proof.
-abbrev pub IsNext : (texts : List (List ℕ)) → Fork → (at : ℕ) → Next → Type 0
-IsNext texts f at (Goes run) = IsRun texts f run × (run.at ≡ at + 1)
-IsNext texts f at (EndsWith run outcome) = IsRun texts f run × IsOutcomeOf texts f outcome
+abbrev pub IsNext : (texts : List (List ℕ)) → Fork → Run → Next → Type 0
+IsNext texts f run (Goes next) = IsRun texts f next × (next.at ≡ run.at + 1) × IsFurther texts f run next
+IsNext texts f run (EndsWith same outcome) = IsRun texts f same × IsOutcomeOf texts f outcome × StopsSo texts f run outcome
 
 -- What is known of where a proof stands: it runs; or no goal began with its statement; or it is broken by want of memory, and answers that from then on.
 abbrev pub IsPlace : (texts : List (List ℕ)) → Fork → Place → Type 0
@@ -85,11 +112,29 @@ steps_left f proving = place_left f proving.place
 abbrev pub IsBroken : Proving → Type 0
 IsBroken proving = proving.place ≡ Broken
 
--- What a step leaves of a place: one with one step less; or one, and what comes of the proof. It isn't broken.
+-- The proof stands at its beginning: it runs, on the state with which the statement begins, and its first step has the number 1; or no goal began with the statement.
+abbrev pub StandsFirst : Fork → Place → Type 0
+StandsFirst f (Runs run) = (s : State) × BeginsAs f.fixed (Ok s) × IsTheoremOf s run.goal.thm × (run.at ≡ 0) × (run.number ≡ 1)
+StandsFirst f Refused = (fault : StepFault) × BeginsAs f.fixed (Err fault)
+StandsFirst f Broken = ⊥
+
+-- By one step the proof has come from one place to the other.
+abbrev pub LeadsOn : (texts : List (List ℕ)) → Fork → (old new : Place) → Type 0
+LeadsOn texts f (Runs run) (Runs next) = IsFurther texts f run next
+LeadsOn texts f _ _ = ⊥
+
+-- With the next step the proof ends so at the place; where no goal began, with the fault of the step 0.
+abbrev pub StopsAt : (texts : List (List ℕ)) → Fork → Place → Outcome → Type 0
+StopsAt texts f (Runs run) outcome = StopsSo texts f run outcome
+StopsAt texts f Refused outcome = outcome ≡ Fault 0 Big
+StopsAt texts f Broken outcome = ⊥
+
+-- What a step leaves of a place: one with one step less; or one, and what comes of the proof. It isn't broken. The one step leads from place to place, or ends the proof.
 pub record IsTurn (texts : List (List ℕ)) (f : Fork) (place : Place) (turn : Turn) : Type 0 where
   pub stands : IsPlace texts f turn.place
   pub unbroken : turn.place ≢ Broken
   pub outcome : MatchOption turn.outcome (place_left f turn.place + 1 ≡ place_left f place) (IsOutcomeOf texts f)
+  pub step : MatchOption turn.outcome (LeadsOn texts f place turn.place) (StopsAt texts f place)
 
 -- the place behind a step that leaves this of a run, and what comes of the proof
 abbrev pub turn_shown : Next → Turn

@@ -1,5 +1,10 @@
 //! Laws of proofs: each is the contract of a function that does nothing.
 ghost use Rattle.pure_method.specs.Laws.{ProofOnce, ProvedIsDerivable, RestsOnPromises, NeverMemory};
+ghost use Rattle.std.specs.Prelude.{ℕ, List};
+ghost use Rattle.pure_definitions.specs.Terms.Term as tree;
+ghost use Rattle.pure_grammar.specs.Theories.TheoryText.{Step};
+ghost use Rattle.pure_logic.specs.Content.{Content};
+ghost use Rattle.pure_method.specs.Course.{CourseEnds, CourseOnce};
 ghost use Rattle.pure_method.specs.Outcomes.{BeginsSomehow, IsSomeRule, RuleSomehow, EliminationSomehow, DestructionSomehow, AssumptionSomehow, PreferSomehow, DeferSomehow, ConversionSomehow, ClosesSomehow, EndsSomehow, UnfoldsSomehow, ProofHasAValue};
 
 /// One value at most comes of a proof.
@@ -45,4 +50,14 @@ pub fn unfolds_or_not()
 /// Something comes of each proof, where names have answers and facts are beta-normal.
 pub fn proof_has_a_value()
     ensures { ProofHasAValue }
+{}
+
+/// The end of a proof's course is its outcome.
+pub fn course_ends()
+    ensures { (texts : List (List ℕ)) (Q : Content) (statement : tree.Term) (script : List Step) → CourseEnds texts Q statement script }
+{}
+
+/// A proof has one course at most.
+pub fn course_once()
+    ensures { CourseOnce }
 {}

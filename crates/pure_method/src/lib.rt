@@ -13,8 +13,10 @@ mod run;
 mod step;
 mod unfold;
 
+pub use duty::step_at;
 pub use outcome::Outcome;
-pub use proving::{Proving, prove, start};
+pub use proving::{Place, Proving, prove, start};
 pub use pure_declare as declare;
 pub use pure_declare::theory;
 pub use pure_resolve::goal_steps::StepFault;
+pub use run::Run;

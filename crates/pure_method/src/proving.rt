@@ -1,8 +1,8 @@
 //! The calls that run a proof.
-ghost use Rattle.std.specs.Prelude.{◌≡◌, ◌+◌, IfOk, IfErr, OnErr, MatchOption, IsErr};
+ghost use Rattle.std.specs.Prelude.{◌≡◌, ◌≢◌, ◌+◌, IfOk, IfErr, OnErr, MatchOption, IsErr};
 ghost use Rattle.pure_method.specs.Outcome.{IsProvable, IsOutcomeOf};
 ghost use Rattle.pure_method.specs.declared.proving.Place.TheVariants as stands;
-ghost use Rattle.pure_method.specs.Running.{Proves, IsBroken, IsRun, IsPlace, IsTurn, turn_shown, steps_left};
+ghost use Rattle.pure_method.specs.Running.{Proves, IsBroken, IsRun, IsPlace, IsTurn, LeadsOn, StandsFirst, StopsAt, turn_shown, steps_left};
 
 use crate::duty::theory_of;
 use crate::fault::is_memory;
@@ -37,6 +37,7 @@ pub struct Proving {
 pub fn start(alloc: Global, _names: &NamesByBase, duty: &Duty) -> Result<Proving, AllocError>
     requires { IsProvable _names.now duty.now }
     ensures proves { IfOk result (Proves _names.now duty.now) }
+    ensures begins { IfOk result (λ proving. StandsFirst duty.now proving.place) }
     ensures unbroken { IfOk result (λ proving. ¬ IsBroken proving) }
 {
     let statement = duty.fixed(alloc)?;
@@ -130,6 +131,18 @@ fn next_at<W: Watch>(
 }
 
 impl Proving {
+    /// The run of the proof, whose goal is that on which the next step is made; none where no goal began with the statement, or
+    /// memory ran out.
+    pub fn run(&self) -> Option<&Run>
+        ensures { MatchOption result ((run : Run) → self.now.place ≢ stands.Runs run) (λ run. self.now.place ≡ stands.Runs run.now) }
+    {
+        match &self.place {
+            Place::Runs { run } => Some(run),
+            Place::Refused => None,
+            Place::Broken => None,
+        }
+    }
+
     /// Stands at another place.
     fn enter(&mut self, place: Place)
         ensures { self.new.place ≡ place }
@@ -155,7 +168,8 @@ impl Proving {
         outcome
     }
 
-    /// Makes one step of the proof: none exactly where steps are left and none failed, else what comes of the proof.
+    /// Makes one step of the proof: none exactly where steps are left and none failed, else what comes of the proof. The step
+    /// leads from the state on which it is made to that of the next one.
     ///
     /// # Errors
     ///
@@ -170,6 +184,7 @@ impl Proving {
         requires proves { Proves names.now duty.now self.old }
         ensures proves { Proves names.now duty.now self.new }
         ensures outcome { IfOk result (λ answer. MatchOption answer (steps_left duty.now self.new + 1 ≡ steps_left duty.now self.old) (IsOutcomeOf names.now duty.now)) }
+        ensures step { IfOk result (λ answer. MatchOption answer (LeadsOn names.now duty.now self.old.place self.new.place) (StopsAt names.now duty.now self.old.place)) }
         ensures unbroken { IfOk result (λ _. ¬ IsBroken self.new) }
         ensures broken { OnErr result (IsBroken self.new) }
         ensures still { IsBroken self.old → IsErr result }
@@ -193,6 +208,7 @@ impl Proving {
         requires proves { Proves names.now duty.now self.old }
         ensures proves { Proves names.now duty.now self.new }
         ensures outcome { IfOk result (λ answer. MatchOption answer (steps_left duty.now self.new + 1 ≡ steps_left duty.now self.old) (IsOutcomeOf names.now duty.now)) }
+        ensures step { IfOk result (λ answer. MatchOption answer (LeadsOn names.now duty.now self.old.place self.new.place) (StopsAt names.now duty.now self.old.place)) }
         ensures unbroken { IfOk result (λ _. ¬ IsBroken self.new) }
         ensures broken { OnErr result (IsBroken self.new) }
         ensures still { IsBroken self.old → IsErr result }

@@ -6,7 +6,7 @@ ghost use Rattle.pure_script.specs.Seen.{seen_step};
 ghost use Rattle.pure_theorem.specs.Sets.{IsLabelSet};
 ghost use Rattle.pure_method.specs.Facts as facts;
 ghost use Rattle.pure_method.specs.Outcome.{IsProvable, IsOutcomeOf};
-ghost use Rattle.pure_method.specs.Running.{IsRun, IsNext};
+ghost use Rattle.pure_method.specs.Running.{IsRun, IsNext, IsFurther, StopsSo};
 ghost use Rattle.pure_method.specs.declared.outcome.Outcome.TheVariants as shown;
 
 use crate::close::closed;
@@ -53,7 +53,7 @@ fn ended(alloc: Global, _names: &NamesByBase, duty: &Duty, run: &Run) -> Result<
     requires provable { IsProvable _names.now duty.now }
     requires run { IsRun _names.now duty.now run.now }
     requires end { drop run.now.at duty.now.script ≡ tree.Done ∷ drop (run.now.at + 1) duty.now.script }
-    ensures { IfOk result (IsOutcomeOf _names.now duty.now) }
+    ensures { IfOk result (λ outcome. IsOutcomeOf _names.now duty.now outcome × StopsSo _names.now duty.now run.now outcome) }
 {
     match run.goal.check_end(alloc, theory_of(duty)) {
         Ok(()) => proved(alloc, duty, &run.goal.thm),
@@ -80,7 +80,7 @@ fn closed_run<W: Watch>(
     requires provable { IsProvable _names.now duty.now }
     requires run { IsRun _names.now duty.now run }
     requires close { drop run.at duty.now.script ≡ tree.Close ∷ drop (run.at + 1) duty.now.script }
-    ensures { IfOk result (λ new. IsRun _names.now duty.now new × (new.at ≡ run.at + 1)) }
+    ensures { IfOk result (λ new. IsRun _names.now duty.now new × (new.at ≡ run.at + 1) × IsFurther _names.now duty.now run new) }
 {
     let Run { goal, at, number } = run;
     let at = place_behind(duty, at);
@@ -102,7 +102,7 @@ fn further<W: Watch>(
     requires step { drop run.at duty.now.script ≡ seen_step step.now ∷ drop (run.at + 1) duty.now.script }
     requires close { seen_step step.now ≢ tree.Close }
     requires end { seen_step step.now ≢ tree.Done }
-    ensures { IfOk result (IsNext names.now duty.now run.at) }
+    ensures { IfOk result (IsNext names.now duty.now run) }
 {
     let at = place_behind(duty, run.at);
     match stepped(alloc, names, theory_of(duty), &run.goal, step, watch) {
@@ -137,7 +137,7 @@ pub fn next_of<W: Watch>(
 ) -> Result<Next, AllocError>
     requires provable { IsProvable names.now duty.now }
     requires run { IsRun names.now duty.now run }
-    ensures { IfOk result (IsNext names.now duty.now run.at) }
+    ensures { IfOk result (IsNext names.now duty.now run) }
 {
     let step = step_at(duty, run.at);
     match step {

@@ -10,5 +10,6 @@ pub mod SortBits
 pub mod TypBits
 pub mod TypReadBack
 pub mod FormBits
+pub mod StateLemmas
 pub mod TermReadBack
 pub mod LawsLemmas

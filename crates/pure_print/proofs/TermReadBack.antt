@@ -32,7 +32,7 @@ apply-readable texts (Apply (Constant c) a) b h i =
     cond_both (nat_eq c 4) (Equal a b) (Apply (Apply (Constant c) a) b) (λ x. IsReadableForm texts x) (λ e. (h.1, i)) (λ e. (h, i)))
 apply-readable texts f a h i = (h, i)
 
-notation-readable : (texts : List (List ℕ)) (n : ℕ) (t : Term) → IsClosedUnder n t → HasReadableNames texts t → n + nested t ≤ 1000000000 → IsReadableForm texts (notation n t)
+pub notation-readable : (texts : List (List ℕ)) (n : ℕ) (t : Term) → IsClosedUnder n t → HasReadableNames texts t → n + nested t ≤ 1000000000 → IsReadableForm texts (notation n t)
 notation-readable texts n (Const c T) closed names few = names
 notation-readable texts n (Free x T) closed names few = names
 notation-readable texts n (Var x i T) closed names few = names

@@ -1,7 +1,10 @@
 -- What the printer's forms of terms stand for; private contracts alone cite this.
-use Rattle.std.specs.Prelude.{ℕ, ◌+◌, max, Bool, false, nat_eq}
+use Rattle.std.specs.Prelude.{ℕ, ◌+◌, max, Bool, false, List, nat_eq}
 use Rattle.pure_definitions.specs.Terms.Term.{Term, Const, term_depth}
+use Rattle.pure_print.specs.NameText.{term_name_text, state_variable_text}
 use Rattle.pure_print.specs.Notation as notation
+use Rattle.pure_print.specs.declared.name.Naming.{Naming}
+use Rattle.pure_print.specs.declared.name.Naming.TheVariants.{InTexts, InState}
 use Rattle.pure_print.specs.declared.form.Form.{Form}
 use Rattle.pure_print.specs.declared.form.Form.TheVariants.{Constant, Fixed, Schematic, Bound, ForAll, Implies, Equal, Lambda, Apply}
 
@@ -33,3 +36,8 @@ form_depth (Apply f a) = 1 + max (term_depth f.now) (term_depth a.now)
 abbrev pub is_constant : ℕ → Term → Bool
 is_constant c (Const d T) = nat_eq d c
 is_constant c t = false
+
+-- how the names of schematic variables are printed
+abbrev pub variable_text : Naming → (texts : List (List ℕ)) → (name : ℕ) → List ℕ
+variable_text InTexts texts = term_name_text texts
+variable_text InState texts = state_variable_text texts

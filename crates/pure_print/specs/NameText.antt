@@ -1,8 +1,9 @@
 -- How names, indexes and sorts are printed.
-use Rattle.std.specs.Prelude.{ℕ, ◌-◌, List, [], ◌∷◌, ◌++◌, length, codes, nat_eq, if◌then◌else◌, slice_get}
+use Rattle.std.specs.Prelude.{ℕ, ◌-◌, Bool, ◌&&◌, List, [], ◌∷◌, ◌++◌, length, codes, nat_eq, nat_le, if◌then◌else◌, slice_get, Option, Some, None}
 use Rattle.std.specs.Option.{unwrap_or}
 use Rattle.std.specs.Fmt.{decimal}
 use Rattle.pure_typ.specs.NameTexts.{name_texts}
+use Rattle.pure_grammar.specs.Tokens.Token.{is_spelling}
 
 -- A name prints as its text. A name above the table, which has the texts of Pure and of the session, is a fresh one: it
 -- prints as a mark and its number, counted from 0 at the first name above the table.
@@ -26,6 +27,19 @@ fresh_variable = codes "_"
 -- the name of a constant or of a fixed variable
 abbrev pub term_name_text : (texts : List (List ℕ)) → ℕ → List ℕ
 term_name_text texts name = name_text fresh_term texts name
+
+-- whether the text is a variable's spelling: a letter, then letters, digits, `_` and `'`, at most 64 bytes in all
+abbrev pub is_variable : List ℕ → Bool
+is_variable text = is_spelling text && nat_le (length text) 64
+
+-- the text, where it is there and a variable's spelling, and else `_` and the number
+abbrev pub spelled_or_numbered : (number : ℕ) → Option (List ℕ) → List ℕ
+spelled_or_numbered number None = 95 ∷ decimal number
+spelled_or_numbered number (Some text) = if is_variable text then text else 95 ∷ decimal number
+
+-- the name of a schematic variable in a state of a proof
+abbrev pub state_variable_text : (texts : List (List ℕ)) → ℕ → List ℕ
+state_variable_text texts name = spelled_or_numbered name (slice_get (name_texts texts) name)
 
 -- the name of a type constructor or of a class
 abbrev pub typ_name_text : (texts : List (List ℕ)) → ℕ → List ℕ

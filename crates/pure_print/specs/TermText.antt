@@ -2,7 +2,7 @@
 use Rattle.std.specs.Prelude.{ℕ, List, ◌∷◌, ◌++◌, codes, nat_lt}
 use Rattle.std.specs.Fmt.{decimal}
 use Rattle.pure_definitions.specs.Terms.Term.{Term}
-use Rattle.pure_print.specs.NameText.{term_name_text, index_text}
+use Rattle.pure_print.specs.NameText.{term_name_text, state_variable_text, index_text}
 use Rattle.pure_print.specs.TypText.{in_parentheses}
 use Rattle.pure_print.specs.Notation.{Notation, Constant, Fixed, Schematic, Numbered, ForAll, Implies, Equal, Lambda, Apply, notation}
 
@@ -31,18 +31,27 @@ abbrev pub body_text : (asked : ℕ) → (number : ℕ) → (body : Notation) �
 body_text asked k b text = number_text k ++ (codes ". " ++ placed asked b text)
 
 -- Each binder is printed by itself and without a type. Blanks stand round `==>` and `==`, behind the dot of a binder and
--- between a function and its argument.
+-- between a function and its argument. The names of schematic variables are given.
+abbrev pub form_text_by : (variable : ℕ → List ℕ) → (texts : List (List ℕ)) → Notation → List ℕ
+form_text_by variable texts (Constant c) = term_name_text texts c
+form_text_by variable texts (Fixed x) = term_name_text texts x
+form_text_by variable texts (Schematic x i) = 63 ∷ (variable x ++ index_text i)
+form_text_by variable texts (Numbered k) = number_text k
+form_text_by variable texts (ForAll k b) = codes "!!" ++ body_text 0 k b (form_text_by variable texts b)
+form_text_by variable texts (Implies a b) = placed 2 a (form_text_by variable texts a) ++ (codes " ==> " ++ placed 1 b (form_text_by variable texts b))
+form_text_by variable texts (Equal a b) = placed 3 a (form_text_by variable texts a) ++ (codes " == " ++ placed 3 b (form_text_by variable texts b))
+form_text_by variable texts (Lambda k b) = codes "%" ++ body_text 3 k b (form_text_by variable texts b)
+form_text_by variable texts (Apply f a) = placed 4 f (form_text_by variable texts f) ++ (codes " " ++ placed 5 a (form_text_by variable texts a))
+
+-- A schematic variable prints as its name does otherwise.
 abbrev pub form_text : (texts : List (List ℕ)) → Notation → List ℕ
-form_text texts (Constant c) = term_name_text texts c
-form_text texts (Fixed x) = term_name_text texts x
-form_text texts (Schematic x i) = 63 ∷ (term_name_text texts x ++ index_text i)
-form_text texts (Numbered k) = number_text k
-form_text texts (ForAll k b) = codes "!!" ++ body_text 0 k b (form_text texts b)
-form_text texts (Implies a b) = placed 2 a (form_text texts a) ++ (codes " ==> " ++ placed 1 b (form_text texts b))
-form_text texts (Equal a b) = placed 3 a (form_text texts a) ++ (codes " == " ++ placed 3 b (form_text texts b))
-form_text texts (Lambda k b) = codes "%" ++ body_text 3 k b (form_text texts b)
-form_text texts (Apply f a) = placed 4 f (form_text texts f) ++ (codes " " ++ placed 5 a (form_text texts a))
+form_text texts x = form_text_by (term_name_text texts) texts x
 
 -- the text of a term
 abbrev pub term_text : (texts : List (List ℕ)) → Term → List ℕ
 term_text texts t = placed 0 (notation 0 t) (form_text texts (notation 0 t))
+
+-- In the states of a proof a schematic variable prints as `?x` where the text of its name is a variable's spelling, and else, as those of built facts and
+-- new ones, as `?_7`, by the number of its name.
+abbrev pub state_text : (texts : List (List ℕ)) → Term → List ℕ
+state_text texts t = placed 0 (notation 0 t) (form_text_by (state_variable_text texts) texts (notation 0 t))

@@ -6,7 +6,7 @@ use pure_goal_steps::StepFault;
 
 /// The text of the fault.
 #[tactic(auto, unfolding(crate::specs::RowText::fault_text))]
-pub(crate) fn fault_words(fault: StepFault) -> &'static [u8]
+pub fn fault_words(fault: StepFault) -> &'static [u8]
     ensures { result.now ≡ fault_text fault }
 {
     match fault {

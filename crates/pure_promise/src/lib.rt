@@ -12,6 +12,7 @@ mod promise;
 mod row;
 
 pub use entry::{Entry, Own};
+pub use fault_text::fault_words;
 pub use joining::join;
 pub use lemma_rows::rows;
 pub use lemmas::Lemmas;

@@ -4,14 +4,14 @@ ghost use Rattle.pure_row_places.specs.Cursors.{IsAt};
 
 /// A place in a source, with its line and its column, both from 1 and columns in bytes.
 #[derive(Clone, Copy)]
-pub(crate) struct Cursor {
-    pub(crate) at: u32,
-    pub(crate) line: u32,
-    pub(crate) column: u32,
+pub struct Cursor {
+    pub at: u32,
+    pub line: u32,
+    pub column: u32,
 }
 
 /// The beginning of any source.
-pub(crate) fn beginning() -> Cursor
+pub fn beginning() -> Cursor
     ensures is { (source : List ℕ) → IsAt source result }
     ensures start { result.at ≡ 0 }
 {

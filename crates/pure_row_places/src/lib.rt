@@ -7,6 +7,8 @@ mod lines;
 mod reasons;
 mod scan;
 
+pub use cursor::{Cursor, beginning};
 pub use headers::refused_scans;
-pub use lines::push_lines;
-pub use scan::{RefusedScan, Scan, scans};
+pub use lines::{push_lines, push_place};
+pub use reasons::place_of_step;
+pub use scan::{RefusedScan, Scan, scanned, scans};

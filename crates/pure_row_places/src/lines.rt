@@ -19,7 +19,11 @@ use pure_text::Text;
 use std::alloc::{AllocError, Global};
 
 /// Puts the line and the column of a place in the source, to which the cursor goes.
-fn push_place(
+///
+/// # Errors
+///
+/// Want of memory, which stands for a source of more bytes than 32 bits count.
+pub fn push_place(
     alloc: Global,
     text: &mut Vec<u8>,
     source: &[u8],

@@ -118,15 +118,22 @@ fn get_or(steps: &[u32], place: usize, other: u32) -> u32
     other
 }
 
+/// The place of the command's step with this number, counted from 1, or, of step 0, that of its name.
+pub fn place_of_step(part: &Part, step: u32) -> u32
+    ensures { result ≡ spec.step_place (seen_part part.now) step }
+{
+    if step == 0 {
+        return part.name;
+    }
+    get_or(part.steps.as_slice(), (step - 1) as usize, part.name)
+}
+
 /// The place of the command's step that failed, if one did, or that of its name.
 pub(crate) fn step_place(part: &Part, row: &Row) -> Result<u32, AllocError>
     ensures { IfOk result (λ at. at ≡ spec.step_place (seen_part part.now) (spec.failed_step row.now)) }
 {
     let step = failed_step(row)?;
-    if step == 0 {
-        return Ok(part.name);
-    }
-    Ok(get_or(part.steps.as_slice(), (step - 1) as usize, part.name))
+    Ok(place_of_step(part, step))
 }
 
 /// The import that the reason of a refused theory or file names.

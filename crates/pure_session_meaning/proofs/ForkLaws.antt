@@ -81,5 +81,6 @@ forks_stand texts theories session f (index, others, is) =
       notes = is.notes;
       left = left.command ∷ left.left;
       run = subst (λ (Q : Content). IsRun texts theories index is.notes Q (left.command ∷ left.left)) (sym bound.content_is) left.run;
+      label = bound.label_is;
       above = subst (λ (l : Label). IsLabelAbove f.content.declarations l) (sym bound.label_is) (subst (λ (Q : Content). IsLabelAbove Q.declarations (command_label index (length is.notes))) (sym bound.content_is) order.labels);
     }

@@ -1,5 +1,5 @@
 -- Laws of what becomes of theories: what each content of a session is, that promises are those of lemmas bound before, and that everything has one value at most.
-use Rattle.std.specs.Prelude.{◌≡◌, ℕ, List, map}
+use Rattle.std.specs.Prelude.{◌≡◌, ℕ, List, length, map}
 use Rattle.pure_text.specs.Lists.{IsIn}
 use Rattle.pure_definitions.specs.Names.{Label}
 use Rattle.pure_definitions.specs.Terms.Term.{Term}
@@ -16,6 +16,7 @@ use Rattle.pure_session_laws.specs.Declare.Good.{IsGood}
 use Rattle.pure_session_laws.specs.Method.Outcome.{IsProvable}
 use Rattle.pure_session_laws.specs.Loaded.{IsLoadedSession}
 use Rattle.pure_session_meaning.specs.Verdicts.{Verdict, Closes}
+use Rattle.pure_session_meaning.specs.Steps.{command_label}
 use Rattle.pure_session_meaning.specs.Statements.{forks_of, AreStatements, IsRun, IsFork}
 
 -- What each content of a session is: good, in the session, and with tidy facts alone.
@@ -37,12 +38,13 @@ ForksProvable = (texts : List (List ℕ)) (theories : List Loaded) → IsLoadedS
 abbrev pub IsSomeFork : (texts : List (List ℕ)) → (theories : List Loaded) → Fork → Type 0
 IsSomeFork texts theories f = (index : ℕ) × (others : ℕ) × IsFork texts theories index others f
 
--- A lemma that is bound stands over a content of its theory's run, and its label comes after those of the content's promises.
+-- A lemma that is bound stands over a content of its theory's run; its label is that of the command behind those that left these notes, and comes after those of the content's promises.
 pub record IsStanding (texts : List (List ℕ)) (theories : List Loaded) (f : Fork) : Type 0 where
   pub index : ℕ
   pub notes : List Note
   pub left : List Command
   pub run : IsRun texts theories index notes f.content left
+  pub label : f.label ≡ command_label index (length notes)
   pub above : IsLabelAbove f.content.declarations f.label
 
 -- Each lemma that is bound stands so.

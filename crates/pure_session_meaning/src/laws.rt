@@ -29,7 +29,8 @@ pub fn forks_provable()
     ensures { ForksProvable }
 {}
 
-/// Each lemma that is bound stands over a content of its theory's run, behind all promises of that content.
+/// Each lemma that is bound stands over a content of its theory's run, with the label of its command, behind all promises of
+/// that content.
 pub fn forks_stand()
     ensures { ForksStand }
 {}

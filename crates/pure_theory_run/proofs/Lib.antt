@@ -9,3 +9,4 @@ pub mod OutlineLaws
 pub mod BeginLaws
 pub mod CommandLaws
 pub mod CheckerLaws
+pub mod NamedLaws

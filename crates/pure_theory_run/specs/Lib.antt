@@ -13,3 +13,4 @@ pub mod Begun
 pub mod Runs
 pub mod Turns
 pub mod Sessions
+pub mod Named

@@ -100,7 +100,7 @@ impl Checker {
     }
 
     /// The theory of the session with this index.
-    pub(crate) fn theory(&self, index: u32) -> &Loaded
+    pub fn theory(&self, index: u32) -> &Loaded
         requires { (theory : order.Loaded) × IsTheoryAt self.now.theories index theory }
         ensures { IsTheoryAt self.now.theories index (seen_loaded result.now) }
     {

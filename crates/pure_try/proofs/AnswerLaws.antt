@@ -16,12 +16,13 @@ use Rattle.pure_check_work.specs.TheoryRun.Outline.{Outline}
 use Rattle.pure_check_work.specs.TheoryRun.Sessions.{AreSaid}
 use Rattle.pure_try.specs.declared.answer.Answer.TheVariants.{NoLemma, Tried}
 use Rattle.pure_try.specs.declared.method.Method.{Method}
-use Rattle.pure_try.specs.Answers.{IsAnswer, IsSaidOf, lemma_named}
+use Rattle.pure_check_work.specs.TheoryRun.Named.{lemma_named}
+use Rattle.pure_try.specs.Answers.{IsAnswer, IsSaidOf}
 use Rattle.pure_try.specs.First.{IsFirst, IsTried}
 use Rattle.pure_try.specs.Methods.{methods_of}
 use Rattle.pure_try.specs.Proofs.{MayRun, Raced, Wins, by_method}
 use Rattle.pure_try.proofs.FirstLaws.{first-won}
-use Rattle.pure_try.proofs.TryLaws.{find-in, methods-run}
+use Rattle.pure_try.proofs.TryLaws.{methods-run}
 
 -- the least number of a race of the methods
 abbrev pub IsLeast : (texts : List (List ℕ)) → Fork → List Method → Option ℕ → Type 0
@@ -58,16 +59,6 @@ tried-some texts f ms lent again are same once n least m at =
 -- the number of a method is below their count
 pub least-within : (texts : List (List ℕ)) (f : Fork) (ms lent again : List Method) → lent ≡ ms → again ≡ ms → (n : ℕ) → IsLeast texts f lent (Some n) → n < length again
 least-within texts f ms lent again same once n least = subst (λ (ks : List Method). n < length ks) (same ∙ sym once) least.0
-
--- a lemma of the session that is found can be proved
-pub found-provable : ForksProvable → StatementsBindForks → (texts : List (List ℕ)) (theories : List Loaded) → IsLoadedSession texts theories → (values : List Outline) (forks lent : List Fork) → AreSaid texts theories values forks → lent ≡ forks
-    → (names : List (List ℕ)) → names ≡ texts → (name : List ℕ) (f : Fork) → lemma_named names name lent ≡ Some f → IsProvable names f
-found-provable provable bind texts theories loaded values forks lent said same names named name f at =
-    let notes = flat_map notes_of said.closed.verdicts in
-    let statements : AreStatements texts theories notes = record { verdicts = said.closed.verdicts; are = said.closed.are; all = said.all; notes_are = refl } in
-    let within : IsIn f (forks_of notes) = subst (λ fs. IsIn f fs) (same ∙ said.closed.forks_are) (find-in _ lent f at) in
-    let fork = (bind texts theories loaded notes statements f).0 within in
-    subst (λ ns. IsProvable ns f) (sym named) (provable texts theories loaded fork.0 fork.1 f fork.2)
 
 said-so : (texts : List (List ℕ)) (theories : List Loaded) (values : List Outline) (forks lent : List Fork) → AreSaid texts theories values forks → lent ≡ forks → (names : List (List ℕ)) → names ≡ texts → (name : List ℕ) (found : Option Fork)
     → lemma_named names name lent ≡ found → (answer : _) → IsSaidOf names found answer → IsAnswer texts theories name answer

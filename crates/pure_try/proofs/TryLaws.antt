@@ -14,9 +14,6 @@ use Rattle.pure_check_work.specs.Method.declared.outcome.Outcome.{Outcome}
 use Rattle.pure_check_work.specs.Method.declared.outcome.Outcome.TheVariants.{Proved, Fault}
 use Rattle.pure_check_work.specs.Method.declared.proving.Place.{Place}
 use Rattle.pure_check_work.specs.Method.declared.proving.Place.TheVariants.{Runs, Refused, Broken}
-use Rattle.pure_grammar.specs.Theories.Lexeme.{same}
-use Rattle.pure_print.specs.NameText.{text_of_name}
-use Rattle.pure_try.specs.Answers.{lemma_named}
 use Rattle.pure_try.specs.declared.method.Method.{Method}
 use Rattle.pure_try.specs.declared.method.Method.TheVariants.{Assumption, Rule}
 use Rattle.pure_try.specs.Methods.{script_of}
@@ -72,31 +69,3 @@ broken-is Broken e = refl
 
 pub is-broken : (p : Place) → p ≡ Broken → is_broken p ≡ true
 is-broken p e = ap is_broken e
-
--- what is found is in the list
-pub find-in : {A : Type 0} (test : A → Bool) (xs : List A) (x : A) → find test xs ≡ Some x → IsIn x xs
-find-in test [] x e = absurd (cc)
-find-in test (y ∷ ys) x e = by (test y) e (find-in test ys x)
-  where
-    by : (b : Bool) → cond b (Some y) (find test ys) ≡ Some x → (find test ys ≡ Some x → IsIn x ys) → IsIn x (y ∷ ys)
-    by true e' behind = inl (sym (same_Some y x e'))
-    by false e' behind = inr (behind e')
-
--- the lemma at a place stands before those behind it
-cut-at : (forks : List Fork) (i : ℕ) (f : Fork) → i < length forks → f ≡ get_or forks i f → drop i forks ≡ f ∷ drop (i + 1) forks
-cut-at forks i f within is =
-    let cut : drop i forks ≡ get_or forks i f ∷ drop (i + 1) forks = rw add-one (drop-cons forks i f within) in
-    cut ∙ ap (λ g. g ∷ drop (i + 1) forks) (sym is)
-
--- a lemma that has the name is the first one, and one that hasn't is passed over
-pub named-here : (texts : List (List ℕ)) (name : List ℕ) (forks : List Fork) (i : ℕ) (f : Fork) → i < length forks → f ≡ get_or forks i f → same (text_of_name texts f.name) name ≡ true
-    → lemma_named texts name (drop i forks) ≡ lemma_named texts name forks → lemma_named texts name forks ≡ Some f
-named-here texts name forks i f within at is so_far =
-    let here : lemma_named texts name (f ∷ drop (i + 1) forks) ≡ Some f = rw is refl in
-    sym so_far ∙ (ap (lemma_named texts name) (cut-at forks i f within at) ∙ here)
-
-pub named-behind : (texts : List (List ℕ)) (name : List ℕ) (forks : List Fork) (i : ℕ) (f : Fork) → i < length forks → f ≡ get_or forks i f → same (text_of_name texts f.name) name ≡ false
-    → lemma_named texts name (drop i forks) ≡ lemma_named texts name forks → lemma_named texts name (drop (i + 1) forks) ≡ lemma_named texts name forks
-named-behind texts name forks i f within at other so_far =
-    let here : lemma_named texts name (f ∷ drop (i + 1) forks) ≡ lemma_named texts name (drop (i + 1) forks) = rw other refl in
-    sym here ∙ (ap (lemma_named texts name) (sym (cut-at forks i f within at)) ∙ so_far)

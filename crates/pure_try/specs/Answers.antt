@@ -1,19 +1,14 @@
 -- What is said of the lemma of a session that has some name.
-use Rattle.std.specs.Prelude.{◌≡◌, ℕ, Bool, true, false, List, [], ◌∷◌, ◌++◌, Option, Some, None, codes, find}
-use Rattle.pure_grammar.specs.Theories.Lexeme.{same}
+use Rattle.std.specs.Prelude.{◌≡◌, ℕ, Bool, true, false, List, [], ◌∷◌, ◌++◌, Option, Some, None, codes}
 use Rattle.pure_graph.specs.Order.{Loaded}
-use Rattle.pure_print.specs.NameText.{text_of_name}
 use Rattle.pure_check_work.specs.Declare.Notes.{Fork, Note}
 use Rattle.pure_check_work.specs.SessionMeaning.Statements.{forks_of, AreStatements}
+use Rattle.pure_check_work.specs.TheoryRun.Named.{lemma_named}
 use Rattle.pure_try.specs.declared.method.Method.{Method}
 use Rattle.pure_try.specs.declared.method.Method.TheVariants.{Assumption, Rule}
 use Rattle.pure_try.specs.declared.answer.Answer.{Answer}
 use Rattle.pure_try.specs.declared.answer.Answer.TheVariants.{NoLemma, Tried}
 use Rattle.pure_try.specs.First.{IsTried}
-
--- the first lemma with this full name
-abbrev pub lemma_named : (texts : List (List ℕ)) → (name : List ℕ) → List Fork → Option Fork
-lemma_named texts name forks = find (λ (f : Fork). same (text_of_name texts f.name) name) forks
 
 -- There is no such lemma, or this comes of trying in order to prove it.
 abbrev pub IsSaidOf : (texts : List (List ℕ)) → Option Fork → Answer → Type 0

@@ -1,13 +1,13 @@
 //! The methods that are tried, in order.
 ghost use Rattle.std.specs.Prelude.{◌≡◌, ◌+◌, [], ◌∷◌, ◌++◌, OnOk, IfOk, map};
 ghost use Rattle.pure_lookup.specs.Meaning.{built_texts};
-ghost use Rattle.pure_print.specs.NameText.{text_of_name};
 ghost use Rattle.pure_try.specs.Methods.{methods_of, written_name};
 ghost use Rattle.pure_try.specs.Proofs.{outlined_fact};
 ghost use Rattle.pure_try.specs.declared.method.Method.TheVariants as shown;
 
 use crate::method::Method;
 use pure_check_work::theory::Theory;
+use pure_check_work::theory_run::text_of;
 use pure_text::Text;
 use pure_theory_tables::Decl;
 use pure_typ::{Name, NamesByBase};
@@ -39,16 +39,6 @@ fn first_methods(alloc: Global) -> Result<Vec<Method>, AllocError>
     add_rule(alloc, &mut methods, b"Pure.mp")?;
     add_rule(alloc, &mut methods, b"Pure.spec")?;
     Ok(methods)
-}
-
-/// The text of a name; one that has none is empty.
-pub(crate) fn text_of<'a>(names: &'a NamesByBase, name: Name) -> &'a [u8]
-    ensures { result.now ≡ text_of_name names.entry.now name }
-{
-    match names.names().text(name) {
-        Some(text) => text,
-        None => &[],
-    }
 }
 
 /// Adds the rule that is the fact of this name, if it may be written.

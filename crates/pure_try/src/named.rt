@@ -1,22 +1,20 @@
 //! The lemma of a session that has some name, tried.
-ghost use Rattle.std.specs.Prelude.{◌≡◌, ◌<◌, ◌≤◌, IfOk, MatchOption, None, Some, length, map, slice_get};
-ghost use Rattle.pure_grammar.specs.Theories.Lexeme.{same};
+ghost use Rattle.std.specs.Prelude.{◌≡◌, ◌<◌, ◌≤◌, IfOk, Some, length, map, slice_get};
 ghost use Rattle.pure_race.specs.Least.{IsLeastWin};
 ghost use Rattle.pure_check_work.specs.Method.Outcome.{IsProvable};
 ghost use Rattle.pure_check_work.specs.SessionLaws.Loaded.{IsLoadedSession};
-ghost use Rattle.pure_print.specs.NameText.{text_of_name};
 ghost use Rattle.pure_try.specs.Answers as spec;
 ghost use Rattle.pure_try.specs.First.{IsTried};
 ghost use Rattle.pure_try.specs.Proofs.{Wins, by_method};
 
 use crate::answer::Answer;
 use crate::duties::{theory_of, with_methods};
-use crate::facts::{methods, text_of};
+use crate::facts::methods;
 use crate::method::Method;
 use crate::tries::Tries;
 use pure_check_work::declare::Duty;
 use pure_check_work::session_meaning::laws::{forks_provable, statements_bind_forks};
-use pure_check_work::theory_run::Checker;
+use pure_check_work::theory_run::{Checker, lemma_named};
 use pure_race::race;
 use pure_typ::NamesByBase;
 use std::alloc::{AllocError, Global};
@@ -76,25 +74,6 @@ pub fn first_method<R: Threads + Sync>(
             Ok(Some(method))
         }
     }
-}
-
-/// Whether the lemma has this full name.
-fn has_name(names: &NamesByBase, duty: &Duty, name: &[u8]) -> bool
-    ensures { result ≡ same (text_of_name names.now duty.now.name) name.now }
-{
-    text_of(names, duty.name) == name
-}
-
-/// The first lemma with this full name.
-fn lemma_named<'a>(names: &NamesByBase, duties: &'a [Duty], name: &[u8]) -> Option<&'a Duty>
-    ensures { MatchOption result (spec.lemma_named names.now name.now duties.entry.now ≡ None) (λ d. spec.lemma_named names.now name.now duties.entry.now ≡ Some d.now) }
-{
-    for duty in duties {
-        if has_name(names, duty, name) {
-            return Some(duty);
-        }
-    }
-    None
 }
 
 /// What is said of the lemma with this full name among those that the session's theories bind: a lemma that is refused is

@@ -27,7 +27,7 @@ use std::sync::Wait;
 use std::thread::Threads;
 
 /// The files of rows.
-const FILES: [&str; 11] = [
+const FILES: [&str; 12] = [
     "examples.rows",
     "guide.rows",
     "worked.rows",
@@ -38,6 +38,7 @@ const FILES: [&str; 11] = [
     "generated.rows",
     "policies.rows",
     "places.rows",
+    "shows.rows",
     "tries.rows",
 ];
 

@@ -83,6 +83,10 @@ fn push_job(alloc: Global, text: &mut Vec<u8>, job: &Job) -> Result<(), AllocErr
             text.extend_from_slice(b"places")?;
             push_number(alloc, text, *workers)
         }
+        Job::Show { name } => {
+            text.extend_from_slice(b"show ")?;
+            text.extend_from_slice(name.bytes())
+        }
         Job::Try { workers, name } => {
             text.extend_from_slice(b"try")?;
             push_number(alloc, text, *workers)?;

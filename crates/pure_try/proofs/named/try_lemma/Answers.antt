@@ -1,4 +1,5 @@
-use Rattle.pure_try.proofs.AnswerLaws.{answer-none, answer-some, found-provable}
+use Rattle.pure_check_work.proofs.TheoryRun.NamedLaws.{found-provable}
+use Rattle.pure_try.proofs.AnswerLaws.{answer-none, answer-some}
 use Rattle.pure_try.proofs.named.try_lemma.Goals as goal
 
 pub returns-in-None : goal.returns-in-None

@@ -1,6 +1,6 @@
 use Rattle.std.proofs.Common.{◌∙◌, sym}
-use Rattle.pure_try.proofs.TryLaws.{named-behind, named-here}
-use Rattle.pure_try.proofs.named.lemma_named.Goals as goal
+use Rattle.pure_theory_run.proofs.NamedLaws.{named-behind, named-here}
+use Rattle.pure_theory_run.proofs.named.lemma_named.Goals as goal
 
 pub returns-then-has_name : goal.returns-then-has_name
 returns-then-has_name c =

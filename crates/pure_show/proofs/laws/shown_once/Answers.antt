@@ -1,0 +1,5 @@
+use Rattle.pure_show.proofs.AnswerLaws.{shown-once}
+use Rattle.pure_show.proofs.laws.shown_once.Goals as goal
+
+pub returns : goal.returns
+returns c = shown-once c.course_once.ensures

@@ -1,0 +1,37 @@
+//! The lemma that has some name.
+ghost use Rattle.std.specs.Prelude.{◌≡◌, MatchOption, None, Some};
+ghost use Rattle.pure_grammar.specs.Theories.Lexeme.{same};
+ghost use Rattle.pure_print.specs.NameText.{text_of_name};
+ghost use Rattle.pure_theory_run.specs.Named as spec;
+
+use pure_session_meaning::declare::Duty;
+use pure_typ::{Name, NamesByBase};
+
+/// The text of a name; one that has none is empty.
+pub fn text_of<'a>(names: &'a NamesByBase, name: Name) -> &'a [u8]
+    ensures { result.now ≡ text_of_name names.entry.now name }
+{
+    match names.names().text(name) {
+        Some(text) => text,
+        None => &[],
+    }
+}
+
+/// Whether the lemma has this full name.
+fn has_name(names: &NamesByBase, duty: &Duty, name: &[u8]) -> bool
+    ensures { result ≡ same (text_of_name names.now duty.now.name) name.now }
+{
+    text_of(names, duty.name) == name
+}
+
+/// The first lemma with this full name.
+pub fn lemma_named<'a>(names: &NamesByBase, duties: &'a [Duty], name: &[u8]) -> Option<&'a Duty>
+    ensures { MatchOption result (spec.lemma_named names.now name.now duties.entry.now ≡ None) (λ d. spec.lemma_named names.now name.now duties.entry.now ≡ Some d.now) }
+{
+    for duty in duties {
+        if has_name(names, duty, name) {
+            return Some(duty);
+        }
+    }
+    None
+}
