@@ -3,3 +3,5 @@ pub mod Check
 pub mod Generate
 pub mod Places
 pub mod Try
+pub mod Axioms
+pub mod Graph

@@ -8,3 +8,9 @@ pub mod CitedCode
 pub mod EdgeLaws
 pub mod HeadLaws
 pub mod FaultCode
+pub mod ListedLaws
+pub mod NodeLaws
+pub mod IndexLaws
+pub mod DrawnLaws
+pub mod EdgeCode
+pub mod PremiseLaws

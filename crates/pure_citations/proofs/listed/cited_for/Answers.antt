@@ -1,0 +1,8 @@
+use Rattle.pure_citations.proofs.ListedLaws.{cited-named, cited-unnamed}
+use Rattle.pure_citations.proofs.listed.cited_for.Goals as goal
+
+pub returns-in-Some : goal.returns-in-Some
+returns-in-Some c = ?
+
+pub returns-in-None : goal.returns-in-None
+returns-in-None c = ?
