@@ -126,3 +126,9 @@ held-named texts session nodes codes named held two put q n at = (
     back : HasName texts named n → (code : ℕ) → IsAt codes q code → IsCode texts n code → (number : ℕ) × Holds named number × IsNodeAt codes number q
     back w zero at_code is = absurd (is w.0 w.1)
     back w (suc k) at_code is = (w.0, w.2, subst (λ m. IsAt codes q (suc m)) (one_name texts session n.name k w.0 is w.1) at_code)
+
+-- The text of one element more.
+pub all-more_text : {A : Type 0} (line : A → List ℕ) (xs : List A) (x : A) (start old new : List ℕ) → old ≡ start ++ flat_map line xs → new ≡ old ++ line x → new ≡ start ++ flat_map line (xs ++ x ∷ [])
+all-more_text line xs x start old new h e =
+    e ∙ (ap (λ t. t ++ line x) h ∙ (append_assoc start (flat_map line xs) (line x)
+    ∙ ap (λ t. start ++ t) (sym (flat_map-append line xs (x ∷ []) ∙ ap (λ t. flat_map line xs ++ t) (append-nil (line x))))))

@@ -14,3 +14,5 @@ pub mod IndexLaws
 pub mod DrawnLaws
 pub mod EdgeCode
 pub mod PremiseLaws
+pub mod AxiomRows
+pub mod RowedLaws

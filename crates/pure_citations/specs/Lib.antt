@@ -11,3 +11,4 @@ pub mod Listed
 pub mod Nodes
 pub mod Index
 pub mod Drawn
+pub mod Rowed

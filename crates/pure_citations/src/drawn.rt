@@ -28,7 +28,7 @@ fn put_quoted(text: &mut Vec<u8>, name: &[u8]) -> Result<(), AllocError>
 /// How a node is drawn, as its attributes say behind its name.
 #[tactic(auto, unfolding(crate::specs::Drawn::drawn_as))]
 fn drawn_as(kind: Kind) -> &'static [u8]
-    ensures { result.entry.now ≡ spec.drawn_as kind }
+    ensures { result.now ≡ spec.drawn_as kind }
 {
     match kind {
         Kind::Axiom => b" [shape=box];\n",

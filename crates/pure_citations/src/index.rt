@@ -1,5 +1,5 @@
 //! Where the nodes of a name stand: of each name its last place, and of each place the one before it of its name.
-ghost use Rattle.std.specs.Prelude.{◌≡◌, ◌≢◌, ◌↔◌, ◌<◌, ◌≤◌, ◌×◌, ◌+◌, ◌*◌, ℕ, suc, IfOk, OnOk, get_or, length};
+ghost use Rattle.std.specs.Prelude.{◌≡◌, ◌≢◌, ◌↔◌, ◌<◌, ◌≤◌, ◌+◌, ◌*◌, ℕ, suc, IfOk, OnOk, get_or, length};
 ghost use Rattle.pure_text.specs.Lists.{EachTwo};
 ghost use Rattle.pure_order_tables.specs.Rows.{Holds};
 ghost use Rattle.pure_promise_fates.specs.Reach.{IsAt};

@@ -1,5 +1,5 @@
 //! The nodes of the graph: the axioms, definitions and lemmas of a table.
-ghost use Rattle.std.specs.Prelude.{◌≡◌, ◌++◌, IfOk, None, option_map};
+ghost use Rattle.std.specs.Prelude.{◌≡◌, ◌++◌, ◌∷◌, [], IfOk, None};
 ghost use Rattle.std.specs.List.{filter_map};
 ghost use Rattle.pure_statements.specs.Rows.{definition_word};
 ghost use Rattle.pure_citations.specs.Nodes as spec;

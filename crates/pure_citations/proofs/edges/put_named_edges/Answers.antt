@@ -1,0 +1,4 @@
+use Rattle.pure_citations.proofs.edges.put_named_edges.Goals as goal
+
+pub returns : goal.returns
+returns c = ?

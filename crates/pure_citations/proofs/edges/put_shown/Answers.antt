@@ -1,0 +1,4 @@
+use Rattle.pure_citations.proofs.edges.put_shown.Goals as goal
+
+pub returns : goal.returns
+returns c = ?
