@@ -203,17 +203,18 @@ pub(crate) fn form(
         entries,
         duties,
     } = said_by(work, board)?;
+    let lemmas = entries.as_slice();
     let rows = table(
         alloc,
         work.names().names(),
         closed.as_slice(),
-        entries.as_slice(),
+        lemmas,
         refused,
     )?;
     asked_of(
         alloc,
         work.names(),
-        entries.as_slice(),
+        lemmas,
         duties.as_slice(),
         files,
         rows.as_slice(),

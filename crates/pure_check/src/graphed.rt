@@ -45,8 +45,7 @@ pub(crate) fn graph_of(
     requires beside { AreBeside (forks duties.now) (seen entries.now) }
     requires long { length duties.now ≡ length entries.now }
     requires rests { AreNamedRests names.now (forks duties.now) (seen entries.now) }
-    ensures text { IfOk result (λ f. IsDrawing names.now theories.now (forks duties.now) (seen entries.now) rows.now f.text) }
-    ensures clean { IfOk result (λ f. list_all is_good rows.now ≡ f.clean) }
+    ensures { IfOk result (λ f. IsDrawing names.now theories.now (forks duties.now) (seen entries.now) rows.now f.text × (list_all is_good rows.now ≡ f.clean)) }
 {
     let text = drawing(alloc, names, entries, duties, theories, rows)?;
     Ok(Formed {
@@ -66,6 +65,36 @@ fn theory_names(alloc: Global, theories: &[Loaded]) -> Result<Vec<Text>, AllocEr
     Ok(names)
 }
 
+/// Has the session checked, whose theories have these names, and draws its graph. It may wait for ever.
+fn with_names<R: Threads + Wait + Sync, G: Gate>(
+    rt: &R,
+    alloc: Global,
+    session: Session,
+    theories: &[Text],
+    workers: u32,
+    gate: &G,
+) -> Result<Answer, LoadFault>
+    requires loaded { IsLoadedSession session.names (all_loaded session.theories.items) }
+    requires names { theories.now ≡ names_of (all_loaded session.theories.items) }
+    requires some { 1 ≤ workers }
+    ensures ok { IfOk result (λ a. (S : graph.Session) → IsSeenSession S session → IsGraphTextOf S workers a.run a.formed.text a.formed.clean) }
+    ensures fault { result ≢ Err LoadFault.ReadFault }
+{
+    let asking = Asking {
+        workers,
+        fail_fast: false,
+        cancels: &[],
+    };
+    session_answer(
+        rt,
+        alloc,
+        session,
+        &asking,
+        Extent::Graph { theories },
+        gate,
+    )
+}
+
 /// Has the session checked, and draws its graph. It may wait for ever.
 fn graph_answer<R: Threads + Wait + Sync, G: Gate>(
     rt: &R,
@@ -79,16 +108,10 @@ fn graph_answer<R: Threads + Wait + Sync, G: Gate>(
     ensures ok { IfOk result (λ a. (S : graph.Session) → IsSeenSession S session → IsGraphTextOf S workers a.run a.formed.text a.formed.clean) }
     ensures fault { result ≢ Err LoadFault.ReadFault }
 {
-    let theories = theory_names(alloc, session.theories.as_slice())?;
-    let asking = Asking {
-        workers,
-        fail_fast: false,
-        cancels: &[],
-    };
-    let extent = Extent::Graph {
-        theories: theories.as_slice(),
-    };
-    session_answer(rt, alloc, session, &asking, extent, gate)
+    match theory_names(alloc, session.theories.as_slice()) {
+        Ok(names) => with_names(rt, alloc, session, names.as_slice(), workers, gate),
+        Err(_) => Err(LoadFault::Memory),
+    }
 }
 
 /// Has the library's theories checked, and draws which lemma rests on what. It may wait for ever.

@@ -56,7 +56,7 @@ module _ (P : Place) (n : ℕ) (A : Term) where
   one-decl : (c : Change) (d : Decl) → c.next.declarations ≡ P.content.declarations ++ d ∷ [] → IsNoAxiomDecl d → Adds c ⊥
   one-decl c d e none m = elim (in_split (AxiomDecl n A) P.content.declarations (d ∷ []) (subst (λ ds. IsIn (AxiomDecl n A) ds) e m)) [
     | inl old ↦ inl old
-    | inr new ↦ elim new [ inl same ↦ absurd (subst IsNoAxiomDecl (sym same) none) | inr no ↦ absurd no ]
+    | inr new ↦ elim new [ inl same ↦ absurd (subst IsNoAxiomDecl (sym same) none) | inr void ↦ absurd void ]
   ]
 
   class-adds : (k : ℕ) (names : List (List ℕ)) (c : Change) → IsClassChange P k names (Ok c) → Adds c ⊥
@@ -101,13 +101,13 @@ module _ (P : Place) (n : ℕ) (A : Term) where
       let whole = ap (λ (Q : Content). Q.declarations) (next-of c (declaring_axiom P m s.prop) e) in
       elim (in_split (AxiomDecl n A) P.content.declarations (AxiomDecl m s.prop ∷ []) (subst (λ ds. IsIn (AxiomDecl n A) ds) whole in_next)) [
         | inl old ↦ inl old
-        | inr added ↦ elim added [ inl same ↦ inr (axiom-same m s.prop same) | inr no ↦ absurd no ]
+        | inr added ↦ elim added [ inl same ↦ inr (axiom-same m s.prop same) | inr void ↦ absurd void ]
       ]
 
   two-decls : (c f : ℕ) (T : Typ) (body : Term) → IsIn (AxiomDecl n A) (definition c f T body) → n ≡ f
   two-decls c f T body (inl same) = absurd (subst IsNoAxiomDecl (sym same) tt)
   two-decls c f T body (inr (inl same)) = axiom-same f _ same
-  two-decls c f T body (inr (inr no)) = absurd no
+  two-decls c f T body (inr (inr void)) = absurd void
 
   body-adds : (m f : ℕ) (T : Typ) (body : Term) (c : Change) → IsBodyChange P m f T body (Ok c) → Adds c (n ≡ f)
   unfolding IsBodyChange
@@ -153,13 +153,13 @@ module _ (P : Place) (n : ℕ) (A : Term) where
   no-row command none c = absurd none
 
   axiom-row : (x : List ℕ) (span : Span) (m : ℕ) → HasText P.texts m (full_text P.theory x) → n ≡ m → (c : Change) → Declares P.texts n (declared_row P.theory (Axiom x span) c.tail)
-  axiom-row x span m is same c = (refl, (full_text P.theory x, inl refl, (m, is, sym same)))
+  axiom-row x span m is same c = (refl, full_text P.theory x, inl refl, (m, is, sym same))
 
   fact-text : (x : List ℕ) → full_text P.theory (fact_base x) ≡ full_text P.theory x ++ heads.definition_end
   fact-text x = sym (append-twice P.theory (46 ∷ x) definition_end) ∙ ap (λ (w : List ℕ). full_text P.theory x ++ w) ends-same
 
   definition-row : (x : List ℕ) (typ text : Span) (f : ℕ) → HasText P.texts f (full_text P.theory (fact_base x)) → n ≡ f → (c : Change) → Declares P.texts n (declared_row P.theory (Definition x typ text) c.tail)
-  definition-row x typ text f is same c = (refl, (full_text P.theory x ++ heads.definition_end, inr (full_text P.theory x, refl, refl), (f, subst (HasText P.texts f) (fact-text x) is, sym same)))
+  definition-row x typ text f is same c = (refl, full_text P.theory x ++ heads.definition_end, inr (full_text P.theory x, refl, refl), (f, subst (HasText P.texts f) (fact-text x) is, sym same))
 
   lemma-comes : (base : List ℕ) (m : ℕ) (span : Span) (script : List Step) (o : Outcome) → IsLemmaOutcome P m span script (Ok o) → Comes o
   unfolding IsLemmaOutcome
@@ -169,7 +169,7 @@ module _ (P : Place) (n : ℕ) (A : Term) where
       let same : o ≡ forking P m script s = given-outcome o (forking P m script s) e in
       elim (in_split (AxiomDecl n A) P.content.declarations (PromiseDecl m P.label s.prop ∷ []) (subst (λ (x : Outcome). IsIn (AxiomDecl n A) x.next.declarations) same in_next)) [
         | inl old ↦ inl old
-        | inr added ↦ elim added [ inl is ↦ absurd (subst IsNoAxiomDecl (sym is) tt) | inr no ↦ absurd no ]
+        | inr added ↦ elim added [ inl is ↦ absurd (subst IsNoAxiomDecl (sym is) tt) | inr void ↦ absurd void ]
       ]
 
   outcome-comes : (command : Command) (o : Outcome) → IsOutcome P command (Ok o) → Comes o

@@ -8,7 +8,7 @@ use Rattle.pure_typ.specs.NameTexts.{AreSessionTexts, HasText}
 use Rattle.pure_lookup.proofs.TextLemmas.{one_name}
 use Rattle.pure_order_tables.specs.Rows.{Holds}
 use Rattle.pure_promise_fates.specs.Reach.{IsAt}
-use Rattle.pure_promise_fates.proofs.PlaceLaws.{at-once}
+use Rattle.pure_promise_fates.proofs.PlaceLaws.{at-once, at-read}
 use Rattle.pure_citations.specs.Drawn.{HasName}
 use Rattle.pure_citations.specs.Heads.{Picks, IsTextOf, IsPutOf, IsPut}
 use Rattle.pure_citations.specs.Index.{IsCode, IsNodeAt}
@@ -45,11 +45,14 @@ module _ {A : Type 0} where
   in-part (y ∷ xs) zero (suc n) x (inr m) = let w = in-part xs zero n x m in (suc w.0, w.1, omega arith, omega (arith, w.3))
   in-part (y ∷ xs) (suc place) n x m = let w = in-part xs place n x m in (suc w.0, w.1, omega (arith, w.2), omega (arith, w.3))
 
+  take-nothing : (n : ℕ) → ◌≡◌ {A = List A} (take n []) []
+  take-nothing zero = refl
+  take-nothing (suc n) = refl
+
   take-apart : (xs : List A) (p n : ℕ) → take (p + n) xs ≡ take p xs ++ take n (drop p xs)
-  take-apart xs zero n = refl
-  take-apart [] (suc p) zero = refl
-  take-apart [] (suc p) (suc n) = refl
-  take-apart (x ∷ xs) (suc p) n = ap (λ ys. x ∷ ys) (take-apart xs p n)
+  take-apart xs zero n = let same : 0 + n ≡ n = omega arith in ap (λ k. take k xs) same
+  take-apart [] (suc p) n = take-nothing (suc p + n) ∙ sym (take-nothing n)
+  take-apart (x ∷ xs) (suc p) n = let same : suc p + n ≡ suc (p + n) = omega arith in ap (λ k. take k (x ∷ xs)) same ∙ ap (λ ys. x ∷ ys) (take-apart xs p n)
 
   part-one : (xs : List A) (place : ℕ) (x : A) → place < length xs → x ≡ get_or xs place x → take 1 (drop place xs) ≡ x ∷ []
   part-one [] place x less is = absurd (omega (arith, less))
@@ -87,8 +90,9 @@ module _ {A : Type 0} (line : A → List ℕ) (P : A → Type 0) where
         none w.0 w.2 (omega (arith, w.3, is)) ((fits w.0 x w.1).1 p)) old
 
     -- or one element is looked at.
-    pub put-at : (place : ℕ) (x : A) → place < length xs → x ≡ get_or xs place x → IsAt xs place x → (old new : List ℕ) → IsPut (Holds held place) old (line x) new → IsPutOf line P (take (place + 1 - place) (drop place xs)) old new
-    put-at place x less is at old new put =
+    pub put-at : (place : ℕ) (x : A) → place < length xs → x ≡ get_or xs place x → (old new : List ℕ) → IsPut (Holds held place) old (line x) new → IsPutOf line P (take (place + 1 - place) (drop place xs)) old new
+    put-at place x less is old new put =
+        let at : IsAt xs place x = subst (IsAt xs place) (sym is) (at-read xs place x less) in
         let count : place + 1 - place ≡ 1 = omega arith in
         let part : take (place + 1 - place) (drop place xs) ≡ x ∷ [] = ap (λ n. take n (drop place xs)) count ∙ part-one xs place x less is in
         subst (λ ys. IsPutOf line P ys old new) (sym part) (put-one x old new (elim put [ inl w ↦ inl ((fits place x at).0 w.0, w.1) | inr w ↦ inr (λ p. w.0 ((fits place x at).1 p), w.1) ]))

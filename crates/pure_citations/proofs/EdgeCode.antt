@@ -1,19 +1,22 @@
 -- The edges of a lemma, as they are gathered.
-use Rattle.std.proofs.Common.{◌≡◌, ◌↔◌, ◌⊎◌, ◌∙◌, ◌<◌, ◌+◌, ℕ, zero, suc, List, [], ◌∷◌, ◌++◌, length, get_or, take, append_assoc, inl, inr, refl, sym, ap, subst, map, arith}
+use Rattle.std.proofs.Common.{◌≡◌, ◌↔◌, ◌⊎◌, ◌∙◌, ◌<◌, ◌≤◌, ◌+◌, ℕ, zero, suc, List, [], ◌∷◌, ◌++◌, length, get_or, take, append_assoc, inl, inr, refl, sym, ap, subst, map, arith}
 use Rattle.std.specs.List.{flat_map}
-use Rattle.std.proofs.lemmas.List.{append-nil}
+use Rattle.std.proofs.lemmas.List.{append-nil, take_all, get_or_default}
 use Rattle.std.proofs.lemmas.Grind.{flat_map-append}
-use Rattle.pure_text.specs.Lists.{IsIn, AnyOf, EachTwo}
+use Rattle.pure_text.specs.Lists.{IsIn, Each, AnyOf, EachTwo}
 use Rattle.pure_text.proofs.ListLaws.{any_some, any_of, two-append}
+use Rattle.pure_text.proofs.LoopLaws.{longer_by}
+use Rattle.pure_text.proofs.Joins.{joined_4}
 use Rattle.pure_definitions.specs.Names.{Label}
 use Rattle.pure_theorem.specs.Sets.{IsLabelSet}
 use Rattle.pure_order_tables.specs.Rows.{Holds}
 use Rattle.pure_order_tables.proofs.RowLaws.{none_held}
 use Rattle.pure_print.specs.NameText.{text_of_name}
+use Rattle.pure_print.specs.declared.row.Row.{Row}
 use Rattle.pure_promise_fates.specs.Entries as fates
 use Rattle.pure_promise_fates.specs.Entries.{Shown, IsNotShown, Became, AreEntries}
 use Rattle.pure_promise_fates.specs.Reach.{IsAt}
-use Rattle.pure_promise_fates.proofs.PlaceLaws.{at-in, in-at, at-once, at-map, one_place}
+use Rattle.pure_promise_fates.proofs.PlaceLaws.{at-in, in-at, at-once, at-map, at-read, one_place}
 use Rattle.pure_promise_fates.proofs.CodeLaws.{at-seen}
 use Rattle.pure_promise_fates.proofs.FateLaws.{became_once, shown-fault, shown-cancelled}
 use Rattle.pure_promise_fates.proofs.ReachLaws.{became-at}
@@ -26,15 +29,17 @@ use Rattle.pure_citations.specs.Named.{NamesAxiom}
 use Rattle.pure_citations.specs.Cites.{IsOk}
 use Rattle.pure_citations.specs.Cited.{AreBeside}
 use Rattle.pure_citations.specs.Edges.{OfAxiom, OfLemma, Edge}
-use Rattle.pure_citations.specs.Drawn.{edge_line, HasName, IsNameOf, IsEdgeToName, IsEdgeTo, AreEdgesOf, AreEdges, AreNamedRests, AreEdgesPut, AreAllPut}
+use Rattle.pure_citations.specs.Drawn.{edge_line, opening, closing, cluster, IsDrawing, HasName, IsNameOf, IsEdgeToName, IsEdgeTo, AreEdgesOf, AreEdges, AreNamedRests, AreEdgesPut, AreAllPut}
 use Rattle.pure_citations.specs.Heads.{IsPutOf}
+use Rattle.pure_citations.specs.Nodes.{nodes_of}
 use Rattle.pure_citations.specs.Reached.{Gains}
 use Rattle.pure_citations.specs.declared.nodes.Node.{Node}
 use Rattle.pure_citations.proofs.CitedCode.{beside-at}
+use Rattle.pure_citations.proofs.ReachedLaws.{rests-stand}
 use Rattle.pure_citations.proofs.DrawnLaws.{put-same, put-none}
 
 -- Entries as they are seen stand where the reported ones stand.
-seen-reported : (es : List Entry) (q : ℕ) (g : LemmaEntry) → IsAt (seen es) q g → IsAt (map reported es) q (plain g)
+pub seen-reported : (es : List Entry) (q : ℕ) (g : LemmaEntry) → IsAt (seen es) q g → IsAt (map reported es) q (plain g)
 seen-reported [] q g at = absurd at
 seen-reported (d ∷ es) zero g at = ap plain at
 seen-reported (d ∷ es) (suc q) g at = seen-reported es q g at
@@ -62,6 +67,17 @@ name-put es ascend place d label within is found old new put n = (
         let same : at.0 ≡ place = one_place (map reported es) ascend at.0 place (plain g) (reported d) (seen-reported es at.0 g at.1) there (l ∙ sym of_label) in
         let one : g ≡ seen_entry d = at-once (seen es) place g (seen_entry d) (subst (λ q. IsAt (seen es) q g) same at.1) here in
         sym named ∙ ap (λ (x : LemmaEntry). x.name) one
+
+-- The promises on which a proof rests are those of lemmas that stand.
+pub rests-there : (es : List Entry) → AreEntries (map reported es) → (place : ℕ) (rests : List Label) → place < length es → ((e : fates.Entry) → IsAt (map reported es) place e → e.own ≡ Shown rests) → Each (λ k. IsIn k (map fates.Entry.label (map reported es))) rests
+rests-there es entries place rests within shown =
+    let d = get_or es place (first-of es place within) in
+    let at : IsAt (map reported es) place (reported d) = at-map reported es place d (at-read es place (first-of es place within) within) in
+    rests-stand (map reported es) entries place (reported d) at rests (shown (reported d) at)
+  where
+    first-of : (xs : List Entry) (p : ℕ) → p < length xs → Entry
+    first-of [] p h = absurd (omega (arith, h))
+    first-of (x ∷ xs) p h = x
 
 abbrev IsBeside : Fork → LemmaEntry → Type 0
 IsBeside f e = e.label ≡ f.label
@@ -143,3 +159,52 @@ all-more texts fs es nodes some e old mid new h k = (
   },
   k.2 ∙ (ap (λ t. t ++ k.0) h.2 ∙ append_assoc old h.0 k.0),
 )
+
+-- What is said of the entry at a place, of each that stands there.
+pub own-there : (es : List Entry) (place : ℕ) (d : Entry) → place < length es → d ≡ get_or es place d → (rests : List Label) → (reported d).own ≡ Shown rests → (e : fates.Entry) → IsAt (map reported es) place e → e.own ≡ Shown rests
+own-there es place d within is rests own e at = ap (λ (x : fates.Entry). x.own) (at-once (map reported es) place e (reported d) at (at-seen reported es place d within is)) ∙ own
+
+module _ (texts : List (List ℕ)) (fs : List Fork) (es : List Entry) (entries : AreEntries (map reported es)) (two : AreBeside fs (seen es)) (law : AreNamedRests texts fs (seen es)) (place : ℕ) (d : Entry) (within : place < length es) (is : d ≡ get_or es place d) where
+  seen-there : (e : LemmaEntry) → IsAt (seen es) place e → seen_entry d ≡ e
+  seen-there e at = at-once (seen es) place (seen_entry d) e (at-seen seen_entry es place d within is) at
+
+  plain-entries : AreEntries (map plain (seen es))
+  plain-entries = subst AreEntries (sym (reported-plain es)) entries
+
+  -- The edges of a lemma that is shown,
+  pub shown-put : (nodes : List Node) (named old new : List ℕ) → ((e : LemmaEntry) → IsAt (seen es) place e → (n : ℕ) → Holds named n ↔ IsEdgeToName texts fs (seen es) e.label n)
+      → IsPutOf (edge_line (text_of_name texts d.name)) (HasName texts named) nodes old new → (e : LemmaEntry) → IsAt (seen es) place e → AreEdgesPut texts fs (seen es) nodes e old new
+  shown-put nodes named old new same h e at =
+      edges-put texts fs (seen es) plain-entries two law place e at nodes named old new (same e at)
+      (subst (λ x. IsPutOf (edge_line (text_of_name texts x)) (HasName texts named) nodes old new) (ap (λ (x : LemmaEntry). x.name) (seen-there e at)) h)
+
+  -- and of one that isn't.
+  pub none-put : IsNotShown (reported d).own → (nodes : List Node) (old : List ℕ) (e : LemmaEntry) → IsAt (seen es) place e → AreEdgesPut texts fs (seen es) nodes e old old
+  none-put none nodes old e at =
+      edges-none texts fs (seen es) plain-entries two law place e at (subst (λ (x : LemmaEntry). IsNotShown (plain x).own) (seen-there e at) none) nodes old
+
+-- One lemma more of those of a list.
+pub all-step : (texts : List (List ℕ)) (fs : List Fork) (es : List LemmaEntry) (nodes : List Node) (place : ℕ) → place < length es → (old mid new : List ℕ) → AreAllPut texts fs es nodes (take place es) old mid
+    → ((e : LemmaEntry) → IsAt es place e → AreEdgesPut texts fs es nodes e mid new) → AreAllPut texts fs es nodes (take (place + 1) es) old new
+all-step texts fs es nodes place within old mid new h k =
+    let d = first-of es place within in
+    let e = get_or es place d in
+    subst (λ some. AreAllPut texts fs es nodes some old new) (sym (longer_by es place e within (get_or_default es place d e within))) (all-more texts fs es nodes (take place es) e old mid new h (k e (at-read es place d within)))
+  where
+    first-of : (xs : List LemmaEntry) (p : ℕ) → p < length xs → LemmaEntry
+    first-of [] p less = absurd (omega (arith, less))
+    first-of (x ∷ xs) p less = x
+
+pub all-end : (texts : List (List ℕ)) (fs : List Fork) (es : List LemmaEntry) (nodes : List Node) (place : ℕ) → length es ≤ place → (old new : List ℕ) → AreAllPut texts fs es nodes (take place es) old new → AreAllPut texts fs es nodes es old new
+all-end texts fs es nodes place past old new h = subst (λ some. AreAllPut texts fs es nodes some old new) (take_all place es past) h
+
+-- The whole text is put together.
+pub drawn : (texts theories : List (List ℕ)) (fs : List Fork) (es : List LemmaEntry) (rows : List Row) (nodes : List Node) → nodes ≡ nodes_of rows → (t0 t1 t2 t3 t4 : List ℕ) → t0 ≡ [] → t1 ≡ t0 ++ opening → t2 ≡ t1 ++ flat_map (cluster nodes) theories
+    → AreAllPut texts fs es nodes es t2 t3 → t4 ≡ t3 ++ closing → IsDrawing texts theories fs es rows t4
+drawn texts theories fs es rows nodes same t0 t1 t2 t3 t4 none first clusters edges last = record {
+  edges = edges.0;
+  are_edges = subst (λ ns. AreEdges texts fs es ns es edges.0) same edges.1;
+  text_is =
+      let begun : t1 ≡ [] ++ opening = first ∙ ap (λ t. t ++ opening) none in
+      joined_4 [] t1 t2 t3 t4 opening (flat_map (cluster nodes) theories) edges.0 closing begun clusters edges.2 last ∙ ap (λ ns. opening ++ (flat_map (cluster ns) theories ++ (edges.0 ++ closing))) same;
+}

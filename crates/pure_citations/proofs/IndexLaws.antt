@@ -1,5 +1,5 @@
 -- Where the nodes of a name stand.
-use Rattle.std.proofs.Common.{◌≡◌, ◌≢◌, ◌↔◌, ◌⊎◌, ◌∙◌, ◌<◌, ◌≤◌, ◌+◌, ◌*◌, ◌/◌, ◌%◌, ℕ, zero, suc, List, [], ◌∷◌, ◌++◌, length, get_or, take, inl, inr, refl, sym, ap, subst, arith}
+use Rattle.std.proofs.Common.{◌≡◌, ◌≢◌, ◌↔◌, ◌⊎◌, ◌∙◌, ◌<◌, ◌≤◌, ◌+◌, ◌*◌, ◌/◌, ◌%◌, ℕ, zero, suc, List, [], ◌∷◌, ◌++◌, length, get_or, take, add-one, inl, inr, refl, sym, ap, subst, arith}
 use Rattle.std.specs.Int.{bit_at}
 use Rattle.std.proofs.lemmas.Bool.{cases_lt}
 use Rattle.std.proofs.lemmas.Nat.{div-mul-add, div-add-mod'}
@@ -63,20 +63,41 @@ decide a b = elim (cases_lt a b) [
 ]
 
 -- The lists with one place more.
-pub lasts-more : (codes last next : List ℕ) (place code : ℕ) → IsAt codes place code → AreLast codes last place → get_or next code 0 ≡ suc place → ((k : ℕ) → k ≢ code → get_or next k 0 ≡ get_or last k 0) → AreLast codes next (suc place)
-lasts-more codes last next place code at h here others other = elim (decide other code) [
+lasts-next : (codes last next : List ℕ) (place code : ℕ) → IsAt codes place code → AreLast codes last place → get_or next code 0 ≡ suc place → ((k : ℕ) → k ≢ code → get_or next k 0 ≡ get_or last k 0) → AreLast codes next (suc place)
+lasts-next codes last next place code at h here others other = elim (decide other code) [
   | inl same ↦ subst (λ b. IsLast codes (suc place) other b) (sym (ap (λ k. get_or next k 0) same ∙ here)) (subst (λ k. IsLast codes (suc place) k (suc place)) (sym same) (last-here codes place code at))
   | inr apart ↦ subst (λ b. IsLast codes (suc place) other b) (sym (others other apart)) (last-other codes place code other (get_or last other 0) at apart (h other))
 ]
 
-pub befores-more : (codes before : List ℕ) (place code b : ℕ) → IsAt codes place code → length before ≡ place → AreBefore codes before place → IsLast codes place code b → AreBefore codes (before ++ b ∷ []) (suc place)
-befores-more codes before place code b at long h last q other less is = elim (less-or-same q place less) [
+befores-next : (codes before : List ℕ) (place code b : ℕ) → IsAt codes place code → length before ≡ place → AreBefore codes before place → IsLast codes place code b → AreBefore codes (before ++ b ∷ []) (suc place)
+befores-next codes before place code b at long h last q other less is = elim (less-or-same q place less) [
   | inl early ↦ subst (λ x. IsLast codes q other x) (sym (read-before before b q (omega (arith, early, long)))) (h q other early is)
   | inr same ↦
       (let one : other ≡ code = at-once codes place other code (subst (λ k. IsAt codes k other) same is) at in
       let read : get_or (before ++ b ∷ []) q 0 ≡ b = get_or_push before b 0 q (long ∙ sym same) in
       subst (λ x. IsLast codes q other x) (sym read) (subst (λ p. IsLast codes p other b) (sym same) (subst (λ k. IsLast codes place k b) (sym one) last)))
 ]
+
+-- The same where one place more is written as a sum.
+pub lasts-more : (codes last next : List ℕ) (place code : ℕ) → place < length codes → code ≡ get_or codes place 0 → AreLast codes last place → get_or next code 0 ≡ place + 1 → ((k : ℕ) → k ≢ code → get_or next k 0 ≡ get_or last k 0) → AreLast codes next (place + 1)
+lasts-more codes last next place code within is h here others =
+    subst (AreLast codes next) (sym (add-one place)) (lasts-next codes last next place code (subst (IsAt codes place) (sym is) (at-read codes place 0 within)) h (here ∙ add-one place) others)
+
+pub befores-more : (codes before last : List ℕ) (place code b : ℕ) → place < length codes → code ≡ get_or codes place 0 → length before ≡ place → AreBefore codes before place → AreLast codes last place → b ≡ get_or last code 0 → AreBefore codes (before ++ b ∷ []) (place + 1)
+befores-more codes before last place code b within is long h lasts read =
+    subst (AreBefore codes (before ++ b ∷ [])) (sym (add-one place))
+    (befores-next codes before place code b (subst (IsAt codes place) (sym is) (at-read codes place 0 within)) long h (subst (IsLast codes place code) (sym read) (lasts code)))
+
+-- At the end of the walk all places are taken in.
+last-end : (codes : List ℕ) (bound code last : ℕ) → length codes ≤ bound → IsLast codes bound code last → IsLast codes (length codes) code last
+last-end codes bound code zero past h = λ q less. h q (omega (arith, less, past))
+last-end codes bound code (suc last) past h = (at-within codes last code h.1, h.1, λ q more less. h.2 q more (omega (arith, less, past)))
+
+pub index-end : (codes last before : List ℕ) (place : ℕ) → length codes ≤ place → AreLast codes last place → AreBefore codes before place → IsIndex codes last before
+index-end codes last before place past lasts befores = record {
+  lasts = λ code. last-end codes place code (get_or last code 0) past (lasts code);
+  befores = λ q code less. befores q code (omega (arith, less, past));
+}
 
 -- Places before a bound, from the last one on.
 pub from-none : (codes : List ℕ) (bound code last : ℕ) → IsLast codes bound code last → last ≡ 0 → (old : List ℕ) → Gains (λ q. (q < bound) × IsAt codes q code) old old
@@ -132,6 +153,10 @@ InWord codes named word q b = Holds named (word * 64 + b) × IsNodeAt codes (wor
 
 pub word-none : (codes named old : List ℕ) (word : ℕ) → get_or named word 0 ≡ 0 → Gains (λ q. IsBefore (InWord codes named word q) 64) old old
 word-none codes named old word none q = unchanged (IsBefore (InWord codes named word q) 64) (Holds old q) (λ w. word-clear named word w.0 none w.1 w.2.0)
+
+-- After 64 bits a word is done.
+pub word-end : (codes named : List ℕ) (word bit : ℕ) → bit ≤ 64 → 64 ≤ bit → (old new : List ℕ) → Gains (λ q. IsBefore (InWord codes named word q) bit) old new → Gains (λ q. IsBefore (InWord codes named word q) 64) old new
+word-end codes named word bit most least old new h = let same : bit ≡ 64 = omega (arith, most, least) in subst (λ b. Gains (λ q. IsBefore (InWord codes named word q) b) old new) same h
 
 -- The words hold all numbers that are held.
 pub words-end : (codes named old new : List ℕ) (count : ℕ) → length named ≤ count → ((q : ℕ) → Holds new q ↔ (IsBefore (λ w. IsBefore (InWord codes named w q) 64) count ⊎ Holds old q))

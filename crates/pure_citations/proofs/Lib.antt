@@ -16,3 +16,4 @@ pub mod EdgeCode
 pub mod PremiseLaws
 pub mod AxiomRows
 pub mod RowedLaws
+pub mod SufficeLaws

@@ -1,6 +1,6 @@
 -- What is said of the lemma with some name.
 use Rattle.std.proofs.Common.{◌≡◌, ◌↔◌, ◌∙◌, ◌+◌, ◌<◌, ℕ, List, [], ◌∷◌, ◌++◌, length, drop, get_or, add-one, drop-cons, inl, inr, refl, sym, ap, subst, true, false}
-use Rattle.std.specs.Prelude.{Some, None}
+use Rattle.std.specs.Prelude.{Some, None, Result, Ok, Err, IfOk}
 use Rattle.pure_text.specs.Lists.{IsIn}
 use Rattle.pure_typ.specs.NameTexts.{AreSessionTexts, HasText}
 use Rattle.pure_lookup.proofs.TextLemmas.{one_name}
@@ -51,6 +51,11 @@ module _ (texts : List (List ℕ)) (session : AreSessionTexts texts) (name : Lis
 
   pub faults-unnamed : (es : List LemmaEntry) → ((k : ℕ) → HasText texts k name → ⊥) → (n : ℕ) → Holds [] n ↔ IsFaultFor texts es name n
   faults-unnamed es none n = (λ h. absurd (none_held 0 n h), λ w. absurd (none w.0.name w.3))
+
+-- What an answer has, where what it has says more.
+pub if-weaker : {X E : Type 0} (r : Result X E) (P Q : X → Type 0) → ((x : X) → P x → Q x) → IfOk r P → IfOk r Q
+if-weaker (Ok x) P Q f h = f x h
+if-weaker (Err e) P Q f h = tt
 
 -- The same rows are picked by properties that say the same.
 pub picks-same : {A : Type 0} (P Q : A → Type 0) → ((x : A) → P x ↔ Q x) → (xs picked : List A) → Picks P xs picked → Picks Q xs picked

@@ -6,6 +6,7 @@ use Rattle.std.proofs.Common.{arith}
 use Rattle.std.specs.declared.alloc.AllocError.{AllocError}
 use Rattle.pure_statements.specs.Rows.{axiom_word, definition_word}
 use Rattle.pure_citations.specs.Heads.{definition_end}
+use Rattle.pure_citations.specs.Drawn.{line_behind, node_line}
 use Rattle.pure_citations.specs.Nodes.{behind, node, definition_node, axiom_node, declared_node}
 use Rattle.pure_citations.specs.declared.nodes.Kind.TheVariants as kind
 use Rattle.pure_citations.specs.declared.nodes.Node.{Node}
@@ -28,11 +29,11 @@ behind-found (w ∷ word) (b ∷ text) rest e =
 pub behind-none : (word text : List ℕ) → ((rest : List ℕ) → text ≢ word ++ rest) → behind word text ≡ None
 behind-none [] text none = absurd (none text refl)
 behind-none (w ∷ word) [] none = refl
-behind-none (w ∷ word) (b ∷ text) none = by (nat_eq w b) refl
+behind-none (w ∷ word) (b ∷ text) none = by (nat_eq w b) refl (λ rest. behind-none word text rest)
   where
-    by : (t : Bool) → nat_eq w b ≡ t → (if t then behind word text else None) ≡ None
-    by true e = behind-none word text (λ rest same. none rest ((λ i. sym (same-number w b e) i ∷ same i)))
-    by false e = refl
+    by : (t : Bool) → nat_eq w b ≡ t → (((rest : List ℕ) → text ≢ word ++ rest) → behind word text ≡ None) → (if t then behind word text else None) ≡ None
+    by true e further = further (λ rest same. none rest ((λ i. sym (same-number w b e) i ∷ same i)))
+    by false e further = refl
 
 -- The word, as the code has it.
 pub definition-behind : (head constant : List ℕ) → head ≡ codes "definition " ++ constant → behind definition_word head ≡ Some constant
@@ -55,3 +56,10 @@ axiom-unbehind head none = behind-none (codes "axiom ") head none
 pub if-same : (r : Result (Option Node) AllocError) (a b : Option Node) → a ≡ b → IfOk r (λ n. n ≡ a) → IfOk r (λ n. n ≡ b)
 if-same (Ok n) a b same h = h ∙ same
 if-same (Err e) a b same h = tt
+
+-- The line of a node whose name begins so, and of another.
+pub line-found : (beginning rest : List ℕ) (n : Node) → n.name ≡ beginning ++ rest → line_behind beginning n ≡ node_line n
+line-found beginning rest n e = rw (behind-found beginning n.name rest e) refl
+
+pub line-none : (beginning : List ℕ) (n : Node) → ((rest : List ℕ) → n.name ≢ beginning ++ rest) → line_behind beginning n ≡ []
+line-none beginning n none = rw (behind-none beginning n.name none) refl

@@ -55,9 +55,16 @@ label_end = codes ";" ++ 10 ∷ []
 unfoldable pub closing : List ℕ
 closing = codes "}" ++ 10 ∷ []
 
+-- how the cluster of a theory begins, and its label
+abbrev pub cluster_title : (theory : List ℕ) → List ℕ
+cluster_title theory = cluster_word ++ (theory ++ label_word)
+
+abbrev pub cluster_label : (theory : List ℕ) → List ℕ
+cluster_label theory = quoted theory ++ label_end
+
 -- what stands before the nodes of a theory
 abbrev pub cluster_head : (theory : List ℕ) → List ℕ
-cluster_head theory = cluster_word ++ (theory ++ (label_word ++ (quoted theory ++ label_end)))
+cluster_head theory = cluster_title theory ++ cluster_label theory
 
 -- the theory, with its nodes
 abbrev pub cluster : List Node → (theory : List ℕ) → List ℕ

@@ -1,5 +1,5 @@
 //! Lines of the graph: theories with their nodes, and edges.
-ghost use Rattle.std.specs.Prelude.{◌≡◌, ◌↔◌, ◌<◌, ◌≤◌, ◌+◌, ◌-◌, ◌++◌, ◌∷◌, [], ℕ, IsTrue, take, drop, length, IfOk, OnOk};
+ghost use Rattle.std.specs.Prelude.{◌≡◌, ◌↔◌, ◌<◌, ◌≤◌, ◌+◌, ◌-◌, ◌/◌, ◌%◌, ◌++◌, ◌∷◌, [], ℕ, IsTrue, take, drop, length, get_or, IfOk, OnOk};
 ghost use Rattle.std.specs.List.{flat_map};
 ghost use Rattle.pure_order_tables.specs.Rows.{Holds};
 ghost use Rattle.pure_promise_fates.specs.Reach.{IsAt};
@@ -81,16 +81,33 @@ fn beginning_of(alloc: Global, theory: &[u8]) -> Result<Vec<u8>, AllocError>
     Ok(beginning)
 }
 
-/// Puts what stands before the nodes of a theory behind the text.
-#[tactic(auto, unfolding(crate::specs::Drawn::cluster_word, crate::specs::Drawn::label_word, crate::specs::Drawn::label_end))]
-fn put_head(text: &mut Vec<u8>, theory: &[u8]) -> Result<(), AllocError>
-    ensures { IfOk result (λ _. text.new.items ≡ text.old.items ++ spec.cluster_head theory.now) }
+/// Puts how the cluster of a theory begins behind the text.
+#[tactic(auto, unfolding(crate::specs::Drawn::cluster_word, crate::specs::Drawn::label_word))]
+fn put_title(text: &mut Vec<u8>, theory: &[u8]) -> Result<(), AllocError>
+    ensures { IfOk result (λ _. text.new.items ≡ text.old.items ++ spec.cluster_title theory.now) }
 {
     text.extend_from_slice(b"subgraph \"cluster_")?;
     text.extend_from_slice(theory)?;
     text.extend_from_slice(b"\" {\nlabel=")?;
+    Ok(())
+}
+
+/// Puts the label of a theory's cluster behind the text.
+#[tactic(auto, unfolding(crate::specs::Drawn::label_end))]
+fn put_label(text: &mut Vec<u8>, theory: &[u8]) -> Result<(), AllocError>
+    ensures { IfOk result (λ _. text.new.items ≡ text.old.items ++ spec.cluster_label theory.now) }
+{
     put_quoted(text, theory)?;
     text.extend_from_slice(b";\n")?;
+    Ok(())
+}
+
+/// Puts what stands before the nodes of a theory behind the text.
+fn put_head(text: &mut Vec<u8>, theory: &[u8]) -> Result<(), AllocError>
+    ensures { IfOk result (λ _. text.new.items ≡ text.old.items ++ spec.cluster_head theory.now) }
+{
+    put_title(text, theory)?;
+    put_label(text, theory)?;
     Ok(())
 }
 
@@ -155,11 +172,42 @@ fn put_edge(text: &mut Vec<u8>, from: &[u8], node: &Node) -> Result<(), AllocErr
     Ok(())
 }
 
+/// The word at the place, and 0 behind the end.
+fn word_at(held: &[u64], place: usize) -> u64
+    ensures { result ≡ get_or held.now place 0 }
+{
+    if place < held.len() { held[place] } else { 0 }
+}
+
+/// Whether the word at the place has no bits.
+fn is_empty(held: &[u64], place: usize) -> bool
+    ensures { IsTrue result → get_or held.now place 0 ≡ 0 }
+{
+    word_at(held, place) == 0
+}
+
+/// Whether a word begins at the place.
+fn is_first(place: usize) -> bool
+    ensures { IsTrue result → place % 64 ≡ 0 }
+{
+    place % 64 == 0
+}
+
 /// Whether the set holds none of the 64 places from this one on, which begin a word.
 fn is_clear(held: &[u64], place: usize) -> bool
     ensures { IsTrue result → ((q : ℕ) → place ≤ q → q < place + 64 → ¬ Holds held.now q) }
 {
-    place % 64 == 0 && (place / 64 >= held.len() || held[place / 64] == 0)
+    if is_first(place) {
+        return is_empty(held, place / 64);
+    }
+    false
+}
+
+/// The place behind a word.
+fn behind_word(place: usize) -> Result<usize, AllocError>
+    ensures { IfOk result (λ next. next ≡ place + 64) }
+{
+    place.checked_add(64).ok_or(AllocError)
 }
 
 /// Puts the edge to the node at the place behind the text, where the set holds the place.
@@ -195,7 +243,7 @@ fn go_on(
     ensures text { IfOk result (λ next. IsPutOf (edge_line from.now) (HasName names.now named.now) (take (next - place) (drop place nodes.now)) text.old.items text.new.items) }
 {
     if is_clear(held, place) {
-        return place.checked_add(64).ok_or(AllocError);
+        return behind_word(place);
     }
     put_if_held(text, from, &nodes[place], held, place)?;
     Ok(place + 1)
@@ -215,7 +263,8 @@ pub(crate) fn put_edges_to(
 {
     let mut place = 0;
     while place < nodes.len() {
-        place = go_on(names, named, text, from, nodes, held, place)?;
+        let next = go_on(names, named, text, from, nodes, held, place)?;
+        place = next;
     }
     Ok(())
 }

@@ -90,6 +90,7 @@ fn names_of(
     requires entries { AreEntries (map reported entries.now) }
     requires session { AreInSession names.now (forks duties.now) }
     requires beside { AreBeside (forks duties.now) (seen entries.now) }
+    requires entry { place < length entries.now }
     requires duty { place < length duties.now }
     requires rests { AreNamedRests names.now (forks duties.now) (seen entries.now) }
     requires shown { (e : fates.Entry) → IsAt (map reported entries.now) place e → e.own ≡ Shown rests.now }
