@@ -7,11 +7,13 @@ use Rattle.pure_text.specs.Lists.{IsIn, EachTwo}
 use Rattle.pure_typ.specs.NameTexts.{AreSessionTexts, HasText}
 use Rattle.pure_lookup.proofs.TextLemmas.{one_name}
 use Rattle.pure_order_tables.specs.Rows.{Holds}
+use Rattle.pure_order_tables.proofs.RowLaws.{none_held}
 use Rattle.pure_promise_fates.specs.Reach.{IsAt}
 use Rattle.pure_promise_fates.proofs.PlaceLaws.{at-once, at-read}
 use Rattle.pure_citations.specs.Drawn.{HasName}
 use Rattle.pure_citations.specs.Heads.{Picks, IsTextOf, IsPutOf, IsPut}
 use Rattle.pure_citations.specs.Index.{IsCode, IsNodeAt}
+use Rattle.pure_citations.specs.Reached.{Gains}
 use Rattle.pure_citations.specs.declared.nodes.Node.{Node}
 use Rattle.pure_citations.proofs.CitedCode.{beside-at}
 use Rattle.pure_citations.proofs.IndexLaws.{word-clear}
@@ -136,3 +138,15 @@ pub all-more_text : {A : Type 0} (line : A → List ℕ) (xs : List A) (x : A) (
 all-more_text line xs x start old new h e =
     e ∙ (ap (λ t. t ++ line x) h ∙ (append_assoc start (flat_map line xs) (line x)
     ∙ ap (λ t. start ++ t) (sym (flat_map-append line xs (x ∷ []) ∙ ap (λ t. flat_map line xs ++ t) (append-nil (line x))))))
+
+-- What a set holds that held nothing before.
+pub gained : (P : ℕ → Type 0) (new : List ℕ) → Gains P [] new → (q : ℕ) → Holds new q ↔ P q
+gained P new h q = (λ w. elim ((h q).0 w) [ inl p ↦ p | inr void ↦ absurd (none_held 0 q void) ], λ p. (h q).1 (inl p))
+
+-- The same of names, nodes and places that are lent.
+pub held-lent : (texts : List (List ℕ)) → AreSessionTexts texts → (nodes : List Node) (codes named held : List ℕ) → EachTwo (IsCode texts) nodes codes → Gains (λ q. (number : ℕ) × Holds named number × IsNodeAt codes number q) [] held
+    → (lent : List (List ℕ)) (ns : List Node) (hs : List ℕ) → lent ≡ texts → ns ≡ nodes → hs ≡ held → (q : ℕ) (n : Node) → IsAt ns q n → Holds hs q ↔ HasName lent named n
+held-lent texts session nodes codes named held two put lent ns hs texts_are nodes_are held_are q n at =
+    subst (λ ts. Holds hs q ↔ HasName ts named n) (sym texts_are)
+    (subst (λ ps. Holds ps q ↔ HasName texts named n) (sym held_are)
+    (held-named texts session nodes codes named held two (gained (λ q. (number : ℕ) × Holds named number × IsNodeAt codes number q) held put) q n (subst (λ xs. IsAt xs q n) nodes_are at)))

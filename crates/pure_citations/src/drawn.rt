@@ -81,14 +81,31 @@ fn beginning_of(alloc: Global, theory: &[u8]) -> Result<Vec<u8>, AllocError>
     Ok(beginning)
 }
 
+/// Puts what stands before a theory's name behind the text.
+#[tactic(auto, unfolding(crate::specs::Drawn::cluster_word))]
+fn put_cluster_word(text: &mut Vec<u8>) -> Result<(), AllocError>
+    ensures { IfOk result (λ _. text.new.items ≡ text.old.items ++ spec.cluster_word) }
+{
+    text.extend_from_slice(b"subgraph \"cluster_")?;
+    Ok(())
+}
+
+/// Puts what stands behind a theory's name behind the text.
+#[tactic(auto, unfolding(crate::specs::Drawn::label_word))]
+fn put_label_word(text: &mut Vec<u8>) -> Result<(), AllocError>
+    ensures { IfOk result (λ _. text.new.items ≡ text.old.items ++ spec.label_word) }
+{
+    text.extend_from_slice(b"\" {\nlabel=")?;
+    Ok(())
+}
+
 /// Puts how the cluster of a theory begins behind the text.
-#[tactic(auto, unfolding(crate::specs::Drawn::cluster_word, crate::specs::Drawn::label_word))]
 fn put_title(text: &mut Vec<u8>, theory: &[u8]) -> Result<(), AllocError>
     ensures { IfOk result (λ _. text.new.items ≡ text.old.items ++ spec.cluster_title theory.now) }
 {
-    text.extend_from_slice(b"subgraph \"cluster_")?;
+    put_cluster_word(text)?;
     text.extend_from_slice(theory)?;
-    text.extend_from_slice(b"\" {\nlabel=")?;
+    put_label_word(text)?;
     Ok(())
 }
 

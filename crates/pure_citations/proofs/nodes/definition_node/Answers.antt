@@ -5,7 +5,7 @@ use Rattle.pure_citations.proofs.NodeLaws.{definition-behind, definition-unbehin
 use Rattle.pure_citations.proofs.nodes.definition_node.Goals as goal
 
 pub returns-in_ok-full-in-Some : goal.returns-in_ok-full-in-Some
-returns-in_ok-full-in-Some c = if-same _ _ _ (ap (node kind.Definition) (c.as_slice.ensures.value ∙ c.in_ok-full.ensures) ∙ sym (ap definition_node (definition-behind _ _ c.in-Some.ensures))) c.make_node.ensures
+returns-in_ok-full-in-Some c = if-same _ _ _ (ap (node kind.Definition) (c.as_slice.ensures.value ∙ c.in_ok-full-in-Some.ensures) ∙ sym (ap definition_node (definition-behind _ _ c.in-Some.ensures))) c.make_node.ensures
 
 pub returns-in-None : goal.returns-in-None
 returns-in-None c = sym (ap definition_node (definition-unbehind _ c.in-None.ensures))
