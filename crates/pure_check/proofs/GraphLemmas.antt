@@ -1,5 +1,5 @@
 -- From the graph of a session's table to the answer of a job.
-use Rattle.std.proofs.Common.{◌≡◌, ℕ, Bool, List, [], ◌∷◌, ◌++◌, map, map-append, take, refl, sym, ◌∙◌, ap, subst, Option, Result, Ok, Err, IfOk}
+use Rattle.std.proofs.Common.{◌≡◌, ℕ, Bool, List, [], ◌∷◌, ◌++◌, map, refl, sym, ◌∙◌, ap, subst, Option, Result, Ok, Err, IfOk}
 use Rattle.std.specs.Borrow.{Bor}
 use Rattle.pure_graph.specs.Session.{Session}
 use Rattle.pure_graph.specs.declared.fault.LoadFault.{LoadFault}

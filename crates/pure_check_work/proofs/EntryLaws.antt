@@ -1,5 +1,6 @@
 -- The entries of promises are those of their lemmas.
-use Rattle.std.proofs.Common.{◌≡◌, ◌∙◌, ℕ, List, [], ◌∷◌, ◌++◌, map, map-append, filter, cond, refl, sym, ap, subst, Bool, true, false, inl, inr}
+use Rattle.std.proofs.Common.{◌≡◌, ◌∙◌, ℕ, List, [], ◌∷◌, ◌++◌, map, filter, cond, refl, sym, ap, subst, Bool, true, false, inl, inr}
+use Rattle.std.proofs.lemmas.List.{map-append}
 use Rattle.std.specs.declared.alloc.Global.{Global}
 use Rattle.std.specs.declared.sync.Arc.{Arc}
 use Rattle.pure_text.specs.Lists.{IsIn, Each, EachTwo}

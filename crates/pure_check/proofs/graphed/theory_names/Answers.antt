@@ -1,4 +1,4 @@
-use Rattle.std.proofs.Common.{◌∙◌, ◌++◌, take, [], ◌∷◌, ap, sym, map-append}
+use Rattle.std.proofs.Common.{◌∙◌, ◌++◌, take, [], ◌∷◌}
 use Rattle.pure_text.proofs.LoopLaws.{longer_by}
 use Rattle.pure_session.specs.Waiting.{seen_loaded, all_loaded}
 use Rattle.pure_check.specs.Jobs.Graph.{names_of}
