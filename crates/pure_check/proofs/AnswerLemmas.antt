@@ -18,7 +18,7 @@ use Rattle.pure_check_work.specs.SessionMeaning.Statements.{forks_of, IsFork, Ar
 use Rattle.pure_check_work.proofs.SessionMeaning.StatementLaws.{statements_once}
 use Rattle.pure_check_work.specs.TheoryRun.Checked.{Checked}
 use Rattle.pure_check_work.specs.TheoryRun.Outline.{Outline}
-use Rattle.pure_check_work.specs.Table.Table.{IsTable}
+use Rattle.pure_check_work.specs.Table.Table.{Table, IsTable}
 use Rattle.pure_check_work.proofs.Table.DerivedLaws.{table_is_derived}
 use Rattle.pure_check_work.proofs.Table.PrintedLaws.{said_are_statements}
 use Rattle.pure_machine.specs.Policy.{Policy}
@@ -38,8 +38,8 @@ use Rattle.pure_check_work.proofs.LeftLaws.{said-joined}
 use Rattle.pure_check_work.specs.Heeded.{lot_of, gone_labels}
 use Rattle.pure_check_work.proofs.HeedLaws.{board-legal, session_is_heeded}
 use Rattle.pure_check.specs.declared.formed.Extent.{Extent}
-use Rattle.pure_check.specs.Meaning.{IsToldSession, IsTableAnswer}
-use Rattle.pure_check.specs.Formed.{IsFormed, IsTextOf, IsTabled, extent_text}
+use Rattle.pure_check.specs.Meaning.{IsToldSession, IsSessionAnswer}
+use Rattle.pure_check.specs.Formed.{IsFormed, IsSaidTextOf, IsTextOf, IsTabled, Says}
 use Rattle.pure_check.specs.declared.answer.Answer.{Answer}
 
 -- The promises of the board, in load order, are of the lemmas that the session binds.
@@ -64,8 +64,7 @@ text-of asked S loaded board is extent text clean formed =
       is_table = subst (λ K. IsTable S K formed.table) (sym (ap gone_labels formed.entries ∙ law.1)) formed.is_table;
       heeded = words_heeded S.theories loaded.distinct asked (map lot_of formed.table.entries) (subst (λ es. heed.IsHeeded (policy_of S.theories asked) asked.workers (map lot_of es)) (sym formed.entries) law.0);
       run_of = record { is_board = is; ordered = formed.ordered; in_order = formed.in_order; goals = board-goals S loaded (policy_of S.theories asked) asked.workers board is formed.ordered formed.in_order formed.table.notes formed.is_table.statements; entries = formed.entries };
-      text_is = formed.text_is;
-      clean_is = formed.clean_is;
+      says = formed.says;
     }
 
 -- What the checker's calls gave one after the other is what was asked of the session.
@@ -84,10 +83,10 @@ ran-text asked names theories lent lent_is loaded work work_is policy policy_is 
     (subst (λ ts. IsBoardOf S.names ts policy asked.workers board) (sym same) (subst (λ ns. IsBoardOf ns work.theories policy asked.workers board) (sym texts) is)) in
     text-of asked S here board board_of extent text clean (formed S texts same of_refused of_files)
 
--- The text of a session that was loaded of a library is the answer of its table.
-table-answer : (told : Option (List library.File)) (S : Session) → IsToldSession told S → IsLoadedSession S.names S.theories → (asked : Asked) (extent : Extent) (run : Option (Ending Checked Fork Outline Outcome)) (text : List ℕ) (clean : Bool)
-    → IsTextOf S asked extent run text clean → IsTableAnswer (extent_text extent) asked told run text clean
-table-answer told S session loaded asked extent run text clean of = record {
+-- What is said of a session that was loaded of a library is the answer.
+pub session-answer : (told : Option (List library.File)) (S : Session) → IsToldSession told S → IsLoadedSession S.names S.theories → (asked : Asked) (Said : Session → Table → List ℕ → Bool → Type 0) (run : Option (Ending Checked Fork Outline Outcome)) (text : List ℕ) (clean : Bool)
+    → IsSaidTextOf Said S asked run text clean → IsSessionAnswer Said asked told run text clean
+session-answer told S session loaded asked Said run text clean of = record {
   session = S;
   table = of.table;
   board = of.board;
@@ -100,13 +99,12 @@ table-answer told S session loaded asked extent run text clean of = record {
     derived = table_is_derived S loaded (gone_labels of.table.entries) of.table of.is_table;
     run_of = of.run_of;
   };
-  text_is = of.text_is;
-  clean_is = of.clean_is;
+  says = of.says;
 }
 
 pub tabled : (told : Option (List library.File)) (S : Session) → IsToldSession told S → IsLoadedSession S.names S.theories → (asked : Asked) (extent : Extent) (r : Result Answer LoadFault)
     → IfOk r (λ a. IsTextOf S asked extent a.run a.formed.text a.formed.clean) → IsTabled extent asked told r
-tabled told S session loaded asked extent (Ok a) of = table-answer told S session loaded asked extent a.run a.formed.text a.formed.clean of
+tabled told S session loaded asked extent (Ok a) of = session-answer told S session loaded asked (Says extent) a.run a.formed.text a.formed.clean of
 tabled told S session loaded asked extent (Err fault) of = tt
 
 -- What holds of each session that the program's one shows, of an answer.

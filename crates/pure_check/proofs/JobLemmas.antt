@@ -1,5 +1,7 @@
 -- From the answer of a table to that of a job, and from a job's answer to what is written.
-use Rattle.std.proofs.Common.{◌≡◌, ◌≢◌, ℕ, Bool, true, false, List, [], refl, sym, ◌∙◌, subst, Option, Some, Result, Ok, Err}
+use Rattle.std.proofs.Common.{◌≡◌, ◌≢◌, ℕ, Bool, true, false, List, [], refl, sym, ◌∙◌, subst, Option, Some, Result, Ok, Err, IfOk}
+use Rattle.std.specs.Borrow.{Bor}
+use Rattle.std.specs.List.{list_all}
 use Rattle.pure_io.specs.declared.library.File as library
 use Rattle.pure_io.specs.Outside.{Appends, AppendsProperPrefix}
 use Rattle.pure_gen.specs.Generated.{files_of}
@@ -9,45 +11,64 @@ use Rattle.pure_words.specs.Words.{IsJob}
 use Rattle.pure_words.specs.declared.job.CancelWord.{CancelWord}
 use Rattle.pure_words.specs.declared.job.Job.{Job}
 use Rattle.pure_words.specs.declared.job.Job.TheVariants.{Check, Generate}
+use Rattle.pure_words.specs.declared.job.Job.TheVariants as job
 use Rattle.pure_check_work.specs.Declare.Notes.{Fork}
 use Rattle.pure_check_work.specs.Method.declared.outcome.Outcome.{Outcome}
-use Rattle.pure_check_work.specs.Table.Table.{Table, session_text}
+use Rattle.pure_check_work.specs.SessionLaws.Loaded.{IsLoadedSession}
+use Rattle.pure_check_work.specs.Table.Table.{Table, table_rows, session_text}
 use Rattle.pure_check_work.specs.TheoryRun.Checked.{Checked}
 use Rattle.pure_check_work.specs.TheoryRun.Outline.{Outline}
 use Rattle.pure_board.specs.Boards.{Ending}
 use Rattle.pure_policy.specs.Asked.{Asked}
 use Rattle.pure_check.specs.Answer.{WroteAll, WrotePart, WroteAnswer, IsComplete}
 use Rattle.pure_check.specs.Asked.{IsLooking, IsMeantBy}
-use Rattle.pure_check.specs.Formed.{IsTabled, IsDone, IsGiven, extent_text}
+use Rattle.pure_check.specs.Formed.{IsTabled, IsDone, IsGiven, IsGraphTextOf, Says}
+use Rattle.pure_check.specs.Jobs.Graph.{SaysGraph}
+use Rattle.pure_check.proofs.AnswerLemmas.{session-answer}
 use Rattle.pure_check.specs.JobAnswers.{IsAnswer, is_looking_job}
 use Rattle.pure_check.specs.Jobs.Generate.{last_line}
-use Rattle.pure_check.specs.Meaning.{IsTableAnswer}
+use Rattle.pure_check.specs.Meaning.{IsToldSession, IsTableAnswer, IsSessionAnswer, asked_for, is_good}
 use Rattle.pure_check.specs.declared.answer.Answer.{Answer}
-use Rattle.pure_check.specs.declared.formed.Extent.TheVariants.{Whole, LastLine}
+use Rattle.pure_check.specs.declared.formed.Extent.{Extent}
+use Rattle.pure_check.specs.declared.formed.Extent.TheVariants.{Whole, LastLine, Axioms}
 use Rattle.pure_check.specs.declared.status.Status.{Status}
 use Rattle.pure_check.specs.declared.status.Status.TheVariants.{Clean, Rows, Usage, ReadFault, WriteFault, Memory}
 
--- The answer of a table with its text said otherwise.
-retexted : (one other : Session → Table → List ℕ) → ((S : Session) (t : Table) → one S t ≡ other S t) → (asked : Asked) (files : Option (List library.File)) (run : Option (Ending Checked Fork Outline Outcome)) (text : List ℕ) (clean : Bool)
-    → IsTableAnswer one asked files run text clean → IsTableAnswer other asked files run text clean
-retexted one other same asked files run text clean a =
-    record { session = a.session; table = a.table; board = a.board; is_run = a.is_run; checked = a.checked; text_is = a.text_is ∙ same a.session a.table; clean_is = a.clean_is }
+-- What is said of a session, where that is the text of its table.
+tabled : (extent : Extent) (text_of : Session → Table → List ℕ) → ((S : Session) (t : Table) (text : List ℕ) (clean : Bool) → Says extent S t text clean → (text ≡ text_of S t) × (list_all is_good (table_rows S t) ≡ clean))
+    → (asked : Asked) (files : Option (List library.File)) (run : Option (Ending Checked Fork Outline Outcome)) (text : List ℕ) (clean : Bool) → IsSessionAnswer (Says extent) asked files run text clean → IsTableAnswer text_of asked files run text clean
+tabled extent text_of says asked files run text clean a =
+    let said = says a.session a.table text clean a.says in
+    record { session = a.session; table = a.table; board = a.board; is_run = a.is_run; checked = a.checked; text_is = said.0; clean_is = said.1 }
 
 -- The answer of a whole table is that of a check,
 pub check-done : (workers : ℕ) (fail_fast : Bool) (cancels lent : List CancelWord) → lent ≡ cancels → (told : Option (List library.File)) (r : Result Answer LoadFault)
     → IsTabled Whole (record { workers = workers; fail_fast = fail_fast; cancels = lent }) told r → IsDone (Check workers fail_fast cancels) told r
 check-done workers fail_fast cancels lent same told (Ok a) is =
     subst (λ cs. IsDone (Check workers fail_fast cs) told (Ok a)) same
-    (retexted (extent_text Whole) session_text (λ S t. refl) (record { workers = workers; fail_fast = fail_fast; cancels = lent }) told a.run a.formed.text a.formed.clean is)
+    (tabled Whole session_text (λ S t text clean said. said) (record { workers = workers; fail_fast = fail_fast; cancels = lent }) told a.run a.formed.text a.formed.clean is)
 check-done workers fail_fast cancels lent same told (Err fault) is = tt
 
 -- and that of the last line that of a generated library.
 pub generate-done : (workers start theories lemmas : ℕ) (made : List library.File) → made ≡ files_of start theories lemmas → (told : Option (List library.File)) (r : Result Answer LoadFault)
     → IsTabled LastLine (record { workers = workers; fail_fast = false; cancels = [] }) (Some made) r → IsDone (Generate workers start theories lemmas) told r
 generate-done workers start theories lemmas made same told (Ok a) is =
-    retexted (extent_text LastLine) last_line (λ S t. refl) (record { workers = workers; fail_fast = false; cancels = [] }) (Some (files_of start theories lemmas)) a.run a.formed.text a.formed.clean
+    tabled LastLine last_line (λ S t text clean said. said) (record { workers = workers; fail_fast = false; cancels = [] }) (Some (files_of start theories lemmas)) a.run a.formed.text a.formed.clean
     (subst (λ files. IsTabled LastLine (record { workers = workers; fail_fast = false; cancels = [] }) (Some files) (Ok a)) same is)
 generate-done workers start theories lemmas made same told (Err fault) is = tt
+
+-- What is said of a lemma is the answer of `axioms`.
+pub axioms-done : (workers : ℕ) (name : List ℕ) (lent : Bor (List ℕ)) → lent.now ≡ name → (extent : Extent) → extent ≡ Axioms lent → (told : Option (List library.File)) (r : Result Answer LoadFault)
+    → IsTabled extent (asked_for workers) told r → IsDone (job.Axioms workers name) told r
+axioms-done workers name lent same extent is told (Ok a) h =
+    subst (λ n. IsDone (job.Axioms workers n) told (Ok a)) same (subst (λ e. IsTabled e (asked_for workers) told (Ok a)) is h)
+axioms-done workers name lent same extent is told (Err fault) h = tt
+
+-- The graph of a session that was loaded of a library is the answer of `graph`.
+pub graph-done : (told : Option (List library.File)) (S : Session) → IsToldSession told S → IsLoadedSession S.names S.theories → (workers : ℕ) (IsSeen : Session → Type 0) → IsSeen S
+    → (a : Result Answer LoadFault) → IfOk a (λ a. (R : Session) → IsSeen R → IsGraphTextOf R workers a.run a.formed.text a.formed.clean) → IsDone (job.Graph workers) told a
+graph-done told S session loaded workers IsSeen is (Ok a) all = session-answer told S session loaded (asked_for workers) SaysGraph a.run a.formed.text a.formed.clean (all S is)
+graph-done told S session loaded workers IsSeen is (Err fault) all = tt
 
 -- A job that speaks of none of the library's files is done whatever the library tells.
 pub done-by : (job own : Job) → job ≡ own → (told : Option (List library.File)) (r : Result Answer LoadFault) → ((files : Option (List library.File)) → IsDone own files r) → IsDone job told r

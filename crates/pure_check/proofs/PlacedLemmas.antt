@@ -29,9 +29,9 @@ use Rattle.pure_row_places.specs.declared.scan.RefusedScan.{RefusedScan}
 use Rattle.pure_row_places.specs.Scans.{seen_scan, seen_scans, seen_refusal, seen_refusals, IsScannedAs}
 use Rattle.pure_row_places.specs.Headers.{IsLookedAt, IsLookedAtAs}
 use Rattle.pure_check.specs.Formed.{IsSeenSession, IsTextOf, IsDone}
-use Rattle.pure_check.specs.Meaning.{IsToldSession}
+use Rattle.pure_check.specs.Meaning.{IsToldSession, asked_for}
 use Rattle.pure_check.specs.PlacedText.{IsPlacedTextOf}
-use Rattle.pure_check.specs.Jobs.Places.{asked_for, IsRead, IsScan}
+use Rattle.pure_check.specs.Jobs.Places.{IsRead, IsScan}
 use Rattle.pure_check.specs.declared.answer.Answer.{Answer}
 use Rattle.pure_check.specs.declared.formed.Extent.{Extent}
 use Rattle.pure_check.specs.declared.formed.Extent.TheVariants as extent
@@ -56,8 +56,8 @@ placed-of S told workers t r scanned looked run text clean of = record {
   are_scanned = scanned;
   refused = seen_refusals r.now;
   are_looked_at = looked;
-  text_is = of.text_is;
-  clean_is = of.clean_is;
+  text_is = of.says.0;
+  clean_is = of.says.1;
 }
 
 -- The same of each session that the program's one shows.

@@ -5,7 +5,7 @@ use Rattle.std.specs.Prelude.{nat_le, codes, ◌*◌, ◌&&◌, if◌then◌else
 use Rattle.pure_grammar.specs.Theories.Lexeme.{same}
 use Rattle.pure_words.specs.Values.{number_of, within}
 use Rattle.pure_words.specs.Words.{IsJob, IsCommand, Item, no_given, given_by}
-use Rattle.pure_words.specs.Commands.{workers_of, fail_fast_of, cancels_of, checked, generated, with_places, check_of, generate_of, places_of, show_of, with_show, try_of, tried, name_given, size_of, sized, job_of, is_none, TableMeans}
+use Rattle.pure_words.specs.Commands.{workers_of, fail_fast_of, cancels_of, checked, generated, with_places, check_of, generate_of, places_of, show_of, with_show, try_of, tried, name_given, size_of, sized, job_of, is_none, TableMeans, axioms_of, with_axioms, graph_of, with_graph}
 use Rattle.pure_check.specs.Asked.{IsTaken}
 use Rattle.pure_check.specs.JobAnswers.{IsInRange}
 use Rattle.pure_check.specs.Laws.{JobInRange}
@@ -103,6 +103,31 @@ show-some items = let g = given_by no_given items in by (is_none g.jobs && (is_n
     by true = shown-some (name_given (given_by no_given items).arguments)
     by false = _
 
+with_axioms-some : (workers : Option ℕ) (name : Option (List ℕ)) → IsBetween 1 64 workers → IfJob (with_axioms workers name)
+with_axioms-some None name w = _
+with_axioms-some (Some n) None w = _
+with_axioms-some (Some n) (Some name) w = w.0
+
+axioms-some : (items : List Item) → IfJob (axioms_of (given_by no_given items))
+axioms-some items = let g = given_by no_given items in by (is_none g.cancels && is_none g.fail_fast)
+  where
+    by : (b : Bool) → IfJob (if b then with_axioms (workers_of (given_by no_given items).jobs) (name_given (given_by no_given items).arguments) else None)
+    by true =
+        let g = given_by no_given items in
+        with_axioms-some (workers_of g.jobs) (name_given g.arguments) (workers-within g.jobs)
+    by false = _
+
+with_graph-some : (workers : Option ℕ) → IsBetween 1 64 workers → IfJob (with_graph workers)
+with_graph-some None w = _
+with_graph-some (Some n) w = w.0
+
+graph-some : (items : List Item) → IfJob (graph_of (given_by no_given items))
+graph-some items = let g = given_by no_given items in by (is_none g.cancels && (is_none g.fail_fast && is_none g.arguments))
+  where
+    by : (b : Bool) → IfJob (if b then with_graph (workers_of (given_by no_given items).jobs) else None)
+    by true = let g = given_by no_given items in with_graph-some (workers_of g.jobs) (workers-within g.jobs)
+    by false = _
+
 tried-some : (workers : Option ℕ) (name : Option (List ℕ)) → IsBetween 1 64 workers → IfJob (tried workers name)
 tried-some None name w = _
 tried-some (Some n) None w = _
@@ -128,8 +153,10 @@ job-some means name items =
     (either (same name (codes "check")) (check_of g) _ (check-some items)
     (either (same name (codes "generate")) (generate_of g) _ (generate-some items)
     (either (same name (codes "places")) (places_of g) _ (places-some items)
+    (either (same name (codes "axioms")) (axioms_of g) _ (axioms-some items)
+    (either (same name (codes "graph")) (graph_of g) _ (graph-some items)
     (either (same name (codes "show")) (show_of g) _ (show-some items)
-    (either (same name (codes "try")) (try_of g) None (try-some items) _)))))
+    (either (same name (codes "try")) (try_of g) None (try-some items) _)))))))
 
 command-some : TableMeans → (name : List ℕ) (words : List (List ℕ)) (job : Job) → IsCommand name words job → IsInRange job
 command-some means name words job is = subst IfJob is.job_is (job-some means name is.items)

@@ -12,8 +12,12 @@ use Rattle.pure_session.specs.declared.session.Session as code
 use Rattle.pure_check_work.specs.Table.Table.{Table, IsTable, table_rows}
 use Rattle.pure_words.specs.declared.job.Job.{Job}
 use Rattle.pure_check.specs.declared.formed.Extent.{Extent}
-use Rattle.pure_check.specs.declared.formed.Extent.TheVariants.{Whole, LastLine, Placed}
+use Rattle.pure_check.specs.declared.formed.Extent.TheVariants.{Whole, LastLine, Placed, Axioms, Graph}
+use Rattle.pure_citations.specs.Listed.{IsSaidOf}
+use Rattle.pure_citations.specs.Drawn.{IsDrawing}
 use Rattle.pure_check_work.specs.Declare.Notes.{Fork}
+use Rattle.pure_check_work.specs.Promise.Entries.{LemmaEntry}
+use Rattle.pure_check_work.specs.SessionMeaning.Statements.{forks_of}
 use Rattle.pure_check_work.specs.Method.declared.outcome.Outcome.{Outcome}
 use Rattle.pure_check_work.specs.TheoryRun.Checked.{Checked}
 use Rattle.pure_check_work.specs.TheoryRun.Outline.{Outline}
@@ -32,7 +36,8 @@ use Rattle.pure_try.specs.declared.answer.Answer as tried
 use Rattle.pure_check.specs.JobAnswers.{IsAnswer}
 use Rattle.pure_row_places.specs.Scans.{seen_scans, seen_refusals}
 use Rattle.pure_check.specs.Jobs.Places.{places_text}
-use Rattle.pure_check.specs.Meaning.{IsRunOf, IsTableAnswer, is_good}
+use Rattle.pure_check.specs.Jobs.Graph.{SaysGraph}
+use Rattle.pure_check.specs.Meaning.{IsRunOf, IsSessionAnswer, asked_for, is_good}
 use Rattle.pure_check.specs.declared.answer.Answer.{Answer}
 use Rattle.pure_check.specs.declared.tables.Asking.{Asking}
 
@@ -43,40 +48,51 @@ pub record IsSeenSession (S : Session) (s : code.Session) : Type 0 where
   pub refused : all_refused s.refused.items ≡ map shown S.refused
   pub files : S.files ≡ s.files
 
--- the whole text of a table of these rows, for so many files, or its last line, or the text with the places of the rows
-abbrev pub rows_text : Extent → (files : ℕ) → List Row → List ℕ
-rows_text Whole files rows = table_text files rows
-rows_text LastLine files rows = total_line files rows
-rows_text (Placed theories refused) files rows = places_text (seen_scans theories.now) (seen_refusals refused.now) files rows
+-- The text is this, and this says whether each row is declared or proved.
+abbrev pub IsTextOfRows : (rows : List Row) → (meant text : List ℕ) → (clean : Bool) → Type 0
+IsTextOfRows rows meant text clean = (text ≡ meant) × (list_all is_good rows ≡ clean)
 
--- the extent of the text of a session's table
-abbrev pub extent_text : Extent → Session → Table → List ℕ
-extent_text extent S t = rows_text extent S.files (table_rows S t)
+-- It is what is asked for of a table of these rows, for so many files, with these lemmas and their entries: the whole text, its last line, the text with the places of the rows, what is said of a lemma, or the graph; and whether that is clean.
+abbrev pub SaysOf : Extent → (texts : List (List ℕ)) → List Fork → List LemmaEntry → (files : ℕ) → List Row → (text : List ℕ) → (clean : Bool) → Type 0
+SaysOf Whole texts fs es files rows text clean = IsTextOfRows rows (table_text files rows) text clean
+SaysOf LastLine texts fs es files rows text clean = IsTextOfRows rows (total_line files rows) text clean
+SaysOf (Placed theories refused) texts fs es files rows text clean = IsTextOfRows rows (places_text (seen_scans theories.now) (seen_refusals refused.now) files rows) text clean
+SaysOf (Axioms name) texts fs es files rows text clean = IsSaidOf texts fs es rows name.now text clean
+SaysOf (Graph theories) texts fs es files rows text clean = IsDrawing texts theories.now fs es rows text × (list_all is_good rows ≡ clean)
 
--- By these promises of a finished core the session comes to a table, of whose text this is the extent, and this says whether each row is declared or proved.
+-- It is what is asked for of a session's table, and whether that is clean.
+abbrev pub Says : Extent → Session → Table → (text : List ℕ) → (clean : Bool) → Type 0
+Says extent S t text clean = SaysOf extent S.names (forks_of t.notes) t.entries S.files (table_rows S t) text clean
+
+-- By these promises of a finished core the session comes to a table, of which this is what is asked for, and whether that is clean.
 pub record IsFormed (S : Session) (promises : List (Promise Fork Outcome)) (extent : Extent) (text : List ℕ) (clean : Bool) : Type 0 where
   pub table : Table
   pub ordered : List (Promise Fork Outcome)
   pub in_order : AreInOrder promises ordered
   pub entries : table.entries ≡ entries_of ordered
   pub is_table : IsTable S (cancelled_labels ordered) table
-  pub text_is : text ≡ extent_text extent S table
-  pub clean_is : list_all is_good (table_rows S table) ≡ clean
+  pub says : Says extent S table text clean
 
 -- how theories are to be checked, as the program holds it
 abbrev pub asked_by : Asking → Asked
 asked_by asking = record { workers = asking.workers; fail_fast = asking.fail_fast; cancels = asking.cancels.now }
 
--- The session was checked as was asked on the board that is handed out: this is the extent of its table's text, and this says whether each row is declared or proved.
-pub record IsTextOf (S : Session) (asked : Asked) (extent : Extent) (run : Option (Ending Checked Fork Outline Outcome)) (text : List ℕ) (clean : Bool) : Type 0 where
+-- The session was checked as was asked on the board that is handed out, and this is said of its table: what is asked for, and whether that is clean.
+pub record IsSaidTextOf (Says : Session → Table → List ℕ → Bool → Type 0) (S : Session) (asked : Asked) (run : Option (Ending Checked Fork Outline Outcome)) (text : List ℕ) (clean : Bool) : Type 0 where
   pub table : Table
   pub board : Ending Checked Fork Outline Outcome
   pub is_run : run ≡ Some board
   pub is_table : IsTable S (gone_labels table.entries) table
   pub heeded : IsPolicyHeeded S.theories asked (map lot_of table.entries)
   pub run_of : IsRunOf S asked table board
-  pub text_is : text ≡ extent_text extent S table
-  pub clean_is : list_all is_good (table_rows S table) ≡ clean
+  pub says : Says S table text clean
+
+abbrev pub IsTextOf : (S : Session) → (asked : Asked) → Extent → (run : Option (Ending Checked Fork Outline Outcome)) → (text : List ℕ) → (clean : Bool) → Type 0
+IsTextOf S asked extent run text clean = IsSaidTextOf (Says extent) S asked run text clean
+
+-- The session was checked on the board that is handed out: this is its graph, and this says whether each row is declared or proved.
+abbrev pub IsGraphTextOf : (S : Session) → (workers : ℕ) → (run : Option (Ending Checked Fork Outline Outcome)) → (text : List ℕ) → (clean : Bool) → Type 0
+IsGraphTextOf S workers run text clean = IsSaidTextOf SaysGraph S (asked_for workers) run text clean
 
 -- The line and whether it is clean are what comes of trying on the session's lemma with this name, and no board is handed out.
 pub record IsLineOf (texts : List (List ℕ)) (theories : List Loaded) (name : List ℕ) (a : Answer) : Type 0 where
@@ -90,9 +106,9 @@ pub record IsLineOf (texts : List (List ℕ)) (theories : List Loaded) (name : L
 abbrev pub IsShownSo : (texts : List (List ℕ)) → (theories : List Loaded) → (name : List ℕ) → Answer → Type 0
 IsShownSo texts theories name a = shown_lemma.IsAnswer texts theories name a.formed.text a.formed.clean × (a.run ≡ None)
 
--- Where the files could be read and memory sufficed, this is the answer of a table of so much of its text.
+-- Where the files could be read and memory sufficed, this is what is asked for of a table.
 abbrev pub IsTabled : Extent → Asked → (files : Option (List library.File)) → Result Answer LoadFault → Type 0
-IsTabled extent asked files (Ok a) = IsTableAnswer (extent_text extent) asked files a.run a.formed.text a.formed.clean
+IsTabled extent asked files (Ok a) = IsSessionAnswer (Says extent) asked files a.run a.formed.text a.formed.clean
 IsTabled extent asked files (Err fault) = Unit {0}
 
 -- Where the job was done, this is its answer.

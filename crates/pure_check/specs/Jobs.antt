@@ -4,3 +4,5 @@ pub mod Generate
 pub mod Places
 pub mod Show
 pub mod Try
+pub mod Axioms
+pub mod Graph

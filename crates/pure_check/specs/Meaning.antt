@@ -1,5 +1,5 @@
 -- What checked files come to: the session, its table, which of its lemmas are cancelled, the text of the table, and the board on which this came about.
-use Rattle.std.specs.Prelude.{◌≡◌, ℕ, Bool, true, false, List, map, Option, Some, IfSome}
+use Rattle.std.specs.Prelude.{◌≡◌, ℕ, Bool, true, false, List, [], map, Option, Some, IfSome}
 use Rattle.std.specs.List.{list_all}
 use Rattle.pure_io.specs.declared.library.File as library
 use Rattle.pure_graph.specs.Listing.{AreTheories}
@@ -53,6 +53,10 @@ pub record IsCheckedSession (told : Option (List library.File)) (asked : Asked) 
   pub derived : IsDerivedTable t
   pub run_of : IsRunOf S asked t board
 
+-- how theories are checked without cancellations
+abbrev pub asked_for : (workers : ℕ) → Asked
+asked_for workers = record { workers = workers; fail_fast = false; cancels = [] }
+
 -- whether the status is declared or proved
 abbrev pub is_good_status : RowStatus → Bool
 is_good_status Declared = true
@@ -66,6 +70,15 @@ is_good_status Unsettled = false
 -- whether the row is declared or proved
 abbrev pub is_good : Row → Bool
 is_good row = is_good_status row.status
+
+-- This is said of the table of a session of these files, which was checked as was asked on the board that is handed out.
+pub record IsSessionAnswer (Says : Session → Table → (text : List ℕ) → (clean : Bool) → Type 0) (asked : Asked) (files : Option (List library.File)) (run : Option (Ending Checked Fork Outline Outcome)) (text : List ℕ) (clean : Bool) : Type 0 where
+  pub session : Session
+  pub table : Table
+  pub board : Ending Checked Fork Outline Outcome
+  pub is_run : run ≡ Some board
+  pub checked : IsCheckedSession files asked board session table
+  pub says : Says session table text clean
 
 -- The text of the table of a session of these files, which was checked as was asked on the board that is handed out; it is clean where each row is declared or proved.
 pub record IsTableAnswer (text_of : Session → Table → List ℕ) (asked : Asked) (files : Option (List library.File)) (run : Option (Ending Checked Fork Outline Outcome)) (text : List ℕ) (clean : Bool) : Type 0 where

@@ -14,8 +14,8 @@ use Rattle.pure_policy.specs.Heeded.{IsPolicyHeeded}
 use Rattle.pure_check_work.specs.Heeded.{lot_of, gone_labels}
 use Rattle.pure_row_places.specs.Lines.{Theory, Refusal}
 use Rattle.pure_row_places.specs.Headers.{IsLookedAt}
-use Rattle.pure_check.specs.Meaning.{IsRunOf, is_good}
-use Rattle.pure_check.specs.Jobs.Places.{places_text, asked_for, IsScan}
+use Rattle.pure_check.specs.Meaning.{IsRunOf, asked_for, is_good}
+use Rattle.pure_check.specs.Jobs.Places.{places_text, IsScan}
 
 -- The session was checked on the board that is handed out: this is its table's text, with the places of the rows in its theories and in the refused files of the library, and this says whether each row is declared or proved.
 pub record IsPlacedTextOf (S : Session) (told : Option (List library.File)) (workers : ℕ) (run : Option (Ending Checked Fork Outline Outcome)) (text : List ℕ) (clean : Bool) : Type 0 where

@@ -7,9 +7,11 @@ ghost use Rattle.pure_check.specs.Formed.{IsDone};
 ghost use Rattle.pure_check.specs.JobAnswers.{IsAnswer, IsInRange, is_looking_job};
 
 use crate::answer::Answer;
+use crate::axioms::check_axioms;
 use crate::checked::check;
 use crate::ended::Ended;
 use crate::generated::check_generated;
+use crate::graphed::check_graph;
 use crate::laws::job_in_range;
 use crate::placed::check_placed;
 use crate::shown::shown;
@@ -55,6 +57,8 @@ fn done<R: Files + Print + AllocGlobal + Threads + Wait + Sync, L: Library, G: G
         } => check_generated(rt, alloc, *workers, *start, *theories, *lemmas, gate),
         Job::Places { workers } => check_placed(rt, alloc, *workers, library, gate),
         Job::Show { name } => shown(rt, alloc, name, library),
+        Job::Axioms { workers, name } => check_axioms(rt, alloc, *workers, name, library, gate),
+        Job::Graph { workers } => check_graph(rt, alloc, *workers, library, gate),
         Job::Try { workers, name } => tried(rt, alloc, *workers, name, library),
     }
 }

@@ -2,11 +2,13 @@
 #![tactic(auto)]
 
 mod answer;
+mod axioms;
 mod call;
 mod checked;
 mod ended;
 mod formed;
 mod generated;
+mod graphed;
 pub mod laws;
 mod placed;
 mod shown;

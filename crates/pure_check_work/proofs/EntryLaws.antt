@@ -1,5 +1,8 @@
 -- The entries of promises are those of their lemmas.
-use Rattle.std.proofs.Common.{◌≡◌, ◌∙◌, ℕ, List, [], ◌∷◌, map, filter, cond, refl, sym, ap, subst, Bool, true, false, inl, inr}
+use Rattle.std.proofs.Common.{◌≡◌, ◌∙◌, ℕ, List, [], ◌∷◌, ◌++◌, map, filter, cond, refl, sym, ap, subst, Bool, true, false, inl, inr}
+use Rattle.std.proofs.lemmas.List.{map-append}
+use Rattle.std.specs.declared.alloc.Global.{Global}
+use Rattle.std.specs.declared.sync.Arc.{Arc}
 use Rattle.pure_text.specs.Lists.{IsIn, Each, EachTwo}
 use Rattle.pure_text.proofs.ListLaws.{in-map}
 use Rattle.pure_definitions.specs.Names.{Label}
@@ -78,6 +81,11 @@ module _ (texts : List (List ℕ)) (all : List (Promise Fork Outcome)) (set : Is
 
   pub entries-so : Each (λ (p : Promise Fork Outcome). EndsSo (IsOutcomeOf texts) p.goal p.standing) all → EachTwo (IsEntryOf texts (cancelled_labels all)) (lemmas_of all) (entries_of all)
   entries-so ended = entries-from all (λ p m. m) ended
+
+-- One lemma more.
+pub duties-more : (ps : List (Promise Fork Outcome)) (ds : List (Arc Fork Global)) (p : Promise Fork Outcome) (d : Arc Fork Global) → map (λ (x : Arc Fork Global). x.value) ds ≡ lemmas_of ps → d.value ≡ p.goal
+    → map (λ (x : Arc Fork Global). x.value) (ds ++ d ∷ []) ≡ lemmas_of (ps ++ p ∷ [])
+duties-more ps ds p d so_far same = map-append _ ds (d ∷ []) ∙ ((λ i. so_far i ++ same i ∷ []) ∙ sym (map-append _ ps (p ∷ [])))
 
 -- the labels of lemmas
 pub labels-of : (ps : List (Promise Fork Outcome)) → map Fork.label (lemmas_of ps) ≡ map label_of ps

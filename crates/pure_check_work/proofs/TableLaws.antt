@@ -51,15 +51,16 @@ table_has_premises S loaded cancelled p texts left refused =
 
 -- what a core left, with the entries that the program holds
 pub said-by : (texts : List (List ℕ)) (theories : List Loaded) → IsLoadedSession texts theories → (numbered lent promises : List (Promise Fork Outcome)) (values : List Outline) (entries : List Held) → lent ≡ numbered → AreInOrder lent promises
-    → AreJoined (shape_of theories) (IsFork texts theories) (ClosesAfter texts theories) (IsOutcomeOf texts) values promises → EachTwo IsHeldOf promises entries → AreSaidBy texts theories numbered values entries
+    → AreJoined (shape_of theories) (IsFork texts theories) (ClosesAfter texts theories) (IsOutcomeOf texts) values promises → EachTwo IsHeldOf promises entries → (duties : List Fork) → duties ≡ lemmas_of promises → AreSaidBy texts theories numbered values entries duties
 unfolding joined_are_left
-said-by texts theories loaded numbered lent promises values entries same in_order joined held =
+said-by texts theories loaded numbered lent promises values entries same in_order joined held duties are =
     let seen_is = held-seen promises entries held in
     let left = joined_are_left texts theories loaded values promises joined in
     record {
       ordered = promises;
       in_order = subst (λ ps. AreInOrder ps promises) same in_order;
       entries_are = seen_is;
-      left = subst (AreLeft texts theories (cancelled_labels promises) values) (sym seen_is) left;
+      duties_are = are;
+      left = record { lemmas = lemmas_of promises; said = left.said; entries = subst (λ rows. EachTwo (IsEntryOf texts (cancelled_labels promises)) (lemmas_of promises) rows) (sym seen_is) left.entries };
       held = held-for texts (cancelled_labels promises) promises entries left.entries (ended-from texts theories 1 values promises joined.left) held;
     }

@@ -22,10 +22,11 @@ pub record AreLeft (texts : List (List ℕ)) (theories : List Loaded) (cancelled
   pub said : AreSaid texts theories values lemmas
   pub entries : EachTwo (IsEntryOf texts cancelled) lemmas rows
 
--- What the theories left, and the entries of their lemmas, by these promises: the entries are those of the promises in load order, where the lemmas of the cancelled ones are cancelled; and a theorem that an entry holds is its lemma's result.
-pub record AreSaidBy (texts : List (List ℕ)) (theories : List Loaded) (promises : List (Promise Fork Outcome)) (values : List Outline) (entries : List code.Entry) : Type 0 where
+-- What the theories left, their lemmas and the entries of these, by these promises: the entries are those of the promises in load order, where the lemmas of the cancelled ones are cancelled; and a theorem that an entry holds is its lemma's result.
+pub record AreSaidBy (texts : List (List ℕ)) (theories : List Loaded) (promises : List (Promise Fork Outcome)) (values : List Outline) (entries : List code.Entry) (duties : List Fork) : Type 0 where
   pub ordered : List (Promise Fork Outcome)
   pub in_order : AreInOrder promises ordered
   pub entries_are : seen entries ≡ entries_of ordered
   pub left : AreLeft texts theories (cancelled_labels ordered) values (seen entries)
+  pub duties_are : duties ≡ left.lemmas
   pub held : EachTwo (IsHeldFor texts (cancelled_labels ordered)) (lemmas_of ordered) entries

@@ -1,9 +1,9 @@
 //! The entries of lemmas, from their promises.
-ghost use Rattle.std.specs.Prelude.{◌≡◌, IfOk};
+ghost use Rattle.std.specs.Prelude.{◌≡◌, IfOk, map};
 ghost use Rattle.pure_text.specs.Lists.{EachTwo};
 ghost use Rattle.pure_table.specs.Fulfilled as fulfilled;
 ghost use Rattle.pure_machine.specs.Seen.{seen_standing};
-ghost use Rattle.pure_check_work.specs.Cancelled.{held_own, IsHeldOf};
+ghost use Rattle.pure_check_work.specs.Cancelled.{held_own, lemmas_of, IsHeldOf};
 
 use pure_core::{Promise, Standing};
 use pure_table::declare::Duty;
@@ -53,6 +53,21 @@ fn entry(promise: &Promise<Duty, Outcome>) -> Result<Entry, AllocError>
         prop,
         own,
     })
+}
+
+/// The lemmas, in the order of their promises.
+pub(crate) fn duties(
+    alloc: Global,
+    promises: &[Promise<Duty, Outcome>],
+) -> Result<Vec<Arc<Duty>>, AllocError>
+    ensures { IfOk result (λ duties. map (λ d. d.value) duties.items ≡ lemmas_of promises.now) }
+{
+    let mut duties = Vec::with_capacity(alloc, promises.len())?;
+    for promise in promises {
+        let duty = Arc::try_clone(&promise.goal)?;
+        duties.push(duty)?;
+    }
+    Ok(duties)
 }
 
 /// The entries of the lemmas, in the order of their promises.

@@ -62,7 +62,7 @@ here-end P p place count N O inside past h = (
 )
 
 -- Of two lists that belong together, what stands at a place of one stands beside what stands there in the other.
-beside-at : {A B : Type 0} (R : A → B → Type 0) (xs : List A) (ys : List B) → EachTwo R xs ys → (p : ℕ) (x : A) → IsAt xs p x → (y : B) × IsAt ys p y × R x y
+pub beside-at : {A B : Type 0} (R : A → B → Type 0) (xs : List A) (ys : List B) → EachTwo R xs ys → (p : ℕ) (x : A) → IsAt xs p x → (y : B) × IsAt ys p y × R x y
 beside-at R [] ys h p x m = absurd m
 beside-at R (a ∷ xs) [] h p x m = absurd h
 beside-at R (a ∷ xs) (b ∷ ys) h zero x m = (b, refl, subst (λ c. R c b) m h.0)

@@ -183,7 +183,7 @@ cited_suffice S loaded cancelled t table =
     (subst (λ k. IsFate (map plain t.entries) k fates.Proved) entry.label ((proved_row S.names t.entries es e row is).0 proved)) names cited)
     fs t.entries t.lemmas (λ f m. m) table.entries table.rows
 
-two_imply : {A B : Type 0} (R T : A → B → Type 0) → (xs : List A) (ys : List B) → ((a : A) (b : B) → IsIn a xs → R a b → T a b) → EachTwo R xs ys → EachTwo T xs ys
+pub two_imply : {A B : Type 0} (R T : A → B → Type 0) → (xs : List A) (ys : List B) → ((a : A) (b : B) → IsIn a xs → R a b → T a b) → EachTwo R xs ys → EachTwo T xs ys
 two_imply R T [] [] f h = tt
 two_imply R T [] (b ∷ ys) f h = absurd h
 two_imply R T (a ∷ xs) [] f h = absurd h

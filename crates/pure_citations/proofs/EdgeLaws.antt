@@ -43,7 +43,7 @@ module _ (texts : List (List ℕ)) (theories : List Loaded) (loaded : IsLoadedSe
   ps = map plain es
 
   -- An edge to a lemma is a promise on which the proof rests.
-  edge-rests : (l k : Label) → Edge texts fs es l (OfLemma k) → RestsOn ps l k
+  pub edge-rests : (l k : Label) → Edge texts fs es l (OfLemma k) → RestsOn ps l k
   edge-rests l k e =
       let f = e.lemma in
       let rests = e.shown.0 in
@@ -51,7 +51,7 @@ module _ (texts : List (List ℕ)) (theories : List Loaded) (loaded : IsLoadedSe
       let named = named-of texts f.content f.fixed f.script rests (proof-of texts theories loaded notes statements cancelled es are f e.stands rests became) in
       (rests, e.shown.1, (named.exactly k).1 e.names)
 
-  rests-edge : (l k : Label) → RestsOn ps l k → Edge texts fs es l (OfLemma k)
+  pub rests-edge : (l k : Label) → RestsOn ps l k → Edge texts fs es l (OfLemma k)
   rests-edge l k (rests, b, m) =
       let entry = in_mapped plain b.entry es b.stands in
       let beside = beside-second (IsEntryOf texts cancelled) fs es are entry.0 entry.1 in

@@ -6,12 +6,11 @@ use Rattle.std.proofs.lemmas.Grind.{flat_map-append}
 use Rattle.std.specs.List.{flat_map}
 use Rattle.pure_print.specs.declared.row.Row.{Row}
 use Rattle.pure_print.specs.declared.row.RowStatus.TheVariants.{Declared}
-use Rattle.pure_print.specs.RowText.{row_text}
 use Rattle.pure_typ.specs.NameTexts.{AreSessionTexts, HasText}
 use Rattle.pure_lookup.proofs.TextLemmas.{one_name}
 use Rattle.pure_order_tables.specs.Rows.{Holds}
 use Rattle.pure_statements.specs.Rows.{axiom_word, definition_word}
-use Rattle.pure_citations.specs.Heads.{definition_end, HoldsText, HoldsHead, IsCitedRow, Picks, IsCitedText, IsPut}
+use Rattle.pure_citations.specs.Heads.{definition_end, HoldsText, HoldsHead, IsCitedRow, Picks, IsTextOf, IsPut}
 
 pub text-found : (texts : List (List ℕ)) → AreSessionTexts texts → (row text : List ℕ) (n : ℕ) → HasText texts n text → (b : Bool) → IsTrue b ↔ Holds row n → IsTrue b ↔ HoldsText texts row text
 text-found texts session row text n found b h = (
@@ -106,19 +105,20 @@ picks-less P [] (y ∷ picked) x h p = elim h [ ]
 picks-less P (y ∷ xs) (y' ∷ picked) x (Picks.takes q h) p = Picks.takes q (picks-less P xs picked x h p)
 picks-less P (y ∷ xs) picked x (Picks.leaves q h) p = Picks.leaves q (picks-less P xs picked x h p)
 
-pub text-begins : (texts : List (List ℕ)) (row : List ℕ) → IsCitedText texts row [] []
-text-begins texts row = record { cited = []; picks = Picks.none; text_is = refl }
+module _ {A : Type 0} (line : A → List ℕ) (P : A → Type 0) where
+  pub text-begins : IsTextOf line P [] []
+  text-begins = record { picked = []; picks = Picks.none; text_is = refl }
 
-lines-more : (rows : List Row) (r : Row) → flat_map row_text (rows ++ r ∷ []) ≡ flat_map row_text rows ++ row_text r
-lines-more rows r = flat_map-append row_text rows (r ∷ []) ∙ ap (λ (w : List ℕ). flat_map row_text rows ++ w) (append-nil (row_text r))
+  lines-more : (xs : List A) (x : A) → flat_map line (xs ++ x ∷ []) ≡ flat_map line xs ++ line x
+  lines-more xs x = flat_map-append line xs (x ∷ []) ∙ ap (λ (w : List ℕ). flat_map line xs ++ w) (append-nil (line x))
 
-pub text-more : (texts : List (List ℕ)) (row : List ℕ) (rows : List Row) (r : Row) (old new : List ℕ) → IsCitedText texts row rows old → IsPut (IsCitedRow texts row r) old (row_text r) new → IsCitedText texts row (rows ++ r ∷ []) new
-text-more texts row rows r old new h (inl (is, e)) = record {
-  cited = h.cited ++ r ∷ [];
-  picks = picks-more (IsCitedRow texts row) rows h.cited r h.picks is;
-  text_is = e ∙ ap (λ (w : List ℕ). w ++ row_text r) h.text_is ∙ sym (lines-more h.cited r);
-}
-text-more texts row rows r old new h (inr (not, e)) = record { cited = h.cited; picks = picks-less (IsCitedRow texts row) rows h.cited r h.picks not; text_is = e ∙ h.text_is }
+  pub text-more : (xs : List A) (x : A) (old new : List ℕ) → IsTextOf line P xs old → IsPut (P x) old (line x) new → IsTextOf line P (xs ++ x ∷ []) new
+  text-more xs x old new h (inl (is, e)) = record {
+    picked = h.picked ++ x ∷ [];
+    picks = picks-more P xs h.picked x h.picks is;
+    text_is = e ∙ ap (λ (w : List ℕ). w ++ line x) h.text_is ∙ sym (lines-more h.picked x);
+  }
+  text-more xs x old new h (inr (not, e)) = record { picked = h.picked; picks = picks-less P xs h.picked x h.picks not; text_is = e ∙ h.text_is }
 
 pub row-cited : (texts : List (List ℕ)) (row : List ℕ) (r : Row) (declared held : Bool) → IsTrue declared ↔ (r.status ≡ Declared) → IsTrue held ↔ HoldsHead texts row r.head → IsTrue (declared && held) ↔ IsCitedRow texts row r
 row-cited texts row r true true d h = (λ t. (d.0 refl, h.0 refl), λ w. refl)

@@ -8,3 +8,12 @@ pub mod CitedCode
 pub mod EdgeLaws
 pub mod HeadLaws
 pub mod FaultCode
+pub mod ListedLaws
+pub mod NodeLaws
+pub mod IndexLaws
+pub mod DrawnLaws
+pub mod EdgeCode
+pub mod PremiseLaws
+pub mod AxiomRows
+pub mod RowedLaws
+pub mod SufficeLaws

@@ -5,7 +5,6 @@ use Rattle.pure_typ.specs.NameTexts.{HasText}
 use Rattle.pure_order_tables.specs.Rows.{Holds}
 use Rattle.pure_print.specs.declared.row.Row.{Row}
 use Rattle.pure_print.specs.declared.row.RowStatus.TheVariants.{Declared}
-use Rattle.pure_print.specs.RowText.{row_text}
 use Rattle.pure_statements.specs.Rows.{axiom_word, definition_word}
 
 -- what stands behind the name of a constant in the name of the fact that defines it
@@ -34,11 +33,15 @@ pub data Picks {A : Type 0} (P : A → Type 0) : List A → List A → Type 0 wh
   takes : {x : A} {xs picked : List A} → P x → Picks P xs picked → Picks P (x ∷ xs) (x ∷ picked)
   leaves : {x : A} {xs picked : List A} → (P x → ⊥) → Picks P xs picked → Picks P (x ∷ xs) picked
 
--- The text has the lines of the rows that declare axioms and definitions whose names the set holds, in their order.
-pub record IsCitedText (texts : List (List ℕ)) (row : List ℕ) (rows : List Row) (text : List ℕ) : Type 0 where
-  pub cited : List Row
-  pub picks : Picks (IsCitedRow texts row) rows cited
-  pub text_is : text ≡ flat_map row_text cited
+-- The text has the lines of the elements with the property, in their order.
+pub record IsTextOf {A : Type 0} (line : A → List ℕ) (P : A → Type 0) (xs : List A) (text : List ℕ) : Type 0 where
+  pub picked : List A
+  pub picks : Picks P xs picked
+  pub text_is : text ≡ flat_map line picked
+
+-- The lines of the elements with the property, in their order, are put behind the text.
+abbrev pub IsPutOf : {A : Type 0} → (line : A → List ℕ) → (P : A → Type 0) → (xs : List A) → (old new : List ℕ) → Type 0
+IsPutOf line P xs old new = (lines : List ℕ) × IsTextOf line P xs lines × (new ≡ old ++ lines)
 
 -- The line is put behind the text where this holds, and else nothing is.
 abbrev pub IsPut : (Holds : Type 0) → (old line new : List ℕ) → Type 0

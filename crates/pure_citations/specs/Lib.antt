@@ -7,3 +7,8 @@ pub mod Cited
 pub mod Edges
 pub mod Heads
 pub mod Faults
+pub mod Listed
+pub mod Nodes
+pub mod Index
+pub mod Drawn
+pub mod Rowed

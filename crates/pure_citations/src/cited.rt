@@ -31,7 +31,11 @@ fn theory_of(duty: &Duty) -> &Theory
 }
 
 /// Puts in the axioms that the steps of the proof name.
-fn put_named(names: &NamesByBase, duty: &Duty, cited: &mut Vec<u64>) -> Result<(), AllocError>
+pub(crate) fn put_named(
+    names: &NamesByBase,
+    duty: &Duty,
+    cited: &mut Vec<u64>,
+) -> Result<(), AllocError>
     requires { IsInSession names.now duty.now.content }
     ensures { OnOk result (Gains (λ n. NamesAxiom names.now duty.now.content duty.now.script n) cited.old.items cited.new.items) }
 {

@@ -1,16 +1,15 @@
 //! Rows that declare given axioms and definitions.
 ghost use Rattle.std.specs.Prelude.{◌≡◌, ◌≢◌, ◌↔◌, ◌++◌, ℕ, List, IsTrue, MatchOption, IfOk, OnOk};
 ghost use Rattle.pure_print.specs.RowText.{row_text};
-ghost use Rattle.pure_citations.specs.Heads.{definition_end, HoldsText, HoldsHead, IsCitedRow, IsCitedText, IsPut};
+ghost use Rattle.pure_citations.specs.Heads.{definition_end, HoldsText, HoldsHead, IsCitedRow};
 
 use crate::rows::holds;
 use pure_print::{Row, RowStatus, print_row};
-use pure_text::Text;
 use pure_typ::{Name, Names};
 use std::alloc::{AllocError, Global};
 
 /// What stands behind the word, where the head begins with it.
-fn behind<'h>(head: &'h [u8], word: &[u8]) -> Option<&'h [u8]>
+pub(crate) fn behind<'h>(head: &'h [u8], word: &[u8]) -> Option<&'h [u8]>
     ensures { MatchOption result ((rest : List ℕ) → head.now ≢ word.now ++ rest) (λ rest. head.now ≡ word.now ++ rest.now) }
 {
     if head.len() < word.len() {
@@ -30,7 +29,7 @@ fn place_of(name: Name) -> usize
 }
 
 /// Whether the row holds the name with this text.
-fn holds_text(names: &Names, row: &[u64], text: &[u8]) -> bool
+pub(crate) fn holds_text(names: &Names, row: &[u64], text: &[u8]) -> bool
     ensures { IsTrue result ↔ HoldsText names.now row.now text.now }
 {
     names.are_session_texts();
@@ -42,7 +41,7 @@ fn holds_text(names: &Names, row: &[u64], text: &[u8]) -> bool
 
 /// The name of the fact that defines the constant.
 #[tactic(auto, unfolding(crate::specs::Heads::definition_end))]
-fn fact_of(alloc: Global, constant: &[u8]) -> Result<Vec<u8>, AllocError>
+pub(crate) fn fact_of(alloc: Global, constant: &[u8]) -> Result<Vec<u8>, AllocError>
     ensures { IfOk result (λ full. full.items ≡ constant.now ++ definition_end) }
 {
     let mut full = Vec::from_slice(alloc, constant)?;
@@ -80,7 +79,12 @@ fn is_declared(row: &Row) -> bool
 }
 
 /// Whether the row declares an axiom or a definition whose name the set holds.
-fn is_cited_row(alloc: Global, names: &Names, cited: &[u64], row: &Row) -> Result<bool, AllocError>
+pub(crate) fn is_cited_row(
+    alloc: Global,
+    names: &Names,
+    cited: &[u64],
+    row: &Row,
+) -> Result<bool, AllocError>
     ensures { IfOk result (λ is. IsTrue is ↔ IsCitedRow names.now cited.now row.now) }
 {
     let held = holds_head(alloc, names, cited, row.head.bytes())?;
@@ -88,47 +92,10 @@ fn is_cited_row(alloc: Global, names: &Names, cited: &[u64], row: &Row) -> Resul
 }
 
 /// Puts the line of the row behind the text.
-fn put_line(alloc: Global, text: &mut Vec<u8>, row: &Row) -> Result<(), AllocError>
+pub(crate) fn put_line(alloc: Global, text: &mut Vec<u8>, row: &Row) -> Result<(), AllocError>
     ensures { OnOk result (text.new.items ≡ text.old.items ++ row_text row.now) }
 {
     let line = print_row(alloc, row)?;
     text.extend_from_slice(line.bytes())?;
     Ok(())
-}
-
-/// The same where the row declares an axiom or a definition whose name the set holds.
-fn put_if_cited(
-    alloc: Global,
-    names: &Names,
-    cited: &[u64],
-    text: &mut Vec<u8>,
-    row: &Row,
-) -> Result<(), AllocError>
-    ensures { OnOk result (IsPut (IsCitedRow names.now cited.now row.now) text.old.items (row_text row.now) text.new.items) }
-{
-    if is_cited_row(alloc, names, cited, row)? {
-        put_line(alloc, text, row)?;
-        return Ok(());
-    }
-    Ok(())
-}
-
-/// The lines of those rows that declare an axiom or a definition whose name the set holds, in their order.
-///
-/// # Errors
-///
-/// Want of memory alone.
-pub fn cited_text(
-    alloc: Global,
-    names: &Names,
-    cited: &[u64],
-    rows: &[Row],
-) -> Result<Text, AllocError>
-    ensures { IfOk result (λ text. IsCitedText names.now cited.now rows.now text) }
-{
-    let mut text = Vec::new(alloc);
-    for row in rows {
-        put_if_cited(alloc, names, cited, &mut text, row)?;
-    }
-    Ok(Text::from(text))
 }

@@ -1,4 +1,5 @@
 //! What the definitions mean: laws, each carried by the contract of a function that does nothing.
+ghost use Rattle.pure_citations.specs.Rowed.{CitedHaveRows, ListedAreLedTo, ListedSuffice};
 ghost use Rattle.pure_citations.specs.Laws.{CitedAreLedTo, CitedSuffice, HeldSuffice, ProofIsKept, ReachedAreLedTo, StaysExactly};
 
 /// Of a content's declarations those stay that are no axioms, Pure's own axiom, and the axioms that are listed.
@@ -21,4 +22,16 @@ pub fn cited_suffice()
 pub fn cited_are_led_to()
     ensures axioms { CitedAreLedTo }
     ensures lemmas { ReachedAreLedTo }
+{}
+
+/// Some row of a table declares each axiom or definition that a lemma cites.
+pub fn cited_have_rows()
+    ensures { CitedHaveRows }
+{}
+
+/// What is printed as proved is derivable from the axioms and definitions whose rows are listed for it alone; and what is
+/// listed is what edges lead to.
+pub fn listed_suffice()
+    ensures suffice { ListedSuffice }
+    ensures led { ListedAreLedTo }
 {}

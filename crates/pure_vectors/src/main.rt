@@ -40,6 +40,7 @@ const FILES: [&str; 12] = [
     "places.rows",
     "shows.rows",
     "tries.rows",
+    "rests.rows",
 ];
 
 /// Holds each row of the file against its runs. Fails where one doesn't hold, where there is none, or the file can't be read.

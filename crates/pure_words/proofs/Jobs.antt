@@ -9,7 +9,7 @@ use Rattle.pure_grammar.specs.Tokens.Bytes.{is_digit, is_letter}
 use Rattle.pure_grammar.specs.Tokens.Token.{is_number}
 use Rattle.pure_grammar.specs.Theories.Lexeme.{same}
 use Rattle.pure_lex.specs.Identifier.{is_identifier}
-use Rattle.pure_words.specs.Commands.{cancels_of, checked, fail_fast_of, generated, is_none, is_taken, job_by, job_given, job_of, name_given, size_of, tried, with_places, workers_of}
+use Rattle.pure_words.specs.Commands.{cancels_of, checked, fail_fast_of, generated, is_none, is_taken, job_by, job_given, job_of, name_given, size_of, tried, with_places, with_axioms, with_graph, workers_of}
 use Rattle.pure_words.specs.Table.{name_of, row_of, subcommand_named}
 use Rattle.pure_words.specs.Values.{cancel_of, cancels_in, colon, comma, number_of, parts, with_cancel, within}
 use Rattle.pure_words.specs.declared.given.Given.{Given}
@@ -17,7 +17,7 @@ use Rattle.pure_words.specs.declared.job.CancelWord.{CancelWord}
 use Rattle.pure_words.specs.declared.job.Job.{Job}
 use Rattle.pure_words.specs.declared.command.Size.{Size}
 use Rattle.pure_words.specs.declared.table.Subcommand.{Subcommand}
-use Rattle.pure_words.specs.declared.table.Subcommand.TheVariants.{Check, Generate, Places, Try}
+use Rattle.pure_words.specs.declared.table.Subcommand.TheVariants.{Check, Generate, Places, Axioms, Graph, Show, Try}
 use Rattle.pure_words.proofs.Fits.{Fits, at_most_once, at_most_one, is_plain}
 use Rattle.pure_words.proofs.Rows.{some_not_none}
 
@@ -107,6 +107,14 @@ places_all : (workers : Option ℕ) (job : Job) → with_places workers ≡ Some
 places_all (Some n) job e = (n, refl)
 places_all None job e = absurd (not_none job e)
 
+axioms_all : (workers : Option ℕ) (name : Option (List ℕ)) (job : Job) → with_axioms workers name ≡ Some job → (n : ℕ) × (workers ≡ Some n)
+axioms_all (Some n) name job e = (n, refl)
+axioms_all None name job e = absurd (not_none job e)
+
+graph_all : (workers : Option ℕ) (job : Job) → with_graph workers ≡ Some job → (n : ℕ) × (workers ≡ Some n)
+graph_all (Some n) job e = (n, refl)
+graph_all None job e = absurd (not_none job e)
+
 tried_all : (workers : Option ℕ) (name : Option (List ℕ)) (job : Job) → tried workers name ≡ Some job → (n : ℕ) × (workers ≡ Some n)
 tried_all (Some n) name job e = (n, refl)
 tried_all None name job e = absurd (not_none job e)
@@ -161,6 +169,48 @@ job_fits Places g job e =
       },
       whole,
     )
+job_fits Axioms g job e =
+    let both = passed (is_taken (row_of Axioms) g) (job_given Axioms g) job e in
+    let one = and_parts (is_none g.cancels) (is_none g.fail_fast && length g.arguments == 1) both.0 in
+    let two = and_parts (is_none g.fail_fast) (length g.arguments == 1) one.1 in
+    let whole : length g.arguments ≡ 1 = same_number (length g.arguments) 1 two.1 in
+    let workers = axioms_all (workers_of g.jobs) (name_given g.arguments) job both.1 in (
+      record {
+        jobs = jobs_fit g.jobs workers.0 workers.1;
+        cancels = none_fits g.cancels one.0;
+        fail_fast = no_flag_fits g.fail_fast two.0;
+        arguments = omega (arith, whole);
+      },
+      whole,
+    )
+job_fits Graph g job e =
+    let both = passed (is_taken (row_of Graph) g) (job_given Graph g) job e in
+    let one = and_parts (is_none g.cancels) (is_none g.fail_fast && length g.arguments == 0) both.0 in
+    let two = and_parts (is_none g.fail_fast) (length g.arguments == 0) one.1 in
+    let whole : length g.arguments ≡ 0 = same_number (length g.arguments) 0 two.1 in
+    let workers = graph_all (workers_of g.jobs) job both.1 in (
+      record {
+        jobs = jobs_fit g.jobs workers.0 workers.1;
+        cancels = none_fits g.cancels one.0;
+        fail_fast = no_flag_fits g.fail_fast two.0;
+        arguments = omega (arith, whole);
+      },
+      whole,
+    )
+job_fits Show g job e =
+    let both = passed (is_taken (row_of Show) g) (job_given Show g) job e in
+    let one = and_parts (is_none g.jobs) (is_none g.cancels && (is_none g.fail_fast && length g.arguments == 1)) both.0 in
+    let two = and_parts (is_none g.cancels) (is_none g.fail_fast && length g.arguments == 1) one.1 in
+    let three = and_parts (is_none g.fail_fast) (length g.arguments == 1) two.1 in
+    let whole : length g.arguments ≡ 1 = same_number (length g.arguments) 1 three.1 in (
+      record {
+        jobs = none_fits g.jobs one.0;
+        cancels = none_fits g.cancels two.0;
+        fail_fast = no_flag_fits g.fail_fast three.0;
+        arguments = omega (arith, whole);
+      },
+      whole,
+    )
 job_fits Try g job e =
     let both = passed (is_taken (row_of Try) g) (job_given Try g) job e in
     let one = and_parts (is_none g.cancels) (is_none g.fail_fast && length g.arguments == 1) both.0 in
@@ -186,15 +236,21 @@ pub record IsNamed (name : List ℕ) (g : Given) (job : Job) : Type 0 where
 -- the subcommand whose job it is
 pub named : (name : List ℕ) (g : Given) (job : Job) → job_of name g ≡ Some job → IsNamed name g job
 unfolding job_of subcommand_named
-named name g job e = pick (same name (codes "check")) refl (same name (codes "generate")) refl (same name (codes "places")) refl (same name (codes "try")) refl e
+named name g job e = pick (same name (codes "check")) refl (same name (codes "generate")) refl (same name (codes "places")) refl (same name (codes "axioms")) refl (same name (codes "graph")) refl (same name (codes "show")) refl (same name (codes "try")) refl e
   where
     pick : (b0 : Bool) → same name (codes "check") ≡ b0
         → (b1 : Bool) → same name (codes "generate") ≡ b1
         → (b2 : Bool) → same name (codes "places") ≡ b2
-        → (b3 : Bool) → same name (codes "try") ≡ b3
-        → option_and_then (job_by g) (cond b0 (Some Check) (cond b1 (Some Generate) (cond b2 (Some Places) (cond b3 (Some Try) None)))) ≡ Some job → IsNamed name g job
-    pick true is0 b1 is1 b2 is2 b3 is3 e' = record { subcommand = Check; name_is = (bytes_eq-Decides name (codes "check")).0 is0; job_is = e' }
-    pick false is0 true is1 b2 is2 b3 is3 e' = record { subcommand = Generate; name_is = (bytes_eq-Decides name (codes "generate")).0 is1; job_is = e' }
-    pick false is0 false is1 true is2 b3 is3 e' = record { subcommand = Places; name_is = (bytes_eq-Decides name (codes "places")).0 is2; job_is = e' }
-    pick false is0 false is1 false is2 true is3 e' = record { subcommand = Try; name_is = (bytes_eq-Decides name (codes "try")).0 is3; job_is = e' }
-    pick false is0 false is1 false is2 false is3 e' = absurd (not_none job e')
+        → (b3 : Bool) → same name (codes "axioms") ≡ b3
+        → (b4 : Bool) → same name (codes "graph") ≡ b4
+        → (b5 : Bool) → same name (codes "show") ≡ b5
+        → (b6 : Bool) → same name (codes "try") ≡ b6
+        → option_and_then (job_by g) (cond b0 (Some Check) (cond b1 (Some Generate) (cond b2 (Some Places) (cond b3 (Some Axioms) (cond b4 (Some Graph) (cond b5 (Some Show) (cond b6 (Some Try) None))))))) ≡ Some job → IsNamed name g job
+    pick true is0 b1 is1 b2 is2 b3 is3 b4 is4 b5 is5 b6 is6 e' = record { subcommand = Check; name_is = (bytes_eq-Decides name (codes "check")).0 is0; job_is = e' }
+    pick false is0 true is1 b2 is2 b3 is3 b4 is4 b5 is5 b6 is6 e' = record { subcommand = Generate; name_is = (bytes_eq-Decides name (codes "generate")).0 is1; job_is = e' }
+    pick false is0 false is1 true is2 b3 is3 b4 is4 b5 is5 b6 is6 e' = record { subcommand = Places; name_is = (bytes_eq-Decides name (codes "places")).0 is2; job_is = e' }
+    pick false is0 false is1 false is2 true is3 b4 is4 b5 is5 b6 is6 e' = record { subcommand = Axioms; name_is = (bytes_eq-Decides name (codes "axioms")).0 is3; job_is = e' }
+    pick false is0 false is1 false is2 false is3 true is4 b5 is5 b6 is6 e' = record { subcommand = Graph; name_is = (bytes_eq-Decides name (codes "graph")).0 is4; job_is = e' }
+    pick false is0 false is1 false is2 false is3 false is4 true is5 b6 is6 e' = record { subcommand = Show; name_is = (bytes_eq-Decides name (codes "show")).0 is5; job_is = e' }
+    pick false is0 false is1 false is2 false is3 false is4 false is5 true is6 e' = record { subcommand = Try; name_is = (bytes_eq-Decides name (codes "try")).0 is6; job_is = e' }
+    pick false is0 false is1 false is2 false is3 false is4 false is5 false is6 e' = absurd (not_none job e')

@@ -5,7 +5,7 @@ use Rattle.pure_words.specs.Values.{comma, number_of, within, parts, cancels_in,
 use Rattle.pure_words.specs.Table.{row_of, subcommand_named}
 use Rattle.pure_words.specs.declared.job.CancelWord.{CancelWord}
 use Rattle.pure_words.specs.declared.job.Job.{Job}
-use Rattle.pure_words.specs.declared.job.Job.TheVariants.{Check, Generate, Places, Try}
+use Rattle.pure_words.specs.declared.job.Job.TheVariants.{Check, Generate, Places, Axioms, Graph, Show, Try}
 use Rattle.pure_words.specs.declared.given.Given.{Given}
 use Rattle.pure_words.specs.declared.command.Size.{Size}
 use Rattle.pure_words.specs.declared.table.Subcommand.{Subcommand}
@@ -67,6 +67,21 @@ abbrev pub with_places : Option ℕ → Option Job
 with_places (Some workers) = Some (Places workers)
 with_places None = None
 
+-- the job of `axioms`, where all its values are right
+abbrev pub with_axioms : Option ℕ → Option (List ℕ) → Option Job
+with_axioms (Some workers) (Some name) = Some (Axioms workers name)
+with_axioms _ _ = None
+
+-- the job of `graph`, where all its values are right
+abbrev pub with_graph : Option ℕ → Option Job
+with_graph (Some workers) = Some (Graph workers)
+with_graph None = None
+
+-- the job of `show`, where its name is right
+abbrev pub with_show : Option (List ℕ) → Option Job
+with_show (Some name) = Some (Show name)
+with_show None = None
+
 -- the job of `try`, where all its values are right
 abbrev pub tried : Option ℕ → Option (List ℕ) → Option Job
 tried (Some workers) (Some name) = Some (Try workers name)
@@ -87,6 +102,21 @@ abbrev pub places_of : Given → Option Job
 places_of g =
     if is_none g.cancels && (is_none g.fail_fast && is_none g.arguments) then with_places (workers_of g.jobs) else None
 
+-- `axioms`: --jobs, and NAME
+abbrev pub axioms_of : Given → Option Job
+axioms_of g =
+    if is_none g.cancels && is_none g.fail_fast then with_axioms (workers_of g.jobs) (name_given g.arguments) else None
+
+-- `graph`: --jobs, and no arguments
+abbrev pub graph_of : Given → Option Job
+graph_of g =
+    if is_none g.cancels && (is_none g.fail_fast && is_none g.arguments) then with_graph (workers_of g.jobs) else None
+
+-- `show`: NAME
+abbrev pub show_of : Given → Option Job
+show_of g =
+    if is_none g.jobs && (is_none g.cancels && is_none g.fail_fast) then with_show (name_given g.arguments) else None
+
 -- `try`: --jobs, and NAME
 abbrev pub try_of : Given → Option Job
 try_of g =
@@ -102,6 +132,9 @@ abbrev pub job_given : Subcommand → Given → Option Job
 job_given table.Check g = checked (workers_of g.jobs) (fail_fast_of g.fail_fast) (cancels_of g.cancels)
 job_given table.Generate g = generated (workers_of g.jobs) (size_of g.arguments)
 job_given table.Places g = with_places (workers_of g.jobs)
+job_given table.Axioms g = with_axioms (workers_of g.jobs) (name_given g.arguments)
+job_given table.Graph g = with_graph (workers_of g.jobs)
+job_given table.Show g = with_show (name_given g.arguments)
 job_given table.Try g = tried (workers_of g.jobs) (name_given g.arguments)
 
 -- the job of a subcommand, where it takes what is given
@@ -118,5 +151,8 @@ TableMeans = (name : List ℕ) (g : Given) → job_of name g
     ≡ (if same name (codes "check") then check_of g
     else (if same name (codes "generate") then generate_of g
     else (if same name (codes "places") then places_of g
+    else (if same name (codes "axioms") then axioms_of g
+    else (if same name (codes "graph") then graph_of g
+    else (if same name (codes "show") then show_of g
     else (if same name (codes "try") then try_of g
-    else None))))
+    else None)))))))

@@ -152,6 +152,39 @@ fn places(given: &Given) -> Option<Job>
     Some(Job::Places { workers })
 }
 
+/// The job of `axioms`.
+fn axioms(alloc: Global, given: &Given) -> Result<Option<Job>, AllocError>
+    ensures { IfOk result (λ found. found ≡ spec.job_given Subcommand.Axioms given.now) }
+{
+    let Some(workers) = workers(given.jobs.list()) else {
+        return Ok(None);
+    };
+    match name_in(alloc, given.arguments.list())? {
+        Some(name) => Ok(Some(Job::Axioms { workers, name })),
+        None => Ok(None),
+    }
+}
+
+/// The job of `graph`.
+fn graph(given: &Given) -> Option<Job>
+    ensures { result ≡ spec.job_given Subcommand.Graph given.now }
+{
+    let Some(workers) = workers(given.jobs.list()) else {
+        return None;
+    };
+    Some(Job::Graph { workers })
+}
+
+/// The job of `show`.
+fn show(alloc: Global, given: &Given) -> Result<Option<Job>, AllocError>
+    ensures { IfOk result (λ found. found ≡ spec.job_given Subcommand.Show given.now) }
+{
+    match name_in(alloc, given.arguments.list())? {
+        Some(name) => Ok(Some(Job::Show { name })),
+        None => Ok(None),
+    }
+}
+
 /// The job of `try`.
 fn try_lemma(alloc: Global, given: &Given) -> Result<Option<Job>, AllocError>
     ensures { IfOk result (λ found. found ≡ spec.job_given Subcommand.Try given.now) }
@@ -176,6 +209,9 @@ fn job_by(alloc: Global, subcommand: Subcommand, given: &Given) -> Result<Option
         Subcommand::Check => check(alloc, given),
         Subcommand::Generate => Ok(generate(given)),
         Subcommand::Places => Ok(places(given)),
+        Subcommand::Axioms => axioms(alloc, given),
+        Subcommand::Graph => Ok(graph(given)),
+        Subcommand::Show => show(alloc, given),
         Subcommand::Try => try_lemma(alloc, given),
     }
 }

@@ -73,6 +73,19 @@ pub enum Job {
     Places {
         workers: u32,
     },
+    /// Check the theories of the directory, and say on which axioms and definitions the lemma with this full name rests.
+    Axioms {
+        workers: u32,
+        name: Text,
+    },
+    /// Check the theories of the directory, and draw which lemma rests on what.
+    Graph {
+        workers: u32,
+    },
+    /// Show the states of the proof of the lemma with this full name.
+    Show {
+        name: Text,
+    },
     /// Look for a proof in one step of the lemma with this full name.
     Try {
         workers: u32,

@@ -134,6 +134,9 @@ fn line<'a>(alloc: Global) -> Result<Command<'a>, AllocError>
     let command = with_subcommand(alloc, bare(alloc), Subcommand::Check)?;
     let command = with_subcommand(alloc, command, Subcommand::Generate)?;
     let command = with_subcommand(alloc, command, Subcommand::Places)?;
+    let command = with_subcommand(alloc, command, Subcommand::Axioms)?;
+    let command = with_subcommand(alloc, command, Subcommand::Graph)?;
+    let command = with_subcommand(alloc, command, Subcommand::Show)?;
     let command = with_subcommand(alloc, command, Subcommand::Try)?;
     Ok(command)
 }

@@ -8,6 +8,9 @@ pub(crate) enum Subcommand {
     Check,
     Generate,
     Places,
+    Axioms,
+    Graph,
+    Show,
     Try,
 }
 
@@ -28,6 +31,9 @@ pub(crate) fn name_of<'a>(subcommand: Subcommand) -> &'a str
         Subcommand::Check => "check",
         Subcommand::Generate => "generate",
         Subcommand::Places => "places",
+        Subcommand::Axioms => "axioms",
+        Subcommand::Graph => "graph",
+        Subcommand::Show => "show",
         Subcommand::Try => "try",
     }
 }
@@ -55,6 +61,24 @@ pub(crate) fn row_of(subcommand: Subcommand) -> Takes
             fail_fast: false,
             arguments: 0,
         },
+        Subcommand::Axioms => Takes {
+            jobs: true,
+            cancel: false,
+            fail_fast: false,
+            arguments: 1,
+        },
+        Subcommand::Graph => Takes {
+            jobs: true,
+            cancel: false,
+            fail_fast: false,
+            arguments: 0,
+        },
+        Subcommand::Show => Takes {
+            jobs: false,
+            cancel: false,
+            fail_fast: false,
+            arguments: 1,
+        },
         Subcommand::Try => Takes {
             jobs: true,
             cancel: false,
@@ -77,6 +101,15 @@ pub(crate) fn subcommand_named(name: &[u8]) -> Option<Subcommand>
     }
     if name == b"places".as_slice() {
         return Some(Subcommand::Places);
+    }
+    if name == b"axioms".as_slice() {
+        return Some(Subcommand::Axioms);
+    }
+    if name == b"graph".as_slice() {
+        return Some(Subcommand::Graph);
+    }
+    if name == b"show".as_slice() {
+        return Some(Subcommand::Show);
     }
     if name == b"try".as_slice() {
         return Some(Subcommand::Try);

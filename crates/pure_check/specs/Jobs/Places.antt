@@ -1,5 +1,5 @@
 -- Places: the theories of the library are checked without cancellations, and each row of the table is written behind the place at which its command stands; then comes the last line.
-use Rattle.std.specs.Prelude.{◌≡◌, ◌≤◌, ℕ, Bool, false, List, [], ◌++◌, map, Option, Some}
+use Rattle.std.specs.Prelude.{◌≡◌, ◌≤◌, ℕ, Bool, List, ◌++◌, map, Option, Some}
 use Rattle.std.specs.List.{list_all}
 use Rattle.pure_text.specs.Lists.{Each, EachTwo}
 use Rattle.pure_grammar.specs.declared.token.Token.{Token}
@@ -16,21 +16,17 @@ use Rattle.pure_check_work.specs.Table.Table.{Table, table_rows}
 use Rattle.pure_check_work.specs.TheoryRun.Checked.{Checked}
 use Rattle.pure_check_work.specs.TheoryRun.Outline.{Outline}
 use Rattle.pure_board.specs.Boards.{Ending}
-use Rattle.pure_policy.specs.Asked.{Asked}
 use Rattle.pure_places.specs.Seen.{IsReadAs}
 use Rattle.pure_row_places.specs.Lines.{Theory, Refusal, all_lines}
 use Rattle.pure_row_places.specs.Scans.{IsScanOf}
 use Rattle.pure_row_places.specs.Headers.{IsLookedAt}
 use Rattle.pure_check.specs.JobMeaning.{JobMeaning}
-use Rattle.pure_check.specs.Meaning.{IsCheckedSession, is_good}
+use Rattle.pure_check.specs.Meaning.{IsCheckedSession, asked_for, is_good}
 use Rattle.pure_check.specs.Sources.{OfLibrary}
 
 -- the rows, each behind its place in these theories and refused files, and the last line
 abbrev pub places_text : List Theory → List Refusal → (files : ℕ) → List Row → List ℕ
 places_text theories refused files rows = all_lines theories refused rows ++ total_line files rows
-
-abbrev pub asked_for : (workers : ℕ) → Asked
-asked_for workers = record { workers = workers; fail_fast = false; cancels = [] }
 
 -- A loaded theory is a text of the grammar, whose phrase means its tree.
 pub record IsRead (l : Loaded) : Type 0 where

@@ -14,7 +14,7 @@ pub join_core-requires-clause-legal : goal.join_core-requires-clause-legal
 join_core-requires-clause-legal c κs = ended-legal c.args.work.now c.args.board.now _ c.requires.session c.known.ensures c.core.ensures
 
 pub returns : goal.returns
-returns c = said-by c.args.work.now.texts c.args.work.now.theories c.is_loaded_session.ensures _ _ _ _ _ (ap (λ (s : State Fork Outline Outcome). s.promises) c.core.ensures) c.in_ok-values.ensures.ordered c.in_ok-values.ensures.joined c.in_ok-entries.ensures
+returns c = said-by c.args.work.now.texts c.args.work.now.theories c.is_loaded_session.ensures _ _ _ _ _ (ap (λ (s : State Fork Outline Outcome). s.promises) c.core.ensures) c.in_ok-values.ensures.ordered c.in_ok-values.ensures.joined c.in_ok-entries.ensures _ (rw c.as_slice.ensures.value at c.in_ok-duties.ensures)
 
 pub known-requires-send-W : goal.known-requires-send-W
 known-requires-send-W c = search (checking_send, crosses, sendable) depth 60

@@ -1,0 +1,5 @@
+use Rattle.std.proofs.Common.{◌∙◌}
+use Rattle.pure_check.proofs.formed.placed.Goals as goal
+
+pub returns : goal.returns
+returns c = (c.with_rows.ensures.0 ∙ c.in_ok-text.ensures, c.with_rows.ensures.1)

@@ -1,0 +1,141 @@
+-- Each axiom that a lemma cites has its row in the table.
+use Rattle.std.proofs.Common.{◌≡◌, ◌≢◌, ◌∙◌, ◌<◌, ℕ, ◌+◌, zero, suc, List, [], ◌∷◌, ◌++◌, take, drop, length, map, append_assoc, refl, sym, ap, subst, inl, inr, arith}
+use Rattle.std.proofs.lemmas.Option.{slice_get_within}
+use Rattle.std.specs.Prelude.{Some, slice_get}
+use Rattle.std.specs.List.{flat_map}
+use Rattle.pure_text.specs.Lists.{IsIn, Each, AnyOf}
+use Rattle.pure_text.proofs.ListLaws.{each_at, any_some, in-append_left, in-append_right}
+use Rattle.pure_definitions.specs.Names.{Label, protect_name}
+use Rattle.pure_definitions.specs.Terms.Term.{Term}
+use Rattle.pure_definitions.specs.Declarations.Decl.{AxiomDecl}
+use Rattle.pure_grammar.specs.Theories.TheoryText.{Command, Step}
+use Rattle.pure_logic.specs.Content.{TheoryId, Content, IsBelow}
+use Rattle.pure_logic.specs.PureContent.{pure_content}
+use Rattle.pure_logic.proofs.MergeLaws.{merge_has_declarations}
+use Rattle.pure_lookup.specs.Meaning.{facts, Declared, IsMeant}
+use Rattle.pure_lookup.proofs.MeaningLaws.{protect_is_never_found}
+use Rattle.pure_graph.specs.Order.{Loaded}
+use Rattle.pure_graph.specs.Session.{shown}
+use Rattle.pure_print.specs.declared.row.Row.{Row}
+use Rattle.pure_table.specs.Declare.Notes.{Note, Said, Forked}
+use Rattle.pure_table.specs.Declare.Fold.{Declares as DeclaresSo}
+use Rattle.pure_table.specs.Method.Facts.{named_facts}
+use Rattle.pure_table.specs.SessionLaws.Loaded.{IsLoadedSession}
+use Rattle.pure_table.specs.SessionMeaning.Verdicts.{Verdict, Barred, Ran, Begins, Closes, beginning_over}
+use Rattle.pure_table.specs.SessionMeaning.Statements.{notes_of, forks_of, AreStatements, IsRun}
+use Rattle.pure_table.specs.SessionMeaning.Steps.{command_label}
+use Rattle.pure_table.specs.SessionMeaning.Kept.{IsKept}
+use Rattle.pure_table.proofs.SessionMeaning.StepLaws.{run_goes_on}
+use Rattle.pure_table.proofs.SessionMeaning.KeptLaws.{run-has}
+use Rattle.pure_table.proofs.SessionMeaning.FrontLaws.{run-closed}
+use Rattle.pure_table.proofs.DerivedLaws.{standing, some_fork}
+use Rattle.pure_table.specs.Table.{with_rows, refusal_row, table_rows}
+use Rattle.pure_citations.specs.Named.{MeansAxiom, NamesAxiom}
+use Rattle.pure_citations.specs.Rowed.{Declares, CitedHaveRows}
+use Rattle.pure_citations.proofs.AxiomRows.{IsRowNote, declares_axioms}
+
+-- The note is left by some command of the session.
+abbrev pub IsSomeNote : (texts : List (List ℕ)) → (theories : List Loaded) → Note → Type 0
+IsSomeNote texts theories note = (index : ℕ) × (notes : List Note) × (now : Content) × (left : List Command) × IsRun texts theories index (notes ++ note ∷ []) now left
+
+-- Each axiom of the content but Pure's own is declared by such a note.
+abbrev HasRows : (texts : List (List ℕ)) → (theories : List Loaded) → Label → Content → Type 0
+HasRows texts theories label Q = (n : ℕ) (A : Term) → IsIn (AxiomDecl n A) Q.declarations → n ≢ protect_name → (note : Note) × IsSomeNote texts theories note × IsRowNote texts n note
+
+only-own : (n : ℕ) (A : Term) → IsIn (AxiomDecl n A) pure_content.declarations → n ≡ protect_name
+only-own n A (inl e) = absurd (cc)
+only-own n A (inr (inl e)) = absurd (cc)
+only-own n A (inr (inr (inl e))) = absurd (cc)
+only-own n A (inr (inr (inr (inl e)))) = absurd (cc)
+only-own n A (inr (inr (inr (inr (inl e))))) = absurd (cc)
+only-own n A (inr (inr (inr (inr (inr (inl e)))))) = absurd (cc)
+only-own n A (inr (inr (inr (inr (inr (inr (inl e))))))) = axiom-same n protect_name A _ e
+  where
+    axiom-same : (a b : ℕ) (B C : Term) → AxiomDecl a B ≡ AxiomDecl b C → a ≡ b
+    axiom-same a b B C same = cc
+only-own n A (inr (inr (inr (inr (inr (inr (inr none))))))) = absurd none
+
+module _ (texts : List (List ℕ)) (theories : List Loaded) (session : IsLoadedSession texts theories) where
+  first-rows : (index : ℕ) (theory : Loaded) (parents : List Verdict) (first : Content) (b : Begins texts index theory parents first) → Each (HasRows texts theories (command_label index 0)) (beginning_over b.contents)
+      → HasRows texts theories (command_label index 0) first
+  first-rows index theory parents first b h n A m other =
+      let over = beginning_over b.contents in
+      let P = any_some (λ (P : Content). IsIn (AxiomDecl n A) P.declarations) over ((merge_has_declarations over first.declarations b.begins.merge (AxiomDecl n A)).0 m) in
+      each_at (HasRows texts theories (command_label index 0)) over h P.0 P.1 n A P.2 other
+
+  next-rows : (index : ℕ) (notes : List Note) (now : Content) (command : Command) (left : List Command) (run : IsRun texts theories index notes now (command ∷ left)) (note : Note) (next : Content)
+      → DeclaresSo texts run.theory.source (command_label index (length notes)) now command note next → HasRows texts theories (command_label index (length notes)) now → HasRows texts theories (command_label index (length notes + 1)) next
+  next-rows index notes now command left run note next d h n A m other = elim (declares_axioms texts run.theory.source (command_label index (length notes)) now command note next d n A m) [
+    | inl old ↦ h n A old other
+    | inr new ↦ (note, (index, notes, next, left, run_goes_on texts theories index run.theory run.is_at notes now command left run note next d), new)
+  ]
+
+  rows-kept : IsKept texts theories (HasRows texts theories)
+  rows-kept = record {
+    pure = λ label n A m other. absurd (other (only-own n A m));
+    later = λ label other Q before h. h;
+    begins = λ index theory is_at parents closed first b h. first-rows index theory parents first b h;
+    declares = λ index notes now command left run note next d h. next-rows index notes now command left run note next d h;
+  }
+
+  pub runs-rows : (index : ℕ) (notes : List Note) (now : Content) (left : List Command) → IsRun texts theories index notes now left → (n : ℕ) (A : Term) → IsIn (AxiomDecl n A) now.declarations → n ≢ protect_name
+      → (note : Note) × IsSomeNote texts theories note × IsRowNote texts n note
+  runs-rows index notes now left run = run-has texts theories session (HasRows texts theories) rows-kept index notes now left run
+
+  some-verdict : (vs : List Verdict) (p : ℕ) → p < length vs → (v : Verdict) × (slice_get vs p ≡ Some v)
+  some-verdict [] p h = absurd (omega (arith, h))
+  some-verdict (v ∷ vs) zero h = (v, refl)
+  some-verdict (v ∷ vs) (suc p) h = some-verdict vs p (omega (arith, h))
+
+  of-verdict : (vs : List Verdict) (note : Note) (p : ℕ) (v : Verdict) → slice_get vs p ≡ Some v → IsIn note (notes_of v) → IsIn note (flat_map notes_of vs)
+  of-verdict [] note zero v h m = absurd (cc)
+  of-verdict [] note (suc p) v h m = absurd (cc)
+  of-verdict (w ∷ vs) note zero v h m =
+      let same : w ≡ v = cc in
+      in-append_left note (notes_of w) (flat_map notes_of vs) (subst (λ (x : Verdict). IsIn note (notes_of x)) (sym same) m)
+  of-verdict (w ∷ vs) note (suc p) v h m = in-append_right note (notes_of w) (flat_map notes_of vs) (of-verdict vs note p v h m)
+
+  in-front : (note : Note) (ns rest : List Note) → IsIn note ((ns ++ note ∷ []) ++ rest)
+  in-front note ns rest = in-append_left note (ns ++ note ∷ []) rest (in-append_right note ns (note ∷ []) (inl refl))
+
+  -- Such a note is among the session's.
+  pub noted : (notes : List Note) → AreStatements texts theories notes → (note : Note) → IsSomeNote texts theories note → IsIn note notes
+  noted notes s note (index, before, now, left, run) =
+      let place = run.is_at.0 in
+      let within : place < length theories = slice_get_within theories place run.theory run.is_at.2 in
+      let v = some-verdict s.verdicts place (omega (arith, within, s.all)) in
+      let closes : Closes texts theories index v.0 = subst (λ (i : ℕ). Closes texts theories i v.0) (sym run.is_at.1) (s.are place v.0 v.1) in
+      let w = run-closed texts theories session index (before ++ note ∷ []) now left run closes in
+      let there : IsIn note w.0 = subst (λ (ms : List Note). IsIn note ms) (sym w.4) (in-front note before w.3) in
+      let here : IsIn note (notes_of v.0) = subst (λ (x : Verdict). IsIn note (notes_of x)) (sym w.2) there in
+      subst (λ (ms : List Note). IsIn note ms) (sym s.notes_are) (of-verdict s.verdicts note place v.0 v.1 here)
+
+-- A row that is said is among those of the table.
+said-row : (notes : List Note) (lemmas : List Row) (row : Row) → IsIn (Said row) notes → IsIn row (with_rows notes lemmas)
+said-row [] lemmas row m = absurd m
+said-row (Said other ∷ notes) lemmas row (inl same) = inl (row-same row other same)
+  where
+    row-same : (a b : Row) → Said a ≡ Said b → a ≡ b
+    row-same a b e = cc
+said-row (Said other ∷ notes) lemmas row (inr m) = inr (said-row notes lemmas row m)
+said-row (Forked fork ∷ notes) lemmas row (inl same) = absurd (cc)
+said-row (Forked fork ∷ notes) lemmas row (inr m) = in-append_right row (take 1 lemmas) (with_rows notes (drop 1 lemmas)) (said-row notes (drop 1 lemmas) row m)
+
+-- An axiom that steps name is declared, and not Pure's own.
+named-declared : (texts : List (List ℕ)) (Q : Content) (script : List Step) (n : ℕ) → NamesAxiom texts Q script n → (A : Term) × IsIn (AxiomDecl n A) Q.declarations × (n ≢ protect_name)
+named-declared texts Q script n names =
+    let step = any_some (λ step. AnyOf (MeansAxiom texts Q n) (named_facts step)) script names in
+    let fact = any_some (MeansAxiom texts Q n) (named_facts step.0) step.2 in
+    let found = fact.2.1 in
+    let meant = subst (λ m. IsMeant texts Q facts fact.0 m) found.2.0 found.1 in
+    (fact.2.0, found.2.1, λ same. protect_is_never_found texts Q facts fact.0 (subst (λ k. IsMeant texts Q facts fact.0 (Declared k)) same meant))
+
+pub cited_have_rows : CitedHaveRows
+cited_have_rows S loaded cancelled t table l name c =
+    let f = c.lemma in
+    let s = standing S.names S.theories loaded f (some_fork S.names S.theories loaded t.notes table.statements f c.stands) in
+    let d = named-declared S.names f.content f.script name c.names in
+    let note = runs-rows S.names S.theories loaded s.index s.notes f.content s.left s.run name d.0 d.1 d.2 in
+    let there : IsIn note.0 t.notes = noted S.names S.theories loaded t.notes table.statements note.0 note.1 in
+    let row = note.2 in
+    (row.0, in-append_left row.0 (with_rows t.notes t.lemmas) (map refusal_row (map shown S.refused)) (said-row t.notes t.lemmas row.0 (subst (λ x. IsIn x t.notes) row.1 there)), row.2)
