@@ -2,6 +2,7 @@
 use Rattle.std.specs.Prelude.{◌≡◌, ℕ, Bool, List, map, Option, Some, None, Result, Ok, Err}
 use Rattle.std.specs.List.{list_all}
 use Rattle.pure_io.specs.declared.library.File as library
+use Rattle.pure_definitions.specs.Names.{Label}
 use Rattle.pure_graph.specs.Session.{Session, shown}
 use Rattle.pure_graph.specs.declared.fault.LoadFault.{LoadFault}
 use Rattle.pure_print.specs.RowText.{total_line, table_text}
@@ -14,7 +15,8 @@ use Rattle.pure_words.specs.declared.job.Job.{Job}
 use Rattle.pure_check.specs.declared.formed.Extent.{Extent}
 use Rattle.pure_check.specs.declared.formed.Extent.TheVariants.{Whole, LastLine, Placed, Axioms, Graph}
 use Rattle.pure_citations.specs.Listed.{IsSaidOf}
-use Rattle.pure_citations.specs.Drawn.{IsDrawing}
+use Rattle.pure_citations.specs.Cited.{AreInSession, AreBeside}
+use Rattle.pure_citations.specs.Drawn.{AreNamedRests, IsDrawing}
 use Rattle.pure_check_work.specs.Declare.Notes.{Fork}
 use Rattle.pure_check_work.specs.Promise.Entries.{LemmaEntry}
 use Rattle.pure_check_work.specs.SessionMeaning.Statements.{forks_of}
@@ -63,6 +65,19 @@ SaysOf (Graph theories) texts fs es files rows text clean = IsDrawing texts theo
 -- It is what is asked for of a session's table, and whether that is clean.
 abbrev pub Says : Extent → Session → Table → (text : List ℕ) → (clean : Bool) → Type 0
 Says extent S t text clean = SaysOf extent S.names (forks_of t.notes) t.entries S.files (table_rows S t) text clean
+
+-- what is known of the lemmas and their entries
+pub record ArePremises (texts : List (List ℕ)) (fs : List Fork) (es : List LemmaEntry) : Type 0 where
+  pub session : AreInSession texts fs
+  pub beside : AreBeside fs es
+  pub rests : AreNamedRests texts fs es
+
+-- The session comes to a table with these entries of its lemmas, of which, by these texts of names and these lemmas, this is what is asked for, and whether that is clean.
+pub record IsFormedTable (S : Session) (cancelled : List Label) (texts : List (List ℕ)) (fs : List Fork) (es : List LemmaEntry) (extent : Extent) (files : ℕ) (text : List ℕ) (clean : Bool) : Type 0 where
+  pub table : Table
+  pub is_table : IsTable S cancelled table
+  pub entries_are : table.entries ≡ es
+  pub says : SaysOf extent texts fs es files (table_rows S table) text clean
 
 -- By these promises of a finished core the session comes to a table, of which this is what is asked for, and whether that is clean.
 pub record IsFormed (S : Session) (promises : List (Promise Fork Outcome)) (extent : Extent) (text : List ℕ) (clean : Bool) : Type 0 where
