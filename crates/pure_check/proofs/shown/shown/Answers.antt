@@ -3,7 +3,7 @@ use Rattle.pure_check.proofs.ShowLemmas.{shown-done}
 use Rattle.pure_check.proofs.shown.shown.Goals as goal
 
 pub session_shown-requires : goal.session_shown-requires
-session_shown-requires g c κs within = loaded_session _ _ _ _ _ c.in-Ok.ensures.told c.in-Ok.ensures.named c.are_session_texts.ensures
+session_shown-requires g c = loaded_session _ _ _ _ _ c.in-Ok.ensures.told c.in-Ok.ensures.named c.are_session_texts.ensures
 
 pub returns-in-Ok-clause-ok : goal.returns-in-Ok-clause-ok
 returns-in-Ok-clause-ok g c =
