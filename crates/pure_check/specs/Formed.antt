@@ -9,6 +9,8 @@ use Rattle.pure_print.specs.declared.row.Row.{Row}
 use Rattle.pure_session.specs.Refused.{all_refused}
 use Rattle.pure_session.specs.Waiting.{all_loaded}
 use Rattle.pure_session.specs.declared.session.Session as code
+use Rattle.pure_definitions.specs.Names.{Label}
+use Rattle.pure_check_work.specs.Promise.Entries.{LemmaEntry}
 use Rattle.pure_check_work.specs.Table.Table.{Table, IsTable, table_rows}
 use Rattle.pure_words.specs.declared.job.Job.{Job}
 use Rattle.pure_check.specs.declared.formed.Extent.{Extent}
@@ -51,6 +53,14 @@ rows_text (Placed theories refused) files rows = places_text (seen_scans theorie
 -- the extent of the text of a session's table
 abbrev pub extent_text : Extent → Session → Table → List ℕ
 extent_text extent S t = rows_text extent S.files (table_rows S t)
+
+-- The session comes to a table with these entries of its lemmas, of whose text this is the extent, and this says whether each row is declared or proved.
+pub record IsFormedTable (S : Session) (cancelled : List Label) (entries : List LemmaEntry) (extent : Extent) (files : ℕ) (text : List ℕ) (clean : Bool) : Type 0 where
+  pub table : Table
+  pub is_table : IsTable S cancelled table
+  pub entries_are : table.entries ≡ entries
+  pub text_is : text ≡ rows_text extent files (table_rows S table)
+  pub clean_is : list_all is_good (table_rows S table) ≡ clean
 
 -- By these promises of a finished core the session comes to a table, of whose text this is the extent, and this says whether each row is declared or proved.
 pub record IsFormed (S : Session) (promises : List (Promise Fork Outcome)) (extent : Extent) (text : List ℕ) (clean : Bool) : Type 0 where
