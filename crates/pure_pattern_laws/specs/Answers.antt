@@ -1,5 +1,5 @@
 -- What unification of patterns answers: which pairs it refuses, and what comes of the others.
-use Rattle.std.specs.Prelude.{ℕ, List, []}
+use Rattle.std.specs.Prelude.{◌≡◌, ℕ, List, []}
 use Rattle.pure_text.specs.Lists.{Each}
 use Rattle.pure_definitions.specs.Types.Typ.{Typ}
 use Rattle.pure_definitions.specs.Terms.Subst.{TermBind}
@@ -45,4 +45,4 @@ answer_of ps steps.Big = Big
 pub data IsPatternAnswer (maxidx : ℕ) (ps : List Pair) : Answer → Type 0 where
   schematic_type : {index : ℕ} → IsFirstWith HasSchematicTyp ps index → IsPatternAnswer maxidx ps (SchematicType index)
   no_pattern : {index : ℕ} → Each (λ p. ¬ HasSchematicTyp p) ps → IsFirstWith (λ p. ¬ IsPatternPair p) ps index → IsPatternAnswer maxidx ps (NotPattern index)
-  decided : {outcome : Outcome} → Each (λ p. ¬ HasSchematicTyp p) ps → Each IsPatternPair ps → Runs maxidx 0 (start ps) outcome → IsPatternAnswer maxidx ps (answer_of ps outcome)
+  decided : {outcome : Outcome} {answer : Answer} → Each (λ p. ¬ HasSchematicTyp p) ps → Each IsPatternPair ps → Runs maxidx 0 (start ps) outcome → answer ≡ answer_of ps outcome → IsPatternAnswer maxidx ps answer

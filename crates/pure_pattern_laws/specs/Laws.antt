@@ -5,7 +5,7 @@ use Rattle.pure_definitions.specs.Types.Typ.{Typ}
 use Rattle.pure_definitions.specs.Terms.Term.{Term, Var}
 use Rattle.pure_definitions.specs.Terms.Typing.{HasType}
 use Rattle.pure_definitions.specs.Reduction.Eta.{IsLongForm}
-use Rattle.pure_definitions.specs.Terms.Subst.{TermBind, term_image, inst_term}
+use Rattle.pure_definitions.specs.Terms.Subst.{TermBind, term_image, inst_term, IsTermMap}
 use Rattle.pure_logic.specs.Derivable.{Pair}
 use Rattle.pure_reduction.specs.LongForms.{HasLongForm, HaveOneLongForm}
 use Rattle.pure_unify_definitions.specs.Fronts.{pair_variables}
@@ -49,6 +49,10 @@ OneAnswer = (maxidx : ℕ) (ps : List Pair) → AreReady maxidx ps → (a b : An
 
 abbrev pub SomeAnswer : Type 0
 SomeAnswer = (maxidx : ℕ) (ps : List Pair) → AreReady maxidx ps → (a : Answer) × IsPatternAnswer maxidx ps a
+
+-- A unifier has one entry at most for a variable, so that it is a finite map.
+abbrev pub UnifierIsMap : Type 0
+UnifierIsMap = (maxidx : ℕ) (ps : List Pair) → AreReady maxidx ps → (bs : List TermBind) → IsPatternAnswer maxidx ps (Unified bs) → IsTermMap bs
 
 -- A unifier solves the pairs.
 abbrev pub UnifierSolves : Type 0

@@ -5,3 +5,4 @@ pub mod Steps
 pub mod Answers
 pub mod Putting
 pub mod Laws
+pub mod Examples

@@ -2,7 +2,7 @@
 use Rattle.std.specs.Prelude.{◌≡◌, ◌⊎◌, ℕ, List, true, false}
 use Rattle.pure_text.specs.Lists.{EachTwo, AreDistinct}
 use Rattle.pure_definitions.specs.Types.Typ.{TVar}
-use Rattle.pure_definitions.specs.Terms.Term.{Term, Var, Bound, Abs, App}
+use Rattle.pure_definitions.specs.Terms.Term.{Term, Bound, Abs, App}
 use Rattle.pure_definitions.specs.Reduction.Eta.{EtaReduces}
 use Rattle.pure_term_laws.specs.LawsOccurs.{TypOccurs}
 use Rattle.pure_logic.specs.Derivable.{Pair}

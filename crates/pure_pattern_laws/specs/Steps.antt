@@ -1,5 +1,5 @@
 -- Unification of patterns: steps on states, each of which treats the first pair, up to an answer.
-use Rattle.std.specs.Prelude.{◌≡◌, ℕ, ◌+◌, ◌<◌, List, [], ◌∷◌, ◌++◌, Bool, if◌then◌else◌}
+use Rattle.std.specs.Prelude.{◌≡◌, ℕ, ◌+◌, ◌<◌, List, [], ◌∷◌, ◌++◌, if◌then◌else◌}
 use Rattle.std.specs.List.{list_any}
 use Rattle.pure_text.specs.Lists.{Each, EachTwo}
 use Rattle.pure_definitions.specs.Terms.Term.{Term, IsWithin, term_eq}
