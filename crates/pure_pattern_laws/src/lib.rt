@@ -1,0 +1,4 @@
+//! Unification of patterns: its definition, and laws.
+#![tactic(auto)]
+
+pub mod laws;

@@ -1,0 +1,4 @@
+pub mod RenamedLaws
+pub mod TypLaws
+pub mod PlaceLaws
+pub mod PatternLaws
