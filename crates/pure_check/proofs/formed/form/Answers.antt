@@ -1,6 +1,7 @@
 use Rattle.std.proofs.Common.{ap, ◌∙◌, map, subst}
 use Rattle.pure_promise_fates.specs.Entries.{AreEntries}
 use Rattle.pure_check_work.specs.TheoryRun.Outline.{outlines}
+use Rattle.pure_check_work.specs.Promise.Seen.{seen_entry}
 use Rattle.pure_check_work.proofs.Promise.RowLaws.{reported-plain}
 use Rattle.pure_citations.proofs.ListedLaws.{if-weaker}
 use Rattle.pure_check.proofs.FormedLemmas.{said-has_fates, said-premises, as-long, said-formed}
@@ -22,7 +23,9 @@ asked_of-requires-clause-beside c =
     (said-premises c.args.work.now.texts c.args.work.now.theories c.is_loaded_session.ensures _ _ _ _ _ _ c.in_ok-closed.ensures c.as_slice-lemmas.ensures.value (ap (map (λ d. d.value)) c.as_slice-2.ensures.value) _ c.names-3.ensures.value).beside
 
 pub asked_of-requires-clause-long : goal.asked_of-requires-clause-long
-asked_of-requires-clause-long c = ?
+asked_of-requires-clause-long c =
+    as-long (λ d. d.value) seen_entry c.as_slice-2.result.now c.as_slice-lemmas.result.now
+    (said-premises c.args.work.now.texts c.args.work.now.theories c.is_loaded_session.ensures _ _ _ _ _ _ c.in_ok-closed.ensures c.as_slice-lemmas.ensures.value (ap (map (λ d. d.value)) c.as_slice-2.ensures.value) _ c.names-3.ensures.value).beside
 
 pub asked_of-requires-clause-rests : goal.asked_of-requires-clause-rests
 asked_of-requires-clause-rests c =
