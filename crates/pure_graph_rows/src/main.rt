@@ -14,17 +14,20 @@ use pure_rows::{Outcome, Row, Subject, run_rows};
 use std::alloc::Global;
 use std::process::ExitCode;
 use std::rt::Files;
+use std::thread::Threads;
 
-/// Loading of directories.
+/// Loading of directories, by threads of this handle.
 #[derive(Drop)]
-struct Loading;
+struct Loading<'t, T> {
+    threads: &'t T,
+}
 
-impl Subject for Loading {
+impl<'t, T: Threads + Sync> Subject for Loading<'t, T> {
     fn outcome<R: Files + Print + AllocGlobal>(&self, rt: &R, alloc: Global, row: &Row) -> Outcome {
         if row.field(0) == b"fault".as_slice() {
             return fault_outcome(alloc, row);
         }
-        match outcome_of(rt, alloc, row) {
+        match outcome_of(rt, alloc, self.threads, row) {
             Ok(outcome) => outcome,
             Err(_) => Outcome::Memory,
         }
@@ -32,5 +35,5 @@ impl Subject for Loading {
 }
 
 fn main(rt: HostRuntime) -> ExitCode {
-    run_rows(&rt, "graph.rows", &Loading)
+    run_rows(&rt, "graph.rows", &Loading { threads: &rt })
 }

@@ -7,6 +7,7 @@ use pure_io::{File, MemLibrary};
 use pure_rows::{Outcome, Row, text_of};
 use std::alloc::{AllocError, Global};
 use std::rt::Files;
+use std::thread::Threads;
 
 /// What a row says.
 #[derive(Clone, Copy)]
@@ -151,22 +152,24 @@ fn wanted(alloc: Global, word: Word, row: &Row) -> Result<Vec<u8>, AllocError> {
 }
 
 /// Whether the session of the library is what the row wants.
-fn judged<R: Files + Print + AllocGlobal>(
+fn judged<R: Files + Print + AllocGlobal, T: Threads + Sync>(
     rt: &R,
     alloc: Global,
+    threads: &T,
     library: &mut MemLibrary,
     word: Word,
     row: &Row,
 ) -> Result<Outcome, AllocError> {
     let wanted = wanted(alloc, word, row)?;
-    let text = loaded(rt, alloc, library, form_of(word))?;
+    let text = loaded(rt, alloc, library, threads, form_of(word))?;
     Ok(Outcome::of(text == wanted))
 }
 
 /// What comes of a row with files of its own.
-fn outcome_of_files<R: Files + Print + AllocGlobal>(
+fn outcome_of_files<R: Files + Print + AllocGlobal, T: Threads + Sync>(
     rt: &R,
     alloc: Global,
+    threads: &T,
     word: Word,
     row: &Row,
 ) -> Result<Outcome, AllocError> {
@@ -176,32 +179,40 @@ fn outcome_of_files<R: Files + Print + AllocGlobal>(
         return Ok(Outcome::Unreadable);
     }
     let mut library = MemLibrary::make(files, calls);
-    judged(rt, alloc, &mut library, word, row)
+    judged(rt, alloc, threads, &mut library, word, row)
 }
 
 /// What comes of a row of missing files.
-fn outcome_of_missing<R: Files + Print + AllocGlobal>(
+fn outcome_of_missing<R: Files + Print + AllocGlobal, T: Threads + Sync>(
     rt: &R,
     alloc: Global,
+    threads: &T,
     row: &Row,
 ) -> Result<Outcome, AllocError> {
     let Some(count) = row.number(1) else {
         return Ok(Outcome::Unreadable);
     };
     let first = row.field(2);
-    let text = loaded(rt, alloc, &mut Dangling { count, first }, Form::Whole)?;
+    let text = loaded(
+        rt,
+        alloc,
+        &mut Dangling { count, first },
+        threads,
+        Form::Whole,
+    )?;
     Ok(Outcome::of(text.as_slice().ends_with(row.field(3))))
 }
 
 /// What comes of the row.
-pub(crate) fn outcome_of<R: Files + Print + AllocGlobal>(
+pub(crate) fn outcome_of<R: Files + Print + AllocGlobal, T: Threads + Sync>(
     rt: &R,
     alloc: Global,
+    threads: &T,
     row: &Row,
 ) -> Result<Outcome, AllocError> {
     match word_of(row) {
-        Some(Word::Missing) => outcome_of_missing(rt, alloc, row),
-        Some(word) => outcome_of_files(rt, alloc, word, row),
+        Some(Word::Missing) => outcome_of_missing(rt, alloc, threads, row),
+        Some(word) => outcome_of_files(rt, alloc, threads, word, row),
         None => Ok(Outcome::Unreadable),
     }
 }

@@ -7,6 +7,10 @@ use pure_typ::{BUILTIN_COUNT, Name, Names};
 use std::alloc::{AllocError, Global};
 use std::mem;
 use std::rt::Files;
+use std::thread::Threads;
+
+/// How many threads find what files say.
+const THREADS: usize = 3;
 
 /// What is written of a session.
 #[derive(Clone, Copy)]
@@ -112,13 +116,14 @@ fn answer_written(
 }
 
 /// What loading the library answers, in the form. The session isn't let go, since to prove that anew takes minutes.
-pub(crate) fn loaded<R: Files + Print + AllocGlobal, L: Library>(
+pub(crate) fn loaded<R: Files + Print + AllocGlobal, T: Threads + Sync, L: Library>(
     rt: &R,
     alloc: Global,
     library: &mut L,
+    threads: &T,
     form: Form,
 ) -> Result<Vec<u8>, AllocError> {
-    let answer = load(rt, alloc, library);
+    let answer = load(rt, alloc, library, threads, THREADS);
     let text = answer_written(alloc, &answer, form);
     mem::forget(answer);
     text

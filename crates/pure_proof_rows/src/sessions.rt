@@ -13,6 +13,7 @@ use std::alloc::{AllocError, Global};
 use std::mem;
 use std::process::ExitCode;
 use std::rt::Files;
+use std::thread::Threads;
 
 /// The library of a theory A alone.
 fn library_of(alloc: Global, text: &[u8]) -> Result<MemLibrary, AllocError> {
@@ -38,14 +39,14 @@ fn checking(alloc: Global, session: Session) -> Result<Checker, AllocError>
 }
 
 /// What runs the theories of the library, if they are loaded.
-fn loaded<R: Files + Print + AllocGlobal>(
+fn loaded<R: Files + Print + AllocGlobal + Threads + Sync>(
     rt: &R,
     alloc: Global,
     library: &mut MemLibrary,
 ) -> Option<Checker>
     ensures { IfSome result (λ c. IsLoadedSession c.texts c.theories) }
 {
-    match load(rt, alloc, library) {
+    match load(rt, alloc, library, rt, 1) {
         Ok(session) => {
             session.names.are_session_texts();
             checking(alloc, session).ok()
@@ -69,7 +70,7 @@ fn run_session<R: Files + Print + AllocGlobal>(rt: &R, checker: &Checker, rows: 
 }
 
 /// Holds each row against the lemmas of the library's theories.
-fn run_library<R: Files + Print + AllocGlobal>(
+fn run_library<R: Files + Print + AllocGlobal + Threads + Sync>(
     rt: &R,
     library: &mut MemLibrary,
     rows: &[u8],
@@ -85,7 +86,11 @@ fn run_library<R: Files + Print + AllocGlobal>(
 }
 
 /// Holds each row against the lemmas of the theory.
-fn run_theory<R: Files + Print + AllocGlobal>(rt: &R, theory: &[u8], rows: &[u8]) -> ExitCode {
+fn run_theory<R: Files + Print + AllocGlobal + Threads + Sync>(
+    rt: &R,
+    theory: &[u8],
+    rows: &[u8],
+) -> ExitCode {
     match library_of(rt.alloc(), theory) {
         Ok(mut library) => run_library(rt, &mut library, rows),
         Err(_) => ExitCode::FAILURE,
@@ -93,7 +98,7 @@ fn run_theory<R: Files + Print + AllocGlobal>(rt: &R, theory: &[u8], rows: &[u8]
 }
 
 /// Holds each row against the proofs of the theory A.
-pub(crate) fn run_proofs<R: Files + Print + AllocGlobal>(rt: &R) -> ExitCode {
+pub(crate) fn run_proofs<R: Files + Print + AllocGlobal + Threads + Sync>(rt: &R) -> ExitCode {
     let Some(theory) = read_file(rt, "A.thy") else {
         return ExitCode::FAILURE;
     };
