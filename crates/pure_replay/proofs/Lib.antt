@@ -1,0 +1,12 @@
+mod TableLaws
+mod SetLaws
+mod PlaceLaws
+mod LineLaws
+mod ItemLaws
+mod StepLaws
+mod NodeLaws
+mod EntryLaws
+mod LoopLaws
+mod SchematicLaws
+mod RoomLaws
+mod SaidLaws
