@@ -10,3 +10,4 @@ mod LoopLaws
 mod SchematicLaws
 mod RoomLaws
 mod SaidLaws
+mod KnownLaws

@@ -8,3 +8,4 @@ pub mod Added
 pub mod Inferred
 pub mod Table
 pub mod Said
+pub mod Known

@@ -1,6 +1,6 @@
 //! Assumption and implication.
-ghost use Rattle.std.specs.Prelude.{◌≡◌, IfOk};
-ghost use Rattle.pure_definitions.specs.Terms.Term.{Term};
+ghost use Rattle.std.specs.Prelude.{◌≡◌, ◌↔◌, IsTrue, IfOk};
+ghost use Rattle.pure_definitions.specs.Terms.Term as tree;
 ghost use Rattle.pure_logic.specs.Connectives.{imp};
 ghost use Rattle.pure_logic.specs.Tree.{without};
 ghost use Rattle.pure_replay.specs.Figures.{GivesAssume, GivesImpliesIntro, GivesImpliesElim};
@@ -68,7 +68,15 @@ fn joined(
     Ok(Conclusion { hyps, prop })
 }
 
-/// From `A ==> C` and A: C.
+/// Whether the terms are equal, which may be known.
+fn is_premise(first: &Term, prop: &Term, is_known: bool) -> bool
+    requires { IsTrue is_known → first.now ≡ prop.now }
+    ensures { IsTrue result ↔ (first.now ≡ prop.now) }
+{
+    is_known || are_same(first, prop)
+}
+
+/// From `A ==> C` and A: C. Whether the premise is A may be known.
 ///
 ///      H |- A ==> C    K |- A
 ///     ------------------------
@@ -77,13 +85,15 @@ pub(crate) fn implies_elim(
     alloc: Global,
     implication: &Conclusion,
     premise: &Conclusion,
+    is_known: bool,
 ) -> Result<Conclusion, NodeFault>
+    requires { IsTrue is_known → (A C : tree.Term) → implication.now.prop ≡ imp A C → A ≡ premise.now.prop }
     ensures { IsStep (GivesImpliesElim implication.now premise.now) result }
 {
     let Some((first, conclusion)) = as_implication(&implication.prop) else {
         return Err(NodeFault::Wrong);
     };
-    if !are_same(first, &premise.prop) {
+    if !is_premise(first, &premise.prop, is_known) {
         return Err(NodeFault::Wrong);
     }
     Ok(joined(alloc, implication, premise, conclusion)?)

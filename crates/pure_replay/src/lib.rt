@@ -7,6 +7,7 @@ mod fault;
 mod implication;
 mod instance;
 mod items;
+mod known;
 mod lines;
 mod quantification;
 mod replayed;

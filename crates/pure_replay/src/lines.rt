@@ -1,5 +1,5 @@
 //! What lines conclude, one after the other.
-ghost use Rattle.std.specs.Prelude.{◌≡◌, ◌≤◌, ◌+◌, ◌<◌, [], ◌∷◌, ◌++◌, MatchOption, OnOk, None, Some, slice_get};
+ghost use Rattle.std.specs.Prelude.{◌≡◌, ◌≤◌, ◌+◌, ◌<◌, IsTrue, [], ◌∷◌, ◌++◌, MatchOption, OnOk, None, Some, slice_get};
 ghost use Rattle.pure_text.specs.Lists.{Each};
 ghost use Rattle.pure_logic.specs.Content.{IsContent, IsBelow};
 ghost use Rattle.pure_logic.specs.PureContent.{pure_content};
@@ -9,6 +9,10 @@ ghost use Rattle.pure_record.specs.Seen.{seen_node, seen_lines};
 ghost use Rattle.pure_replay.specs.Step.{plain_content, IsStep};
 ghost use Rattle.pure_replay.specs.Figures.{GivesAllIntro, GivesAllElim, GivesImpliesIntro, GivesImpliesElim};
 ghost use Rattle.pure_replay.specs.Lines.{terms_size, conclusion_size, most_size};
+ghost use Rattle.pure_definitions.specs.Terms.Term as tree;
+ghost use Rattle.pure_logic.specs.Connectives.{imp};
+ghost use Rattle.pure_replay.specs.Conclusion as conclusion;
+ghost use Rattle.pure_replay.specs.Known.{AreNumbered};
 ghost use Rattle.pure_replay.specs.Inferred.{HasAt, Infers};
 ghost use Rattle.pure_replay.specs.Replayed.{IsConcluded};
 ghost use Rattle.pure_replay.specs.Table.{HasRoom, IsPut, IsStepped, AreConcluded, IsLast, fault_of};
@@ -19,6 +23,7 @@ use crate::fault::{NodeFault, ReplayFault};
 use crate::implication::{assume, implies_elim, implies_intro};
 use crate::instance::axiom;
 use crate::items::cut_place;
+use crate::known::Known;
 use crate::quantification::{all_elim, all_intro};
 use crate::tables::Declared;
 use pure_record::Node;
@@ -90,12 +95,14 @@ fn implies_elim_by(
     earlier: &[Conclusion],
     implication: &Conclusion,
     line: u32,
+    is_known: bool,
 ) -> Result<Conclusion, NodeFault>
+    requires { IsTrue is_known → (f : conclusion.Conclusion) → slice_get earlier.now line ≡ Some f → (A C : tree.Term) → implication.now.prop ≡ imp A C → A ≡ f.prop }
     ensures { IsStep (λ c. HasAt earlier.now line (λ f. GivesImpliesElim implication.now f c)) result }
 {
     match conclusion_at(earlier, line) {
         None => Err(NodeFault::Wrong),
-        Some(premise) => implies_elim(alloc, implication, premise),
+        Some(premise) => implies_elim(alloc, implication, premise, is_known),
     }
 }
 
@@ -103,14 +110,17 @@ fn implies_elim_by(
 fn implies_elim_of(
     alloc: Global,
     earlier: &[Conclusion],
+    known: &Known,
     implication: u32,
     premise: u32,
 ) -> Result<Conclusion, NodeFault>
+    requires { AreNumbered known.now.terms.items earlier.now known.now.lines.items }
     ensures { IsStep (λ c. HasAt earlier.now implication (λ e. HasAt earlier.now premise (λ f. GivesImpliesElim e f c))) result }
 {
+    let is_known = known.are_same(implication, premise);
     match conclusion_at(earlier, implication) {
         None => Err(NodeFault::Wrong),
-        Some(above) => implies_elim_by(alloc, earlier, above, premise),
+        Some(above) => implies_elim_by(alloc, earlier, above, premise, is_known),
     }
 }
 
@@ -119,9 +129,11 @@ fn concluded(
     alloc: Global,
     declared: &Declared,
     earlier: &[Conclusion],
+    known: &Known,
     node: &Node,
 ) -> Result<Conclusion, NodeFault>
-    requires { Each (λ c. IsClosed c.prop) earlier.now }
+    requires closed { Each (λ c. IsClosed c.prop) earlier.now }
+    requires numbered { AreNumbered known.now.terms.items earlier.now known.now.lines.items }
     ensures { IsStep (Infers (plain_content declared.now) earlier.now (seen_node node.now)) result }
 {
     match node {
@@ -130,7 +142,7 @@ fn concluded(
         Node::AllIntro { var, line } => all_intro_of(alloc, declared, earlier, var, *line),
         Node::AllElim { term, line } => all_elim_of(alloc, declared, earlier, term, *line),
         Node::ImpIntro { prop, line } => implies_intro_of(alloc, declared, earlier, prop, *line),
-        Node::ImpElim { imp, prem } => implies_elim_of(alloc, earlier, *imp, *prem),
+        Node::ImpElim { imp, prem } => implies_elim_of(alloc, earlier, known, *imp, *prem),
         Node::Beta { term } => beta(alloc, declared, term),
         Node::Refl { term } => refl(alloc, declared, term),
         Node::Subst { p, x, y } => subst(alloc, declared, p, x, y),
@@ -190,6 +202,7 @@ fn fitting(left: u64, conclusion: &Conclusion) -> Option<u64>
 struct Table {
     conclusions: Vec<Conclusion>,
     left: u64,
+    known: Known,
 }
 
 /// The fault of the line at the place.
@@ -216,15 +229,17 @@ fn append(conclusions: &mut Vec<Conclusion>, last: Conclusion) -> Result<(), All
 }
 
 /// Puts the conclusion behind those of the lines before it.
-fn push(table: &mut Table, last: Conclusion, place: usize) -> Result<(), ReplayFault>
+fn push(alloc: Global, table: &mut Table, last: Conclusion, place: usize) -> Result<(), ReplayFault>
     requires { table.old.left ≤ most_size }
-    ensures { IsPut table.old.conclusions.items table.old.left table.new.conclusions.items table.new.left last place result }
+    ensures numbered { AreNumbered table.old.known.terms.items table.old.conclusions.items table.old.known.lines.items → OnOk result (AreNumbered table.new.known.terms.items table.new.conclusions.items table.new.known.lines.items) }
+    ensures put { IsPut table.old.conclusions.items table.old.left table.new.conclusions.items table.new.left last place result }
 {
     let Some(left) = fitting(table.left, &last) else {
         return Err(ReplayFault::Big {
             line: cut_place(place),
         });
     };
+    table.known.add_line(alloc, &last.prop)?;
     append(&mut table.conclusions, last)?;
     table.left = left;
     Ok(())
@@ -240,11 +255,19 @@ fn step(
 ) -> Result<(), ReplayFault>
     requires closed { Each (λ c. IsClosed c.prop) table.old.conclusions.items }
     requires room { table.old.left ≤ most_size }
-    ensures { IsStepped (plain_content declared.now) (seen_node node.now) place table.old.conclusions.items table.old.left table.new.conclusions.items table.new.left result }
+    requires numbered { AreNumbered table.old.known.terms.items table.old.conclusions.items table.old.known.lines.items }
+    ensures numbered { OnOk result (AreNumbered table.new.known.terms.items table.new.conclusions.items table.new.known.lines.items) }
+    ensures stepped { IsStepped (plain_content declared.now) (seen_node node.now) place table.old.conclusions.items table.old.left table.new.conclusions.items table.new.left result }
 {
-    match concluded(alloc, declared, table.conclusions.as_slice(), node) {
+    match concluded(
+        alloc,
+        declared,
+        table.conclusions.as_slice(),
+        &table.known,
+        node,
+    ) {
         Err(fault) => Err(fault_at(fault, place)),
-        Ok(last) => push(table, last, place),
+        Ok(last) => push(alloc, table, last, place),
     }
 }
 
@@ -261,6 +284,7 @@ fn conclusions(
     let mut table = Table {
         conclusions: Vec::new(alloc),
         left: MOST_SIZE,
+        known: Known::empty(alloc),
     };
     for (place, node) in nodes.iter().enumerate() {
         match step(alloc, declared, &mut table, node, place) {
