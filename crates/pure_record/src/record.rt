@@ -1,5 +1,8 @@
 //! What a record says.
+ghost use Rattle.std.specs.Prelude.{◌≡◌};
+
 use pure_term::{Name, Names, Term, TermBind, Typ, TypBind};
+use std::alloc::AllocError;
 
 /// A record: the texts of its identifiers, what its content declares beyond Pure, and the lines of its derivation. All sorts in it are empty.
 #[derive(Drop)]
@@ -71,4 +74,14 @@ pub enum RecordFault {
     TooLong { at: u32 },
     Syntax { at: u32 },
     Memory,
+}
+
+impl From<AllocError> for RecordFault {
+    ghost use Rattle.pure_record.specs.declared.record.RecordFault.TheVariants.{Memory};
+
+    ghost from_gives = { λ _ fault. fault ≡ Memory };
+
+    fn from(_failed: AllocError) -> RecordFault {
+        RecordFault::Memory
+    }
 }
