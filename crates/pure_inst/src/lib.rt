@@ -11,6 +11,7 @@ mod renaming;
 mod schematic;
 
 pub use fault::InstFault;
+pub use image::{fits, instantiated};
 pub use instance::instantiate;
 pub use ordered::Ordered;
 pub use schematic::{generalise, incr_indexes};

@@ -23,6 +23,7 @@ mod theory_id;
 pub use cthm::{Cthm, TransferFault};
 pub use facts::Fact;
 pub use fault::DeclFault;
+pub use pure::pure_declarations;
 pub use pure_certify::CertFault;
 pub use pure_shared_maps::Shelf;
 pub use pure_theorem::{Built, Pair, RuleFault, Thm};

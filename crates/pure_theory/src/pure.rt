@@ -196,7 +196,7 @@ fn with_protect(alloc: Global) -> Result<Declarations, AllocError>
 }
 
 /// What Pure declares.
-pub(crate) fn pure_declarations(alloc: Global) -> Result<Declarations, AllocError>
+pub fn pure_declarations(alloc: Global) -> Result<Declarations, AllocError>
     ensures { IfOk result (λ ds. ds ≡ content.pure_declarations) }
 {
     let axiom = protect_axiom(alloc)?;

@@ -1,0 +1,10 @@
+pub mod DotLemmas
+pub mod NumberLemmas
+pub mod NameLemmas
+pub mod RiseLemmas
+pub mod RunLemmas
+pub mod ReadLemmas
+pub mod AcceptLemmas
+pub mod FormLemmas
+pub mod FaultLemmas
+pub mod UniqueLemmas

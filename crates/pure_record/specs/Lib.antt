@@ -1,0 +1,9 @@
+pub mod Items
+pub mod Lines
+pub mod Seen
+pub mod Lexemes
+pub mod Grammar
+pub mod Machine
+pub mod Spelled
+pub mod Left
+pub mod Laws

@@ -1,0 +1,13 @@
+mod TableLaws
+mod SetLaws
+mod PlaceLaws
+mod LineLaws
+mod ItemLaws
+mod StepLaws
+mod NodeLaws
+mod EntryLaws
+mod LoopLaws
+mod SchematicLaws
+mod RoomLaws
+mod SaidLaws
+mod KnownLaws

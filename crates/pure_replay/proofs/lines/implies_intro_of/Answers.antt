@@ -1,0 +1,7 @@
+use Rattle.pure_replay.specs.Step.{plain_content}
+use Rattle.pure_replay.specs.Figures.{GivesImpliesIntro}
+use Rattle.pure_replay.proofs.StepLaws.{step-at}
+use Rattle.pure_replay.proofs.lines.implies_intro_of.Goals as goal
+
+pub returns-in-Some : goal.returns-in-Some
+returns-in-Some c = step-at c.args.earlier.now c.args.line c.in-Some.above.now (λ e d. GivesImpliesIntro (plain_content c.args.declared.now) c.args.a.now e d) c.in-Some.ensures c.implies_intro.result c.implies_intro.ensures

@@ -1,0 +1,7 @@
+use Rattle.pure_definitions.specs.Types.Typ.{prop}
+use Rattle.pure_replay.specs.Step.{plain_content}
+use Rattle.pure_replay.proofs.TableLaws.{same_typ}
+use Rattle.pure_replay.proofs.tables.is_proposition.Goals as goal
+
+pub returns-in-Some : goal.returns-in-Some
+returns-in-Some c = same_typ (plain_content c.args.declared.now) c.args.t.now c.in-Some.own prop c.is_prop.result (rw c.in-Some.is at c.in_ok-certified_typ.ensures) c.is_prop.ensures

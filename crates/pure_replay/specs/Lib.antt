@@ -1,0 +1,11 @@
+pub mod Conclusion
+pub mod Step
+pub mod Figures
+pub mod Contents
+pub mod Lines
+pub mod Replayed
+pub mod Added
+pub mod Inferred
+pub mod Table
+pub mod Said
+pub mod Known
