@@ -27,7 +27,7 @@ use std::sync::Wait;
 use std::thread::Threads;
 
 /// The files of rows.
-const FILES: [&str; 12] = [
+const FILES: [&str; 13] = [
     "examples.rows",
     "guide.rows",
     "worked.rows",
