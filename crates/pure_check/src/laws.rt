@@ -1,6 +1,7 @@
 //! Laws of the definitions. What each function ensures is the law.
-ghost use Rattle.pure_check.specs.Laws.{CheckMeans, GenerateMeans, JobInRange};
+ghost use Rattle.pure_check.specs.Laws.{AxiomsAreLedTo, AxiomsSuffice, CheckMeans, GenerateMeans, JobInRange};
 
+use pure_citations::laws::listed_suffice;
 use pure_words::laws::{one_reading, table_means};
 
 /// The numbers of a job that words ask for are in range.
@@ -22,4 +23,19 @@ pub fn generate_means<L>()
     ensures { GenerateMeans L }
 {
     one_reading();
+}
+
+/// Where the answer on what a lemma rests on is clean, the lemma of this name is proved, and its statement is derivable
+/// alone without the theories' axioms and definitions that no listed row declares.
+pub fn axioms_suffice()
+    ensures { AxiomsSuffice }
+{
+    listed_suffice();
+}
+
+/// The answer on what a lemma rests on lists just what edges of the session's graph lead to from the lemma.
+pub fn axioms_are_led_to()
+    ensures { AxiomsAreLedTo }
+{
+    listed_suffice();
 }
