@@ -5,6 +5,7 @@ pub mod AnswerLemmas
 pub mod FormedLemmas
 pub mod JobLemmas
 pub mod PlacedLemmas
+pub mod ReplayLemmas
 pub mod TryLemmas
 pub mod TableLaws
 pub mod WordsLaws

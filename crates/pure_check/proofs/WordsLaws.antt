@@ -5,7 +5,7 @@ use Rattle.std.specs.Prelude.{nat_le, codes, ◌*◌, ◌&&◌, if◌then◌else
 use Rattle.pure_grammar.specs.Theories.Lexeme.{same}
 use Rattle.pure_words.specs.Values.{number_of, within}
 use Rattle.pure_words.specs.Words.{IsJob, IsCommand, Item, no_given, given_by}
-use Rattle.pure_words.specs.Commands.{workers_of, fail_fast_of, cancels_of, checked, generated, with_places, check_of, generate_of, places_of, try_of, tried, name_given, size_of, sized, job_of, is_none, TableMeans}
+use Rattle.pure_words.specs.Commands.{workers_of, fail_fast_of, cancels_of, checked, generated, with_places, check_of, generate_of, places_of, try_of, tried, name_given, replay_of, with_replay, identifier_given, size_of, sized, job_of, is_none, TableMeans}
 use Rattle.pure_check.specs.Asked.{IsTaken}
 use Rattle.pure_check.specs.JobAnswers.{IsInRange}
 use Rattle.pure_check.specs.Laws.{JobInRange}
@@ -92,6 +92,17 @@ places-some items = let g = given_by no_given items in by (is_none g.cancels && 
     by true = let g = given_by no_given items in placed-some (workers_of g.jobs) (workers-within g.jobs)
     by false = _
 
+replayed-some : (name : Option (List ℕ)) → IfJob (with_replay name)
+replayed-some None = _
+replayed-some (Some name) = _
+
+replay-some : (items : List Item) → IfJob (replay_of (given_by no_given items))
+replay-some items = let g = given_by no_given items in by (is_none g.jobs && (is_none g.cancels && is_none g.fail_fast))
+  where
+    by : (b : Bool) → IfJob (if b then with_replay (identifier_given (given_by no_given items).arguments) else None)
+    by true = replayed-some (identifier_given (given_by no_given items).arguments)
+    by false = _
+
 tried-some : (workers : Option ℕ) (name : Option (List ℕ)) → IsBetween 1 64 workers → IfJob (tried workers name)
 tried-some None name w = _
 tried-some (Some n) None w = _
@@ -117,7 +128,8 @@ job-some means name items =
     (either (same name (codes "check")) (check_of g) _ (check-some items)
     (either (same name (codes "generate")) (generate_of g) _ (generate-some items)
     (either (same name (codes "places")) (places_of g) _ (places-some items)
-    (either (same name (codes "try")) (try_of g) None (try-some items) _))))
+    (either (same name (codes "replay")) (replay_of g) _ (replay-some items)
+    (either (same name (codes "try")) (try_of g) None (try-some items) _)))))
 
 command-some : TableMeans → (name : List ℕ) (words : List (List ℕ)) (job : Job) → IsCommand name words job → IsInRange job
 command-some means name words job is = subst IfJob is.job_is (job-some means name is.items)

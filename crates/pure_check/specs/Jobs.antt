@@ -2,4 +2,5 @@
 pub mod Check
 pub mod Generate
 pub mod Places
+pub mod Replay
 pub mod Try

@@ -12,6 +12,7 @@ use crate::ended::Ended;
 use crate::generated::check_generated;
 use crate::laws::job_in_range;
 use crate::placed::check_placed;
+use crate::replayed::replayed;
 use crate::status::Status;
 use crate::tried::tried;
 use crate::written::write_answer;
@@ -53,6 +54,7 @@ fn done<R: Files + Print + AllocGlobal + Threads + Wait + Sync, L: Library, G: G
             lemmas,
         } => check_generated(rt, alloc, *workers, *start, *theories, *lemmas, gate),
         Job::Places { workers } => check_placed(rt, alloc, *workers, library, gate),
+        Job::Replay { name } => replayed(rt, alloc, name, library),
         Job::Try { workers, name } => tried(rt, alloc, *workers, name, library),
     }
 }

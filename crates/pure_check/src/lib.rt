@@ -9,6 +9,7 @@ mod formed;
 mod generated;
 pub mod laws;
 mod placed;
+mod replayed;
 mod status;
 mod tables;
 mod tried;

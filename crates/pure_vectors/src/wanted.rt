@@ -16,7 +16,7 @@ pub(crate) enum Written<'w> {
 }
 
 /// The first words of jobs that hand out no board.
-const WITHOUT_BOARD: [&[u8]; 1] = [b"try"];
+const WITHOUT_BOARD: [&[u8]; 2] = [b"try", b"replay"];
 
 /// What a run must answer and write.
 #[derive(Clone, Copy)]

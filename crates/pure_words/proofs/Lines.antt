@@ -16,7 +16,7 @@ use Rattle.pure_words.specs.Table.{name_of, row_of}
 use Rattle.pure_words.specs.Words.{Item, is_well_formed, words_of, no_given, given_by}
 use Rattle.pure_words.specs.declared.given.Given.{Given}
 use Rattle.pure_words.specs.declared.table.Subcommand.{Subcommand}
-use Rattle.pure_words.specs.declared.table.Subcommand.TheVariants.{Check, Generate, Places, Try}
+use Rattle.pure_words.specs.declared.table.Subcommand.TheVariants.{Check, Generate, Places, Replay, Try}
 use Rattle.pure_words.specs.declared.table.Takes.{Takes}
 use Rattle.pure_words.proofs.Fits.{Fits, at_most_once, at_most_one}
 use Rattle.pure_words.proofs.Rows.{at_end, found, found_new, found_other, no_row, some_not_none}
@@ -75,6 +75,21 @@ table_of Places = record {
   second = λ (e : 2 ≤ 0). absurd (omega (arith, e));
   third_place = λ (e : 3 ≤ 0). absurd (omega (arith, e));
   third = λ (e : 3 ≤ 0). absurd (omega (arith, e));
+  most = omega arith;
+}
+table_of Replay = record {
+  jobs_long = λ e. absurd (false≢true e);
+  jobs_short = λ e. absurd (false≢true e);
+  jobs = λ e. absurd (false≢true e);
+  cancel_long = λ e. absurd (false≢true e);
+  cancel = λ e. absurd (false≢true e);
+  fail_fast_long = λ e. absurd (false≢true e);
+  first_place = λ _. refl;
+  first = λ _. refl;
+  second_place = λ (e : 2 ≤ 1). absurd (omega (arith, e));
+  second = λ (e : 2 ≤ 1). absurd (omega (arith, e));
+  third_place = λ (e : 3 ≤ 1). absurd (omega (arith, e));
+  third = λ (e : 3 ≤ 1). absurd (omega (arith, e));
   most = omega arith;
 }
 table_of Try = record {
@@ -186,6 +201,9 @@ finished_shows Generate rows pending g fits shows =
 finished_shows Places rows pending g fits shows =
     let whole = settled_rows (leaf Places).rules pending rows in
     subst (λ rs. ShowsAll rs g) (sym (no_defaults (leaf Places).rules whole refl)) (unflagged whole g g.fail_fast refl fits.fail_fast shows)
+finished_shows Replay rows pending g fits shows =
+    let whole = settled_rows (leaf Replay).rules pending rows in
+    subst (λ rs. ShowsAll rs g) (sym (no_defaults (leaf Replay).rules whole refl)) (unflagged whole g g.fail_fast refl fits.fail_fast shows)
 finished_shows Try rows pending g fits shows =
     let whole = settled_rows (leaf Try).rules pending rows in
     subst (λ rs. ShowsAll rs g) (sym (no_defaults (leaf Try).rules whole refl)) (unflagged whole g g.fail_fast refl fits.fail_fast shows)
@@ -252,6 +270,9 @@ leaf_valid Generate rows g whole shows =
     let third = argument_given (argument_full 3 (codes "third")) rows (drop 2 g.arguments) shows.third (behind 2 g.arguments (omega (arith, whole))) in
     rw (first, second, third) refl
 leaf_valid Places rows g whole shows = refl
+leaf_valid Replay rows g whole shows =
+    let first = argument_given (argument_full 1 (codes "first")) rows g.arguments shows.first (omega (arith, whole)) in
+    rw first refl
 leaf_valid Try rows g whole shows =
     let first = argument_given (argument_full 1 (codes "first")) rows g.arguments shows.first (omega (arith, whole)) in
     rw first refl
@@ -260,6 +281,7 @@ defaults_pass : (s : Subcommand) → list_all default_passes (leaf s).rules ≡ 
 defaults_pass Check = refl
 defaults_pass Generate = refl
 defaults_pass Places = refl
+defaults_pass Replay = refl
 defaults_pass Try = refl
 
 -- a subcommand takes its words
@@ -291,6 +313,7 @@ unfolding walked
 stops Check words = sym (walk_stopped whole_line.top.rules (names_of whole_line) (walk_from nothing_held) (codes "check") [] words)
 stops Generate words = sym (walk_stopped whole_line.top.rules (names_of whole_line) (walk_from nothing_held) (codes "generate") [] words)
 stops Places words = sym (walk_stopped whole_line.top.rules (names_of whole_line) (walk_from nothing_held) (codes "places") [] words)
+stops Replay words = sym (walk_stopped whole_line.top.rules (names_of whole_line) (walk_from nothing_held) (codes "replay") [] words)
 stops Try words = sym (walk_stopped whole_line.top.rules (names_of whole_line) (walk_from nothing_held) (codes "try") [] words)
 
 left_over : (name : Text) (seen words : List Text) → walk_passes whole_line.top (names_of whole_line) (stopped_at name seen) words ≡ true
@@ -303,18 +326,21 @@ unfolding walk_passes walked
 top_passes Check words = left_over (codes "check") [] words
 top_passes Generate words = left_over (codes "generate") [] words
 top_passes Places words = left_over (codes "places") [] words
+top_passes Replay words = left_over (codes "replay") [] words
 top_passes Try words = left_over (codes "try") [] words
 
 entered_level : (s : Subcommand) (words : List Text) → entered_passes whole_line (Some (name_of s, words)) ≡ level_passes (leaf s) [] nothing_held words false
 entered_level Check words = refl
 entered_level Generate words = refl
 entered_level Places words = refl
+entered_level Replay words = refl
 entered_level Try words = refl
 
 entered_rows : (s : Subcommand) (words : List Text) → entered whole_line (Some (name_of s, words)) ≡ Some (name_of s, rows_after (leaf s).rules [] words)
 entered_rows Check words = refl
 entered_rows Generate words = refl
 entered_rows Places words = refl
+entered_rows Replay words = refl
 entered_rows Try words = refl
 
 -- A line of the grammar is taken.

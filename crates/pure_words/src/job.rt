@@ -73,6 +73,10 @@ pub enum Job {
     Places {
         workers: u32,
     },
+    /// Check the recorded derivation in the file of this name.
+    Replay {
+        name: Text,
+    },
     /// Look for a proof in one step of the lemma with this full name.
     Try {
         workers: u32,

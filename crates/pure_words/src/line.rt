@@ -134,6 +134,7 @@ fn line<'a>(alloc: Global) -> Result<Command<'a>, AllocError>
     let command = with_subcommand(alloc, bare(alloc), Subcommand::Check)?;
     let command = with_subcommand(alloc, command, Subcommand::Generate)?;
     let command = with_subcommand(alloc, command, Subcommand::Places)?;
+    let command = with_subcommand(alloc, command, Subcommand::Replay)?;
     let command = with_subcommand(alloc, command, Subcommand::Try)?;
     Ok(command)
 }

@@ -8,6 +8,7 @@ pub(crate) enum Subcommand {
     Check,
     Generate,
     Places,
+    Replay,
     Try,
 }
 
@@ -28,6 +29,7 @@ pub(crate) fn name_of<'a>(subcommand: Subcommand) -> &'a str
         Subcommand::Check => "check",
         Subcommand::Generate => "generate",
         Subcommand::Places => "places",
+        Subcommand::Replay => "replay",
         Subcommand::Try => "try",
     }
 }
@@ -55,6 +57,12 @@ pub(crate) fn row_of(subcommand: Subcommand) -> Takes
             fail_fast: false,
             arguments: 0,
         },
+        Subcommand::Replay => Takes {
+            jobs: false,
+            cancel: false,
+            fail_fast: false,
+            arguments: 1,
+        },
         Subcommand::Try => Takes {
             jobs: true,
             cancel: false,
@@ -77,6 +85,9 @@ pub(crate) fn subcommand_named(name: &[u8]) -> Option<Subcommand>
     }
     if name == b"places".as_slice() {
         return Some(Subcommand::Places);
+    }
+    if name == b"replay".as_slice() {
+        return Some(Subcommand::Replay);
     }
     if name == b"try".as_slice() {
         return Some(Subcommand::Try);
