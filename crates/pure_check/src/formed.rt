@@ -220,7 +220,7 @@ fn form_placed(
     scans: &[RefusedScan],
 ) -> Result<Formed, AllocError>
     requires entries { AreEntries (map plain (seen said.now.entries.items)) }
-    ensures { IfOk result (λ f. (S : graph.Session) (cancelled : List Label) → ArePartsOf S cancelled (record { texts = names.now; values = outlines said.now.closed.items; entries = seen said.now.entries.items; refused = all_refused refused.now }) → IsFormedTable S cancelled names.now (forks said.now.duties.items) (seen said.now.entries.items) (extent.Placed theories scans) files f.text f.clean) }
+    ensures { IfOk result (λ f. (S : graph.Session) (cancelled : List Label) → ArePartsOf S cancelled (record { texts = names.now; values = outlines said.now.closed.items; entries = seen said.now.entries.items; refused = all_refused refused.now }) → IsFormedTable S cancelled names.now (forks said.now.duties.items) (seen said.now.entries.items) (extent.Placed theories.entry scans.entry) files f.text f.clean) }
 {
     let rows = rows_of(alloc, names, said, refused)?;
     placed(alloc, theories, scans, files, rows.as_slice())
@@ -237,7 +237,7 @@ fn form_axioms(
 ) -> Result<Formed, AllocError>
     requires entries { AreEntries (map plain (seen said.now.entries.items)) }
     requires premises { ArePremises names.now (forks said.now.duties.items) (seen said.now.entries.items) }
-    ensures { IfOk result (λ f. (S : graph.Session) (cancelled : List Label) → ArePartsOf S cancelled (record { texts = names.now; values = outlines said.now.closed.items; entries = seen said.now.entries.items; refused = all_refused refused.now }) → IsFormedTable S cancelled names.now (forks said.now.duties.items) (seen said.now.entries.items) (extent.Axioms name) files f.text f.clean) }
+    ensures { IfOk result (λ f. (S : graph.Session) (cancelled : List Label) → ArePartsOf S cancelled (record { texts = names.now; values = outlines said.now.closed.items; entries = seen said.now.entries.items; refused = all_refused refused.now }) → IsFormedTable S cancelled names.now (forks said.now.duties.items) (seen said.now.entries.items) (extent.Axioms name.entry) files f.text f.clean) }
 {
     let rows = rows_of(alloc, names.names(), said, refused)?;
     axioms_of(
@@ -261,7 +261,7 @@ fn form_graph(
 ) -> Result<Formed, AllocError>
     requires entries { AreEntries (map plain (seen said.now.entries.items)) }
     requires premises { ArePremises names.now (forks said.now.duties.items) (seen said.now.entries.items) }
-    ensures { IfOk result (λ f. (S : graph.Session) (cancelled : List Label) → ArePartsOf S cancelled (record { texts = names.now; values = outlines said.now.closed.items; entries = seen said.now.entries.items; refused = all_refused refused.now }) → IsFormedTable S cancelled names.now (forks said.now.duties.items) (seen said.now.entries.items) (extent.Graph theories) files f.text f.clean) }
+    ensures { IfOk result (λ f. (S : graph.Session) (cancelled : List Label) → ArePartsOf S cancelled (record { texts = names.now; values = outlines said.now.closed.items; entries = seen said.now.entries.items; refused = all_refused refused.now }) → IsFormedTable S cancelled names.now (forks said.now.duties.items) (seen said.now.entries.items) (extent.Graph theories.entry) files f.text f.clean) }
 {
     let rows = rows_of(alloc, names.names(), said, refused)?;
     graph_of(

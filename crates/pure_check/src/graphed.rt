@@ -126,7 +126,7 @@ pub(crate) fn check_graph<
     ensures files { L.files library.new ≡ L.files library.old }
     ensures later { L.faults library.old ≤ L.faults library.new }
 {
-    match load(rt, alloc, library) {
+    match load(rt, alloc, library, rt, workers as usize) {
         Ok(session) => {
             session.names.are_session_texts();
             graph_answer(rt, alloc, session, workers, gate)

@@ -16,6 +16,7 @@ use pure_show::{Shown, show_lemma};
 use pure_text::Text;
 use std::alloc::{AllocError, Global};
 use std::rt::Files;
+use std::thread::Threads;
 
 /// What is shown of the session's lemma with this full name.
 fn shown_answer(alloc: Global, session: Session, name: &Text) -> Result<Answer, AllocError>
@@ -49,7 +50,7 @@ fn session_shown(alloc: Global, session: Session, name: &Text) -> Result<Answer,
 
 /// Loads the library's theories, and shows the proof of the lemma with this full name. The proofs of the other lemmas aren't
 /// run.
-pub(crate) fn shown<R: Files + Print + AllocGlobal, L: Library>(
+pub(crate) fn shown<R: Files + Print + AllocGlobal + Threads + Sync, L: Library>(
     rt: &R,
     alloc: Global,
     name: &Text,
@@ -60,7 +61,7 @@ pub(crate) fn shown<R: Files + Print + AllocGlobal, L: Library>(
     ensures files { L.files library.new ≡ L.files library.old }
     ensures later { L.faults library.old ≤ L.faults library.new }
 {
-    match load(rt, alloc, library) {
+    match load(rt, alloc, library, rt, 1) {
         Ok(session) => {
             session.names.are_session_texts();
             session_shown(alloc, session, name)

@@ -6,7 +6,7 @@ use Rattle.pure_check.proofs.FormedLemmas.{as-long, rows-formed}
 use Rattle.pure_check.proofs.formed.form_graph.Goals as goal
 
 pub rows_of-requires : goal.rows_of-requires
-rows_of-requires c = c.requires.entries
+rows_of-requires c = record { entries = c.requires.entries }
 
 pub graph_of-requires-clause-entries : goal.graph_of-requires-clause-entries
 graph_of-requires-clause-entries c = rw c.as_slice.ensures.value (subst AreEntries (reported-plain _) c.requires.entries)
