@@ -7,6 +7,7 @@ pub mod FormedLemmas
 pub mod GraphLemmas
 pub mod JobLemmas
 pub mod PlacedLemmas
+pub mod ReplayLemmas
 pub mod ShowLemmas
 pub mod TryLemmas
 pub mod TableLaws

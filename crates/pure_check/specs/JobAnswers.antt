@@ -2,7 +2,7 @@
 use Rattle.std.specs.Prelude.{ℕ, Bool, List, Option}
 use Rattle.pure_io.specs.declared.library.File as library
 use Rattle.pure_words.specs.declared.job.Job.{Job}
-use Rattle.pure_words.specs.declared.job.Job.TheVariants.{Check, Generate, Places, Show, Axioms, Graph, Try}
+use Rattle.pure_words.specs.declared.job.Job.TheVariants.{Check, Generate, Places, Axioms, Graph, Show, Replay, Try}
 use Rattle.pure_check_work.specs.Declare.Notes.{Fork}
 use Rattle.pure_check_work.specs.Method.declared.outcome.Outcome.{Outcome}
 use Rattle.pure_check_work.specs.TheoryRun.Checked.{Checked}
@@ -12,9 +12,10 @@ use Rattle.pure_check.specs.JobMeaning.{JobMeaning}
 use Rattle.pure_check.specs.Jobs.Check as check
 use Rattle.pure_check.specs.Jobs.Generate as generate
 use Rattle.pure_check.specs.Jobs.Places as places
-use Rattle.pure_check.specs.Jobs.Show as show
 use Rattle.pure_check.specs.Jobs.Axioms as axioms
 use Rattle.pure_check.specs.Jobs.Graph as graph
+use Rattle.pure_check.specs.Jobs.Show as show
+use Rattle.pure_check.specs.Jobs.Replay as replay
 use Rattle.pure_check.specs.Jobs.Try as try_lemma
 use Rattle.pure_check.specs.Sources.{is_looking, files_in}
 
@@ -23,9 +24,10 @@ abbrev pub meaning_of : Job → JobMeaning
 meaning_of (Check workers fail_fast cancels) = check.meaning workers fail_fast cancels
 meaning_of (Generate workers start theories lemmas) = generate.meaning workers start theories lemmas
 meaning_of (Places workers) = places.meaning workers
-meaning_of (Show name) = show.meaning name
 meaning_of (Axioms workers name) = axioms.meaning workers name
 meaning_of (Graph workers) = graph.meaning workers
+meaning_of (Show name) = show.meaning name
+meaning_of (Replay name) = replay.meaning name
 meaning_of (Try workers name) = try_lemma.meaning workers name
 
 -- The job's numbers are in range.

@@ -2,7 +2,8 @@
 pub mod Check
 pub mod Generate
 pub mod Places
-pub mod Show
-pub mod Try
 pub mod Axioms
 pub mod Graph
+pub mod Show
+pub mod Replay
+pub mod Try

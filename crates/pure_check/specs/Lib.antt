@@ -12,3 +12,4 @@ pub mod Meaning
 pub mod PlacedText
 pub mod Sources
 pub mod Tables
+pub mod Replayed

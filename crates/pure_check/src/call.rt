@@ -14,6 +14,7 @@ use crate::generated::check_generated;
 use crate::graphed::check_graph;
 use crate::laws::job_in_range;
 use crate::placed::check_placed;
+use crate::replayed::replayed;
 use crate::shown::shown;
 use crate::status::Status;
 use crate::tried::tried;
@@ -56,9 +57,10 @@ fn done<R: Files + Print + AllocGlobal + Threads + Wait + Sync, L: Library, G: G
             lemmas,
         } => check_generated(rt, alloc, *workers, *start, *theories, *lemmas, gate),
         Job::Places { workers } => check_placed(rt, alloc, *workers, library, gate),
-        Job::Show { name } => shown(rt, alloc, name, library),
         Job::Axioms { workers, name } => check_axioms(rt, alloc, *workers, name, library, gate),
         Job::Graph { workers } => check_graph(rt, alloc, *workers, library, gate),
+        Job::Show { name } => shown(rt, alloc, name, library),
+        Job::Replay { name } => replayed(rt, alloc, name, library),
         Job::Try { workers, name } => tried(rt, alloc, *workers, name, library),
     }
 }

@@ -11,6 +11,7 @@ mod generated;
 mod graphed;
 pub mod laws;
 mod placed;
+mod replayed;
 mod shown;
 mod status;
 mod tables;

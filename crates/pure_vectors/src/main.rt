@@ -27,7 +27,7 @@ use std::sync::Wait;
 use std::thread::Threads;
 
 /// The files of rows.
-const FILES: [&str; 13] = [
+const FILES: [&str; 14] = [
     "examples.rows",
     "guide.rows",
     "worked.rows",
@@ -41,6 +41,7 @@ const FILES: [&str; 13] = [
     "shows.rows",
     "tries.rows",
     "rests.rows",
+    "replays.rows",
 ];
 
 /// Holds each row of the file against its runs. Fails where one doesn't hold, where there is none, or the file can't be read.

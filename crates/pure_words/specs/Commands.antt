@@ -1,11 +1,12 @@
 -- The subcommands: the options, flags and arguments of each, and the job that they give.
 use Rattle.std.specs.Prelude.{◌≡◌, ℕ, ◌*◌, ◌==◌, Bool, true, false, ◌&&◌, ◌||◌, List, [], ◌∷◌, Option, Some, None, length, nat_le, codes, if◌then◌else◌, option_and_then}
 use Rattle.pure_grammar.specs.Theories.Lexeme.{same}
+use Rattle.pure_lex.specs.Identifier.{is_identifier}
 use Rattle.pure_words.specs.Values.{comma, number_of, within, parts, cancels_in, full_name_of}
 use Rattle.pure_words.specs.Table.{row_of, subcommand_named}
 use Rattle.pure_words.specs.declared.job.CancelWord.{CancelWord}
 use Rattle.pure_words.specs.declared.job.Job.{Job}
-use Rattle.pure_words.specs.declared.job.Job.TheVariants.{Check, Generate, Places, Axioms, Graph, Show, Try}
+use Rattle.pure_words.specs.declared.job.Job.TheVariants.{Check, Generate, Places, Axioms, Graph, Show, Replay, Try}
 use Rattle.pure_words.specs.declared.given.Given.{Given}
 use Rattle.pure_words.specs.declared.command.Size.{Size}
 use Rattle.pure_words.specs.declared.table.Subcommand.{Subcommand}
@@ -52,6 +53,11 @@ abbrev pub name_given : List (List ℕ) → Option (List ℕ)
 name_given (name ∷ []) = full_name_of name
 name_given _ = None
 
+-- NAME, the only argument: an identifier
+abbrev pub identifier_given : List (List ℕ) → Option (List ℕ)
+identifier_given (name ∷ []) = if is_identifier name then Some name else None
+identifier_given _ = None
+
 -- the job of `check`, where all its values are right
 abbrev pub checked : Option ℕ → Option Bool → Option (List CancelWord) → Option Job
 checked (Some workers) (Some fail_fast) (Some cancels) = Some (Check workers fail_fast cancels)
@@ -81,6 +87,11 @@ with_graph None = None
 abbrev pub with_show : Option (List ℕ) → Option Job
 with_show (Some name) = Some (Show name)
 with_show None = None
+
+-- the job of `replay`, where its name is right
+abbrev pub with_replay : Option (List ℕ) → Option Job
+with_replay (Some name) = Some (Replay name)
+with_replay None = None
 
 -- the job of `try`, where all its values are right
 abbrev pub tried : Option ℕ → Option (List ℕ) → Option Job
@@ -117,6 +128,11 @@ abbrev pub show_of : Given → Option Job
 show_of g =
     if is_none g.jobs && (is_none g.cancels && is_none g.fail_fast) then with_show (name_given g.arguments) else None
 
+-- `replay`: NAME
+abbrev pub replay_of : Given → Option Job
+replay_of g =
+    if is_none g.jobs && (is_none g.cancels && is_none g.fail_fast) then with_replay (identifier_given g.arguments) else None
+
 -- `try`: --jobs, and NAME
 abbrev pub try_of : Given → Option Job
 try_of g =
@@ -135,6 +151,7 @@ job_given table.Places g = with_places (workers_of g.jobs)
 job_given table.Axioms g = with_axioms (workers_of g.jobs) (name_given g.arguments)
 job_given table.Graph g = with_graph (workers_of g.jobs)
 job_given table.Show g = with_show (name_given g.arguments)
+job_given table.Replay g = with_replay (identifier_given g.arguments)
 job_given table.Try g = tried (workers_of g.jobs) (name_given g.arguments)
 
 -- the job of a subcommand, where it takes what is given
@@ -154,5 +171,6 @@ TableMeans = (name : List ℕ) (g : Given) → job_of name g
     else (if same name (codes "axioms") then axioms_of g
     else (if same name (codes "graph") then graph_of g
     else (if same name (codes "show") then show_of g
+    else (if same name (codes "replay") then replay_of g
     else (if same name (codes "try") then try_of g
-    else None)))))))
+    else None))))))))

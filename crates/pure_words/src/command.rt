@@ -8,6 +8,7 @@ use crate::job::{CancelWord, Cancels, Job};
 use crate::name::full_name;
 use crate::number::number_within;
 use crate::table::{Subcommand, Takes, row_of, subcommand_named};
+use pure_lex::is_identifier;
 use pure_text::Text;
 use std::alloc::{AllocError, Global};
 
@@ -92,6 +93,17 @@ fn name_in(alloc: Global, arguments: &[Text]) -> Result<Option<Text>, AllocError
         1 => full_name(alloc, arguments[0].bytes()),
         _ => Ok(None),
     }
+}
+
+/// The identifier that the only argument is.
+fn identifier_in(alloc: Global, arguments: &[Text]) -> Result<Option<Text>, AllocError>
+    ensures { IfOk result (λ found. found ≡ spec.identifier_given arguments.now) }
+{
+    if arguments.len() != 1 || !is_identifier(arguments[0].bytes()) {
+        return Ok(None);
+    }
+    let name = Text::make(alloc, arguments[0].bytes())?;
+    Ok(Some(name))
 }
 
 /// Whether an option, a flag or an argument is given only where the row has it, and all arguments are there.
@@ -185,6 +197,16 @@ fn show(alloc: Global, given: &Given) -> Result<Option<Job>, AllocError>
     }
 }
 
+/// The job of `replay`.
+fn replay(alloc: Global, given: &Given) -> Result<Option<Job>, AllocError>
+    ensures { IfOk result (λ found. found ≡ spec.job_given Subcommand.Replay given.now) }
+{
+    match identifier_in(alloc, given.arguments.list())? {
+        Some(name) => Ok(Some(Job::Replay { name })),
+        None => Ok(None),
+    }
+}
+
 /// The job of `try`.
 fn try_lemma(alloc: Global, given: &Given) -> Result<Option<Job>, AllocError>
     ensures { IfOk result (λ found. found ≡ spec.job_given Subcommand.Try given.now) }
@@ -212,6 +234,7 @@ fn job_by(alloc: Global, subcommand: Subcommand, given: &Given) -> Result<Option
         Subcommand::Axioms => axioms(alloc, given),
         Subcommand::Graph => Ok(graph(given)),
         Subcommand::Show => show(alloc, given),
+        Subcommand::Replay => replay(alloc, given),
         Subcommand::Try => try_lemma(alloc, given),
     }
 }

@@ -86,6 +86,10 @@ pub enum Job {
     Show {
         name: Text,
     },
+    /// Check the recorded derivation in the file of this name.
+    Replay {
+        name: Text,
+    },
     /// Look for a proof in one step of the lemma with this full name.
     Try {
         workers: u32,

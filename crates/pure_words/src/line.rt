@@ -137,6 +137,7 @@ fn line<'a>(alloc: Global) -> Result<Command<'a>, AllocError>
     let command = with_subcommand(alloc, command, Subcommand::Axioms)?;
     let command = with_subcommand(alloc, command, Subcommand::Graph)?;
     let command = with_subcommand(alloc, command, Subcommand::Show)?;
+    let command = with_subcommand(alloc, command, Subcommand::Replay)?;
     let command = with_subcommand(alloc, command, Subcommand::Try)?;
     Ok(command)
 }

@@ -11,6 +11,7 @@ pub(crate) enum Subcommand {
     Axioms,
     Graph,
     Show,
+    Replay,
     Try,
 }
 
@@ -34,6 +35,7 @@ pub(crate) fn name_of<'a>(subcommand: Subcommand) -> &'a str
         Subcommand::Axioms => "axioms",
         Subcommand::Graph => "graph",
         Subcommand::Show => "show",
+        Subcommand::Replay => "replay",
         Subcommand::Try => "try",
     }
 }
@@ -79,6 +81,12 @@ pub(crate) fn row_of(subcommand: Subcommand) -> Takes
             fail_fast: false,
             arguments: 1,
         },
+        Subcommand::Replay => Takes {
+            jobs: false,
+            cancel: false,
+            fail_fast: false,
+            arguments: 1,
+        },
         Subcommand::Try => Takes {
             jobs: true,
             cancel: false,
@@ -110,6 +118,9 @@ pub(crate) fn subcommand_named(name: &[u8]) -> Option<Subcommand>
     }
     if name == b"show".as_slice() {
         return Some(Subcommand::Show);
+    }
+    if name == b"replay".as_slice() {
+        return Some(Subcommand::Replay);
     }
     if name == b"try".as_slice() {
         return Some(Subcommand::Try);

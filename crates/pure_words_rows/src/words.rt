@@ -52,6 +52,36 @@ fn push_cancels(alloc: Global, text: &mut Vec<u8>, cancels: &Cancels) -> Result<
     Ok(())
 }
 
+/// Adds a subcommand and the number of its workers.
+fn push_workers(
+    alloc: Global,
+    text: &mut Vec<u8>,
+    subcommand: &[u8],
+    workers: u32,
+) -> Result<(), AllocError> {
+    text.extend_from_slice(subcommand)?;
+    push_number(alloc, text, workers)
+}
+
+/// Adds a word, and a name behind a blank.
+fn push_named(text: &mut Vec<u8>, word: &[u8], name: &Text) -> Result<(), AllocError> {
+    text.extend_from_slice(word)?;
+    text.push(b' ')?;
+    text.extend_from_slice(name.bytes())
+}
+
+/// Adds a subcommand, the number of its workers and its name.
+fn push_both(
+    alloc: Global,
+    text: &mut Vec<u8>,
+    subcommand: &[u8],
+    workers: u32,
+    name: &Text,
+) -> Result<(), AllocError> {
+    push_workers(alloc, text, subcommand, workers)?;
+    push_named(text, b"", name)
+}
+
 /// Adds a job as in the rows.
 fn push_job(alloc: Global, text: &mut Vec<u8>, job: &Job) -> Result<(), AllocError> {
     match job {
@@ -79,20 +109,12 @@ fn push_job(alloc: Global, text: &mut Vec<u8>, job: &Job) -> Result<(), AllocErr
             push_number(alloc, text, *theories)?;
             push_number(alloc, text, *lemmas)
         }
-        Job::Places { workers } => {
-            text.extend_from_slice(b"places")?;
-            push_number(alloc, text, *workers)
-        }
-        Job::Show { name } => {
-            text.extend_from_slice(b"show ")?;
-            text.extend_from_slice(name.bytes())
-        }
-        Job::Try { workers, name } => {
-            text.extend_from_slice(b"try")?;
-            push_number(alloc, text, *workers)?;
-            text.push(b' ')?;
-            text.extend_from_slice(name.bytes())
-        }
+        Job::Places { workers } => push_workers(alloc, text, b"places", *workers),
+        Job::Axioms { workers, name } => push_both(alloc, text, b"axioms", *workers, name),
+        Job::Graph { workers } => push_workers(alloc, text, b"graph", *workers),
+        Job::Show { name } => push_named(text, b"show", name),
+        Job::Replay { name } => push_named(text, b"replay", name),
+        Job::Try { workers, name } => push_both(alloc, text, b"try", *workers, name),
     }
 }
 
