@@ -44,11 +44,15 @@ take-shorter (suc n) (x ∷ xs) = let rest = take-shorter n xs in omega (arith, 
 all_of : (xs : List ℕ) (m : ℕ) → length (take (m + 1) xs) ≤ m → length xs ≤ m
 all_of [] m h = omega arith
 all_of (x ∷ xs) zero h = absurd (omega (arith, h))
-all_of (x ∷ xs) (suc m) h = let rest = all_of xs m (omega (arith, h)) in omega (arith, rest)
+all_of (x ∷ xs) (suc m) h =
+    let more : suc m + 1 ≡ suc (m + 1) = omega arith in
+    let here : suc (length (take (m + 1) xs)) ≤ suc m = subst (λ k. length (take k (x ∷ xs)) ≤ suc m) more h in
+    let rest = all_of xs m (omega (arith, here)) in
+    omega (arith, rest)
 
 -- What is said of the first bytes of a file, one more than it may have, is said of the file.
 whole_said : (bytes start text : List ℕ) (clean : Bool) → start ≡ take (most_bytes + 1) bytes → IsSaidOfFile (Some start) text clean → IsSaidOfFile (Some bytes) text clean
-whole_said bytes start text clean is (inl (large, said)) = inl (longer (length start) (length bytes) most_bytes (subst (λ (t : List ℕ). length t ≤ length bytes) (sym is) (take-shorter (most_bytes + 1) bytes)) large, said)
+whole_said bytes start text clean is (inl (large, line, unclean)) = inl (longer (length start) (length bytes) most_bytes (subst (λ (t : List ℕ). length t ≤ length bytes) (sym is) (take-shorter (most_bytes + 1) bytes)) large, line, unclean)
   where
     longer : (a b m : ℕ) → a ≤ b → m < a → m < b
     longer a b m h k = omega (arith, h, k)
