@@ -5,3 +5,4 @@ pub mod PatternLaws
 pub mod LowLaws
 pub mod SizeLaws
 pub mod RefusedLaws
+pub mod SelectionLaws
