@@ -6,7 +6,7 @@ use Rattle.pure_unify_definitions.specs.Fronts.{front, is_schematic}
 use Rattle.pure_pattern_laws.specs.Patterns.{HasPlaces, IsPattern}
 use Rattle.pure_pattern_laws.proofs.PatternLaws.{true-false}
 
-schematic-index : (t : Term) → is_schematic (front t) ≡ true → 0 < term_index_above t
+pub schematic-index : (t : Term) → is_schematic (front t) ≡ true → 0 < term_index_above t
 schematic-index (Const c T) e = absurd (cc)
 schematic-index (Free x T) e = absurd (cc)
 schematic-index (Var x i T) e = omega arith

@@ -1,3 +1,4 @@
 pub mod Found
 pub mod Typs
 pub mod Room
+pub mod Images
