@@ -1,20 +1,18 @@
 -- The machine goes through the lexemes of each record.
-use Rattle.std.proofs.Common.{◌≡◌, ℕ, Bool, true, false, not, List, [], ◌∷◌, ◌++◌, refl, sym, ◌∙◌, ap, subst, Option, Some, None}
+use Rattle.std.proofs.Common.{◌≡◌, Bool, true, false, List, [], ◌∷◌, refl, sym, ap, subst, Option, Some, None}
 use Rattle.pure_definitions.specs.Types.Typ.{Typ, Typs, TFree, TVar, Con, none, also}
 use Rattle.pure_definitions.specs.Terms.Term as term
 use Rattle.pure_definitions.specs.Terms.Term.{Term}
-use Rattle.pure_definitions.specs.Terms.Subst.{TypBind, TermBind, term_variable}
+use Rattle.pure_definitions.specs.Terms.Subst.{TypBind, TermBind}
 use Rattle.pure_record.specs.Items as item
 use Rattle.pure_record.specs.Items.{Item}
 use Rattle.pure_record.specs.Lines as node
 use Rattle.pure_record.specs.Lines.{Node}
-use Rattle.pure_record.specs.Grammar.{typ_name, constant_name, IsTyp, AreArguments, AreMoreArguments, IsTerm, IsVariable, AreTypBinds, AreTermBinds, IsWord, IsNode, IsItem, AreLines, AreItems, IsRecord}
+use Rattle.pure_record.specs.Grammar.{IsTyp, AreArguments, AreMoreArguments, IsTerm, IsVariable, AreTypBinds, AreTermBinds, IsNode, IsItem, AreLines, AreItems, IsRecord}
 use Rattle.pure_record.specs.declared.lexeme.Mark.{Mark}
 use Rattle.pure_record.specs.declared.lexeme.Mark.TheVariants as mark
-use Rattle.pure_record.specs.declared.lexeme.Word.{Word}
-use Rattle.pure_record.specs.declared.lexeme.Word.TheVariants as word
 use Rattle.pure_record.specs.declared.lexeme.Lexeme.{Lexeme}
-use Rattle.pure_record.specs.declared.lexeme.Lexeme.TheVariants.{Marked, Identifier, TypeVariable, SchematicType, SchematicTerm, Bound, Numeral, Other}
+use Rattle.pure_record.specs.declared.lexeme.Lexeme.TheVariants.{Marked, Numeral}
 use Rattle.pure_record.specs.declared.symbol.Symbol.{Symbol}
 use Rattle.pure_record.specs.declared.symbol.Symbol.TheVariants as symbol
 use Rattle.pure_record.specs.Machine.{is_mark, next, Outcome, Through, Stuck, goes_on, run}

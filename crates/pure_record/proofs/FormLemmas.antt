@@ -1,22 +1,21 @@
 -- What the parts that are to come stand for, and that each of them can end.
 use Rattle.std.proofs.Common.{◌≡◌, ◌⊎◌, inl, inr, ℕ, Bool, true, false, List, [], ◌∷◌, ◌++◌, refl, sym, ◌∙◌, ap, subst, append_assoc, Option, Some, None}
 use Rattle.std.specs.Prelude.{option_map}
-use Rattle.std.proofs.lemmas.List.{append-nil}
 use Rattle.pure_definitions.specs.Types.Typ.{Typ, Typs, TFree, TVar, Con, none, also}
 use Rattle.pure_definitions.specs.Terms.Term as term
 use Rattle.pure_definitions.specs.Terms.Term.{Term}
-use Rattle.pure_definitions.specs.Terms.Subst.{TypBind, TermBind, term_variable}
+use Rattle.pure_definitions.specs.Terms.Subst.{TypBind, TermBind}
 use Rattle.pure_record.specs.Items as item
 use Rattle.pure_record.specs.Items.{Item}
 use Rattle.pure_record.specs.Lines as node
 use Rattle.pure_record.specs.Lines.{Node}
-use Rattle.pure_record.specs.Grammar.{typ_name, constant_name, IsTyp, AreArguments, AreMoreArguments, IsTerm, IsVariable, AreTypBinds, AreTermBinds, IsWord, IsNode, IsItem, AreLines, AreItems, IsRecord}
+use Rattle.pure_record.specs.Grammar.{typ_name, constant_name, IsTyp, AreArguments, AreMoreArguments, IsTerm, IsVariable, AreTypBinds, AreTermBinds, IsNode, AreLines, AreItems, IsRecord}
 use Rattle.pure_record.specs.declared.lexeme.Mark.{Mark}
 use Rattle.pure_record.specs.declared.lexeme.Mark.TheVariants as mark
 use Rattle.pure_record.specs.declared.lexeme.Word.{Word}
 use Rattle.pure_record.specs.declared.lexeme.Word.TheVariants as word
 use Rattle.pure_record.specs.declared.lexeme.Lexeme.{Lexeme}
-use Rattle.pure_record.specs.declared.lexeme.Lexeme.TheVariants.{Marked, Identifier, TypeVariable, SchematicType, SchematicTerm, Bound, Numeral, Other}
+use Rattle.pure_record.specs.declared.lexeme.Lexeme.TheVariants.{Marked, Identifier, TypeVariable, SchematicType, SchematicTerm, Bound, Numeral}
 use Rattle.pure_record.specs.declared.symbol.Symbol.{Symbol}
 use Rattle.pure_record.specs.declared.symbol.Symbol.TheVariants as symbol
 use Rattle.pure_record.specs.Machine.{is_mark, identifier_on, numeral_on, typ_on, arguments_on, more_arguments_on, term_on, in_parentheses_on, variable_on, variable_name_on, schematic_name_on, typ_binds_on, term_binds_on, node_on, lines_on, items_on, opened, passes, next}

@@ -1,5 +1,5 @@
 -- No lexemes are those of two records.
-use Rattle.std.proofs.Common.{◌≡◌, inl, inr, ℕ, Bool, true, false, List, [], ◌∷◌, ◌++◌, refl, sym, ◌∙◌, ap, subst, ◌||◌}
+use Rattle.std.proofs.Common.{◌≡◌, inl, inr, ℕ, Bool, true, false, List, [], ◌∷◌, refl, sym, ◌∙◌, ap, subst, ◌||◌}
 use Rattle.std.specs.List.{list_any}
 use Rattle.std.specs.Cmp.Lexicographic.{same_text, nat_list_eq_equiv}
 use Rattle.std.proofs.lemmas.Bool.{both_ways, or_cases}
@@ -13,18 +13,18 @@ use Rattle.pure_record.specs.Laws.{OneRecord}
 use Rattle.pure_definitions.specs.Types.Typ.{Typ, Typs, TFree, TVar, Con, none, also}
 use Rattle.pure_definitions.specs.Terms.Term as term
 use Rattle.pure_definitions.specs.Terms.Term.{Term}
-use Rattle.pure_definitions.specs.Terms.Subst.{TypBind, TermBind, term_variable}
+use Rattle.pure_definitions.specs.Terms.Subst.{TypBind, TermBind}
 use Rattle.pure_record.specs.Items as item
 use Rattle.pure_record.specs.Items.{Item}
 use Rattle.pure_record.specs.Lines as node
 use Rattle.pure_record.specs.Lines.{Node}
-use Rattle.pure_record.specs.Grammar.{typ_name, constant_name, IsTyp, AreArguments, AreMoreArguments, IsTerm, IsVariable, AreTypBinds, AreTermBinds, IsWord, IsNode, IsItem, AreLines, AreItems, IsRecord}
+use Rattle.pure_record.specs.Grammar.{typ_name, constant_name, IsTyp, AreArguments, AreMoreArguments, IsTerm, AreTypBinds, AreTermBinds, IsWord, IsNode, IsItem, AreLines, AreItems, IsRecord}
 use Rattle.pure_record.specs.declared.lexeme.Mark.{Mark}
 use Rattle.pure_record.specs.declared.lexeme.Mark.TheVariants as mark
 use Rattle.pure_record.specs.declared.lexeme.Word.{Word}
 use Rattle.pure_record.specs.declared.lexeme.Word.TheVariants as word
 use Rattle.pure_record.specs.declared.lexeme.Lexeme.{Lexeme}
-use Rattle.pure_record.specs.declared.lexeme.Lexeme.TheVariants.{Marked, Identifier, TypeVariable, SchematicType, SchematicTerm, Bound, Numeral, Other}
+use Rattle.pure_record.specs.declared.lexeme.Lexeme.TheVariants.{Marked, Identifier, TypeVariable, SchematicType, SchematicTerm, Bound, Numeral}
 use Rattle.pure_record.proofs.AcceptLemmas.{IsShut, shut-more}
 
 -- ---- types

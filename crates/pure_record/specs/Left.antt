@@ -1,5 +1,5 @@
 -- What a reader of lexemes has still to read.
-use Rattle.std.specs.Prelude.{◌≡◌, List, ◌∷◌, drop}
+use Rattle.std.specs.Prelude.{List, drop}
 use Rattle.pure_record.specs.Lines.{Node}
 use Rattle.pure_record.specs.Grammar.{IsWord, IsNode}
 use Rattle.pure_record.specs.declared.lexeme.Lexeme.{Lexeme}

@@ -1,5 +1,5 @@
 -- What a token is to the grammar of records.
-use Rattle.std.specs.Prelude.{ℕ, suc, ◌==◌, Bool, List, [], ◌∷◌, ◌++◌, Option, Some, None, slice_range, if◌then◌else◌, codes}
+use Rattle.std.specs.Prelude.{ℕ, suc, ◌==◌, Bool, List, [], ◌∷◌, Option, Some, None, slice_range, if◌then◌else◌, codes}
 use Rattle.pure_grammar.specs.declared.token.Token.{Token}
 use Rattle.pure_grammar.specs.declared.token.TokenKind.{TokenKind}
 use Rattle.pure_grammar.specs.declared.token.TokenKind.TheVariants as kind
@@ -7,7 +7,6 @@ use Rattle.pure_grammar.specs.Tokens.Bytes.{dot, apostrophe, head_is}
 use Rattle.pure_grammar.specs.Tokens.Token.{tail}
 use Rattle.pure_grammar.specs.Theories.Lexeme.{same, value_behind}
 use Rattle.pure_typ.specs.NameTexts.{name_texts}
-use Rattle.pure_record.specs.declared.lexeme.Mark.{Mark}
 use Rattle.pure_record.specs.declared.lexeme.Mark.TheVariants as mark
 use Rattle.pure_record.specs.declared.lexeme.Word.{Word}
 use Rattle.pure_record.specs.declared.lexeme.Word.TheVariants as word

@@ -5,7 +5,7 @@ use Rattle.pure_record.specs.declared.lexeme.Mark.TheVariants as mark
 use Rattle.pure_record.specs.declared.lexeme.Word.{Word}
 use Rattle.pure_record.specs.declared.lexeme.Word.TheVariants as word
 use Rattle.pure_record.specs.declared.lexeme.Lexeme.{Lexeme}
-use Rattle.pure_record.specs.declared.lexeme.Lexeme.TheVariants.{Marked, Identifier, TypeVariable, SchematicType, SchematicTerm, Bound, Numeral, Other}
+use Rattle.pure_record.specs.declared.lexeme.Lexeme.TheVariants.{Marked, Identifier, TypeVariable, SchematicType, SchematicTerm, Bound, Numeral}
 use Rattle.pure_record.specs.declared.symbol.Symbol.{Symbol}
 use Rattle.pure_record.specs.declared.symbol.Symbol.TheVariants as symbol
 

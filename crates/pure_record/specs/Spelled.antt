@@ -7,7 +7,6 @@ use Rattle.pure_text.specs.Lists.{IsIn, AnyOf}
 use Rattle.pure_grammar.specs.declared.token.Token.{Token}
 use Rattle.pure_grammar.specs.declared.token.TokenKind.{TokenKind}
 use Rattle.pure_grammar.specs.declared.token.TokenKind.TheVariants as kind
-use Rattle.pure_grammar.specs.Tokens.Spelling.{AreSlices}
 use Rattle.pure_grammar.specs.Theories.Lexeme.{same}
 use Rattle.pure_grammar.specs.Theories.Outer.{place_of}
 use Rattle.pure_record.specs.Items.{Item}
@@ -82,10 +81,3 @@ abbrev pub IsFaultOf : (source : List ℕ) → List Token → RecordFault → Ty
 IsFaultOf source tokens (TooLong at) = first_long (runs_of source tokens) ≡ Some at
 IsFaultOf source tokens (Syntax at) = (first_long (runs_of source tokens) ≡ None) × HasSyntaxFault source tokens at
 IsFaultOf source tokens Memory = Unit {0}
-
--- Some text is read as the record of these names, items and lines.
-pub record WasRead (texts : List (List ℕ)) (items : List Item) (lines : List Node) : Type 0 where
-  pub source : List ℕ
-  pub tokens : List Token
-  pub slices : AreSlices source 0 (length source) tokens
-  pub spelled : SpellsRecord source tokens texts items lines

@@ -1,4 +1,4 @@
-use Rattle.std.proofs.Common.{sym, ◌∙◌, ap}
+use Rattle.std.proofs.Common.{◌∙◌, ap}
 use Rattle.pure_record.specs.Lexemes.{spelling_of}
 use Rattle.pure_record.specs.Spelled.{only}
 use Rattle.pure_record.proofs.NameLemmas.{names-only}

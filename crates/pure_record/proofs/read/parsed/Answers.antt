@@ -1,4 +1,4 @@
-use Rattle.std.proofs.Common.{sym, ◌∙◌, subst, Some}
+use Rattle.std.proofs.Common.{subst, Some}
 use Rattle.pure_record.specs.Machine.{IsRecognised}
 use Rattle.pure_record.proofs.FaultLemmas.{fault-at, spelled-read}
 use Rattle.pure_record.proofs.read.parsed.Goals as goal
