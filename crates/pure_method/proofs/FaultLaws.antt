@@ -10,6 +10,7 @@ use Rattle.pure_definitions.specs.Declarations.Decl.{algebra_of}
 use Rattle.pure_grammar.specs.Theories.TheoryText.{Step, Rule, Erule, Drule, Assumption, Unfold, Prefer, Defer, Close, Done}
 use Rattle.pure_logic.specs.Content.{Content}
 use Rattle.pure_logic.specs.Derivable.{Theorem}
+use Rattle.pure_lookup.specs.LookUps.{IsFoundFact, IsFoundLocal}
 use Rattle.pure_theorem.specs.Facts.{IsPromise}
 use Rattle.pure_unify_definitions.specs.LongSides as sides
 use Rattle.pure_unify_definitions.specs.LongSides.{Stop}
@@ -20,10 +21,11 @@ use Rattle.pure_resolve.specs.GoalSteps.Follows.{Outcome, stop_fault, Becomes, A
 use Rattle.pure_resolve.specs.GoalSteps.Steps.{rule_attempt, RuleStep, EliminationStep, DestructionStep, AssumptionStep, PreferStep, DeferStep, EndsAs}
 use Rattle.pure_resolve.specs.GoalSteps.declared.fault.StepFault.{StepFault}
 use Rattle.pure_resolve.specs.GoalSteps.declared.fault.StepFault.TheVariants as fault
-use Rattle.pure_method.specs.Facts.{named_facts, MeansPromise, IsNamed}
+use Rattle.pure_method.specs.Facts.{LookUp, named_facts, MeansPromiseBy, IsNamedBy}
 use Rattle.pure_method.specs.Unfolding.{TakesFact, ComesByFacts, UnfoldStep}
-use Rattle.pure_method.specs.Proof.{ByFacts, WithOne, Gives, ProofFault, Failed, Ends, IsProof}
-use Rattle.pure_method.proofs.FactLaws.{promised}
+use Rattle.pure_method.specs.Proof.{ByFactsOf, WithOne, GivesBy, ProofFault, Failed, EndsBy, IsProofBy}
+use Rattle.pure_method.specs.Laws.{RestsOnPromises, RestsInOnPromises, NeverMemory, NeverMemoryIn}
+use Rattle.pure_method.proofs.FactLaws.{FindsOver, everywhere-over, in_lemma-over, promised}
 
 -- The fault isn't want of memory.
 abbrev IsNone : StepFault → Type 0
@@ -96,12 +98,12 @@ ends_as-none : (s : State) (f : StepFault) → EndsAs s (Err f) → IsNone f
 ends_as-none s f (EndsAs.subgoals_left e) = λ d. cc
 ends_as-none s f (EndsAs.large e m w) = λ d. cc
 
-module _ (texts : List (List ℕ)) (Q : Content) where
-  by_facts-none : (With : List Theorem → Outcome → Type 0) → ((facts : List Theorem) (f : StepFault) → With facts (Err f) → IsNone f) → (written : List (List ℕ)) (f : StepFault) → ByFacts texts Q With written (Err f) → IsNone f
-  by_facts-none With none written f (ByFacts.unknown h) = λ e. cc
-  by_facts-none With none written f (ByFacts.known {facts = facts} found h) = none facts f h
+module _ (L : LookUp) (Q : Content) where
+  by_facts-none : (With : List Theorem → Outcome → Type 0) → ((facts : List Theorem) (f : StepFault) → With facts (Err f) → IsNone f) → (written : List (List ℕ)) (f : StepFault) → ByFactsOf L With written (Err f) → IsNone f
+  by_facts-none With none written f (ByFactsOf.unknown h) = λ e. cc
+  by_facts-none With none written f (ByFactsOf.known {facts = facts} found h) = none facts f h
 
-  gives-none : (step : Step) (s : State) (f : StepFault) → Gives texts Q step s (Err f) → IsNone f
+  gives-none : (step : Step) (s : State) (f : StepFault) → GivesBy L Q step s (Err f) → IsNone f
   gives-none (Rule fact) s = by_facts-none (WithOne (RuleStep (algebra_of Q.declarations) s)) (λ facts f h. rule-none (algebra_of Q.declarations) s h.0 f h.2) (fact ∷ [])
   gives-none (Erule fact) s = by_facts-none (WithOne (EliminationStep (algebra_of Q.declarations) s)) (λ facts f h. elimination-none (algebra_of Q.declarations) s h.0 f h.2) (fact ∷ [])
   gives-none (Drule fact) s = by_facts-none (WithOne (DestructionStep (algebra_of Q.declarations) s)) (λ facts f h. destruction-none (algebra_of Q.declarations) s h.0 f h.2) (fact ∷ [])
@@ -112,23 +114,35 @@ module _ (texts : List (List ℕ)) (Q : Content) where
   gives-none Close s = λ f h. absurd h
   gives-none Done s = λ f h. absurd h
 
-  ends-none : (number : ℕ) (s : State) (steps : List Step) (f : ProofFault) → Ends texts Q number s steps (Failed f) → IsNone f.fault
-  ends-none number s steps f (Ends.unfinished {f = g} h) = ends_as-none s g h
-  ends-none number s steps f (Ends.closed {next = next} {steps = left} h rest) = ends-none number next left f rest
-  ends-none number s steps f (Ends.refused {step = step} {f = g} h) = gives-none step s g h
-  ends-none number s steps f (Ends.goes_on {next = next} {steps = left} h rest) = ends-none _ next left f rest
+  ends-none : (number : ℕ) (s : State) (steps : List Step) (f : ProofFault) → EndsBy L Q number s steps (Failed f) → IsNone f.fault
+  ends-none number s steps f (EndsBy.unfinished {f = g} h) = ends_as-none s g h
+  ends-none number s steps f (EndsBy.closed {next = next} {steps = left} h rest) = ends-none number next left f rest
+  ends-none number s steps f (EndsBy.refused {step = step} {f = g} h) = gives-none step s g h
+  ends-none number s steps f (EndsBy.goes_on {next = next} {steps = left} h rest) = ends-none _ next left f rest
 
-  pub never-memory : (statement : Term) (script : List Step) (f : ProofFault) → IsProof texts Q statement script (Err f) → IsNone f.fault
-  never-memory statement script f (IsProof.not_begun h) = λ e. cc
-  never-memory statement script f (IsProof.failed {s = s} b h) = ends-none 1 s script f h
+  never_by-memory : (statement : Term) (script : List Step) (f : ProofFault) → IsProofBy L Q statement script (Err f) → IsNone f.fault
+  never_by-memory statement script f (IsProofBy.not_begun h) = λ e. cc
+  never_by-memory statement script f (IsProofBy.failed {s = s} b h) = ends-none 1 s script f h
 
-  pub rests-promised : (statement : Term) (script : List Step) (labels : List Label) → IsProof texts Q statement script (Ok labels) → Each (λ label. (A : Term) × IsPromise Q label A) labels
-  rests-promised statement script labels (IsProof.proved b h named) =
+  rests_by-promised : FindsOver Q L → (statement : Term) (script : List Step) (labels : List Label) → IsProofBy L Q statement script (Ok labels) → Each (λ label. (A : Term) × IsPromise Q label A) labels
+  rests_by-promised over statement script labels (IsProofBy.proved b h named) =
       each_of (λ label. (A : Term) × IsPromise Q label A) labels (λ label m. by label ((named.exactly label).0 m))
     where
-      by : (label : Label) → IsNamed texts Q script label → (A : Term) × IsPromise Q label A
+      by : (label : Label) → IsNamedBy L script label → (A : Term) × IsPromise Q label A
       by label is =
-          let step = any_some (λ step. AnyOf (MeansPromise texts Q label) (named_facts step)) script is in
-          let written = any_some (MeansPromise texts Q label) (named_facts step.0) step.2 in
-          let found = promised texts Q label written.0 written.2 in
+          let step = any_some (λ step. AnyOf (MeansPromiseBy L label) (named_facts step)) script is in
+          let written = any_some (MeansPromiseBy L label) (named_facts step.0) step.2 in
+          let found = promised L Q over label written.0 written.2 in
           (found.0, (found.1, found.2))
+
+pub never-memory : NeverMemory
+never-memory texts Q = never_by-memory (IsFoundFact texts Q) Q
+
+pub never_in-memory : NeverMemoryIn
+never_in-memory texts Q lemma = never_by-memory (IsFoundLocal texts Q lemma) Q
+
+pub rests-promised : RestsOnPromises
+rests-promised texts Q = rests_by-promised (IsFoundFact texts Q) Q (everywhere-over texts Q)
+
+pub rests_in-promised : RestsInOnPromises
+rests_in-promised texts Q lemma = rests_by-promised (IsFoundLocal texts Q lemma) Q (in_lemma-over texts Q lemma)

@@ -21,3 +21,4 @@ pub mod StepPlaces
 pub mod PlaceLaws
 pub mod CourseLaws
 pub mod FurtherLaws
+pub mod InLemmaLaws

@@ -7,9 +7,9 @@ use Rattle.pure_definitions.specs.Terms.Term.{Term}
 use Rattle.pure_definitions.specs.Declarations.Decl.{algebra_of}
 use Rattle.pure_grammar.specs.Theories.TheoryText.{Step, Rule, Erule, Drule, Assumption, Unfold, Prefer, Defer, Close, Done}
 use Rattle.pure_order_tables.specs.Classes.{IsAntisymmetric}
-use Rattle.pure_logic.specs.Content.{Content, IsContent}
+use Rattle.pure_logic.specs.Content.{Content}
 use Rattle.pure_logic.specs.Derivable.{Theorem}
-use Rattle.pure_lookup.specs.Laws.{IsInSession}
+use Rattle.pure_lookup.specs.LookUps.{IsFoundFact, IsFoundLocal}
 use Rattle.pure_unfold.proofs.UnfoldLaws.{unfolds-once, unfolds-something}
 use Rattle.pure_promise_fates.proofs.LabelSets.{set_once}
 use Rattle.pure_resolve.specs.GoalSteps.State.{State}
@@ -19,10 +19,11 @@ use Rattle.pure_resolve.specs.GoalSteps.declared.fault.StepFault.{StepFault}
 use Rattle.pure_resolve.proofs.GoalSteps.FollowsLaws.{becomes-once}
 use Rattle.pure_resolve.proofs.EndLaws.{ends_once as ends_as-once}
 use Rattle.pure_resolve.proofs.GoalSteps.OneOutcomeLaws.{rule_once, elimination_once, destruction_once, assumption_once, prefer_once, defer_once, conversion_once}
-use Rattle.pure_method.specs.Facts.{AreNamed}
+use Rattle.pure_method.specs.Facts.{LookUp, AreNamedBy}
 use Rattle.pure_method.specs.Unfolding.{IsSmallEquation, TakesFact, ComesByFacts, UnfoldStep, chained_equation}
-use Rattle.pure_method.specs.Proof.{ByFacts, WithOne, Gives, Closes, ProofFault, ProofOutcome, Ending, Proved, Failed, Ends, IsProof}
-use Rattle.pure_method.proofs.FactLaws.{all_found-once, all_found-known}
+use Rattle.pure_method.specs.Proof.{ByFactsOf, WithOne, GivesBy, Closes, ProofFault, ProofOutcome, Ending, Proved, Failed, EndsBy, IsProofBy}
+use Rattle.pure_method.specs.Laws.{ProofOnce, ProofInOnce}
+use Rattle.pure_method.proofs.FactLaws.{IsOnce, everywhere-once, in_lemma-once, all_found-once, all_found-known}
 
 pub ok-same : {A E : Type 0} (x y : A) → ◌≡◌ {A = Result A E} (Ok x) (Ok y) → x ≡ y
 ok-same x y e = cc
@@ -96,14 +97,14 @@ unfold-once A s facts one other (UnfoldStep.converted {first = first} {last = la
     (subst (λ (t : Term). ConversionStep s (chained_equation first t facts) other) ends (subst (λ (t : Term). ConversionStep s (chained_equation t end facts) other) same l))
 
 -- A step, the closing of subgoals, and all steps.
-module _ (texts : List (List ℕ)) (Q : Content) (session : IsInSession texts Q) (q : IsContent Q) (anti : IsAntisymmetric (algebra_of Q.declarations)) where
+module _ (L : LookUp) (Q : Content) (once_found : IsOnce L) (anti : IsAntisymmetric (algebra_of Q.declarations)) where
   by_facts-once : (With : List Theorem → Outcome → Type 0) → ((facts : List Theorem) (one other : Outcome) → With facts one → With facts other → one ≡ other) → (written : List (List ℕ)) (one other : Outcome)
-      → ByFacts texts Q With written one → ByFacts texts Q With written other → one ≡ other
-  by_facts-once With once written one other (ByFacts.unknown h) (ByFacts.unknown k) = refl
-  by_facts-once With once written one other (ByFacts.unknown h) (ByFacts.known {facts = facts} f k) = absurd (all_found-known texts Q written facts f h)
-  by_facts-once With once written one other (ByFacts.known {facts = facts} f k) (ByFacts.unknown h) = absurd (all_found-known texts Q written facts f h)
-  by_facts-once With once written one other (ByFacts.known {facts = facts} f h) (ByFacts.known {facts = more} g k) =
-      once facts one other h (subst (λ (ths : List Theorem). With ths other) (all_found-once texts Q session q written more facts g f) k)
+      → ByFactsOf L With written one → ByFactsOf L With written other → one ≡ other
+  by_facts-once With once written one other (ByFactsOf.unknown h) (ByFactsOf.unknown k) = refl
+  by_facts-once With once written one other (ByFactsOf.unknown h) (ByFactsOf.known {facts = facts} f k) = absurd (all_found-known L once_found written facts f h)
+  by_facts-once With once written one other (ByFactsOf.known {facts = facts} f k) (ByFactsOf.unknown h) = absurd (all_found-known L once_found written facts f h)
+  by_facts-once With once written one other (ByFactsOf.known {facts = facts} f h) (ByFactsOf.known {facts = more} g k) =
+      once facts one other h (subst (λ (ths : List Theorem). With ths other) (all_found-once L once_found written more facts g f) k)
 
   with_one-once : (With : Theorem → Outcome → Type 0) → ((fact : Theorem) (one other : Outcome) → With fact one → With fact other → one ≡ other) → (facts : List Theorem) (one other : Outcome) → WithOne With facts one → WithOne With facts other → one ≡ other
   with_one-once With once facts one other h k =
@@ -111,7 +112,7 @@ module _ (texts : List (List ℕ)) (Q : Content) (session : IsInSession texts Q)
       let fact : k.0 ≡ h.0 = cc in
       once h.0 one other h.2 (subst (λ (th : Theorem). With th other) fact k.2)
 
-  pub gives-once : (step : Step) (s : State) (one other : Outcome) → Gives texts Q step s one → Gives texts Q step s other → one ≡ other
+  pub gives-once : (step : Step) (s : State) (one other : Outcome) → GivesBy L Q step s one → GivesBy L Q step s other → one ≡ other
   gives-once (Rule fact) s = by_facts-once (WithOne (RuleStep (algebra_of Q.declarations) s)) (with_one-once (RuleStep (algebra_of Q.declarations) s) (rule_once (algebra_of Q.declarations) anti s)) (fact ∷ [])
   gives-once (Erule fact) s = by_facts-once (WithOne (EliminationStep (algebra_of Q.declarations) s)) (with_one-once (EliminationStep (algebra_of Q.declarations) s) (elimination_once (algebra_of Q.declarations) anti s)) (fact ∷ [])
   gives-once (Drule fact) s = by_facts-once (WithOne (DestructionStep (algebra_of Q.declarations) s)) (with_one-once (DestructionStep (algebra_of Q.declarations) s) (destruction_once (algebra_of Q.declarations) anti s)) (fact ∷ [])
@@ -134,32 +135,32 @@ module _ (texts : List (List ℕ)) (Q : Content) (session : IsInSession texts Q)
   abbrev at : ℕ → StepFault → Ending
   at number f = Failed (record { step = number; fault = f })
 
-  pub ends-once : (number : ℕ) (s : State) (steps : List Step) (one other : Ending) → Ends texts Q number s steps one → Ends texts Q number s steps other → one ≡ other
-  ends-once number s steps one other (Ends.finished h) (Ends.finished k) = refl
-  ends-once number s steps one other (Ends.finished {th = th} h) (Ends.unfinished {f = f} k) = absurd (not-both th f (ends_as-once s (Ok th) (Err f) h k))
-  ends-once number s steps one other (Ends.finished h) (Ends.refused k) = absurd k
-  ends-once number s steps one other (Ends.finished h) (Ends.goes_on k rest) = absurd k
-  ends-once number s steps one other (Ends.unfinished {f = f} k) (Ends.finished {th = th} h) = absurd (not-both th f (ends_as-once s (Ok th) (Err f) h k))
-  ends-once number s steps one other (Ends.unfinished {f = f} h) (Ends.unfinished {f = g} k) = ap (at number) (err-same f g (ends_as-once s (Err f) (Err g) h k))
-  ends-once number s steps one other (Ends.unfinished h) (Ends.refused k) = absurd k
-  ends-once number s steps one other (Ends.unfinished h) (Ends.goes_on k rest) = absurd k
-  ends-once number s steps one other (Ends.closed {next = next} {steps = left} h rest) (Ends.closed {next = then} k more) =
+  pub ends-once : (number : ℕ) (s : State) (steps : List Step) (one other : Ending) → EndsBy L Q number s steps one → EndsBy L Q number s steps other → one ≡ other
+  ends-once number s steps one other (EndsBy.finished h) (EndsBy.finished k) = refl
+  ends-once number s steps one other (EndsBy.finished {th = th} h) (EndsBy.unfinished {f = f} k) = absurd (not-both th f (ends_as-once s (Ok th) (Err f) h k))
+  ends-once number s steps one other (EndsBy.finished h) (EndsBy.refused k) = absurd k
+  ends-once number s steps one other (EndsBy.finished h) (EndsBy.goes_on k rest) = absurd k
+  ends-once number s steps one other (EndsBy.unfinished {f = f} k) (EndsBy.finished {th = th} h) = absurd (not-both th f (ends_as-once s (Ok th) (Err f) h k))
+  ends-once number s steps one other (EndsBy.unfinished {f = f} h) (EndsBy.unfinished {f = g} k) = ap (at number) (err-same f g (ends_as-once s (Err f) (Err g) h k))
+  ends-once number s steps one other (EndsBy.unfinished h) (EndsBy.refused k) = absurd k
+  ends-once number s steps one other (EndsBy.unfinished h) (EndsBy.goes_on k rest) = absurd k
+  ends-once number s steps one other (EndsBy.closed {next = next} {steps = left} h rest) (EndsBy.closed {next = then} k more) =
       let same = closes-once s then next k h in
-      ends-once number next left one other rest (subst (λ (x : State). Ends texts Q number x left other) same more)
-  ends-once number s steps one other (Ends.closed h rest) (Ends.refused k) = absurd k
-  ends-once number s steps one other (Ends.closed h rest) (Ends.goes_on k more) = absurd k
-  ends-once number s steps one other (Ends.refused h) (Ends.finished k) = absurd h
-  ends-once number s steps one other (Ends.refused h) (Ends.unfinished k) = absurd h
-  ends-once number s steps one other (Ends.refused h) (Ends.closed k more) = absurd h
-  ends-once number s steps one other (Ends.refused {step = step} {f = f} h) (Ends.refused {f = g} k) = ap (at number) (err-same f g (gives-once step s (Err f) (Err g) h k))
-  ends-once number s steps one other (Ends.refused {step = step} {f = f} h) (Ends.goes_on {next = next} k more) = absurd (not-both next f (gives-once step s (Ok next) (Err f) k h))
-  ends-once number s steps one other (Ends.goes_on h rest) (Ends.finished k) = absurd h
-  ends-once number s steps one other (Ends.goes_on h rest) (Ends.unfinished k) = absurd h
-  ends-once number s steps one other (Ends.goes_on h rest) (Ends.closed k more) = absurd h
-  ends-once number s steps one other (Ends.goes_on {next = next} {step = step} h rest) (Ends.refused {f = f} k) = absurd (not-both next f (gives-once step s (Ok next) (Err f) h k))
-  ends-once number s steps one other (Ends.goes_on {next = next} {step = step} {steps = left} h rest) (Ends.goes_on {next = then} k more) =
+      ends-once number next left one other rest (subst (λ (x : State). EndsBy L Q number x left other) same more)
+  ends-once number s steps one other (EndsBy.closed h rest) (EndsBy.refused k) = absurd k
+  ends-once number s steps one other (EndsBy.closed h rest) (EndsBy.goes_on k more) = absurd k
+  ends-once number s steps one other (EndsBy.refused h) (EndsBy.finished k) = absurd h
+  ends-once number s steps one other (EndsBy.refused h) (EndsBy.unfinished k) = absurd h
+  ends-once number s steps one other (EndsBy.refused h) (EndsBy.closed k more) = absurd h
+  ends-once number s steps one other (EndsBy.refused {step = step} {f = f} h) (EndsBy.refused {f = g} k) = ap (at number) (err-same f g (gives-once step s (Err f) (Err g) h k))
+  ends-once number s steps one other (EndsBy.refused {step = step} {f = f} h) (EndsBy.goes_on {next = next} k more) = absurd (not-both next f (gives-once step s (Ok next) (Err f) k h))
+  ends-once number s steps one other (EndsBy.goes_on h rest) (EndsBy.finished k) = absurd h
+  ends-once number s steps one other (EndsBy.goes_on h rest) (EndsBy.unfinished k) = absurd h
+  ends-once number s steps one other (EndsBy.goes_on h rest) (EndsBy.closed k more) = absurd h
+  ends-once number s steps one other (EndsBy.goes_on {next = next} {step = step} h rest) (EndsBy.refused {f = f} k) = absurd (not-both next f (gives-once step s (Ok next) (Err f) h k))
+  ends-once number s steps one other (EndsBy.goes_on {next = next} {step = step} {steps = left} h rest) (EndsBy.goes_on {next = then} k more) =
       let same : then ≡ next = ok-same then next (gives-once step s (Ok then) (Ok next) k h) in
-      ends-once (number + 1) next left one other rest (subst (λ (x : State). Ends texts Q (number + 1) x left other) same more)
+      ends-once (number + 1) next left one other rest (subst (λ (x : State). EndsBy L Q (number + 1) x left other) same more)
 
   pub begins-same : (statement : Term) (s other : State) → BeginsAs statement (Ok s) → BeginsAs statement (Ok other) → other ≡ s
   begins-same statement s other h k = ok-same other s (becomes-once _ (Ok other) (Ok s) k h)
@@ -173,22 +174,29 @@ module _ (texts : List (List ℕ)) (Q : Content) (session : IsInSession texts Q)
   never-both : (f : ProofFault) → Failed f ≡ Proved → ⊥
   never-both f e = cc
 
-  labels-once : (script : List Step) (ls ms : List Label) → AreNamed texts Q script ls → AreNamed texts Q script ms → ls ≡ ms
+  labels-once : (script : List Step) (ls ms : List Label) → AreNamedBy L script ls → AreNamedBy L script ms → ls ≡ ms
   labels-once script ls ms h k = set_once ls ms h.ascend k.ascend (λ l. (λ m. (k.exactly l).1 ((h.exactly l).0 m), λ m. (h.exactly l).1 ((k.exactly l).0 m)))
 
-  pub proof-once : (statement : Term) (script : List Step) (one other : ProofOutcome) → IsProof texts Q statement script one → IsProof texts Q statement script other → one ≡ other
-  proof-once statement script one other (IsProof.not_begun h) (IsProof.not_begun k) = refl
-  proof-once statement script one other (IsProof.not_begun {f = f} h) (IsProof.failed {s = s} b e) = absurd (begins-both statement s f b h)
-  proof-once statement script one other (IsProof.not_begun {f = f} h) (IsProof.proved {s = s} b e n) = absurd (begins-both statement s f b h)
-  proof-once statement script one other (IsProof.failed {s = s} b e) (IsProof.not_begun {f = f} h) = absurd (begins-both statement s f b h)
-  proof-once statement script one other (IsProof.failed {s = s} {f = f} b e) (IsProof.failed {s = t} {f = g} c d) =
+  pub proof_by-once : (statement : Term) (script : List Step) (one other : ProofOutcome) → IsProofBy L Q statement script one → IsProofBy L Q statement script other → one ≡ other
+  proof_by-once statement script one other (IsProofBy.not_begun h) (IsProofBy.not_begun k) = refl
+  proof_by-once statement script one other (IsProofBy.not_begun {f = f} h) (IsProofBy.failed {s = s} b e) = absurd (begins-both statement s f b h)
+  proof_by-once statement script one other (IsProofBy.not_begun {f = f} h) (IsProofBy.proved {s = s} b e n) = absurd (begins-both statement s f b h)
+  proof_by-once statement script one other (IsProofBy.failed {s = s} b e) (IsProofBy.not_begun {f = f} h) = absurd (begins-both statement s f b h)
+  proof_by-once statement script one other (IsProofBy.failed {s = s} {f = f} b e) (IsProofBy.failed {s = t} {f = g} c d) =
       let same = begins-same statement s t b c in
-      ap Err (faults-same f g (ends-once 1 s script (Failed f) (Failed g) e (subst (λ (x : State). Ends texts Q 1 x script (Failed g)) same d)))
-  proof-once statement script one other (IsProof.failed {s = s} {f = f} b e) (IsProof.proved {s = t} c d n) =
+      ap Err (faults-same f g (ends-once 1 s script (Failed f) (Failed g) e (subst (λ (x : State). EndsBy L Q 1 x script (Failed g)) same d)))
+  proof_by-once statement script one other (IsProofBy.failed {s = s} {f = f} b e) (IsProofBy.proved {s = t} c d n) =
       let same = begins-same statement s t b c in
-      absurd (never-both f (ends-once 1 s script (Failed f) Proved e (subst (λ (x : State). Ends texts Q 1 x script Proved) same d)))
-  proof-once statement script one other (IsProof.proved {s = s} b e n) (IsProof.not_begun {f = f} h) = absurd (begins-both statement s f b h)
-  proof-once statement script one other (IsProof.proved {s = s} b e n) (IsProof.failed {s = t} {f = f} c d) =
+      absurd (never-both f (ends-once 1 s script (Failed f) Proved e (subst (λ (x : State). EndsBy L Q 1 x script Proved) same d)))
+  proof_by-once statement script one other (IsProofBy.proved {s = s} b e n) (IsProofBy.not_begun {f = f} h) = absurd (begins-both statement s f b h)
+  proof_by-once statement script one other (IsProofBy.proved {s = s} b e n) (IsProofBy.failed {s = t} {f = f} c d) =
       let same = begins-same statement s t b c in
-      absurd (never-both f (ends-once 1 s script (Failed f) Proved (subst (λ (x : State). Ends texts Q 1 x script (Failed f)) same d) e))
-  proof-once statement script one other (IsProof.proved {labels = ls} b e n) (IsProof.proved {labels = ms} c d m) = ap Ok (labels-once script ls ms n m)
+      absurd (never-both f (ends-once 1 s script (Failed f) Proved (subst (λ (x : State). EndsBy L Q 1 x script (Failed f)) same d) e))
+  proof_by-once statement script one other (IsProofBy.proved {labels = ls} b e n) (IsProofBy.proved {labels = ms} c d m) = ap Ok (labels-once script ls ms n m)
+
+-- One value comes of it where facts are those that the content declares, and in a lemma.
+pub proof-once : ProofOnce
+proof-once texts Q session q anti = proof_by-once (IsFoundFact texts Q) Q (everywhere-once texts Q session q) anti
+
+pub proof_in-once : ProofInOnce
+proof_in-once texts Q session q anti lemma = proof_by-once (IsFoundLocal texts Q lemma) Q (in_lemma-once texts Q session q lemma) anti

@@ -23,6 +23,7 @@ use Rattle.pure_logic.specs.Laws.Maps.{instantiated, everything, generalised}
 use Rattle.pure_logic.proofs.ProvesLaws.{derivable_is_proves}
 use Rattle.pure_logic.proofs.EqualityLaws.{right-of, reflexive_equality, transitive_equality}
 use Rattle.pure_logic.proofs.TheoremMapLaws.{weaker_is_derivable}
+use Rattle.pure_lookup.specs.LookUps.{IsFoundFact, IsFoundLocal}
 use Rattle.pure_unify_definitions.specs.Search.{Answer, Unified, NoUnifier, SearchBound, Stopped}
 use Rattle.pure_unify_laws.specs.Condition.{IsUnifyContent}
 use Rattle.pure_resolve.proofs.UnifyAnswers.SolveLaws.{unifier_solves}
@@ -36,10 +37,11 @@ use Rattle.pure_resolve.specs.GoalSteps.declared.fault.StepFault.{StepFault}
 use Rattle.pure_resolve.proofs.GoalSteps.SoundLaws.{begins_sound, preferred_is_sound, deferred_is_sound, converted_is_sound}
 use Rattle.pure_resolve.specs.GoalStepLaws.Laws.{IsUsed}
 use Rattle.pure_resolve.proofs.GoalStepLaws.UnifiedLaws.{rule_is_sound, elimination_is_sound, destruction_is_sound, assumption_is_sound}
-use Rattle.pure_method.specs.Facts.{theorem, IsFound, named_facts, MeansPromise, IsNamed}
+use Rattle.pure_method.specs.Facts.{theorem, LookUp, IsFoundBy, named_facts, MeansPromiseBy, IsNamedBy}
 use Rattle.pure_method.specs.Unfolding.{TakesFact, ComesByFacts, UnfoldStep, all_rests}
-use Rattle.pure_method.specs.Proof.{ByFacts, Gives, Closes, Proved, Ends, IsProof}
-use Rattle.pure_method.proofs.FactLaws.{found-usable}
+use Rattle.pure_method.specs.Proof.{ByFactsOf, GivesBy, Closes, Proved, EndsBy, IsProofBy, IsProof}
+use Rattle.pure_method.specs.Laws.{ProvedInIsDerivable}
+use Rattle.pure_method.proofs.FactLaws.{FindsOver, everywhere-over, in_lemma-over, found-usable}
 use Rattle.pure_method.proofs.EndLaws.{end-derivable, generalised-derivable}
 
 no-ok : (s : State) (f : StepFault) → Ok s ≡ Err f → ⊥
@@ -104,7 +106,7 @@ module _ (C : Term) (closed : HasNoSchematic C) where
 in-all : (l : Label) (th : Theorem) (ths : List Theorem) → IsIn l (all_rests (th ∷ ths)) → IsIn l th.rests ⊎ IsIn l (all_rests ths)
 in-all l th ths m = in_split l th.rests (all_rests ths) m
 
-module _ (texts : List (List ℕ)) (Q : Content) (k : IsUnifyContent Q) (C : Term) (closed : HasNoSchematic C) (labels : List Label) where
+module _ (L : LookUp) (Q : Content) (over : FindsOver Q L) (k : IsUnifyContent Q) (C : Term) (closed : HasNoSchematic C) (labels : List Label) where
   -- The state is sound, resting on the labels, and its statement is still C.
   pub record Holds (s : State) : Type 0 where
     pub sound : IsSound Q labels s
@@ -112,23 +114,23 @@ module _ (texts : List (List ℕ)) (Q : Content) (k : IsUnifyContent Q) (C : Ter
 
   -- Each promise that the names mean is among the labels.
   abbrev pub AreCovered : List (List ℕ) → Type 0
-  AreCovered written = (l : Label) → AnyOf (MeansPromise texts Q l) written → IsIn l labels
+  AreCovered written = (l : Label) → AnyOf (MeansPromiseBy L l) written → IsIn l labels
 
-  pub used : (written : List ℕ) (fact : Theorem) → AreCovered (written ∷ []) → IsFound texts Q written fact → IsUsed Q fact labels labels
+  pub used : (written : List ℕ) (fact : Theorem) → AreCovered (written ∷ []) → IsFoundBy L written fact → IsUsed Q fact labels labels
   used written fact covered found =
-      let u = found-usable texts Q k.above written fact found in
+      let u = found-usable L Q over k.above written fact found in
       record { no_hyps = u.no_hyps; no_pairs = u.no_pairs; derivable = u.derivable; goal_rests = λ l m. m; fact_rests = λ l m. covered l (inl (u.named l m)) }
 
-  with_one-used : (written : List ℕ) (facts : List Theorem) (fact : Theorem) → facts ≡ fact ∷ [] → EachTwo (IsFound texts Q) (written ∷ []) facts → IsFound texts Q written fact
-  with_one-used written facts fact e h = (subst (λ (ths : List Theorem). EachTwo (IsFound texts Q) (written ∷ []) ths) e h).0
+  with_one-used : (written : List ℕ) (facts : List Theorem) (fact : Theorem) → facts ≡ fact ∷ [] → EachTwo (IsFoundBy L) (written ∷ []) facts → IsFoundBy L written fact
+  with_one-used written facts fact e h = (subst (λ (ths : List Theorem). EachTwo (IsFoundBy L) (written ∷ []) ths) e h).0
 
   -- Of facts that are found, what they rest on is among the labels, and the equation of what a proposition comes to by them is proved.
-  covered-rests : (written : List (List ℕ)) (facts : List Theorem) → AreCovered written → EachTwo (IsFound texts Q) written facts → (l : Label) → IsIn l (all_rests facts) → IsIn l labels
+  covered-rests : (written : List (List ℕ)) (facts : List Theorem) → AreCovered written → EachTwo (IsFoundBy L) written facts → (l : Label) → IsIn l (all_rests facts) → IsIn l labels
   covered-rests [] [] covered h l m = absurd m
   covered-rests [] (f ∷ fs) covered h l m = absurd h
   covered-rests (w ∷ ws) [] covered h l m = absurd h
   covered-rests (w ∷ ws) (f ∷ fs) covered h l m = elim (in-all l f fs m) [
-    | inl here ↦ covered l (inl ((found-usable texts Q k.above w f h.0).named l here))
+    | inl here ↦ covered l (inl ((found-usable L Q over k.above w f h.0).named l here))
     | inr there ↦ covered-rests ws fs (λ n a. covered n (inr a)) h.1 l there
   ]
 
@@ -136,13 +138,13 @@ module _ (texts : List (List ℕ)) (Q : Content) (k : IsUnifyContent Q) (C : Ter
   abbrev IsGiven : Theorem → Type 0
   IsGiven fact = IsDerivable Q (theorem fact.prop labels)
 
-  pub given : (written : List ℕ) (fact : Theorem) → AreCovered (written ∷ []) → IsFound texts Q written fact → IsGiven fact
+  pub given : (written : List ℕ) (fact : Theorem) → AreCovered (written ∷ []) → IsFoundBy L written fact → IsGiven fact
   given written fact covered found =
       let u = used written fact covered found in
       let alike : IsDerivable Q (theorem fact.prop fact.rests) = subst (IsDerivable Q) (λ i. record { hyps = u.no_hyps i; pairs = u.no_pairs i; prop = fact.prop; rests = fact.rests }) u.derivable in
       weaker_is_derivable Q (theorem fact.prop fact.rests) [] labels (record { hyps = λ B m. m; rests = u.fact_rests }) alike
 
-  pub all-given : (written : List (List ℕ)) (facts : List Theorem) → AreCovered written → EachTwo (IsFound texts Q) written facts → Each IsGiven facts
+  pub all-given : (written : List (List ℕ)) (facts : List Theorem) → AreCovered written → EachTwo (IsFoundBy L) written facts → Each IsGiven facts
   all-given [] [] covered h = tt
   all-given [] (f ∷ fs) covered h = absurd h
   all-given (w ∷ ws) [] covered h = absurd h
@@ -159,7 +161,7 @@ module _ (texts : List (List ℕ)) (Q : Content) (k : IsUnifyContent Q) (C : Ter
   first-proposition s first others e h =
       (subgoals_are_propositions Q k.content k.above (theorem_of s labels) (first ∷ others) (protect s.statement) (ap (λ (As : List Term). chain As (protect s.statement)) e) h.derivable).0
 
-  unfold-holds : (s new : State) (written : List (List ℕ)) (facts : List Theorem) → AreCovered written → EachTwo (IsFound texts Q) written facts → Holds s → UnfoldStep (algebra_of Q.declarations) s facts (Ok new) → Holds new
+  unfold-holds : (s new : State) (written : List (List ℕ)) (facts : List Theorem) → AreCovered written → EachTwo (IsFoundBy L) written facts → Holds s → UnfoldStep (algebra_of Q.declarations) s facts (Ok new) → Holds new
   unfold-holds s new written facts covered found h (UnfoldStep.converted {first = first} {last = last} {others = others} e c f) =
       let is = first-proposition s first others e h.sound in
       let start = reflexive_equality Q k.content k.above [] labels prop first is in
@@ -172,17 +174,17 @@ module _ (texts : List (List ℕ)) (Q : Content) (k : IsUnifyContent Q) (C : Ter
         statement = conversion-keeps C closed s new equation h.statement same;
       }
 
-  pub gives-holds : (step : Step) (s new : State) → AreCovered (named_facts step) → Holds s → Gives texts Q step s (Ok new) → Holds new
-  gives-holds (Rule fact) s new covered h (ByFacts.known {facts = facts} found (th, e, f)) =
+  pub gives-holds : (step : Step) (s new : State) → AreCovered (named_facts step) → Holds s → GivesBy L Q step s (Ok new) → Holds new
+  gives-holds (Rule fact) s new covered h (ByFactsOf.known {facts = facts} found (th, e, f)) =
       let u = used fact th covered (with_one-used fact facts th e found) in
       record { sound = rule_is_sound Q k unifier_solves s new th labels labels h.sound u f; statement = rule-keeps C closed (algebra_of Q.declarations) s new th h.statement f }
-  gives-holds (Erule fact) s new covered h (ByFacts.known {facts = facts} found (th, e, f)) =
+  gives-holds (Erule fact) s new covered h (ByFactsOf.known {facts = facts} found (th, e, f)) =
       let u = used fact th covered (with_one-used fact facts th e found) in
       record { sound = elimination_is_sound Q k unifier_solves s new th labels labels h.sound u f; statement = elimination-keeps C closed (algebra_of Q.declarations) s new th h.statement f }
-  gives-holds (Drule fact) s new covered h (ByFacts.known {facts = facts} found (th, e, f)) =
+  gives-holds (Drule fact) s new covered h (ByFactsOf.known {facts = facts} found (th, e, f)) =
       let u = used fact th covered (with_one-used fact facts th e found) in
       record { sound = destruction_is_sound Q k unifier_solves s new th labels labels h.sound u f; statement = destruction-keeps C closed (algebra_of Q.declarations) s new th h.statement f }
-  gives-holds (Unfold written) s new covered h (ByFacts.known {facts = facts} found f) = unfold-holds s new written facts covered found h f
+  gives-holds (Unfold written) s new covered h (ByFactsOf.known {facts = facts} found f) = unfold-holds s new written facts covered found h f
   gives-holds Assumption s new covered h f =
       record { sound = assumption_is_sound Q k unifier_solves s new labels h.sound f; statement = assumption-keeps C closed (algebra_of Q.declarations) s new h.statement f }
   gives-holds (Prefer n) s new covered h f =
@@ -199,17 +201,17 @@ module _ (texts : List (List ℕ)) (Q : Content) (k : IsUnifyContent Q) (C : Ter
 
   -- Each promise that the steps name is among the labels.
   abbrev pub AreStepsCovered : List Step → Type 0
-  AreStepsCovered steps = (l : Label) → IsNamed texts Q steps l → IsIn l labels
+  AreStepsCovered steps = (l : Label) → IsNamedBy L steps l → IsIn l labels
 
   module _ (Concluded : Type 0) (at_end : (s : State) (th : Theorem) → Holds s → EndsAs s (Ok th) → Concluded) where
-    ends-conclude : (number : ℕ) (s : State) (steps : List Step) → AreStepsCovered steps → Holds s → Ends texts Q number s steps Proved → Concluded
-    ends-conclude number s steps covered h (Ends.finished {th = th} f) = at_end s th h f
-    ends-conclude number s steps covered h (Ends.closed {next = next} {steps = left} f rest) = ends-conclude number next left (λ l m. covered l (inr m)) (closes-holds s next h f) rest
-    ends-conclude number s steps covered h (Ends.goes_on {next = next} {step = step} {steps = left} f rest) =
+    ends-conclude : (number : ℕ) (s : State) (steps : List Step) → AreStepsCovered steps → Holds s → EndsBy L Q number s steps Proved → Concluded
+    ends-conclude number s steps covered h (EndsBy.finished {th = th} f) = at_end s th h f
+    ends-conclude number s steps covered h (EndsBy.closed {next = next} {steps = left} f rest) = ends-conclude number next left (λ l m. covered l (inr m)) (closes-holds s next h f) rest
+    ends-conclude number s steps covered h (EndsBy.goes_on {next = next} {step = step} {steps = left} f rest) =
         ends-conclude (number + 1) next left (λ l m. covered l (inr m)) (gives-holds step s next (λ l m. covered l (inl m)) h f) rest
 
-  pub proved-derivable : (script : List Step) → IsProof texts Q C script (Ok labels) → IsProposition Q C → IsDerivable Q (theorem (generalised (everything 0) C) labels)
-  proved-derivable script (IsProof.proved {s = s} begun ended named) is =
+  proved_by-derivable : (script : List Step) → IsProofBy L Q C script (Ok labels) → IsProposition Q C → IsDerivable Q (theorem (generalised (everything 0) C) labels)
+  proved_by-derivable script (IsProofBy.proved {s = s} begun ended named) is =
       generalised-derivable Q k C closed labels
       (ends-conclude (IsDerivable Q (theorem C labels)) (λ t th h f. end-derivable Q k C closed labels t th h.sound h.statement f) 1 s script (λ l m. (named.exactly l).1 m) (start s begun is) ended)
     where
@@ -220,3 +222,10 @@ module _ (texts : List (List ℕ)) (Q : Content) (k : IsUnifyContent Q) (C : Ter
             sound = record { goal = sound.goal; derivable = weaker_is_derivable Q (theorem_of s []) [] labels (record { hyps = λ B m. m; rests = λ l m. absurd m }) sound.derivable };
             statement = becomes-keeps C closed _ s refl begun;
           }
+
+pub proved-derivable : (texts : List (List ℕ)) (Q : Content) → IsUnifyContent Q → (C : Term) → HasNoSchematic C → (labels : List Label) (script : List Step) → IsProof texts Q C script (Ok labels)
+    → IsProposition Q C → IsDerivable Q (theorem (generalised (everything 0) C) labels)
+proved-derivable texts Q = proved_by-derivable (IsFoundFact texts Q) Q (everywhere-over texts Q)
+
+pub proved_in-derivable : ProvedInIsDerivable
+proved_in-derivable texts Q k lemma C is closed script labels proof = proved_by-derivable (IsFoundLocal texts Q lemma) Q (in_lemma-over texts Q lemma) k C closed labels script proof is

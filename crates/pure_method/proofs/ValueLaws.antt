@@ -1,6 +1,7 @@
 -- Each proof has a value, where each look-up and each unfolding has an answer.
-use Rattle.std.proofs.Common.{◌≡◌, ◌≢◌, ◌⊎◌, ◌↔◌, ℕ, zero, suc, ◌+◌, List, [], ◌∷◌, ◌++◌, length, inl, inr, refl, sym, subst}
-use Rattle.std.specs.Prelude.{Option, Some, None, Result, Ok, Err, true, slice_get}
+use Rattle.std.proofs.Common.{◌≡◌, ◌≢◌, ◌⊎◌, ◌↔◌, ℕ, ◌+◌, List, [], ◌∷◌, ◌++◌, inl, inr, refl, sym, subst}
+use Rattle.std.specs.Prelude.{Option, Some, None, Result, Ok, Err, true}
+use Rattle.std.proofs.lemmas.Option.{same_Some, none-some}
 use Rattle.std.specs.Set.{sorted_merge}
 use Rattle.pure_text.specs.Lists.{IsIn, EachTwo, AnyOf}
 use Rattle.pure_text.proofs.ListLaws.{in_split, in-append_left, in-append_right}
@@ -14,13 +15,9 @@ use Rattle.pure_grammar.specs.Theories.TheoryText.{Step, Rule, Erule, Drule, Ass
 use Rattle.pure_logic.specs.Connectives.{eq}
 use Rattle.pure_logic.specs.Content.{Content, IsProposition}
 use Rattle.pure_logic.specs.Derivable.{Theorem}
-use Rattle.pure_logic.specs.BuiltFacts.{built_facts}
 use Rattle.pure_logic.proofs.EqualityLaws.{right-of, reflexive_equality}
 use Rattle.pure_logic.proofs.TheoremMapLaws.{weaker_is_derivable}
-use Rattle.pure_lookup.specs.Meaning.{facts, Built, built_texts, IsVisible, IsMeant}
-use Rattle.pure_lookup.specs.LookUps.{Fact, BuiltFact, AxiomFact, PromisedFact, IsFoundFact}
-use Rattle.pure_lookup.specs.Laws.{IsInSession}
-use Rattle.pure_lookup.proofs.MeaningLaws.{one_fact}
+use Rattle.pure_lookup.specs.LookUps.{Fact, BuiltFact, AxiomFact, PromisedFact, IsFoundFact, IsFoundLocal}
 use Rattle.pure_theorem.specs.Sets.{label_cmp, IsLabelSet}
 use Rattle.pure_theorem.proofs.SetLaws.{union_of_labels, no_labels, one_label}
 use Rattle.pure_unfold.specs.Unfold.{IsNoDefinition, Unfolds, UnfoldsNothing}
@@ -32,28 +29,16 @@ use Rattle.pure_resolve.specs.GoalSteps.Steps.{BeginsAs, RuleStep, EliminationSt
 use Rattle.pure_resolve.specs.GoalSteps.declared.fault.StepFault.{StepFault}
 use Rattle.pure_resolve.specs.GoalSteps.declared.fault.StepFault.TheVariants as fault
 use Rattle.pure_resolve.proofs.GoalSteps.SoundLaws.{begins_sound}
-use Rattle.pure_method.specs.Facts.{theorem, IsFound, IsUnknown, named_facts, MeansPromise, AreNamed}
+use Rattle.pure_method.specs.Facts.{theorem, LookUp, IsFoundBy, IsUnknownBy, named_facts, MeansPromiseBy, AreNamedBy}
 use Rattle.pure_method.specs.Unfolding.{IsSmallEquation, TakesFact, ComesByFacts, UnfoldStep, chained_equation}
-use Rattle.pure_method.specs.Proof.{ByFacts, WithOne, Gives, ProofOutcome, Ending, Proved, Failed, Ends, IsProof}
-use Rattle.pure_method.specs.Outcomes.{HasOutcome, HasAnswers, IsScript, ends_here, goes_further}
+use Rattle.pure_method.specs.Proof.{ByFactsOf, WithOne, GivesBy, ProofOutcome, Ending, Proved, Failed, EndsBy, IsProofBy}
+use Rattle.pure_method.specs.Outcomes.{HasOutcome, HasAnswersBy, ProofHasAValue, IsScript, ends_here, goes_further}
+use Rattle.pure_method.specs.Laws.{ProofInHasAValue}
+use Rattle.pure_method.proofs.FactLaws.{IsOnce, FindsOver, everywhere-over, everywhere-once, in_lemma-over, in_lemma-once}
 use Rattle.pure_method.proofs.UnfoldDecidedLaws.{unfolds_or_not}
 use Rattle.pure_method.proofs.OutcomeLaws.{begins_somehow, rule_somehow, elimination_somehow, destruction_somehow, assumption_somehow, prefer_somehow, defer_somehow, conversion_somehow}
 use Rattle.pure_method.proofs.ClosingLaws.{closes_somehow, ends_somehow}
 use Rattle.pure_method.proofs.SoundLaws.{Holds, AreCovered, AreStepsCovered, used, all-given, comes-proved, first-proposition, gives-holds, closes-holds, becomes-keeps}
-
--- What has a place in a list has one in each list that is as long.
-placed : (xs : List (List ℕ)) (ys : List Term) → length xs ≡ length ys → (place : ℕ) (x : List ℕ) → slice_get xs place ≡ Some x → (y : Term) × (slice_get ys place ≡ Some y)
-placed [] ys e place x h = let no : ⊥ = cc in absurd no
-placed (z ∷ zs) [] e place x h = let no : ⊥ = cc in absurd no
-placed (z ∷ zs) (y ∷ ys) e zero x h = (y, refl)
-placed (z ∷ zs) (y ∷ ys) e (suc place) x h = placed zs ys (suc-same (length zs) (length ys) e) place x h
-  where
-    suc-same : (m n : ℕ) → suc m ≡ suc n → m ≡ n
-    suc-same m n e = cc
-
-as-long : length built_texts ≡ length built_facts
-unfolding built_texts
-as-long = refl
 
 -- The labels that are told of each of several things, together.
 collected : {A : Type 0} (P : A → Label → Type 0) → ((x : A) → (ls : List Label) × ((l : Label) → IsIn l ls ↔ P x l)) → (xs : List A) → (ls : List Label) × ((l : Label) → IsIn l ls ↔ AnyOf (λ x. P x l) xs)
@@ -82,48 +67,39 @@ as_set (k ∷ ls) =
       ),
     )
 
-module _ (texts : List (List ℕ)) (Q : Content) (session : IsInSession texts Q) (k : IsUnifyContent Q) (answers : HasAnswers texts Q) where
+module _ (L : LookUp) (Q : Content) (over : FindsOver Q L) (once_found : IsOnce L) (k : IsUnifyContent Q) (answers : HasAnswersBy L) where
   abbrev A : Algebra
   A = algebra_of Q.declarations
 
-  -- A built fact that is found stands in their list.
-  built-visible : (p place : ℕ) (theory base : List ℕ) → IsVisible texts Q facts p theory base (Built place) → (B : Term) × (slice_get built_facts place ≡ Some B)
-  built-visible p place theory base (inl h) = placed built_texts built_facts as-long place _ h.2.1
-  built-visible p place theory base (inr h) = absurd h.4
-
-  built-found : (written : List ℕ) (place : ℕ) → IsMeant texts Q facts written (Built place) → (B : Term) × (slice_get built_facts place ≡ Some B)
-  built-found written place (inl h) = built-visible h.1.place place h.1.theory h.1.base h.1.visible
-  built-found written place (inr h) = built-visible h.1.place place h.1.theory written h.1.visible
-
-  found-or-not : (written : List ℕ) → ((th : Theorem) × IsFound texts Q written th) ⊎ IsUnknown texts Q written
+  found-or-not : (written : List ℕ) → ((th : Theorem) × IsFoundBy L written th) ⊎ IsUnknownBy L written
   found-or-not written = by (answers.found written).0 (answers.found written).1
     where
-      by : (found : Option Fact) → IsFoundFact texts Q written found → ((th : Theorem) × IsFound texts Q written th) ⊎ IsUnknown texts Q written
+      by : (found : Option Fact) → L written found → ((th : Theorem) × IsFoundBy L written th) ⊎ IsUnknownBy L written
       by None h = inr h
       by (Some (BuiltFact place)) h =
-          let B = built-found written place (subst (IsMeant texts Q facts written) h.2 h.1) in
+          let B = over written (BuiltFact place) h in
           inl (theorem B.0 [], record { fact = BuiltFact place; found = h; is = (B.0, B.1, refl) })
       by (Some (AxiomFact name B)) h = inl (theorem B [], record { fact = AxiomFact name B; found = h; is = refl })
       by (Some (PromisedFact name label B)) h = inl (theorem B (label ∷ []), record { fact = PromisedFact name label B; found = h; is = refl })
 
   abbrev AllFound : List (List ℕ) → Type 0
-  AllFound ws = (ths : List Theorem) × EachTwo (IsFound texts Q) ws ths
+  AllFound ws = (ths : List Theorem) × EachTwo (IsFoundBy L) ws ths
 
-  all_found-or-not : (ws : List (List ℕ)) → AllFound ws ⊎ AnyOf (IsUnknown texts Q) ws
+  all_found-or-not : (ws : List (List ℕ)) → AllFound ws ⊎ AnyOf (IsUnknownBy L) ws
   all_found-or-not [] = inl ([], tt)
   all_found-or-not (w ∷ ws) = by (found-or-not w) (all_found-or-not ws)
     where
-      by : ((th : Theorem) × IsFound texts Q w th) ⊎ IsUnknown texts Q w → AllFound ws ⊎ AnyOf (IsUnknown texts Q) ws → AllFound (w ∷ ws) ⊎ AnyOf (IsUnknown texts Q) (w ∷ ws)
+      by : ((th : Theorem) × IsFoundBy L w th) ⊎ IsUnknownBy L w → AllFound ws ⊎ AnyOf (IsUnknownBy L) ws → AllFound (w ∷ ws) ⊎ AnyOf (IsUnknownBy L) (w ∷ ws)
       by (inr unknown) rest = inr (inl unknown)
       by (inl here) (inr unknown) = inr (inr unknown)
       by (inl here) (inl rest) = inl (here.0 ∷ rest.0, (here.1, rest.1))
 
   -- The promise that a name means.
   abbrev HasLabels : List ℕ → Type 0
-  HasLabels written = (ls : List Label) × ((l : Label) → IsIn l ls ↔ MeansPromise texts Q l written)
+  HasLabels written = (ls : List Label) × ((l : Label) → IsIn l ls ↔ MeansPromiseBy L l written)
 
-  once : (written : List ℕ) (a b : Fact) → IsFoundFact texts Q written (Some a) → IsFoundFact texts Q written (Some b) → a ≡ b
-  once written a b h i = let same : Some a ≡ Some b = one_fact texts Q session k.content written (Some a) (Some b) h i in cc
+  once : (written : List ℕ) (a b : Fact) → L written (Some a) → L written (Some b) → a ≡ b
+  once written a b h i = same_Some a b (once_found written (Some a) (Some b) h i)
 
   label-same : (m n : ℕ) (l j : Label) (B C : Term) → PromisedFact m l B ≡ PromisedFact n j C → j ≡ l
   label-same m n l j B C e = cc
@@ -137,21 +113,21 @@ module _ (texts : List (List ℕ)) (Q : Content) (session : IsInSession texts Q)
   labels-of : (written : List ℕ) → HasLabels written
   labels-of written = by (answers.found written).0 (answers.found written).1
     where
-      by : (found : Option Fact) → IsFoundFact texts Q written found → HasLabels written
-      by None h = ([], λ l. (λ m. absurd m, λ p. h p.2.0 p.2.1))
+      by : (found : Option Fact) → L written found → HasLabels written
+      by None h = ([], λ l. (λ m. absurd m, λ p. none-some (PromisedFact p.0 l p.1) (once_found written None (Some (PromisedFact p.0 l p.1)) h p.2)))
       by (Some (BuiltFact place)) h = ([], λ l. (λ m. absurd m, λ p. built-no_promise place p.0 l p.1 (once written (BuiltFact place) (PromisedFact p.0 l p.1) h p.2)))
       by (Some (AxiomFact name B)) h = ([], λ l. (λ m. absurd m, λ p. axiom-no_promise name p.0 l B p.1 (once written (AxiomFact name B) (PromisedFact p.0 l p.1) h p.2)))
       by (Some (PromisedFact name label B)) h = (
         label ∷ [],
         λ l. (
-          λ m. elim m [ inl e ↦ (name, B, subst (λ (j : Label). IsFoundFact texts Q written (Some (PromisedFact name j B))) (sym e) h) | inr n ↦ absurd n ],
+          λ m. elim m [ inl e ↦ (name, B, subst (λ (j : Label). L written (Some (PromisedFact name j B))) (sym e) h) | inr n ↦ absurd n ],
           λ p. inl (label-same name p.0 label l B p.1 (once written (PromisedFact name label B) (PromisedFact p.0 l p.1) h p.2)),
         ),
       )
 
-  some_named : (script : List Step) → (labels : List Label) × AreNamed texts Q script labels
+  some_named : (script : List Step) → (labels : List Label) × AreNamedBy L script labels
   some_named script =
-      let all = collected (λ (step : Step) l. AnyOf (MeansPromise texts Q l) (named_facts step)) (λ step. collected (λ w l. MeansPromise texts Q l w) labels-of (named_facts step)) script in
+      let all = collected (λ (step : Step) l. AnyOf (MeansPromiseBy L l) (named_facts step)) (λ step. collected (λ w l. MeansPromiseBy L l w) labels-of (named_facts step)) script in
       let set = as_set all.0 in
       (set.0, record { ascend = set.1; exactly = λ l. (λ m. (all.1 l).0 ((set.2 l).0 m), λ n. (set.2 l).1 ((all.1 l).1 n)) })
 
@@ -178,17 +154,17 @@ module _ (texts : List (List ℕ)) (Q : Content) (session : IsInSession texts Q)
     comes_somehow first now (fact ∷ ths) = comes-further first now fact ths (λ u. comes_somehow first u ths) (takes_somehow first now fact)
 
     abbrev HoldsSo : State → Type 0
-    HoldsSo s = Holds texts Q k C closed labels s
+    HoldsSo s = Holds L Q over k C closed labels s
 
-    unfold_somehow : (s : State) → HoldsSo s → (written : List (List ℕ)) (ths : List Theorem) → AreCovered texts Q k C closed labels written → EachTwo (IsFound texts Q) written ths → HasOutcome (UnfoldStep A s ths)
+    unfold_somehow : (s : State) → HoldsSo s → (written : List (List ℕ)) (ths : List Theorem) → AreCovered L Q over k C closed labels written → EachTwo (IsFoundBy L) written ths → HasOutcome (UnfoldStep A s ths)
     unfold_somehow s h written ths covered found = by s.subgoals refl
       where
         come : (first : Term) (others : List Term) → s.subgoals ≡ first ∷ others → (r : Result Term StepFault) → ComesByFacts A first first ths r → HasOutcome (UnfoldStep A s ths)
         come first others e (Err f) c = (Err f, UnfoldStep.refused e c)
         come first others e (Ok last) c =
-            let is = first-proposition texts Q k C closed labels s first others e h.sound in
+            let is = first-proposition L Q over k C closed labels s first others e h.sound in
             let start = reflexive_equality Q k.content k.above [] labels prop first is in
-            let proved = comes-proved texts Q k C closed labels first first last ths (all-given texts Q k C closed labels written ths covered found) start c in
+            let proved = comes-proved L Q over k C closed labels first first last ths (all-given L Q over k C closed labels written ths covered found) start c in
             let side = right-of Q k.content k.above [] labels prop first last proved in
             let next = conversion_somehow Q k s labels h.sound (chained_equation first last ths) first last others e refl side in
             (next.0, UnfoldStep.converted e c next.1)
@@ -197,58 +173,58 @@ module _ (texts : List (List ℕ)) (Q : Content) (session : IsInSession texts Q)
         by [] e = (Err fault.NoSubgoal, UnfoldStep.no_subgoal e)
         by (first ∷ others) e = let c = comes_somehow first first ths in come first others e c.0 c.1
 
-    by_one : (With : Theorem → Outcome → Type 0) (written : List ℕ) → ((th : Theorem) → IsFound texts Q written th → HasOutcome (With th)) → HasOutcome (ByFacts texts Q (WithOne With) (written ∷ []))
+    by_one : (With : Theorem → Outcome → Type 0) (written : List ℕ) → ((th : Theorem) → IsFoundBy L written th → HasOutcome (With th)) → HasOutcome (ByFactsOf L (WithOne With) (written ∷ []))
     by_one With written with = elim (found-or-not written) [
-      | inr unknown ↦ (Err fault.UnknownFact, ByFacts.unknown (inl unknown))
-      | inl known ↦ let next = with known.0 known.1 in (next.0, ByFacts.known {facts = known.0 ∷ []} (known.1, tt) (known.0, refl, next.1))
+      | inr unknown ↦ (Err fault.UnknownFact, ByFactsOf.unknown (inl unknown))
+      | inl known ↦ let next = with known.0 known.1 in (next.0, ByFactsOf.known {facts = known.0 ∷ []} (known.1, tt) (known.0, refl, next.1))
     ]
 
-    by_all : (s : State) → HoldsSo s → (written : List (List ℕ)) → AreCovered texts Q k C closed labels written → HasOutcome (ByFacts texts Q (UnfoldStep A s) written)
+    by_all : (s : State) → HoldsSo s → (written : List (List ℕ)) → AreCovered L Q over k C closed labels written → HasOutcome (ByFactsOf L (UnfoldStep A s) written)
     by_all s h written covered = elim (all_found-or-not written) [
-      | inr unknown ↦ (Err fault.UnknownFact, ByFacts.unknown unknown)
-      | inl known ↦ let next = unfold_somehow s h written known.0 covered known.1 in (next.0, ByFacts.known known.1 next.1)
+      | inr unknown ↦ (Err fault.UnknownFact, ByFactsOf.unknown unknown)
+      | inl known ↦ let next = unfold_somehow s h written known.0 covered known.1 in (next.0, ByFactsOf.known known.1 next.1)
     ]
 
     abbrev EndsSo : ℕ → State → List Step → Type 0
-    EndsSo number s steps = (end : Ending) × Ends texts Q number s steps end
+    EndsSo number s steps = (end : Ending) × EndsBy L Q number s steps end
 
     module _ (number : ℕ) (s : State) (steps : List Step) (h : HoldsSo s) (further : (number : ℕ) (next : State) → HoldsSo next → EndsSo number next steps) where
-      stepped : (step : Step) → AreCovered texts Q k C closed labels (named_facts step) → HasOutcome (Gives texts Q step s) → EndsSo number s (step ∷ steps)
-      stepped step covered (Err f, g) = (Failed (record { step = number; fault = f }), Ends.refused g)
-      stepped step covered (Ok next, g) = let rest = further (number + 1) next (gives-holds texts Q k C closed labels step s next covered h g) in (rest.0, Ends.goes_on g rest.1)
+      stepped : (step : Step) → AreCovered L Q over k C closed labels (named_facts step) → HasOutcome (GivesBy L Q step s) → EndsSo number s (step ∷ steps)
+      stepped step covered (Err f, g) = (Failed (record { step = number; fault = f }), EndsBy.refused g)
+      stepped step covered (Ok next, g) = let rest = further (number + 1) next (gives-holds L Q over k C closed labels step s next covered h g) in (rest.0, EndsBy.goes_on g rest.1)
 
-      by_step : (step : Step) → step ≢ Done → AreCovered texts Q k C closed labels (named_facts step) → EndsSo number s (step ∷ steps)
+      by_step : (step : Step) → step ≢ Done → AreCovered L Q over k C closed labels (named_facts step) → EndsSo number s (step ∷ steps)
       by_step (Rule fact) n covered =
-          stepped (Rule fact) covered (by_one (RuleStep A s) fact (λ th found. rule_somehow Q k s labels h.sound th labels (used texts Q k C closed labels fact th covered found) (answers.normal fact th found)))
+          stepped (Rule fact) covered (by_one (RuleStep A s) fact (λ th found. rule_somehow Q k s labels h.sound th labels (used L Q over k C closed labels fact th covered found) (answers.normal fact th found)))
       by_step (Erule fact) n covered =
-          stepped (Erule fact) covered (by_one (EliminationStep A s) fact (λ th found. elimination_somehow Q k s labels h.sound th labels (used texts Q k C closed labels fact th covered found) (answers.normal fact th found)))
+          stepped (Erule fact) covered (by_one (EliminationStep A s) fact (λ th found. elimination_somehow Q k s labels h.sound th labels (used L Q over k C closed labels fact th covered found) (answers.normal fact th found)))
       by_step (Drule fact) n covered =
-          stepped (Drule fact) covered (by_one (DestructionStep A s) fact (λ th found. destruction_somehow Q k s labels h.sound th labels (used texts Q k C closed labels fact th covered found) (answers.normal fact th found)))
+          stepped (Drule fact) covered (by_one (DestructionStep A s) fact (λ th found. destruction_somehow Q k s labels h.sound th labels (used L Q over k C closed labels fact th covered found) (answers.normal fact th found)))
       by_step Assumption n covered = stepped Assumption covered (assumption_somehow Q k s labels h.sound)
       by_step (Unfold written) n covered = stepped (Unfold written) covered (by_all s h written covered)
       by_step (Prefer m) n covered = stepped (Prefer m) covered (prefer_somehow Q k s labels h.sound m)
       by_step Defer n covered = stepped Defer covered (defer_somehow Q k s labels h.sound)
       by_step Close n covered =
           let closing = closes_somehow Q k labels s h.sound in
-          let rest = further number closing.0 (closes-holds texts Q k C closed labels s closing.0 h closing.1) in
-          (rest.0, Ends.closed closing.1 rest.1)
+          let rest = further number closing.0 (closes-holds L Q over k C closed labels s closing.0 h closing.1) in
+          (rest.0, EndsBy.closed closing.1 rest.1)
       by_step Done n covered = absurd (n refl)
 
     ended : (number : ℕ) (s : State) → (r : Result Theorem StepFault) → EndsAs s r → EndsSo number s (Done ∷ [])
-    ended number s (Ok th) e = (Proved, Ends.finished e)
-    ended number s (Err f) e = (Failed (record { step = number; fault = f }), Ends.unfinished e)
+    ended number s (Ok th) e = (Proved, EndsBy.finished e)
+    ended number s (Err f) e = (Failed (record { step = number; fault = f }), EndsBy.unfinished e)
 
-    script-ends : (steps : List Step) → IsScript steps → AreStepsCovered texts Q k C closed labels steps → (number : ℕ) (s : State) → HoldsSo s → EndsSo number s steps
+    script-ends : (steps : List Step) → IsScript steps → AreStepsCovered L Q over k C closed labels steps → (number : ℕ) (s : State) → HoldsSo s → EndsSo number s steps
     script-ends [] is covered number s h = elim is [ ]
     script-ends (Done ∷ []) ends_here covered number s h =
         let end = ends_somehow Q k s labels h.sound (subst HasNoSchematic (sym h.statement) closed) in ended number s end.0 end.1
     script-ends (step ∷ steps) (goes_further n rest) covered number s h =
         by_step number s steps h (λ m next held. script-ends steps rest (λ l a. covered l (inr a)) m next held) step n (λ l a. covered l (inl a))
 
-  pub proof_has_a_value : (C : Term) → IsProposition Q C → HasNoSchematic C → (script : List Step) → IsScript script → (outcome : ProofOutcome) × IsProof texts Q C script outcome
-  proof_has_a_value C is closed script steps = begun (begins_somehow Q k C is).0 (begins_somehow Q k C is).1 (some_named script).0 (some_named script).1
+  value_by : (C : Term) → IsProposition Q C → HasNoSchematic C → (script : List Step) → IsScript script → (outcome : ProofOutcome) × IsProofBy L Q C script outcome
+  value_by C is closed script steps = begun (begins_somehow Q k C is).0 (begins_somehow Q k C is).1 (some_named script).0 (some_named script).1
     where
-      start : (labels : List Label) (s : State) → BeginsAs C (Ok s) → Holds texts Q k C closed labels s
+      start : (labels : List Label) (s : State) → BeginsAs C (Ok s) → Holds L Q over k C closed labels s
       start labels s f =
           let sound = begins_sound Q k.content k.above C s is f in
           record {
@@ -256,12 +232,18 @@ module _ (texts : List (List ℕ)) (Q : Content) (session : IsInSession texts Q)
             statement = becomes-keeps C closed _ s refl f;
           }
 
-      value : (labels : List Label) → AreNamed texts Q script labels → (s : State) → BeginsAs C (Ok s) → (end : Ending) → Ends texts Q 1 s script end → (outcome : ProofOutcome) × IsProof texts Q C script outcome
-      value labels named s f Proved e = (Ok labels, IsProof.proved f e named)
-      value labels named s f (Failed g) e = (Err g, IsProof.failed f e)
+      value : (labels : List Label) → AreNamedBy L script labels → (s : State) → BeginsAs C (Ok s) → (end : Ending) → EndsBy L Q 1 s script end → (outcome : ProofOutcome) × IsProofBy L Q C script outcome
+      value labels named s f Proved e = (Ok labels, IsProofBy.proved f e named)
+      value labels named s f (Failed g) e = (Err g, IsProofBy.failed f e)
 
-      begun : (outcome : Outcome) → BeginsAs C outcome → (labels : List Label) → AreNamed texts Q script labels → (outcome : ProofOutcome) × IsProof texts Q C script outcome
-      begun (Err f) b labels named = (Err (record { step = 0; fault = fault.Big }), IsProof.not_begun b)
+      begun : (outcome : Outcome) → BeginsAs C outcome → (labels : List Label) → AreNamedBy L script labels → (outcome : ProofOutcome) × IsProofBy L Q C script outcome
+      begun (Err f) b labels named = (Err (record { step = 0; fault = fault.Big }), IsProofBy.not_begun b)
       begun (Ok s) b labels named =
           let end = script-ends C closed labels script steps (λ l n. (named.exactly l).1 n) 1 s (start labels s b) in
           value labels named s b end.0 end.1
+
+pub proof_has_a_value : ProofHasAValue
+proof_has_a_value texts Q session k answers = value_by (IsFoundFact texts Q) Q (everywhere-over texts Q) (everywhere-once texts Q session k.content) k answers
+
+pub proof_in-has_a_value : ProofInHasAValue
+proof_in-has_a_value texts Q session k lemma answers = value_by (IsFoundLocal texts Q lemma) Q (in_lemma-over texts Q lemma) (in_lemma-once texts Q session k.content lemma) k answers

@@ -7,40 +7,41 @@ use Rattle.pure_grammar.specs.Theories.TheoryText.{Step, Close, Done}
 use Rattle.pure_order_tables.specs.Classes.{IsAntisymmetric}
 use Rattle.pure_logic.specs.Content.{Content, IsContent}
 use Rattle.pure_logic.specs.Derivable.{Theorem}
+use Rattle.pure_lookup.specs.LookUps.{IsFoundFact}
 use Rattle.pure_lookup.specs.Laws.{IsInSession}
 use Rattle.pure_resolve.specs.GoalSteps.State.{State}
 use Rattle.pure_resolve.specs.GoalSteps.Steps.{BeginsAs, EndsAs}
 use Rattle.pure_resolve.specs.GoalSteps.declared.fault.StepFault.{StepFault}
 use Rattle.pure_resolve.specs.GoalSteps.declared.fault.StepFault.TheVariants.{Big}
-use Rattle.pure_method.specs.Facts.{AreNamed}
-use Rattle.pure_method.specs.Proof.{Gives, Closes, ProofFault, ProofOutcome, Ending, Proved, Failed, IsProof}
+use Rattle.pure_method.specs.Facts.{LookUp, AreNamedBy}
+use Rattle.pure_method.specs.Proof.{GivesBy, Closes, ProofFault, ProofOutcome, Ending, Proved, Failed, IsProofBy}
 use Rattle.pure_method.specs.Outcome.{is_numbered}
 
 -- The step leads from the state to the next: that which closes subgoals, to the one from which no more are closed; any other, to the one that it gives.
-pub data Leads (texts : List (List ℕ)) (Q : Content) : Step → State → State → Type 0 where
-  closes : {s next : State} → Closes (algebra_of Q.declarations) s next → Leads texts Q Close s next
-  gives : {step : Step} {s next : State} → Gives texts Q step s (Ok next) → Leads texts Q step s next
+pub data LeadsBy (L : LookUp) (Q : Content) : Step → State → State → Type 0 where
+  closes : {s next : State} → Closes (algebra_of Q.declarations) s next → LeadsBy L Q Close s next
+  gives : {step : Step} {s next : State} → GivesBy L Q step s (Ok next) → LeadsBy L Q step s next
 
 -- With the first of these steps, which has this number, the proof ends so on the state: it is the end, or is refused.
-pub data Stops (texts : List (List ℕ)) (Q : Content) (number : ℕ) (s : State) : List Step → Ending → Type 0 where
-  finished : {th : Theorem} → EndsAs s (Ok th) → Stops texts Q number s (Done ∷ []) Proved
-  unfinished : {f : StepFault} → EndsAs s (Err f) → Stops texts Q number s (Done ∷ []) (Failed (record { step = number; fault = f }))
-  refused : {step : Step} {steps : List Step} {f : StepFault} → Gives texts Q step s (Err f) → Stops texts Q number s (step ∷ steps) (Failed (record { step = number; fault = f }))
+pub data StopsBy (L : LookUp) (Q : Content) (number : ℕ) (s : State) : List Step → Ending → Type 0 where
+  finished : {th : Theorem} → EndsAs s (Ok th) → StopsBy L Q number s (Done ∷ []) Proved
+  unfinished : {f : StepFault} → EndsAs s (Err f) → StopsBy L Q number s (Done ∷ []) (Failed (record { step = number; fault = f }))
+  refused : {step : Step} {steps : List Step} {f : StepFault} → GivesBy L Q step s (Err f) → StopsBy L Q number s (step ∷ steps) (Failed (record { step = number; fault = f }))
 
 -- the number of the next step that has one, behind a step
 abbrev pub number_behind : (number : ℕ) → Step → ℕ
 number_behind number step = if is_numbered step then number + 1 else number
 
 -- On these states the steps are made, one after the other, and end so: the first state is given, and from each its step leads to the one behind it, but from the last, with whose step the proof ends.
-pub data IsCourse (texts : List (List ℕ)) (Q : Content) : (number : ℕ) → List State → List Step → Ending → Type 0 where
-  stops : {number : ℕ} {s : State} {steps : List Step} {end : Ending} → Stops texts Q number s steps end → IsCourse texts Q number (s ∷ []) steps end
-  leads : {number : ℕ} {step : Step} {s next : State} {states : List State} {steps : List Step} {end : Ending} → Leads texts Q step s next
-      → IsCourse texts Q (number_behind number step) (next ∷ states) steps end → IsCourse texts Q number (s ∷ next ∷ states) (step ∷ steps) end
+pub data IsCourseBy (L : LookUp) (Q : Content) : (number : ℕ) → List State → List Step → Ending → Type 0 where
+  stops : {number : ℕ} {s : State} {steps : List Step} {end : Ending} → StopsBy L Q number s steps end → IsCourseBy L Q number (s ∷ []) steps end
+  leads : {number : ℕ} {step : Step} {s next : State} {states : List State} {steps : List Step} {end : Ending} → LeadsBy L Q step s next
+      → IsCourseBy L Q (number_behind number step) (next ∷ states) steps end → IsCourseBy L Q number (s ∷ next ∷ states) (step ∷ steps) end
 
 -- The course of the proof of a statement: where no goal begins with it there is no state, and else the first one is that with which it begins.
-pub data IsProofCourse (texts : List (List ℕ)) (Q : Content) (statement : Term) (script : List Step) : List State → Ending → Type 0 where
-  not_begun : {f : StepFault} → BeginsAs statement (Err f) → IsProofCourse texts Q statement script [] (Failed (record { step = 0; fault = Big }))
-  begun : {s : State} {states : List State} {end : Ending} → BeginsAs statement (Ok s) → IsCourse texts Q 1 (s ∷ states) script end → IsProofCourse texts Q statement script (s ∷ states) end
+pub data IsProofCourseBy (L : LookUp) (Q : Content) (statement : Term) (script : List Step) : List State → Ending → Type 0 where
+  not_begun : {f : StepFault} → BeginsAs statement (Err f) → IsProofCourseBy L Q statement script [] (Failed (record { step = 0; fault = Big }))
+  begun : {s : State} {states : List State} {end : Ending} → BeginsAs statement (Ok s) → IsCourseBy L Q 1 (s ∷ states) script end → IsProofCourseBy L Q statement script (s ∷ states) end
 
 -- how a proof ends that has this outcome
 abbrev pub ending_of : ProofOutcome → Ending
@@ -48,10 +49,26 @@ ending_of (Ok labels) = Proved
 ending_of (Err fault) = Failed fault
 
 -- The end of a proof's course is its outcome: each proof with an outcome has a course that ends so; and what comes of a proof with a course is its fault, or, with the promises that its steps name, that it is proved.
-pub record CourseEnds (texts : List (List ℕ)) (Q : Content) (statement : Term) (script : List Step) : Type 0 where
-  pub has_course : (outcome : ProofOutcome) → IsProof texts Q statement script outcome → (states : List State) × IsProofCourse texts Q statement script states (ending_of outcome)
-  pub fails : (states : List State) (fault : ProofFault) → IsProofCourse texts Q statement script states (Failed fault) → IsProof texts Q statement script (Err fault)
-  pub proves : (states : List State) (labels : List Label) → IsProofCourse texts Q statement script states Proved → AreNamed texts Q script labels → IsProof texts Q statement script (Ok labels)
+pub record CourseEndsBy (L : LookUp) (Q : Content) (statement : Term) (script : List Step) : Type 0 where
+  pub has_course : (outcome : ProofOutcome) → IsProofBy L Q statement script outcome → (states : List State) × IsProofCourseBy L Q statement script states (ending_of outcome)
+  pub fails : (states : List State) (fault : ProofFault) → IsProofCourseBy L Q statement script states (Failed fault) → IsProofBy L Q statement script (Err fault)
+  pub proves : (states : List State) (labels : List Label) → IsProofCourseBy L Q statement script states Proved → AreNamedBy L script labels → IsProofBy L Q statement script (Ok labels)
+
+-- The same where facts are those that the content declares.
+abbrev pub Leads : (texts : List (List ℕ)) → Content → Step → State → State → Type 0
+Leads texts Q = LeadsBy (IsFoundFact texts Q) Q
+
+abbrev pub Stops : (texts : List (List ℕ)) → Content → (number : ℕ) → State → List Step → Ending → Type 0
+Stops texts Q = StopsBy (IsFoundFact texts Q) Q
+
+abbrev pub IsCourse : (texts : List (List ℕ)) → Content → (number : ℕ) → List State → List Step → Ending → Type 0
+IsCourse texts Q = IsCourseBy (IsFoundFact texts Q) Q
+
+abbrev pub IsProofCourse : (texts : List (List ℕ)) → Content → (statement : Term) → (script : List Step) → List State → Ending → Type 0
+IsProofCourse texts Q = IsProofCourseBy (IsFoundFact texts Q) Q
+
+abbrev pub CourseEnds : (texts : List (List ℕ)) → Content → (statement : Term) → (script : List Step) → Type 0
+CourseEnds texts Q = CourseEndsBy (IsFoundFact texts Q) Q
 
 -- A proof has one course at most, over a content that a session gives, in whose order no two classes are below each other.
 abbrev pub CourseOnce : Type 0

@@ -1,5 +1,5 @@
 -- Facts as steps of a proof name them.
-use Rattle.std.specs.Prelude.{◌≡◌, ◌↔◌, ℕ, List, [], ◌∷◌, Some, None, slice_get}
+use Rattle.std.specs.Prelude.{◌≡◌, ◌↔◌, ℕ, List, [], ◌∷◌, Option, Some, None, slice_get}
 use Rattle.pure_text.specs.Lists.{IsIn, AnyOf}
 use Rattle.pure_definitions.specs.Names.{Label}
 use Rattle.pure_definitions.specs.Terms.Term.{Term}
@@ -20,15 +20,19 @@ IsFact (BuiltFact place) th = (A : Term) × (slice_get built_facts place ≡ Som
 IsFact (AxiomFact name A) th = th ≡ theorem A []
 IsFact (PromisedFact name label A) th = th ≡ theorem A (label ∷ [])
 
--- The written name means a fact over the content, which is this theorem.
-pub record IsFound (texts : List (List ℕ)) (Q : Content) (written : List ℕ) (th : Theorem) : Type 0 where
+-- a look-up of facts: its answers to the question which fact is written so, that fact or none
+abbrev pub LookUp : Type 1
+LookUp = (written : List ℕ) → Option Fact → Type 0
+
+-- By the look-up the written name means a fact, which is this theorem.
+pub record IsFoundBy (L : LookUp) (written : List ℕ) (th : Theorem) : Type 0 where
   pub fact : Fact
-  pub found : IsFoundFact texts Q written (Some fact)
+  pub found : L written (Some fact)
   pub is : IsFact fact th
 
--- The written name means no fact.
-abbrev pub IsUnknown : (texts : List (List ℕ)) → Content → (written : List ℕ) → Type 0
-IsUnknown texts Q written = IsFoundFact texts Q written None
+-- By the look-up the written name means no fact.
+abbrev pub IsUnknownBy : LookUp → (written : List ℕ) → Type 0
+IsUnknownBy L written = L written None
 
 -- the facts that a step names, as they are written, in order
 abbrev pub named_facts : Step → List (List ℕ)
@@ -38,15 +42,31 @@ named_facts (Drule fact) = fact ∷ []
 named_facts (Unfold facts) = facts
 named_facts _ = []
 
--- The written name means the promise of this label.
-abbrev pub MeansPromise : (texts : List (List ℕ)) → Content → Label → (written : List ℕ) → Type 0
-MeansPromise texts Q label written = (name : ℕ) × (A : Term) × IsFoundFact texts Q written (Some (PromisedFact name label A))
+-- By the look-up the written name means the promise of this label.
+abbrev pub MeansPromiseBy : LookUp → Label → (written : List ℕ) → Type 0
+MeansPromiseBy L label written = (name : ℕ) × (A : Term) × L written (Some (PromisedFact name label A))
 
 -- Some step names the promise of this label.
-abbrev pub IsNamed : (texts : List (List ℕ)) → Content → (script : List Step) → Label → Type 0
-IsNamed texts Q script label = AnyOf (λ step. AnyOf (MeansPromise texts Q label) (named_facts step)) script
+abbrev pub IsNamedBy : LookUp → (script : List Step) → Label → Type 0
+IsNamedBy L script label = AnyOf (λ step. AnyOf (MeansPromiseBy L label) (named_facts step)) script
 
 -- These are the labels of the promises that the steps name: a set, which ascends.
-pub record AreNamed (texts : List (List ℕ)) (Q : Content) (script : List Step) (labels : List Label) : Type 0 where
+pub record AreNamedBy (L : LookUp) (script : List Step) (labels : List Label) : Type 0 where
   pub ascend : IsLabelSet labels
-  pub exactly : (label : Label) → IsIn label labels ↔ IsNamed texts Q script label
+  pub exactly : (label : Label) → IsIn label labels ↔ IsNamedBy L script label
+
+-- The same by the look-up of what the content declares, which finds no fact that is local to a lemma.
+abbrev pub IsFound : (texts : List (List ℕ)) → Content → (written : List ℕ) → Theorem → Type 0
+IsFound texts Q = IsFoundBy (IsFoundFact texts Q)
+
+abbrev pub IsUnknown : (texts : List (List ℕ)) → Content → (written : List ℕ) → Type 0
+IsUnknown texts Q = IsUnknownBy (IsFoundFact texts Q)
+
+abbrev pub MeansPromise : (texts : List (List ℕ)) → Content → Label → (written : List ℕ) → Type 0
+MeansPromise texts Q = MeansPromiseBy (IsFoundFact texts Q)
+
+abbrev pub IsNamed : (texts : List (List ℕ)) → Content → (script : List Step) → Label → Type 0
+IsNamed texts Q = IsNamedBy (IsFoundFact texts Q)
+
+abbrev pub AreNamed : (texts : List (List ℕ)) → Content → (script : List Step) → (labels : List Label) → Type 0
+AreNamed texts Q = AreNamedBy (IsFoundFact texts Q)

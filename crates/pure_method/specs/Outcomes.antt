@@ -22,7 +22,7 @@ use Rattle.pure_resolve.specs.GoalSteps.Steps.{BeginsAs, RuleStep, EliminationSt
 use Rattle.pure_resolve.specs.GoalSteps.Derivability.{IsSound}
 use Rattle.pure_resolve.specs.GoalSteps.declared.fault.StepFault.{StepFault}
 use Rattle.pure_resolve.specs.GoalStepLaws.Laws.{IsUsed}
-use Rattle.pure_method.specs.Facts.{IsFound}
+use Rattle.pure_method.specs.Facts.{LookUp, IsFoundBy}
 use Rattle.pure_method.specs.Proof.{Closes, ProofOutcome, IsProof}
 
 -- Some outcome comes of it.
@@ -87,10 +87,14 @@ pub data IsScript : List Step → Type 0 where
   ends_here : IsScript (Done ∷ [])
   goes_further : {step : Step} {steps : List Step} → step ≢ Done → IsScript steps → IsScript (step ∷ steps)
 
--- What the steps of a proof ask of a content besides goals: each written name means a fact or none; and each fact that one means is beta-normal.
-pub record HasAnswers (texts : List (List ℕ)) (Q : Content) : Type 0 where
-  pub found : (written : List ℕ) → (fact : Option Fact) × IsFoundFact texts Q written fact
-  pub normal : (written : List ℕ) (th : Theorem) → IsFound texts Q written th → IsBetaNormal th.prop
+-- What the steps of a proof ask of a look-up: each written name means a fact or none; and each fact that one means is beta-normal.
+pub record HasAnswersBy (L : LookUp) : Type 0 where
+  pub found : (written : List ℕ) → (fact : Option Fact) × L written fact
+  pub normal : (written : List ℕ) (th : Theorem) → IsFoundBy L written th → IsBetaNormal th.prop
+
+-- The same of what the content declares.
+abbrev pub HasAnswers : (texts : List (List ℕ)) → Content → Type 0
+HasAnswers texts Q = HasAnswersBy (IsFoundFact texts Q)
 
 -- Over a content that has these answers something comes of each proof of a statement without schematic variables.
 abbrev pub ProofHasAValue : Type 0

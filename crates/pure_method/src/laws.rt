@@ -1,5 +1,6 @@
 //! Laws of proofs: each is the contract of a function that does nothing.
 ghost use Rattle.pure_method.specs.Laws.{ProofOnce, ProvedIsDerivable, RestsOnPromises, NeverMemory};
+ghost use Rattle.pure_method.specs.Laws.{ProofInOnce, ProvedInIsDerivable, RestsInOnPromises, NeverMemoryIn, ProofInHasAValue, NamesHaveAnswersIn, NothingIsLocal};
 ghost use Rattle.std.specs.Prelude.{ℕ, List};
 ghost use Rattle.pure_definitions.specs.Terms.Term as tree;
 ghost use Rattle.pure_grammar.specs.Theories.TheoryText.{Step};
@@ -60,4 +61,19 @@ pub fn course_ends()
 /// A proof has one course at most.
 pub fn course_once()
     ensures { CourseOnce }
+{}
+
+/// The same laws of a proof in a lemma, in which facts that are local to the lemma are found first.
+pub fn proof_in_lemma()
+    ensures once { ProofInOnce }
+    ensures derivable { ProvedInIsDerivable }
+    ensures promises { RestsInOnPromises }
+    ensures memory { NeverMemoryIn }
+    ensures value { ProofInHasAValue }
+    ensures names { NamesHaveAnswersIn }
+{}
+
+/// Where nothing is local to a lemma, the same comes of a proof in it as otherwise.
+pub fn nothing_is_local()
+    ensures { NothingIsLocal }
 {}
