@@ -12,7 +12,7 @@ use Rattle.pure_promise_fates.specs.Entries.{Shown, Became, RestsOn, Reaches, di
 use Rattle.pure_promise_fates.proofs.ProvedLaws.{in_mapped}
 use Rattle.pure_table.specs.Declare.Notes.{Fork, Note}
 use Rattle.pure_table.specs.Method.Facts.{AreNamed}
-use Rattle.pure_table.specs.Method.Proof.{IsProof}
+use Rattle.pure_table.specs.Method.Proof.{IsProofBy, IsProof}
 use Rattle.pure_table.specs.Promise.Entries.{LemmaEntry, plain}
 use Rattle.pure_table.specs.SessionLaws.Loaded.{IsLoadedSession}
 use Rattle.pure_table.specs.SessionMeaning.Statements.{forks_of, AreStatements}
@@ -24,7 +24,7 @@ use Rattle.pure_citations.proofs.CitedLaws.{proof-of}
 
 -- the promises that a proof's steps name are those on which it rests
 named-of : (texts : List (List ℕ)) (Q : Content) (C : Term) (script : List Step) (labels : List Label) → IsProof texts Q C script (Ok labels) → AreNamed texts Q script labels
-named-of texts Q C script labels (IsProof.proved b h named) = named
+named-of texts Q C script labels (IsProofBy.proved b h named) = named
 
 -- Of two lists that belong together, what an element of the second stands beside.
 beside-second : {A B : Type 0} (T : A → B → Type 0) (xs : List A) (ys : List B) → EachTwo T xs ys → (y : B) → IsIn y ys → (x : A) × IsIn x xs × T x y

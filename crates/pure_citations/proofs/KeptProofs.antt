@@ -19,7 +19,7 @@ use Rattle.pure_resolve.specs.GoalSteps.State.{State}
 use Rattle.pure_resolve.specs.GoalSteps.Steps.{RuleStep, EliminationStep, DestructionStep, AssumptionStep}
 use Rattle.pure_table.specs.Method.Facts.{IsFound, named_facts, MeansPromise, IsNamed}
 use Rattle.pure_table.specs.Method.Unfolding.{UnfoldStep}
-use Rattle.pure_table.specs.Method.Proof.{ByFacts, Gives, Closes, Proved, Ends, IsProof}
+use Rattle.pure_table.specs.Method.Proof.{ByFactsOf, Gives, Closes, Proved, EndsBy, Ends, IsProofBy, IsProof}
 use Rattle.pure_citations.specs.Without.{with_axioms}
 use Rattle.pure_citations.specs.Named.{MeansAxiom, NamesAxiom}
 use Rattle.pure_citations.specs.Laws.{ProofIsKept}
@@ -94,14 +94,14 @@ module _ (texts : List (List ℕ)) (Q : Content) (names : List ℕ) where
 
   -- What a step gives it gives over the smaller content.
   gives-still : (step : Step) (s new : State) → AreListed (named_facts step) → Gives texts Q step s (Ok new) → Gives texts R step s (Ok new)
-  gives-still (Rule fact) s new listed (ByFacts.known {facts = ths} found (th, e, f)) =
-      ByFacts.known (all_found-still (fact ∷ []) ths listed found) (th, e, subst (λ (A : Algebra). RuleStep A s th (Ok new)) (sym (algebra-kept names Q.declarations)) f)
-  gives-still (Erule fact) s new listed (ByFacts.known {facts = ths} found (th, e, f)) =
-      ByFacts.known (all_found-still (fact ∷ []) ths listed found) (th, e, subst (λ (A : Algebra). EliminationStep A s th (Ok new)) (sym (algebra-kept names Q.declarations)) f)
-  gives-still (Drule fact) s new listed (ByFacts.known {facts = ths} found (th, e, f)) =
-      ByFacts.known (all_found-still (fact ∷ []) ths listed found) (th, e, subst (λ (A : Algebra). DestructionStep A s th (Ok new)) (sym (algebra-kept names Q.declarations)) f)
-  gives-still (Unfold written) s new listed (ByFacts.known {facts = ths} found f) =
-      ByFacts.known (all_found-still written ths listed found) (subst (λ (A : Algebra). UnfoldStep A s ths (Ok new)) (sym (algebra-kept names Q.declarations)) f)
+  gives-still (Rule fact) s new listed (ByFactsOf.known {facts = ths} found (th, e, f)) =
+      ByFactsOf.known (all_found-still (fact ∷ []) ths listed found) (th, e, subst (λ (A : Algebra). RuleStep A s th (Ok new)) (sym (algebra-kept names Q.declarations)) f)
+  gives-still (Erule fact) s new listed (ByFactsOf.known {facts = ths} found (th, e, f)) =
+      ByFactsOf.known (all_found-still (fact ∷ []) ths listed found) (th, e, subst (λ (A : Algebra). EliminationStep A s th (Ok new)) (sym (algebra-kept names Q.declarations)) f)
+  gives-still (Drule fact) s new listed (ByFactsOf.known {facts = ths} found (th, e, f)) =
+      ByFactsOf.known (all_found-still (fact ∷ []) ths listed found) (th, e, subst (λ (A : Algebra). DestructionStep A s th (Ok new)) (sym (algebra-kept names Q.declarations)) f)
+  gives-still (Unfold written) s new listed (ByFactsOf.known {facts = ths} found f) =
+      ByFactsOf.known (all_found-still written ths listed found) (subst (λ (A : Algebra). UnfoldStep A s ths (Ok new)) (sym (algebra-kept names Q.declarations)) f)
   gives-still Assumption s new listed f = subst (λ (A : Algebra). AssumptionStep A s (Ok new)) (sym (algebra-kept names Q.declarations)) f
   gives-still (Prefer n) s new listed f = f
   gives-still Defer s new listed f = f
@@ -113,11 +113,11 @@ module _ (texts : List (List ℕ)) (Q : Content) (names : List ℕ) where
   AreStepsListed steps = (n : ℕ) → NamesAxiom texts Q steps n → IsIn n names
 
   ends-still : (number : ℕ) (s : State) (steps : List Step) → AreStepsListed steps → Ends texts Q number s steps Proved → Ends texts R number s steps Proved
-  ends-still number s steps listed (Ends.finished f) = Ends.finished f
-  ends-still number s steps listed (Ends.closed {next = next} {steps = left} f rest) =
-      Ends.closed (subst (λ (A : Algebra). Closes A s next) (sym (algebra-kept names Q.declarations)) f) (ends-still number next left (λ n m. listed n (inr m)) rest)
-  ends-still number s steps listed (Ends.goes_on {next = next} {step = step} {steps = left} f rest) =
-      Ends.goes_on (gives-still step s next (λ n m. listed n (inl m)) f) (ends-still (number + 1) next left (λ n m. listed n (inr m)) rest)
+  ends-still number s steps listed (EndsBy.finished f) = EndsBy.finished f
+  ends-still number s steps listed (EndsBy.closed {next = next} {steps = left} f rest) =
+      EndsBy.closed (subst (λ (A : Algebra). Closes A s next) (sym (algebra-kept names Q.declarations)) f) (ends-still number next left (λ n m. listed n (inr m)) rest)
+  ends-still number s steps listed (EndsBy.goes_on {next = next} {step = step} {steps = left} f rest) =
+      EndsBy.goes_on (gives-still step s next (λ n m. listed n (inl m)) f) (ends-still (number + 1) next left (λ n m. listed n (inr m)) rest)
 
   module _ (session : IsInSession texts Q) (content : IsContent Q) where
     smaller-session : IsInSession texts R
@@ -137,10 +137,10 @@ module _ (texts : List (List ℕ)) (Q : Content) (names : List ℕ) where
     promises-back l (w ∷ ws) (th ∷ ths) listed h (inr m) = inr (promises-back l ws ths (λ n a. listed n (inr a)) h.1 m)
 
     step-back : (l : Label) (step : Step) (s new : State) → AreListed (named_facts step) → Gives texts Q step s (Ok new) → AnyOf (MeansPromise texts R l) (named_facts step) → AnyOf (MeansPromise texts Q l) (named_facts step)
-    step-back l (Rule fact) s new listed (ByFacts.known {facts = ths} found f) m = promises-back l (fact ∷ []) ths listed found m
-    step-back l (Erule fact) s new listed (ByFacts.known {facts = ths} found f) m = promises-back l (fact ∷ []) ths listed found m
-    step-back l (Drule fact) s new listed (ByFacts.known {facts = ths} found f) m = promises-back l (fact ∷ []) ths listed found m
-    step-back l (Unfold written) s new listed (ByFacts.known {facts = ths} found f) m = promises-back l written ths listed found m
+    step-back l (Rule fact) s new listed (ByFactsOf.known {facts = ths} found f) m = promises-back l (fact ∷ []) ths listed found m
+    step-back l (Erule fact) s new listed (ByFactsOf.known {facts = ths} found f) m = promises-back l (fact ∷ []) ths listed found m
+    step-back l (Drule fact) s new listed (ByFactsOf.known {facts = ths} found f) m = promises-back l (fact ∷ []) ths listed found m
+    step-back l (Unfold written) s new listed (ByFactsOf.known {facts = ths} found f) m = promises-back l written ths listed found m
     step-back l Assumption s new listed f m = absurd m
     step-back l (Prefer n) s new listed f m = absurd m
     step-back l Defer s new listed f m = absurd m
@@ -148,12 +148,12 @@ module _ (texts : List (List ℕ)) (Q : Content) (names : List ℕ) where
     step-back l Done s new listed f m = absurd m
 
     named-back : (l : Label) (number : ℕ) (s : State) (steps : List Step) → AreStepsListed steps → Ends texts Q number s steps Proved → IsNamed texts R steps l → IsNamed texts Q steps l
-    named-back l number s steps listed (Ends.finished f) m = elim m [ inl n ↦ absurd n | inr n ↦ absurd n ]
-    named-back l number s steps listed (Ends.closed {next = next} {steps = left} f rest) m = elim m [
+    named-back l number s steps listed (EndsBy.finished f) m = elim m [ inl n ↦ absurd n | inr n ↦ absurd n ]
+    named-back l number s steps listed (EndsBy.closed {next = next} {steps = left} f rest) m = elim m [
       | inl n ↦ absurd n
       | inr n ↦ inr (named-back l number next left (λ k a. listed k (inr a)) rest n)
     ]
-    named-back l number s steps listed (Ends.goes_on {next = next} {step = step} {steps = left} f rest) m = elim m [
+    named-back l number s steps listed (EndsBy.goes_on {next = next} {step = step} {steps = left} f rest) m = elim m [
       | inl n ↦ inl (step-back l step s next (λ k a. listed k (inl a)) f n)
       | inr n ↦ inr (named-back l (number + 1) next left (λ k a. listed k (inr a)) rest n)
     ]
@@ -170,8 +170,8 @@ module _ (texts : List (List ℕ)) (Q : Content) (names : List ℕ) where
       (λ step. any_imply (MeansPromise texts Q l) (MeansPromise texts R l) (named_facts step) (promise-still l)) h
 
   pub proof-kept : IsInSession texts Q → IsContent Q → (C : Term) (script : List Step) (labels : List Label) → AreStepsListed script → IsProof texts Q C script (Ok labels) → IsProof texts R C script (Ok labels)
-  proof-kept session content C script labels listed (IsProof.proved {s = s} begun ended named) =
-      IsProof.proved begun (ends-still 1 s script listed ended) (record {
+  proof-kept session content C script labels listed (IsProofBy.proved {s = s} begun ended named) =
+      IsProofBy.proved begun (ends-still 1 s script listed ended) (record {
         ascend = named.ascend;
         exactly = λ l. (λ m. named-still l script ((named.exactly l).0 m), λ n. (named.exactly l).1 (named-back session content l 1 s script listed ended n));
       })

@@ -7,14 +7,14 @@ use Rattle.pure_definitions.specs.Declarations.Decl.{algebra_of}
 use Rattle.pure_grammar.specs.Theories.TheoryText.{Step, Rule, Erule, Drule, Assumption, Unfold, Prefer, Defer, Close, Done}
 use Rattle.pure_order_tables.specs.Classes.{IsAntisymmetric}
 use Rattle.pure_logic.specs.Content.{Content}
-use Rattle.pure_lookup.specs.LookUps.{IsFoundFact}
+use Rattle.pure_lookup.specs.LookUps.{IsFoundFact, IsFoundLocal}
 use Rattle.pure_resolve.specs.GoalSteps.State.{State}
 use Rattle.pure_resolve.specs.GoalSteps.Follows.{Outcome}
 use Rattle.pure_method.specs.Facts.{LookUp, AreNamedBy}
 use Rattle.pure_method.specs.Proof.{GivesBy, ProofFault, ProofOutcome, Ending, Proved, Failed, EndsBy, IsProofBy}
 use Rattle.pure_method.specs.Outcome.{is_numbered}
-use Rattle.pure_method.specs.Course.{LeadsBy, StopsBy, number_behind, IsCourseBy, IsProofCourseBy, ending_of, CourseEndsBy, CourseEnds, CourseOnce}
-use Rattle.pure_method.proofs.FactLaws.{IsOnce, everywhere-once}
+use Rattle.pure_method.specs.Course.{LeadsBy, StopsBy, number_behind, IsCourseBy, IsProofCourseBy, ending_of, CourseEndsBy, CourseEnds, CourseOnce, CourseEndsIn, CourseInOnce}
+use Rattle.pure_method.proofs.FactLaws.{IsOnce, everywhere-once, in_lemma-once}
 use Rattle.pure_method.proofs.OnceLaws.{ok-same, not-both, gives-once, closes-once, ends-once, begins-same, begins-both}
 
 pub behind-numbered : (number : ℕ) (step : Step) → is_numbered step ≡ true → number_behind number step ≡ number + 1
@@ -122,3 +122,9 @@ module _ (L : LookUp) (Q : Content) (once_found : IsOnce L) (anti : IsAntisymmet
 
 pub course_once : CourseOnce
 course_once texts Q session q anti = course_by-once (IsFoundFact texts Q) Q (everywhere-once texts Q session q) anti
+
+pub course_in-ends : CourseEndsIn
+course_in-ends texts Q lemma = course_ends-by (IsFoundLocal texts Q lemma) Q
+
+pub course_in-once : CourseInOnce
+course_in-once texts Q session q anti lemma = course_by-once (IsFoundLocal texts Q lemma) Q (in_lemma-once texts Q session q lemma) anti

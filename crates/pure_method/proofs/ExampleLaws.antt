@@ -32,7 +32,7 @@ use Rattle.pure_resolve.specs.GoalSteps.Follows.{Come, Becomes, FollowsByFirst}
 use Rattle.pure_resolve.specs.GoalSteps.Steps.{BeginsAs, AssumptionStep, EndsAs}
 use Rattle.pure_resolve.specs.GoalSteps.declared.fault.StepFault.TheVariants as fault
 use Rattle.pure_method.specs.Facts.{IsNamed, AreNamed}
-use Rattle.pure_method.specs.Proof.{Closes, Ends, IsProof}
+use Rattle.pure_method.specs.Proof.{Closes, EndsBy, IsProofBy}
 use Rattle.pure_method.specs.Examples.{premise, trivial_statement, AssumptionExample, ClosedExample, SecondStepExample, FirstStepExample, LeftExample, DerivableExample}
 use Rattle.pure_method.proofs.SoundLaws.{proved-derivable}
 
@@ -107,19 +107,19 @@ names_nothing h k (inl a) = h a
 names_nothing h k (inr b) = k b
 
 pub assumption_example : AssumptionExample
-assumption_example = IsProof.proved begins (Ends.goes_on {step = Assumption} (assumed (algebra_of pure_content.declarations)) (Ends.finished ends)) (none_named (Assumption ∷ Done ∷ []) (λ l. names_nothing (λ h. h) (names_nothing (λ h. h) (λ h. h))))
+assumption_example = IsProofBy.proved begins (EndsBy.goes_on {step = Assumption} (assumed (algebra_of pure_content.declarations)) (EndsBy.finished ends)) (none_named (Assumption ∷ Done ∷ []) (λ l. names_nothing (λ h. h) (names_nothing (λ h. h) (λ h. h))))
 
 pub closed_example : ClosedExample
-closed_example = IsProof.proved begins (Ends.closed (closes (algebra_of pure_content.declarations)) (Ends.finished ends)) (none_named (Close ∷ Done ∷ []) (λ l. names_nothing (λ h. h) (names_nothing (λ h. h) (λ h. h))))
+closed_example = IsProofBy.proved begins (EndsBy.closed (closes (algebra_of pure_content.declarations)) (EndsBy.finished ends)) (none_named (Close ∷ Done ∷ []) (λ l. names_nothing (λ h. h) (names_nothing (λ h. h) (λ h. h))))
 
 pub second_step_example : SecondStepExample
-second_step_example = IsProof.failed begins (Ends.goes_on {step = Assumption} (assumed (algebra_of pure_content.declarations)) (Ends.refused {step = Assumption} (nothing_left (algebra_of pure_content.declarations))))
+second_step_example = IsProofBy.failed begins (EndsBy.goes_on {step = Assumption} (assumed (algebra_of pure_content.declarations)) (EndsBy.refused {step = Assumption} (nothing_left (algebra_of pure_content.declarations))))
 
 pub first_step_example : FirstStepExample
-first_step_example = IsProof.failed begins (Ends.closed (closes (algebra_of pure_content.declarations)) (Ends.refused {step = Assumption} (nothing_left (algebra_of pure_content.declarations))))
+first_step_example = IsProofBy.failed begins (EndsBy.closed (closes (algebra_of pure_content.declarations)) (EndsBy.refused {step = Assumption} (nothing_left (algebra_of pure_content.declarations))))
 
 pub left_example : LeftExample
-left_example = IsProof.failed begins (Ends.unfinished (EndsAs.subgoals_left refl))
+left_example = IsProofBy.failed begins (EndsBy.unfinished (EndsAs.subgoals_left refl))
 
 -- The premises of the law.
 proposition : IsProposition pure_content trivial_statement

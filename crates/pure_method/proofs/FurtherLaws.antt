@@ -11,7 +11,7 @@ use Rattle.pure_resolve.specs.Ending.{IsEnd}
 use Rattle.pure_method.specs.Facts.{named_facts}
 use Rattle.pure_method.specs.Proof as proof
 use Rattle.pure_method.specs.Proof.{Gives, Ending, Failed}
-use Rattle.pure_method.specs.Course.{Leads, Stops}
+use Rattle.pure_method.specs.Course.{LeadsBy, StopsBy, Stops}
 use Rattle.pure_method.specs.Closing.{IsClosed}
 use Rattle.pure_method.specs.Running.{GainsNamed, HasCome, IsFurther, StopsSo}
 use Rattle.pure_method.specs.declared.run.Run.{Run}
@@ -32,7 +32,7 @@ module _ (texts : List (List ℕ)) (f : Fork) (run : Run) (step : Step) (left : 
     is_before = k.is_before;
     after = k.after;
     is_after = k.is_after;
-    leads = Leads.closes k.closes;
+    leads = LeadsBy.closes k.closes;
   }
 
   -- The step has a number, and goes on.
@@ -48,7 +48,7 @@ module _ (texts : List (List ℕ)) (f : Fork) (run : Run) (step : Step) (left : 
     is_before = is;
     after = t;
     is_after = after;
-    leads = Leads.gives gives;
+    leads = LeadsBy.gives gives;
   }
 
   -- The step is refused.
@@ -56,7 +56,7 @@ module _ (texts : List (List ℕ)) (f : Fork) (run : Run) (step : Step) (left : 
   refused-stops fault n h =
       let found = step-fault (λ s. Gives texts f.content step s) (GainsNamed texts f.content (named_facts step) run.goal.thm.rests) run.goal.thm fault n h in
       let end : Ending = Failed (record { step = run.number; fault = fault }) in
-      (found.0, found.1, subst (λ (xs : List Step). Stops texts f.content run.number found.0 xs end) (sym left) (Stops.refused found.2))
+      (found.0, found.1, subst (λ (xs : List Step). Stops texts f.content run.number found.0 xs end) (sym left) (StopsBy.refused found.2))
 
   module _ (come : HasCome texts f run.goal.thm run.number (drop run.at f.script)) (is_end : step ≡ Done) where
     done-left : drop run.at f.script ≡ Done ∷ []
@@ -66,11 +66,11 @@ module _ (texts : List (List ℕ)) (f : Fork) (run : Run) (step : Step) (left : 
 
     -- The end proves the statement,
     pub done-stops : (th : Theorem) → IsEnd run.goal.thm (Ok th) → (c : _) → StopsSo texts f run (Proved c)
-    done-stops th (s, is, ends, rests) c = (s, is, subst (λ (xs : List Step). Stops texts f.content run.number s xs proof.Proved) (sym done-left) (Stops.finished ends))
+    done-stops th (s, is, ends, rests) c = (s, is, subst (λ (xs : List Step). Stops texts f.content run.number s xs proof.Proved) (sym done-left) (StopsBy.finished ends))
 
     -- or is refused.
     pub unfinished-stops : (fault : StepFault) → (fault ≡ Memory → ⊥) → IsEnd run.goal.thm (Err fault) → StopsSo texts f run (Fault run.number fault)
     unfinished-stops fault n h =
         let found = end-fault run.goal.thm fault n h in
         let end : Ending = Failed (record { step = run.number; fault = fault }) in
-        (found.0, found.1, subst (λ (xs : List Step). Stops texts f.content run.number found.0 xs end) (sym done-left) (Stops.unfinished found.2))
+        (found.0, found.1, subst (λ (xs : List Step). Stops texts f.content run.number found.0 xs end) (sym done-left) (StopsBy.unfinished found.2))

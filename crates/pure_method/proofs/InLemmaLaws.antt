@@ -69,8 +69,8 @@ module _ (texts : List (List ℕ)) (Q : Content) (lemma : ℕ) (written : List �
   of_text : (text : List ℕ) → HasText texts lemma text → ¬ IsIn 46 written → IsSomePromised texts (full_text text written) Q.declarations → IsSomeLocal
   of_text text is clean (inl (n, l, A, h)) = inl (n, l, A, record { text = text; lemma_text = is; base = clean; full = h.text; promised = h.promised })
   of_text text is clean (inr missing) = inr (λ n l A h.
-    let same : h.text ≡ text = same_Some h.text text (sym h.lemma_text ∙ is) in
-    missing n l A (record { text = subst (λ (t : List ℕ). HasText texts n (full_text t written)) same h.full; promised = h.promised }))
+      let same : h.text ≡ text = same_Some h.text text (sym h.lemma_text ∙ is) in
+      missing n l A (record { text = subst (λ (t : List ℕ). HasText texts n (full_text t written)) same h.full; promised = h.promised }))
 
   local_or_not : IsSomeLocal
   local_or_not = elim (in_or_not 46 written) [ inl dot ↦ inr (λ n l A h. h.base dot) | inr clean ↦ named clean (slice_get (name_texts texts) lemma) refl ]

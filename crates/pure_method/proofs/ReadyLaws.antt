@@ -1,6 +1,7 @@
 -- What a stage and a lemma's statement give to a proof: terms are unified over the content, the statement has no schematic variables, and facts may be used.
 use Rattle.std.proofs.Common.{◌≡◌, ◌↔◌, ℕ, zero, suc, List, [], ◌∷◌, inl, inr, refl, ap, sym, subst}
 use Rattle.std.specs.Prelude.{Some, slice_get}
+use Rattle.std.proofs.lemmas.Option.{same_Some}
 use Rattle.pure_text.specs.Lists.{IsIn, Each}
 use Rattle.pure_text.proofs.ListLaws.{each_at, each_imply}
 use Rattle.pure_definitions.specs.Names.{Label}
@@ -16,17 +17,16 @@ use Rattle.pure_logic.specs.Content.{Content}
 use Rattle.pure_logic.specs.Derivable.{Theorem}
 use Rattle.pure_logic.specs.BuiltFacts.{built_facts}
 use Rattle.pure_lookup.specs.LookUps.{Fact, BuiltFact, AxiomFact, PromisedFact, IsFoundFact}
-use Rattle.pure_lookup.proofs.MeaningLaws.{one_fact}
 use Rattle.pure_declare.specs.Theory.Stage.{IsSound, IsCertifiedDecl}
 use Rattle.pure_theorem.specs.Facts.{IsTheoryContent}
 use Rattle.pure_unify_laws.specs.Condition.{IsUnifyContent}
 use Rattle.pure_declare.specs.Notes.{Fork}
-use Rattle.pure_declare.specs.Tidy.{HasTypIndexes, HaveTypIndexes, IsUnschematic, IsTidyDecl}
-use Rattle.pure_method.specs.Facts.{theorem, IsFact, IsFound, MeansPromise}
+use Rattle.pure_declare.specs.Tidy.{HasTypIndexes, HaveTypIndexes, IsUnschematic, IsTidyDecl, IsTidy}
+use Rattle.pure_method.specs.Facts.{theorem, IsFact, LookUp, IsFoundBy, MeansPromiseBy, IsFound, MeansPromise}
 use Rattle.pure_method.specs.Outcome.{IsProvable}
 use Rattle.pure_method.specs.Running.{IsReady}
 use Rattle.pure_method.specs.Taking.{IsReadyFact}
-use Rattle.pure_method.proofs.FactLaws.{found-usable}
+use Rattle.pure_method.proofs.FactLaws.{IsOnce, IsFactOver, FindsOver, everywhere-over, everywhere-once, found-usable}
 
 -- The declarations of a stage are over declared classes.
 pub unify_content : (Q : Content) → IsSound Q → IsUnifyContent Q
@@ -116,27 +116,33 @@ normal-at (B ∷ Bs) h (suc place) A e = normal-at Bs h.1 place A e
 prop-same : (th : Theorem) (A : Term) (rests : List Label) → th ≡ theorem A rests → IsBetaNormal A → IsBetaNormal th.prop
 prop-same th A rests e h = subst IsBetaNormal (sym (ap (λ (t : Theorem). t.prop) e)) h
 
-module _ (texts : List (List ℕ)) (Q : Content) (r : IsReady texts Q) where
-  fact-normal : (written : List ℕ) (fact : Fact) (th : Theorem) → IsFoundFact texts Q written (Some fact) → IsFact fact th → IsBetaNormal th.prop
-  fact-normal written (BuiltFact place) th found is = prop-same th is.0 [] is.2 (normal-at built_facts built-normal place is.0 is.1)
-  fact-normal written (AxiomFact name A) th found is = prop-same th A [] is (each_at IsTidyDecl Q.declarations r.tidy (AxiomDecl name A) found.2.1).normal
-  fact-normal written (PromisedFact name label A) th found is = prop-same th A (label ∷ []) is (each_at IsTidyDecl Q.declarations r.tidy (PromiseDecl name label A) found.2.1).normal
+-- A look-up in a proof over a content whose facts are as commands store them.
+module _ (L : LookUp) (Q : Content) (over : FindsOver Q L) (unify : IsUnifyContent Q) where
+  fact-normal : IsTidy Q → (fact : Fact) (th : Theorem) → IsFactOver Q fact → IsFact fact th → IsBetaNormal th.prop
+  fact-normal tidy (BuiltFact place) th there is = prop-same th is.0 [] is.2 (normal-at built_facts built-normal place is.0 is.1)
+  fact-normal tidy (AxiomFact name A) th there is = prop-same th A [] is (each_at IsTidyDecl Q.declarations tidy (AxiomDecl name A) there).normal
+  fact-normal tidy (PromisedFact name label A) th there is = prop-same th A (label ∷ []) is (each_at IsTidyDecl Q.declarations tidy (PromiseDecl name label A) there).normal
 
   -- A fact that is found may be used on each goal.
-  pub ready-fact : (written : List ℕ) (th : Theorem) → IsFound texts Q written th → IsReadyFact Q th
-  ready-fact written th h =
-      let u = found-usable texts Q r.unify.above written th h in
-      record { no_hyps = u.no_hyps; no_pairs = u.no_pairs; normal = fact-normal written h.fact th h.found h.is; derivable = u.derivable }
+  pub ready_by-fact : IsTidy Q → (written : List ℕ) (th : Theorem) → IsFoundBy L written th → IsReadyFact Q th
+  ready_by-fact tidy written th h =
+      let u = found-usable L Q over unify.above written th h in
+      record { no_hyps = u.no_hyps; no_pairs = u.no_pairs; normal = fact-normal tidy h.fact th (over written h.fact h.found) h.is; derivable = u.derivable }
 
   -- It rests on the promise that its name means, and on nothing else.
-  promise-in : (label : Label) (written : List ℕ) (th : Theorem) → IsFound texts Q written th → MeansPromise texts Q label written → IsIn label th.rests
-  promise-in label written th h (name, A, found) =
-      let same : h.fact ≡ PromisedFact name label A = some-same h.fact (PromisedFact name label A) (one_fact texts Q r.in_session r.unify.content written (Some h.fact) (Some (PromisedFact name label A)) h.found found) in
+  promise-in : IsOnce L → (label : Label) (written : List ℕ) (th : Theorem) → IsFoundBy L written th → MeansPromiseBy L label written → IsIn label th.rests
+  promise-in once label written th h (name, A, found) =
+      let same : h.fact ≡ PromisedFact name label A = same_Some h.fact (PromisedFact name label A) (once written (Some h.fact) (Some (PromisedFact name label A)) h.found found) in
       let is : th ≡ theorem A (label ∷ []) = subst (λ (f : Fact). IsFact f th) same h.is in
       subst (λ (rests : List Label). IsIn label rests) (sym (ap (λ (t : Theorem). t.rests) is)) (inl refl)
-    where
-      some-same : (f g : Fact) → Some f ≡ Some g → f ≡ g
-      some-same f g e = cc
+
+  pub rests_by-named : IsOnce L → (written : List ℕ) (th : Theorem) → IsFoundBy L written th → (label : Label) → IsIn label th.rests ↔ MeansPromiseBy L label written
+  rests_by-named once written th h label = (λ m. (found-usable L Q over unify.above written th h).named label m, λ p. promise-in once label written th h p)
+
+-- The look-up of what the content declares.
+module _ (texts : List (List ℕ)) (Q : Content) (r : IsReady texts Q) where
+  pub ready-fact : (written : List ℕ) (th : Theorem) → IsFound texts Q written th → IsReadyFact Q th
+  ready-fact = ready_by-fact (IsFoundFact texts Q) Q (everywhere-over texts Q) r.unify r.tidy
 
   pub rests-named : (written : List ℕ) (th : Theorem) → IsFound texts Q written th → (label : Label) → IsIn label th.rests ↔ MeansPromise texts Q label written
-  rests-named written th h label = (λ m. (found-usable texts Q r.unify.above written th h).named label m, λ p. promise-in label written th h p)
+  rests-named = rests_by-named (IsFoundFact texts Q) Q (everywhere-over texts Q) r.unify (everywhere-once texts Q r.in_session r.unify.content)

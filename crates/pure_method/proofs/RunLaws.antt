@@ -26,7 +26,7 @@ use Rattle.pure_resolve.specs.Uses.{MayStep}
 use Rattle.pure_resolve.specs.declared.state.Goal.{Goal}
 use Rattle.pure_resolve.proofs.ChainLaws.{chain_once}
 use Rattle.pure_method.specs.Facts.{theorem, named_facts, MeansPromise, IsNamed}
-use Rattle.pure_method.specs.Proof.{Gives, Ending, Proved, Failed, Ends, IsProof}
+use Rattle.pure_method.specs.Proof.{Gives, Ending, Proved, Failed, EndsBy, Ends, IsProofBy, IsProof}
 use Rattle.pure_method.specs.Outcomes.{IsScript}
 use Rattle.pure_method.specs.Outcome.{is_numbered, IsProvable, IsOutcomeOf}
 use Rattle.pure_method.specs.Running.{GainsNamed, EndsWhole, HasCome, StopsSo}
@@ -118,15 +118,15 @@ module _ (texts : List (List ℕ)) (f : Fork) where
     -- The step fails, and so does the proof.
     pub come-failed : (s : State) → IsTheoremOf s goal → (fault : StepFault) → Gives texts Q step s (Err fault) → IsProof texts Q f.fixed f.script (Err (record { step = number; fault = fault }))
     come-failed s is fault gives =
-        let whole = c.ends s is (Failed (record { step = number; fault = fault })) (Ends.refused gives) in
-        IsProof.failed whole.begins whole.ends
+        let whole = c.ends s is (Failed (record { step = number; fault = fault })) (EndsBy.refused gives) in
+        IsProofBy.failed whole.begins whole.ends
 
     -- A step that has a number goes on.
     pub come-further : step ≢ Close → step ≢ Done → (s : State) → IsTheoremOf s goal → (new : Theorem) (t : State) → Gives texts Q step s (Ok t) → IsTheoremOf t new → MayStep Q new → GainsNamed texts Q (named_facts step) goal.rests new.rests
         → HasCome texts f new (number + 1) steps
     come-further no_close no_end s is new t gives after may gains = record {
       may = may;
-      ends = λ u h end e. c.ends s is end (Ends.goes_on gives (subst (λ (v : State). Ends texts Q (number + 1) v steps end) (state-once u t new h after) e));
+      ends = λ u h end e. c.ends s is end (EndsBy.goes_on gives (subst (λ (v : State). Ends texts Q (number + 1) v steps end) (state-once u t new h after) e));
       ascend = gains.ascend;
       named = λ l. gained (named_facts step) step steps goal.rests new.rests refl gains l (c.named l);
       script = script-behind step steps no_end c.script;
@@ -137,7 +137,7 @@ module _ (texts : List (List ℕ)) (f : Fork) where
     pub come-closed : step ≡ Close → (new : Theorem) → IsClosed Q goal new → HasCome texts f new number steps
     come-closed e new k = record {
       may = k.may;
-      ends = λ u h end rest. c.ends k.before k.is_before end (subst (λ (x : Step). Ends texts Q number k.before (x ∷ steps) end) (sym e) (Ends.closed k.closes (subst (λ (v : State). Ends texts Q number v steps end) (state-once u k.after new h k.is_after) rest)));
+      ends = λ u h end rest. c.ends k.before k.is_before end (subst (λ (x : Step). Ends texts Q number k.before (x ∷ steps) end) (sym e) (EndsBy.closed k.closes (subst (λ (v : State). Ends texts Q number v steps end) (state-once u k.after new h k.is_after) rest)));
       ascend = subst IsLabelSet (sym k.rests) c.ascend;
       named = λ l. gained [] step steps goal.rests new.rests (ap named_facts e) (record { ascend = subst IsLabelSet (sym k.rests) c.ascend; exactly = λ m. same m }) l (c.named l);
       script = script-behind step steps (λ d. let no : Close ≡ Done = sym e ∙ d in close-no_end no) c.script;
@@ -158,8 +158,8 @@ module _ (texts : List (List ℕ)) (f : Fork) where
       -- The end fails.
       pub come-unfinished : (s : State) → IsTheoremOf s goal → (fault : StepFault) → EndsAs s (Err fault) → IsProof texts Q f.fixed f.script (Err (record { step = number; fault = fault }))
       come-unfinished s is fault e =
-          let whole = at-end s is (Failed (record { step = number; fault = fault })) (Ends.unfinished e) in
-          IsProof.failed whole.begins whole.ends
+          let whole = at-end s is (Failed (record { step = number; fault = fault })) (EndsBy.unfinished e) in
+          IsProofBy.failed whole.begins whole.ends
 
       nothing-named : (l : Label) → IsNamed texts Q (step ∷ steps) l → ⊥
       nothing-named l m = by (subst (λ (xs : List Step). IsNamed texts Q xs l) (λ i. end i ∷ script-end step steps end c.script i) m)
@@ -171,8 +171,8 @@ module _ (texts : List (List ℕ)) (f : Fork) where
       -- The statement is proved, and rests on what the goal rests on.
       pub come-proved : (s : State) → IsTheoremOf s goal → (th : Theorem) → EndsAs s (Ok th) → (rests : List Label) → rests ≡ goal.rests → IsProof texts Q f.fixed f.script (Ok rests)
       come-proved s is th e rests same =
-          let whole = at-end s is Proved (Ends.finished e) in
-          IsProof.proved whole.begins whole.ends (record {
+          let whole = at-end s is Proved (EndsBy.finished e) in
+          IsProofBy.proved whole.begins whole.ends (record {
             ascend = subst IsLabelSet (sym same) c.ascend;
             exactly = λ l. (
               λ m. (c.named l).1 (inl (subst (λ (ls : List Label). IsIn l ls) same m)),
@@ -238,7 +238,7 @@ module _ (texts : List (List ℕ)) (f : Fork) (p : IsProvable texts f) where
   begun-run goal (s, begins, is, kept, none) may = come-first texts f p goal.thm s begins is may none
 
   pub not_begun : (fault : StepFault) → (fault ≡ Memory → ⊥) → IsOutcome (BeginsAs f.fixed) (λ rests. rests ≡ []) (Err fault) → IsProof texts f.content f.fixed f.script (Err (record { step = 0; fault = Big }))
-  not_begun fault n h = IsProof.not_begun (begin-fault f.fixed (λ rests. rests ≡ []) fault n h)
+  not_begun fault n h = IsProofBy.not_begun (begin-fault f.fixed (λ rests. rests ≡ []) fault n h)
 
   module _ (goal : Theorem) (number at : ℕ) (come : HasCome texts f goal number (drop at f.script)) (step : Step) (left : drop at f.script ≡ step ∷ drop (at + 1) f.script) where
     here : HasCome texts f goal number (step ∷ drop (at + 1) f.script)

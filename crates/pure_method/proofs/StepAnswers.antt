@@ -19,7 +19,7 @@ use Rattle.pure_resolve.proofs.AnswerLaws.{outcome_map}
 use Rattle.pure_grammar.specs.Theories.TheoryText.{Step}
 use Rattle.pure_method.specs.Facts.{IsFound, IsUnknown, named_facts, MeansPromise}
 use Rattle.pure_method.specs.Unfolding.{all_rests}
-use Rattle.pure_method.specs.Proof.{ByFacts, WithOne, Gives}
+use Rattle.pure_method.specs.Proof.{ByFactsOf, ByFacts, WithOne, Gives}
 use Rattle.pure_method.specs.Running.{IsReady, GainsNamed}
 use Rattle.pure_method.specs.Taking.{IsFactAnswer, AreFactsAnswer, IsReadyFact}
 use Rattle.pure_method.proofs.ReadyLaws.{ready-fact, rests-named}
@@ -84,7 +84,7 @@ module _ (texts : List (List ℕ)) (Q : Content) (r : IsReady texts Q) where
       → IsStep (λ s. ByFacts texts Q (WithOne (With s)) (written ∷ [])) goal (GainsNamed texts Q (written ∷ []) goal.rests) result
   by_fact With goal fact written found result step =
       step_map (λ s. With s fact) (λ s. ByFacts texts Q (WithOne (With s)) (written ∷ [])) (IsSetOf label_cmp (goal.rests ++ fact.rests)) (GainsNamed texts Q (written ∷ []) goal.rests) goal
-      (λ s outcome h. ByFacts.known {facts = fact ∷ []} (found, tt) (fact, refl, h))
+      (λ s outcome h. ByFactsOf.known {facts = fact ∷ []} (found, tt) (fact, refl, h))
       (λ rests is. gains-all (written ∷ []) (fact ∷ []) (found, tt) goal.rests rests (nothing-behind goal.rests rests fact is)) result step
 
   -- The same of a step by several facts.
@@ -93,7 +93,7 @@ module _ (texts : List (List ℕ)) (Q : Content) (r : IsReady texts Q) where
       → IsStep (λ s. ByFacts texts Q (With s) written) goal (GainsNamed texts Q written goal.rests) result
   by_facts With goal facts written found result step =
       step_map (λ s. With s facts) (λ s. ByFacts texts Q (With s) written) (IsSetOf label_cmp (goal.rests ++ all_rests facts)) (GainsNamed texts Q written goal.rests) goal
-      (λ s outcome h. ByFacts.known {facts = facts} found h)
+      (λ s outcome h. ByFactsOf.known {facts = facts} found h)
       (λ rests is. gains-all written facts found goal.rests rests is) result step
 
   pub all-ready : (written : List (List ℕ)) (facts : List Theorem) → EachTwo (IsFound texts Q) written facts → Each (IsReadyFact Q) facts
@@ -105,7 +105,7 @@ module _ (texts : List (List ℕ)) (Q : Content) (r : IsReady texts Q) where
 -- A step whose facts aren't found.
 pub facts_fault : (texts : List (List ℕ)) (Q : Content) (With : State → List Theorem → Outcome → Type 0) (R : List Label → Type 0) (goal : Theorem) → IsGoalTheorem goal → (written : List (List ℕ)) (fault : StepFault) → AreFactsAnswer texts Q written (Err fault)
     → IsStep (λ s. ByFacts texts Q (With s) written) goal R (Err fault)
-facts_fault texts Q With R goal g written UnknownFact h = (g.state, g.is, g.goal, ByFacts.unknown h)
+facts_fault texts Q With R goal g written UnknownFact h = (g.state, g.is, g.goal, ByFactsOf.unknown h)
 facts_fault texts Q With R goal g written Memory h = (g.state, g.is, g.goal, tt)
 facts_fault texts Q With R goal g written NoSubgoal h = absurd h
 facts_fault texts Q With R goal g written NoPremise h = absurd h

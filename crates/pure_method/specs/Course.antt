@@ -7,7 +7,7 @@ use Rattle.pure_grammar.specs.Theories.TheoryText.{Step, Close, Done}
 use Rattle.pure_order_tables.specs.Classes.{IsAntisymmetric}
 use Rattle.pure_logic.specs.Content.{Content, IsContent}
 use Rattle.pure_logic.specs.Derivable.{Theorem}
-use Rattle.pure_lookup.specs.LookUps.{IsFoundFact}
+use Rattle.pure_lookup.specs.LookUps.{IsFoundFact, IsFoundLocal}
 use Rattle.pure_lookup.specs.Laws.{IsInSession}
 use Rattle.pure_resolve.specs.GoalSteps.State.{State}
 use Rattle.pure_resolve.specs.GoalSteps.Steps.{BeginsAs, EndsAs}
@@ -74,3 +74,14 @@ CourseEnds texts Q = CourseEndsBy (IsFoundFact texts Q) Q
 abbrev pub CourseOnce : Type 0
 CourseOnce = (texts : List (List ℕ)) (Q : Content) → IsInSession texts Q → IsContent Q → IsAntisymmetric (algebra_of Q.declarations) → (statement : Term) (script : List Step) (one other : List State) (end last : Ending)
     → IsProofCourse texts Q statement script one end → IsProofCourse texts Q statement script other last → (one ≡ other) × (end ≡ last)
+
+-- The course of a proof in the lemma of this name; its end is the proof's outcome, and it is the only one.
+abbrev pub IsProofCourseIn : (texts : List (List ℕ)) → Content → (lemma : ℕ) → (statement : Term) → (script : List Step) → List State → Ending → Type 0
+IsProofCourseIn texts Q lemma = IsProofCourseBy (IsFoundLocal texts Q lemma) Q
+
+abbrev pub CourseEndsIn : Type 0
+CourseEndsIn = (texts : List (List ℕ)) (Q : Content) (lemma : ℕ) (statement : Term) (script : List Step) → CourseEndsBy (IsFoundLocal texts Q lemma) Q statement script
+
+abbrev pub CourseInOnce : Type 0
+CourseInOnce = (texts : List (List ℕ)) (Q : Content) → IsInSession texts Q → IsContent Q → IsAntisymmetric (algebra_of Q.declarations) → (lemma : ℕ) (statement : Term) (script : List Step) (one other : List State) (end last : Ending)
+    → IsProofCourseIn texts Q lemma statement script one end → IsProofCourseIn texts Q lemma statement script other last → (one ≡ other) × (end ≡ last)

@@ -5,7 +5,7 @@ ghost use Rattle.std.specs.Prelude.{ℕ, List};
 ghost use Rattle.pure_definitions.specs.Terms.Term as tree;
 ghost use Rattle.pure_grammar.specs.Theories.TheoryText.{Step};
 ghost use Rattle.pure_logic.specs.Content.{Content};
-ghost use Rattle.pure_method.specs.Course.{CourseEnds, CourseOnce};
+ghost use Rattle.pure_method.specs.Course.{CourseEnds, CourseOnce, CourseEndsIn, CourseInOnce};
 ghost use Rattle.pure_method.specs.Outcomes.{BeginsSomehow, IsSomeRule, RuleSomehow, EliminationSomehow, DestructionSomehow, AssumptionSomehow, PreferSomehow, DeferSomehow, ConversionSomehow, ClosesSomehow, EndsSomehow, UnfoldsSomehow, ProofHasAValue};
 
 /// One value at most comes of a proof.
@@ -71,6 +71,8 @@ pub fn proof_in_lemma()
     ensures memory { NeverMemoryIn }
     ensures value { ProofInHasAValue }
     ensures names { NamesHaveAnswersIn }
+    ensures course_ends { CourseEndsIn }
+    ensures course_once { CourseInOnce }
 {}
 
 /// Where nothing is local to a lemma, the same comes of a proof in it as otherwise.

@@ -1,3 +1,4 @@
+use Rattle.pure_method.proofs.CourseLaws.{course_in-ends, course_in-once}
 use Rattle.pure_method.proofs.FaultLaws.{never_in-memory, rests_in-promised}
 use Rattle.pure_method.proofs.InLemmaLaws.{names_have_answers}
 use Rattle.pure_method.proofs.OnceLaws.{proof_in-once}
@@ -22,3 +23,9 @@ returns-clause-value c = proof_in-has_a_value
 
 pub returns-clause-names : goal.returns-clause-names
 returns-clause-names c = names_have_answers
+
+pub returns-clause-course_ends : goal.returns-clause-course_ends
+returns-clause-course_ends c = course_in-ends
+
+pub returns-clause-course_once : goal.returns-clause-course_once
+returns-clause-course_once c = course_in-once
