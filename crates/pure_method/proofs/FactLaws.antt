@@ -55,7 +55,7 @@ as-long : length built_texts ≡ length built_facts
 unfolding built_texts
 as-long = refl
 
--- The look-up of what is declared, and that in a lemma, are such.
+-- The look-up over the content alone, and that in a lemma, are such.
 module _ (texts : List (List ℕ)) (Q : Content) where
   built-visible : (p place : ℕ) (theory base : List ℕ) → IsVisible texts Q facts p theory base (Built place) → (B : Term) × (slice_get built_facts place ≡ Some B)
   built-visible p place theory base (inl h) = placed built_texts built_facts as-long place _ h.2.1

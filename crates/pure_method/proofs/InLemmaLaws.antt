@@ -1,5 +1,5 @@
 -- Proofs in a lemma: each written name has an answer there too, and where nothing is local to the lemma they are as otherwise.
-use Rattle.std.proofs.Common.{◌≡◌, ◌⊎◌, ◌↔◌, ℕ, List, [], ◌∷◌, inl, inr, refl, ap, sym, subst, ◌∙◌}
+use Rattle.std.proofs.Common.{◌≡◌, ◌⊎◌, ℕ, List, [], ◌∷◌, inl, inr, refl, ap, sym, subst, ◌∙◌}
 use Rattle.std.specs.Prelude.{Option, Some, None, Bool, true, false, Ok, slice_get, bytes_eq}
 use Rattle.std.proofs.lemmas.Slice.Eq.{bytes_eq-Decides}
 use Rattle.std.proofs.lemmas.Option.{same_Some, none-some}
@@ -16,7 +16,7 @@ use Rattle.pure_lookup.specs.Meaning.{full_text}
 use Rattle.pure_lookup.specs.LookUps.{Fact, PromisedFact, IsFoundFact, IsLocal, IsFoundLocal, local, elsewhere}
 use Rattle.pure_resolve.specs.GoalSteps.State.{State}
 use Rattle.pure_resolve.specs.GoalSteps.Follows.{Outcome}
-use Rattle.pure_method.specs.Facts.{LookUp, IsFoundBy, IsUnknownBy, named_facts, MeansPromiseBy, IsNamedBy, AreNamedBy}
+use Rattle.pure_method.specs.Facts.{LookUp, IsFoundBy, IsUnknownBy, named_facts, MeansPromiseBy, IsNamedBy}
 use Rattle.pure_method.specs.Proof.{ByFactsOf, GivesBy, ProofOutcome, Ending, EndsBy, IsProofBy}
 use Rattle.pure_method.specs.Laws.{NamesHaveAnswersIn, NothingIsLocal}
 

@@ -194,7 +194,7 @@ module _ (L : LookUp) (Q : Content) (once_found : IsOnce L) (anti : IsAntisymmet
       absurd (never-both f (ends-once 1 s script (Failed f) Proved (subst (λ (x : State). EndsBy L Q 1 x script (Failed f)) same d) e))
   proof_by-once statement script one other (IsProofBy.proved {labels = ls} b e n) (IsProofBy.proved {labels = ms} c d m) = ap Ok (labels-once script ls ms n m)
 
--- One value comes of it where facts are those that the content declares, and in a lemma.
+-- One value comes of it where facts are looked up over the content alone, and in a lemma.
 pub proof-once : ProofOnce
 proof-once texts Q session q anti = proof_by-once (IsFoundFact texts Q) Q (everywhere-once texts Q session q) anti
 

@@ -139,7 +139,7 @@ module _ (L : LookUp) (Q : Content) (over : FindsOver Q L) (unify : IsUnifyConte
   pub rests_by-named : IsOnce L → (written : List ℕ) (th : Theorem) → IsFoundBy L written th → (label : Label) → IsIn label th.rests ↔ MeansPromiseBy L label written
   rests_by-named once written th h label = (λ m. (found-usable L Q over unify.above written th h).named label m, λ p. promise-in once label written th h p)
 
--- The look-up of what the content declares.
+-- The look-up over the content alone.
 module _ (texts : List (List ℕ)) (Q : Content) (r : IsReady texts Q) where
   pub ready-fact : (written : List ℕ) (th : Theorem) → IsFound texts Q written th → IsReadyFact Q th
   ready-fact = ready_by-fact (IsFoundFact texts Q) Q (everywhere-over texts Q) r.unify r.tidy

@@ -54,7 +54,7 @@ pub record CourseEndsBy (L : LookUp) (Q : Content) (statement : Term) (script : 
   pub fails : (states : List State) (fault : ProofFault) → IsProofCourseBy L Q statement script states (Failed fault) → IsProofBy L Q statement script (Err fault)
   pub proves : (states : List State) (labels : List Label) → IsProofCourseBy L Q statement script states Proved → AreNamedBy L script labels → IsProofBy L Q statement script (Ok labels)
 
--- The same where facts are those that the content declares.
+-- The same where facts are looked up over the content alone.
 abbrev pub Leads : (texts : List (List ℕ)) → Content → Step → State → State → Type 0
 Leads texts Q = LeadsBy (IsFoundFact texts Q) Q
 

@@ -55,7 +55,7 @@ pub record AreNamedBy (L : LookUp) (script : List Step) (labels : List Label) : 
   pub ascend : IsLabelSet labels
   pub exactly : (label : Label) → IsIn label labels ↔ IsNamedBy L script label
 
--- The same by the look-up of what the content declares, which finds no fact that is local to a lemma.
+-- The same by the look-up over the content alone, which finds no fact that is local to a lemma.
 abbrev pub IsFound : (texts : List (List ℕ)) → Content → (written : List ℕ) → Theorem → Type 0
 IsFound texts Q = IsFoundBy (IsFoundFact texts Q)
 

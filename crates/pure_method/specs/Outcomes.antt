@@ -92,7 +92,7 @@ pub record HasAnswersBy (L : LookUp) : Type 0 where
   pub found : (written : List ℕ) → (fact : Option Fact) × L written fact
   pub normal : (written : List ℕ) (th : Theorem) → IsFoundBy L written th → IsBetaNormal th.prop
 
--- The same of what the content declares.
+-- The same of the look-up over the content alone.
 abbrev pub HasAnswers : (texts : List (List ℕ)) → Content → Type 0
 HasAnswers texts Q = HasAnswersBy (IsFoundFact texts Q)
 

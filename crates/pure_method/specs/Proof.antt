@@ -73,7 +73,7 @@ pub data IsProofBy (L : LookUp) (Q : Content) (statement : Term) (script : List 
   failed : {s : State} {f : ProofFault} → BeginsAs statement (Ok s) → EndsBy L Q 1 s script (Failed f) → IsProofBy L Q statement script (Err f)
   proved : {s : State} {labels : List Label} → BeginsAs statement (Ok s) → EndsBy L Q 1 s script Proved → AreNamedBy L script labels → IsProofBy L Q statement script (Ok labels)
 
--- The same where facts are those that the content declares.
+-- The same where facts are looked up over the content alone.
 abbrev pub ByFacts : (texts : List (List ℕ)) → Content → (List Theorem → Outcome → Type 0) → (written : List (List ℕ)) → Outcome → Type 0
 ByFacts texts Q = ByFactsOf (IsFoundFact texts Q)
 
