@@ -65,13 +65,13 @@ statement-long = comes trivial_statement
     statement-within
 
 -- the first goal, and the goal without subgoals
-abbrev first_goal : State
+abbrev pub first_goal : State
 first_goal = record { statement = trivial_statement; subgoals = trivial_statement ∷ []; pairs = [] }
 
 abbrev last_goal : State
 last_goal = record { statement = trivial_statement; subgoals = []; pairs = [] }
 
-begins : BeginsAs trivial_statement (Ok first_goal)
+pub begins : BeginsAs trivial_statement (Ok first_goal)
 begins = Becomes.small {Ss = trivial_statement ∷ []} (Come.all_long statement-long Come.no_more) (imp trivial_statement (protect trivial_statement), refl, record { size = omega arith; depth = omega arith })
 
 mark-within : IsWithin (protect trivial_statement)

@@ -22,3 +22,4 @@ pub mod PlaceLaws
 pub mod CourseLaws
 pub mod FurtherLaws
 pub mod InLemmaLaws
+pub mod LocalExampleLaws

@@ -1,17 +1,18 @@
 -- Examples of proofs, over Pure's own content: of `A ==> A`, for a fixed variable A.
-use Rattle.std.specs.Prelude.{List, [], ◌∷◌, Ok, Err}
+use Rattle.std.specs.Prelude.{ℕ, List, [], ◌∷◌, codes, Ok, Err}
 use Rattle.pure_definitions.specs.Types.Typ.{prop}
 use Rattle.pure_definitions.specs.Terms.Term.{Term, Free}
+use Rattle.pure_definitions.specs.Declarations.Decl.{PromiseDecl}
 use Rattle.pure_term_laws.specs.LawsOccurs.{HasNoSchematic}
-use Rattle.pure_grammar.specs.Theories.TheoryText.{Step, Assumption, Close, Done}
+use Rattle.pure_grammar.specs.Theories.TheoryText.{Step, Assumption, Unfold, Close, Done}
 use Rattle.pure_logic.specs.Connectives.{imp}
-use Rattle.pure_logic.specs.Content.{IsProposition}
+use Rattle.pure_logic.specs.Content.{Content, IsProposition}
 use Rattle.pure_logic.specs.PureContent.{pure_content}
 use Rattle.pure_logic.specs.Derivable.{IsDerivableAlone}
 use Rattle.pure_logic.specs.Laws.Maps.{everything, generalised}
 use Rattle.pure_unify_laws.specs.Condition.{IsUnifyContent}
-use Rattle.pure_resolve.specs.GoalSteps.declared.fault.StepFault.TheVariants.{NoSubgoal, SubgoalsLeft}
-use Rattle.pure_method.specs.Proof.{ProofOutcome, IsProof}
+use Rattle.pure_resolve.specs.GoalSteps.declared.fault.StepFault.TheVariants.{UnknownFact, NoSubgoal, NotDefinition, SubgoalsLeft}
+use Rattle.pure_method.specs.Proof.{ProofOutcome, IsProof, IsProofIn}
 
 -- the variable, and the statement
 abbrev pub premise : Term
@@ -45,3 +46,20 @@ LeftExample = ComesOf (Done ∷ []) (Err (record { step = 1; fault = SubgoalsLef
 -- The premises of the law on derivability hold of it, so that it is derivable.
 abbrev pub DerivableExample : Type 0
 DerivableExample = IsUnifyContent pure_content × IsProposition pure_content trivial_statement × HasNoSchematic trivial_statement × IsDerivableAlone pure_content (generalised (everything 0) trivial_statement)
+
+-- the texts of the names 6 and 7: of a lemma, and of a fact inside it
+unfoldable pub local_texts : List (List ℕ)
+local_texts = codes "V.k" ∷ codes "V.k.h" ∷ []
+
+-- Pure's content with a promise that is local to the lemma
+abbrev pub local_content : Content
+local_content = record pure_content { declarations = PromiseDecl 7 (record { theory = 0; command = 0; part = 0 }) premise ∷ pure_content.declarations }
+
+-- the proof that unfolds the fact `h`
+abbrev pub by_local : List Step
+by_local = Unfold (codes "h" ∷ []) ∷ Done ∷ []
+
+-- In the lemma the name `h` means the promise, which is no definition, and otherwise it means nothing.
+abbrev pub LocalExample : Type 0
+LocalExample = IsProofIn local_texts local_content 6 trivial_statement by_local (Err (record { step = 1; fault = NotDefinition }))
+    × IsProof local_texts local_content trivial_statement by_local (Err (record { step = 1; fault = UnknownFact }))
