@@ -238,17 +238,12 @@ pub unwritable : (Q : Content) (space : Space) (n : ℕ) (b : Bool) → b ≡ na
 unwritable Q space n b e t w = w.other (eqb-true n protect_name (sym e ∙ t))
 
 -- A list from the end: one more element.
-pub one-before : (xs : List ℕ) (back x : ℕ) → back < length xs → x ≡ get_or xs (length xs - 1 - back) 0 → drop (length xs - (back + 1)) xs ≡ x ∷ drop (length xs - back) xs
+pub one-before : (xs : List ℕ) (back x : ℕ) → back < length xs → x ≡ get_or xs (length xs - 1 - back) x → drop (length xs - (back + 1)) xs ≡ x ∷ drop (length xs - back) xs
 one-before xs back x h read =
     let here : length xs - (back + 1) ≡ length xs - 1 - back = omega arith in
     let next : length xs - 1 - back + 1 ≡ length xs - back = omega (arith, h) in
-    let split = drop_more xs (length xs - 1 - back) 0 (omega (arith, h)) in
+    let split = drop_more xs (length xs - 1 - back) x (omega (arith, h)) in
     rw here (split ∙ (ap (λ y. y ∷ drop (length xs - 1 - back + 1) xs) (sym read) ∙ ap (λ k. x ∷ drop k xs) next))
-
-pub read-in : (xs : List ℕ) (i x : ℕ) → i < length xs → x ≡ get_or xs i 0 → IsIn x xs
-read-in [] i x h e = absurd (omega arith)
-read-in (y ∷ ys) zero x h e = inl e
-read-in (y ∷ ys) (suc i) x h e = inr (read-in ys i x (omega arith) e)
 
 -- A text with a theory in front has a dot.
 pub dotted : (text theory : List ℕ) → IsTheoryIn text theory → IsIn 46 text

@@ -175,7 +175,7 @@ fn find_in_full<S: Scope>(scope: &S, names: &Names, written: &[u8]) -> Option<Na
 /// The name so far before the last.
 fn from_end(names: &[Name], back: usize) -> Name
     requires { back < length names.now }
-    ensures { result ≡ get_or names.now (length names.now - 1 - back) 0 }
+    ensures { result ≡ get_or names.now (length names.now - 1 - back) result }
 {
     names[names.len() - 1 - back]
 }
