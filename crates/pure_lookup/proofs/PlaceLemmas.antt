@@ -1,10 +1,11 @@
 -- Where in load order names are visible.
-use Rattle.std.proofs.Common.{◌≡◌, ◌≢◌, ◌↔◌, ℕ, zero, suc, ◌+◌, ◌<◌, ◌≤◌, List, [], ◌∷◌, ◌++◌, length, get_or, take, drop, refl, ap, sym, ◌∙◌, inl, inr, arith, Bool, true, false, nat_eq, true≢false}
-use Rattle.std.proofs.lemmas.Bool.{eq-eqb}
+use Rattle.std.proofs.Common.{◌≡◌, ◌≢◌, ◌↔◌, ℕ, zero, suc, ◌+◌, ◌-◌, ◌<◌, ◌≤◌, List, [], ◌∷◌, ◌++◌, length, get_or, take, drop, refl, ap, sym, ◌∙◌, inl, inr, subst, arith, Bool, true, false, nat_eq, true≢false}
+use Rattle.std.proofs.lemmas.Bool.{eq-eqb, eqb-true}
+use Rattle.std.proofs.lemmas.List.{drop_more}
 use Rattle.std.proofs.lemmas.Option.{slice_get_within}
 use Rattle.std.specs.Prelude.{Option, Some, None, codes, slice_get, MatchOption, IsTrue}
 use Rattle.pure_text.specs.Lists.{IsIn}
-use Rattle.pure_text.proofs.ListLaws.{in_split, in-append_right}
+use Rattle.pure_text.proofs.ListLaws.{in_split, in-append_left, in-append_right}
 use Rattle.pure_definitions.specs.Names.{protect_name, builtin_count}
 use Rattle.pure_typ.specs.NameTexts.{builtin_texts, name_texts, HasText, IsFound, NameHasBase}
 use Rattle.pure_typ.proofs.NamesLemmas.{slice_get-left, Some-inj, length-builtin_texts}
@@ -14,6 +15,7 @@ use Rattle.pure_logic.proofs.AncestorLaws.{theories_are_told_apart}
 use Rattle.pure_lookup.specs.Meaning.{Space, IsDeclaredIn, pure_text, full_text, Meaning, Declared, Built, IsWritable, IsVisible, IsMeantInFull, IsMeantByBase, IsMeant}
 use Rattle.pure_lookup.specs.Places.{IsIndexOf, IsPlaceOf, IsTheoryIn, IsBest}
 use Rattle.pure_lookup.specs.Laws.{IsInSession}
+use Rattle.pure_lookup.proofs.MeaningLaws.{visible-writable}
 use Rattle.pure_lookup.proofs.TextLemmas.{one_name, pure-has_no_dot, one_cut}
 
 -- Pure's own names have full texts in Pure.
@@ -167,6 +169,45 @@ module _ (texts : List (List ℕ)) (Q : Content) (space : Space) where
           itself : (p : ℕ) (u : List ℕ) → IsVisible texts Q space p u base (Declared x) → p ≤ last
           itself p u w = let same = place-once base x p place u t w (rw (← at-base base x place t b based v) v) in omega arith
 
+    -- What is passed over: a name that is visible nowhere, or before the last place.
+    module _ (n last : ℕ) where
+      abbrev pub IsPassed : Type 0
+      IsPassed = (p : ℕ) (t b : List ℕ) → IsVisible texts Q space p t b (Declared n) → p < last
+
+      pub passed-unplaced : (IsWritable Q space n → IsPlaceOf texts Q space n None) → IsPassed
+      passed-unplaced absent p t b v = absurd (absent (visible-writable texts Q space p t b n v) p t b v)
+
+      pub passed-unwritable : (¬ IsWritable Q space n) → IsPassed
+      passed-unwritable none p t b v = absurd (none (visible-writable texts Q space p t b n v))
+
+      same-place : (p q : ℕ) (t u b c : List ℕ) → IsVisible texts Q space p t b (Declared n) → IsVisible texts Q space q u c (Declared n) → p ≡ q
+      same-place p q t u b c v w =
+          let full : full_text u c ≡ full_text t b = Some-inj (sym (visible-text q u c n w) ∙ visible-text p t b n v) in
+          let bases : c ≡ b = (one_cut u t c b (visible-clean q u c (Declared n) w) (visible-clean p t b (Declared n) v) full).1 in
+          place-once b n p q t u v (subst (λ k. IsVisible texts Q space q u k (Declared n)) bases w)
+
+      pub passed-before : (place : ℕ) → (IsWritable Q space n → IsPlaceOf texts Q space n (Some place)) → place < last → IsPassed
+      passed-before place here less p t b v =
+          let there = here (visible-writable texts Q space p t b n v) in
+          let same = same-place p place t there.0 b there.1 v there.2 in
+          omega (arith, same, less)
+
+    pub passed-everywhere : (n : ℕ) → IsPassed n 0 → IsPlaceOf texts Q space n None
+    passed-everywhere n passed p t b v = let less = passed p t b v in absurd (omega (arith, less))
+
+    -- One name more in front.
+    module _ (base names : List ℕ) (x : ℕ) where
+      turned-in : (n : ℕ) → IsIn n (x ∷ names) → IsIn n (names ++ x ∷ [])
+      turned-in n m = elim m [ inl e ↦ in-append_right n names (x ∷ []) (inl e) | inr i ↦ in-append_left n names (x ∷ []) i ]
+
+      pub best-front : (best : Option ℕ) (last : ℕ) → IsBest texts Q space base (names ++ x ∷ []) best last → IsBest texts Q space base (x ∷ names) best last
+      best-front None last (start, none_so) = (start, λ n m. none_so n (turned-in n m))
+      best-front (Some b) last (there, after) = (there, λ n m. after n (turned-in n m))
+
+      pub best-passed : (best : Option ℕ) (last : ℕ) → IsPassed x last → IsBest texts Q space base names best last → IsBest texts Q space base (x ∷ names) best last
+      best-passed None last passed (start, none_so) = (start, λ n m p t v. elim m [ inl e ↦ (let less = passed p t base (rw (← e) v) in absurd (omega (arith, start, less))) | inr i ↦ none_so n i p t v ])
+      best-passed (Some b) last passed (there, after) = (there, λ n m p t v. elim m [ inl e ↦ (let less = passed p t base (rw (← e) v) in omega (arith, less)) | inr i ↦ after n i p t v ])
+
     -- The answer of a look-up, for a written name with a dot and for one without.
     pub meant-full : (others : List (List ℕ)) (written theory : List ℕ) (r : Option ℕ) → others ≡ texts → IsTheoryIn written theory
         → MatchOption r ((n : ℕ) → ¬ IsMeantInFull others Q space written (Declared n)) (λ n. IsMeantInFull others Q space written (Declared n))
@@ -190,8 +231,19 @@ module _ (texts : List (List ℕ)) (Q : Content) (space : Space) where
         by (Some n) h = inr (clean, base-found written names n last all h)
 
 -- What the tests of a name say.
-pub writable-of : (Q : Content) (space : Space) (n : ℕ) (b d : Bool) → b ≡ nat_eq n protect_name → b ≡ false → (IsTrue d ↔ IsDeclaredIn space Q.declarations n) → d ≡ true → IsWritable Q space n
-writable-of Q space n b d e f h t = record { declared = h.0 t; other = λ same. (let yes = eq-eqb n protect_name same in true≢false (sym yes ∙ (sym e ∙ f))) }
+pub writable-exactly : (Q : Content) (space : Space) (n : ℕ) (b d : Bool) → b ≡ nat_eq n protect_name → b ≡ false → (IsTrue d ↔ IsDeclaredIn space Q.declarations n) → IsTrue d ↔ IsWritable Q space n
+writable-exactly Q space n b d e f h = (λ t. record { declared = h.0 t; other = λ same. (let yes = eq-eqb n protect_name same in true≢false (sym yes ∙ (sym e ∙ f))) }, λ w. h.1 w.declared)
+
+pub unwritable : (Q : Content) (space : Space) (n : ℕ) (b : Bool) → b ≡ nat_eq n protect_name → b ≡ true → ¬ IsWritable Q space n
+unwritable Q space n b e t w = w.other (eqb-true n protect_name (sym e ∙ t))
+
+-- A list from the end: one more element.
+pub one-before : (xs : List ℕ) (back x : ℕ) → back < length xs → x ≡ get_or xs (length xs - 1 - back) x → drop (length xs - (back + 1)) xs ≡ x ∷ drop (length xs - back) xs
+one-before xs back x h read =
+    let here : length xs - (back + 1) ≡ length xs - 1 - back = omega arith in
+    let next : length xs - 1 - back + 1 ≡ length xs - back = omega (arith, h) in
+    let split = drop_more xs (length xs - 1 - back) x (omega (arith, h)) in
+    rw here (split ∙ (ap (λ y. y ∷ drop (length xs - 1 - back + 1) xs) (sym read) ∙ ap (λ k. x ∷ drop k xs) next))
 
 -- A text with a theory in front has a dot.
 pub dotted : (text theory : List ℕ) → IsTheoryIn text theory → IsIn 46 text

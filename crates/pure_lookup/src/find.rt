@@ -1,9 +1,9 @@
 //! Look-ups of written names.
-ghost use Rattle.std.specs.Prelude.{◌≡◌, ◌≤◌, ℕ, MatchOption};
+ghost use Rattle.std.specs.Prelude.{◌≡◌, ◌↔◌, ◌<◌, ◌≤◌, ◌-◌, ℕ, List, IsTrue, MatchOption, Some, get_or, length};
 ghost use Rattle.pure_text.specs.Lists.{IsIn};
 ghost use Rattle.pure_definitions.specs.Names.{builtin_count};
 ghost use Rattle.pure_typ.specs.NameTexts.{HasText, NameHasBase, IsFound, name_texts};
-ghost use Rattle.pure_lookup.specs.Meaning.{Declared, IsWritable, IsMeantInFull, IsMeantByBase, IsMeant};
+ghost use Rattle.pure_lookup.specs.Meaning.{Declared, IsWritable, IsVisible, IsMeantInFull, IsMeantByBase, IsMeant};
 ghost use Rattle.pure_lookup.specs.Laws.{IsInSession};
 ghost use Rattle.pure_lookup.specs.Places.{IsPlaceOf, IsTheoryIn, IsBest};
 
@@ -45,13 +45,31 @@ fn first_beginning(names: &Names, name: Name, front: &[u8]) -> Name {
     Name(low)
 }
 
-/// The name with the text of a theory that stands in front of the text of this name. It is mostly the first that begins so; where it isn't, all are searched.
-fn theory_named(names: &Names, name: Name, theory: &[u8]) -> Option<Name>
+/// Whether the name has this text.
+fn has_text(names: &Names, name: Name, text: &[u8]) -> bool {
+    match names.text(name) {
+        Some(own) => own == text,
+        None => false,
+    }
+}
+
+/// The name with the text of a theory that stands in front of the text of this name, as a guess: the one so far before it, or the first that begins so.
+fn guessed(names: &Names, name: Name, theory: &[u8], gap: u32) -> Name {
+    let near = Name(name.0.saturating_sub(gap));
+    if has_text(names, near, theory) {
+        return near;
+    }
+    first_beginning(names, name, theory)
+}
+
+/// The name with the text of a theory that stands in front of the text of this name. It is mostly as far before it as in the theory that was looked for last, or the first that begins so; where it isn't, all are searched.
+fn theory_named(names: &Names, name: Name, theory: &[u8], gap: &mut u32) -> Option<Name>
     ensures { IsFound (name_texts names.now) theory.now result }
 {
-    let first = first_beginning(names, name, theory);
+    let first = guessed(names, name, theory, *gap);
     if let Some(text) = names.text(first) {
         if text == theory {
+            *gap = name.0.saturating_sub(first.0);
             return Some(first);
         }
     }
@@ -59,14 +77,20 @@ fn theory_named(names: &Names, name: Name, theory: &[u8]) -> Option<Name>
 }
 
 /// The place in load order of the theory whose text stands in front of the first dot: that of Pure is 0.
-fn place_in_theory<S: Scope>(scope: &S, names: &Names, name: Name, text: &[u8]) -> Option<u64>
+fn place_in_theory<S: Scope>(
+    scope: &S,
+    names: &Names,
+    name: Name,
+    text: &[u8],
+    gap: &mut u32,
+) -> Option<u64>
     requires { IsInSession names.now (S.content scope.now) }
     ensures { (n : ℕ) → HasText names.now n text.now → builtin_count ≤ n → IsWritable (S.content scope.now) (S.space scope.now) n → IsPlaceOf names.now (S.content scope.now) (S.space scope.now) n result }
 {
     let Some(theory) = theory_in(text) else {
         return None;
     };
-    let Some(found) = theory_named(names, name, theory) else {
+    let Some(found) = theory_named(names, name, theory, gap) else {
         return None;
     };
     match scope.index_of(found) {
@@ -75,24 +99,54 @@ fn place_in_theory<S: Scope>(scope: &S, names: &Names, name: Name, text: &[u8]) 
     }
 }
 
-/// The place in load order at which the name is visible.
-fn place_of<S: Scope>(scope: &S, names: &Names, name: Name) -> Option<u64>
+/// The place in load order at which the name is visible, if it is declared and may be written.
+fn place_if_writable<S: Scope>(scope: &S, names: &Names, name: Name, gap: &mut u32) -> Option<u64>
     requires { IsInSession names.now (S.content scope.now) }
-    ensures { IsPlaceOf names.now (S.content scope.now) (S.space scope.now) name result }
+    ensures { IsWritable (S.content scope.now) (S.space scope.now) name → IsPlaceOf names.now (S.content scope.now) (S.space scope.now) name result }
 {
-    if name == Name::PROTECT {
-        return None;
-    }
-    if !scope.is_declared(name) {
-        return None;
-    }
     if name.0 < BUILTIN_COUNT {
         return Some(0);
     }
     let Some(text) = names.text(name) else {
         return None;
     };
-    place_in_theory(scope, names, name, text)
+    place_in_theory(scope, names, name, text, gap)
+}
+
+/// Whether the name is declared and may be written.
+fn is_writable<S: Scope>(scope: &S, name: Name) -> bool
+    ensures { IsTrue result ↔ IsWritable (S.content scope.now) (S.space scope.now) name }
+{
+    if name == Name::PROTECT {
+        return false;
+    }
+    scope.is_declared(name)
+}
+
+/// The place in load order at which the name is visible, if it isn't before this one.
+fn later_place<S: Scope>(
+    scope: &S,
+    names: &Names,
+    name: Name,
+    last: u64,
+    gap: &mut u32,
+) -> Option<u64>
+    requires { IsInSession names.now (S.content scope.now) }
+    ensures { MatchOption result
+        ((place : ℕ) (theory base : List ℕ) → IsVisible names.now (S.content scope.now) (S.space scope.now) place theory base (Declared name) → place < last)
+        (λ place. IsPlaceOf names.now (S.content scope.now) (S.space scope.now) name (Some place) × (last ≤ place)) }
+{
+    let Some(place) = place_if_writable(scope, names, name, gap) else {
+        return None;
+    };
+    if place < last {
+        return None;
+    }
+    if is_writable(scope, name) {
+        Some(place)
+    } else {
+        None
+    }
 }
 
 /// The name of the name space that is visible under just this full name.
@@ -111,13 +165,22 @@ fn find_in_full<S: Scope>(scope: &S, names: &Names, written: &[u8]) -> Option<Na
     if let Some(_) = theory_in(base) {
         return None;
     }
-    match place_of(scope, names, name) {
+    let mut gap = 0;
+    match later_place(scope, names, name, 0, &mut gap) {
         None => None,
         Some(_) => Some(name),
     }
 }
 
-/// Of these names, whose texts have the base, one that is visible last in load order.
+/// The name so far before the last.
+fn from_end(names: &[Name], back: usize) -> Name
+    requires { back < length names.now }
+    ensures { result ≡ get_or names.now (length names.now - 1 - back) result }
+{
+    names[names.len() - 1 - back]
+}
+
+/// Of these names, whose texts have the base, one that is visible last in load order. The last is mostly in the theory loaded last: of those before it then only the place is asked.
 fn last_of<S: Scope>(scope: &S, names: &Names, written: &[u8], candidates: &[Name]) -> Option<Name>
     requires session { IsInSession names.now (S.content scope.now) }
     requires bases { (n : ℕ) → IsIn n candidates.now → NameHasBase names.now written.now n }
@@ -125,12 +188,12 @@ fn last_of<S: Scope>(scope: &S, names: &Names, written: &[u8], candidates: &[Nam
 {
     let mut best = None;
     let mut last: u64 = 0;
-    for name in candidates {
-        if let Some(place) = place_of(scope, names, *name) {
-            if last <= place {
-                best = Some(*name);
-                last = place;
-            }
+    let mut gap: u32 = 0;
+    for back in 0..candidates.len() {
+        let name = from_end(candidates, back);
+        if let Some(place) = later_place(scope, names, name, last, &mut gap) {
+            best = Some(name);
+            last = place;
         }
     }
     best

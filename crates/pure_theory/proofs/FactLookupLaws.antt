@@ -1,17 +1,25 @@
 -- What is found of facts: declared ones, and the built ones.
-use Rattle.std.proofs.Common.{◌≡◌, ◌⊎◌, ◌≤◌, ◌<◌, ℕ, zero, suc, ◌+◌, List, [], ◌∷◌, refl, ap, sym, ◌∙◌, inl, inr, arith}
+use Rattle.std.proofs.Common.{◌≡◌, ◌⊎◌, ◌≤◌, ◌<◌, ◌≢◌, ℕ, zero, suc, ◌+◌, List, [], ◌∷◌, refl, ap, sym, ◌∙◌, inl, inr, arith}
 use Rattle.std.proofs.lemmas.Bool.{cases_lt}
 use Rattle.std.proofs.lemmas.Option.{same_Some, none-some}
 use Rattle.std.specs.Prelude.{Some, None, codes, slice_get}
 use Rattle.pure_text.specs.Lists.{IsIn}
-use Rattle.pure_text.proofs.ListLaws.{in-append_right}
+use Rattle.pure_text.proofs.ListLaws.{in-append_right, each_at}
+use Rattle.pure_definitions.specs.Names.{protect_name}
+use Rattle.pure_typ.specs.NameTexts.{builtin_texts, HasText}
+use Rattle.pure_typ.proofs.NamesLemmas.{slice_get-left}
 use Rattle.pure_logic.specs.Content.{TheoryId, Content}
 use Rattle.pure_logic.specs.Beginning.{theories_of}
+use Rattle.pure_logic.proofs.AncestorLaws.{in-theories, theories-in}
+use Rattle.pure_theory_tables.specs.Facts.{Stated, fact_decl}
 use Rattle.pure_lookup.specs.Meaning.{facts, pure_text, full_text, built_texts, Meaning, Declared, Built, IsVisible, IsMeant}
 use Rattle.pure_lookup.specs.LookUps.{BuiltFact, IsFoundFact}
 use Rattle.pure_lookup.proofs.ExampleLemmas.{no_dot}
+use Rattle.pure_lookup.specs.Laws.{IsInSession}
+use Rattle.pure_lookup.proofs.PlaceLemmas.{builtin-in_pure}
 use Rattle.pure_lookup.proofs.TextLemmas.{pure-has_no_dot, one_cut}
-use Rattle.pure_theory.specs.FactView.{built_bases, IsBuiltText}
+use Rattle.pure_theory.specs.FactView.{built_bases, IsBuiltText, IsOwnName}
+use Rattle.pure_theory.proofs.LookupLaws.{declared_fact}
 
 -- Each built fact has its base, and its full name is made of it.
 pub built_base : (k : ℕ) (w : List ℕ) → slice_get built_texts k ≡ Some w → (b : List ℕ) × (slice_get built_bases k ≡ Some b) × (w ≡ full_text pure_text b)
@@ -95,6 +103,38 @@ module _ (texts : List (List ℕ)) (Q : Content) (written : List ℕ) (none_decl
   pub found_nothing : ((k : ℕ) → ¬ IsBuiltText written k) → IsFoundFact texts Q written None
   found_nothing none_built (Declared n) h = none_declared n h
   found_nothing none_built (Built k) h = none_built k (built_text k h)
+
+-- What the content's own theory has under a written name without a dot is meant: nothing visible stands behind it.
+module _ (texts : List (List ℕ)) (Q : Content) (written : List ℕ) (session : IsInSession texts Q) where
+  not_after : (t u : TheoryId) → Q.own ≡ Some t → IsIn u (theories_of Q) → u.index ≤ t.index
+  not_after t u own m = elim (in-theories u Q m) [
+    | inl e ↦ (let same : u ≡ t = same_Some u t (sym e ∙ own) in rw same (omega arith))
+    | inr a ↦ (let less = each_at (λ (v : TheoryId). v.index < t.index) Q.ancestors (session.apart.own t own).index u a in omega (arith, less))
+  ]
+
+  own_is_last : (t : TheoryId) → Q.own ≡ Some t → (place : ℕ) (theory : List ℕ) (m : Meaning) → IsVisible texts Q facts place theory written m → place ≤ 1 + t.index
+  own_is_last t own place theory m (inl v) = let z = v.0 in omega (arith, z)
+  own_is_last t own place theory m (inr (u, i, at, text, v)) = let before = not_after t u own i in omega (arith, at, before)
+
+  -- A theory's name isn't that of Pure's mark of a goal.
+  not_mark : (t : TheoryId) (theory : List ℕ) (n : ℕ) → Q.own ≡ Some t → HasText texts t.name theory → HasText texts n (full_text theory written) → n ≢ protect_name
+  not_mark t theory n own text full e =
+      let pure = builtin-in_pure n (omega (arith, e)) in
+      let known = session.theories t theory (theories-in t Q (inl own)) text in
+      let mark : HasText texts n (full_text pure_text pure.0) = slice_get-left builtin_texts texts n (full_text pure_text pure.0) pure.1 in
+      known.1 (one_cut theory pure_text written pure.0 known.0 pure-has_no_dot (same_Some (full_text theory written) (full_text pure_text pure.0) (sym full ∙ mark))).0
+
+  pub own_is_meant : (¬ IsIn 46 written) → (n : ℕ) (s : Stated) → IsOwnName texts Q written n → IsIn (fact_decl n s) Q.declarations → IsMeant texts Q facts written (Declared n)
+  own_is_meant clean n s (t, theory, own, text, full) stated =
+      inr (
+        clean,
+        record {
+          place = 1 + t.index;
+          theory = theory;
+          visible = inr (t, theories-in t Q (inl own), refl, text, (record { declared = declared_fact Q.declarations n s stated; other = not_mark t theory n own text full }, full));
+          last = own_is_last t own;
+        },
+      )
 
 -- Whether a text is that of a built fact, one of them after another.
 pub built_at : (k : ℕ) (full base text : List ℕ) → slice_get built_texts k ≡ Some full → slice_get built_bases k ≡ Some base → (text ≡ full) ⊎ (text ≡ base) → IsBuiltText text k

@@ -1,7 +1,9 @@
 -- Facts of the code, and the texts of the built ones.
 use Rattle.std.specs.Prelude.{◌≡◌, ◌⊎◌, ℕ, List, [], ◌∷◌, codes, Some, slice_get}
+use Rattle.pure_typ.specs.NameTexts.{HasText}
+use Rattle.pure_logic.specs.Content.{TheoryId, Content}
 use Rattle.pure_lookup.specs.LookUps as found
-use Rattle.pure_lookup.specs.Meaning.{built_texts}
+use Rattle.pure_lookup.specs.Meaning.{built_texts, full_text}
 use Rattle.pure_theorem.specs.declared.built.Built.{Built}
 use Rattle.pure_theorem.specs.declared.built.Built.TheVariants.{Refl, Subst, Ext, Iff, Mp, Spec}
 use Rattle.pure_theory.specs.declared.facts.Fact.{Fact}
@@ -29,3 +31,7 @@ built_bases = codes "refl" ∷ codes "subst" ∷ codes "ext" ∷ codes "iff" ∷
 -- The text is the full name or the base of the built fact at the place.
 abbrev pub IsBuiltText : List ℕ → (place : ℕ) → Type 0
 IsBuiltText text place = (slice_get built_texts place ≡ Some text) ⊎ (slice_get built_bases place ≡ Some text)
+
+-- The name has the full text that what is written so has in the content's own theory.
+abbrev pub IsOwnName : (texts : List (List ℕ)) → Content → (written : List ℕ) → (name : ℕ) → Type 0
+IsOwnName texts Q written name = (t : TheoryId) × (theory : List ℕ) × (Q.own ≡ Some t) × HasText texts t.name theory × HasText texts name (full_text theory written)

@@ -1,20 +1,20 @@
 //! Look-ups of facts by their written names.
-ghost use Rattle.std.specs.Prelude.{◌≡◌, ◌↔◌, ◌⊎◌, ℕ, IsTrue, MatchOption, IfOk};
+ghost use Rattle.std.specs.Prelude.{◌≡◌, ◌↔◌, ◌⊎◌, ℕ, IsTrue, MatchOption, IfOk, IfSome};
 ghost use Rattle.std.specs.Option.{option_map};
 ghost use Rattle.pure_text.specs.Lists.{IsIn};
 ghost use Rattle.pure_theory_tables.specs.Facts.{fact_decl};
 ghost use Rattle.pure_lookup.specs.Meaning.{facts, Declared, IsMeant};
 ghost use Rattle.pure_lookup.specs.Laws.{IsInSession};
 ghost use Rattle.pure_lookup.specs.LookUps.{IsFoundFact};
-ghost use Rattle.pure_theory.specs.FactView.{built_place, seen_fact, IsBuiltText};
+ghost use Rattle.pure_theory.specs.FactView.{built_place, seen_fact, IsBuiltText, IsOwnName};
 
 use crate::lookup::{Scoped, Space};
 use crate::theory::Theory;
-use pure_lookup::find_name;
+use pure_lookup::{find_name, theory_in};
 use pure_term::{Label, Name, Term};
 use pure_theorem::Built;
 use pure_theory_tables::Statement;
-use pure_typ::NamesByBase;
+use pure_typ::{Names, NamesByBase};
 use std::alloc::AllocError;
 
 /// A fact that a written name means.
@@ -35,6 +35,14 @@ pub enum Fact {
         label: Label,
         prop: Term,
     },
+}
+
+/// More names than these with one base are many.
+const MANY: usize = 8;
+
+/// Whether many names have the base.
+fn is_common(names: &NamesByBase, base: &[u8]) -> bool {
+    names.with_base(base).len() > MANY
 }
 
 /// Whether the text is one of two.
@@ -70,8 +78,53 @@ fn built_of(text: &[u8]) -> Option<Built>
 }
 
 impl Theory {
+    /// The name that stands in the theory itself under the written one.
+    fn own_name(&self, names: &Names, written: &[u8]) -> Option<Name>
+        ensures { IfSome result (IsOwnName names.now self.now written.now) }
+    {
+        let Some(own) = self.own_theory() else {
+            return None;
+        };
+        let Some(theory) = names.text(own.name) else {
+            return None;
+        };
+        names.find_in(theory, written)
+    }
+
+    /// The axiom or the promise of the theory itself that is written so without a dot: it is the last in load order.
+    fn find_own(&self, names: &Names, written: &[u8]) -> Option<(Name, &Statement)>
+        requires { IsInSession names.now self.now }
+        ensures { IfSome result (λ found. IsMeant names.now self.now facts written.now (Declared found.0) × IsIn (fact_decl found.0 found.1.now) self.now.declarations) }
+    {
+        if let Some(_) = theory_in(written) {
+            return None;
+        }
+        let Some(name) = self.own_name(names, written) else {
+            return None;
+        };
+        match self.fact(name) {
+            None => None,
+            Some(statement) => Some((name, statement)),
+        }
+    }
+
     /// The name of the axiom or the promise that is written so, with what it states.
     fn find_stated(&self, names: &NamesByBase, written: &[u8]) -> Option<(Name, &Statement)>
+        requires { IsInSession names.now self.now }
+        ensures { MatchOption result
+            ((n : ℕ) → ¬ IsMeant names.now self.now facts written.now (Declared n))
+            (λ found. IsMeant names.now self.now facts written.now (Declared found.0) × IsIn (fact_decl found.0 found.1.now) self.now.declarations) }
+    {
+        if is_common(names, written) {
+            if let Some(found) = self.find_own(names.names(), written) {
+                return Some(found);
+            }
+        }
+        self.find_any(names, written)
+    }
+
+    /// The same, of all that is visible.
+    fn find_any(&self, names: &NamesByBase, written: &[u8]) -> Option<(Name, &Statement)>
         requires { IsInSession names.now self.now }
         ensures { MatchOption result
             ((n : ℕ) → ¬ IsMeant names.now self.now facts written.now (Declared n))

@@ -1,22 +1,23 @@
-use Rattle.std.proofs.Common.{take}
+use Rattle.std.proofs.Common.{◌-◌, drop, length, arith}
+use Rattle.std.specs.Prelude.{Some}
 use Rattle.pure_text.proofs.ListLaws.{read_in}
-use Rattle.pure_text.proofs.LoopLaws.{longer_by}
-use Rattle.pure_lookup.proofs.PlaceLemmas.{best-new, best-before, best-kept}
+use Rattle.pure_lookup.proofs.PlaceLemmas.{best-new, best-front, best-passed, one-before}
 use Rattle.pure_lookup.proofs.find.last_of.Goals as goal
-use Rattle.pure_lookup.proofs.find.last_of.Goals.{in-Some+then-last-place, in-Some+else-last-place, in_default}
+use Rattle.pure_lookup.proofs.find.last_of.Goals.{in-Some, in_default}
 
-pub loop-name-preserved : goal.loop-name-preserved
-loop-name-preserved g c =
+pub loop-back-preserved : goal.loop-back-preserved
+loop-back-preserved g c =
     let texts = c.args.names.now in
     let Q = g.S.Scope.content c.args.scope.now in
     let space = g.S.Scope.space c.args.scope.now in
     let base = c.args.written.now in
-    let names = take c.loop-name.name-index c.args.candidates.now in
-    let x = c.name-item.result in
-    let more = longer_by c.args.candidates.now c.loop-name.name-index x c.loop-name-test.true c.name-item.is in
-    let based = c.requires.bases x (read_in c.args.candidates.now c.loop-name.name-index x c.loop-name-test.true c.name-item.is) in
-    elim c.match-place_of.branch [
-      | in-Some+then-last-place w ↦ rw (more, w.best-is, w.last-is) (best-new texts Q space c.requires.session base names x based c.loop-name.best c.loop-name.last w.in-Some.place w.in-Some.ensures (w.if-last-place.true) c.loop-name.invariant)
-      | in-Some+else-last-place w ↦ rw (more, w.best-is, w.last-is) (best-before texts Q space c.requires.session base names x based c.loop-name.best c.loop-name.last w.in-Some.place w.in-Some.ensures (w.if-last-place.false) c.loop-name.invariant)
-      | in_default w ↦ rw (more, w.best-is, w.last-is) (best-kept texts Q space c.requires.session base names x based c.loop-name.best c.loop-name.last w.in_default.ensures c.loop-name.invariant)
+    let all = c.args.candidates.now in
+    let back = c.loop-back.back in
+    let names = drop (length all - back) all in
+    let x = c.from_end-name.result in
+    let more = one-before all back x c.loop-back-test.true c.from_end-name.ensures in
+    let based = c.requires.bases x (read_in all (length all - 1 - back) x (omega (arith, c.loop-back-test.true)) c.from_end-name.ensures) in
+    elim c.match-later_place.branch [
+      | in-Some w ↦ rw (more, w.best-is, w.last-is) (best-front texts Q space c.requires.session base names x (Some x) w.in-Some.place (best-new texts Q space c.requires.session base names x based c.loop-back.best c.loop-back.last w.in-Some.place w.in-Some.ensures.0 w.in-Some.ensures.1 c.loop-back.invariant))
+      | in_default w ↦ rw (more, w.best-is, w.last-is) (best-passed texts Q space c.requires.session base names x c.loop-back.best c.loop-back.last w.in_default.ensures c.loop-back.invariant)
     ]
