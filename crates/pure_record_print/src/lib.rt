@@ -1,0 +1,11 @@
+//! Recorded derivations as they are printed.
+#![tactic(auto)]
+
+mod item;
+mod line;
+mod name;
+mod print;
+mod term;
+mod typ;
+
+pub use print::print_record;
