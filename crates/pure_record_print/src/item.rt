@@ -11,11 +11,7 @@ use pure_term::Names;
 use std::alloc::AllocError;
 
 /// Appends an item.
-fn push_item(
-    text: &mut Vec<u8>,
-    names: &Names,
-    item: &Item,
-) -> Result<(), AllocError>
+fn push_item(text: &mut Vec<u8>, names: &Names, item: &Item) -> Result<(), AllocError>
     ensures { OnOk result (text.new.items ≡ text.old.items ++ spec.item_text names.now (seen_item item.now)) }
 {
     match item {

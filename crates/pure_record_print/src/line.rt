@@ -15,11 +15,7 @@ use pure_term::{Name, Names, Term, TermBind, TypBind};
 use std::alloc::AllocError;
 
 /// Appends the entries of a map of types.
-fn push_typ_binds(
-    text: &mut Vec<u8>,
-    names: &Names,
-    binds: &[TypBind],
-) -> Result<(), AllocError>
+fn push_typ_binds(text: &mut Vec<u8>, names: &Names, binds: &[TypBind]) -> Result<(), AllocError>
     ensures { OnOk result (text.new.items ≡ text.old.items ++ spec.typ_binds_text names.now binds.now) }
 {
     for bind in binds {
@@ -33,11 +29,7 @@ fn push_typ_binds(
 }
 
 /// Appends an entry of a map of terms.
-fn push_term_bind(
-    text: &mut Vec<u8>,
-    names: &Names,
-    bind: &TermBind,
-) -> Result<(), AllocError>
+fn push_term_bind(text: &mut Vec<u8>, names: &Names, bind: &TermBind) -> Result<(), AllocError>
     ensures { OnOk result (text.new.items ≡ text.old.items ++ (spec.term_text names.now (term_variable bind.now) ++ (spec.term_text names.now bind.now.image ++ codes "; "))) }
 {
     text.extend_from_slice(b"{ ?")?;
@@ -49,11 +41,7 @@ fn push_term_bind(
 }
 
 /// Appends the entries of a map of terms.
-fn push_term_binds(
-    text: &mut Vec<u8>,
-    names: &Names,
-    binds: &[TermBind],
-) -> Result<(), AllocError>
+fn push_term_binds(text: &mut Vec<u8>, names: &Names, binds: &[TermBind]) -> Result<(), AllocError>
     ensures { OnOk result (text.new.items ≡ text.old.items ++ spec.term_binds_text names.now binds.now) }
 {
     for bind in binds {
@@ -83,12 +71,7 @@ fn push_axiom(
 }
 
 /// Appends a word and a term.
-fn push_one(
-    text: &mut Vec<u8>,
-    names: &Names,
-    word: &[u8],
-    t: &Term,
-) -> Result<(), AllocError>
+fn push_one(text: &mut Vec<u8>, names: &Names, word: &[u8], t: &Term) -> Result<(), AllocError>
     ensures { OnOk result (text.new.items ≡ text.old.items ++ (word.now ++ spec.term_text names.now t.now)) }
 {
     text.extend_from_slice(word)?;
@@ -146,11 +129,7 @@ fn push_substitution(
 }
 
 /// Appends an elimination of an implication.
-fn push_elimination(
-    text: &mut Vec<u8>,
-    imp: u32,
-    prem: u32,
-) -> Result<(), AllocError>
+fn push_elimination(text: &mut Vec<u8>, imp: u32, prem: u32) -> Result<(), AllocError>
     ensures { OnOk result (text.new.items ≡ text.old.items ++ (codes "impe " ++ (spaced (decimal imp) ++ spaced (decimal prem)))) }
 {
     text.extend_from_slice(b"impe ")?;
@@ -160,11 +139,7 @@ fn push_elimination(
 }
 
 /// Appends a line.
-fn push_node(
-    text: &mut Vec<u8>,
-    names: &Names,
-    node: &Node,
-) -> Result<(), AllocError>
+fn push_node(text: &mut Vec<u8>, names: &Names, node: &Node) -> Result<(), AllocError>
     ensures { OnOk result (text.new.items ≡ text.old.items ++ spec.node_text names.now (seen_node node.now)) }
 {
     match node {

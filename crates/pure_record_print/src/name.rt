@@ -69,7 +69,11 @@ pub(crate) fn push_typ_name(text: &mut Vec<u8>, names: &Names, name: Name) -> Re
 }
 
 /// Appends the name of a constant and a blank.
-pub(crate) fn push_constant_name(text: &mut Vec<u8>, names: &Names, name: Name) -> Result<(), AllocError>
+pub(crate) fn push_constant_name(
+    text: &mut Vec<u8>,
+    names: &Names,
+    name: Name,
+) -> Result<(), AllocError>
     ensures { OnOk result (text.new.items ≡ text.old.items ++ spaced (spec.constant_name_text names.now name)) }
 {
     if name == Name::ALL {

@@ -30,11 +30,7 @@ pub(crate) fn push_typ(text: &mut Vec<u8>, names: &Names, t: &Typ) -> Result<(),
 
 /// Appends what a constructor is applied to.
 #[cycle(push_typ)]
-fn push_arguments(
-    text: &mut Vec<u8>,
-    names: &Names,
-    args: &[Typ],
-) -> Result<(), AllocError>
+fn push_arguments(text: &mut Vec<u8>, names: &Names, args: &[Typ]) -> Result<(), AllocError>
     ensures { OnOk result (text.new.items ≡ text.old.items ++ spec.arguments_text names.now (typs_of args.now)) }
 {
     if args.len() == 0 {
@@ -49,11 +45,7 @@ fn push_arguments(
 
 /// Appends each type behind a comma.
 #[cycle(push_typ)]
-fn push_more_arguments(
-    text: &mut Vec<u8>,
-    names: &Names,
-    args: &[Typ],
-) -> Result<(), AllocError>
+fn push_more_arguments(text: &mut Vec<u8>, names: &Names, args: &[Typ]) -> Result<(), AllocError>
     ensures { OnOk result (text.new.items ≡ text.old.items ++ spec.more_arguments_text names.now (typs_of args.now)) }
 {
     for arg in args {

@@ -1,4 +1,4 @@
-use Rattle.std.proofs.Common.{sym, ◌∙◌, arith}
+use Rattle.std.proofs.Common.{arith}
 use Rattle.pure_definitions.proofs.TypsLemmas.{typ_depth-item}
 use Rattle.pure_print.proofs.TypLemmas.{rest-taken}
 use Rattle.pure_record_print.proofs.PrintLemmas.{arguments-written}
