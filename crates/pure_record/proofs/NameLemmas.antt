@@ -1,5 +1,5 @@
 -- The texts that tokens give.
-use Rattle.std.proofs.Common.{◌≡◌, ◌≢◌, ◌==◌, ◌⊎◌, ◌↔◌, inl, inr, arith, ℕ, zero, suc, Bool, true, false, not, List, [], ◌∷◌, ◌++◌, length, get_or, refl, sym, ◌∙◌, ap, subst, Option, Some, None}
+use Rattle.std.proofs.Common.{◌≡◌, ◌≢◌, ◌==◌, ◌⊎◌, ◌↔◌, ◌+◌, ◌≤◌, inl, inr, arith, ℕ, zero, suc, drop, drop_of_length-le, Bool, true, false, not, List, [], ◌∷◌, ◌++◌, length, get_or, refl, sym, ◌∙◌, ap, subst, Option, Some, None}
 use Rattle.std.specs.Prelude.{slice_get, slice_range}
 use Rattle.std.specs.List.Sorted.{IsStrictlySortedBy}
 use Rattle.std.proofs.lemmas.Bool.{and_parts, both_ways}
@@ -123,3 +123,22 @@ others-named source tokens texts slices names m n text builtin got =
     let w = any_some (λ token. spelling source token ≡ Some text) tokens ((names.given text).0 (got-in texts n text got)) in
     let slice : IsSlice source w.0 = each_at (IsSlice source) tokens slices w.0 w.1 in
     plain-gives w.0.kind (slice_range source w.0.from w.0.to) text slice.spelled w.2 (each_at (IsIn 46) builtin_texts all_dotted text (got-in builtin_texts m text builtin))
+
+-- ---- whether a list has all of another
+got-next : {A : Type 0} (xs : List A) (n : ℕ) (x : A) → slice_get xs n ≡ Some x → drop n xs ≡ x ∷ drop (n + 1) xs
+got-next [] n x h = absurd (cc)
+got-next (y ∷ ys) zero x h = let e : y ≡ x = cc in rw e refl
+got-next (y ∷ ys) (suc n) x h =
+    let next : suc n + 1 ≡ suc (n + 1) = omega arith in
+    rw next (got-next ys n x h)
+
+pub all-next : (list others : List (List ℕ)) (at place : ℕ) (x : List ℕ) → slice_get others at ≡ Some x → slice_get list place ≡ Some x
+    → ((t : List ℕ) → IsIn t others → IsIn t list ⊎ IsIn t (drop at others)) → (t : List ℕ) → IsIn t others → IsIn t list ⊎ IsIn t (drop (at + 1) others)
+all-next list others at place x got found h t m = elim (h t m) [
+  | inl w ↦ inl w
+  | inr w ↦ (let next : IsIn t (x ∷ drop (at + 1) others) = rw (got-next others at x got) at w in
+      elim next [ inl is ↦ inl (subst (λ z. IsIn z list) (sym is) (got-in list place x found)) | inr n ↦ inr n ])
+]
+
+pub all-found : (list others : List (List ℕ)) (at : ℕ) → length others ≤ at → ((t : List ℕ) → IsIn t others → IsIn t list ⊎ IsIn t (drop at others)) → (t : List ℕ) → IsIn t others → IsIn t list
+all-found list others at end h t m = elim (h t m) [ inl w ↦ w | inr w ↦ (let none : IsIn {A = List ℕ} t [] = rw (drop_of_length-le others end) at w in absurd none) ]

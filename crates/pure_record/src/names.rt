@@ -1,17 +1,19 @@
 //! The names of a record.
-ghost use Rattle.std.specs.Prelude.{◌≡◌, ◌≢◌, ◌∷◌, [], ℕ, List, length, slice_get, option_map, IfOk, Some};
+ghost use Rattle.std.specs.Prelude.{◌≡◌, ◌≢◌, ◌↔◌, ◌⊎◌, ◌∷◌, [], ℕ, List, true, length, slice_get, option_map, IfOk, IfSome, Some};
 ghost use Rattle.std.specs.List.Sorted.{IsStrictlySortedBy};
 ghost use Rattle.std.specs.Ordering.{nat_cmp};
 ghost use Rattle.std.specs.Cmp.Lexicographic.{slice_cmp};
+ghost use Rattle.pure_text.specs.Lists.{IsIn};
 ghost use Rattle.pure_grammar.specs.Tokens.Spelling.{AreSlices};
 ghost use Rattle.pure_typ.specs.NameTexts.{builtin_texts};
 ghost use Rattle.pure_record.specs.Spelled.{AreNamesOf, only};
 
-use crate::lexing::{bytes_within, spelling_of};
+use crate::lexing::{bytes_within, equals, spelling_of};
 use pure_grammar::Token;
 use pure_term::Names;
 use pure_text::TextList;
 use std::alloc::{AllocError, Global};
+use std::cmp::Ordering;
 
 /// Names are fewer than these.
 const MOST_TEXTS: usize = 2_147_483_648;
@@ -40,6 +42,61 @@ fn given(alloc: Global, source: &[u8], token: Token) -> Result<TextList, AllocEr
     }
 }
 
+/// Whether the first text comes behind the second in byte order.
+fn is_behind(first: &[u8], second: &[u8]) -> bool {
+    match first.cmp(second) {
+        Ordering::Greater => true,
+        Ordering::Less => false,
+        Ordering::Equal => false,
+    }
+}
+
+/// The place at which the text stands in the list, from this place on and before a greater one.
+fn place_from(list: &TextList, text: &[u8], from: usize) -> Option<usize>
+    ensures { IfSome result (λ place. slice_get list.now place ≡ Some text.now) }
+{
+    for place in from..list.len() {
+        if equals(list.at(place), text) {
+            return Some(place);
+        }
+        if is_behind(list.at(place), text) {
+            return None;
+        }
+    }
+    None
+}
+
+/// Whether each of the others stands in the list, in the same order.
+fn has_all(list: &TextList, others: &TextList) -> bool
+    ensures { result ≡ true → (t : List ℕ) → IsIn t others.now → IsIn t list.now }
+{
+    let mut from = 0;
+    for at in 0..others.len() {
+        let Some(place) = place_from(list, others.at(at), from) else {
+            return false;
+        };
+        from = place;
+    }
+    true
+}
+
+/// The texts of two lists that ascend, each once, ascending. One of them that has all is taken as it is.
+fn united(alloc: Global, left: TextList, right: TextList) -> Result<TextList, AllocError>
+    requires own { IsStrictlySortedBy (slice_cmp nat_cmp) left }
+    requires others { IsStrictlySortedBy (slice_cmp nat_cmp) right }
+    ensures ascend { IfOk result (λ all. IsStrictlySortedBy (slice_cmp nat_cmp) all) }
+    ensures texts { IfOk result (λ all. (t : List ℕ) → IsIn t all ↔ (IsIn t left ⊎ IsIn t right)) }
+{
+    if has_all(&left, &right) {
+        return Ok(left);
+    }
+    if has_all(&right, &left) {
+        return Ok(right);
+    }
+    let all = left.union(alloc, &right)?;
+    Ok(all)
+}
+
 /// The texts that tokens of the source give, in byte order.
 fn texts_of(alloc: Global, source: &[u8], tokens: &[Token]) -> Result<TextList, AllocError>
     ensures { IfOk result (λ texts. AreNamesOf source.now tokens.now texts) }
@@ -56,7 +113,7 @@ fn texts_of(alloc: Global, source: &[u8], tokens: &[Token]) -> Result<TextList, 
     let (left, right) = tokens.split_at(count / 2);
     let left = texts_of(alloc, source, left)?;
     let right = texts_of(alloc, source, right)?;
-    let all = left.union(alloc, &right)?;
+    let all = united(alloc, left, right)?;
     Ok(all)
 }
 
