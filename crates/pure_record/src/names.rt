@@ -1,9 +1,10 @@
 //! The names of a record.
-ghost use Rattle.std.specs.Prelude.{◌≡◌, ◌≢◌, ◌↔◌, ◌⊎◌, ◌∷◌, [], ℕ, List, true, length, slice_get, option_map, IfOk, IfSome, Some};
+ghost use Rattle.std.specs.Prelude.{◌≡◌, ◌≢◌, ◌∷◌, ◌++◌, [], ℕ, List, true, length, slice_get, option_map, IfOk, Some};
 ghost use Rattle.std.specs.List.Sorted.{IsStrictlySortedBy};
 ghost use Rattle.std.specs.Ordering.{nat_cmp};
 ghost use Rattle.std.specs.Cmp.Lexicographic.{slice_cmp};
 ghost use Rattle.pure_text.specs.Lists.{IsIn};
+ghost use Rattle.pure_grammar.specs.declared.token.Token as grammar;
 ghost use Rattle.pure_grammar.specs.Tokens.Spelling.{AreSlices};
 ghost use Rattle.pure_typ.specs.NameTexts.{builtin_texts};
 ghost use Rattle.pure_record.specs.Spelled.{AreNamesOf, only};
@@ -13,10 +14,12 @@ use pure_grammar::Token;
 use pure_term::Names;
 use pure_text::TextList;
 use std::alloc::{AllocError, Global};
-use std::cmp::Ordering;
 
 /// Names are fewer than these.
 const MOST_TEXTS: usize = 2_147_483_648;
+
+/// So many tokens have their names looked for one after another.
+const FEW: usize = 16;
 
 /// The text, if there is one, as a list.
 fn listed(alloc: Global, text: Option<&[u8]>) -> Result<TextList, AllocError>
@@ -42,59 +45,51 @@ fn given(alloc: Global, source: &[u8], token: Token) -> Result<TextList, AllocEr
     }
 }
 
-/// Whether the first text comes behind the second in byte order.
-fn is_behind(first: &[u8], second: &[u8]) -> bool {
-    match first.cmp(second) {
-        Ordering::Greater => true,
-        Ordering::Less => false,
-        Ordering::Equal => false,
-    }
-}
-
-/// The place at which the text stands in the list, from this place on and before a greater one.
-fn place_from(list: &TextList, text: &[u8], from: usize) -> Option<usize>
-    ensures { IfSome result (λ place. slice_get list.now place ≡ Some text.now) }
+/// Whether the text stands in the list.
+fn has(list: &TextList, text: &[u8]) -> bool
+    ensures { result ≡ true → IsIn text.now list.now }
 {
-    for place in from..list.len() {
+    for place in 0..list.len() {
         if equals(list.at(place), text) {
-            return Some(place);
-        }
-        if is_behind(list.at(place), text) {
-            return None;
+            return true;
         }
     }
-    None
+    false
 }
 
-/// Whether each of the others stands in the list, in the same order.
-fn has_all(list: &TextList, others: &TextList) -> bool
-    ensures { result ≡ true → (t : List ℕ) → IsIn t others.now → IsIn t list.now }
+/// The names of the tokens before, and of one token more.
+fn with_token(
+    alloc: Global,
+    source: &[u8],
+    texts: TextList,
+    token: Token,
+) -> Result<TextList, AllocError>
+    requires { IsStrictlySortedBy (slice_cmp nat_cmp) texts }
+    ensures { IfOk result (λ all. (before : List grammar.Token) → AreNamesOf source.now before texts → AreNamesOf source.now (before ++ token ∷ []) all) }
 {
-    let mut from = 0;
-    for at in 0..others.len() {
-        let Some(place) = place_from(list, others.at(at), from) else {
-            return false;
-        };
-        from = place;
+    let Some(bytes) = bytes_within(source, token) else {
+        return Err(AllocError);
+    };
+    let Some(text) = spelling_of(token.kind, bytes) else {
+        return Ok(texts);
+    };
+    if has(&texts, text) {
+        return Ok(texts);
     }
-    true
-}
-
-/// The texts of two lists that ascend, each once, ascending. One of them that has all is taken as it is.
-fn united(alloc: Global, left: TextList, right: TextList) -> Result<TextList, AllocError>
-    requires own { IsStrictlySortedBy (slice_cmp nat_cmp) left }
-    requires others { IsStrictlySortedBy (slice_cmp nat_cmp) right }
-    ensures ascend { IfOk result (λ all. IsStrictlySortedBy (slice_cmp nat_cmp) all) }
-    ensures texts { IfOk result (λ all. (t : List ℕ) → IsIn t all ↔ (IsIn t left ⊎ IsIn t right)) }
-{
-    if has_all(&left, &right) {
-        return Ok(left);
-    }
-    if has_all(&right, &left) {
-        return Ok(right);
-    }
-    let all = left.union(alloc, &right)?;
+    let one = given(alloc, source, token)?;
+    let all = texts.union(alloc, &one)?;
     Ok(all)
+}
+
+/// The texts that some tokens of the source give, in byte order, where many of them may give the same.
+fn texts_of_few(alloc: Global, source: &[u8], tokens: &[Token]) -> Result<TextList, AllocError>
+    ensures { IfOk result (λ texts. AreNamesOf source.now tokens.now texts) }
+{
+    let mut texts = TextList::empty(alloc);
+    for token in tokens {
+        texts = with_token(alloc, source, texts, *token)?;
+    }
+    Ok(texts)
 }
 
 /// The texts that tokens of the source give, in byte order.
@@ -102,18 +97,13 @@ fn texts_of(alloc: Global, source: &[u8], tokens: &[Token]) -> Result<TextList, 
     ensures { IfOk result (λ texts. AreNamesOf source.now tokens.now texts) }
 {
     let count = tokens.len();
-    if count == 0 {
-        return Ok(TextList::empty(alloc));
-    }
-    if count == 1 {
-        let first = tokens[0];
-        let texts = given(alloc, source, first)?;
-        return Ok(texts);
+    if count <= FEW {
+        return texts_of_few(alloc, source, tokens);
     }
     let (left, right) = tokens.split_at(count / 2);
     let left = texts_of(alloc, source, left)?;
     let right = texts_of(alloc, source, right)?;
-    let all = united(alloc, left, right)?;
+    let all = left.union(alloc, &right)?;
     Ok(all)
 }
 
