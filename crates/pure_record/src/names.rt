@@ -19,7 +19,7 @@ use std::alloc::{AllocError, Global};
 const MOST_TEXTS: usize = 2_147_483_648;
 
 /// So many tokens have their names looked for one after another.
-const FEW: usize = 16;
+const FEW: usize = 32;
 
 /// The text, if there is one, as a list.
 fn listed(alloc: Global, text: Option<&[u8]>) -> Result<TextList, AllocError>
