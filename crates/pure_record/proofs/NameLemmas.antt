@@ -1,7 +1,8 @@
 -- The texts that tokens give.
-use Rattle.std.proofs.Common.{◌≡◌, ◌≢◌, ◌==◌, ◌⊎◌, ◌↔◌, inl, inr, arith, ℕ, zero, suc, Bool, true, false, not, List, [], ◌∷◌, ◌++◌, length, get_or, refl, sym, ◌∙◌, ap, subst, Option, Some, None}
+use Rattle.std.proofs.Common.{◌≡◌, ◌≢◌, ◌==◌, ◌⊎◌, ◌↔◌, inl, inr, ℕ, zero, suc, Bool, true, false, not, List, [], ◌∷◌, ◌++◌, refl, sym, ◌∙◌, ap, subst, Option, Some, None}
 use Rattle.std.specs.Prelude.{slice_get, slice_range}
 use Rattle.std.specs.List.Sorted.{IsStrictlySortedBy}
+use Rattle.std.specs.Cmp.Lexicographic.{same_text}
 use Rattle.std.proofs.lemmas.Bool.{and_parts, both_ways}
 use Rattle.std.proofs.lemmas.Bool.Decides.{eqb_tells}
 use Rattle.pure_text.specs.Lists.{IsIn, Each, AnyOf}
@@ -13,6 +14,7 @@ use Rattle.pure_grammar.specs.declared.token.TokenKind.TheVariants.{Word, Ident,
 use Rattle.pure_grammar.specs.Tokens.Bytes.{is_name_byte, is_letter, is_empty, behind, head_is}
 use Rattle.pure_grammar.specs.Tokens.Token.{is_spelling, is_token, is_keyword, tail}
 use Rattle.pure_grammar.specs.Tokens.Spelling.{IsSlice, AreSlices}
+use Rattle.pure_grammar.specs.Theories.Lexeme.{same}
 use Rattle.pure_lex.proofs.Firsts.{dot-stops}
 use Rattle.pure_typ.specs.NameTexts.{builtin_texts}
 use Rattle.pure_record.specs.Lexemes.{before_dot, is_typ, schematic_text, spelling_of, spelling}
@@ -22,15 +24,6 @@ use Rattle.pure_record.specs.Spelled.{AreNamesOf, only}
 pub each-slice : (source : List ℕ) (from to : ℕ) (tokens : List Token) → AreSlices source from to tokens → Each (IsSlice source) tokens
 each-slice source from to [] are = tt
 each-slice source from to (t ∷ ts) are = (are.1, each-slice source t.to to ts are.2)
-
-pub nothing-left : {A : Type 0} (xs : List A) → length xs ≡ 0 → xs ≡ []
-nothing-left [] e = refl
-nothing-left (x ∷ xs) e = absurd (omega (arith, e))
-
-pub one-left : {A : Type 0} (xs : List A) (d : A) → length xs ≡ 1 → xs ≡ get_or xs 0 d ∷ []
-one-left [] d alone = absurd (omega (arith, alone))
-one-left (y ∷ []) d alone = refl
-one-left (y ∷ z ∷ xs) d alone = absurd (omega (arith, alone))
 
 -- ---- the texts of no token, of one, and of two lists
 pub names-none : (source : List ℕ) (tokens : List Token) (texts : List (List ℕ)) → tokens ≡ [] → texts ≡ [] → AreNamesOf source tokens texts
@@ -60,6 +53,26 @@ names-united source all left right texts first second parts a b ascend members =
       λ m. elim ((members t).0 m) [ inl f ↦ any-append_left (λ token. spelling source token ≡ Some t) left right ((a.given t).0 f) | inr s ↦ any-append_right (λ token. spelling source token ≡ Some t) left right ((b.given t).0 s) ],
       λ g. (members t).1 (elim (any_split (λ token. spelling source token ≡ Some t) left right g) [ inl f ↦ inl ((a.given t).1 f) | inr s ↦ inr ((b.given t).1 s) ]),
     )
+
+-- one token more, whose text is there
+pub names-with : (source : List ℕ) (before : List Token) (token : Token) (texts : List (List ℕ)) → AreNamesOf source before texts → ((t : List ℕ) → spelling source token ≡ Some t → IsIn t texts)
+    → AreNamesOf source (before ++ token ∷ []) texts
+names-with source before token texts names there = record { ascend = names.ascend; given = given }
+  where
+    given : (t : List ℕ) → IsIn t texts ↔ AnyOf (λ x. spelling source x ≡ Some t) (before ++ token ∷ [])
+    given t = (
+      λ m. any-append_left (λ x. spelling source x ≡ Some t) before (token ∷ []) ((names.given t).0 m),
+      λ g. elim (any_split (λ x. spelling source x ≡ Some t) before (token ∷ []) g) [ inl w ↦ (names.given t).1 w | inr w ↦ elim w [ inl e ↦ there t e | inr n ↦ absurd n ] ],
+    )
+
+pub names-past : (source bytes : List ℕ) (before : List Token) (token : Token) (texts : List (List ℕ)) → bytes ≡ slice_range source token.from token.to → None ≡ spelling_of token.kind bytes
+    → AreNamesOf source before texts → AreNamesOf source (before ++ token ∷ []) texts
+names-past source bytes before token texts is none names = names-with source before token texts names (λ t e. absurd (none-some t (none ∙ (ap (spelling_of token.kind) is ∙ e))))
+
+pub names-again : (source bytes text : List ℕ) (before : List Token) (token : Token) (texts : List (List ℕ)) → bytes ≡ slice_range source token.from token.to → Some text ≡ spelling_of token.kind bytes → IsIn text texts
+    → AreNamesOf source before texts → AreNamesOf source (before ++ token ∷ []) texts
+names-again source bytes text before token texts is some there names =
+    names-with source before token texts names (λ t e. subst (λ z. IsIn z texts) (sym (some-some text t (some ∙ (ap (spelling_of token.kind) is ∙ e)))) there)
 
 -- ---- they have no dot, and are no texts of Pure
 no_dot : is_name_byte 46 ≡ false
@@ -116,6 +129,9 @@ got-in : {A : Type 0} (xs : List A) (n : ℕ) (x : A) → slice_get xs n ≡ Som
 got-in [] n x h = absurd (cc)
 got-in (y ∷ ys) zero x h = inl (let e : y ≡ x = cc in sym e)
 got-in (y ∷ ys) (suc n) x h = inr (got-in ys n x h)
+
+pub place-holds : (list : List (List ℕ)) (place : ℕ) (found text : List ℕ) → slice_get list place ≡ Some found → same found text ≡ true → IsIn text list
+place-holds list place found text got is = subst (λ z. IsIn z list) (same_text found text (sym is)) (got-in list place found got)
 
 pub others-named : (source : List ℕ) (tokens : List Token) (texts : List (List ℕ)) → Each (IsSlice source) tokens → AreNamesOf source tokens texts
     → (m n : ℕ) (text : List ℕ) → slice_get builtin_texts m ≡ Some text → slice_get texts n ≢ Some text

@@ -14,6 +14,12 @@ use std::alloc::{AllocError, Global};
 pub(crate) fn equals(bytes: &[u8], text: &[u8]) -> bool
     ensures { result ≡ same bytes.now text.now }
 {
+    if bytes.len() != text.len() {
+        return false;
+    }
+    if bytes.len() == 1 {
+        return bytes[0] == text[0];
+    }
     bytes == text
 }
 

@@ -151,6 +151,71 @@ fn term_on(lexeme: Lexeme) -> Option<&'static [Symbol]>
     }
 }
 
+/// What is to come behind the percent sign of an abstraction, the last part first.
+fn abstraction_on() -> Option<&'static [Symbol]>
+    ensures { option_map (λ xs. reverse xs.now) result ≡ spec.in_parentheses_on (Lexeme.Marked Mark.Percent) }
+{
+    Some(&[
+        Symbol::Just {
+            mark: Mark::CloseParenthesis,
+        },
+        Symbol::Term,
+        Symbol::Just {
+            mark: Mark::Semicolon,
+        },
+        Symbol::Typ,
+    ])
+}
+
+/// What is to come behind the bracket of a constant that is applied, the last part first.
+fn applied_constant_on() -> Option<&'static [Symbol]>
+    ensures { option_map (λ xs. reverse xs.now) result ≡ spec.in_parentheses_on (Lexeme.Marked Mark.OpenBracket) }
+{
+    Some(&[
+        Symbol::Just {
+            mark: Mark::CloseParenthesis,
+        },
+        Symbol::Term,
+        Symbol::Just {
+            mark: Mark::CloseBracket,
+        },
+        Symbol::Typ,
+        Symbol::Just { mark: Mark::Colon },
+        Symbol::Identifier,
+    ])
+}
+
+/// What is to come behind the brace of a variable that is applied, the last part first.
+fn applied_variable_on() -> Option<&'static [Symbol]>
+    ensures { option_map (λ xs. reverse xs.now) result ≡ spec.in_parentheses_on (Lexeme.Marked Mark.OpenBrace) }
+{
+    Some(&[
+        Symbol::Just {
+            mark: Mark::CloseParenthesis,
+        },
+        Symbol::Term,
+        Symbol::Just {
+            mark: Mark::CloseBrace,
+        },
+        Symbol::Typ,
+        Symbol::Just { mark: Mark::Colon },
+        Symbol::VariableName,
+    ])
+}
+
+/// What is to come behind the second of two parentheses, the last part first.
+fn applied_compound_on() -> Option<&'static [Symbol]>
+    ensures { option_map (λ xs. reverse xs.now) result ≡ spec.in_parentheses_on (Lexeme.Marked Mark.OpenParenthesis) }
+{
+    Some(&[
+        Symbol::Just {
+            mark: Mark::CloseParenthesis,
+        },
+        Symbol::Term,
+        Symbol::InParentheses,
+    ])
+}
+
 /// What is to come behind the first lexeme of the part `InParentheses`, the last part first.
 fn in_parentheses_on(lexeme: Lexeme) -> Option<&'static [Symbol]>
     ensures { option_map (λ xs. reverse xs.now) result ≡ spec.in_parentheses_on lexeme }
@@ -158,44 +223,13 @@ fn in_parentheses_on(lexeme: Lexeme) -> Option<&'static [Symbol]>
     match lexeme {
         Lexeme::Marked {
             mark: Mark::Percent,
-        } => Some(&[
-            Symbol::Just {
-                mark: Mark::CloseParenthesis,
-            },
-            Symbol::Term,
-            Symbol::Just {
-                mark: Mark::Semicolon,
-            },
-            Symbol::Typ,
-        ]),
+        } => abstraction_on(),
         Lexeme::Marked {
             mark: Mark::OpenBracket,
-        } => Some(&[
-            Symbol::Just {
-                mark: Mark::CloseParenthesis,
-            },
-            Symbol::Term,
-            Symbol::Just {
-                mark: Mark::CloseBracket,
-            },
-            Symbol::Typ,
-            Symbol::Just { mark: Mark::Colon },
-            Symbol::Identifier,
-        ]),
+        } => applied_constant_on(),
         Lexeme::Marked {
             mark: Mark::OpenBrace,
-        } => Some(&[
-            Symbol::Just {
-                mark: Mark::CloseParenthesis,
-            },
-            Symbol::Term,
-            Symbol::Just {
-                mark: Mark::CloseBrace,
-            },
-            Symbol::Typ,
-            Symbol::Just { mark: Mark::Colon },
-            Symbol::VariableName,
-        ]),
+        } => applied_variable_on(),
         Lexeme::Bound { .. } => Some(&[
             Symbol::Just {
                 mark: Mark::CloseParenthesis,
@@ -204,13 +238,7 @@ fn in_parentheses_on(lexeme: Lexeme) -> Option<&'static [Symbol]>
         ]),
         Lexeme::Marked {
             mark: Mark::OpenParenthesis,
-        } => Some(&[
-            Symbol::Just {
-                mark: Mark::CloseParenthesis,
-            },
-            Symbol::Term,
-            Symbol::InParentheses,
-        ]),
+        } => applied_compound_on(),
         _ => None,
     }
 }
@@ -301,82 +329,113 @@ fn term_binds_on(lexeme: Lexeme) -> Option<&'static [Symbol]>
     }
 }
 
+/// What follows the word of an axiom, the last part first.
+fn axiom_on() -> Option<&'static [Symbol]>
+    ensures { option_map (λ xs. reverse xs.now) result ≡ spec.node_on Word.Axiom }
+{
+    Some(&[
+        Symbol::Lines,
+        Symbol::Just { mark: Mark::Bar },
+        Symbol::TermBinds,
+        Symbol::Just {
+            mark: Mark::OpenBracket,
+        },
+        Symbol::TypBinds,
+        Symbol::Just {
+            mark: Mark::OpenBracket,
+        },
+        Symbol::Identifier,
+    ])
+}
+
+/// What follows a word that stands before a term, the last part first.
+fn one_term_on() -> Option<&'static [Symbol]>
+    ensures { option_map (λ xs. reverse xs.now) result ≡ spec.node_on Word.Assume }
+{
+    Some(&[
+        Symbol::Lines,
+        Symbol::Just { mark: Mark::Bar },
+        Symbol::Term,
+    ])
+}
+
+/// What follows a word that stands before two terms, the last part first.
+fn two_terms_on() -> Option<&'static [Symbol]>
+    ensures { option_map (λ xs. reverse xs.now) result ≡ spec.node_on Word.Ext }
+{
+    Some(&[
+        Symbol::Lines,
+        Symbol::Just { mark: Mark::Bar },
+        Symbol::Term,
+        Symbol::Term,
+    ])
+}
+
+/// What follows a word that stands before three terms, the last part first.
+fn three_terms_on() -> Option<&'static [Symbol]>
+    ensures { option_map (λ xs. reverse xs.now) result ≡ spec.node_on Word.Subst }
+{
+    Some(&[
+        Symbol::Lines,
+        Symbol::Just { mark: Mark::Bar },
+        Symbol::Term,
+        Symbol::Term,
+        Symbol::Term,
+    ])
+}
+
+/// What follows a word that stands before a variable and a number, the last part first.
+fn variable_and_number_on() -> Option<&'static [Symbol]>
+    ensures { option_map (λ xs. reverse xs.now) result ≡ spec.node_on Word.AllIntro }
+{
+    Some(&[
+        Symbol::Lines,
+        Symbol::Just { mark: Mark::Bar },
+        Symbol::Numeral,
+        Symbol::Variable,
+    ])
+}
+
+/// What follows a word that stands before a term and a number, the last part first.
+fn term_and_number_on() -> Option<&'static [Symbol]>
+    ensures { option_map (λ xs. reverse xs.now) result ≡ spec.node_on Word.AllElim }
+{
+    Some(&[
+        Symbol::Lines,
+        Symbol::Just { mark: Mark::Bar },
+        Symbol::Numeral,
+        Symbol::Term,
+    ])
+}
+
+/// What follows a word that stands before two numbers, the last part first.
+fn two_numbers_on() -> Option<&'static [Symbol]>
+    ensures { option_map (λ xs. reverse xs.now) result ≡ spec.node_on Word.ImpElim }
+{
+    Some(&[
+        Symbol::Lines,
+        Symbol::Just { mark: Mark::Bar },
+        Symbol::Numeral,
+        Symbol::Numeral,
+    ])
+}
+
 /// What follows the word of a node, the last part first.
 fn node_on(word: Word) -> Option<&'static [Symbol]>
     ensures { option_map (λ xs. reverse xs.now) result ≡ spec.node_on word }
 {
     match word {
-        Word::Axiom => Some(&[
-            Symbol::Lines,
-            Symbol::Just { mark: Mark::Bar },
-            Symbol::TermBinds,
-            Symbol::Just {
-                mark: Mark::OpenBracket,
-            },
-            Symbol::TypBinds,
-            Symbol::Just {
-                mark: Mark::OpenBracket,
-            },
-            Symbol::Identifier,
-        ]),
-        Word::Assume => Some(&[
-            Symbol::Lines,
-            Symbol::Just { mark: Mark::Bar },
-            Symbol::Term,
-        ]),
-        Word::AllIntro => Some(&[
-            Symbol::Lines,
-            Symbol::Just { mark: Mark::Bar },
-            Symbol::Numeral,
-            Symbol::Variable,
-        ]),
-        Word::AllElim => Some(&[
-            Symbol::Lines,
-            Symbol::Just { mark: Mark::Bar },
-            Symbol::Numeral,
-            Symbol::Term,
-        ]),
-        Word::ImpIntro => Some(&[
-            Symbol::Lines,
-            Symbol::Just { mark: Mark::Bar },
-            Symbol::Numeral,
-            Symbol::Term,
-        ]),
-        Word::ImpElim => Some(&[
-            Symbol::Lines,
-            Symbol::Just { mark: Mark::Bar },
-            Symbol::Numeral,
-            Symbol::Numeral,
-        ]),
-        Word::Beta => Some(&[
-            Symbol::Lines,
-            Symbol::Just { mark: Mark::Bar },
-            Symbol::Term,
-        ]),
-        Word::Refl => Some(&[
-            Symbol::Lines,
-            Symbol::Just { mark: Mark::Bar },
-            Symbol::Term,
-        ]),
-        Word::Subst => Some(&[
-            Symbol::Lines,
-            Symbol::Just { mark: Mark::Bar },
-            Symbol::Term,
-            Symbol::Term,
-            Symbol::Term,
-        ]),
-        Word::Ext => Some(&[
-            Symbol::Lines,
-            Symbol::Just { mark: Mark::Bar },
-            Symbol::Term,
-            Symbol::Term,
-        ]),
-        Word::Iff => Some(&[
-            Symbol::Lines,
-            Symbol::Just { mark: Mark::Bar },
-            Symbol::Term,
-            Symbol::Term,
-        ]),
+        Word::Axiom => axiom_on(),
+        Word::Assume => one_term_on(),
+        Word::AllIntro => variable_and_number_on(),
+        Word::AllElim => term_and_number_on(),
+        Word::ImpIntro => term_and_number_on(),
+        Word::ImpElim => two_numbers_on(),
+        Word::Beta => one_term_on(),
+        Word::Refl => one_term_on(),
+        Word::Subst => three_terms_on(),
+        Word::Ext => two_terms_on(),
+        Word::Iff => two_terms_on(),
         _ => None,
     }
 }

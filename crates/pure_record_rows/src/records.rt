@@ -4,11 +4,13 @@ ghost use Rattle.std.specs.Prelude.{◌<◌, length};
 use crate::source::tokens_of;
 use pure_lex::line_col;
 use pure_record::{Record, RecordFault, read_record};
+use pure_record_print::print_record;
 use pure_rows::{Outcome, Row, Subject, text_of};
+use pure_text::Text;
 use std::alloc::{AllocError, Global};
 use std::rt::Files;
 
-/// The reading of records.
+/// The reading of records, and their printing.
 pub(crate) struct Records;
 
 impl Subject for Records {
@@ -21,6 +23,7 @@ impl Subject for Records {
         match (row.field(0), row.len()) {
             (b"record", 3) => outcome_of(alloc, row.field(1), row.field(2)),
             (b"long", 3) => long_outcome(alloc, row.field(1), row.field(2)),
+            (b"print", 3) => print_outcome(alloc, row.field(1), row.field(2)),
             (b"cut", 2) => Outcome::of_answer(are_cuts_refused(alloc, row.field(1))),
             _ => Outcome::Unreadable,
         }
@@ -74,6 +77,35 @@ fn long_outcome(alloc: Global, short: &[u8], wanted: &[u8]) -> Outcome {
         Ok(source) => outcome_of(alloc, &source, wanted),
         Err(_) => Outcome::Memory,
     }
+}
+
+/// The text that is printed of the record that the source spells; none where it spells none.
+fn printed(alloc: Global, source: &[u8]) -> Result<Option<Text>, AllocError> {
+    let Some(found) = tokens_of(alloc, source)? else {
+        return Ok(None);
+    };
+    match read_record(alloc, source, &found) {
+        Ok(read) => Ok(Some(print_record(alloc, &read)?)),
+        Err(RecordFault::TooLong { .. }) => Ok(None),
+        Err(RecordFault::Syntax { .. }) => Ok(None),
+        Err(RecordFault::Memory) => Err(AllocError),
+    }
+}
+
+/// Whether the record that the source spells is printed so, and what is printed is read and printed again.
+fn is_printed_so(alloc: Global, source: &[u8], wanted: &[u8]) -> Result<bool, AllocError> {
+    let Some(text) = printed(alloc, source)? else {
+        return Ok(false);
+    };
+    let Some(again) = printed(alloc, text.bytes())? else {
+        return Ok(false);
+    };
+    Ok(text.bytes() == wanted && again.bytes() == wanted)
+}
+
+/// What comes of a row of a printed record.
+fn print_outcome(alloc: Global, source: &[u8], wanted: &[u8]) -> Outcome {
+    Outcome::of_answer(is_printed_so(alloc, source, wanted))
 }
 
 /// Whether the front of a record, which is cut before its last token ends, is refused at a place in it, or has no tokens.
