@@ -1,15 +1,15 @@
-//! Where classes and arities stand in a list.
+//! Classes and arities by their numbers.
 ghost use Rattle.std.specs.Prelude.{◌≡◌, List, [], ◌∷◌, ◌++◌, IfOk, Some};
 ghost use Rattle.pure_definitions.specs.Declarations.Decl as tree;
 ghost use Rattle.pure_theory_tables.specs.Keys as keys;
-ghost use Rattle.pure_theory_tables.specs.Placed.{ArePlaced};
+ghost use Rattle.pure_theory_tables.specs.Numbered.{AreNumbered};
 ghost use Rattle.pure_theory_tables.specs.View.{decl_of};
 
 use crate::entry::Entry;
 use crate::shelves::put;
 use pure_shared_maps::Shelf;
 use pure_term::Name;
-use std::alloc::{AllocError, Global};
+use std::alloc::AllocError;
 use std::sync::Arc;
 
 /// The number of an arity.
@@ -20,9 +20,9 @@ pub(crate) fn arity_key(con: Name, class: Name) -> u32
     (sum % 4_294_967_296) as u32
 }
 
-/// The number under which the place of a class or an arity is kept.
-fn place_key(entry: &Entry) -> Option<u32>
-    ensures { result ≡ keys.place_key (decl_of entry.now) }
+/// The number of a class or an arity.
+fn number_key(entry: &Entry) -> Option<u32>
+    ensures { result ≡ keys.number_key (decl_of entry.now) }
 {
     match entry {
         Entry::Class { name, .. } => Some(name.0),
@@ -31,44 +31,41 @@ fn place_key(entry: &Entry) -> Option<u32>
     }
 }
 
-/// The places, with this one for the number, if it has none yet.
+/// The entries by their numbers, with this one, if its number has none yet.
 fn with_key(
-    alloc: Global,
-    places: &Shelf<u32>,
+    numbered: &Shelf<Entry>,
     key: u32,
-    place: u32,
-) -> Result<Shelf<u32>, AllocError>
-    ensures { IfOk result (λ more. (ds : List tree.Decl) (d : tree.Decl) → keys.place_key d ≡ Some key → ArePlaced places.now ds → ArePlaced more (ds ++ d ∷ [])) }
+    entry: &Arc<Entry>,
+) -> Result<Shelf<Entry>, AllocError>
+    ensures { IfOk result (λ more. (ds : List tree.Decl) → keys.number_key (decl_of entry.now.value) ≡ Some key → AreNumbered numbered.now ds → AreNumbered more (ds ++ decl_of entry.now.value ∷ [])) }
 {
-    match places.get(key) {
+    match numbered.get(key) {
         None => {
-            let place = Arc::new(alloc, place)?;
-            let more = put(places, key, place)?;
+            let entry = Arc::try_clone(entry)?;
+            let more = put(numbered, key, entry)?;
             Ok(more)
         }
         Some(_) => {
-            let same = places.share()?;
+            let same = numbered.share()?;
             Ok(same)
         }
     }
 }
 
-/// The places, with this one for the entry, which stands behind the others, if its number has none yet.
-pub(crate) fn with_place(
-    alloc: Global,
-    places: &Shelf<u32>,
-    entry: &Entry,
-    place: u32,
-) -> Result<Shelf<u32>, AllocError>
-    ensures { IfOk result (λ more. (ds : List tree.Decl) → ArePlaced places.now ds → ArePlaced more (ds ++ decl_of entry.now ∷ [])) }
+/// The entries by their numbers, with this one, which stands behind the others, if it has a number that none has yet.
+pub(crate) fn with_number(
+    numbered: &Shelf<Entry>,
+    entry: &Arc<Entry>,
+) -> Result<Shelf<Entry>, AllocError>
+    ensures { IfOk result (λ more. (ds : List tree.Decl) → AreNumbered numbered.now ds → AreNumbered more (ds ++ decl_of entry.now.value ∷ [])) }
 {
-    match place_key(entry) {
+    match number_key(&**entry) {
         None => {
-            let same = places.share()?;
+            let same = numbered.share()?;
             Ok(same)
         }
         Some(key) => {
-            let more = with_key(alloc, places, key, place)?;
+            let more = with_key(numbered, key, entry)?;
             Ok(more)
         }
     }
