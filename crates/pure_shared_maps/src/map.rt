@@ -225,12 +225,7 @@ impl<V: Drop> GrownMap<V> {
     }
 
     /// The map with a value put in, also where the key has one.
-    pub fn with(
-        self,
-        alloc: Global,
-        key: u32,
-        value: Arc<V>,
-    ) -> Result<GrownMap<V>, AllocError>
+    pub fn with(self, alloc: Global, key: u32, value: Arc<V>) -> Result<GrownMap<V>, AllocError>
         ensures { IfOk result (λ more. more ≡ map.insert self key value.value) }
     {
         let GrownMap {
