@@ -1,4 +1,4 @@
-use Rattle.std.proofs.Common.{◌≡◌, rules, ap, inl, inr}
+use Rattle.std.proofs.Common.{rules, ap, inl, inr}
 use Rattle.pure_shared_maps.specs.View.{front_values}
 use Rattle.pure_shared_maps.proofs.GrownLaws.{folded_list}
 use Rattle.pure_shared_maps.proofs.list.folded.Goals as goal

@@ -1,4 +1,4 @@
-use Rattle.std.proofs.Common.{◌≡◌, rules, inl, inr}
+use Rattle.std.proofs.Common.{rules, inl, inr}
 use Rattle.pure_shared_maps.specs.View.{front_map, pairs_of}
 use Rattle.pure_shared_maps.proofs.GrownLaws.{folded_map}
 use Rattle.pure_shared_maps.proofs.map.folded.Goals as goal

@@ -1,5 +1,3 @@
-use Rattle.std.proofs.Common.{◌∙◌, ap}
-use Rattle.pure_theory_tables.specs.View.{decl_of}
 use Rattle.pure_theory_tables.proofs.PlaceLaws.{nothing_behind, grown_tables, grown_list}
 use Rattle.pure_theory_tables.proofs.declarations.Declarations.with_entry.Goals as goal
 
