@@ -1,5 +1,6 @@
 -- A table of classes with one more class.
-use Rattle.std.proofs.Common.{◌≡◌, ℕ, ◌+◌, ◌<◌, ◌≤◌, ◌/◌, ◌%◌, zero, suc, List, [], ◌∷◌, ◌++◌, length, get_or, refl, sym, ap, subst, inl, inr, ◌⊎◌, ◌↔◌, Option, Some, None, MatchOption, ◌∙◌, arith, length-append}
+use Rattle.std.proofs.Common.{◌≡◌, ℕ, ◌+◌, ◌<◌, ◌≤◌, ◌/◌, ◌%◌, zero, suc, List, [], ◌∷◌, ◌++◌, length, get_or, refl, sym, ap, subst, inl, inr, ◌⊎◌, ◌↔◌, Option, Some, None, MatchOption, ◌∙◌, arith, length-append, Bool, true}
+use Rattle.std.specs.Prelude.{◌==◌}
 use Rattle.std.proofs.Math.ListN.{get_or-append}
 use Rattle.std.proofs.Math.Seq.{get_or-append_seam}
 use Rattle.std.proofs.lemmas.List.{length-map}
@@ -15,10 +16,12 @@ use Rattle.pure_order_tables.specs.ClassView.{class_of, classes_of}
 use Rattle.pure_order_tables.specs.Rows.{Holds}
 use Rattle.pure_order_tables.specs.Classes.{IsDeclared, Follows, of_classes}
 use Rattle.pure_order_tables.specs.ClassTable.{AreAllAbove, HasNumbers, IsClassTable, IsEntry, IsNewEntry, IsNewRow, IsNumber, IsOtherNamed, IsRow, NamedBefore, name_at, no_class}
+use Rattle.std.proofs.lemmas.Bool.{eqb-true}
 use Rattle.std.proofs.lemmas.Bool.Decides.{eqb_tells}
 use Rattle.std.specs.Int.{bit_at}
 use Rattle.pure_order_tables.specs.Checks.{IsDecided}
 use Rattle.pure_order_tables.proofs.MapLaws.{get_after}
+use Rattle.pure_order_tables.proofs.RowLaws.{held_within}
 use Rattle.pure_definitions.proofs.OrderLaws.{below-trans, below-more, below_same}
 use Rattle.pure_order_tables.proofs.BelowLaws.{below-one_more, below-undeclared, follows-one_more, declared, reaches}
 
@@ -417,3 +420,8 @@ others_passed cs row seen start names number end below passed before x = (
     ]
   ],
 )
+
+-- No classes have an empty row.
+pub no_numbers : (cs : List Class) (names words : List ℕ) (b : Bool) → b ≡ (length names == 0) → b ≡ true → words ≡ [] → HasNumbers cs names words
+no_numbers cs [] words b e t none = rw none (record { only = λ n h. absurd (let inside = held_within [] n h in omega (arith, inside)); each = tt })
+no_numbers cs (c ∷ names) words b e t none = let long : length (c ∷ names) ≡ 0 = eqb-true (length (c ∷ names)) 0 (sym e ∙ t) in absurd (omega arith)

@@ -195,6 +195,18 @@ impl ClassTable {
         Ok(row)
     }
 
+    /// The same; an empty row where there are no classes.
+    fn few_numbers_of(&self, alloc: Global, classes: &[Name]) -> Result<Vec<u64>, AllocError>
+        requires { Each (IsDeclared self.now) classes.now }
+        ensures { IfOk result (λ row. HasNumbers self.now classes.now row.items) }
+    {
+        if classes.is_empty() {
+            return Ok(Vec::new(alloc));
+        }
+        let row = self.numbers_of(alloc, classes)?;
+        Ok(row)
+    }
+
     /// The row of a new class: its own number, and those of the classes above one of the classes with these numbers. The lowest of these come first, so that a row is read only where it adds something.
     fn new_row(&self, alloc: Global, numbers: &[u64]) -> Result<Vec<u64>, AllocError>
         ensures { IfOk result (λ row. (above : List ℕ) → HasNumbers self.now above numbers.now → IsNewRow self.now above row.items) }
@@ -291,7 +303,7 @@ impl ClassTable {
         requires { Each (IsDeclared self.now) above.now }
         ensures { IfOk result (IsNewEntry self.now (record { name = class; above = above.now })) }
     {
-        let numbers = self.numbers_of(alloc, above)?;
+        let numbers = self.few_numbers_of(alloc, above)?;
         let row = self.new_row(alloc, numbers.as_slice())?;
         let up = self.names_of(alloc, class, numbers.as_slice(), row.as_slice())?;
         let above = Vec::from_slice(alloc, above)?;
@@ -319,6 +331,30 @@ impl ClassTable {
         self.entries.push(alloc, entry)?;
         self.numbers = numbers;
         Ok(())
+    }
+
+    /// The table with a class more.
+    pub(crate) fn with(
+        self,
+        alloc: Global,
+        class: Name,
+        above: &[Name],
+    ) -> Result<ClassTable, AllocError>
+        requires fresh { ¬ IsDeclared self class }
+        requires known { Each (IsDeclared self) above.now }
+        ensures ok { IfOk result (λ more. more ≡ self ++ record { name = class; above = above.now } ∷ []) }
+        ensures ordered { Follows [] self }
+    {
+        let entry = self.new_entry(alloc, class, above)?;
+        let entry = Arc::new(alloc, entry)?;
+        let number = Arc::new(alloc, self.count())?;
+        let ClassTable { entries, numbers } = self;
+        let by_name = numbers.with(alloc, class.0, number)?;
+        let more = entries.with(alloc, entry)?;
+        Ok(ClassTable {
+            entries: more,
+            numbers: by_name,
+        })
     }
 
     /// The declared classes.

@@ -99,11 +99,15 @@ pub(crate) fn within(first: &[u64], second: &[u64]) -> bool
     true
 }
 
-/// Where those numbers below this one end that the first row may hold and the second not: past the number's word, if it holds none of them.
+/// Where those numbers below this one end that the first row may hold and the second not: past the number's word, if it holds none of them, and past
+/// all that the first row has no words for.
 pub(crate) fn end_below(first: &[u64], second: &[u64], number: usize) -> usize
     ensures below { result ≤ number }
     ensures passed { (place : ℕ) → result ≤ place → place < number → Holds first.now place → Holds second.now place }
 {
+    if first.len() <= number / 64 {
+        return first.len() * 64;
+    }
     let word = word_at(first, number / 64);
     if word & word_at(second, number / 64) == word {
         return number / 64 * 64;

@@ -377,6 +377,30 @@ impl Tables {
         Ok(())
     }
 
+    /// The tables with a class more.
+    pub(crate) fn with_class(
+        self,
+        alloc: Global,
+        class: Name,
+        above: &[Name],
+    ) -> Result<Tables, AllocError>
+        requires fresh { ¬ IsDeclared self.classes class }
+        requires known { Each (IsDeclared self.classes) above.now }
+        ensures { IfOk result (λ more. more ≡ with_class self (record { name = class; above = above.now })) }
+    {
+        let Tables {
+            classes,
+            arities,
+            slots,
+        } = self;
+        let more = classes.with(alloc, class, above)?;
+        Ok(Tables {
+            classes: more,
+            arities,
+            slots,
+        })
+    }
+
     /// Puts in an arity, which is the greatest at these classes.
     pub(crate) fn push_arity(
         &mut self,

@@ -47,24 +47,25 @@ impl Tables {
         false
     }
 
-    /// Declares those of the classes that aren't declared yet.
-    fn push_classes(
-        &mut self,
+    /// The tables with those of the classes that aren't declared yet.
+    fn with_classes(
+        self,
         alloc: Global,
         entries: &GrownList<ClassEntry>,
-    ) -> Result<(), AllocError>
+    ) -> Result<Tables, AllocError>
         requires ordered { Follows [] (classes_of entries.now) }
-        requires agree { Agree self.old.classes (classes_of entries.now) }
-        ensures classes { OnOk result (AreWithOthers self.old.classes (classes_of entries.now) self.new.classes) }
-        ensures arities { OnOk result (self.new.arities ≡ self.old.arities) }
+        requires agree { Agree self.classes (classes_of entries.now) }
+        ensures classes { IfOk result (λ more. AreWithOthers self.classes (classes_of entries.now) more.classes) }
+        ensures arities { IfOk result (λ more. more.arities ≡ self.arities) }
     {
+        let mut tables = self;
         for i in 0..entries.len() {
             let entry = entries.get(i);
-            if !self.is_declared(entry.name) {
-                self.push_class(alloc, entry.name, entry.above.as_slice())?;
+            if !tables.is_declared(entry.name) {
+                tables = tables.with_class(alloc, entry.name, entry.above.as_slice())?;
             }
         }
-        Ok(())
+        Ok(tables)
     }
 
     /// Declares those of the arities that the first tables, which had these arities, haven't.
@@ -107,8 +108,8 @@ impl Tables {
     {
         self.are_in_order();
         other.are_in_order();
-        let mut tables = self.copy(alloc)?;
-        tables.push_classes(alloc, other.class_entries())?;
+        let own = self.copy(alloc)?;
+        let mut tables = own.with_classes(alloc, other.class_entries())?;
         tables.are_in_order();
         let theirs = tables.all_kept(alloc, other)?;
         if let Some(found) = tables.least_conflict(alloc, self, other, &theirs)? {

@@ -1,11 +1,13 @@
 -- What is found in a list of pairs.
-use Rattle.std.proofs.Common.{◌≡◌, ℕ, zero, suc, ◌+◌, ◌≤◌, ◌<◌, List, [], ◌∷◌, length, get_or, take, drop, drop-cons, add-one, None, Some, refl, sym, ap, ◌∙◌, arith, true, false, nat_lt}
+use Rattle.std.proofs.Common.{◌≡◌, ℕ, zero, suc, ◌+◌, ◌-◌, ◌≤◌, ◌<◌, List, [], ◌∷◌, length, get_or, take, drop, drop-cons, add-one, None, Some, refl, sym, ap, ◌∙◌, arith, true, false, nat_lt}
 use Rattle.std.specs.Ordering.{nat_cmp}
 use Rattle.std.specs.FinMap.{find}
 use Rattle.std.specs.List.{AllWithin}
 use Rattle.std.specs.List.Sorted.{IsNonDecreasingBy}
 use Rattle.std.proofs.lemmas.Bool.Decides.{nat_tests}
 use Rattle.std.proofs.lemmas.List.{drop-map}
+use Rattle.std.proofs.lemmas.Option.{same_Some}
+use Rattle.std.specs.Prelude.{slice_get}
 use Rattle.pure_text.specs.Lists.{Each}
 use Rattle.pure_text.proofs.ListLaws.{each_imply}
 use Rattle.pure_shared_maps.specs.declared.entries.Entry.{Entry}
@@ -89,3 +91,28 @@ module _ {V : Type 0} where
   others_after key [] (suc n) h = tt
   others_after key (e ∷ es) zero h = (grind (arith, nat_tests, h 0 e (omega arith) (omega arith)), others_after key es zero (λ k d low high. h (suc k) d (omega arith) (omega arith)))
   others_after key (e ∷ es) (suc n) h = others_after key es n (λ k d low high. h (suc k) d (omega arith) (omega arith))
+
+  less_all : (es : List (Entry V)) (e : Entry V) (n key : ℕ) → Ascends (pairs_of es) → n + 1 ≡ length es → Some e ≡ slice_get es n → e.key < key → Each (λ p. p.0 < key) (pairs_of es)
+  less_all [] e n key up long last less = tt
+  less_all (x ∷ []) e zero key up long last less = (rw (← same_Some e x last) less, tt)
+  less_all (x ∷ []) e (suc n) key up long last less = absurd (omega (arith, long))
+  less_all (x ∷ y ∷ es) e zero key up long last less = absurd (omega (arith, long))
+  less_all (x ∷ y ∷ es) e (suc n) key up long last less =
+      let rest : Each (λ p. p.0 < key) (pairs_of (y ∷ es)) = less_all (y ∷ es) e n key up.1 (omega (arith, long)) last less in
+      let first : x.key ≤ y.key = up.0.0 in
+      let next : y.key < key = rest.0 in
+      (omega (arith, first, next), rest)
+
+  -- Where the last key is less, each is.
+  pub last_less : (es : List (Entry V)) (e : Entry V) (key : ℕ) → Ascends (pairs_of es) → Some e ≡ slice_get es (length es - 1) → nat_lt e.key key ≡ true → Each (λ p. p.0 < key) (pairs_of es)
+  last_less [] e key up last less = tt
+  last_less (x ∷ es) e key up last less = less_all (x ∷ es) e (length (x ∷ es) - 1) key up (omega arith) last (grind (arith, nat_tests, less))
+
+  less_taken : (es : List (Entry V)) (n key : ℕ) → Each (λ p. p.0 < key) (pairs_of es) → Each (λ p. p.0 < key) (take n (pairs_of es))
+  less_taken es zero key h = tt
+  less_taken [] (suc n) key h = tt
+  less_taken (e ∷ es) (suc n) key h = (h.0, less_taken es n key h.1)
+
+  -- Where each key is less, the place is the end.
+  pub place_behind : (es : List (Entry V)) (n key : ℕ) → n ≡ length es → Each (λ p. p.0 < key) (pairs_of es) → IsPlaceOf (pairs_of es) key n
+  place_behind es n key end h = record { less = less_taken es n key h; rest = rw (nothing_left n es (omega (arith, end))) tt }

@@ -1,5 +1,5 @@
 -- Lists and maps that grow: their fronts, and what is put over them.
-use Rattle.std.proofs.Common.{◌≡◌, ℕ, ◌+◌, ◌<◌, List, [], ◌∷◌, ◌++◌, length, get_or, take, map, refl, sym, ap, ◌∙◌, arith, Option, None, Some, cond, true, false, Bool}
+use Rattle.std.proofs.Common.{◌≡◌, ◌⊎◌, ℕ, ◌+◌, ◌<◌, List, [], ◌∷◌, ◌++◌, length, get_or, take, map, refl, sym, ap, ◌∙◌, inl, inr, append_assoc, arith, Option, None, Some, cond, true, false, Bool}
 use Rattle.std.specs.Ordering.{nat_cmp, eq_by_cmp}
 use Rattle.std.specs.Cmp.{nat_cmp_total, eq_by_cmp_equiv}
 use Rattle.std.specs.FinMap.{FinMap, from_entries, get, insert, find, get-from_entries, get-insert, get-empty, same_map, nat_cmp-IsAntisymmetric}
@@ -100,3 +100,23 @@ module _ {V : Type 0} where
   -- some entries put in, and then more
   pub put_more : (f : FinMap nat_cmp V) (r r' es : List (Entry V)) (m : FinMap nat_cmp V) → puts f (pairs_of r) ≡ m → r' ≡ r ++ es → puts f (pairs_of r') ≡ puts m (pairs_of es)
   put_more f r r' es m view longer = ap (λ xs. puts f (pairs_of xs)) longer ∙ ap (puts f) (map-append pair_of r es) ∙ puts-append f (pairs_of r) (pairs_of es) ∙ ap (λ (n : FinMap nat_cmp V). puts n (pairs_of es)) view
+
+  -- A tree, or a clone of it, has the same map.
+  pub owned_map : (own all : BTreeMap ℕ (Arc V Global)) → (all ≡ own) ⊎ AllZip (λ p q. (q.0 ≡ p.0) × (arc_value q.1 ≡ arc_value p.1)) own.entries all.entries → map_of all ≡ map_of own
+  owned_map own all (inl same) = ap (λ (b : BTreeMap ℕ (Arc V Global)). map_of b) same
+  owned_map own all (inr clone) = ap (from_entries {R = nat_cmp}) (cloned_pairs own.entries all.entries clone)
+
+  -- Entries put into a tree that is a front's, or a clone of it.
+  pub folded_map : (front : FinMap nat_cmp V) (own all next : BTreeMap ℕ (Arc V Global)) (ps : List (ℕ × V)) → map_of own ≡ front → (all ≡ own) ⊎ AllZip (λ p q. (q.0 ≡ p.0) × (arc_value q.1 ≡ arc_value p.1)) own.entries all.entries → map_of next ≡ puts (map_of all) ps → map_of next ≡ puts front ps
+  folded_map front own all next ps held same put = put ∙ ap (λ (m : FinMap nat_cmp V). puts m ps) (owned_map own all same ∙ held)
+
+  -- The same of a list.
+  pub folded_list : (front : List V) (own all next items : List (Arc V Global)) → values_of own ≡ front → (all ≡ own) ⊎ AllZip (λ x y. arc_value y ≡ arc_value x) own all → next ≡ all ++ items → values_of next ≡ front ++ values_of items
+  folded_list front own all next items held same put =
+      let whole : values_of all ≡ front = elim same [ inl e ↦ ap (λ (xs : List (Arc V Global)). values_of xs) e ∙ held | inr clone ↦ values_same own all clone ∙ held ] in
+      ap (λ (xs : List (Arc V Global)). values_of xs) put ∙ map-append arc_value all items ∙ ap (λ (vs : List V). vs ++ values_of items) whole
+
+  -- a front and some elements behind it, and one more
+  pub one_behind : (front : List V) (r r' : List (Arc V Global)) (p : Arc V Global) (l : List V) → front ++ values_of r ≡ l → r' ≡ r ++ p ∷ [] → front ++ values_of r' ≡ l ++ arc_value p ∷ []
+  one_behind front r r' p l view longer =
+      ap (λ (xs : List (Arc V Global)). front ++ values_of xs) longer ∙ ap (λ (vs : List V). front ++ vs) (map-append arc_value r (p ∷ [])) ∙ sym (append_assoc front (values_of r) (arc_value p ∷ [])) ∙ ap (λ (vs : List V). vs ++ arc_value p ∷ []) view

@@ -1,7 +1,8 @@
 //! The entries of a run: the one with a key, and the entries of two runs.
-ghost use Rattle.std.specs.Prelude.{◌≡◌, ◌∷◌, [], ◌++◌, ◌≤◌, ◌<◌, ℕ, IfOk, OnOk, None, Some, MatchOption, length, drop};
+ghost use Rattle.std.specs.Prelude.{◌≡◌, ◌∷◌, [], ◌++◌, ◌≤◌, ◌<◌, ℕ, IsTrue, IfOk, OnOk, None, Some, MatchOption, length, drop};
 ghost use Rattle.std.specs.Ordering.{nat_cmp};
 ghost use Rattle.std.specs.FinMap.{find};
+ghost use Rattle.pure_text.specs.Lists.{Each};
 ghost use Rattle.pure_shared_maps.specs.Pairs.{Ascends, HasSame, IsPlaceOf};
 ghost use Rattle.pure_shared_maps.specs.View.{pair_of, pairs_of};
 
@@ -79,18 +80,32 @@ pub(crate) fn merged<V: Drop>(
     Ok(run)
 }
 
-/// The place of the first entry whose key isn't less.
+/// Whether the last key is less, and so each.
+fn are_less<V>(entries: &[Entry<V>], key: u32) -> bool
+    requires { Ascends (pairs_of entries.now) }
+    ensures { IsTrue result → Each (λ p. p.0 < key) (pairs_of entries.now) }
+{
+    match entries.last() {
+        None => true,
+        Some(last) => last.key < key,
+    }
+}
+
+/// The place of the first entry whose key isn't less. Keys mostly come in rising order, so that the last one often tells.
 fn place_of<V>(entries: &[Entry<V>], key: u32) -> usize
     requires { Ascends (pairs_of entries.now) }
     ensures { IsPlaceOf (pairs_of entries.now) key result }
 {
+    if are_less(entries, key) {
+        return entries.len();
+    }
     entries.partition_point(|entry| entry.key < key)
 }
 
-/// The value at a key.
-pub(crate) fn found<V>(entries: &[Entry<V>], key: u32) -> Option<&V>
+/// The pointer to the value at a key.
+pub(crate) fn found<V>(entries: &[Entry<V>], key: u32) -> Option<&Arc<V>>
     requires { Ascends (pairs_of entries.now) }
-    ensures { MatchOption result (find nat_cmp key (pairs_of entries.now) ≡ None) (λ v. find nat_cmp key (pairs_of entries.now) ≡ Some v.now) }
+    ensures { MatchOption result (find nat_cmp key (pairs_of entries.now) ≡ None) (λ v. find nat_cmp key (pairs_of entries.now) ≡ Some v.now.value) }
 {
     let place = place_of(entries, key);
     if place >= entries.len() {
@@ -100,5 +115,5 @@ pub(crate) fn found<V>(entries: &[Entry<V>], key: u32) -> Option<&V>
     if entry.key != key {
         return None;
     }
-    Some(&*entry.value)
+    Some(&entry.value)
 }

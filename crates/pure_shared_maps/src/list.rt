@@ -64,6 +64,37 @@ fn shared_front<T: Drop>(
     }
 }
 
+/// The front, or a new one, if there is none.
+fn own_front<T: Drop>(
+    alloc: Global,
+    front: Option<Arc<Vec<Arc<T>>>>,
+) -> Result<Arc<Vec<Arc<T>>>, AllocError>
+    ensures { IfOk result (λ own. values_of own.value.items ≡ front_values front) }
+{
+    match front {
+        None => {
+            let own = Arc::new(alloc, Vec::new(alloc))?;
+            Ok(own)
+        }
+        Some(front) => Ok(front),
+    }
+}
+
+/// The front with these elements moved behind it: in place, where no other list shares it.
+fn folded<T: Drop>(
+    alloc: Global,
+    front: Option<Arc<Vec<Arc<T>>>>,
+    items: &mut Vec<Arc<T>>,
+) -> Result<Arc<Vec<Arc<T>>>, AllocError>
+    ensures all { IfOk result (λ all. values_of all.value.items ≡ front_values front ++ values_of items.old.items) }
+    ensures moved { OnOk result (items.new.items ≡ []) }
+{
+    let mut own = own_front(alloc, front)?;
+    let all = Arc::make_mut(&mut own)?;
+    all.append(items)?;
+    Ok(own)
+}
+
 impl<T: Drop> GrownList<T> {
     /// The list without an element.
     pub fn empty(alloc: Global) -> GrownList<T>
@@ -116,6 +147,21 @@ impl<T: Drop> GrownList<T> {
         self.front = Some(all);
         self.rest.clear();
         Ok(())
+    }
+
+    /// The list with an element more.
+    pub fn with(self, alloc: Global, item: Arc<T>) -> Result<GrownList<T>, AllocError>
+        ensures { IfOk result (λ more. more ≡ self ++ item.value ∷ []) }
+    {
+        let GrownList {
+            mut front,
+            mut rest,
+        } = self;
+        if rest.len() >= FEW.max(pointers(&front).len() / PART) {
+            front = Some(folded(alloc, front, &mut rest)?);
+        }
+        rest.push(item)?;
+        Ok(GrownList { front, rest })
     }
 
     /// Appends an element.

@@ -135,6 +135,36 @@ fn put_entries<V: Drop>(
     Ok(())
 }
 
+/// The front, or a new one, if there is none.
+fn own_front<V: Drop>(
+    alloc: Global,
+    front: Option<Arc<BTreeMap<u32, Arc<V>>>>,
+) -> Result<Arc<BTreeMap<u32, Arc<V>>>, AllocError>
+    ensures { IfOk result (λ own. map_of own.value ≡ front_map front) }
+{
+    match front {
+        None => {
+            let own = Arc::new(alloc, BTreeMap::new(alloc))?;
+            Ok(own)
+        }
+        Some(front) => Ok(front),
+    }
+}
+
+/// The front with these entries put in: in place, where no other map shares it.
+fn folded<V: Drop>(
+    alloc: Global,
+    front: Option<Arc<BTreeMap<u32, Arc<V>>>>,
+    entries: &[Entry<V>],
+) -> Result<Arc<BTreeMap<u32, Arc<V>>>, AllocError>
+    ensures { IfOk result (λ all. map_of all.value ≡ puts (front_map front) (pairs_of entries.now)) }
+{
+    let mut own = own_front(alloc, front)?;
+    let all = Arc::make_mut(&mut own)?;
+    put_entries(all, entries)?;
+    Ok(own)
+}
+
 impl<V: Drop> GrownMap<V> {
     /// The map without a pair.
     pub fn empty(alloc: Global) -> GrownMap<V>
@@ -192,6 +222,22 @@ impl<V: Drop> GrownMap<V> {
             self.rest.append(&mut entries)?;
         }
         Ok(())
+    }
+
+    /// The map with a value put in, also where the key has one.
+    pub fn with(self, alloc: Global, key: u32, value: Arc<V>) -> Result<GrownMap<V>, AllocError>
+        ensures { IfOk result (λ more. more ≡ map.insert self key value.value) }
+    {
+        let GrownMap {
+            mut front,
+            mut rest,
+        } = self;
+        if rest.len() >= most_behind(&front) {
+            front = Some(folded(alloc, front, rest.as_slice())?);
+            rest.clear();
+        }
+        rest.push(Entry { key, value })?;
+        Ok(GrownMap { front, rest })
     }
 
     /// Puts in a value, also where the key has one.

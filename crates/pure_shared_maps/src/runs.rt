@@ -56,10 +56,10 @@ pub(crate) fn grown<V: Drop>(
     grown(alloc, rest, run)
 }
 
-/// The value at a key, in the first run that has it.
-pub(crate) fn found_in<V>(runs: &[Arc<Vec<Entry<V>>>], key: u32) -> Option<&V>
+/// The pointer to the value at a key, in the first run that has it.
+pub(crate) fn found_in<V>(runs: &[Arc<Vec<Entry<V>>>], key: u32) -> Option<&Arc<V>>
     requires { Each Ascends (runs_of runs.now) }
-    ensures { MatchOption result (find nat_cmp key (joined (runs_of runs.now)) ≡ None) (λ v. find nat_cmp key (joined (runs_of runs.now)) ≡ Some v.now) }
+    ensures { MatchOption result (find nat_cmp key (joined (runs_of runs.now)) ≡ None) (λ v. find nat_cmp key (joined (runs_of runs.now)) ≡ Some v.now.value) }
 {
     for pointer in runs {
         let run = &**pointer;

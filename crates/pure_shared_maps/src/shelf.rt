@@ -60,11 +60,21 @@ impl<V: Drop> Shelf<V> {
         })
     }
 
+    /// The pointer to the value at a key, which others may share.
+    pub fn pointer(&self, key: u32) -> Option<&Arc<V>>
+        ensures { MatchOption result (map.get self.now key ≡ None) (λ v. map.get self.now key ≡ Some v.now.value) }
+    {
+        found_in(self.parts.as_slice(), key)
+    }
+
     /// The value at a key.
     pub fn get(&self, key: u32) -> Option<&V>
         ensures { MatchOption result (map.get self.now key ≡ None) (λ v. map.get self.now key ≡ Some v.now) }
     {
-        found_in(self.parts.as_slice(), key)
+        match self.pointer(key) {
+            None => None,
+            Some(value) => Some(&**value),
+        }
     }
 
     /// The map with one pair more.

@@ -1,6 +1,6 @@
 pub mod MapLaws
 pub mod PlaceLaws
-pub mod PlacedLaws
+pub mod NumberedLaws
 pub mod TableLaws
 pub mod FactLaws
 pub mod LabelLaws

@@ -10,7 +10,7 @@ use Rattle.pure_definitions.specs.Declarations.Decl.{Decl}
 use Rattle.pure_theory_tables.specs.declared.entry.Entry.{Entry}
 use Rattle.pure_theory_tables.specs.View.{decl_of, first_of, in_order}
 use Rattle.pure_theory_tables.specs.declared.index.Index.{Index}
-use Rattle.pure_theory_tables.specs.Placed.{ArePlaced}
+use Rattle.pure_theory_tables.specs.Numbered.{AreNumbered}
 use Rattle.pure_theory_tables.specs.Tables.{IsListOf, IsIndexOf, AreTables}
 use Rattle.pure_theory_tables.proofs.MapLaws.{get_here, get_beside, one_longer}
 
@@ -81,7 +81,7 @@ none_in_order = ap (first_of (get empty)) (len-empty nat_cmp Entry)
 pub grown_list : (list more : FinMap nat_cmp Entry) (place : ℕ) (held e : Entry) → place ≡ len list → held ≡ e → more ≡ insert list place held → IsListOf list (in_order list) → in_order more ≡ in_order list ++ decl_of e ∷ []
 grown_list list more place held e last same is h = ap in_order (is ∙ ap (λ (n : ℕ). insert list n held) last ∙ ap (insert list (len list)) same) ∙ one_in_order list e h
 
-pub grown_tables : (list more : FinMap nat_cmp Entry) (index : Index) (places : FinMap nat_cmp ℕ) (place : ℕ) (held e : Entry) → place ≡ len list → held ≡ e → more ≡ insert list place held → IsListOf list (in_order list) → IsIndexOf index (in_order list ++ decl_of e ∷ []) → ArePlaced places (in_order list ++ decl_of e ∷ [])
-    → AreTables more index places (in_order more)
-grown_tables list more index places place held e last same is h indexed placed =
-    rw (grown_list list more place held e last same is h) (record { listed = rw (is, last, same) (one_listed list (in_order list) e h); indexed = indexed; placed = placed })
+pub grown_tables : (list more : FinMap nat_cmp Entry) (index : Index) (numbered : FinMap nat_cmp Entry) (place : ℕ) (held e : Entry) → place ≡ len list → held ≡ e → more ≡ insert list place held → IsListOf list (in_order list) → IsIndexOf index (in_order list ++ decl_of e ∷ []) → AreNumbered numbered (in_order list ++ decl_of e ∷ [])
+    → AreTables more index numbered (in_order more)
+grown_tables list more index numbered place held e last same is h indexed by_number =
+    rw (grown_list list more place held e last same is h) (record { listed = rw (is, last, same) (one_listed list (in_order list) e h); indexed = indexed; by_number = by_number })

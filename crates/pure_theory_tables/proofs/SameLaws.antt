@@ -81,6 +81,10 @@ decl_itself (PromiseDecl x l A) = both_true (eq-eqb x x refl) (both_true (label_
 pub told_at : (held : Option Decl) (d e : Decl) (b : Bool) → held ≡ Some d → b ≡ decl_eq d e → IsTrue b ↔ (held ≡ Some e)
 told_at held d e b is test = (λ t. is ∙ ap Some (decl_same d e (sym test ∙ t)), λ h. test ∙ ap (decl_eq d) (same_Some e d (sym h ∙ is)) ∙ decl_itself d)
 
+-- Entries that pass the test hold the same declaration.
+pub told_same : (d e : Decl) (b : Bool) → b ≡ decl_eq d e → IsTrue b → d ≡ e
+told_same d e b test t = decl_same d e (sym test ∙ t)
+
 -- What the list has of a kind and a name is one value, which a test compares.
 module _ {V : Type 0} (decl : V → Decl) (ds : List Decl) (v w : V) (b : Bool) (is : (u : V) → IsIn (decl u) ds ↔ (u ≡ v)) where
   has_by : (b ≡ true → v ≡ w) → (v ≡ w → b ≡ true) → IsTrue b ↔ IsIn (decl w) ds

@@ -12,7 +12,7 @@ unfoldable pub arity_key : (con class : ℕ) → ℕ
 arity_key con class = (con * 65599 + class) % 4294967296
 
 -- The number of a class or an arity; declarations of other kinds have none.
-abbrev pub place_key : Decl → Option ℕ
-place_key (ClassDecl k) = Some k.name
-place_key (ArityDecl a) = Some (arity_key a.con a.class)
-place_key _ = None
+abbrev pub number_key : Decl → Option ℕ
+number_key (ClassDecl k) = Some k.name
+number_key (ArityDecl a) = Some (arity_key a.con a.class)
+number_key _ = None

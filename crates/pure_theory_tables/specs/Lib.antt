@@ -1,7 +1,7 @@
 pub mod Codes
 pub mod Facts
 pub mod Keys
-pub mod Placed
+pub mod Numbered
 pub mod Kept
 pub mod View
 pub mod Tables

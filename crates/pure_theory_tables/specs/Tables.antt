@@ -11,7 +11,7 @@ use Rattle.pure_theory_tables.specs.declared.entry.Entry.{Entry}
 use Rattle.pure_theory_tables.specs.declared.index.Index.{Index}
 use Rattle.pure_theory_tables.specs.Facts.{fact_decl}
 use Rattle.pure_theory_tables.specs.Kept.{IsKept}
-use Rattle.pure_theory_tables.specs.Placed.{ArePlaced}
+use Rattle.pure_theory_tables.specs.Numbered.{AreNumbered}
 use Rattle.pure_theory_tables.specs.View.{decl_of}
 
 -- The map has the entry of each declaration at its place.
@@ -30,11 +30,11 @@ pub record IsIndexOf (index : Index) (ds : List Decl) : Type 0 where
   pub facts : IsTableOf fact_decl index.facts ds
   pub labels : (x : ℕ) (l : Label) (A : Term) → IsIn (PromiseDecl x l A) ds → IsKept index.labels x l
 
--- Entries, tables and places are those of the list.
-pub record AreTables (list : FinMap nat_cmp Entry) (index : Index) (places : FinMap nat_cmp ℕ) (ds : List Decl) : Type 0 where
+-- Entries, tables and numbers are those of the list.
+pub record AreTables (list : FinMap nat_cmp Entry) (index : Index) (numbered : FinMap nat_cmp Entry) (ds : List Decl) : Type 0 where
   pub listed : IsListOf list ds
   pub indexed : IsIndexOf index ds
-  pub placed : ArePlaced places ds
+  pub by_number : AreNumbered numbered ds
 
 -- The declaration is of a kind that has no table: it is a class or an arity.
 abbrev pub IsOther : Decl → Type 0

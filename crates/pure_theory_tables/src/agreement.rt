@@ -23,23 +23,13 @@ fn is_class(entry: &Entry, name: Name) -> bool
 }
 
 impl Declarations {
-    /// Whether the class stands at the place.
-    fn is_class_at(&self, place: u32, name: Name) -> bool
-        ensures { IsTrue result → IsDeclaredClass self.now name }
-    {
-        match self.entry_at(place) {
-            None => false,
-            Some(entry) => is_class(entry, name),
-        }
-    }
-
-    /// Whether the class is declared: at the place that is kept under its number, where it mostly is, or at another.
+    /// Whether the class is declared: it is mostly that of the entry under its number, else the list is gone through.
     fn declares_class(&self, name: Name) -> bool
         ensures { IsTrue result ↔ IsDeclaredClass self.now name }
     {
-        match self.places.get(name.0) {
+        match self.numbered.get(name.0) {
             None => false,
-            Some(place) => self.is_class_at(*place, name) || self.is_class_listed(name),
+            Some(entry) => is_class(entry, name) || self.is_class_listed(name),
         }
     }
 

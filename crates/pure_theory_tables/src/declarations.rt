@@ -14,7 +14,7 @@ use crate::decl::Decl;
 use crate::entry::{Entry, outline_of};
 use crate::fact::Statement;
 use crate::index::Index;
-use crate::places::with_place;
+use crate::numbers::with_number;
 use crate::pointers::shared;
 use crate::shelves::put;
 use pure_shared_maps::Shelf;
@@ -23,15 +23,14 @@ use std::alloc::{AllocError, Global};
 use std::marker::Model;
 use std::sync::Arc;
 
-/// A list of declarations, which contracts see as such. Its entries stand by their places, and tables answer questions by names and labels, and where a
-/// class or an arity may stand; lists that
-/// grow from this one share all but a few short runs of each table.
+/// A list of declarations, which contracts see as such. Its entries stand by their places, and tables answer questions by names and labels, and give the
+/// entry of a class or an arity by its number; lists that grow from this one share all but a few short runs of each table.
 #[derive(Drop)]
 pub struct Declarations {
-    alloc: Global,
-    list: Shelf<Entry>,
-    index: Index,
-    pub(crate) places: Shelf<u32>,
+    pub(crate) alloc: Global,
+    pub(crate) list: Shelf<Entry>,
+    pub(crate) index: Index,
+    pub(crate) numbered: Shelf<Entry>,
 }
 
 impl Model for Declarations {
@@ -49,7 +48,7 @@ impl Model for Declarations {
 
     ghost view = { λ d. in_order d.list };
 
-    ghost invariant = { λ d. AreTables d.list d.index d.places (in_order d.list) };
+    ghost invariant = { λ d. AreTables d.list d.index d.numbered (in_order d.list) };
 }
 
 /// The questions.
@@ -66,6 +65,16 @@ impl Declarations {
         ensures { MatchOption result (slice_get self.now place ≡ None) (λ entry. slice_get self.now place ≡ Some (decl_of entry.now)) }
     {
         match self.list.get(place) {
+            None => None,
+            Some(entry) => Some(entry),
+        }
+    }
+
+    /// The pointer to the entry at the place, from 0.
+    pub(crate) fn pointer_at(&self, place: u32) -> Option<&Arc<Entry>>
+        ensures { MatchOption result (slice_get self.now place ≡ None) (λ entry. slice_get self.now place ≡ Some (decl_of entry.now.value)) }
+    {
+        match self.list.pointer(place) {
             None => None,
             Some(entry) => Some(entry),
         }
@@ -150,7 +159,7 @@ impl Declarations {
             alloc,
             list: Shelf::empty(alloc),
             index,
-            places: Shelf::empty(alloc),
+            numbered: Shelf::empty(alloc),
         })
     }
 
@@ -160,12 +169,12 @@ impl Declarations {
     {
         let list = self.list.share()?;
         let index = self.index.share()?;
-        let places = self.places.share()?;
+        let numbered = self.numbered.share()?;
         Ok(Declarations {
             alloc: self.alloc,
             list,
             index,
-            places,
+            numbered,
         })
     }
 
@@ -174,15 +183,14 @@ impl Declarations {
         requires { IsIndexOf index (self.now ++ decl_of entry ∷ []) }
         ensures { IfOk result (λ more. more ≡ self.now ++ decl_of entry ∷ []) }
     {
-        let place = self.list.count();
-        let places = with_place(self.alloc, &self.places, &entry, place)?;
         let entry = shared(self.alloc, entry)?;
-        let list = put(&self.list, place, entry)?;
+        let numbered = with_number(&self.numbered, &entry)?;
+        let list = put(&self.list, self.list.count(), entry)?;
         Ok(Declarations {
             alloc: self.alloc,
             list,
             index,
-            places,
+            numbered,
         })
     }
 

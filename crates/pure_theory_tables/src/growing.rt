@@ -9,55 +9,44 @@ ghost use Rattle.pure_theory_tables.specs.Named.{AreNamedOnce};
 
 use crate::declarations::Declarations;
 use crate::entry::Entry;
+use crate::numbers::with_number;
+use crate::shelves::put;
 use std::alloc::AllocError;
 use std::sync::Arc;
 
 impl Declarations {
-    /// The list with the entry's declaration more, which shares what the entry holds.
-    fn with_entry(&self, entry: &Entry) -> Result<Declarations, AllocError>
-        requires { (e : Decl) → IsIn e self.now → ¬ AreNamedAlike (decl_of entry.now) e }
-        ensures { IfOk result (λ more. more ≡ self.now ++ decl_of entry.now ∷ []) }
+    /// The list with the entry's declaration more, which shares the entry.
+    fn with_entry(self, entry: &Arc<Entry>) -> Result<Declarations, AllocError>
+        requires { (e : Decl) → IsIn e self → ¬ AreNamedAlike (decl_of entry.now.value) e }
+        ensures { IfOk result (λ more. more ≡ self ++ decl_of entry.now.value ∷ []) }
     {
-        match entry {
-            Entry::Class { name, above } => {
-                let above = Arc::try_clone(above)?;
-                Ok(self.with_class(*name, above)?)
-            }
-            Entry::Con { name, params } => Ok(self.with_typ(*name, *params)?),
-            Entry::Arity {
-                con,
-                domains,
-                class,
-            } => {
-                let domains = Arc::try_clone(domains)?;
-                Ok(self.with_arity(*con, domains, *class)?)
-            }
-            Entry::Const { name, typ } => {
-                let typ = Arc::try_clone(typ)?;
-                Ok(self.with_const(*name, typ)?)
-            }
-            Entry::Axiom { name, prop } => {
-                let prop = Arc::try_clone(prop)?;
-                Ok(self.with_axiom(*name, prop)?)
-            }
-            Entry::Promise { name, label, prop } => {
-                let prop = Arc::try_clone(prop)?;
-                Ok(self.with_promise(*name, *label, prop)?)
-            }
-        }
+        let Declarations {
+            alloc,
+            list,
+            index,
+            numbered,
+        } = self;
+        let indexed = index.with_entry(alloc, &**entry)?;
+        let by_number = with_number(&numbered, entry)?;
+        let same = Arc::try_clone(entry)?;
+        let more = put(&list, list.count(), same)?;
+        Ok(Declarations {
+            alloc,
+            list: more,
+            index: indexed,
+            numbered: by_number,
+        })
     }
 
     /// The list with the entry's declaration more, if it hasn't it yet, which is told at once where it stands at this place.
-    fn with_new(&self, place: u32, entry: &Entry) -> Result<Declarations, AllocError>
-        requires { (e : Decl) → IsIn e self.now → AreNamedAlike (decl_of entry.now) e → decl_of entry.now ≡ e }
-        ensures { IfOk result (λ more. (IsIn (decl_of entry.now) self.now × (more ≡ self.now)) ⊎ ((¬ IsIn (decl_of entry.now) self.now) × (more ≡ self.now ++ decl_of entry.now ∷ []))) }
+    fn with_new(self, place: u32, entry: &Arc<Entry>) -> Result<Declarations, AllocError>
+        requires { (e : Decl) → IsIn e self → AreNamedAlike (decl_of entry.now.value) e → decl_of entry.now.value ≡ e }
+        ensures { IfOk result (λ more. (IsIn (decl_of entry.now.value) self × (more ≡ self)) ⊎ ((¬ IsIn (decl_of entry.now.value) self) × (more ≡ self ++ decl_of entry.now.value ∷ []))) }
     {
-        if self.holds(place, entry) {
-            let same = self.share()?;
-            Ok(same)
+        if self.holds(place, &**entry) {
+            Ok(self)
         } else {
-            let more = self.with_entry(entry)?;
-            Ok(more)
+            self.with_entry(entry)
         }
     }
 
@@ -69,7 +58,7 @@ impl Declarations {
     {
         let mut more = self.share()?;
         for place in 0..other.count() {
-            let Some(entry) = other.entry_at(place) else {
+            let Some(entry) = other.pointer_at(place) else {
                 return Ok(more);
             };
             more = more.with_new(place, entry)?;

@@ -4,9 +4,12 @@ ghost use Rattle.std.specs.FinMap.{get};
 ghost use Rattle.pure_text.specs.Lists.{IsIn};
 ghost use Rattle.pure_definitions.specs.Terms.Term as tree;
 ghost use Rattle.pure_definitions.specs.Declarations.Decl.{Decl, ConDecl, ConstDecl, AxiomDecl, PromiseDecl};
+ghost use Rattle.pure_logic.specs.Content.{AreNamedAlike};
 ghost use Rattle.pure_theory_tables.specs.Keys.{label_key};
 ghost use Rattle.pure_theory_tables.specs.Tables.{IsIndexOf, IsOther};
+ghost use Rattle.pure_theory_tables.specs.View.{decl_of};
 
+use crate::entry::Entry;
 use crate::fact::Statement;
 use crate::labels::Labels;
 use crate::shelves::put;
@@ -53,6 +56,30 @@ impl Index {
             facts,
             labels,
         })
+    }
+
+    /// The tables with the entry's declaration more.
+    pub(crate) fn with_entry(self, alloc: Global, entry: &Entry) -> Result<Index, AllocError>
+        requires { (ds : List Decl) × IsIndexOf self ds × ((e : Decl) → IsIn e ds → ¬ AreNamedAlike (decl_of entry.now) e) }
+        ensures { IfOk result (λ more. (ds : List Decl) → IsIndexOf self ds → IsIndexOf more (ds ++ decl_of entry.now ∷ [])) }
+    {
+        match entry {
+            Entry::Class { .. } => Ok(self),
+            Entry::Arity { .. } => Ok(self),
+            Entry::Con { name, params } => self.with_typ(alloc, *name, *params),
+            Entry::Const { name, typ } => {
+                let typ = Arc::try_clone(typ)?;
+                self.with_const(*name, typ)
+            }
+            Entry::Axiom { name, prop } => {
+                let prop = Arc::try_clone(prop)?;
+                self.with_axiom(alloc, *name, prop)
+            }
+            Entry::Promise { name, label, prop } => {
+                let prop = Arc::try_clone(prop)?;
+                self.with_promise(alloc, *name, *label, prop)
+            }
+        }
     }
 
     /// The tables with a type constructor more.

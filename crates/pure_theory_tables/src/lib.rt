@@ -10,7 +10,7 @@ mod growing;
 mod index;
 mod labels;
 mod members;
-mod places;
+mod numbers;
 mod pointers;
 mod shelves;
 

@@ -1,7 +1,7 @@
 //! Which declarations stand in a list.
 ghost use Rattle.std.specs.Prelude.{◌≡◌, ◌↔◌, IsTrue, MatchOption, Some, slice_get};
 ghost use Rattle.pure_text.specs.Lists.{IsIn, Each};
-ghost use Rattle.pure_theory_tables.specs.Keys.{place_key};
+ghost use Rattle.pure_theory_tables.specs.Keys.{number_key};
 ghost use Rattle.pure_theory_tables.specs.View.{decl_of};
 ghost use Rattle.pure_theory_tables.specs.Missing.{IsFirstMissing};
 ghost use Rattle.pure_theory_tables.specs.Same.{decl_eq};
@@ -10,7 +10,7 @@ use crate::decl::Decl;
 use crate::declarations::Declarations;
 use crate::entry::{Entry, outline_of};
 use crate::labels::is_same_label;
-use crate::places::arity_key;
+use crate::numbers::arity_key;
 
 /// Whether the entries hold the same declaration.
 fn is_same_entry(first: &Entry, second: &Entry) -> bool
@@ -80,15 +80,15 @@ impl Declarations {
         false
     }
 
-    /// Whether the entry of a class or an arity with this number stands in the list: at the place that is kept under the number, where
-    /// it mostly is, or at another.
-    fn is_placed(&self, key: u32, entry: &Entry) -> bool
-        requires { place_key (decl_of entry.now) ≡ Some key }
+    /// Whether the declaration of an entry with this number stands in the list: it is mostly that of the entry under the number, else
+    /// the list is gone through.
+    fn is_numbered(&self, key: u32, entry: &Entry) -> bool
+        requires { number_key (decl_of entry.now) ≡ Some key }
         ensures { IsTrue result ↔ IsIn (decl_of entry.now) self.now }
     {
-        match self.places.get(key) {
+        match self.numbered.get(key) {
             None => false,
-            Some(place) => self.is_at(*place, entry) || self.is_listed(entry),
+            Some(own) => is_same_entry(own, entry) || self.is_listed(entry),
         }
     }
 
@@ -97,8 +97,8 @@ impl Declarations {
         ensures { IsTrue result ↔ IsIn (decl_of entry.now) self.now }
     {
         match entry {
-            Entry::Class { name, .. } => self.is_placed(name.0, entry),
-            Entry::Arity { con, class, .. } => self.is_placed(arity_key(*con, *class), entry),
+            Entry::Class { name, .. } => self.is_numbered(name.0, entry),
+            Entry::Arity { con, class, .. } => self.is_numbered(arity_key(*con, *class), entry),
             Entry::Con { name, params } => match self.typ_params(*name) {
                 None => false,
                 Some(own) => own == *params,

@@ -4,7 +4,7 @@ ghost use Rattle.std.specs.Thread.{IsSync, IsSend};
 ghost use Rattle.std.specs.Fork.{AcceptsAt, ChangesAt};
 ghost use Rattle.pure_text.specs.Lists.{Each, EachTwo};
 
-use crate::beside::run_beside;
+use crate::beside::run_in_room;
 use std::alloc::{AllocError, Global};
 use std::marker::Send;
 use std::snapshot::Snapshot;
@@ -91,7 +91,7 @@ pub fn work_on_each<
         requires { IsSync R.row × IsSync F.row × IsSync Q.row × IsSend T.row × Each (AcceptsAt F.Fn work.now 0) values.items × ((x y : T) → ChangesAt F.Fn work.now 0 x y → Q.becomes how x y) }
         ensures { IfOk result (λ all. EachTwo (Q.becomes how) values.items all.items) }
     { work_on_each(rt, alloc, stack, how, work, values) };
-    let (value, before) = run_beside(rt, stack, promise, first, others);
+    let (value, before) = run_in_room(rt, alloc, stack, promise, first, others);
     match before {
         Err(error) => lost(value, error),
         Ok(values) => with_value(values, value),

@@ -1,7 +1,10 @@
-use Rattle.std.proofs.Common.{rules, nat_lt}
+use Rattle.std.proofs.Common.{rules, nat_lt, refl}
 use Rattle.std.proofs.lemmas.List.Sorted.{IsPartitionPoint-from_clause, IsPartitionedBy-ltb}
-use Rattle.pure_shared_maps.proofs.FindLaws.{rises, less_before, others_after}
+use Rattle.pure_shared_maps.proofs.FindLaws.{rises, less_before, others_after, place_behind}
 use Rattle.pure_shared_maps.proofs.entries.place_of.Goals as goal
+
+pub returns-then-are_less : goal.returns-then-are_less
+returns-then-are_less g c = place_behind c.args.entries.now _ c.args.key refl (c.are_less.ensures c.if-are_less.true)
 
 pub returns : goal.returns
 returns g c =

@@ -13,8 +13,8 @@ returns-in_default c = rw (all_taken c.args.other.now c.loop-place.place c.in_de
 
 pub with_new-requires : goal.with_new-requires
 with_new-requires c e m alike =
-    c.requires.named (decl_of c.in-Some.entry.now) e (in-append_right (decl_of c.in-Some.entry.now) c.args.self.now c.args.other.now (get_in c.args.other.now c.loop-place.place (decl_of c.in-Some.entry.now) c.in-Some.ensures))
+    c.requires.named (decl_of c.in-Some.entry.now.value) e (in-append_right (decl_of c.in-Some.entry.now.value) c.args.self.now c.args.other.now (get_in c.args.other.now c.loop-place.place (decl_of c.in-Some.entry.now.value) c.in-Some.ensures))
     (in_both c.args.self.now c.args.other.now c.loop-place.more c.loop-place.place e c.loop-place.invariant m) alike
 
 pub loop-place-preserved : goal.loop-place-preserved
-loop-place-preserved c = others_turn c.args.self.now c.args.other.now c.loop-place.more _ c.loop-place.place (decl_of c.in-Some.entry.now) c.in-Some.ensures c.requires.distinct c.loop-place.invariant c.in_ok-more-2.ensures
+loop-place-preserved c = others_turn c.args.self.now c.args.other.now c.loop-place.more _ c.loop-place.place (decl_of c.in-Some.entry.now.value) c.in-Some.ensures c.requires.distinct c.loop-place.invariant c.in_ok-more-2.ensures

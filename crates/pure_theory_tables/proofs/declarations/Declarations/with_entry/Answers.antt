@@ -1,17 +1,15 @@
-use Rattle.std.proofs.Common.{refl}
-use Rattle.pure_definitions.specs.Declarations.Decl.{ConDecl, ConstDecl}
-use Rattle.pure_theory_tables.specs.Facts.{fact_decl}
-use Rattle.pure_theory_tables.proofs.FactLaws.{axiom_named, promise_named}
+use Rattle.pure_theory_tables.proofs.PlaceLaws.{nothing_behind, grown_tables, grown_list}
 use Rattle.pure_theory_tables.proofs.declarations.Declarations.with_entry.Goals as goal
 
-pub with_typ-requires : goal.with_typ-requires
-with_typ-requires c n m = (rw c.in-Con.is at c.requires) (ConDecl c.in-Con.name n) m refl
+pub with_entry-requires : goal.with_entry-requires
+with_entry-requires c = (_, c.self.invariant.indexed, rw (← c.self.view_is, ← c.deref.ensures) at c.requires)
 
-pub with_const-requires : goal.with_const-requires
-with_const-requires c T m = (rw c.in-Const.is at c.requires) (ConstDecl c.in-Const.name T) m refl
+pub put-requires : goal.put-requires
+put-requires c = rw c.count.ensures (nothing_behind c.self.inside.list _ c.self.invariant.listed)
 
-pub with_axiom-requires : goal.with_axiom-requires
-with_axiom-requires c s m = (rw c.in-Axiom.is at c.requires) (fact_decl c.in-Axiom.name s) m (axiom_named c.in-Axiom.name c.in-Axiom.prop.value s)
+pub invariant_of-result : goal.invariant_of-result
+invariant_of-result c = grown_tables c.self.inside.list c.in_ok-more.more c.in_ok-indexed.indexed c.in_ok-by_number.by_number c.count.result c.in_ok-same.same.value c.args.entry.now.value c.count.ensures c.in_ok-same.ensures c.in_ok-more.ensures c.self.invariant.listed
+    (rw c.deref.ensures at (c.in_ok-indexed.ensures _ c.self.invariant.indexed)) (c.in_ok-by_number.ensures _ c.self.invariant.by_number)
 
-pub with_promise-requires : goal.with_promise-requires
-with_promise-requires c s m = (rw c.in-Promise.is at c.requires) (fact_decl c.in-Promise.name s) m (promise_named c.in-Promise.name c.in-Promise.label c.in-Promise.prop.value s)
+pub returns : goal.returns
+returns c = rw (← c.self.view_is) (grown_list c.self.inside.list c.in_ok-more.more c.count.result c.in_ok-same.same.value c.args.entry.now.value c.count.ensures c.in_ok-same.ensures c.in_ok-more.ensures c.self.invariant.listed)

@@ -1,5 +1,5 @@
 use Rattle.pure_shared_maps.proofs.ShelfLaws.{all_runs}
-use Rattle.pure_shared_maps.proofs.shelf.Shelf.get.Goals as goal
+use Rattle.pure_shared_maps.proofs.shelf.Shelf.pointer.Goals as goal
 
 pub found_in-requires : goal.found_in-requires
 found_in-requires g c = rw c.as_slice.ensures.value c.self.invariant.ascend

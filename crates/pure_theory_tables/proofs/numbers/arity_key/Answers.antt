@@ -1,6 +1,6 @@
 use Rattle.std.proofs.Common.{refl}
 use Rattle.pure_theory_tables.specs.Keys as keys
-use Rattle.pure_theory_tables.proofs.places.arity_key.Goals as goal
+use Rattle.pure_theory_tables.proofs.numbers.arity_key.Goals as goal
 
 pub returns : goal.returns
 unfolding keys.arity_key
