@@ -5,9 +5,49 @@ ghost use Rattle.pure_pattern_laws.specs.Laws.{IsMostGeneral};
 ghost use Rattle.pure_pattern.specs.Answered.{IsAnswered, IsSolution, IsNoFinal};
 
 use crate::fault::PatternFault;
-use pure_term::TermMap;
-use pure_theorem::Pair;
-use std::alloc::Global;
+use crate::given::given_of;
+use crate::run::run;
+use crate::state::push_pairs;
+use pure_pattern_terms::{first_no_pattern, first_with_schematic_typ};
+use pure_term::{TermBind, TermMap, is_within};
+use pure_theorem::{Pair, copied_pairs};
+use std::alloc::{AllocError, Global};
+
+/// Whether the sides of the pairs are within the limits.
+fn are_within(pairs: &[Pair]) -> bool
+    ensures { IsTrue result ↔ Each AreSidesWithin pairs.now }
+{
+    for pair in pairs {
+        if !(is_within(&pair.left) && is_within(&pair.right)) {
+            return false;
+        }
+    }
+    true
+}
+
+/// A copy of the pairs, the first one last.
+fn stack_of(alloc: Global, pairs: &[Pair]) -> Result<Vec<Pair>, AllocError>
+    ensures { IfOk result (λ stack. stack.items ≡ reverse pairs.now) }
+{
+    let copies = copied_pairs(alloc, pairs)?;
+    let mut stack = Vec::with_capacity(alloc, copies.len())?;
+    push_pairs(&mut stack, copies)?;
+    Ok(stack)
+}
+
+/// What steps come to from pairs of patterns within the limits.
+fn decide(alloc: Global, pairs: &[Pair], maxidx: u32) -> Result<Vec<TermBind>, PatternFault>
+    requires ready { AreReady maxidx pairs.now }
+    requires patterns { Each IsPatternPair pairs.now }
+    requires room { maxidx + 10001 < 2 ^ 32 }
+    ensures { IsRunAnswer maxidx (start pairs.now) result }
+{
+    if !are_within(pairs) {
+        return Err(PatternFault::Big);
+    }
+    let stack = stack_of(alloc, pairs)?;
+    run(alloc, maxidx, stack)
+}
 
 /// The most general unifier of pairs of patterns: terms in which each schematic variable stands applied to distinct bound
 /// variables (D. Miller, A logic programming language with lambda-abstraction, function variables, and simple unification,
@@ -27,5 +67,13 @@ pub fn unify_pattern(alloc: Global, pairs: &[Pair], maxidx: u32) -> Result<TermM
     ensures most_general { IfOk result (IsMostGeneral pairs.now) }
     ensures final { IsNoFinal pairs.now result }
 {
-    Err(PatternFault::Memory)
+    if let Some(index) = first_with_schematic_typ(pairs) {
+        return Err(PatternFault::SchematicType { index });
+    }
+    if let Some(index) = first_no_pattern(alloc, pairs)? {
+        return Err(PatternFault::NotPattern { index });
+    }
+    let all = decide(alloc, pairs, maxidx)?;
+    let given = given_of(alloc, pairs, maxidx, all)?;
+    Ok(TermMap::make(alloc, given)?)
 }

@@ -3,6 +3,11 @@
 
 mod call;
 mod fault;
+mod given;
+mod put;
+mod run;
+mod state;
+mod step;
 
 pub use call::unify_pattern;
 pub use fault::PatternFault;

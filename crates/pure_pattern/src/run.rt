@@ -1,0 +1,42 @@
+//! Steps up to an answer.
+ghost use Rattle.std.specs.Prelude.{◌≡◌, ◌+◌, ◌<◌, ◌^◌, reverse};
+ghost use Rattle.pure_pattern_laws.specs.Laws.{IsPatternState};
+ghost use Rattle.pure_pattern_laws.specs.Steps.{IsWithinState, start};
+ghost use Rattle.pure_pattern.specs.Held.{IsRunAnswer};
+
+use crate::fault::PatternFault;
+use crate::state::Held;
+use crate::step::step;
+use pure_term::TermBind;
+use pure_theorem::Pair;
+use std::alloc::Global;
+
+/// How many steps there may be.
+const MAX_STEPS: u32 = 10_000;
+
+/// What steps come to from these pairs, the first of which is the last.
+pub(crate) fn run(
+    alloc: Global,
+    maxidx: u32,
+    pairs: Vec<Pair>,
+) -> Result<Vec<TermBind>, PatternFault>
+    requires room { maxidx + 10001 < 2 ^ 32 }
+    requires patterns { IsPatternState (start (reverse pairs.items)) }
+    requires within { IsWithinState (start (reverse pairs.items)) }
+    ensures { IsRunAnswer maxidx (start (reverse pairs.items)) result }
+{
+    let mut held = Held {
+        pairs,
+        binds: Vec::new(alloc),
+    };
+    for done in 0..MAX_STEPS {
+        let Some(first) = held.pairs.pop() else {
+            return Ok(held.binds);
+        };
+        held = step(alloc, maxidx + (done + 1), first, held)?;
+    }
+    if held.pairs.is_empty() {
+        return Ok(held.binds);
+    }
+    Err(PatternFault::Steps)
+}
