@@ -1,8 +1,13 @@
 //! The call that unifies patterns.
-ghost use Rattle.std.specs.Prelude.{◌+◌, ◌<◌, ◌^◌, IfOk};
+ghost use Rattle.std.specs.Prelude.{◌≡◌, ◌↔◌, ◌+◌, ◌<◌, ◌^◌, IsTrue, IfOk, reverse};
+ghost use Rattle.pure_text.specs.Lists.{Each};
+ghost use Rattle.pure_pattern_laws.specs.Patterns.{IsPatternPair};
+ghost use Rattle.pure_pattern_laws.specs.Steps.{start};
 ghost use Rattle.pure_pattern_laws.specs.Answers.{AreReady};
 ghost use Rattle.pure_pattern_laws.specs.Laws.{IsMostGeneral};
+ghost use Rattle.pure_pattern_rules.specs.Treated.{AreSidesWithin};
 ghost use Rattle.pure_pattern.specs.Answered.{IsAnswered, IsSolution, IsNoFinal};
+ghost use Rattle.pure_pattern.specs.Held.{IsRunAnswer};
 
 use crate::fault::PatternFault;
 use crate::given::given_of;
@@ -65,7 +70,7 @@ pub fn unify_pattern(alloc: Global, pairs: &[Pair], maxidx: u32) -> Result<TermM
     ensures answer { IsAnswered maxidx pairs.now result }
     ensures unifies { IfOk result (IsSolution pairs.now) }
     ensures most_general { IfOk result (IsMostGeneral pairs.now) }
-    ensures final { IsNoFinal pairs.now result }
+    ensures unsolved { IsNoFinal pairs.now result }
 {
     if let Some(index) = first_with_schematic_typ(pairs) {
         return Err(PatternFault::SchematicType { index });
