@@ -1,7 +1,7 @@
 //! The call that unifies patterns.
 ghost use Rattle.std.specs.Prelude.{◌≡◌, ◌↔◌, ◌+◌, ◌<◌, ◌^◌, IsTrue, IfOk, reverse};
 ghost use Rattle.pure_text.specs.Lists.{Each};
-ghost use Rattle.pure_pattern_laws.specs.Patterns.{IsPatternPair};
+ghost use Rattle.pure_pattern_laws.specs.Patterns.{HasSchematicTyp, IsPatternPair};
 ghost use Rattle.pure_pattern_laws.specs.Steps.{start};
 ghost use Rattle.pure_pattern_laws.specs.Answers.{AreReady};
 ghost use Rattle.pure_pattern_laws.specs.Laws.{IsMostGeneral};
@@ -54,6 +54,34 @@ fn decide(alloc: Global, pairs: &[Pair], maxidx: u32) -> Result<Vec<TermBind>, P
     run(alloc, maxidx, stack)
 }
 
+/// The unifier of pairs of patterns, or why there is none to answer.
+fn unified(alloc: Global, pairs: &[Pair], maxidx: u32) -> Result<TermMap, PatternFault>
+    requires ready { AreReady maxidx pairs.now }
+    requires plain { Each (λ p. ¬ HasSchematicTyp p) pairs.now }
+    requires patterns { Each IsPatternPair pairs.now }
+    requires room { maxidx + 10001 < 2 ^ 32 }
+    ensures { IsAnswered maxidx pairs.now result }
+{
+    let all = decide(alloc, pairs, maxidx)?;
+    let given = given_of(alloc, pairs, maxidx, all)?;
+    Ok(TermMap::make(alloc, given)?)
+}
+
+/// The answer about the pairs.
+fn answered(alloc: Global, pairs: &[Pair], maxidx: u32) -> Result<TermMap, PatternFault>
+    requires ready { AreReady maxidx pairs.now }
+    requires room { maxidx + 10001 < 2 ^ 32 }
+    ensures { IsAnswered maxidx pairs.now result }
+{
+    if let Some(index) = first_with_schematic_typ(pairs) {
+        return Err(PatternFault::SchematicType { index });
+    }
+    match first_no_pattern(alloc, pairs)? {
+        Some(index) => Err(PatternFault::NotPattern { index }),
+        None => unified(alloc, pairs, maxidx),
+    }
+}
+
 /// The most general unifier of pairs of patterns: terms in which each schematic variable stands applied to distinct bound
 /// variables (D. Miller, A logic programming language with lambda-abstraction, function variables, and simple unification,
 /// 1991; T. Nipkow, Functional unification of higher-order patterns, 1993). Its entries are those of variables of the pairs,
@@ -72,13 +100,5 @@ pub fn unify_pattern(alloc: Global, pairs: &[Pair], maxidx: u32) -> Result<TermM
     ensures most_general { IfOk result (IsMostGeneral pairs.now) }
     ensures unsolved { IsNoFinal pairs.now result }
 {
-    if let Some(index) = first_with_schematic_typ(pairs) {
-        return Err(PatternFault::SchematicType { index });
-    }
-    if let Some(index) = first_no_pattern(alloc, pairs)? {
-        return Err(PatternFault::NotPattern { index });
-    }
-    let all = decide(alloc, pairs, maxidx)?;
-    let given = given_of(alloc, pairs, maxidx, all)?;
-    Ok(TermMap::make(alloc, given)?)
+    answered(alloc, pairs, maxidx)
 }

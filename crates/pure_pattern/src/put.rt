@@ -1,5 +1,5 @@
 //! Images put into pairs and into the images of the variables that were set before.
-ghost use Rattle.std.specs.Prelude.{◌≡◌, ◌++◌, map, IfOk, OnOk};
+ghost use Rattle.std.specs.Prelude.{◌≡◌, ◌++◌, ◌∷◌, [], map, OnOk};
 ghost use Rattle.pure_text.specs.Lists.{Each};
 ghost use Rattle.pure_definitions.specs.Terms.Subst.{term_image};
 ghost use Rattle.pure_term.specs.Grown.{IsGrown};
@@ -35,6 +35,14 @@ fn put_pair(alloc: Global, pair: Pair, binds: &[TermBind], from: u32) -> Result<
     Ok(Pair { left, right })
 }
 
+/// Puts the pair behind the others.
+pub(crate) fn push_pair(pairs: &mut Vec<Pair>, pair: Pair) -> Result<(), AllocError>
+    ensures { OnOk result (pairs.new.items ≡ pairs.old.items ++ pair ∷ []) }
+{
+    pairs.push(pair)?;
+    Ok(())
+}
+
 /// The pairs with the images put into their sides.
 pub(crate) fn put_pairs(
     alloc: Global,
@@ -47,10 +55,10 @@ pub(crate) fn put_pairs(
     requires from { AreFrom from binds.now }
     ensures { AreMade AreSidesWithin (map (pair_put (term_image binds.now)) pairs.items) result }
 {
-    let mut made = Vec::with_capacity(alloc, pairs.len())?;
+    let mut made = Vec::new(alloc);
     for pair in pairs {
         let pair = put_pair(alloc, pair, binds, from)?;
-        made.push(pair)?;
+        push_pair(&mut made, pair)?;
     }
     Ok(made)
 }
@@ -77,6 +85,14 @@ fn put_bind(alloc: Global, bind: TermBind, binds: &[TermBind], from: u32) -> Res
     })
 }
 
+/// Puts the entry behind the others.
+fn push_bind(binds: &mut Vec<TermBind>, bind: TermBind) -> Result<(), AllocError>
+    ensures { OnOk result (binds.new.items ≡ binds.old.items ++ bind ∷ []) }
+{
+    binds.push(bind)?;
+    Ok(())
+}
+
 /// The entries with the images put into theirs.
 pub(crate) fn put_binds(
     alloc: Global,
@@ -89,10 +105,10 @@ pub(crate) fn put_binds(
     requires from { AreFrom from binds.now }
     ensures { AreMade IsImageWithin (map (bind_put (term_image binds.now)) old.items) result }
 {
-    let mut made = Vec::with_capacity(alloc, old.len())?;
+    let mut made = Vec::new(alloc);
     for bind in old {
         let bind = put_bind(alloc, bind, binds, from)?;
-        made.push(bind)?;
+        push_bind(&mut made, bind)?;
     }
     Ok(made)
 }

@@ -5,7 +5,7 @@ ghost use Rattle.pure_pattern_laws.specs.Steps.{IsWithinState, start};
 ghost use Rattle.pure_pattern.specs.Held.{IsRunAnswer};
 
 use crate::fault::PatternFault;
-use crate::state::Held;
+use crate::state::{Held, take_first};
 use crate::step::step;
 use pure_term::TermBind;
 use pure_theorem::Pair;
@@ -30,7 +30,7 @@ pub(crate) fn run(
         binds: Vec::new(alloc),
     };
     for done in 0..MAX_STEPS {
-        let Some(first) = held.pairs.pop() else {
+        let Some(first) = take_first(&mut held) else {
             return Ok(held.binds);
         };
         held = step(alloc, maxidx + (done + 1), first, held)?;

@@ -1,6 +1,6 @@
 //! States: pairs that are left, and what was set.
-ghost use Rattle.std.specs.Prelude.{◌≡◌, ◌++◌, reverse, IfOk, OnOk};
-ghost use Rattle.pure_pattern.specs.Held.{seen};
+ghost use Rattle.std.specs.Prelude.{◌≡◌, ◌++◌, [], reverse, MatchOption, OnOk};
+ghost use Rattle.pure_pattern.specs.Held.{behind, seen};
 
 use pure_term::TermBind;
 use pure_theorem::Pair;
@@ -22,4 +22,11 @@ pub(crate) fn push_pairs(pairs: &mut Vec<Pair>, new: Vec<Pair>) -> Result<(), Al
         pairs.push(pair)?;
     }
     Ok(())
+}
+
+/// Takes the first pair.
+pub(crate) fn take_first(held: &mut Held) -> Option<Pair>
+    ensures { MatchOption result (((seen held.old).pairs ≡ []) × (seen held.new ≡ seen held.old)) (λ first. seen held.old ≡ behind first held.new) }
+{
+    held.pairs.pop()
 }

@@ -7,7 +7,7 @@ ghost use Rattle.pure_pattern_rules.specs.Treated.{AreBindsWithin, AreSidesWithi
 ghost use Rattle.pure_pattern.specs.Held.{behind, seen, state_put, IsGrownState, IsLowImage, IsLowPair, IsMadeState, IsStepped};
 
 use crate::fault::PatternFault;
-use crate::put::{least_index, push_binds, put_binds, put_pairs};
+use crate::put::{least_index, push_binds, push_pair, put_binds, put_pairs};
 use crate::state::{Held, push_pairs};
 use pure_pattern_rules::{Treatment, treated};
 use pure_term::{Grow, TermBind};
@@ -48,7 +48,7 @@ fn set(alloc: Global, first: Pair, held: Held, new: Vec<TermBind>) -> Result<Hel
     ensures { IsMadeState (state_put new.items (behind first held)) result }
 {
     let mut held = held;
-    held.pairs.push(first)?;
+    push_pair(&mut held.pairs, first)?;
     match put_state(alloc, held, new) {
         Ok(held) => Ok(held),
         Err(Grow::Big) => Err(PatternFault::Big),
