@@ -1,5 +1,6 @@
 pub mod ListLaws
 pub mod PartLaws
+pub mod MadeLaws
 pub mod StepLaws
 pub mod RunLaws
 pub mod GivenLaws

@@ -18,12 +18,19 @@ use pure_term::{TermBind, TermMap, is_within};
 use pure_theorem::{Pair, copied_pairs};
 use std::alloc::{AllocError, Global};
 
+/// Whether both sides are within the limits.
+fn is_pair_within(pair: &Pair) -> bool
+    ensures { IsTrue result ↔ AreSidesWithin pair.now }
+{
+    is_within(&pair.left) && is_within(&pair.right)
+}
+
 /// Whether the sides of the pairs are within the limits.
 fn are_within(pairs: &[Pair]) -> bool
     ensures { IsTrue result ↔ Each AreSidesWithin pairs.now }
 {
     for pair in pairs {
-        if !(is_within(&pair.left) && is_within(&pair.right)) {
+        if !is_pair_within(pair) {
             return false;
         }
     }
@@ -62,7 +69,10 @@ fn unified(alloc: Global, pairs: &[Pair], maxidx: u32) -> Result<TermMap, Patter
     requires room { maxidx + 10001 < 2 ^ 32 }
     ensures { IsAnswered maxidx pairs.now result }
 {
-    let all = decide(alloc, pairs, maxidx)?;
+    let all = match decide(alloc, pairs, maxidx) {
+        Ok(all) => all,
+        Err(fault) => return Err(fault),
+    };
     let given = given_of(alloc, pairs, maxidx, all)?;
     Ok(TermMap::make(alloc, given)?)
 }

@@ -57,8 +57,10 @@ pub(crate) fn put_pairs(
 {
     let mut made = Vec::new(alloc);
     for pair in pairs {
-        let pair = put_pair(alloc, pair, binds, from)?;
-        push_pair(&mut made, pair)?;
+        match put_pair(alloc, pair, binds, from) {
+            Ok(new) => push_pair(&mut made, new)?,
+            Err(fault) => return Err(fault),
+        }
     }
     Ok(made)
 }
@@ -107,8 +109,10 @@ pub(crate) fn put_binds(
 {
     let mut made = Vec::new(alloc);
     for bind in old {
-        let bind = put_bind(alloc, bind, binds, from)?;
-        push_bind(&mut made, bind)?;
+        match put_bind(alloc, bind, binds, from) {
+            Ok(new) => push_bind(&mut made, new)?,
+            Err(fault) => return Err(fault),
+        }
     }
     Ok(made)
 }

@@ -33,7 +33,10 @@ pub(crate) fn run(
         let Some(first) = take_first(&mut held) else {
             return Ok(held.binds);
         };
-        held = step(alloc, maxidx + (done + 1), first, held)?;
+        match step(alloc, maxidx + (done + 1), first, held) {
+            Ok(next) => held = next,
+            Err(fault) => return Err(fault),
+        }
     }
     if held.pairs.is_empty() {
         return Ok(held.binds);

@@ -34,8 +34,14 @@ fn put_state(alloc: Global, held: Held, new: Vec<TermBind>) -> Result<Held, Grow
 {
     let from = least_index(&new);
     let Held { pairs, binds } = held;
-    let pairs = put_pairs(alloc, pairs, &new, from)?;
-    let mut binds = put_binds(alloc, binds, &new, from)?;
+    let pairs = match put_pairs(alloc, pairs, &new, from) {
+        Ok(pairs) => pairs,
+        Err(fault) => return Err(fault),
+    };
+    let mut binds = match put_binds(alloc, binds, &new, from) {
+        Ok(binds) => binds,
+        Err(fault) => return Err(fault),
+    };
     push_binds(&mut binds, new)?;
     Ok(Held { pairs, binds })
 }

@@ -1,9 +1,7 @@
 //! Whether pairs are such as the call asks for.
-ghost use Rattle.std.specs.Prelude.{[], IfSome};
+ghost use Rattle.std.specs.Prelude.{◌≡◌, [], IfSome, IsTrue};
 ghost use Rattle.std.specs.Bool.{OnTrue};
-ghost use Rattle.pure_text.specs.Lists.{Each};
 ghost use Rattle.pure_definitions.specs.Terms.Typing.{HasType};
-ghost use Rattle.pure_definitions.specs.Reduction.Eta.{IsLongForm};
 ghost use Rattle.pure_pattern_laws.specs.Answers.{AreReady};
 ghost use Rattle.pure_pattern_rows.specs.Sides.{IsSide, IsReadyPair};
 
@@ -27,14 +25,24 @@ fn typed(alloc: Global, t: &Term) -> Option<Typ>
 fn side_typ(alloc: Global, t: &Term) -> Option<Typ>
     ensures { IfSome result (IsSide t.now) }
 {
-    let typ = typed(alloc, t)?;
+    let Some(typ) = typed(alloc, t) else {
+        return None;
+    };
     if !is_own_long_form(t) {
         return None;
     }
-    if index_above_of(t) > 4 {
+    let above = index_above_of(t);
+    if 4 < above {
         return None;
     }
     Some(typ)
+}
+
+/// Whether the types are equal.
+fn are_one(left: &Typ, right: &Typ) -> bool
+    ensures { IsTrue result → left.now ≡ right.now }
+{
+    left == right
 }
 
 /// Whether both sides are such, and of one type.
@@ -47,7 +55,7 @@ fn is_ready(alloc: Global, pair: &Pair) -> bool
     let Some(right) = side_typ(alloc, &pair.right) else {
         return false;
     };
-    left == right
+    are_one(&left, &right)
 }
 
 /// Whether all pairs are.
