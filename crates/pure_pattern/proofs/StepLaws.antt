@@ -1,5 +1,5 @@
 -- Steps of states as they are held.
-use Rattle.std.proofs.Common.{◌≡◌, ℕ, List, [], ◌∷◌, ◌++◌, map, reverse, refl, sym, subst}
+use Rattle.std.proofs.Common.{◌≡◌, ℕ, List, [], ◌∷◌, ◌++◌, map, reverse, ap, refl, sym, subst, ◌∙◌}
 use Rattle.std.specs.Prelude.{Result, Ok, Err}
 use Rattle.pure_text.specs.Lists.{Each, EachTwo}
 use Rattle.pure_text.proofs.ListLaws.{each-append, each-left, each-right}
@@ -20,7 +20,7 @@ use Rattle.pure_pattern.specs.declared.state.Held.{Held}
 use Rattle.pure_pattern.specs.declared.fault.PatternFault.{PatternFault}
 use Rattle.pure_pattern.specs.declared.fault.PatternFault.TheVariants.{SchematicType, NotPattern, NoUnifier, Steps, Big, Memory}
 use Rattle.pure_pattern.specs.Held.{seen, behind, pair_put, bind_put, state_put, IsImageWithin, IsMadeState, IsStepped}
-use Rattle.pure_pattern.proofs.ListLaws.{each-reverse, each-back, map-reverse}
+use Rattle.pure_pattern.proofs.ListLaws.{each-reverse, each-back, map-reverse, first-last}
 
 -- What is put in by renaming is what a step puts in.
 is_put : (bs : List TermBind) → Each IsPatternBind bs → (t : Term) → IsLongForm t t → IsPattern t → IsPut bs t (put_in (term_image bs) t)
@@ -86,3 +86,16 @@ large-pairs bs old n w =
 
 pub large-binds : (bs : List TermBind) (old : Held) → (¬ Each IsImageWithin (map (bind_put (term_image bs)) old.binds.items)) → ¬ IsWithinState (state_put bs (seen old))
 large-binds bs old n w = n (each-left IsImageWithin (map (bind_put (term_image bs)) old.binds.items) bs w.images)
+
+-- A state with one more pair.
+pub pushed-seen : (h new : Held) (p : Pair) → new.pairs.items ≡ h.pairs.items ++ p ∷ [] → new.binds.items ≡ h.binds.items → seen new ≡ behind p h
+pushed-seen h new p e same = let pairs = ap reverse e ∙ first-last h.pairs.items p in λ l. record { pairs = pairs l; binds = same l }
+
+pub pushed-each : (P : Pair → Type 0) (h : Held) (p : Pair) (ps : List Pair) → ps ≡ h.pairs.items ++ p ∷ [] → Each P (behind p h).pairs → Each P ps
+pushed-each P h p ps e k = each-back P ps (subst (Each P) (sym (ap reverse e ∙ first-last h.pairs.items p)) k)
+
+pub some-left : (s : State) (p : Pair) (h : Held) → s ≡ behind p h → ¬ (s.pairs ≡ [])
+some-left s p h e none = no-first p (seen h).pairs (sym (ap (λ (m : State). m.pairs) e) ∙ none)
+  where
+    no-first : (q : Pair) (qs : List Pair) → ¬ (q ∷ qs ≡ [])
+    no-first q qs is = absurd (cc)

@@ -74,7 +74,22 @@ fn unified(alloc: Global, pairs: &[Pair], maxidx: u32) -> Result<TermMap, Patter
         Err(fault) => return Err(fault),
     };
     let given = given_of(alloc, pairs, maxidx, all)?;
-    Ok(TermMap::make(alloc, given)?)
+    let map = TermMap::make(alloc, given)?;
+    Ok(map)
+}
+
+/// The answer about pairs without schematic type variables.
+fn plain_answer(alloc: Global, pairs: &[Pair], maxidx: u32) -> Result<TermMap, PatternFault>
+    requires ready { AreReady maxidx pairs.now }
+    requires plain { Each (λ p. ¬ HasSchematicTyp p) pairs.now }
+    requires room { maxidx + 10001 < 2 ^ 32 }
+    ensures { IsAnswered maxidx pairs.now result }
+{
+    match first_no_pattern(alloc, pairs) {
+        Ok(Some(index)) => Err(PatternFault::NotPattern { index }),
+        Ok(None) => unified(alloc, pairs, maxidx),
+        Err(_) => Err(PatternFault::Memory),
+    }
 }
 
 /// The answer about the pairs.
@@ -83,12 +98,9 @@ fn answered(alloc: Global, pairs: &[Pair], maxidx: u32) -> Result<TermMap, Patte
     requires room { maxidx + 10001 < 2 ^ 32 }
     ensures { IsAnswered maxidx pairs.now result }
 {
-    if let Some(index) = first_with_schematic_typ(pairs) {
-        return Err(PatternFault::SchematicType { index });
-    }
-    match first_no_pattern(alloc, pairs)? {
-        Some(index) => Err(PatternFault::NotPattern { index }),
-        None => unified(alloc, pairs, maxidx),
+    match first_with_schematic_typ(pairs) {
+        Some(index) => Err(PatternFault::SchematicType { index }),
+        None => plain_answer(alloc, pairs, maxidx),
     }
 }
 

@@ -10,6 +10,7 @@ ghost use Rattle.pure_unify_final.specs.Laws.{AreVariablesUpTo};
 ghost use Rattle.pure_pattern_laws.specs.Steps.{given_binds};
 ghost use Rattle.pure_pattern.specs.Given.{stands_in_sides};
 
+use crate::put::push_bind;
 use pure_term::{Name, Term, TermBind, TermNode, Typ, index_above_of};
 use pure_theorem::Pair;
 use std::alloc::{AllocError, Global};
@@ -89,7 +90,7 @@ fn add_given(
     if !is_given(pairs, maxidx, &bind) {
         return Ok(());
     }
-    given.push(bind)?;
+    push_bind(given, bind)?;
     Ok(())
 }
 

@@ -88,7 +88,7 @@ fn put_bind(alloc: Global, bind: TermBind, binds: &[TermBind], from: u32) -> Res
 }
 
 /// Puts the entry behind the others.
-fn push_bind(binds: &mut Vec<TermBind>, bind: TermBind) -> Result<(), AllocError>
+pub(crate) fn push_bind(binds: &mut Vec<TermBind>, bind: TermBind) -> Result<(), AllocError>
     ensures { OnOk result (binds.new.items ≡ binds.old.items ++ bind ∷ []) }
 {
     binds.push(bind)?;

@@ -2,17 +2,27 @@
 ghost use Rattle.std.specs.Prelude.{◌≡◌, ◌+◌, ◌<◌, ◌^◌, reverse};
 ghost use Rattle.pure_pattern_laws.specs.Laws.{IsPatternState};
 ghost use Rattle.pure_pattern_laws.specs.Steps.{IsWithinState, start};
-ghost use Rattle.pure_pattern.specs.Held.{IsRunAnswer};
+ghost use Rattle.pure_pattern.specs.Held.{seen, IsRunAnswer};
 
 use crate::fault::PatternFault;
 use crate::state::{Held, take_first};
-use crate::step::step;
+use crate::step::{discard, step};
 use pure_term::TermBind;
 use pure_theorem::Pair;
 use std::alloc::Global;
 
 /// How many steps there may be.
 const MAX_STEPS: u32 = 10_000;
+
+/// The state before any step.
+fn begin(alloc: Global, pairs: Vec<Pair>) -> Held
+    ensures { seen result ≡ start (reverse pairs.items) }
+{
+    Held {
+        pairs,
+        binds: Vec::new(alloc),
+    }
+}
 
 /// What steps come to from these pairs, the first of which is the last.
 pub(crate) fn run(
@@ -25,10 +35,7 @@ pub(crate) fn run(
     requires within { IsWithinState (start (reverse pairs.items)) }
     ensures { IsRunAnswer maxidx (start (reverse pairs.items)) result }
 {
-    let mut held = Held {
-        pairs,
-        binds: Vec::new(alloc),
-    };
+    let mut held = begin(alloc, pairs);
     for done in 0..MAX_STEPS {
         let Some(first) = take_first(&mut held) else {
             return Ok(held.binds);
@@ -38,8 +45,11 @@ pub(crate) fn run(
             Err(fault) => return Err(fault),
         }
     }
-    if held.pairs.is_empty() {
-        return Ok(held.binds);
+    match take_first(&mut held) {
+        None => Ok(held.binds),
+        Some(first) => {
+            discard(first);
+            Err(PatternFault::Steps)
+        }
     }
-    Err(PatternFault::Steps)
 }

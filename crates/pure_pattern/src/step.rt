@@ -62,6 +62,12 @@ fn set(alloc: Global, first: Pair, held: Held, new: Vec<TermBind>) -> Result<Hel
     }
 }
 
+/// Lets go of a pair.
+pub(crate) fn discard(_pair: Pair) {}
+
+/// Lets go of a state.
+fn discard_state(_held: Held) {}
+
 /// The step that treats the first pair. Its new variables have the index.
 pub(crate) fn step(alloc: Global, index: u32, first: Pair, held: Held) -> Result<Held, PatternFault>
     requires patterns { IsPatternState (behind first held) }
@@ -69,10 +75,25 @@ pub(crate) fn step(alloc: Global, index: u32, first: Pair, held: Held) -> Result
     ensures { IsStepped index (behind first held) result }
 {
     match treated(alloc, index, &first) {
-        Ok(Treatment::Becomes(pairs)) => replaced(held, pairs),
+        Ok(Treatment::Becomes(pairs)) => {
+            discard(first);
+            replaced(held, pairs)
+        }
         Ok(Treatment::Sets(binds)) => set(alloc, first, held, binds),
-        Ok(Treatment::Never) => Err(PatternFault::NoUnifier),
-        Err(Grow::Big) => Err(PatternFault::Big),
-        Err(Grow::Memory) => Err(PatternFault::Memory),
+        Ok(Treatment::Never) => {
+            discard(first);
+            discard_state(held);
+            Err(PatternFault::NoUnifier)
+        }
+        Err(Grow::Big) => {
+            discard(first);
+            discard_state(held);
+            Err(PatternFault::Big)
+        }
+        Err(Grow::Memory) => {
+            discard(first);
+            discard_state(held);
+            Err(PatternFault::Memory)
+        }
     }
 }

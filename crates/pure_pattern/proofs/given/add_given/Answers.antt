@@ -5,5 +5,5 @@ use Rattle.pure_pattern.proofs.given.add_given.Goals as goal
 pub returns-then-not-is_given : goal.returns-then-not-is_given
 returns-then-not-is_given c = given-none c.args.pairs.now _ c.args.bind (sym c.is_given.ensures ∙ c.if-not-is_given.true)
 
-pub returns-in_ok-push : goal.returns-in_ok-push
-returns-in_ok-push c = c.in_ok-push.ensures ∙ given-one c.args.pairs.now _ c.args.bind (sym c.is_given.ensures ∙ c.if-not-is_given.false)
+pub returns : goal.returns
+returns c = c.in_ok-push_bind.ensures ∙ given-one c.args.pairs.now _ c.args.bind (sym c.is_given.ensures ∙ c.if-not-is_given.false)
