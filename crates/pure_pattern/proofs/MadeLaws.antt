@@ -7,7 +7,8 @@ use Rattle.pure_typ.specs.declared.grow.Grow.TheVariants as grown
 use Rattle.pure_definitions.specs.Terms.Subst.{TermBind, term_image}
 use Rattle.pure_pattern_rules.specs.Treated.{AreSidesWithin}
 use Rattle.pure_pattern.specs.declared.state.Held.{Held}
-use Rattle.pure_pattern.specs.Held.{seen, pair_put, bind_put, state_put, IsImageWithin, IsMade, AreMade, IsGrownState}
+use Rattle.pure_pattern_bounds.specs.Put.{pair_put, bind_put, state_put}
+use Rattle.pure_pattern.specs.Held.{seen, IsImageWithin, IsMade, AreMade, IsGrownState}
 use Rattle.pure_pattern.proofs.StepLaws.{large-pairs, large-binds}
 use Rattle.pure_pattern.proofs.ListLaws.{none-such}
 

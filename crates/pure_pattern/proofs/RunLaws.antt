@@ -12,12 +12,7 @@ use Rattle.pure_pattern.specs.declared.state.Held.{Held}
 use Rattle.pure_pattern.specs.declared.fault.PatternFault.{PatternFault}
 use Rattle.pure_pattern.specs.declared.fault.PatternFault.TheVariants.{SchematicType, NotPattern, NoUnifier, Steps, Big, Memory}
 use Rattle.pure_pattern.specs.Held.{seen, behind, IsStepped, IsRunAnswer}
-
--- After n steps the state is this one: what comes of it comes of the first.
-pub record IsReached (maxidx n : ℕ) (first s : State) : Type 0 where
-  pub patterns : IsPatternState s
-  pub within : IsWithinState s
-  pub back : (o : Outcome) → Runs maxidx n s o → Runs maxidx 0 first o
+use Rattle.pure_pattern.specs.Reached.{IsReached}
 
 pub begins : (maxidx : ℕ) (first s : State) → s ≡ first → IsPatternState first → IsWithinState first → IsReached maxidx 0 first s
 begins maxidx first s e patterns within = subst (IsReached maxidx 0 first) (sym e) (record { patterns = patterns; within = within; back = λ o run. run })

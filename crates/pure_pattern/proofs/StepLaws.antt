@@ -19,7 +19,8 @@ use Rattle.pure_pattern_rules.specs.Treated.{AreSidesWithin, AreBindsWithin}
 use Rattle.pure_pattern.specs.declared.state.Held.{Held}
 use Rattle.pure_pattern.specs.declared.fault.PatternFault.{PatternFault}
 use Rattle.pure_pattern.specs.declared.fault.PatternFault.TheVariants.{SchematicType, NotPattern, NoUnifier, Steps, Big, Memory}
-use Rattle.pure_pattern.specs.Held.{seen, behind, pair_put, bind_put, state_put, IsImageWithin, IsMadeState, IsStepped}
+use Rattle.pure_pattern_bounds.specs.Put.{pair_put, bind_put, state_put}
+use Rattle.pure_pattern.specs.Held.{seen, behind, IsImageWithin, IsMadeState, IsStepped}
 use Rattle.pure_pattern.proofs.ListLaws.{each-reverse, each-back, map-reverse, first-last}
 
 -- What is put in by renaming is what a step puts in.

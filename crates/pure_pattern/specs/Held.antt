@@ -22,16 +22,6 @@ seen h = record { pairs = reverse h.pairs.items; binds = h.binds.items }
 abbrev pub behind : Pair → Held → State
 behind p h = record { pairs = p ∷ reverse h.pairs.items; binds = h.binds.items }
 
--- the pair, the entry and the state with images put in
-abbrev pub pair_put : (Term → Term) → Pair → Pair
-pair_put terms p = record { left = put_in terms p.left; right = put_in terms p.right }
-
-abbrev pub bind_put : (Term → Term) → TermBind → TermBind
-bind_put terms b = record { name = b.name; index = b.index; typ = b.typ; image = put_in terms b.image }
-
-abbrev pub state_put : List TermBind → State → State
-state_put bs s = record { pairs = map (pair_put (term_image bs)) s.pairs; binds = map (bind_put (term_image bs)) s.binds ++ bs }
-
 -- The numbers of the bound variables in both sides, and in an image, are small.
 abbrev pub IsLowPair : Pair → Type 0
 IsLowPair p = IsLowTerm p.left × IsLowTerm p.right

@@ -5,6 +5,7 @@ mod call;
 mod fault;
 mod given;
 mod put;
+mod quick;
 mod run;
 mod state;
 mod step;

@@ -5,7 +5,8 @@ ghost use Rattle.pure_definitions.specs.Terms.Subst.{term_image};
 ghost use Rattle.pure_term.specs.Grown.{IsGrown};
 ghost use Rattle.pure_pattern_terms.specs.Images.{IsLowTerm, AreShallow, AreFrom};
 ghost use Rattle.pure_pattern_rules.specs.Treated.{AreSidesWithin};
-ghost use Rattle.pure_pattern.specs.Held.{pair_put, bind_put, IsLowImage, IsLowPair, IsMade, AreMade, IsImageWithin};
+ghost use Rattle.pure_pattern_bounds.specs.Put.{pair_put, bind_put};
+ghost use Rattle.pure_pattern.specs.Held.{IsLowImage, IsLowPair, IsMade, AreMade, IsImageWithin};
 
 use pure_pattern_terms::put_in;
 use pure_term::{Grow, TermBind};

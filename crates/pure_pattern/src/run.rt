@@ -12,10 +12,10 @@ use pure_theorem::Pair;
 use std::alloc::Global;
 
 /// How many steps there may be.
-const MAX_STEPS: u32 = 10_000;
+pub(crate) const MAX_STEPS: u32 = 10_000;
 
 /// The state before any step.
-fn begin(alloc: Global, pairs: Vec<Pair>) -> Held
+pub(crate) fn begin(alloc: Global, pairs: Vec<Pair>) -> Held
     ensures { seen result ≡ start (reverse pairs.items) }
 {
     Held {

@@ -4,7 +4,8 @@ ghost use Rattle.pure_text.specs.Lists.{Each};
 ghost use Rattle.pure_pattern_laws.specs.Laws.{IsPatternState};
 ghost use Rattle.pure_pattern_laws.specs.Steps.{IsWithinState};
 ghost use Rattle.pure_pattern_rules.specs.Treated.{AreBindsWithin, AreSidesWithin};
-ghost use Rattle.pure_pattern.specs.Held.{behind, seen, state_put, IsGrownState, IsLowImage, IsLowPair, IsMadeState, IsStepped};
+ghost use Rattle.pure_pattern_bounds.specs.Put.{state_put};
+ghost use Rattle.pure_pattern.specs.Held.{behind, seen, IsGrownState, IsLowImage, IsLowPair, IsMadeState, IsStepped};
 
 use crate::fault::PatternFault;
 use crate::put::{least_index, push_binds, push_pair, put_binds, put_pairs};
@@ -15,7 +16,7 @@ use pure_theorem::Pair;
 use std::alloc::Global;
 
 /// The state in which these pairs stand before the others.
-fn replaced(held: Held, pairs: Vec<Pair>) -> Result<Held, PatternFault>
+pub(crate) fn replaced(held: Held, pairs: Vec<Pair>) -> Result<Held, PatternFault>
     requires pairs { Each AreSidesWithin pairs.items }
     requires within { IsWithinState (seen held) }
     ensures { IsMadeState (record { pairs = pairs.items ++ (seen held).pairs; binds = (seen held).binds }) result }
@@ -66,7 +67,7 @@ fn set(alloc: Global, first: Pair, held: Held, new: Vec<TermBind>) -> Result<Hel
 pub(crate) fn discard(_pair: Pair) {}
 
 /// Lets go of a state.
-fn discard_state(_held: Held) {}
+pub(crate) fn discard_state(_held: Held) {}
 
 /// The step that treats the first pair. Its new variables have the index.
 pub(crate) fn step(alloc: Global, index: u32, first: Pair, held: Held) -> Result<Held, PatternFault>

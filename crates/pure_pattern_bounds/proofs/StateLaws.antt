@@ -25,7 +25,7 @@ use Rattle.pure_pattern_laws.specs.Laws.{IsPatternBind, IsPatternState}
 use Rattle.pure_pattern_laws.proofs.PutLaws.{schematic-is}
 use Rattle.pure_pattern_laws.proofs.KeepLaws.{image-of, binds-long_map, binds-patterns, settings_are_patterns}
 use Rattle.pure_pattern_laws.proofs.FreeLaws.{from-image, of-below, of-body, side-occurs, mixed-occurs}
-use Rattle.pure_pattern_bounds.specs.Put.{AreSidesWithin, pair_put, bind_put, state_put}
+use Rattle.pure_pattern_bounds.specs.Put.{pair_put, bind_put, state_put}
 use Rattle.pure_pattern_bounds.specs.Covered.{IsBounded, IsPatternMap, OccursIn, IsBelow, IsHeldBelow, IsHeldIn, IsCovered, IsLowEntry}
 use Rattle.pure_pattern_bounds.specs.Laws.{StartIsCovered, ReplacedIsCovered, SetIsCovered, CoveredIsWithin}
 use Rattle.pure_pattern_bounds.proofs.BoundLaws.{image-bounded, image-inside}

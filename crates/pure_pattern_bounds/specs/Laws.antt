@@ -1,13 +1,14 @@
 -- Laws of covered states.
 use Rattle.std.specs.Prelude.{◌≡◌, ℕ, ◌≤◌, List, ◌∷◌, ◌++◌}
 use Rattle.pure_text.specs.Lists.{IsIn, Each}
+use Rattle.pure_definitions.specs.Terms.Term.{IsWithin}
 use Rattle.pure_definitions.specs.Terms.Subst.{TermBind}
 use Rattle.pure_logic.specs.Derivable.{Pair}
 use Rattle.pure_unify_final.specs.Laws.{AreVariablesUpTo}
 use Rattle.pure_pattern_laws.specs.Treatment.{Becomes, Sets, IsTreated}
 use Rattle.pure_pattern_laws.specs.Steps.{State, start, IsWithinState}
 use Rattle.pure_pattern_laws.specs.Laws.{IsPatternState}
-use Rattle.pure_pattern_bounds.specs.Put.{AreSidesWithin, state_put}
+use Rattle.pure_pattern_bounds.specs.Put.{state_put}
 use Rattle.pure_pattern_bounds.specs.Covered.{IsCovered, IsLowEntry}
 
 -- The first state is covered, and steps lead from covered states to such.
@@ -22,4 +23,4 @@ SetIsCovered = (index n : ℕ) (p : Pair) (ps : List Pair) (bs : List TermBind) 
 
 -- A covered state is within the limits where its pairs are, and the images of variables of the given indexes, which are deep by half of the limit at most.
 abbrev pub CoveredIsWithin : Type 0
-CoveredIsWithin = (n : ℕ) (s : State) → IsCovered n s → Each AreSidesWithin s.pairs → ((b : TermBind) → IsIn b s.binds → b.index ≤ n → IsLowEntry b) → IsWithinState s
+CoveredIsWithin = (n : ℕ) (s : State) → IsCovered n s → Each (λ p. IsWithin p.left × IsWithin p.right) s.pairs → ((b : TermBind) → IsIn b s.binds → b.index ≤ n → IsLowEntry b) → IsWithinState s

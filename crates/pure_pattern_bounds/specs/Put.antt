@@ -1,6 +1,6 @@
 -- Pairs, entries and states with images put in by renaming.
 use Rattle.std.specs.Prelude.{List, ◌++◌, map}
-use Rattle.pure_definitions.specs.Terms.Term.{Term, IsWithin}
+use Rattle.pure_definitions.specs.Terms.Term.{Term}
 use Rattle.pure_definitions.specs.Terms.Subst.{TermBind, term_image}
 use Rattle.pure_logic.specs.Derivable.{Pair}
 use Rattle.pure_pattern_laws.specs.Steps.{State}
@@ -15,7 +15,3 @@ bind_put terms b = record { name = b.name; index = b.index; typ = b.typ; image =
 -- the state in which these variables are set
 abbrev pub state_put : List TermBind → State → State
 state_put bs s = record { pairs = map (pair_put (term_image bs)) s.pairs; binds = map (bind_put (term_image bs)) s.binds ++ bs }
-
--- Both sides are within the limits.
-abbrev pub AreSidesWithin : Pair → Type 0
-AreSidesWithin p = IsWithin p.left × IsWithin p.right

@@ -3,7 +3,8 @@ use Rattle.std.specs.Vec.Iter.{into_iter_items}
 use Rattle.pure_text.specs.Lists.{Each}
 use Rattle.pure_text.proofs.ListLaws.{each-append}
 use Rattle.pure_definitions.specs.Terms.Subst.{term_image}
-use Rattle.pure_pattern.specs.Held.{bind_put, IsLowImage, IsImageWithin}
+use Rattle.pure_pattern_bounds.specs.Put.{bind_put}
+use Rattle.pure_pattern.specs.Held.{IsLowImage, IsImageWithin}
 use Rattle.pure_pattern.proofs.ListLaws.{map-more, map-over}
 use Rattle.pure_pattern.proofs.MadeLaws.{none-made}
 use Rattle.pure_pattern.proofs.put.put_binds.Goals as goal

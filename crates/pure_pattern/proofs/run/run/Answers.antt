@@ -35,3 +35,7 @@ loop-done-preserved c = (
 pub returns-in-None : goal.returns-in-None
 returns-in-None c =
     ends c.args.maxidx c.loop-done.done (start (reverse c.args.pairs.items)) (seen c.loop-done.held) _ c.loop-done.invariant.0 c.in-None.ensures.0 (ap (λ (s : State). s.binds) c.in-None.ensures.1)
+
+pub returns-in-Some-take_first : goal.returns-in-Some-take_first
+returns-in-Some-take_first c =
+    runs-out c.args.maxidx c.loop-done.done (start (reverse c.args.pairs.items)) (seen c.loop-done.held) c.loop-done.invariant.0 (some-left (seen c.loop-done.held) c.in-Some-take_first.first c.take_first-2.new.held c.in-Some-take_first.ensures) (omega arith)

@@ -1,7 +1,7 @@
 use Rattle.std.proofs.Common.{◌≤◌, reverse}
 use Rattle.pure_pattern_laws.specs.Steps.{start}
 use Rattle.pure_pattern.specs.Held.{seen}
-use Rattle.pure_pattern.proofs.RunLaws.{IsReached}
+use Rattle.pure_pattern.specs.Reached.{IsReached}
 use Rattle.pure_pattern.proofs.run.run.Given as goal
 
 abbrev pub invariant-loop-done : goal.invariant-loop-done

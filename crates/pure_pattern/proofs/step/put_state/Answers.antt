@@ -4,7 +4,8 @@ use Rattle.pure_text.specs.Lists.{Each}
 use Rattle.pure_definitions.specs.Terms.Subst.{term_image}
 use Rattle.pure_pattern_terms.specs.Images.{AreShallow}
 use Rattle.pure_pattern_rules.specs.Treated.{AreSidesWithin}
-use Rattle.pure_pattern.specs.Held.{pair_put, bind_put, IsImageWithin, AreMade}
+use Rattle.pure_pattern_bounds.specs.Put.{pair_put, bind_put}
+use Rattle.pure_pattern.specs.Held.{IsImageWithin, AreMade}
 use Rattle.pure_pattern.proofs.PartLaws.{shallow-images}
 use Rattle.pure_pattern.proofs.MadeLaws.{pairs_not-made, binds_not-made}
 use Rattle.pure_pattern.proofs.StepLaws.{state-made, within-made}
@@ -26,6 +27,6 @@ pub returns : goal.returns
 returns c =
     let pairs = subst (λ bs. (c.in-Ok.pairs.items ≡ map (pair_put (term_image bs)) c.args.held.pairs.items) × Each AreSidesWithin (map (pair_put (term_image bs)) c.args.held.pairs.items)) c.deref-2.ensures.value c.in-Ok.ensures in
     let binds = subst (λ bs. (c.in-Ok-put_binds.binds.items ≡ map (bind_put (term_image bs)) c.args.held.binds.items) × Each IsImageWithin (map (bind_put (term_image bs)) c.args.held.binds.items)) c.deref-3.ensures.value c.in-Ok-put_binds.ensures in (
-      state-made c.args.new.items c.args.held _ pairs.0 (c.in_ok-push_binds.ensures ∙ ap (λ bs. bs ++ c.args.new.items) binds.0),
+      state-made c.args.new.items c.args.held (record { pairs = c.in-Ok.pairs; binds = c.push_binds.new.binds }) pairs.0 (c.in_ok-push_binds.ensures ∙ ap (λ bs. bs ++ c.args.new.items) binds.0),
       within-made c.args.new.items c.args.held pairs.1 binds.1 c.requires.new,
     )

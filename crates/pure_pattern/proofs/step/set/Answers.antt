@@ -1,7 +1,8 @@
 use Rattle.std.proofs.Common.{subst, sym, refl}
 use Rattle.std.specs.Prelude.{Ok, Err}
 use Rattle.pure_pattern_laws.specs.Steps.{IsWithinState}
-use Rattle.pure_pattern.specs.Held.{state_put, IsLowPair, IsGrownState}
+use Rattle.pure_pattern_bounds.specs.Put.{state_put}
+use Rattle.pure_pattern.specs.Held.{IsLowPair, IsGrownState}
 use Rattle.pure_pattern.proofs.StepLaws.{pushed-each, pushed-seen}
 use Rattle.pure_pattern.proofs.step.set.Goals as goal
 
@@ -12,4 +13,4 @@ pub returns-in-Ok : goal.returns-in-Ok
 returns-in-Ok c = subst (λ s. IsGrownState (state_put c.args.new.items s) (Ok c.in-Ok.held)) (pushed-seen c.args.held (record { pairs = c.push_pair.new.pairs; binds = c.args.held.binds }) c.args.first c.in_ok-push_pair.ensures refl) c.in-Ok.ensures
 
 pub returns-in-Err-Big : goal.returns-in-Err-Big
-returns-in-Err-Big c w = c.in-Err-Big.ensures (subst (λ s. IsWithinState (state_put c.args.new.items s)) (sym (pushed-seen c.args.held (record { pairs = c.push_pair.new.pairs; binds = c.args.held.binds }) c.args.first c.in_ok-push_pair.ensures refl)) w)
+returns-in-Err-Big c w = (rw c.in-Err-Big.field-0-is at c.in-Err-Big.ensures) (subst (λ s. IsWithinState (state_put c.args.new.items s)) (sym (pushed-seen c.args.held (record { pairs = c.push_pair.new.pairs; binds = c.args.held.binds }) c.args.first c.in_ok-push_pair.ensures refl)) w)
