@@ -17,14 +17,14 @@ use Rattle.pure_pattern_laws.proofs.GeneralLaws.{no_unifier_is_final, unifier_is
 use Rattle.pure_pattern_laws.proofs.FreeLaws.{unifier_is_map}
 use Rattle.pure_pattern.specs.declared.fault.PatternFault.{PatternFault}
 use Rattle.pure_pattern.specs.declared.fault.PatternFault.TheVariants.{SchematicType, NotPattern, NoUnifier, Steps, Big, Memory}
-use Rattle.pure_pattern.specs.Held.{IsRunAnswer}
+use Rattle.pure_pattern.specs.Quick.{IsDecided}
 use Rattle.pure_pattern.specs.Answered.{IsAnswered, IsSolution, IsNoFinal}
 
 -- Answers of steps are answers about pairs of patterns.
 pub solved-answer : (maxidx : ℕ) (ps : List Pair) (all : List TermBind) → Each (λ p. ¬ HasSchematicTyp p) ps → Each IsPatternPair ps → Runs maxidx 0 (start ps) (Solved all) → IsPatternAnswer maxidx ps (answers.Unified (given_binds ps all))
 solved-answer maxidx ps all plain patterns run = IsPatternAnswer.decided plain patterns run refl
 
-pub halted-answer : (maxidx : ℕ) (ps : List Pair) (fault : PatternFault) → Each (λ p. ¬ HasSchematicTyp p) ps → Each IsPatternPair ps → IsRunAnswer maxidx (start ps) (Err fault) → IsAnswered maxidx ps (Err fault)
+pub halted-answer : (maxidx : ℕ) (ps : List Pair) (fault : PatternFault) → Each (λ p. ¬ HasSchematicTyp p) ps → Each IsPatternPair ps → IsDecided maxidx (start ps) (Err fault) → IsAnswered maxidx ps (Err fault)
 halted-answer maxidx ps NoUnifier plain patterns k = IsPatternAnswer.decided plain patterns k refl
 halted-answer maxidx ps Steps plain patterns k = IsPatternAnswer.decided plain patterns k refl
 halted-answer maxidx ps Big plain patterns k = IsPatternAnswer.decided plain patterns k refl

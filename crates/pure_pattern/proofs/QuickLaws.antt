@@ -3,6 +3,7 @@ use Rattle.std.proofs.Common.{◌≡◌, ◌∙◌, ℕ, ◌+◌, ◌<◌, ◌�
 use Rattle.std.proofs.lemmas.Bool.Decides.{nat_tests}
 use Rattle.std.proofs.lemmas.List.{append_assoc, append-nil}
 use Rattle.std.specs.Prelude.{if◌then◌else◌, Result, Ok, Err}
+use Rattle.std.specs.Global.{Vec}
 use Rattle.std.specs.List.{list_any}
 use Rattle.pure_text.specs.Lists.{IsIn, Each}
 use Rattle.pure_text.proofs.ListLaws.{each_at, each-append}
@@ -247,3 +248,13 @@ kept-one n bs b low = by_test (nat_lt n b.index) refl
     by_test : (test : Bool) → nat_lt n b.index ≡ test → bs ++ b ∷ [] ≡ bs ++ (if test then [] else (b ∷ []))
     by_test true t = absurd (grind (arith, nat_tests))
     by_test false t = refl
+
+-- What steps come to where all entries are held.
+pub run-decided : (maxidx : ℕ) (first : State) (r : Result (Vec TermBind) PatternFault) → IsRunAnswer maxidx first r → IsDecided maxidx first r
+run-decided maxidx first (Ok bs) h = record { all = bs.items; run = h; are = refl }
+run-decided maxidx first (Err NoUnifier) h = h
+run-decided maxidx first (Err Steps) h = h
+run-decided maxidx first (Err Big) h = h
+run-decided maxidx first (Err Memory) h = tt
+run-decided maxidx first (Err (SchematicType i)) h = absurd h
+run-decided maxidx first (Err (NotPattern i)) h = absurd h
