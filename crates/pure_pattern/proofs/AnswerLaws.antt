@@ -17,7 +17,7 @@ use Rattle.pure_pattern_laws.proofs.GeneralLaws.{no_unifier_is_final, unifier_is
 use Rattle.pure_pattern_laws.proofs.FreeLaws.{unifier_is_map}
 use Rattle.pure_pattern.specs.declared.fault.PatternFault.{PatternFault}
 use Rattle.pure_pattern.specs.declared.fault.PatternFault.TheVariants.{SchematicType, NotPattern, NoUnifier, Steps, Big, Memory}
-use Rattle.pure_pattern.specs.Quick.{IsDecided}
+use Rattle.pure_pattern.specs.Followed.{IsDecided}
 use Rattle.pure_pattern.specs.Answered.{IsAnswered, IsSolution, IsNoFinal}
 
 -- Answers of steps are answers about pairs of patterns.

@@ -5,4 +5,4 @@ pub mod StepLaws
 pub mod RunLaws
 pub mod GivenLaws
 pub mod AnswerLaws
-pub mod QuickLaws
+pub mod FollowLaws

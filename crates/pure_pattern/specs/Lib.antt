@@ -2,4 +2,4 @@ pub mod Answered
 pub mod Held
 pub mod Given
 pub mod Reached
-pub mod Quick
+pub mod Followed

@@ -7,12 +7,10 @@ ghost use Rattle.pure_pattern_laws.specs.Answers.{AreReady};
 ghost use Rattle.pure_pattern_laws.specs.Laws.{IsMostGeneral};
 ghost use Rattle.pure_pattern_rules.specs.Treated.{AreSidesWithin};
 ghost use Rattle.pure_pattern.specs.Answered.{IsAnswered, IsSolution, IsNoFinal};
-ghost use Rattle.pure_pattern.specs.Held.{IsRunAnswer};
-ghost use Rattle.pure_pattern.specs.Quick.{IsDecided, IsQuickAnswer};
+ghost use Rattle.pure_pattern.specs.Followed.{IsDecided};
 
 use crate::fault::PatternFault;
 use crate::given::given_of;
-use crate::quick::quick_run;
 use crate::run::run;
 use crate::state::push_pairs;
 use pure_pattern_terms::{first_no_pattern, first_with_schematic_typ};
@@ -49,31 +47,7 @@ fn stack_of(alloc: Global, pairs: &[Pair]) -> Result<Vec<Pair>, AllocError>
     Ok(stack)
 }
 
-/// What steps come to from pairs of patterns within the limits; `Big` where it isn't known, as an image is very deep.
-fn quickly(alloc: Global, pairs: &[Pair], maxidx: u32) -> Result<Vec<TermBind>, PatternFault>
-    requires ready { AreReady maxidx pairs.now }
-    requires patterns { Each IsPatternPair pairs.now }
-    requires within { Each AreSidesWithin pairs.now }
-    requires room { maxidx + 10001 < 2 ^ 32 }
-    ensures { IsQuickAnswer maxidx (start pairs.now) result }
-{
-    let stack = stack_of(alloc, pairs)?;
-    quick_run(alloc, maxidx, stack)
-}
-
-/// The same in any case, with the entries of all variables held.
-fn wholly(alloc: Global, pairs: &[Pair], maxidx: u32) -> Result<Vec<TermBind>, PatternFault>
-    requires ready { AreReady maxidx pairs.now }
-    requires patterns { Each IsPatternPair pairs.now }
-    requires within { Each AreSidesWithin pairs.now }
-    requires room { maxidx + 10001 < 2 ^ 32 }
-    ensures { IsRunAnswer maxidx (start pairs.now) result }
-{
-    let stack = stack_of(alloc, pairs)?;
-    run(alloc, maxidx, stack)
-}
-
-/// What steps come to from pairs of patterns: of the entries those of indexes up to `maxidx`, and perhaps more.
+/// What steps come to from pairs of patterns: the entries of indexes up to `maxidx`.
 fn decide(alloc: Global, pairs: &[Pair], maxidx: u32) -> Result<Vec<TermBind>, PatternFault>
     requires ready { AreReady maxidx pairs.now }
     requires patterns { Each IsPatternPair pairs.now }
@@ -83,13 +57,8 @@ fn decide(alloc: Global, pairs: &[Pair], maxidx: u32) -> Result<Vec<TermBind>, P
     if !are_within(pairs) {
         return Err(PatternFault::Big);
     }
-    match quickly(alloc, pairs, maxidx) {
-        Ok(binds) => Ok(binds),
-        Err(PatternFault::Big) => wholly(alloc, pairs, maxidx),
-        Err(PatternFault::NoUnifier) => Err(PatternFault::NoUnifier),
-        Err(PatternFault::Steps) => Err(PatternFault::Steps),
-        Err(_) => Err(PatternFault::Memory),
-    }
+    let stack = stack_of(alloc, pairs)?;
+    run(alloc, maxidx, stack)
 }
 
 /// The unifier of pairs of patterns, or why there is none to answer.

@@ -5,7 +5,6 @@ mod call;
 mod fault;
 mod given;
 mod put;
-mod quick;
 mod run;
 mod state;
 mod step;

@@ -117,13 +117,3 @@ pub(crate) fn put_binds(
     }
     Ok(made)
 }
-
-/// Puts the entries behind the others.
-pub(crate) fn push_binds(binds: &mut Vec<TermBind>, new: Vec<TermBind>) -> Result<(), AllocError>
-    ensures { OnOk result (binds.new.items ≡ binds.old.items ++ new.items) }
-{
-    for bind in new {
-        binds.push(bind)?;
-    }
-    Ok(())
-}

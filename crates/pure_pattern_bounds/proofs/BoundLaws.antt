@@ -3,15 +3,16 @@ use Rattle.std.proofs.Common.{◌≡◌, ◌⊎◌, ◌∙◌, ℕ, zero, suc, �
 use Rattle.std.specs.Prelude.{if◌then◌else◌}
 use Rattle.pure_text.specs.Lists.{IsIn, Each, EachTwo, AreDistinct}
 use Rattle.pure_definitions.specs.Types.Typ.{Typ, typ_size, typ_depth, arrow}
-use Rattle.pure_definitions.specs.Terms.Term.{Term, Const, Free, Var, Bound, Abs, App, term_size, term_depth}
+use Rattle.pure_definitions.specs.Terms.Term.{Term, Const, Free, Var, Bound, Abs, App, term_size, term_depth, max_depth}
 use Rattle.pure_definitions.specs.Terms.Bounds.{Occurs}
 use Rattle.pure_eta.proofs.LongLaws.{IsFront, IsLong}
-use Rattle.pure_unify_definitions.specs.Fronts.{front, arguments, is_schematic, below, domains}
+use Rattle.pure_unify_definitions.specs.Fronts.{front, arguments, is_schematic, below, domains, range, function_typ}
 use Rattle.pure_solutions.specs.Solutions.{IsLongMap}
 use Rattle.pure_pattern_laws.specs.Patterns.{IsPlace, IsPattern}
 use Rattle.pure_pattern_laws.specs.Putting.{place_in, put_application, put_in}
 use Rattle.pure_pattern_laws.proofs.PlacedLaws.{raised, renaming}
 use Rattle.pure_pattern_laws.proofs.BuiltLaws.{body-long, long-front}
+use Rattle.pure_pattern_laws.proofs.ImageLaws.{function-of}
 use Rattle.pure_pattern_laws.proofs.PutLaws.{schematic-is, flexible-long, flexible-split, front-function}
 use Rattle.pure_pattern_laws.proofs.PatternLaws.{true-false}
 use Rattle.pure_pattern_laws.proofs.SolvedLaws.{places-lack}
@@ -81,20 +82,6 @@ picked-typs weight bs (z ∷ zs) (U ∷ Us) h = (let first = at-typ weight bs z 
 lighter : (weight : Typ → ℕ) (bs : List Typ) (zs : List ℕ) (Us : List Typ) → AreDistinct zs → EachTwo (λ z U. slice_get bs z ≡ Some U) zs Us → total (weighed weight Us) ≤ total (weighed weight bs)
 lighter weight bs zs Us d h = (let same = picked-typs weight bs zs Us h in let least = picked-least zs (weighed weight bs) d in omega arith)
 
-each-typ : (P : Typ → Type 0) (bs : List Typ) (zs : List ℕ) (Us : List Typ) → Each P bs → EachTwo (λ z U. slice_get bs z ≡ Some U) zs Us → Each P Us
-each-typ P bs [] [] h k = tt
-each-typ P bs [] (U ∷ Us) h k = absurd k
-each-typ P bs (z ∷ zs) [] h k = absurd k
-each-typ P bs (z ∷ zs) (U ∷ Us) h k = (read bs z h k.0, each-typ P bs zs Us h k.1)
-  where
-    same : (T V : Typ) → Some T ≡ Some V → T ≡ V
-    same T V e = cc
-
-    read : (cs : List Typ) (y : ℕ) → Each P cs → slice_get cs y ≡ Some U → P U
-    read [] y p e = absurd (cc)
-    read (T ∷ cs) zero p e = subst P (same T U e) p.0
-    read (T ∷ cs) (suc y) p e = read cs y p.1 e
-
 -- A term below abstractions.
 abbrev binder : Typ → ℕ
 binder T = 1 + typ_size T
@@ -106,9 +93,9 @@ size-below : (Ts : List Typ) (c : Term) → term_size (below Ts c) ≡ total (we
 size-below [] c = omega arith
 size-below (T ∷ Ts) c = (let rest = size-below Ts c in omega arith)
 
-depth-below : (most : ℕ) (Ts : List Typ) (c : Term) → Each (λ T. typ_depth T ≤ most) Ts → term_depth c ≤ most → term_depth (below Ts c) ≤ total (weighed one Ts) + most
-depth-below most [] c h k = omega arith
-depth-below most (T ∷ Ts) c h k = (let first = h.0 in let rest = depth-below most Ts c h.1 k in omega arith)
+depth-below : (n e : ℕ) (Ts : List Typ) (R : Typ) (c : Term) → n + typ_depth (function_typ Ts R) ≤ e → n + (total (weighed one Ts) + term_depth c) ≤ e → n + term_depth (below Ts c) ≤ e
+depth-below n e [] R c h k = omega arith
+depth-below n e (T ∷ Ts) R c h k = (let rest = depth-below (n + 1) e Ts R c (omega arith) (omega arith) in omega arith)
 
 renaming-size : (r : ℕ → ℕ) (t : Term) → term_size (renaming r t) ≡ term_size t
 renaming-size r (Const c T) = refl
@@ -134,6 +121,9 @@ front-size (Bound p) = (omega arith, omega arith)
 front-size (Abs T b) = (omega arith, omega arith)
 front-size (App f a) = (let rest = front-size f in let size = rest.0 in let depth = rest.1 in (omega arith, omega arith))
 
+same_typ : (x i : ℕ) (V : Typ) (y j : ℕ) (F : Typ) → Var x i V ≡ Var y j F → V ≡ F
+same_typ x i V y j F e = cc
+
 -- Occurrences in what is put in.
 occurs-renaming : (x i : ℕ) (T : Typ) (r : ℕ → ℕ) (t : Term) → Occurs (Var x i T) t → Occurs (Var x i T) (renaming r t)
 occurs-renaming x i T r (Const c V) o = o
@@ -154,40 +144,39 @@ module _ (terms : Term → Term) (long : IsLongMap terms) (x i : ℕ) (V : Typ) 
   record Fits (n e : ℕ) (bs : List Typ) (u : Term) : Type 0 where
     size : total (weighed binder bs) + term_size u ≤ n
     depth : total (weighed one bs) + term_depth u ≤ e
-    each : Each (λ T. typ_depth T ≤ e) bs
 
   -- What is said of a part in which the variable occurs.
   record IsHeld (bs : List Typ) (u : Term) : Type 0 where
-    room : (n e : ℕ) → Fits n e bs u → (term_size image ≤ n) × (term_depth image ≤ e + e)
+    room : (n e : ℕ) → typ_depth V ≤ e → Fits n e bs u → (term_size image ≤ n) × (term_depth image ≤ e)
     inside : (y j : ℕ) (W : Typ) → Occurs (Var y j W) image → Occurs (Var y j W) u
 
   itself-held : (bs : List Typ) (u : Term) → image ≡ u → IsHeld bs u
   itself-held bs u e = record {
-    room = λ n d h. (let size = h.size in let depth = h.depth in let same : term_size image ≡ term_size u = ap term_size e in let deep : term_depth image ≡ term_depth u = ap term_depth e in (omega arith, omega arith));
+    room = λ n d low h. (let size = h.size in let depth = h.depth in let same : term_size image ≡ term_size u = ap term_size e in let deep : term_depth image ≡ term_depth u = ap term_depth e in (omega arith, omega arith));
     inside = λ y j W o. subst (Occurs (Var y j W)) e o;
   }
 
   body-held : (bs : List Typ) (T : Typ) (u : Term) → IsHeld (T ∷ bs) u → IsHeld bs (Abs T u)
   body-held bs T u h = record {
-    room = λ n e k. h.room n e (let size = k.size in let depth = k.depth in record { size = omega arith; depth = omega arith; each = (omega arith, k.each) });
+    room = λ n e low k. h.room n e low (let size = k.size in let depth = k.depth in record { size = omega arith; depth = omega arith });
     inside = λ y j W o. inr (h.inside y j W o);
   }
 
   function-held : (bs : List Typ) (f a : Term) → IsHeld bs f → IsHeld bs (App f a)
   function-held bs f a h = record {
-    room = λ n e k. h.room n e (let size = k.size in let depth = k.depth in record { size = omega arith; depth = omega arith; each = k.each });
+    room = λ n e low k. h.room n e low (let size = k.size in let depth = k.depth in record { size = omega arith; depth = omega arith });
     inside = λ y j W o. inr (inl (h.inside y j W o));
   }
 
   argument-held : (bs : List Typ) (f a : Term) → IsHeld bs a → IsHeld bs (App f a)
   argument-held bs f a h = record {
-    room = λ n e k. h.room n e (let size = k.size in let depth = k.depth in record { size = omega arith; depth = omega arith; each = k.each });
+    room = λ n e low k. h.room n e low (let size = k.size in let depth = k.depth in record { size = omega arith; depth = omega arith });
     inside = λ y j W o. inr (inr (h.inside y j W o));
   }
 
   stays-held : (bs : List Typ) (t : Term) → image ≡ front t → Occurs (Var x i V) t → image ≡ Var x i V → IsHeld bs t
   stays-held bs t e o same = record {
-    room = λ n d h. (let fronts = front-size t in let small = fronts.0 in let shallow = fronts.1 in let size = h.size in let depth = h.depth in
+    room = λ n d low h. (let fronts = front-size t in let small = fronts.0 in let shallow = fronts.1 in let size = h.size in let depth = h.depth in
     let own : term_size image ≡ term_size (front t) = ap term_size e in let deep : term_depth image ≡ term_depth (front t) = ap term_depth e in (omega arith, omega arith));
     inside = λ y j W p. subst (λ v. Occurs v t) (sym (variable y j W (subst (Occurs (Var y j W)) same p))) o;
   }
@@ -195,12 +184,13 @@ module _ (terms : Term → Term) (long : IsLongMap terms) (x i : ℕ) (V : Typ) 
       variable : (y j : ℕ) (W : Typ) → Occurs (Var y j W) (Var x i V) → Var y j W ≡ Var x i V
       variable y j W p = p
 
-  set-held : (bs : List Typ) (zs : List ℕ) (Ts : List Typ) (c : Term) (r : ℕ → ℕ) → image ≡ below Ts c → AreDistinct zs → EachTwo (λ z U. slice_get bs z ≡ Some U) zs Ts → IsHeld bs (renaming r c)
-  set-held bs zs Ts c r e d h = record {
-    room = λ n most k. (
+  set-held : (bs : List Typ) (zs : List ℕ) (Ts : List Typ) (R : Typ) (c : Term) (r : ℕ → ℕ) → V ≡ function_typ Ts R → image ≡ below Ts c → AreDistinct zs → EachTwo (λ z U. slice_get bs z ≡ Some U) zs Ts → IsHeld bs (renaming r c)
+  set-held bs zs Ts R c r typ e d h = record {
+    room = λ n most low k. (
       (let size = k.size in let whole : term_size image ≡ total (weighed binder Ts) + term_size c = ap term_size e ∙ size-below Ts c in let same = renaming-size r c in let light = lighter binder bs zs Ts d h in omega arith),
       (let depth = k.depth in let same = renaming-depth r c in let few = lighter one bs zs Ts d h in
-      let deep : term_depth (below Ts c) ≤ total (weighed one Ts) + most = depth-below most Ts c (each-typ (λ T. typ_depth T ≤ most) bs zs Ts k.each h) (omega arith) in
+      let shallow : typ_depth (function_typ Ts R) ≤ most = subst (λ T. typ_depth T ≤ most) typ low in
+      let deep = depth-below 0 most Ts R c (omega arith) (omega arith) in
       let whole : term_depth image ≡ term_depth (below Ts c) = ap term_depth e in omega arith),
     );
     inside = λ y j W o. occurs-renaming y j W r c (of-below y j W Ts c (subst (Occurs (Var y j W)) e o));
@@ -213,7 +203,7 @@ module _ (terms : Term → Term) (long : IsLongMap terms) (x i : ℕ) (V : Typ) 
       let own : image ≡ terms (Var y j F) = ap terms (here ∙ e) in
       elim (flexible-split terms long bs f a R y j F zs flexible e p) [
         | inl k ↦ subst (IsHeld bs) (sym k.1) (stays-held bs (App f a) (own ∙ (k.0 ∙ sym e)) o (own ∙ (k.0 ∙ (sym e ∙ sym here))))
-        | inr k ↦ (let b = k.0 in subst (IsHeld bs) (sym k.1) (set-held bs zs (domains F) b.body (place_in (reverse zs)) (own ∙ b.is) d flexible.types))
+        | inr k ↦ (let b = k.0 in subst (IsHeld bs) (sym k.1) (set-held bs zs (domains F) (range F) b.body (place_in (reverse zs)) (same_typ x i V y j F (here ∙ e) ∙ function-of F) (own ∙ b.is) d flexible.types))
       ]
 
   by_test : (bs : List Typ) (f a : Term) (b : Bool) → (b ≡ true → IsHeld bs (put_application (terms (front f)) (App f a))) → (b ≡ false → IsHeld bs (App (put_in terms f) (put_in terms a))) → IsHeld bs (if b then put_application (terms (front f)) (App f a) else App (put_in terms f) (put_in terms a))
@@ -251,10 +241,13 @@ module _ (terms : Term → Term) (long : IsLongMap terms) (x i : ℕ) (V : Typ) 
         (λ d. (let k = front-function terms long bs f a R h in let q = p.1 d in argument-held bs (put_in terms f) (put_in terms a) (held-long bs a k.0 k.2 q.1 o)))
 
   -- The image of a variable that occurs in a closed pattern is bounded by what is put into the pattern, and each variable in it occurs there.
-  pub image-bounded : (t : Term) (R : Typ) → IsLong [] t t R → IsPattern t → Occurs (Var x i V) t → IsBounded image (put_in terms t)
-  image-bounded t R h p o =
-      let room = (held-long [] t R h p o).room (term_size (put_in terms t)) (term_depth (put_in terms t)) (record { size = omega arith; depth = omega arith; each = tt }) in
-      record { size = room.0; depth = room.1 }
+  pub image-bounded : (t : Term) (R : Typ) → IsLong [] t t R → IsPattern t → Occurs (Var x i V) t → typ_depth V ≤ max_depth → IsBounded image (put_in terms t)
+  image-bounded t R h p o low =
+      let room = (held-long [] t R h p o).room in
+      let most = term_size (put_in terms t) + (term_depth (put_in terms t) + max_depth) in record {
+        size = (room (term_size (put_in terms t)) most (omega arith) (record { size = omega arith; depth = omega arith })).0;
+        depth = λ deep. (room (term_size (put_in terms t)) max_depth low (record { size = omega arith; depth = omega arith })).1;
+      }
 
   pub image-inside : (t : Term) (R : Typ) → IsLong [] t t R → IsPattern t → Occurs (Var x i V) t → (y j : ℕ) (W : Typ) → Occurs (Var y j W) image → Occurs (Var y j W) (put_in terms t)
   image-inside t R h p o y j W m = (held-long [] t R h p o).inside y j W m

@@ -4,8 +4,8 @@ use Rattle.std.proofs.lemmas.Bool.{cases_lt}
 use Rattle.std.specs.Prelude.{if◌then◌else◌}
 use Rattle.pure_text.specs.Lists.{IsIn, Each, AnyOf}
 use Rattle.pure_text.proofs.ListLaws.{each_at, each_of, in-append_left, in-append_right, in-map, in_split, any_split, any-append_left, any-append_right, any-map, any_some, any_of}
-use Rattle.pure_definitions.specs.Types.Typ.{Typ}
-use Rattle.pure_definitions.specs.Terms.Term.{Term, Const, Free, Var, Bound, Abs, App, IsWithin, term_eq, term_depth}
+use Rattle.pure_definitions.specs.Types.Typ.{Typ, typ_depth}
+use Rattle.pure_definitions.specs.Terms.Term.{Term, Const, Free, Var, Bound, Abs, App, IsWithin, term_eq, term_depth, max_depth}
 use Rattle.pure_definitions.specs.Terms.Bounds.{Occurs}
 use Rattle.pure_definitions.specs.Terms.Typing.{HasType}
 use Rattle.pure_definitions.specs.Terms.Subst.{TermBind, term_variable, term_image}
@@ -26,7 +26,7 @@ use Rattle.pure_pattern_laws.proofs.PutLaws.{schematic-is}
 use Rattle.pure_pattern_laws.proofs.KeepLaws.{image-of, binds-long_map, binds-patterns, settings_are_patterns}
 use Rattle.pure_pattern_laws.proofs.FreeLaws.{from-image, of-below, of-body, side-occurs, mixed-occurs}
 use Rattle.pure_pattern_bounds.specs.Put.{pair_put, bind_put, state_put}
-use Rattle.pure_pattern_bounds.specs.Covered.{IsBounded, IsPatternMap, OccursIn, IsBelow, IsHeldBelow, IsHeldIn, IsCovered, IsLowEntry}
+use Rattle.pure_pattern_bounds.specs.Covered.{IsBounded, IsPatternMap, OccursIn, IsBelow, IsHeldBelow, IsHeldIn, IsCovered}
 use Rattle.pure_pattern_bounds.specs.Laws.{StartIsCovered, ReplacedIsCovered, SetIsCovered, CoveredIsWithin}
 use Rattle.pure_pattern_bounds.proofs.BoundLaws.{image-bounded, image-inside}
 use Rattle.pure_pattern_bounds.proofs.CoverLaws.{IsLongPattern, both-map, put-put}
@@ -71,17 +71,17 @@ id-map = record {
   patterns = λ x i T. tt;
 }
 
-bounded-within : (u : Term) (b : TermBind) → IsBelow u b.image → IsLowEntry b → IsWithin u
-bounded-within u b h low =
+bounded-within : (u : Term) (b : TermBind) → IsBelow u b.image → IsWithin b.image → IsWithin u
+bounded-within u b h within =
     let bounded : IsBounded u b.image = subst (λ t. IsBounded t b.image) (id-put u) (subst (IsBounded (put_in (λ v. v) u)) (id-put b.image) (h (λ v. v) id-map)) in
-    (let small = bounded.size in let deep = bounded.depth in let size = low.within.size in let half = low.depth in record { size = omega arith; depth = omega arith })
+    (let small = bounded.size in let size = within.size in record { size = omega arith; depth = bounded.depth within.depth })
 
 pub covered_is_within : CoveredIsWithin
 covered_is_within n s h sides low = record {
   sides = sides;
   images = each_of (λ b. IsWithin b.image) s.binds (λ b m. elim (cases_lt n b.index) [
     | inl less ↦ (let held = h.images b m less in bounded-within b.image held.entry held.bounds (low held.entry held.among held.given))
-    | inr least ↦ (low b m (omega arith)).within
+    | inr least ↦ low b m (omega arith)
   ]);
 }
 
@@ -145,8 +145,24 @@ own-entries index p bs (IsTreated.two_variables {x = x} {i = i} {y = y} {j = j} 
 own-entries index p bs (IsTreated.imitates {f = f} {k = k} {u = u} {x = x} {i = i} {T = T} {zs = zs} mixed a absent written long) =
     (record { there = mixed-occurs p.left p.right f k (Var x i T) mixed (side-occurs f x i T zs a); image = first-image (bind x i T u) [] }, tt)
 
+-- The type of a variable of a pair within the limits isn't deeper than they allow.
+occurs-depth : (v t : Term) → Occurs v t → term_depth v ≤ term_depth t
+occurs-depth v (Const c T) e = (let same : term_depth v ≡ term_depth (Const c T) = ap term_depth e in omega arith)
+occurs-depth v (Free x T) e = (let same : term_depth v ≡ term_depth (Free x T) = ap term_depth e in omega arith)
+occurs-depth v (Var x i T) e = (let same : term_depth v ≡ term_depth (Var x i T) = ap term_depth e in omega arith)
+occurs-depth v (Bound p) e = (let same : term_depth v ≡ term_depth (Bound p) = ap term_depth e in omega arith)
+occurs-depth v (Abs T b) (inl e) = (let same : term_depth v ≡ term_depth (Abs T b) = ap term_depth e in omega arith)
+occurs-depth v (Abs T b) (inr o) = (let rest = occurs-depth v b o in omega arith)
+occurs-depth v (App f a) (inl e) = (let same : term_depth v ≡ term_depth (App f a) = ap term_depth e in omega arith)
+occurs-depth v (App f a) (inr (inl o)) = (let rest = occurs-depth v f o in omega arith)
+occurs-depth v (App f a) (inr (inr o)) = (let rest = occurs-depth v a o in omega arith)
+
+typ-within : (v : Term) (T : Typ) (p : Pair) → term_depth v ≡ 1 + typ_depth T → OccursIn v p → IsWithin p.left × IsWithin p.right → typ_depth T ≤ max_depth
+typ-within v T p e (inl o) w = (let deep = occurs-depth v p.left o in let low = w.0.depth in omega arith)
+typ-within v T p e (inr o) w = (let deep = occurs-depth v p.right o in let low = w.1.depth in omega arith)
+
 -- Variables are set.
-module _ (n : ℕ) (p : Pair) (bs : List TermBind) (s : State) (patterns : IsPatternState s) (ready : Each IsPatternBind bs) (own : Each (IsOwnEntry p bs) bs) (first : (v : Term) → OccursIn v p → AnyOf (OccursIn v) s.pairs) (h : IsCovered n s) where
+module _ (n : ℕ) (p : Pair) (bs : List TermBind) (s : State) (patterns : IsPatternState s) (ready : Each IsPatternBind bs) (own : Each (IsOwnEntry p bs) bs) (within : IsWithin p.left × IsWithin p.right) (first : (v : Term) → OccursIn v p → AnyOf (OccursIn v) s.pairs) (h : IsCovered n s) where
   abbrev terms : Term → Term
   terms = term_image bs
 
@@ -228,7 +244,7 @@ module _ (n : ℕ) (p : Pair) (bs : List TermBind) (s : State) (patterns : IsPat
         given = k.given;
         bounds = λ others o. subst (λ t. IsBounded (put_in others t) (put_in others (put_in terms k.entry.image))) mine.image
         (subst (IsBounded (put_in others (terms (term_variable b)))) (sym (put-put others terms o map_of k.entry.image k.entry.typ image))
-        (image-bounded (λ v. put_in others (terms v)) (both-map others terms o map_of).long b.name b.index b.typ k.entry.image long.0 long.1 image.pattern k.there));
+        (image-bounded (λ v. put_in others (terms v)) (both-map others terms o map_of).long b.name b.index b.typ k.entry.image long.0 long.1 image.pattern k.there (typ-within (term_variable b) b.typ p refl mine.there within)));
       }
 
   of-olds : (b : TermBind) (cs : List TermBind) → IsIn b (map (bind_put terms) cs) → (c : TermBind) × IsIn c cs × (b ≡ bind_put terms c)
@@ -251,7 +267,7 @@ module _ (n : ℕ) (p : Pair) (bs : List TermBind) (s : State) (patterns : IsPat
   put-covered = record { sides = λ y j U less m. pairs-held y j U less s.pairs patterns.long patterns.patterns (λ v o. o) m; images = entry-below }
 
 pub set_is_covered : SetIsCovered
-set_is_covered index n p ps bs s e patterns treated h =
+set_is_covered index n p ps bs s e within patterns treated h =
     let long = subst (Each AreLongOfOneTyp) e patterns.long in
     let pattern = subst (Each IsPatternPair) e patterns.patterns in
-    put-covered n p bs s patterns (settings_are_patterns index p long.0 pattern.0 bs treated) (own-entries index p bs treated) (λ v o. subst (AnyOf (OccursIn v)) (sym e) (inl o)) h
+    put-covered n p bs s patterns (settings_are_patterns index p long.0 pattern.0 bs treated) (own-entries index p bs treated) within (λ v o. subst (AnyOf (OccursIn v)) (sym e) (inl o)) h

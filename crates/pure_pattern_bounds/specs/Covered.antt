@@ -1,8 +1,8 @@
 -- States in which the images of new variables are bounded by those of variables of the given indexes, whatever is put into both.
-use Rattle.std.specs.Prelude.{ℕ, ◌+◌, ◌<◌, ◌≤◌, ◌⊎◌, List}
+use Rattle.std.specs.Prelude.{ℕ, ◌<◌, ◌≤◌, ◌⊎◌, List}
 use Rattle.pure_text.specs.Lists.{IsIn, AnyOf}
 use Rattle.pure_definitions.specs.Types.Typ.{Typ}
-use Rattle.pure_definitions.specs.Terms.Term.{Term, Var, IsWithin, term_size, term_depth}
+use Rattle.pure_definitions.specs.Terms.Term.{Term, Var, term_size, term_depth, max_depth}
 use Rattle.pure_definitions.specs.Terms.Bounds.{Occurs}
 use Rattle.pure_definitions.specs.Terms.Subst.{TermBind}
 use Rattle.pure_logic.specs.Derivable.{Pair}
@@ -11,10 +11,10 @@ use Rattle.pure_pattern_laws.specs.Patterns.{IsPattern}
 use Rattle.pure_pattern_laws.specs.Steps.{State}
 use Rattle.pure_pattern_laws.specs.Putting.{put_in}
 
--- The size is at most that of the other term, and the depth at most twice that.
+-- The size is at most that of the other term, and where the depth of that is within the limit, so is this one's.
 pub record IsBounded (a p : Term) : Type 0 where
   pub size : term_size a ≤ term_size p
-  pub depth : term_depth a ≤ term_depth p + term_depth p
+  pub depth : term_depth p ≤ max_depth → term_depth a ≤ max_depth
 
 -- A long map whose images are patterns.
 pub record IsPatternMap (terms : Term → Term) : Type 0 where
@@ -46,8 +46,3 @@ pub record IsHeldIn (n : ℕ) (bs : List TermBind) (v : Term) : Type 0 where
 pub record IsCovered (n : ℕ) (s : State) : Type 0 where
   pub sides : (x i : ℕ) (T : Typ) → n < i → AnyOf (OccursIn (Var x i T)) s.pairs → IsHeldIn n s.binds (Var x i T)
   pub images : (b : TermBind) → IsIn b s.binds → n < b.index → IsHeldBelow n s.binds b.image
-
--- The entry's image is within the limits, and deep by half at most.
-pub record IsLowEntry (b : TermBind) : Type 0 where
-  pub within : IsWithin b.image
-  pub depth : term_depth b.image ≤ 1000

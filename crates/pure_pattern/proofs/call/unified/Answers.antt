@@ -2,7 +2,7 @@ use Rattle.std.proofs.Common.{◌∙◌, sym, subst}
 use Rattle.pure_pattern_laws.specs.Answers as answers
 use Rattle.pure_pattern_laws.specs.Answers.{IsPatternAnswer}
 use Rattle.pure_pattern.proofs.AnswerLaws.{solved-answer, halted-answer, given-map}
-use Rattle.pure_pattern.proofs.QuickLaws.{given-same}
+use Rattle.pure_pattern.proofs.FollowLaws.{given-same}
 use Rattle.pure_pattern.proofs.call.unified.Goals as goal
 
 pub returns-in-Err : goal.returns-in-Err

@@ -1,6 +1,6 @@
 use Rattle.std.specs.Vec.Iter.{into_iter_items}
-use Rattle.pure_pattern.proofs.QuickLaws.{kept-more}
-use Rattle.pure_pattern.proofs.quick.push_all_given.Goals as goal
+use Rattle.pure_pattern.proofs.FollowLaws.{kept-more}
+use Rattle.pure_pattern.proofs.step.push_all_given.Goals as goal
 
 pub loop-bind-preserved : goal.loop-bind-preserved
 loop-bind-preserved c =

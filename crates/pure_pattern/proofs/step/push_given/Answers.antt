@@ -1,6 +1,6 @@
 use Rattle.std.proofs.Common.{◌∙◌, sym}
-use Rattle.pure_pattern.proofs.QuickLaws.{kept-one, kept-none}
-use Rattle.pure_pattern.proofs.quick.push_given.Goals as goal
+use Rattle.pure_pattern.proofs.FollowLaws.{kept-one, kept-none}
+use Rattle.pure_pattern.proofs.step.push_given.Goals as goal
 
 pub returns-then-maxidx-index : goal.returns-then-maxidx-index
 returns-then-maxidx-index c = rw (← c.bind.view_is) (kept-none c.args.maxidx c.args.binds.now.items _ c.if-maxidx-index.true)

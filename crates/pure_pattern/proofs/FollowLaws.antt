@@ -1,12 +1,11 @@
--- Runs where entries of new variables aren't held.
+-- Runs, as far as they are held.
 use Rattle.std.proofs.Common.{◌≡◌, ◌∙◌, ℕ, ◌+◌, ◌<◌, ◌≤◌, inl, inr, List, [], ◌∷◌, ◌++◌, map, reverse, Bool, true, false, nat_lt, ap, refl, sym, subst, arith}
 use Rattle.std.proofs.lemmas.Bool.Decides.{nat_tests}
 use Rattle.std.proofs.lemmas.List.{append_assoc, append-nil}
 use Rattle.std.specs.Prelude.{if◌then◌else◌, Result, Ok, Err}
-use Rattle.std.specs.Global.{Vec}
 use Rattle.std.specs.List.{list_any}
 use Rattle.pure_text.specs.Lists.{IsIn, Each}
-use Rattle.pure_text.proofs.ListLaws.{each_at, each-append}
+use Rattle.pure_text.proofs.ListLaws.{each_at, each-append, each-left, each-right}
 use Rattle.pure_definitions.specs.Terms.Term.{Term, term_eq, IsWithin}
 use Rattle.pure_definitions.specs.Terms.Subst.{TermBind, term_variable, term_image}
 use Rattle.pure_logic.specs.Derivable.{Pair}
@@ -19,17 +18,17 @@ use Rattle.pure_pattern_laws.specs.Steps.{State, start, IsWithinState, Follows, 
 use Rattle.pure_pattern_laws.specs.Answers.{AreReady, AreLongOfOneTyp}
 use Rattle.pure_pattern_laws.specs.Laws.{IsPatternState, IsPatternBind}
 use Rattle.pure_pattern_laws.proofs.SoundLaws.{start-ready}
-use Rattle.pure_pattern_bounds.specs.Covered.{IsCovered, IsLowEntry}
+use Rattle.pure_pattern_bounds.specs.Covered.{IsCovered}
 use Rattle.pure_pattern_bounds.proofs.StateLaws.{start_is_covered, replaced_is_covered, set_is_covered, covered_is_within}
-use Rattle.pure_pattern_rules.specs.Treated.{AreSidesWithin}
+use Rattle.pure_pattern_rules.specs.Treated.{AreSidesWithin, AreBindsWithin}
 use Rattle.pure_pattern.specs.declared.state.Held.{Held}
 use Rattle.pure_pattern.specs.declared.fault.PatternFault.{PatternFault}
 use Rattle.pure_pattern.specs.declared.fault.PatternFault.TheVariants.{SchematicType, NotPattern, NoUnifier, Steps, Big, Memory}
 use Rattle.pure_pattern_bounds.specs.Put.{pair_put, bind_put, state_put}
-use Rattle.pure_pattern.specs.Held.{seen, behind, IsLowPair, IsLowImage, IsImageWithin, IsMadeState, IsRunAnswer}
+use Rattle.pure_pattern.specs.Held.{seen, behind, IsLowPair, IsLowImage, IsImageWithin, IsMadeState}
 use Rattle.pure_pattern.specs.Reached.{IsReached}
-use Rattle.pure_pattern.specs.Quick.{kept, IsFollowed, IsGiven, IsGivenSet, IsTurned, AreSolvedUpTo, IsQuickAnswer, IsDecided}
-use Rattle.pure_pattern.proofs.ListLaws.{map-reverse, each-reverse, first-last}
+use Rattle.pure_pattern.specs.Followed.{kept, IsFollowed, IsGivenSet, AreBeyond, IsStepped, AreSolvedUpTo, IsDecided}
+use Rattle.pure_pattern.proofs.ListLaws.{map-reverse, each-reverse, each-back, first-last}
 use Rattle.pure_pattern.proofs.PartLaws.{becomes-within, low-pairs, low-images}
 use Rattle.pure_pattern.proofs.StepLaws.{set-follows}
 use Rattle.pure_pattern.proofs.RunLaws.{goes-on, begins}
@@ -80,14 +79,6 @@ pub kept-more : (n : ℕ) (made left rest whole : List TermBind) (b : TermBind) 
 kept-more n made left rest whole b e is =
     append_assoc made (kept n (b ∷ [])) (kept n rest) ∙ (ap (λ zs. made ++ zs) (sym (ap (kept n) is ∙ kept-append n (b ∷ []) rest)) ∙ e)
 
-kept-kept : (n : ℕ) (bs : List TermBind) → kept n (kept n bs) ≡ kept n bs
-kept-kept n [] = refl
-kept-kept n (b ∷ bs) = by_test (nat_lt n b.index) refl (kept-kept n bs)
-  where
-    by_test : (test : Bool) → nat_lt n b.index ≡ test → kept n (kept n bs) ≡ kept n bs → kept n (if test then kept n bs else (b ∷ kept n bs)) ≡ (if test then kept n bs else (b ∷ kept n bs))
-    by_test true t e = e
-    by_test false t e = rw t (ap (λ ds. b ∷ ds) e)
-
 -- The entries of the given variables are among them.
 given-kept : (n : ℕ) (ps : List Pair) (bs : List TermBind) → Each (AreVariablesUpTo n) ps → given_binds ps (kept n bs) ≡ given_binds ps bs
 given-kept n ps [] h = refl
@@ -109,8 +100,8 @@ given-kept n ps (b ∷ bs) h = by_test (nat_lt n b.index) refl (given-kept n ps 
     by_test true t e = (let less : n < b.index = grind (arith, nat_tests) in e ∙ passed (list_any (term_eq (term_variable b)) (pair_variables ps)) (none-above_pairs n b.name b.index b.typ less ps h))
     by_test false t e = taken (list_any (term_eq (term_variable b)) (pair_variables ps)) e
 
-pub given-same : (n : ℕ) (ps : List Pair) (all bs : List TermBind) → Each (AreVariablesUpTo n) ps → kept n all ≡ kept n bs → given_binds ps bs ≡ given_binds ps all
-given-same n ps all bs h e = sym (given-kept n ps bs h) ∙ (ap (given_binds ps) (sym e) ∙ given-kept n ps all h)
+pub given-same : (n : ℕ) (ps : List Pair) (all bs : List TermBind) → Each (AreVariablesUpTo n) ps → kept n all ≡ bs → given_binds ps bs ≡ given_binds ps all
+given-same n ps all bs h e = ap (given_binds ps) (sym e) ∙ given-kept n ps all h
 
 -- Steps.
 pub followed-again : (maxidx n : ℕ) (o : State) (ps qs : List Pair) (bs cs : List TermBind) → IsFollowed maxidx n o ps bs → ps ≡ qs → bs ≡ cs → IsFollowed maxidx n o qs cs
@@ -159,7 +150,7 @@ module _ (maxidx n : ℕ) (o : State) (p : Pair) (ps : List Pair) (bs : List Ter
     pub followed-never : IsTreated (maxidx + (n + 1)) p.left p.right Never → Runs maxidx 0 o steps.NoUnifier
     followed-never treated = f.reached.back steps.NoUnifier (Runs.never f.reached.within less (record { first = p; rest = ps; are = f.pairs; never = treated }))
 
-    pub followed-set : (cs : List TermBind) → IsTreated (maxidx + (n + 1)) p.left p.right (Sets cs) → Each AreSidesWithin (map (pair_put (term_image cs)) (p ∷ ps)) → Each IsLowEntry (map (bind_put (term_image cs)) bs ++ kept maxidx cs)
+    pub followed-set : (cs : List TermBind) → IsTreated (maxidx + (n + 1)) p.left p.right (Sets cs) → Each AreSidesWithin (map (pair_put (term_image cs)) (p ∷ ps)) → Each IsImageWithin (map (bind_put (term_image cs)) bs ++ kept maxidx cs)
         → IsFollowed maxidx (n + 1) o (map (pair_put (term_image cs)) (p ∷ ps)) (map (bind_put (term_image cs)) bs ++ kept maxidx cs)
     followed-set cs treated sides low =
         let index = maxidx + (n + 1) in
@@ -168,15 +159,29 @@ module _ (maxidx n : ℕ) (o : State) (p : Pair) (ps : List Pair) (bs : List Ter
         let pairs : map (pair_put terms) f.state.pairs ≡ map (pair_put terms) (p ∷ ps) = ap (map (pair_put terms)) f.pairs in
         let binds : kept maxidx (map (bind_put terms) f.state.binds ++ cs) ≡ map (bind_put terms) bs ++ kept maxidx cs =
         kept-append maxidx (map (bind_put terms) f.state.binds) cs ∙ ap (λ ds. ds ++ kept maxidx cs) (kept-map terms maxidx f.state.binds ∙ ap (map (bind_put terms)) f.binds) in
-        let covered = set_is_covered index maxidx p ps cs f.state f.pairs f.reached.patterns treated f.covered in
-        let lows : Each IsLowEntry (kept maxidx (map (bind_put terms) f.state.binds ++ cs)) = subst (Each IsLowEntry) (sym binds) low in
-        let within = covered_is_within maxidx m covered (subst (Each AreSidesWithin) (sym pairs) sides) (λ b k small. each_at IsLowEntry (kept maxidx (map (bind_put terms) f.state.binds ++ cs)) lows b (kept-in maxidx (map (bind_put terms) f.state.binds ++ cs) b k small)) in record {
+        let covered = set_is_covered index maxidx p ps cs f.state f.pairs followed-sides.0 f.reached.patterns treated f.covered in
+        let lows : Each IsImageWithin (kept maxidx (map (bind_put terms) f.state.binds ++ cs)) = subst (Each IsImageWithin) (sym binds) low in
+        let within = covered_is_within maxidx m covered (subst (Each AreSidesWithin) (sym pairs) sides) (λ b k small. each_at IsImageWithin (kept maxidx (map (bind_put terms) f.state.binds ++ cs)) lows b (kept-in maxidx (map (bind_put terms) f.state.binds ++ cs) b k small)) in record {
           state = m;
           reached = goes-on maxidx n o f.state m f.reached less (set-follows index f.state p ps cs f.pairs f.reached.patterns treated) within;
           covered = covered;
           pairs = pairs;
           binds = binds;
         }
+
+    -- The state that follows isn't within the limits.
+    followed-large : (cs : List TermBind) → IsTreated (maxidx + (n + 1)) p.left p.right (Sets cs) → (¬ IsWithinState (state_put cs f.state)) → Runs maxidx 0 o steps.Big
+    followed-large cs treated k = f.reached.back steps.Big (Runs.next f.reached.within less (set-follows (maxidx + (n + 1)) f.state p ps cs f.pairs f.reached.patterns treated) (Runs.big k))
+
+    pub followed-new : (cs : List TermBind) × IsTreated (maxidx + (n + 1)) p.left p.right (Sets cs) × (¬ AreBindsWithin cs) → Runs maxidx 0 o steps.Big
+    followed-new k = followed-large k.0 k.1 (λ w. k.2 (each-right IsImageWithin (map (bind_put (term_image k.0)) f.state.binds) k.0 w.images))
+
+    pub followed-beyond : (cs : List TermBind) (rs : List Pair) → IsTreated (maxidx + (n + 1)) p.left p.right (Sets cs) → reverse rs ≡ p ∷ ps → AreBeyond cs rs bs → Runs maxidx 0 o steps.Big
+    followed-beyond cs rs treated e (inl k) = followed-large cs treated (λ w. k (each-back AreSidesWithin (map (pair_put (term_image cs)) rs) (subst (Each AreSidesWithin) (ap (map (pair_put (term_image cs))) (f.pairs ∙ sym e) ∙ map-reverse (pair_put (term_image cs)) rs) w.sides)))
+    followed-beyond cs rs treated e (inr k) =
+        let olds = map (bind_put (term_image cs)) f.state.binds in
+        let held : kept maxidx olds ≡ map (bind_put (term_image cs)) bs = kept-map (term_image cs) maxidx f.state.binds ∙ ap (map (bind_put (term_image cs))) f.binds in
+        followed-large cs treated (λ w. k (subst (Each IsImageWithin) held (kept-each IsImageWithin maxidx olds (each-left IsImageWithin olds cs w.images))))
 
   pub followed-out : n ≡ max_steps → Runs maxidx 0 o steps.Steps
   followed-out e = f.reached.back steps.Steps (Runs.out_of_steps f.reached.within f.pairs e)
@@ -185,45 +190,45 @@ pub followed-over : (maxidx n : ℕ) (o : State) (ps : List Pair) (bs : List Ter
 followed-over maxidx n o ps bs f none = record {
   all = f.state.binds;
   run = f.reached.back (Solved f.state.binds) (Runs.over f.reached.within (f.pairs ∙ none));
-  are = sym (kept-kept maxidx f.state.binds) ∙ ap (kept maxidx) f.binds;
+  are = f.binds;
 }
 
 -- The answers of a step.
-pub replaced-turned : (maxidx n : ℕ) (o : State) (p : Pair) (h : Held) (qs : List Pair) (r : Result Held PatternFault) → IsFollowed maxidx n o (p ∷ (seen h).pairs) h.binds.items → n < max_steps → IsTreated (maxidx + (n + 1)) p.left p.right (Becomes qs)
-    → IsMadeState (record { pairs = qs ++ (seen h).pairs; binds = (seen h).binds }) r → IsTurned maxidx (n + 1) o r
-replaced-turned maxidx n o p h qs (Ok g) f less treated k =
+pub replaced-stepped : (maxidx n : ℕ) (o : State) (p : Pair) (h : Held) (qs : List Pair) (r : Result Held PatternFault) → IsFollowed maxidx n o (p ∷ (seen h).pairs) h.binds.items → n < max_steps → IsTreated (maxidx + (n + 1)) p.left p.right (Becomes qs)
+    → IsMadeState (record { pairs = qs ++ (seen h).pairs; binds = (seen h).binds }) r → IsStepped maxidx (n + 1) o r
+replaced-stepped maxidx n o p h qs (Ok g) f less treated k =
     followed-again maxidx (n + 1) o (qs ++ (seen h).pairs) (reverse g.pairs.items) h.binds.items g.binds.items (followed-replaced maxidx n o p (seen h).pairs h.binds.items f less qs treated) (sym (ap (λ (s : State). s.pairs) k.0)) (sym (ap (λ (s : State). s.binds) k.0))
-replaced-turned maxidx n o p h qs (Err Big) f less treated k = tt
-replaced-turned maxidx n o p h qs (Err Memory) f less treated k = tt
-replaced-turned maxidx n o p h qs (Err NoUnifier) f less treated k = absurd k
-replaced-turned maxidx n o p h qs (Err Steps) f less treated k = absurd k
-replaced-turned maxidx n o p h qs (Err (SchematicType i)) f less treated k = absurd k
-replaced-turned maxidx n o p h qs (Err (NotPattern i)) f less treated k = absurd k
+replaced-stepped maxidx n o p h qs (Err Big) f less treated k = absurd k
+replaced-stepped maxidx n o p h qs (Err Memory) f less treated k = tt
+replaced-stepped maxidx n o p h qs (Err NoUnifier) f less treated k = absurd k
+replaced-stepped maxidx n o p h qs (Err Steps) f less treated k = absurd k
+replaced-stepped maxidx n o p h qs (Err (SchematicType i)) f less treated k = absurd k
+replaced-stepped maxidx n o p h qs (Err (NotPattern i)) f less treated k = absurd k
 
-pub set-turned : (maxidx n : ℕ) (o : State) (p : Pair) (h : Held) (cs : List TermBind) (r : Result Held PatternFault) → IsFollowed maxidx n o (p ∷ (seen h).pairs) h.binds.items → n < max_steps → IsTreated (maxidx + (n + 1)) p.left p.right (Sets cs)
-    → IsGivenSet maxidx cs p h r → IsTurned maxidx (n + 1) o r
-set-turned maxidx n o p h cs (Ok g) f less treated k =
+pub set-stepped : (maxidx n : ℕ) (o : State) (p : Pair) (h : Held) (cs : List TermBind) (r : Result Held PatternFault) → IsFollowed maxidx n o (p ∷ (seen h).pairs) h.binds.items → n < max_steps → IsTreated (maxidx + (n + 1)) p.left p.right (Sets cs)
+    → IsGivenSet maxidx cs p h r → IsStepped maxidx (n + 1) o r
+set-stepped maxidx n o p h cs (Ok g) f less treated k =
     let terms = term_image cs in
     let back : reverse g.pairs.items ≡ map (pair_put terms) (p ∷ (seen h).pairs) =
-    ap reverse k.0.are ∙ (sym (map-reverse (pair_put terms) (h.pairs.items ++ p ∷ [])) ∙ ap (map (pair_put terms)) (first-last h.pairs.items p)) in
-    let sides = subst (Each AreSidesWithin) back (each-reverse AreSidesWithin g.pairs.items k.0.within) in
-    let low = subst (Each IsLowEntry) k.0.entries k.1 in
+    ap reverse k.are ∙ (sym (map-reverse (pair_put terms) (h.pairs.items ++ p ∷ [])) ∙ ap (map (pair_put terms)) (first-last h.pairs.items p)) in
+    let sides = subst (Each AreSidesWithin) back (each-reverse AreSidesWithin g.pairs.items k.within) in
+    let low = subst (Each IsImageWithin) k.entries k.images in
     followed-again maxidx (n + 1) o (map (pair_put terms) (p ∷ (seen h).pairs)) (reverse g.pairs.items) (map (bind_put terms) h.binds.items ++ kept maxidx cs) g.binds.items
-    (followed-set maxidx n o p (seen h).pairs h.binds.items f less cs treated sides low) (sym back) (sym k.0.entries)
-set-turned maxidx n o p h cs (Err Big) f less treated k = tt
-set-turned maxidx n o p h cs (Err Memory) f less treated k = tt
-set-turned maxidx n o p h cs (Err NoUnifier) f less treated k = absurd k
-set-turned maxidx n o p h cs (Err Steps) f less treated k = absurd k
-set-turned maxidx n o p h cs (Err (SchematicType i)) f less treated k = absurd k
-set-turned maxidx n o p h cs (Err (NotPattern i)) f less treated k = absurd k
+    (followed-set maxidx n o p (seen h).pairs h.binds.items f less cs treated sides low) (sym back) (sym k.entries)
+set-stepped maxidx n o p h cs (Err Big) f less treated k = followed-beyond maxidx n o p (seen h).pairs h.binds.items f less cs (h.pairs.items ++ p ∷ []) treated (first-last h.pairs.items p) k
+set-stepped maxidx n o p h cs (Err Memory) f less treated k = tt
+set-stepped maxidx n o p h cs (Err NoUnifier) f less treated k = absurd k
+set-stepped maxidx n o p h cs (Err Steps) f less treated k = absurd k
+set-stepped maxidx n o p h cs (Err (SchematicType i)) f less treated k = absurd k
+set-stepped maxidx n o p h cs (Err (NotPattern i)) f less treated k = absurd k
 
-pub turned-answer : (maxidx n : ℕ) (o : State) (fault : PatternFault) → IsTurned maxidx n o (Err fault) → IsQuickAnswer maxidx o (Err fault)
-turned-answer maxidx n o NoUnifier h = h
-turned-answer maxidx n o Big h = tt
-turned-answer maxidx n o Memory h = tt
-turned-answer maxidx n o Steps h = absurd h
-turned-answer maxidx n o (SchematicType i) h = absurd h
-turned-answer maxidx n o (NotPattern i) h = absurd h
+pub halted : (maxidx n : ℕ) (o : State) (fault : PatternFault) → IsStepped maxidx n o (Err fault) → IsDecided maxidx o (Err fault)
+halted maxidx n o NoUnifier h = h
+halted maxidx n o Big h = h
+halted maxidx n o Memory h = tt
+halted maxidx n o Steps h = absurd h
+halted maxidx n o (SchematicType i) h = absurd h
+halted maxidx n o (NotPattern i) h = absurd h
 
 -- States as they are held.
 pub followed-held : (maxidx n : ℕ) (o s : State) (h : Held) → IsFollowed maxidx n o s.pairs s.binds → seen h ≡ s → IsFollowed maxidx n o (reverse h.pairs.items) h.binds.items
@@ -248,13 +253,3 @@ kept-one n bs b low = by_test (nat_lt n b.index) refl
     by_test : (test : Bool) → nat_lt n b.index ≡ test → bs ++ b ∷ [] ≡ bs ++ (if test then [] else (b ∷ []))
     by_test true t = absurd (grind (arith, nat_tests))
     by_test false t = refl
-
--- What steps come to where all entries are held.
-pub run-decided : (maxidx : ℕ) (first : State) (r : Result (Vec TermBind) PatternFault) → IsRunAnswer maxidx first r → IsDecided maxidx first r
-run-decided maxidx first (Ok bs) h = record { all = bs.items; run = h; are = refl }
-run-decided maxidx first (Err NoUnifier) h = h
-run-decided maxidx first (Err Steps) h = h
-run-decided maxidx first (Err Big) h = h
-run-decided maxidx first (Err Memory) h = tt
-run-decided maxidx first (Err (SchematicType i)) h = absurd h
-run-decided maxidx first (Err (NotPattern i)) h = absurd h
