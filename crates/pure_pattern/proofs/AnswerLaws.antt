@@ -1,12 +1,9 @@
 -- What the answers of calls say.
-use Rattle.std.proofs.Common.{◌≡◌, ℕ, List, [], refl, sym, subst}
+use Rattle.std.proofs.Common.{◌≡◌, ℕ, List, refl, sym, subst}
 use Rattle.std.specs.Prelude.{Result, Ok, Err, IfOk}
-use Rattle.std.specs.Global.{Vec}
 use Rattle.pure_text.specs.Lists.{Each}
-use Rattle.pure_definitions.specs.Terms.Term.{Term}
-use Rattle.pure_definitions.specs.Terms.Subst.{TermBind, IsTermMap, term_image}
+use Rattle.pure_definitions.specs.Terms.Subst.{TermBind, IsTermMap}
 use Rattle.pure_logic.specs.Derivable.{Pair}
-use Rattle.pure_solutions.specs.Solutions.{IsTermSubstitution, IsLongMap}
 use Rattle.pure_pattern_laws.specs.Patterns.{IsPatternPair, HasSchematicTyp}
 use Rattle.pure_pattern_laws.specs.Steps.{start, Solved, Runs, given_binds}
 use Rattle.pure_pattern_laws.specs.Answers as answers

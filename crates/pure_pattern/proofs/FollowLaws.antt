@@ -6,7 +6,7 @@ use Rattle.std.specs.Prelude.{if◌then◌else◌, Result, Ok, Err}
 use Rattle.std.specs.List.{list_any}
 use Rattle.pure_text.specs.Lists.{IsIn, Each}
 use Rattle.pure_text.proofs.ListLaws.{each_at, each-append, each-left, each-right}
-use Rattle.pure_definitions.specs.Terms.Term.{Term, term_eq, IsWithin}
+use Rattle.pure_definitions.specs.Terms.Term.{Term, term_eq}
 use Rattle.pure_definitions.specs.Terms.Subst.{TermBind, term_variable, term_image}
 use Rattle.pure_logic.specs.Derivable.{Pair}
 use Rattle.pure_unify_definitions.specs.Fronts.{pair_variables}
@@ -16,7 +16,6 @@ use Rattle.pure_pattern_laws.specs.Treatment.{Becomes, Sets, Never, IsTreated}
 use Rattle.pure_pattern_laws.specs.Steps as steps
 use Rattle.pure_pattern_laws.specs.Steps.{State, start, IsWithinState, Follows, Outcome, Solved, Runs, given_binds, max_steps}
 use Rattle.pure_pattern_laws.specs.Answers.{AreReady, AreLongOfOneTyp}
-use Rattle.pure_pattern_laws.specs.Laws.{IsPatternState, IsPatternBind}
 use Rattle.pure_pattern_laws.proofs.SoundLaws.{start-ready}
 use Rattle.pure_pattern_bounds.specs.Covered.{IsCovered}
 use Rattle.pure_pattern_bounds.proofs.StateLaws.{start_is_covered, replaced_is_covered, set_is_covered, covered_is_within}
@@ -26,7 +25,6 @@ use Rattle.pure_pattern.specs.declared.fault.PatternFault.{PatternFault}
 use Rattle.pure_pattern.specs.declared.fault.PatternFault.TheVariants.{SchematicType, NotPattern, NoUnifier, Steps, Big, Memory}
 use Rattle.pure_pattern_bounds.specs.Put.{pair_put, bind_put, state_put}
 use Rattle.pure_pattern.specs.Held.{seen, behind, IsLowPair, IsLowImage, IsImageWithin, IsMadeState}
-use Rattle.pure_pattern.specs.Reached.{IsReached}
 use Rattle.pure_pattern.specs.Followed.{kept, IsFollowed, IsGivenSet, AreBeyond, IsStepped, AreSolvedUpTo, IsDecided}
 use Rattle.pure_pattern.proofs.ListLaws.{map-reverse, each-reverse, each-back, first-last}
 use Rattle.pure_pattern.proofs.PartLaws.{becomes-within, low-pairs, low-images}

@@ -1,7 +1,6 @@
 -- What answers of calls say that put images in.
-use Rattle.std.proofs.Common.{◌≡◌, ℕ, inl, inr, List, [], ◌∷◌, ◌++◌, map}
-use Rattle.std.specs.Prelude.{Result, Ok, Err}
-use Rattle.pure_text.specs.Lists.{Each}
+use Rattle.std.proofs.Common.{◌≡◌, ℕ, inl, inr, List, ◌∷◌, ◌++◌, map}
+use Rattle.std.specs.Prelude.{Err}
 use Rattle.pure_typ.specs.declared.grow.Grow.{Grow}
 use Rattle.pure_typ.specs.declared.grow.Grow.TheVariants as grown
 use Rattle.pure_definitions.specs.Terms.Subst.{TermBind, term_image}

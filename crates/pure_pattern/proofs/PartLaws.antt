@@ -1,5 +1,5 @@
 -- The pairs of the arguments of two sides are within the limits, and the bound variables in closed terms within them are small.
-use Rattle.std.proofs.Common.{◌≡◌, ℕ, ◌+◌, ◌<◌, ◌≤◌, List, [], ◌∷◌, refl, sym, subst, arith}
+use Rattle.std.proofs.Common.{ℕ, ◌<◌, ◌≤◌, List, [], ◌∷◌, arith}
 use Rattle.pure_text.specs.Lists.{Each}
 use Rattle.pure_text.proofs.ListLaws.{each-append, each_imply}
 use Rattle.pure_definitions.specs.Types.Typ.{Typ}
@@ -9,7 +9,7 @@ use Rattle.pure_definitions.specs.Terms.Typing.{HasType}
 use Rattle.pure_definitions.proofs.MeasureLemmas.{closed_exactly}
 use Rattle.pure_term_laws.proofs.TypingLaws.{typed-closed}
 use Rattle.pure_logic.specs.Derivable.{Pair}
-use Rattle.pure_unify_definitions.specs.Fronts.{abstractions, term_body, arguments, below, pairs_below, argument_pairs}
+use Rattle.pure_unify_definitions.specs.Fronts.{abstractions, term_body, arguments, below, pairs_below}
 use Rattle.pure_pattern_laws.specs.Treatment.{Becomes, IsTreated}
 use Rattle.pure_pattern_laws.specs.Answers.{AreLongOfOneTyp}
 use Rattle.pure_pattern_laws.specs.Laws.{IsPatternBind}

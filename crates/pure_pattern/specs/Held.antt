@@ -1,8 +1,8 @@
 -- States as they are held, what is made of them, and what steps answer.
-use Rattle.std.specs.Prelude.{◌≡◌, ℕ, List, [], ◌∷◌, ◌++◌, map, reverse, Result, Ok, Err}
+use Rattle.std.specs.Prelude.{◌≡◌, List, ◌∷◌, reverse, Result, Ok, Err}
 use Rattle.std.specs.Global.{Vec}
 use Rattle.pure_text.specs.Lists.{Each}
-use Rattle.pure_definitions.specs.Terms.Term.{Term, IsWithin}
+use Rattle.pure_definitions.specs.Terms.Term.{IsWithin}
 use Rattle.pure_definitions.specs.Terms.Subst.{TermBind}
 use Rattle.pure_typ.specs.declared.grow.Grow.{Grow}
 use Rattle.pure_typ.specs.declared.grow.Grow.TheVariants as grown

@@ -177,7 +177,7 @@ module _ (terms : Term → Term) (long : IsLongMap terms) (x i : ℕ) (V : Typ) 
   stays-held : (bs : List Typ) (t : Term) → image ≡ front t → Occurs (Var x i V) t → image ≡ Var x i V → IsHeld bs t
   stays-held bs t e o same = record {
     room = λ n d low h. (let fronts = front-size t in let small = fronts.0 in let shallow = fronts.1 in let size = h.size in let depth = h.depth in
-    let own : term_size image ≡ term_size (front t) = ap term_size e in let deep : term_depth image ≡ term_depth (front t) = ap term_depth e in (omega arith, omega arith));
+        let own : term_size image ≡ term_size (front t) = ap term_size e in let deep : term_depth image ≡ term_depth (front t) = ap term_depth e in (omega arith, omega arith));
     inside = λ y j W p. subst (λ v. Occurs v t) (sym (variable y j W (subst (Occurs (Var y j W)) same p))) o;
   }
     where
@@ -189,9 +189,9 @@ module _ (terms : Term → Term) (long : IsLongMap terms) (x i : ℕ) (V : Typ) 
     room = λ n most low k. (
       (let size = k.size in let whole : term_size image ≡ total (weighed binder Ts) + term_size c = ap term_size e ∙ size-below Ts c in let same = renaming-size r c in let light = lighter binder bs zs Ts d h in omega arith),
       (let depth = k.depth in let same = renaming-depth r c in let few = lighter one bs zs Ts d h in
-      let shallow : typ_depth (function_typ Ts R) ≤ most = subst (λ T. typ_depth T ≤ most) typ low in
-      let deep = depth-below 0 most Ts R c (omega arith) (omega arith) in
-      let whole : term_depth image ≡ term_depth (below Ts c) = ap term_depth e in omega arith),
+          let shallow : typ_depth (function_typ Ts R) ≤ most = subst (λ T. typ_depth T ≤ most) typ low in
+          let deep = depth-below 0 most Ts R c (omega arith) (omega arith) in
+          let whole : term_depth image ≡ term_depth (below Ts c) = ap term_depth e in omega arith),
     );
     inside = λ y j W o. occurs-renaming y j W r c (of-below y j W Ts c (subst (Occurs (Var y j W)) e o));
   }

@@ -229,7 +229,7 @@ module _ (n : ℕ) (p : Pair) (bs : List TermBind) (s : State) (patterns : IsPat
     among = in-append_left (bind_put terms k.entry) olds bs (in-map (bind_put terms) k.entry s.binds k.among);
     given = k.given;
     bounds = λ others o. subst (λ t. IsBounded t (put_in others (put_in terms k.entry.image))) (sym (put-put others terms o map_of u R pattern))
-    (subst (IsBounded (put_in (λ v. put_in others (terms v)) u)) (sym (put-put others terms o map_of k.entry.image k.entry.typ (image-pattern k.entry k.among))) (k.bounds (λ v. put_in others (terms v)) (both-map others terms o map_of)));
+        (subst (IsBounded (put_in (λ v. put_in others (terms v)) u)) (sym (put-put others terms o map_of k.entry.image k.entry.typ (image-pattern k.entry k.among))) (k.bounds (λ v. put_in others (terms v)) (both-map others terms o map_of)));
   }
 
   -- The image of a new variable that is set is bounded by one in which it occurred.
@@ -243,8 +243,8 @@ module _ (n : ℕ) (p : Pair) (bs : List TermBind) (s : State) (patterns : IsPat
         among = in-append_left (bind_put terms k.entry) olds bs (in-map (bind_put terms) k.entry s.binds k.among);
         given = k.given;
         bounds = λ others o. subst (λ t. IsBounded (put_in others t) (put_in others (put_in terms k.entry.image))) mine.image
-        (subst (IsBounded (put_in others (terms (term_variable b)))) (sym (put-put others terms o map_of k.entry.image k.entry.typ image))
-        (image-bounded (λ v. put_in others (terms v)) (both-map others terms o map_of).long b.name b.index b.typ k.entry.image long.0 long.1 image.pattern k.there (typ-within (term_variable b) b.typ p refl mine.there within)));
+            (subst (IsBounded (put_in others (terms (term_variable b)))) (sym (put-put others terms o map_of k.entry.image k.entry.typ image))
+            (image-bounded (λ v. put_in others (terms v)) (both-map others terms o map_of).long b.name b.index b.typ k.entry.image long.0 long.1 image.pattern k.there (typ-within (term_variable b) b.typ p refl mine.there within)));
       }
 
   of-olds : (b : TermBind) (cs : List TermBind) → IsIn b (map (bind_put terms) cs) → (c : TermBind) × IsIn c cs × (b ≡ bind_put terms c)

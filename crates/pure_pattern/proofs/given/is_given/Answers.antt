@@ -1,4 +1,4 @@
-use Rattle.std.proofs.Common.{sym, ap, ◌∙◌}
+use Rattle.std.proofs.Common.{sym}
 use Rattle.pure_pattern.proofs.GivenLaws.{none-above_pairs}
 use Rattle.pure_pattern.proofs.given.is_given.Goals as goal
 

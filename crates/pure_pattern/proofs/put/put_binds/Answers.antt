@@ -5,7 +5,7 @@ use Rattle.pure_text.proofs.ListLaws.{each-append}
 use Rattle.pure_definitions.specs.Terms.Subst.{term_image}
 use Rattle.pure_pattern_bounds.specs.Put.{bind_put}
 use Rattle.pure_pattern.specs.Held.{IsLowImage, IsImageWithin}
-use Rattle.pure_pattern.proofs.ListLaws.{map-more, map-over}
+use Rattle.pure_pattern.proofs.ListLaws.{map-more}
 use Rattle.pure_pattern.proofs.MadeLaws.{none-made}
 use Rattle.pure_pattern.proofs.put.put_binds.Goals as goal
 

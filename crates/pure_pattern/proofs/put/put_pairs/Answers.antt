@@ -6,7 +6,7 @@ use Rattle.pure_definitions.specs.Terms.Subst.{term_image}
 use Rattle.pure_pattern_rules.specs.Treated.{AreSidesWithin}
 use Rattle.pure_pattern_bounds.specs.Put.{pair_put}
 use Rattle.pure_pattern.specs.Held.{IsLowPair}
-use Rattle.pure_pattern.proofs.ListLaws.{map-more, map-over}
+use Rattle.pure_pattern.proofs.ListLaws.{map-more}
 use Rattle.pure_pattern.proofs.MadeLaws.{none-made}
 use Rattle.pure_pattern.proofs.put.put_pairs.Goals as goal
 

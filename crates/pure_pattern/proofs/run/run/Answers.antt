@@ -1,6 +1,6 @@
-use Rattle.std.proofs.Common.{◌+◌, reverse, ap, sym, subst, arith}
-use Rattle.pure_pattern_laws.specs.Steps.{State, start}
-use Rattle.pure_pattern.specs.Held.{seen, behind}
+use Rattle.std.proofs.Common.{◌+◌, reverse, arith}
+use Rattle.pure_pattern_laws.specs.Steps.{start}
+use Rattle.pure_pattern.specs.Held.{seen}
 use Rattle.pure_pattern.proofs.FollowLaws.{followed-held, followed-none, followed-behind, followed-out, halted}
 use Rattle.pure_pattern.proofs.run.run.Goals as goal
 

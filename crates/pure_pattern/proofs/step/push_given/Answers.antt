@@ -1,4 +1,4 @@
-use Rattle.std.proofs.Common.{◌∙◌, sym}
+use Rattle.std.proofs.Common.{◌∙◌}
 use Rattle.pure_pattern.proofs.FollowLaws.{kept-one, kept-none}
 use Rattle.pure_pattern.proofs.step.push_given.Goals as goal
 

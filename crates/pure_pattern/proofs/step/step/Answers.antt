@@ -1,4 +1,3 @@
-use Rattle.pure_pattern_laws.specs.Steps.{IsWithinState}
 use Rattle.pure_pattern.specs.Held.{seen}
 use Rattle.pure_pattern.proofs.PartLaws.{becomes-within}
 use Rattle.pure_pattern.proofs.FollowLaws.{followed-long, followed-patterns, followed-sides, followed-low, followed-images, followed-low_images, followed-never, followed-new, replaced-stepped, set-stepped}
