@@ -1,1 +1,3 @@
 pub mod Treated
+pub mod Flexible
+pub mod Parts
