@@ -106,7 +106,7 @@ pub image-normal : (index : ℕ) (Ts : List Typ) (h : Term) (Us : List Typ) → 
 image-normal index Ts h Us k = let n = rigid-normal h k in below-normal Ts (applied h (new_arguments index Ts 0 Us)) (applied-normal h (new_arguments index Ts 0 Us) n.0 n.1 (new-normal index Ts 0 Us))
 
 -- A flexible side has its places.
-flexible-some : (t : Term) → IsPattern t → is_flexible t ≡ true → (x i : ℕ) × (T : Typ) × (zs : List ℕ) × IsFlexibleSide t x i T zs
+pub flexible-some : (t : Term) → IsPattern t → is_flexible t ≡ true → (x i : ℕ) × (T : Typ) × (zs : List ℕ) × IsFlexibleSide t x i T zs
 flexible-some t p e =
     let v = schematic-is (head t) e in
     let places = pattern-places (term_body t) e (body-pattern t p) in

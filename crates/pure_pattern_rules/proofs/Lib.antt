@@ -1,0 +1,5 @@
+pub mod SelectionLaws
+pub mod OccursLaws
+pub mod SideLaws
+pub mod ImageLaws
+pub mod TreatedLaws

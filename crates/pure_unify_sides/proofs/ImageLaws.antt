@@ -1,5 +1,5 @@
 -- The arguments of images.
-use Rattle.std.proofs.Common.{◌≡◌, ℕ, ◌+◌, ◌<◌, List, length, ap, sym, ◌∙◌, arith}
+use Rattle.std.proofs.Common.{◌≡◌, ℕ, zero, ◌+◌, ◌<◌, List, length, ap, sym, ◌∙◌, arith}
 use Rattle.pure_definitions.specs.Types.Typ.{Typ, Con, none, also, typ_depth, arrow}
 use Rattle.pure_definitions.specs.Terms.Term.{Term, Var, App}
 use Rattle.pure_unify_definitions.specs.Fronts.{domains, applied, bounds, function_typ}
