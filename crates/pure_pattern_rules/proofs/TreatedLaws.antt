@@ -4,9 +4,8 @@ use Rattle.std.proofs.lemmas.Bool.{eq-eqb}
 use Rattle.std.specs.Prelude.{if◌then◌else◌}
 use Rattle.pure_text.specs.Lists.{IsIn}
 use Rattle.pure_definitions.specs.Types.Typ.{Typ}
-use Rattle.pure_definitions.specs.Terms.Term.{Term, Var, Bound, IsWithin}
+use Rattle.pure_definitions.specs.Terms.Term.{Term, Var}
 use Rattle.pure_definitions.specs.Terms.Bounds.{Occurs}
-use Rattle.pure_definitions.specs.Terms.Subst.{TermBind}
 use Rattle.pure_definitions.specs.Terms.Typing.{HasType}
 use Rattle.pure_definitions.specs.Reduction.Beta.{IsBetaNormal}
 use Rattle.pure_definitions.specs.Reduction.Eta.{IsLongForm}
@@ -14,17 +13,19 @@ use Rattle.pure_typ.specs.declared.grow.Grow.{Grow}
 use Rattle.pure_typ.specs.declared.grow.Grow.TheVariants.{Big, Memory}
 use Rattle.pure_eta.specs.Answer.{IsLongAnswer}
 use Rattle.pure_eta.proofs.FormLaws.{each_typed_normal_term_has_long_form}
-use Rattle.pure_unify_definitions.specs.Fronts.{head, is_flexible, domains}
+use Rattle.pure_unify_definitions.specs.Fronts.{head, term_body, is_flexible}
+use Rattle.pure_logic.specs.Derivable.{Pair}
 use Rattle.pure_unify_definitions.specs.Node.{bind}
-use Rattle.pure_pattern_laws.specs.Patterns.{IsPattern}
+use Rattle.pure_pattern_laws.specs.Patterns.{HasPlaces, IsPattern}
 use Rattle.pure_pattern_laws.specs.Places.{at_place}
 use Rattle.pure_pattern_laws.specs.Treatment as rules
-use Rattle.pure_pattern_laws.specs.Treatment.{own_bounds, agreeing_image, left_image, right_image, IsFlexibleSide, AreMixed, IsTreated}
-use Rattle.pure_pattern_laws.proofs.SomeLaws.{bounds-length, flexible-some}
-use Rattle.pure_pattern_rules.specs.Treated.{seen, AreBindsWithin, AreImagesWithin, IsAnswered}
+use Rattle.pure_pattern_laws.specs.Treatment.{agreeing_image, left_image, right_image, IsFlexibleSide, on_left, on_right, IsTreated}
+use Rattle.pure_pattern_laws.proofs.SomeLaws.{flexible-some}
+use Rattle.pure_pattern_rules.specs.Treated.{seen, IsAnswered, IsTreatedAs}
+use Rattle.pure_pattern_rules.specs.Flexible.{IsFlexibleAs}
+use Rattle.pure_pattern_rules.specs.declared.flexible.Flexible.{Flexible}
 use Rattle.pure_pattern_rules.specs.Parts.{IsSet, AreSet, IsHeadTreated, IsMixedTreated}
 use Rattle.pure_pattern_rules.specs.declared.treatment.Treatment.{Treatment}
-use Rattle.pure_pattern_rules.specs.declared.treatment.Treatment.TheVariants.{Becomes, Sets, Never}
 
 -- An answer with one property has another that follows.
 pub answered : (P Q : rules.Treatment → Type 0) (r : Result Treatment Grow) → ((how : rules.Treatment) → P how → Q how) → IsAnswered P r → IsAnswered Q r
