@@ -3,3 +3,5 @@ pub mod OccursLaws
 pub mod SideLaws
 pub mod ImageLaws
 pub mod TreatedLaws
+pub mod HeadLaws
+pub mod RigidLaws

@@ -1,5 +1,5 @@
 -- The sides of a pair: places of flexible ones, heads of rigid ones, and how deep their types are.
-use Rattle.std.proofs.Common.{◌≡◌, ℕ, zero, suc, ◌<◌, ◌≤◌, ◌^◌, List, [], ◌∷◌, length, true, false, max, ap, refl, sym, subst, ◌∙◌, arith, Some, nat_eq}
+use Rattle.std.proofs.Common.{◌≡◌, ℕ, zero, suc, ◌+◌, ◌<◌, inl, inr, ◌≤◌, ◌^◌, List, [], ◌∷◌, length, true, false, max, ap, refl, sym, subst, ◌∙◌, arith, Some, nat_eq}
 use Rattle.pure_definitions.specs.Types.Typ.{Typ, Con, none, also, typ_depth}
 use Rattle.pure_definitions.specs.Terms.Term.{Term, Const, Free, Var, Bound, Abs, App, term_depth, IsWithin}
 use Rattle.pure_unify_definitions.specs.Fronts.{term_body, front, head, is_flexible, domains, pair}
@@ -12,6 +12,8 @@ use Rattle.pure_pattern_laws.proofs.BuiltLaws.{below-of}
 use Rattle.pure_pattern_laws.proofs.ImageLaws.{pattern-places}
 use Rattle.pure_pattern_laws.proofs.ListLaws.{first-some}
 use Rattle.pure_pattern_laws.proofs.KeepLaws.{body-pattern, flexible-side, imitation-typed, left-long, right-long}
+use Rattle.pure_pattern_rules.specs.Flexible.{IsFlexibleAs}
+use Rattle.pure_pattern_rules.specs.declared.flexible.Flexible.{Flexible}
 use Rattle.pure_pattern_rules.specs.Parts.{IsRigidHead, IsImitable, AreFlexibleRigid}
 
 -- The arguments of a flexible side are distinct bound variables.
@@ -38,8 +40,11 @@ front-depth (App f a) = let inside = front-depth f in omega arith
 pub head_low : (t : Term) → IsWithin t → term_depth (head t) < 2 ^ 32
 head_low t within = let body = body-depth t in let inside = front-depth (term_body t) in let small = within.depth in omega arith
 
-pub typ_low : (t : Term) (x i : ℕ) (T : Typ) (zs : List ℕ) → IsWithin t → IsFlexibleSide t x i T zs → typ_depth T < 2 ^ 32
-typ_low t x i T zs within side = let low = head_low t within in let same : term_depth (head t) ≡ 1 + typ_depth T = ap term_depth side.variable in omega arith
+pub typ_low : (t l : Term) (f : Flexible) → t ≡ l → IsWithin t → IsFlexibleAs l f → typ_depth f.typ < 2 ^ 32
+typ_low t l f e within side =
+    let low = head_low t within in
+    let same : term_depth (head t) ≡ 1 + typ_depth f.typ = ap (λ (u : Term). term_depth (head u)) e ∙ ap term_depth side.variable in
+    omega arith
 
 -- A domain is less deep than the type.
 pub domain_low : (p : ℕ) (zs : List ℕ) (T U : Typ) (n : ℕ) → at_place p zs (domains T) ≡ Some U → typ_depth T < n → typ_depth U < n

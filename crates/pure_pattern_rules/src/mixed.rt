@@ -1,5 +1,5 @@
 //! Pairs of a flexible and a rigid side.
-ghost use Rattle.std.specs.Prelude.{◌<◌, ◌^◌, IfOk};
+ghost use Rattle.std.specs.Prelude.{◌≡◌, ◌<◌, ◌^◌, IfOk};
 ghost use Rattle.pure_definitions.specs.Types.Typ.{typ_depth};
 ghost use Rattle.pure_definitions.specs.Terms.Term as tree;
 ghost use Rattle.pure_definitions.specs.Terms.Term.{term_depth, IsWithin};
