@@ -10,12 +10,12 @@ returns-then-are_equal-clause-treated c =
 pub returns-then-is_flexible-clause-treated : goal.returns-then-is_flexible-clause-treated
 returns-then-is_flexible-clause-treated c =
     left_mixed c.args.index c.args.pair.now c.pair.inside.left c.pair.inside.right c.mixed.result (ap (λ (p : Pair). p.left) (sym c.pair.view_is)) (ap (λ (p : Pair). p.right) (sym c.pair.view_is)) (sym c.is_flexible.ensures ∙ c.if-is_flexible.true)
-    (sym c.is_flexible-2.ensures ∙ c.if-is_flexible-2.false) c.mixed.ensures.treated
+    (sym c.is_flexible-then-is_flexible.ensures ∙ c.if-is_flexible-2.false) c.mixed.ensures.treated
 
 pub returns-then-is_flexible-3-clause-treated : goal.returns-then-is_flexible-3-clause-treated
 returns-then-is_flexible-3-clause-treated c =
-    right_mixed c.args.index c.args.pair.now c.pair.inside.left c.pair.inside.right c.mixed-2.result (ap (λ (p : Pair). p.left) (sym c.pair.view_is)) (ap (λ (p : Pair). p.right) (sym c.pair.view_is)) (sym c.is_flexible.ensures ∙ c.if-is_flexible.false)
-    (sym c.is_flexible-3.ensures ∙ c.if-is_flexible-3.true) c.mixed-2.ensures.treated
+    right_mixed c.args.index c.args.pair.now c.pair.inside.left c.pair.inside.right c.mixed-then-is_flexible-3.result (ap (λ (p : Pair). p.left) (sym c.pair.view_is)) (ap (λ (p : Pair). p.right) (sym c.pair.view_is)) (sym c.is_flexible.ensures ∙ c.if-is_flexible.false)
+    (sym c.is_flexible-2.ensures ∙ c.if-is_flexible-3.true) c.mixed-then-is_flexible-3.ensures.treated
 
 pub returns-clause-treated : goal.returns-clause-treated
 returns-clause-treated c = c.both_rigid.ensures.treated c.args.index
