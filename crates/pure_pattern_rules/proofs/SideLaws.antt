@@ -1,5 +1,5 @@
 -- The sides of a pair: places of flexible ones, heads of rigid ones, and how deep their types are.
-use Rattle.std.proofs.Common.{◌≡◌, ℕ, zero, suc, ◌+◌, ◌<◌, inl, inr, ◌≤◌, ◌^◌, List, [], ◌∷◌, length, true, false, max, ap, refl, sym, subst, ◌∙◌, arith, Some, nat_eq}
+use Rattle.std.proofs.Common.{◌≡◌, ℕ, zero, ◌+◌, ◌<◌, inl, inr, ◌≤◌, ◌^◌, List, [], ◌∷◌, true, ap, ◌∙◌, arith, Some, nat_eq}
 use Rattle.pure_definitions.specs.Types.Typ.{Typ, Con, none, also, typ_depth}
 use Rattle.pure_definitions.specs.Terms.Term.{Term, Const, Free, Var, Bound, Abs, App, term_depth, IsWithin}
 use Rattle.pure_unify_definitions.specs.Fronts.{term_body, front, head, is_flexible, domains, pair}

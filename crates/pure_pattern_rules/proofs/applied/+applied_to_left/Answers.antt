@@ -1,4 +1,4 @@
-use Rattle.std.proofs.Common.{◌≡◌, ◌-◌, suc, refl, arith}
+use Rattle.std.proofs.Common.{◌≡◌, ◌-◌, suc, arith}
 use Rattle.pure_pattern_rules.proofs.SelectionLaws.{no_left, left_more}
 use Rattle.pure_pattern_rules.proofs.applied.+applied_to_left.Goals as goal
 

@@ -1,9 +1,5 @@
-use Rattle.std.proofs.Common.{◌≡◌, ◌^◌, List, ℕ, None, Some, subst, sym}
-use Rattle.pure_definitions.specs.Terms.Term.{Bound}
-use Rattle.pure_unify_definitions.specs.Fronts.{domains}
+use Rattle.std.proofs.Common.{◌^◌}
 use Rattle.pure_unify_sides.proofs.ImageLaws.{domains_few}
-use Rattle.pure_pattern_laws.specs.Places.{at_place}
-use Rattle.pure_pattern_laws.specs.Treatment.{own_bounds}
 use Rattle.pure_pattern_rules.proofs.SideLaws.{domain_low}
 use Rattle.pure_pattern_rules.proofs.HeadLaws.{bound_typed, bound_imitated, escapes_domains, escapes_bounds}
 use Rattle.pure_pattern_rules.proofs.mixed.bound_treated.Goals as goal
