@@ -1,3 +1,3 @@
 pub mod Treated
-pub mod Flexible
 pub mod Parts
+pub mod Flexible

@@ -4,9 +4,8 @@ ghost use Rattle.pure_definitions.specs.Types.Typ.{typ_depth};
 ghost use Rattle.pure_definitions.specs.Terms.Term.{Var};
 ghost use Rattle.pure_unify_definitions.specs.Fronts as fronts;
 ghost use Rattle.pure_pattern_laws.specs.Patterns.{IsPatternPair};
-ghost use Rattle.pure_pattern_laws.specs.Treatment as rules;
 ghost use Rattle.pure_pattern_rules.specs.Treated.{AreSidesWithin, IsAnswered, IsTreatedAs, AreImagesWithin};
-ghost use Rattle.pure_pattern_rules.specs.Parts.{IsSet, AreSet};
+ghost use Rattle.pure_pattern_rules.specs.Flexible.{IsSetTo, AreSetTo, agreeing_of, left_of, right_of};
 
 use crate::flexible::{Flexible, flexible_of};
 use crate::images::{agreeing_image, left_image, right_image};
@@ -24,14 +23,9 @@ fn is_same_variable(f: &Flexible, g: &Flexible) -> bool
 }
 
 /// One variable on both sides: those of its arguments are kept that agree.
-fn one_variable(
-    alloc: Global,
-    index: u32,
-    f: &Flexible,
-    g: &Flexible,
-) -> Result<Treatment, Grow>
+fn one_variable(alloc: Global, index: u32, f: &Flexible, g: &Flexible) -> Result<Treatment, Grow>
     requires { typ_depth f.now.typ < 2 ^ 32 }
-    ensures treated { IsAnswered (IsSet f.now.name f.now.index f.now.typ (rules.agreeing_image index f.now.typ f.now.places.items g.now.places.items)) result }
+    ensures treated { IsAnswered (IsSetTo f.now (agreeing_of index f.now g.now)) result }
     ensures within { IfOk result AreImagesWithin }
 {
     let image = agreeing_image(alloc, index, &f.typ, &f.places, &g.places)?;
@@ -39,15 +33,10 @@ fn one_variable(
 }
 
 /// Two variables: those of their arguments are kept that stand on both sides.
-fn two_variables(
-    alloc: Global,
-    index: u32,
-    f: &Flexible,
-    g: &Flexible,
-) -> Result<Treatment, Grow>
+fn two_variables(alloc: Global, index: u32, f: &Flexible, g: &Flexible) -> Result<Treatment, Grow>
     requires first { typ_depth f.now.typ < 2 ^ 32 }
     requires second { typ_depth g.now.typ < 2 ^ 32 }
-    ensures treated { IsAnswered (AreSet f.now.name f.now.index f.now.typ (rules.left_image index f.now.typ f.now.places.items g.now.places.items) g.now.name g.now.index g.now.typ (rules.right_image index g.now.typ f.now.places.items g.now.places.items)) result }
+    ensures treated { IsAnswered (AreSetTo f.now (left_of index f.now g.now) g.now (right_of index f.now g.now)) result }
     ensures within { IfOk result AreImagesWithin }
 {
     let image = left_image(alloc, index, &f.typ, &f.places, &g.places)?;

@@ -6,7 +6,8 @@ ghost use Rattle.pure_definitions.specs.Terms.Term.{term_depth, IsWithin};
 ghost use Rattle.pure_unify_definitions.specs.Fronts as fronts;
 ghost use Rattle.pure_unify_definitions.specs.Children as children;
 ghost use Rattle.pure_pattern_rules.specs.Treated.{IsAnswered, AreImagesWithin};
-ghost use Rattle.pure_pattern_rules.specs.Parts.{IsSet, IsRigidHead, IsImageTyped, IsImitable, IsHeadTreated, AreFlexibleRigid, IsMixedTreated};
+ghost use Rattle.pure_pattern_rules.specs.Parts.{IsRigidHead, IsImageTyped, AreFlexibleRigid, IsMixedTreated};
+ghost use Rattle.pure_pattern_rules.specs.Flexible.{IsSetTo, CanImitate, IsTreatedHead};
 
 use crate::applied::bound_at;
 use crate::flexible::{Flexible, flexible_of};
@@ -32,7 +33,7 @@ fn imitated(
     requires names { typ_depth typ.now < 2 ^ 32 }
     requires rigid { IsRigidHead head.value }
     requires typed { IsImageTyped index variable.now.typ head.value typ.now }
-    ensures treated { IsAnswered (IsSet variable.now.name variable.now.index variable.now.typ (children.image_of index (fronts.domains variable.now.typ) head.value (fronts.domains typ.now))) result }
+    ensures treated { IsAnswered (IsSetTo variable.now (children.image_of index (fronts.domains variable.now.typ) head.value (fronts.domains typ.now))) result }
     ensures within { IfOk result AreImagesWithin }
 {
     let image = image_with(alloc, &variable.typ, head, typ, index)?;
@@ -55,8 +56,8 @@ fn bound_treated(
     place: u32,
 ) -> Result<Treatment, Grow>
     requires few { typ_depth variable.now.typ < 2 ^ 32 }
-    requires imitable { IsImitable index variable.now.typ variable.now.places.items (tree.Bound place) }
-    ensures treated { IsAnswered (IsHeadTreated index variable.now.name variable.now.index variable.now.typ variable.now.places.items (tree.Bound place)) result }
+    requires imitable { CanImitate index variable.now (tree.Bound place) }
+    ensures treated { IsAnswered (IsTreatedHead index variable.now (tree.Bound place)) result }
     ensures within { IfOk result AreImagesWithin }
 {
     let Some(typ) = domain_at(place, &variable.places, &variable.typ) else {
@@ -79,8 +80,8 @@ fn head_treated(
 ) -> Result<Treatment, Grow>
     requires few { typ_depth variable.now.typ < 2 ^ 32 }
     requires low { term_depth head.now < 2 ^ 32 }
-    requires imitable { IsImitable index variable.now.typ variable.now.places.items head.now }
-    ensures treated { IsAnswered (IsHeadTreated index variable.now.name variable.now.index variable.now.typ variable.now.places.items head.now) result }
+    requires imitable { CanImitate index variable.now head.now }
+    ensures treated { IsAnswered (IsTreatedHead index variable.now head.now) result }
     ensures within { IfOk result AreImagesWithin }
 {
     match &head.node {
@@ -98,12 +99,7 @@ fn head_treated(
 }
 
 /// The treatment of a pair of a flexible and a rigid side.
-pub fn mixed(
-    alloc: Global,
-    index: u32,
-    flexible: &Term,
-    rigid: &Term,
-) -> Result<Treatment, Grow>
+pub fn mixed(alloc: Global, index: u32, flexible: &Term, rigid: &Term) -> Result<Treatment, Grow>
     requires sides { AreFlexibleRigid flexible.now rigid.now }
     requires flexible { IsWithin flexible.now }
     requires rigid { IsWithin rigid.now }

@@ -3,10 +3,9 @@ ghost use Rattle.std.specs.Prelude.{◌≡◌, [], ◌∷◌, IfOk};
 ghost use Rattle.pure_definitions.specs.Types.Typ as types;
 ghost use Rattle.pure_definitions.specs.Terms.Typing.{HasType};
 ghost use Rattle.pure_definitions.specs.Reduction.Beta.{IsBetaNormal};
-ghost use Rattle.pure_unify_definitions.specs.Node.{bind};
 ghost use Rattle.pure_pattern_laws.specs.Treatment as rules;
 ghost use Rattle.pure_pattern_rules.specs.Treated.{seen, IsAnswered, AreImagesWithin};
-ghost use Rattle.pure_pattern_rules.specs.Parts.{IsSet, AreSet};
+ghost use Rattle.pure_pattern_rules.specs.Flexible.{entry_for, IsSetTo, AreSetTo};
 
 use crate::flexible::Flexible;
 use crate::treatment::Treatment;
@@ -17,7 +16,7 @@ use std::alloc::{AllocError, Global};
 
 /// The entry that sets the variable to the image.
 fn entry(alloc: Global, variable: &Flexible, image: Term) -> Result<TermBind, AllocError>
-    ensures { IfOk result (λ b. b ≡ bind variable.now.name variable.now.index variable.now.typ image) }
+    ensures { IfOk result (λ b. b ≡ entry_for variable.now image) }
 {
     let typ = variable.typ.copy(alloc)?;
     Ok(TermBind {
@@ -30,7 +29,7 @@ fn entry(alloc: Global, variable: &Flexible, image: Term) -> Result<TermBind, Al
 
 /// The treatment that sets the variable to the image.
 fn set_one(alloc: Global, variable: &Flexible, image: Term) -> Result<Treatment, AllocError>
-    ensures { IfOk result (λ how. seen how ≡ rules.Sets (bind variable.now.name variable.now.index variable.now.typ image ∷ [])) }
+    ensures { IfOk result (λ how. seen how ≡ rules.Sets (entry_for variable.now image ∷ [])) }
 {
     let bind = entry(alloc, variable, image)?;
     let mut binds = Vec::new(alloc);
@@ -46,7 +45,7 @@ fn set_two(
     second: &Flexible,
     other: Term,
 ) -> Result<Treatment, AllocError>
-    ensures { IfOk result (λ how. seen how ≡ rules.Sets (bind variable.now.name variable.now.index variable.now.typ image ∷ bind second.now.name second.now.index second.now.typ other ∷ [])) }
+    ensures { IfOk result (λ how. seen how ≡ rules.Sets (entry_for variable.now image ∷ entry_for second.now other ∷ [])) }
 {
     let bind = entry(alloc, variable, image)?;
     let mut binds = Vec::new(alloc);
@@ -60,7 +59,7 @@ fn set_two(
 pub fn set_to(alloc: Global, variable: &Flexible, image: &Term) -> Result<Treatment, Grow>
     requires typed { (T : types.Typ) × HasType [] image.now T }
     requires normal { IsBetaNormal image.now }
-    ensures treated { IsAnswered (IsSet variable.now.name variable.now.index variable.now.typ image.now) result }
+    ensures treated { IsAnswered (IsSetTo variable.now image.now) result }
     ensures within { IfOk result AreImagesWithin }
 {
     match long_form(alloc, image) {
@@ -84,7 +83,7 @@ pub fn set_both(
     requires normal { IsBetaNormal image.now }
     requires other_typed { (T : types.Typ) × HasType [] other.now T }
     requires other_normal { IsBetaNormal other.now }
-    ensures treated { IsAnswered (AreSet variable.now.name variable.now.index variable.now.typ image.now second.now.name second.now.index second.now.typ other.now) result }
+    ensures treated { IsAnswered (AreSetTo variable.now image.now second.now other.now) result }
     ensures within { IfOk result AreImagesWithin }
 {
     let long = match long_form(alloc, image) {
