@@ -5,3 +5,4 @@ pub mod ImageLaws
 pub mod TreatedLaws
 pub mod HeadLaws
 pub mod RigidLaws
+pub mod WideLaws

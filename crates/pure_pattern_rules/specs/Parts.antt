@@ -1,5 +1,5 @@
 -- Parts of a treatment: which variables are set to which images, and what the rules for one flexible side make of the other side's head.
-use Rattle.std.specs.Prelude.{◌≡◌, ℕ, [], ◌∷◌, List, length, true, false}
+use Rattle.std.specs.Prelude.{◌≡◌, ◌*◌, ◌<◌, ℕ, [], ◌∷◌, List, length, true, false}
 use Rattle.pure_text.specs.Lists.{IsIn}
 use Rattle.pure_definitions.specs.Types.Typ.{Typ}
 use Rattle.pure_definitions.specs.Terms.Term.{Term, Const, Free, Bound}
@@ -30,6 +30,10 @@ IsRigidHead _ = ⊥
 -- The image by imitation of a head that is written as h, of the type U, has the type T of its variable.
 abbrev pub IsImageTyped : (index : ℕ) → (T : Typ) → (h : Term) → (U : Typ) → Type 0
 IsImageTyped index T h U = HasType [] (image_of index (domains T) h (domains U)) T
+
+-- The new variables of such an image have so many arguments in all that it isn't within the limits: each argument and its type in the variable's are four nodes at least.
+abbrev pub IsWide : (T U : Typ) → Type 0
+IsWide T U = 50000 < length (domains U) * length (domains T)
 
 -- The head can be imitated by a variable of the type T that stands applied to zs, unless it escapes.
 pub record IsImitable (index : ℕ) (T : Typ) (zs : List ℕ) (k : Term) : Type 0 where

@@ -1,12 +1,13 @@
 //! Pairs of a flexible and a rigid side.
 ghost use Rattle.std.specs.Prelude.{◌≡◌, ◌<◌, ◌^◌, IfOk};
+ghost use Rattle.std.specs.Bool.{OnTrue};
 ghost use Rattle.pure_definitions.specs.Types.Typ.{typ_depth};
 ghost use Rattle.pure_definitions.specs.Terms.Term as tree;
 ghost use Rattle.pure_definitions.specs.Terms.Term.{term_depth, IsWithin};
 ghost use Rattle.pure_unify_definitions.specs.Fronts as fronts;
 ghost use Rattle.pure_unify_definitions.specs.Children as children;
 ghost use Rattle.pure_pattern_rules.specs.Treated.{IsAnswered, AreImagesWithin};
-ghost use Rattle.pure_pattern_rules.specs.Parts.{IsRigidHead, IsImageTyped, AreFlexibleRigid, IsMixedTreated};
+ghost use Rattle.pure_pattern_rules.specs.Parts.{IsRigidHead, IsImageTyped, IsWide, AreFlexibleRigid, IsMixedTreated};
 ghost use Rattle.pure_pattern_rules.specs.Flexible.{IsSetTo, CanImitate, IsTreatedHead};
 
 use crate::applied::bound_at;
@@ -16,10 +17,21 @@ use crate::sets::set_to;
 use crate::treatment::Treatment;
 use pure_pattern_terms::domain_at;
 use pure_term::{Term, TermNode, Typ, copied};
-use pure_typ::Grow;
+use pure_typ::{Grow, MAX_SIZE};
 use pure_unify_sides::{domain_count, head, image_with};
 use std::alloc::{AllocError, Global};
 use std::sync::Arc;
+
+/// Whether the image by imitation of a head of the second type is so wide that it needn't be made.
+fn is_wide(typ: &Typ, head_typ: &Typ) -> bool
+    requires few { typ_depth typ.now < 2 ^ 32 }
+    requires names { typ_depth head_typ.now < 2 ^ 32 }
+    ensures { OnTrue result (IsWide typ.now head_typ.now) }
+{
+    let many = domain_count(head_typ);
+    let each = domain_count(typ);
+    many.saturating_mul(each) > MAX_SIZE / 4
+}
 
 /// The variable is set to the imitation of the head, which has this type.
 fn imitated(
@@ -36,6 +48,9 @@ fn imitated(
     ensures treated { IsAnswered (IsSetTo variable.now (children.image_of index (fronts.domains variable.now.typ) head.value (fronts.domains typ.now))) result }
     ensures within { IfOk result AreImagesWithin }
 {
+    if is_wide(&variable.typ, typ) {
+        return Err(Grow::Big);
+    }
     let image = image_with(alloc, &variable.typ, head, typ, index)?;
     set_to(alloc, variable, &image)
 }
