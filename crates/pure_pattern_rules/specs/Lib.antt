@@ -1,1 +1,3 @@
 pub mod Treated
+pub mod Parts
+pub mod Flexible

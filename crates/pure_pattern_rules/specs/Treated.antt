@@ -31,8 +31,12 @@ AreImagesWithin (Becomes pairs) = Unit {0}
 AreImagesWithin (Sets binds) = AreBindsWithin binds.items
 AreImagesWithin Never = Unit {0}
 
--- The answer is the treatment of the pair; or `Big` where the treatment sets variables to images of which one isn't within the limits; or `Memory`.
+-- The answer is a treatment with the property; or `Big` where one that has it sets variables to images of which one isn't within the limits; or `Memory`.
+abbrev pub IsAnswered : (rules.Treatment → Type 0) → Result Treatment Grow → Type 0
+IsAnswered holds (Ok how) = holds (seen how)
+IsAnswered holds (Err Big) = (bs : List TermBind) × holds (rules.Sets bs) × (¬ AreBindsWithin bs)
+IsAnswered holds (Err Memory) = Unit {0}
+
+-- It is so with the treatment of the pair.
 abbrev pub IsTreatedAs : (index : ℕ) → Pair → Result Treatment Grow → Type 0
-IsTreatedAs index p (Ok how) = IsTreated index p.left p.right (seen how)
-IsTreatedAs index p (Err Big) = (bs : List TermBind) × IsTreated index p.left p.right (rules.Sets bs) × (¬ AreBindsWithin bs)
-IsTreatedAs index p (Err Memory) = Unit {0}
+IsTreatedAs index p answer = IsAnswered (IsTreated index p.left p.right) answer
