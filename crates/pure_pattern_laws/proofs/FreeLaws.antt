@@ -53,12 +53,12 @@ in-below : (v : Term) (Ts : List Typ) (t : Term) → Occurs v t → Occurs v (be
 in-below v [] t o = o
 in-below v (T ∷ Ts) t o = inr (in-below v Ts t o)
 
-of-below : (x i : ℕ) (T : Typ) (Ts : List Typ) (t : Term) → Occurs (Var x i T) (below Ts t) → Occurs (Var x i T) t
+pub of-below : (x i : ℕ) (T : Typ) (Ts : List Typ) (t : Term) → Occurs (Var x i T) (below Ts t) → Occurs (Var x i T) t
 of-below x i T [] t o = o
 of-below x i T (V ∷ Ts) t (inl e) = absurd (cc)
 of-below x i T (V ∷ Ts) t (inr o) = of-below x i T Ts t o
 
-of-body : (v : Term) (t : Term) → Occurs v (term_body t) → Occurs v t
+pub of-body : (v : Term) (t : Term) → Occurs v (term_body t) → Occurs v t
 of-body v (Const c V) o = o
 of-body v (Free y V) o = o
 of-body v (Var y j V) o = o
@@ -90,15 +90,15 @@ argument-occurs v (App f b) a m o = elim (in_split a (arguments f) (b ∷ []) m)
     last (inr n) = absurd n
 
 -- What occurs in a pattern with images put in, occurs in the image of a variable in it.
-record IsFromImage (terms : Term → Term) (t : Term) (x i : ℕ) (T : Typ) : Type 0 where
-  name : ℕ
-  index : ℕ
-  typ : Typ
-  there : Occurs (Var name index typ) t
-  inside : Occurs (Var x i T) (terms (Var name index typ))
+pub record IsFromImage (terms : Term → Term) (t : Term) (x i : ℕ) (T : Typ) : Type 0 where
+  pub name : ℕ
+  pub index : ℕ
+  pub typ : Typ
+  pub there : Occurs (Var name index typ) t
+  pub inside : Occurs (Var x i T) (terms (Var name index typ))
 
 module _ (terms : Term → Term) (long : IsLongMap terms) (x i : ℕ) (T : Typ) where
-  abbrev IsFrom : Term → Type 0
+  abbrev pub IsFrom : Term → Type 0
   IsFrom t = IsFromImage terms t x i T
 
   from-part : (t u : Term) → ((v : Term) → Occurs v t → Occurs v u) → IsFrom t → IsFrom u
@@ -134,7 +134,7 @@ module _ (terms : Term → Term) (long : IsLongMap terms) (x i : ℕ) (T : Typ) 
   by_test f a false o h k = k refl o
 
   mutual
-    from-image : (bs : List Typ) (t : Term) (R : Typ) → IsLong bs t t R → IsPattern t → Occurs (Var x i T) (put_in terms t) → IsFrom t
+    pub from-image : (bs : List Typ) (t : Term) (R : Typ) → IsLong bs t t R → IsPattern t → Occurs (Var x i T) (put_in terms t) → IsFrom t
     from-image bs (Const c V) R h p o = absurd (cc)
     from-image bs (Free y V) R h p o = absurd (cc)
     from-image bs (Bound q) R h p o = absurd (cc)
@@ -217,10 +217,10 @@ record AreSet (index : ℕ) (l r : Term) (bs : List TermBind) : Type 0 where
   there : Each (λ b. Occurs (term_variable b) l ⊎ Occurs (term_variable b) r) bs
   distinct : AreDistinct (map term_variable bs)
 
-side-occurs : (t : Term) (x i : ℕ) (T : Typ) (zs : List ℕ) → IsFlexibleSide t x i T zs → Occurs (Var x i T) t
+pub side-occurs : (t : Term) (x i : ℕ) (T : Typ) (zs : List ℕ) → IsFlexibleSide t x i T zs → Occurs (Var x i T) t
 side-occurs t x i T zs h = of-body (Var x i T) t (front-occurs x i T (term_body t) h.variable)
 
-mixed-occurs : (l r f k v : Term) → AreMixed l r f k → Occurs v f → Occurs v l ⊎ Occurs v r
+pub mixed-occurs : (l r f k v : Term) → AreMixed l r f k → Occurs v f → Occurs v l ⊎ Occurs v r
 mixed-occurs l r f k v (on_left a b e g) o = inl (subst (Occurs v) e o)
 mixed-occurs l r f k v (on_right a b e g) o = inr (subst (Occurs v) e o)
 

@@ -87,7 +87,7 @@ own-normal : (n : ℕ) → Each IsBetaNormal (bounds n)
 own-normal zero = tt
 own-normal (suc n) = (tt, own-normal n)
 
-selection-normal : (index : ℕ) (T : Typ) (Us : List Typ) (us : List Term) (ks : List ℕ) → us ≡ bound_terms ks → IsBetaNormal (selection index T Us us)
+pub selection-normal : (index : ℕ) (T : Typ) (Us : List Typ) (us : List Term) (ks : List ℕ) → us ≡ bound_terms ks → IsBetaNormal (selection index T Us us)
 selection-normal index T Us us ks e = below-normal (domains T) (applied (Var 0 index (function_typ Us (range T))) us) (applied-normal (Var 0 index (function_typ Us (range T))) us (λ x. x) tt (subst (Each IsBetaNormal) (sym e) (bounds-normal ks)))
 
 new-normal : (index : ℕ) (Ts : List Typ) (name : ℕ) (Us : List Typ) → Each IsBetaNormal (new_arguments index Ts name Us)
@@ -102,11 +102,11 @@ rigid-normal (Var x i T) k = absurd k
 rigid-normal (Abs T b) k = absurd k
 rigid-normal (App f a) k = absurd k
 
-image-normal : (index : ℕ) (Ts : List Typ) (h : Term) (Us : List Typ) → IsRigidHead h → IsBetaNormal (image_of index Ts h Us)
+pub image-normal : (index : ℕ) (Ts : List Typ) (h : Term) (Us : List Typ) → IsRigidHead h → IsBetaNormal (image_of index Ts h Us)
 image-normal index Ts h Us k = let n = rigid-normal h k in below-normal Ts (applied h (new_arguments index Ts 0 Us)) (applied-normal h (new_arguments index Ts 0 Us) n.0 n.1 (new-normal index Ts 0 Us))
 
 -- A flexible side has its places.
-flexible-some : (t : Term) → IsPattern t → is_flexible t ≡ true → (x i : ℕ) × (T : Typ) × (zs : List ℕ) × IsFlexibleSide t x i T zs
+pub flexible-some : (t : Term) → IsPattern t → is_flexible t ≡ true → (x i : ℕ) × (T : Typ) × (zs : List ℕ) × IsFlexibleSide t x i T zs
 flexible-some t p e =
     let v = schematic-is (head t) e in
     let places = pattern-places (term_body t) e (body-pattern t p) in
@@ -122,7 +122,7 @@ at-in p (z ∷ zs) (u ∷ us) m e = by_cases (nat_eq p z) refl m (λ k. at-in p 
     by_cases false t (inl s) rest = (let yes = eq-eqb p z s in absurd (cc))
     by_cases false t (inr k) rest = rest k
 
-bounds-length : (n : ℕ) → length (bounds n) ≡ n
+pub bounds-length : (n : ℕ) → length (bounds n) ≡ n
 bounds-length zero = refl
 bounds-length (suc n) = ap (λ m. suc m) (bounds-length n)
 

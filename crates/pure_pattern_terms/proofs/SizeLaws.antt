@@ -6,12 +6,12 @@ use Rattle.pure_definitions.specs.Types.Typ.{Typ}
 use Rattle.pure_definitions.specs.Terms.Term.{Term, Const, Free, Var, Bound, Abs, App, term_size, term_depth, term_eq}
 use Rattle.pure_definitions.specs.Terms.Subst.{TermBind, term_variable, term_image}
 use Rattle.pure_definitions.specs.Terms.Measures.{term_index_above}
+use Rattle.pure_definitions.specs.Models.Equality.{term_eq-same}
 use Rattle.pure_definitions.specs.Reduction.Eta.{abstraction_count}
 use Rattle.pure_unify_definitions.specs.Fronts.{front, term_body, is_schematic}
 use Rattle.pure_pattern_laws.specs.Putting.{place_in, renamed, put_application, put_in}
 use Rattle.pure_pattern_terms.specs.Room.{HaveRoom}
-use Rattle.pure_pattern_terms.specs.Images.{IsLowTerm, AreShallow, application_places, IsImageBody, StaysApplied}
-use Rattle.pure_pattern_terms.proofs.PatternLaws.{schematic-index}
+use Rattle.pure_pattern_terms.specs.Images.{IsLowTerm, AreShallow, AreFrom, application_places, IsImageBody, StaysApplied}
 use Rattle.pure_pattern_terms.proofs.LowLaws.{places-back-low}
 
 -- Renaming keeps size and depth.
@@ -62,21 +62,37 @@ put-flexible terms t f a e k = subst (λ u. put_in terms u ≡ put_application (
 pub put-rigid : (terms : Term → Term) (t f a : Term) → t ≡ App f a → is_schematic (front f) ≡ false → put_in terms t ≡ App (put_in terms f) (put_in terms a)
 put-rigid terms t f a e k = subst (λ u. put_in terms u ≡ App (put_in terms f) (put_in terms a)) (sym e) (rw k refl)
 
--- A term without schematic variables stays.
-rigid-front : (t : Term) → term_index_above t ≡ 0 → is_schematic (front t) ≡ false
-rigid-front t e = decided (is_schematic (front t)) refl
-  where
-    decided : (b : Bool) → is_schematic (front t) ≡ b → is_schematic (front t) ≡ false
-    decided true k = (let some = schematic-index t k in absurd (omega arith))
-    decided false k = k
+-- A term whose indexes are below those of the variables that are replaced stays.
+index-same : (b : TermBind) (x i : ℕ) (T : Typ) → term_variable b ≡ Var x i T → b.index ≡ i
+index-same b x i T e = cc
 
-pub ground_put : (binds : List TermBind) (t : Term) → term_index_above t ≡ 0 → put_in (term_image binds) t ≡ t
-ground_put binds (Const c T) e = refl
-ground_put binds (Free x T) e = refl
-ground_put binds (Var x i T) e = absurd (omega arith)
-ground_put binds (Bound p) e = refl
-ground_put binds (Abs T b) e = ap (Abs T) (ground_put binds b (omega arith))
-ground_put binds (App f a) e = put-rigid (term_image binds) (App f a) f a refl (rigid-front f (omega arith)) ∙ (λ l. App (ground_put binds f (omega arith) l) (ground_put binds a (omega arith) l))
+low-image : (from : ℕ) (binds : List TermBind) (x i : ℕ) (T : Typ) → AreFrom from binds → i < from → term_image binds (Var x i T) ≡ Var x i T
+low-image from [] x i T h k = refl
+low-image from (b ∷ bs) x i T h k = decided (term_eq (term_variable b) (Var x i T)) refl (low-image from bs x i T h.1 k)
+  where
+    decided : (test : Bool) → term_eq (term_variable b) (Var x i T) ≡ test → term_image bs (Var x i T) ≡ Var x i T → (if test then b.image else term_image bs (Var x i T)) ≡ Var x i T
+    decided true e rest = (let same = index-same b x i T (term_eq-same (term_variable b) (Var x i T) e) in let least = h.0 in absurd (omega arith))
+    decided false e rest = rest
+
+front-image : (from : ℕ) (binds : List TermBind) (t : Term) → AreFrom from binds → is_schematic (front t) ≡ true → term_index_above t ≤ from → StaysApplied (term_image binds (front t))
+front-image from binds (Const c T) h e k = absurd (cc)
+front-image from binds (Free x T) h e k = absurd (cc)
+front-image from binds (Var x i T) h e k = subst StaysApplied (sym (low-image from binds x i T h (omega arith))) (λ is. is)
+front-image from binds (Bound p) h e k = absurd (cc)
+front-image from binds (Abs T b) h e k = absurd (cc)
+front-image from binds (App f a) h e k = front-image from binds f h e (omega arith)
+
+pub low_put : (from : ℕ) (binds : List TermBind) (t : Term) → AreFrom from binds → term_index_above t ≤ from → put_in (term_image binds) t ≡ t
+low_put from binds (Const c T) h k = refl
+low_put from binds (Free x T) h k = refl
+low_put from binds (Var x i T) h k = low-image from binds x i T h (omega arith)
+low_put from binds (Bound p) h k = refl
+low_put from binds (Abs T b) h k = ap (Abs T) (low_put from binds b h (omega arith))
+low_put from binds (App f a) h k = decided (is_schematic (front f)) refl (λ l. App (low_put from binds f h (omega arith) l) (low_put from binds a h (omega arith) l))
+  where
+    decided : (test : Bool) → is_schematic (front f) ≡ test → App (put_in (term_image binds) f) (put_in (term_image binds) a) ≡ App f a → put_in (term_image binds) (App f a) ≡ App f a
+    decided true e same = put-flexible (term_image binds) (App f a) f a refl e ∙ put-stays (term_image binds (front f)) (App f a) (front-image from binds f h e (omega arith))
+    decided false e same = put-rigid (term_image binds) (App f a) f a refl e ∙ same
 
 -- Images are of small depth.
 pub shallow-image : (binds : List TermBind) (v : Term) → AreShallow binds → term_depth v < 2147483648 → term_depth (term_image binds v) < 2147483648

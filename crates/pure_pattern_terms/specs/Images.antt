@@ -1,5 +1,5 @@
 -- Images that are put into patterns, and which terms they can be put into.
-use Rattle.std.specs.Prelude.{◌≡◌, ℕ, ◌+◌, ◌<◌, List, map, reverse}
+use Rattle.std.specs.Prelude.{◌≡◌, ℕ, ◌+◌, ◌<◌, ◌≤◌, List, Option, Some, None, map, reverse}
 use Rattle.pure_text.specs.Lists.{Each}
 use Rattle.pure_definitions.specs.Terms.Term.{Term, term_depth}
 use Rattle.pure_definitions.specs.Terms.Subst.{TermBind}
@@ -27,3 +27,12 @@ IsImageBody image body = IsAbs image × (body ≡ term_body image)
 -- The image is no abstraction.
 abbrev pub StaysApplied : Term → Type 0
 StaysApplied image = ¬ IsAbs image
+
+-- The variables that are replaced have indexes of `from` and more.
+abbrev pub AreFrom : (from : ℕ) → List TermBind → Type 0
+AreFrom from binds = Each (λ b. from ≤ b.index) binds
+
+-- what stands in place of the term: what it was made into; or the term, where it wasn't made anew
+abbrev pub became : Term → Option Term → Term
+became t None = t
+became t (Some u) = u

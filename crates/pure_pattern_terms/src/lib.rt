@@ -13,5 +13,5 @@ pub use places::{place_of, places_of};
 pub use put::put_in;
 pub use refused::{first_no_pattern, first_with_schematic_typ};
 pub use renaming::renamed;
-pub use selections::{agreeing_typ, domain_at, left_typ, right_typ};
+pub use selections::{agreeing_typ, domain_at, left_typ, right_typ, stands_in};
 pub use tests::{has_schematic_typ, is_pattern};

@@ -38,7 +38,7 @@ pub fn agreeing_typ(alloc: Global, typ: &Typ, zs: &[u32], ws: &[u32]) -> Result<
 }
 
 /// Whether the bound variable stands in the list.
-fn stands_in(z: u32, ws: &[u32]) -> bool
+pub fn stands_in(z: u32, ws: &[u32]) -> bool
     ensures { result ≡ list_any (nat_eq z) ws.now }
 {
     let Some((w, ws)) = ws.split_first() else {

@@ -1,26 +1,13 @@
 -- The first of the images from a number on.
 use Rattle.std.proofs.Common.{◌≡◌, ◌≢◌, ℕ, zero, suc, ◌+◌, ◌-◌, ◌<◌, ◌≤◌, ◌^◌, List, [], ◌∷◌, ◌++◌, length, drop, length-drop, Bool, true, false, refl, ap, sym, subst, ◌∙◌, arith}
 use Rattle.std.specs.Prelude.{Option, Some, None, Result, Ok, Err, IfOk, MatchOption, if◌then◌else◌}
-use Rattle.pure_definitions.specs.Types.Typ.{Typ, Con, none, also, typ_depth, typ_eq, arrow}
-use Rattle.pure_definitions.specs.Terms.Term.{Term, Var, Bound, App}
-use Rattle.pure_unify_definitions.specs.Fronts.{domains, range, applied, bounds, function_typ}
-use Rattle.pure_unify_definitions.specs.Children.{imitations, projections, images, image_of, new_arguments}
+use Rattle.pure_definitions.specs.Types.Typ.{Typ, typ_depth, typ_eq, arrow}
+use Rattle.pure_definitions.specs.Terms.Term.{Term, Bound}
+use Rattle.pure_unify_definitions.specs.Fronts.{domains, range}
+use Rattle.pure_unify_definitions.specs.Children.{imitations, projections, images, image_of}
+use Rattle.pure_unify_sides.proofs.ImageLaws.{domains-deep}
 use Rattle.pure_unify.specs.declared.images.Taken.{Taken}
 use Rattle.pure_unify.specs.Images.{images_from, IsFirstOf, HasNoFit, IsFirstFit}
-
--- A type has fewer arrows than it is deep.
-domains-deep : (T : Typ) → length (domains T) < typ_depth T
-domains-deep (Con zero (also A (also B none))) = let rest = domains-deep B in omega arith
-domains-deep _ = omega arith
-
-pub domains_few : (T : Typ) (n : ℕ) → typ_depth T < n → length (domains T) < n
-domains_few T n h = let deep = domains-deep T in omega arith
-
--- One more new argument.
-pub applied_one_more : (index name : ℕ) (Ts : List Typ) (rest domain more : Typ) (f arg next done : Term) → rest ≡ arrow domain more → arg ≡ applied (Var name index (function_typ Ts domain)) (bounds (length Ts)) → next ≡ App f arg
-    → done ≡ applied next (new_arguments index Ts (name + 1) (domains more)) → done ≡ applied f (new_arguments index Ts name (domains rest))
-applied_one_more index name Ts rest domain more f arg next done e a n h =
-    h ∙ (ap (λ (u : Term). applied u (new_arguments index Ts (name + 1) (domains more))) (n ∙ ap (App f) a) ∙ ap (λ (T : Typ). applied f (new_arguments index Ts name (domains T))) (sym e))
 
 -- The places of arguments are few.
 pub places_few : (T rest : Typ) (from : ℕ) → typ_depth T < 2 ^ 32 → from < 2 ^ 32 → domains rest ≡ drop from (domains T) → from + length (domains rest) < 2 ^ 32

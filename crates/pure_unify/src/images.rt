@@ -6,8 +6,8 @@ ghost use Rattle.pure_unify_definitions.specs.Fronts as fronts;
 ghost use Rattle.pure_unify_definitions.specs.Children as children;
 ghost use Rattle.pure_unify.specs.Images.{images_from, HasNoFit, IsFirstFit, IsFirstOf, HasCountable};
 
-use pure_term::{Name, Term, TermNode, Typ, copied};
-use pure_unify_sides::{applied_to_bounds, function_to, range_of};
+use pure_term::{Term, TermNode, Typ, copied};
+use pure_unify_sides::{domain_count, image_with, range_of};
 use std::alloc::{AllocError, Global};
 use std::sync::Arc;
 
@@ -16,96 +16,6 @@ use std::sync::Arc;
 pub struct Taken {
     pub image: Term,
     pub next: u32,
-}
-
-/// How many arguments functions of the type take.
-fn count_of(t: &Typ) -> u32
-    requires { length (fronts.domains t.now) < 2 ^ 32 }
-    ensures { result ≡ length (fronts.domains t.now) }
-{
-    match t.as_arrow() {
-        Some((_, rest)) => count_of(rest) + 1,
-        None => 0,
-    }
-}
-
-/// A new variable of the given name and index: a function to the second type of the arguments that functions of the first take, applied to these.
-fn new_argument(
-    alloc: Global,
-    typ: &Typ,
-    range: &Typ,
-    name: u32,
-    index: u32,
-) -> Result<Arc<Term>, AllocError>
-    requires { length (fronts.domains typ.now) < 2 ^ 32 }
-    ensures { IfOk result (λ t. t.value ≡ fronts.applied (tree.Var name index (fronts.function_typ (fronts.domains typ.now) range.now)) (fronts.bounds (length (fronts.domains typ.now)))) }
-{
-    let count = count_of(typ);
-    let typ = function_to(alloc, typ, range)?;
-    let node = TermNode::Var {
-        name: Name(name),
-        index,
-        typ,
-    };
-    let variable = Arc::new(alloc, Term { node })?;
-    let done = applied_to_bounds(alloc, variable, count)?;
-    Ok(done)
-}
-
-/// The function applied to new variables, one for each argument that functions of the type `rest` take.
-fn applied_to_new(
-    alloc: Global,
-    typ: &Typ,
-    function: Arc<Term>,
-    rest: &Typ,
-    name: u32,
-    index: u32,
-) -> Result<Arc<Term>, AllocError>
-    requires few { length (fronts.domains typ.now) < 2 ^ 32 }
-    requires names { name + length (fronts.domains rest.now) < 2 ^ 32 }
-    ensures { IfOk result (λ t. t.value ≡ fronts.applied function.value (children.new_arguments index (fronts.domains typ.now) name (fronts.domains rest.now))) }
-{
-    match rest.as_arrow() {
-        Some((domain, more)) => {
-            let arg = new_argument(alloc, typ, domain, name, index)?;
-            let next = Arc::new(alloc, Term::app(function, arg))?;
-            let done = applied_to_new(alloc, typ, next, more, name + 1, index)?;
-            Ok(done)
-        }
-        None => Ok(function),
-    }
-}
-
-/// The term below abstractions of the types of the arguments that functions of the type take.
-fn below_domains(alloc: Global, typ: &Typ, body: Arc<Term>) -> Result<Arc<Term>, AllocError>
-    ensures { IfOk result (λ t. t.value ≡ fronts.below (fronts.domains typ.now) body.value) }
-{
-    match typ.as_arrow() {
-        Some((domain, rest)) => {
-            let inside = below_domains(alloc, rest, body)?;
-            let typ = domain.copy(alloc)?;
-            let done = Arc::new(alloc, Term::abs(typ, inside))?;
-            Ok(done)
-        }
-        None => Ok(body),
-    }
-}
-
-/// The image of a variable of the type with this head, whose type is given.
-fn image_with(
-    alloc: Global,
-    typ: &Typ,
-    head: Arc<Term>,
-    head_typ: &Typ,
-    index: u32,
-) -> Result<Term, AllocError>
-    requires few { typ_depth typ.now < 2 ^ 32 }
-    requires names { typ_depth head_typ.now < 2 ^ 32 }
-    ensures { IfOk result (λ t. t ≡ children.image_of index (fronts.domains typ.now) head.value (fronts.domains head_typ.now)) }
-{
-    let body = applied_to_new(alloc, typ, head, head_typ, 0, index)?;
-    let image = below_domains(alloc, typ, body)?;
-    Ok(image.copy(alloc)?)
 }
 
 /// The imitation of the head, where there is one.
@@ -143,7 +53,7 @@ fn projection_to(
     requires place { place < length (fronts.domains typ.now) }
     ensures { IfOk result (λ t. t ≡ children.image_of index (fronts.domains typ.now) (tree.Bound (length (fronts.domains typ.now) - (place + 1))) (fronts.domains domain.now)) }
 {
-    let place = count_of(typ) - (place + 1);
+    let place = domain_count(typ) - (place + 1);
     let node = TermNode::Bound { place };
     let head = Arc::new(alloc, Term { node })?;
     let image = image_with(alloc, typ, head, domain, index)?;

@@ -1,3 +1,4 @@
 pub mod HeadLaws
 pub mod SplitLemmas
 pub mod FirmLemmas
+pub mod ImageLaws

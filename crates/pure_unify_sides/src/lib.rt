@@ -10,5 +10,7 @@ mod split;
 pub use firm::occurs_firmly;
 pub use fronts::{front, head, is_flexible, is_schematic, term_body};
 pub use heads::{Heads, compared_heads};
-pub use images::{applied_to_bounds, function_to, range_of};
+pub use images::{
+    applied_to_bounds, below_domains, domain_count, function_to, image_with, range_of,
+};
 pub use split::push_argument_pairs;

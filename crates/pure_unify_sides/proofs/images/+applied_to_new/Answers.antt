@@ -1,7 +1,7 @@
 use Rattle.std.proofs.Common.{◌∙◌}
 use Rattle.pure_unify_definitions.specs.Fronts.{domains}
-use Rattle.pure_unify.proofs.ImageLaws.{applied_one_more}
-use Rattle.pure_unify.proofs.images.+applied_to_new.Goals as goal
+use Rattle.pure_unify_sides.proofs.ImageLaws.{applied_one_more}
+use Rattle.pure_unify_sides.proofs.images.+applied_to_new.Goals as goal
 
 pub returns-in_ok-done-in-Some : goal.returns-in_ok-done-in-Some
 returns-in_ok-done-in-Some t c =

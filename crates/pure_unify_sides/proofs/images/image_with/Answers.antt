@@ -1,7 +1,7 @@
 use Rattle.std.proofs.Common.{◌<◌, ◌^◌, length, arith}
 use Rattle.pure_unify_definitions.specs.Fronts.{domains}
-use Rattle.pure_unify.proofs.ImageLaws.{domains_few}
-use Rattle.pure_unify.proofs.images.image_with.Goals as goal
+use Rattle.pure_unify_sides.proofs.ImageLaws.{domains_few}
+use Rattle.pure_unify_sides.proofs.images.image_with.Goals as goal
 
 pub applied_to_new-requires-clause-few : goal.applied_to_new-requires-clause-few
 applied_to_new-requires-clause-few c = domains_few c.args.typ.now (2 ^ 32) c.requires.few

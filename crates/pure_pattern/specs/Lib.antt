@@ -1,0 +1,5 @@
+pub mod Answered
+pub mod Held
+pub mod Given
+pub mod Reached
+pub mod Followed
