@@ -1,0 +1,6 @@
+pub mod LongPropositions
+pub mod FindingLaws
+pub mod FactLaws
+pub mod NamedLaws
+pub mod InstanceLaws
+pub mod OnceLaws
