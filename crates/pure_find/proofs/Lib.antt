@@ -1,5 +1,6 @@
 pub mod LongPropositions
 pub mod FindingLaws
+pub mod BuiltLaws
 pub mod FactLaws
 pub mod NamedLaws
 pub mod InstanceLaws

@@ -134,7 +134,10 @@ fn add_declared(
     match decl {
         Decl::Axiom { name } => add_named(alloc, names, theory, long, name, finding),
         Decl::Promise { name, .. } => add_named(alloc, names, theory, long, name, finding),
-        _ => Ok(()),
+        Decl::Class { .. } => Ok(()),
+        Decl::Con { .. } => Ok(()),
+        Decl::Arity { .. } => Ok(()),
+        Decl::Const { .. } => Ok(()),
     }
 }
 
