@@ -25,7 +25,7 @@ pub fn unify_pattern(alloc: Global, pairs: &[Pair], maxidx: u32) -> Result<TermM
     ensures answer { IsAnswered maxidx pairs.now result }
     ensures unifies { IfOk result (IsSolution pairs.now) }
     ensures most_general { IfOk result (IsMostGeneral pairs.now) }
-    ensures final { IsNoFinal pairs.now result }
+    ensures unsolved { IsNoFinal pairs.now result }
 {
     Err(PatternFault::Memory)
 }
