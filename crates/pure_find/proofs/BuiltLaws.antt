@@ -1,8 +1,9 @@
 -- The built facts are propositions as they are compared; and so is each fact of a content.
-use Rattle.std.proofs.Common.{◌≡◌, ◌∙◌, ℕ, zero, suc, ◌≤◌, Bool, true, false, ◌&&◌, ◌==◌, List, [], ◌∷◌, ◌++◌, map, inl, inr, refl, sym, ap, subst, arith, nat_eq, Some, None}
+use Rattle.std.proofs.Common.{◌≡◌, ◌∙◌, ℕ, ◌≤◌, Bool, true, false, ◌&&◌, ◌==◌, List, [], ◌∷◌, ◌++◌, map, inl, inr, refl, sym, ap, subst, arith, nat_eq, Some, None}
 use Rattle.std.specs.Prelude.{◌⊎◌, if◌then◌else◌}
 use Rattle.std.specs.List.{flat_map}
 use Rattle.std.proofs.lemmas.Bool.{and_parts, false≢true}
+use Rattle.std.proofs.lemmas.Bool.Decides.{nat_tests}
 use Rattle.pure_text.specs.Lists.{IsIn, Each}
 use Rattle.pure_text.proofs.ListLaws.{in_split}
 use Rattle.pure_definitions.specs.Names.{protect_name}
@@ -56,8 +57,9 @@ normal-of (App f a) e =
     (applicable f one.0, normal-of f two.0, normal-of a two.1)
 
 zero-is : (i : ℕ) → nat_eq i 0 ≡ true → i ≤ 0
-zero-is zero e = omega arith
-zero-is (suc n) e = absurd (false≢true e)
+zero-is i e =
+    let zero : i ≡ 0 = grind (arith, nat_tests) in
+    omega (arith, zero)
 
 zeros-of : (t : Term) → is_tidy t ≡ true → HasVariablesUpTo 0 t
 zeros-of (Const c U) e x i T o = absurd (cc)
@@ -101,13 +103,14 @@ declared-tidy texts Q states (ConstDecl x T) there f h = absurd h
 declared-tidy texts Q states (AxiomDecl x A) there f h = subst IsTidyProposition (sym (written-prop texts x A f h)) (states x (record { label = None; prop = A }) there)
 declared-tidy texts Q states (PromiseDecl x l A) there f h = subst IsTidyProposition (sym (written-prop texts x A f h)) (states x (record { label = Some l; prop = A }) there)
 
+either : {P Q R : Type 0} → (P → R) → (Q → R) → P ⊎ Q → R
+either f g (inl p) = f p
+either f g (inr q) = g q
+
 all-declared : (texts : List (List ℕ)) (Q : Content) → StatesTidy Q → (ds : List Decl) → ((d : Decl) → IsIn d ds → IsIn d Q.declarations) → (f : Fact) → IsIn f (flat_map (declared texts) ds) → IsTidyProposition f.prop
 all-declared texts Q states [] within f h = absurd h
-all-declared texts Q states (d ∷ ds) within f h = by (in_split f (declared texts d) (flat_map (declared texts) ds) h)
-  where
-    by : IsIn f (declared texts d) ⊎ IsIn f (flat_map (declared texts) ds) → IsTidyProposition f.prop
-    by (inl k) = declared-tidy texts Q states d (within d (inl refl)) f k
-    by (inr k) = all-declared texts Q states ds (λ e there. within e (inr there)) f k
+all-declared texts Q states (d ∷ ds) within f h =
+    either (declared-tidy texts Q states d (within d (inl refl)) f) (all-declared texts Q states ds (λ e there. within e (inr there)) f) (in_split f (declared texts d) (flat_map (declared texts) ds) h)
 
 built-facts_tidy : (f : Fact) → IsIn f built → IsTidyProposition f.prop
 built-facts_tidy f (inl e) = subst (λ (g : Fact). IsTidyProposition g.prop) (sym e) (built-tidy Refl)
@@ -119,8 +122,5 @@ built-facts_tidy f (inr (inr (inr (inr (inr (inl e)))))) = subst (λ (g : Fact).
 built-facts_tidy f (inr (inr (inr (inr (inr (inr h)))))) = absurd h
 
 pub facts-tidy : (texts : List (List ℕ)) (Q : Content) → StatesTidy Q → (f : Fact) → IsIn f (facts_of texts Q) → IsTidyProposition f.prop
-facts-tidy texts Q states f h = by (in_split f built (flat_map (declared texts) Q.declarations) h)
-  where
-    by : IsIn f built ⊎ IsIn f (flat_map (declared texts) Q.declarations) → IsTidyProposition f.prop
-    by (inl k) = built-facts_tidy f k
-    by (inr k) = all-declared texts Q states Q.declarations (λ d there. there) f k
+facts-tidy texts Q states f h =
+    either (built-facts_tidy f) (all-declared texts Q states Q.declarations (λ d there. there) f) (in_split f built (flat_map (declared texts) Q.declarations) h)

@@ -1,6 +1,6 @@
 -- The facts of a content, declaration by declaration.
 use Rattle.std.proofs.Common.{◌≡◌, ◌≢◌, ◌∙◌, ℕ, suc, ◌+◌, ◌==◌, Bool, true, false, List, [], ◌∷◌, ◌++◌, take, inl, inr, refl, sym, ap, subst, arith, append_assoc, append-nil, add-one, true≢false, Option, Some, None}
-use Rattle.std.specs.Prelude.{slice_get, option_map, if◌then◌else◌}
+use Rattle.std.specs.Prelude.{◌↔◌, slice_get, option_map, if◌then◌else◌, Result, Ok, Err, OnOk}
 use Rattle.std.specs.List.{flat_map}
 use Rattle.std.proofs.lemmas.Bool.Decides.{nat_tests}
 use Rattle.std.proofs.lemmas.Grind.{flat_map-append}
@@ -60,42 +60,43 @@ abbrev pub GoesOnDeclared : (texts : List (List ℕ)) → Content → (long : Op
 GoesOnDeclared texts Q long decl old new = (d : Decl) → IsIn d Q.declarations → outline d ≡ decl → (fs : List Fact) → GoesOn long fs (fs ++ declared texts d) old new
 
 pub axiom-goes_on : (texts : List (List ℕ)) (Q : Content) (long : Option Term) (name : ℕ) (old new : Finding) → GoesOnStated texts Q long name old new → GoesOnDeclared texts Q long (Axiom name) old new
-axiom-goes_on texts Q long name old new h (ClassDecl k) there e = absurd (cc)
-axiom-goes_on texts Q long name old new h (ConDecl k n) there e = absurd (cc)
-axiom-goes_on texts Q long name old new h (ArityDecl a) there e = absurd (cc)
-axiom-goes_on texts Q long name old new h (ConstDecl x T) there e = absurd (cc)
+axiom-goes_on texts Q long name old new h (ClassDecl k) there e fs = absurd (cc)
+axiom-goes_on texts Q long name old new h (ConDecl k n) there e fs = absurd (cc)
+axiom-goes_on texts Q long name old new h (ArityDecl a) there e fs = absurd (cc)
+axiom-goes_on texts Q long name old new h (ConstDecl x T) there e fs = absurd (cc)
 axiom-goes_on texts Q long name old new h (AxiomDecl x A) there e fs =
     let same : x ≡ name = cc in
     subst (λ n. GoesOn long fs (fs ++ written texts n A) old new) (sym same) (h (record { label = None; prop = A }) (subst (λ n. IsIn (AxiomDecl n A) Q.declarations) same there) fs)
-axiom-goes_on texts Q long name old new h (PromiseDecl x l A) there e = absurd (cc)
+axiom-goes_on texts Q long name old new h (PromiseDecl x l A) there e fs = absurd (cc)
 
 pub promise-goes_on : (texts : List (List ℕ)) (Q : Content) (long : Option Term) (name : ℕ) (label : Label) (old new : Finding) → GoesOnStated texts Q long name old new → GoesOnDeclared texts Q long (Promise name label) old new
-promise-goes_on texts Q long name label old new h (ClassDecl k) there e = absurd (cc)
-promise-goes_on texts Q long name label old new h (ConDecl k n) there e = absurd (cc)
-promise-goes_on texts Q long name label old new h (ArityDecl a) there e = absurd (cc)
-promise-goes_on texts Q long name label old new h (ConstDecl x T) there e = absurd (cc)
-promise-goes_on texts Q long name label old new h (AxiomDecl x A) there e = absurd (cc)
+promise-goes_on texts Q long name label old new h (ClassDecl k) there e fs = absurd (cc)
+promise-goes_on texts Q long name label old new h (ConDecl k n) there e fs = absurd (cc)
+promise-goes_on texts Q long name label old new h (ArityDecl a) there e fs = absurd (cc)
+promise-goes_on texts Q long name label old new h (ConstDecl x T) there e fs = absurd (cc)
+promise-goes_on texts Q long name label old new h (AxiomDecl x A) there e fs = absurd (cc)
 promise-goes_on texts Q long name label old new h (PromiseDecl x l A) there e fs =
     let same : x ≡ name = cc in
     subst (λ n. GoesOn long fs (fs ++ written texts n A) old new) (sym same) (h (record { label = Some l; prop = A }) (subst (λ n. IsIn (PromiseDecl n l A) Q.declarations) same there) fs)
 
--- whether it is the outline of a fact
-abbrev pub is_fact : outlined.Decl → Bool
-is_fact (Axiom name) = true
-is_fact (Promise name label) = true
-is_fact _ = false
+-- the same of answers
+pub stated-goes_on : {T E : Type 0} (texts : List (List ℕ)) (Q : Content) (long : Option Term) (name : ℕ) → name ≢ protect_name → (st : Stated) → ((t : Stated) → IsIn (fact_decl name t) Q.declarations ↔ (t ≡ st))
+    → (text : List ℕ) → text ≡ text_of_name texts name → (A : Term) → A ≡ st.prop → (old new : Finding) (r : Result T E) → OnOk r ((fs : List Fact) → GoesOn long fs (fs ++ fact text A ∷ []) old new) → OnOk r (GoesOnStated texts Q long name old new)
+stated-goes_on texts Q long name other st only text is A prop_is old new (Ok x) h s there fs =
+    let same : s ≡ st = (only s).0 there in
+    let stated : A ≡ s.prop = prop_is ∙ ap Stated.prop (sym same) in
+    subst (λ gs. GoesOn long fs (fs ++ gs) old new) ((λ i. fact (is i) (stated i) ∷ []) ∙ sym (written-fact texts name s.prop other)) (h fs)
+stated-goes_on texts Q long name other st only text is A prop_is old new (Err fault) h = tt
 
--- nothing is added for what is no fact
-pub stays : (long : Option Term) (fs : List Fact) (now : Finding) → GoesOn long fs (fs ++ []) now now
-stays long fs now C found h = subst (λ gs. IsFinding C gs now) (sym (append-nil fs)) h
+pub axiom-declared : {T E : Type 0} (texts : List (List ℕ)) (Q : Content) (long : Option Term) (name : ℕ) (decl : outlined.Decl) → decl ≡ Axiom name → (old new : Finding) (r : Result T E)
+    → OnOk r (GoesOnStated texts Q long name old new) → OnOk r (GoesOnDeclared texts Q long decl old new)
+axiom-declared texts Q long name decl is old new (Ok x) h d there e = axiom-goes_on texts Q long name old new h d there (e ∙ is)
+axiom-declared texts Q long name decl is old new (Err fault) h = tt
 
-pub other-stays : (texts : List (List ℕ)) (Q : Content) (long : Option Term) (decl : outlined.Decl) (now : Finding) → is_fact decl ≡ false → GoesOnDeclared texts Q long decl now now
-other-stays texts Q long decl now other (ClassDecl k) there e fs = stays long fs now
-other-stays texts Q long decl now other (ConDecl k n) there e fs = stays long fs now
-other-stays texts Q long decl now other (ArityDecl a) there e fs = stays long fs now
-other-stays texts Q long decl now other (ConstDecl x T) there e fs = stays long fs now
-other-stays texts Q long decl now other (AxiomDecl x A) there e = absurd (true≢false (ap is_fact e ∙ other))
-other-stays texts Q long decl now other (PromiseDecl x l A) there e = absurd (true≢false (ap is_fact e ∙ other))
+pub promise-declared : {T E : Type 0} (texts : List (List ℕ)) (Q : Content) (long : Option Term) (name : ℕ) (label : Label) (decl : outlined.Decl) → decl ≡ Promise name label → (old new : Finding) (r : Result T E)
+    → OnOk r (GoesOnStated texts Q long name old new) → OnOk r (GoesOnDeclared texts Q long decl old new)
+promise-declared texts Q long name label decl is old new (Ok x) h d there e = promise-goes_on texts Q long name label old new h d there (e ∙ is)
+promise-declared texts Q long name label decl is old new (Err fault) h = tt
 
 -- ---- the loop
 
@@ -117,7 +118,7 @@ IsFoundTo texts Q long place finding = (C : Term) → IsLongFound C long → IsF
 facts-next : (texts : List (List ℕ)) (ds : List Decl) (place : ℕ) (d : Decl) → slice_get ds place ≡ Some d → facts_to texts ds place ++ declared texts d ≡ facts_to texts ds (place + 1)
 facts-next texts ds place d at =
     let first = flat_map (declared texts) (take place ds) in
-    let next : take (place + 1) ds ≡ take place ds ++ d ∷ [] = subst (λ n. take n ds ≡ take place ds ++ d ∷ []) (add-one place) (take_next ds place d at) in
+    let next : take (place + 1) ds ≡ take place ds ++ d ∷ [] = subst (λ n. take n ds ≡ take place ds ++ d ∷ []) (sym (add-one place)) (take_next ds place d at) in
     append_assoc built first (declared texts d)
     ∙ (ap (λ l. built ++ (first ++ l)) (sym (append-nil (declared texts d)))
     ∙ (ap (λ l. built ++ l) (sym (flat_map-append (declared texts) (take place ds) (d ∷ []))) ∙ ap (λ l. built ++ flat_map (declared texts) l) (sym next)))

@@ -14,8 +14,10 @@ use Rattle.pure_unify_definitions.specs.Fronts.{pair}
 use Rattle.pure_unify_final.specs.Laws.{HasVariablesUpTo}
 use Rattle.pure_pattern_laws.specs.Answers.{AreLongOfOneTyp, AreReady}
 use Rattle.pure_pattern_laws.proofs.SolvedLaws.{occurs-lift}
-use Rattle.pure_find.specs.Findings.{IsTidyProposition, IsLongProposition, IsLongFound}
-use Rattle.pure_find.specs.Standings.{IsLongWithin, LacksLongForm}
+use Rattle.pure_find.specs.declared.standing.Standing.{Standing}
+use Rattle.pure_find.specs.declared.standing.Standing.TheVariants.{Maybe}
+use Rattle.pure_find.specs.Findings.{IsTidyProposition, IsLongProposition, IsLongFound, IsAnsweredBy}
+use Rattle.pure_find.specs.Standings.{IsLongWithin, LacksLongForm, IsStanding, asked, lacking}
 
 -- eta steps add no variable: a variable of a long form is one of the term
 occurs-step : (x i : ℕ) (T : Typ) {t u : Term} → EtaStep t u → Occurs (Var x i T) t → Occurs (Var x i T) u
@@ -54,3 +56,24 @@ ready-pair p c h k ps are = subst (AreReady 0) (sym are) (record {
   sides = (record { left = h.long; right = k.long; typ = prop; left_typ = h.typed; right_typ = k.typed }, tt);
   indexes = ((h.variables, k.variables), tt);
 })
+
+-- ---- answers about them
+
+pub answered-by : {E : Type 0} (ps qs : List Pair) → ps ≡ qs → (r : Result Standing E) → IfOk r (IsAnsweredBy ps) → IfOk r (IsAnsweredBy qs)
+answered-by ps qs same r h = subst (λ xs. IfOk r (IsAnsweredBy xs)) same h
+
+-- a proposition without a long form within the limits
+pub lacking-maybe : (P : Term) → LacksLongForm P → (C : Term) → IsStanding P C Maybe
+lacking-maybe P none C = lacking (inl none)
+
+pub statement-maybe : (P : Term) (long : Option Term) → long ≡ None → (C : Term) → IsLongFound C long → IsStanding P C Maybe
+statement-maybe P long is C found = lacking (inr (subst (IsLongFound C) is found))
+
+-- two that have one
+pub compared-so : {E : Type 0} (P p c : Term) → IsLongWithin P p → (r : Result Standing E) → IfOk r (IsAnsweredBy (pair p c ∷ [])) → IfOk r (λ s. (C : Term) → IsLongWithin C c → IsStanding P C s)
+compared-so P p c h (Ok s) (answer, is, stands) C k = asked h k is stands
+compared-so P p c h (Err fault) is = tt
+
+pub found-so : {E : Type 0} (P : Term) (long : Option Term) (c : Term) → long ≡ Some c → (r : Result Standing E) → IfOk r (λ s. (C : Term) → IsLongWithin C c → IsStanding P C s) → IfOk r (λ s. (C : Term) → IsLongFound C long → IsStanding P C s)
+found-so P long c is (Ok s) h C found = h C (subst (IsLongFound C) is found)
+found-so P long c is (Err fault) h = tt

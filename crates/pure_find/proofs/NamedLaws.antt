@@ -5,13 +5,14 @@ use Rattle.std.specs.List.{flat_map}
 use Rattle.pure_text.specs.Lists.{IsIn, Each}
 use Rattle.pure_text.proofs.ListLaws.{each_at}
 use Rattle.pure_definitions.specs.Names.{Label}
-use Rattle.pure_definitions.specs.Types.Typ.{Typ}
+use Rattle.pure_definitions.specs.Types.Typ.{Typ, prop}
+use Rattle.pure_definitions.specs.Terms.Typing.{HasType}
 use Rattle.pure_definitions.specs.Terms.Term.{Term, Const, Free, Var, Bound, Abs, App}
 use Rattle.pure_definitions.specs.Terms.Bounds.{Occurs}
 use Rattle.pure_definitions.specs.Declarations.Decl.{AxiomDecl, PromiseDecl}
 use Rattle.pure_graph.specs.Order.{Loaded}
 use Rattle.pure_logic.specs.Content.{Content, IsContent, IsWellFormed}
-use Rattle.pure_theory_tables.specs.Facts.{Stated, fact_decl}
+use Rattle.pure_theory_tables.specs.Facts.{Stated, fact as stated_fact, fact_decl}
 use Rattle.pure_theory_run.specs.Declare.Notes.{Fork}
 use Rattle.pure_theory_run.specs.Declare.Tidy.{IsTidy, IsTidyDecl, IsTidyFact, HasIndexes, IsUnschematic}
 use Rattle.pure_theory_run.specs.Method.Outcome.{IsProvable}
@@ -55,9 +56,9 @@ tidy-statement texts f p = record { typed = p.proposition.typed; normal = p.stat
 pub states-tidy : (Q : Content) → IsContent Q → IsTidy Q → StatesTidy Q
 states-tidy Q content tidy name s there = by s.label there
   where
-    tidy-fact : (A : Term) → IsTidyFact A → _ → IsTidyProposition A
+    tidy-fact : (A : Term) → IsTidyFact A → HasType [] A prop → IsTidyProposition A
     tidy-fact A h typed = record { typed = typed; normal = h.normal; variables = zero-variables A h.zeros }
-    by : (l : Option Label) → IsIn (Rattle.pure_theory_tables.specs.Facts.fact name l s.prop) Q.declarations → IsTidyProposition s.prop
+    by : (l : Option Label) → IsIn (stated_fact name l s.prop) Q.declarations → IsTidyProposition s.prop
     by None h = tidy-fact s.prop (each_at IsTidyDecl Q.declarations tidy (AxiomDecl name s.prop) h) (each_at (IsWellFormed Q) Q.declarations content.well_formed (AxiomDecl name s.prop) h).proposition.typed
     by (Some l) h = tidy-fact s.prop (each_at IsTidyDecl Q.declarations tidy (PromiseDecl name l s.prop) h) (each_at (IsWellFormed Q) Q.declarations content.well_formed (PromiseDecl name l s.prop) h).proposition.typed
 

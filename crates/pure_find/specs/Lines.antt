@@ -47,10 +47,14 @@ maybes_text = codes " maybe, "
 unfoldable pub none_text : List ℕ
 none_text = codes " none"
 
+-- a number, and what there are so many of
+abbrev pub count_text : (number : ℕ) → (word : List ℕ) → List ℕ
+count_text number word = decimal number ++ word
+
 -- `total: 1 match, 4 maybe, 2 none`: how many facts match, how many may match, and how many don't
 abbrev pub total_line : List Standing → List ℕ
 total_line ss =
-    total_text ++ (decimal (count_by is_match ss) ++ (matches_text ++ (decimal (count_by is_maybe ss) ++ (maybes_text ++ (decimal (count_by is_no_match ss) ++ (none_text ++ 10 ∷ []))))))
+    total_text ++ (count_text (count_by is_match ss) matches_text ++ (count_text (count_by is_maybe ss) maybes_text ++ (count_text (count_by is_no_match ss) none_text ++ 10 ∷ [])))
 
 -- the whole text: the lines, and the total
 abbrev pub found_text : List Fact → List Standing → List ℕ

@@ -1,5 +1,5 @@
 //! The facts of a theory, compared with a statement one after the other.
-ghost use Rattle.std.specs.Prelude.{◌≡◌, ◌≢◌, ◌++◌, ◌∷◌, [], List, IfOk, IfSome, OnOk, Some};
+ghost use Rattle.std.specs.Prelude.{◌≡◌, ◌≢◌, ◌+◌, ◌++◌, ◌∷◌, [], List, IfOk, IfSome, OnOk, Some};
 ghost use Rattle.std.specs.List.{flat_map};
 ghost use Rattle.pure_text.specs.Lists.{IsIn};
 ghost use Rattle.pure_definitions.specs.Declarations.Decl as decls;

@@ -24,7 +24,8 @@ fn push_line(text: &mut Vec<u8>, word: &[u8], name: &[u8]) -> Result<(), AllocEr
 {
     text.extend_from_slice(word)?;
     text.extend_from_slice(name)?;
-    text.push(b'\n')
+    text.push(b'\n')?;
+    Ok(())
 }
 
 /// Adds the line of a fact.
@@ -90,18 +91,24 @@ fn no_matches(standings: &[Standing]) -> usize
     standings.iter().filter(|it| is_no_match(**it)).count()
 }
 
+/// Adds a number, and what there are so many of.
+fn push_count(text: &mut Vec<u8>, number: usize, word: &[u8]) -> Result<(), AllocError>
+    ensures { OnOk result (text.new.items ≡ text.old.items ++ spec.count_text number word.now) }
+{
+    push_number(text, number)?;
+    text.extend_from_slice(word)?;
+    Ok(())
+}
+
 /// Adds the last line.
 #[tactic(auto, unfolding(crate::specs::Lines::total_text, crate::specs::Lines::matches_text, crate::specs::Lines::maybes_text, crate::specs::Lines::none_text))]
 fn push_total(text: &mut Vec<u8>, standings: &[Standing]) -> Result<(), AllocError>
     ensures { OnOk result (text.new.items ≡ text.old.items ++ spec.total_line standings.now) }
 {
     text.extend_from_slice(b"total: ")?;
-    push_number(text, matches(standings))?;
-    text.extend_from_slice(b" match, ")?;
-    push_number(text, maybes(standings))?;
-    text.extend_from_slice(b" maybe, ")?;
-    push_number(text, no_matches(standings))?;
-    text.extend_from_slice(b" none")?;
+    push_count(text, matches(standings), b" match, ")?;
+    push_count(text, maybes(standings), b" maybe, ")?;
+    push_count(text, no_matches(standings), b" none")?;
     text.push(b'\n')?;
     Ok(())
 }

@@ -1,10 +1,10 @@
 //! Long forms of propositions, and how two of them stand to each other.
-ghost use Rattle.std.specs.Prelude.{◌≡◌, [], ◌∷◌, IfOk, IfSome, Some};
+ghost use Rattle.std.specs.Prelude.{◌≡◌, [], ◌∷◌, IfOk, IfSome};
 ghost use Rattle.pure_definitions.specs.Terms.Term as tree;
 ghost use Rattle.pure_unify_definitions.specs.Fronts.{pair};
 ghost use Rattle.pure_pattern_laws.specs.Answers.{AreReady};
 ghost use Rattle.pure_find.specs.Findings.{IsTidyProposition, IsLongProposition, IsLongFound, IsAnsweredBy};
-ghost use Rattle.pure_find.specs.Standings.{IsStanding};
+ghost use Rattle.pure_find.specs.Standings.{IsLongWithin, IsStanding};
 
 use crate::standing::Standing;
 use pure_eta::long_form;
@@ -62,7 +62,19 @@ fn compared(alloc: Global, left: Term, right: &Term) -> Result<Standing, AllocEr
     standing_by(alloc, &pairs)
 }
 
-/// How what a fact states stands to a statement, of which this is the long form, if it has one.
+/// How what a fact states stands to a statement with this long form.
+fn standing_to(alloc: Global, prop: &Term, right: &Term) -> Result<Standing, AllocError>
+    requires prop { IsTidyProposition prop.now }
+    requires right { IsLongProposition right.now }
+    ensures { IfOk result (λ standing. (C : tree.Term) → IsLongWithin C right.now → IsStanding prop.now C standing) }
+{
+    match long_of(alloc, prop)? {
+        None => Ok(Standing::Maybe),
+        Some(left) => compared(alloc, left, right),
+    }
+}
+
+/// How what a fact states stands to a statement, of which this is the long form within the limits, if it has one.
 pub(crate) fn standing_of(
     alloc: Global,
     prop: &Term,
@@ -72,11 +84,8 @@ pub(crate) fn standing_of(
     requires long { IfSome long.now IsLongProposition }
     ensures { IfOk result (λ standing. (C : tree.Term) → IsLongFound C long.now → IsStanding prop.now C standing) }
 {
-    let Some(right) = long else {
-        return Ok(Standing::Maybe);
-    };
-    match long_of(alloc, prop)? {
+    match long {
         None => Ok(Standing::Maybe),
-        Some(left) => compared(alloc, left, right),
+        Some(right) => standing_to(alloc, prop, right),
     }
 }

@@ -1,5 +1,5 @@
 //! The lemma of a session that has some name, and what is found for it.
-ghost use Rattle.std.specs.Prelude.{[], IfOk, None, Some};
+ghost use Rattle.std.specs.Prelude.{◌≡◌, [], IfOk, None};
 ghost use Rattle.pure_theory_run.specs.Method.Outcome.{IsProvable};
 ghost use Rattle.pure_theory_run.specs.SessionLaws.Loaded.{IsLoadedSession};
 ghost use Rattle.pure_find.specs.Answers as spec;
