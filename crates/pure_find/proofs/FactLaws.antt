@@ -82,20 +82,23 @@ promise-goes_on texts Q long name label old new h (PromiseDecl x l A) there e fs
 -- the same of answers
 pub stated-goes_on : {T E : Type 0} (texts : List (List ℕ)) (Q : Content) (long : Option Term) (name : ℕ) → name ≢ protect_name → (st : Stated) → ((t : Stated) → IsIn (fact_decl name t) Q.declarations ↔ (t ≡ st))
     → (text : List ℕ) → text ≡ text_of_name texts name → (A : Term) → A ≡ st.prop → (old new : Finding) (r : Result T E) → OnOk r ((fs : List Fact) → GoesOn long fs (fs ++ fact text A ∷ []) old new) → OnOk r (GoesOnStated texts Q long name old new)
-stated-goes_on texts Q long name other st only text is A prop_is old new (Ok x) h s there fs =
-    let same : s ≡ st = (only s).0 there in
-    let stated : A ≡ s.prop = prop_is ∙ ap Stated.prop (sym same) in
-    subst (λ gs. GoesOn long fs (fs ++ gs) old new) ((λ i. fact (is i) (stated i) ∷ []) ∙ sym (written-fact texts name s.prop other)) (h fs)
+stated-goes_on texts Q long name other st only text is A prop_is old new (Ok x) h = by
+  where
+    by : GoesOnStated texts Q long name old new
+    by s there fs =
+        let same : s ≡ st = (only s).0 there in
+        let stated : A ≡ s.prop = prop_is ∙ ap Stated.prop (sym same) in
+        subst (λ gs. GoesOn long fs (fs ++ gs) old new) ((λ i. fact (is i) (stated i) ∷ []) ∙ sym (written-fact texts name s.prop other)) (h fs)
 stated-goes_on texts Q long name other st only text is A prop_is old new (Err fault) h = tt
 
 pub axiom-declared : {T E : Type 0} (texts : List (List ℕ)) (Q : Content) (long : Option Term) (name : ℕ) (decl : outlined.Decl) → decl ≡ Axiom name → (old new : Finding) (r : Result T E)
     → OnOk r (GoesOnStated texts Q long name old new) → OnOk r (GoesOnDeclared texts Q long decl old new)
-axiom-declared texts Q long name decl is old new (Ok x) h d there e = axiom-goes_on texts Q long name old new h d there (e ∙ is)
+axiom-declared texts Q long name decl is old new (Ok x) h = λ d there e. axiom-goes_on texts Q long name old new h d there (e ∙ is)
 axiom-declared texts Q long name decl is old new (Err fault) h = tt
 
 pub promise-declared : {T E : Type 0} (texts : List (List ℕ)) (Q : Content) (long : Option Term) (name : ℕ) (label : Label) (decl : outlined.Decl) → decl ≡ Promise name label → (old new : Finding) (r : Result T E)
     → OnOk r (GoesOnStated texts Q long name old new) → OnOk r (GoesOnDeclared texts Q long decl old new)
-promise-declared texts Q long name label decl is old new (Ok x) h d there e = promise-goes_on texts Q long name label old new h d there (e ∙ is)
+promise-declared texts Q long name label decl is old new (Ok x) h = λ d there e. promise-goes_on texts Q long name label old new h d there (e ∙ is)
 promise-declared texts Q long name label decl is old new (Err fault) h = tt
 
 -- ---- the loop

@@ -29,7 +29,7 @@ one-more C fs f s old new stands text more h = record {
 -- a fact whose standing is put behind the others
 pub fact-put : {T E : Type 0} (long : Option Term) (name : List ℕ) (A : Term) (s : Standing) (old new : Finding) → ((C : Term) → IsLongFound C long → IsStanding A C s) → (r : Result T E)
     → OnOk r (new.text.items ≡ old.text.items ++ line_of s name) → OnOk r (new.standings.items ≡ old.standings.items ++ s ∷ []) → OnOk r ((fs : List Fact) → GoesOn long fs (fs ++ fact name A ∷ []) old new)
-fact-put long name A s old new stands (Ok x) text more fs C found h = one-more C fs (fact name A) s old new (stands C found) text more h
+fact-put long name A s old new stands (Ok x) text more = λ fs C found h. one-more C fs (fact name A) s old new (stands C found) text more h
 fact-put long name A s old new stands (Err fault) text more = tt
 
 -- a fact that is stated in other words

@@ -71,9 +71,9 @@ statement-maybe P long is C found = lacking (inr (subst (IsLongFound C) is found
 
 -- two that have one
 pub compared-so : {E : Type 0} (P p c : Term) → IsLongWithin P p → (r : Result Standing E) → IfOk r (IsAnsweredBy (pair p c ∷ [])) → IfOk r (λ s. (C : Term) → IsLongWithin C c → IsStanding P C s)
-compared-so P p c h (Ok s) (answer, is, stands) C k = asked h k is stands
+compared-so P p c h (Ok s) is = λ C k. asked h k is.1 is.2
 compared-so P p c h (Err fault) is = tt
 
 pub found-so : {E : Type 0} (P : Term) (long : Option Term) (c : Term) → long ≡ Some c → (r : Result Standing E) → IfOk r (λ s. (C : Term) → IsLongWithin C c → IsStanding P C s) → IfOk r (λ s. (C : Term) → IsLongFound C long → IsStanding P C s)
-found-so P long c is (Ok s) h C found = h C (subst (IsLongFound C) is found)
+found-so P long c is (Ok s) h = λ C found. h C (subst (IsLongFound C) is found)
 found-so P long c is (Err fault) h = tt

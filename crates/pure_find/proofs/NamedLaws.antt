@@ -26,7 +26,7 @@ use Rattle.pure_find.specs.declared.named.Found.{Found}
 use Rattle.pure_find.specs.Facts.{facts_of}
 use Rattle.pure_find.specs.Lines.{lines_of, total_line, is_clean}
 use Rattle.pure_find.specs.Answers.{IsAnswer, IsFoundText, IsSaidOf}
-use Rattle.pure_find.specs.Findings.{IsTidyProposition, StatesTidy, IsFinding}
+use Rattle.pure_find.specs.Findings.{IsTidyProposition, StatesTidy, IsFinding, IsLongFound}
 
 -- ---- terms
 
@@ -63,6 +63,12 @@ states-tidy Q content tidy name s there = by s.label there
     by (Some l) h = tidy-fact s.prop (each_at IsTidyDecl Q.declarations tidy (PromiseDecl name l s.prop) h) (each_at (IsWellFormed Q) Q.declarations content.well_formed (PromiseDecl name l s.prop) h).proposition.typed
 
 -- ---- answers
+
+-- what is found for each statement of a long form is found for the lemma's
+pub finding-for : {E : Type 0} (texts : List (List ℕ)) (C statement : Term) → statement ≡ C → (long : Option Term) → IsLongFound statement long → (Q R : Content) → Q ≡ R → (r : Result Finding E)
+    → IfOk r (λ finding. (D : Term) → IsLongFound D long → IsFinding D (facts_of texts Q) finding) → IfOk r (IsFinding C (facts_of texts R))
+finding-for texts C statement is long found Q R same (Ok finding) h = subst (λ (x : Term × Content). IsFinding x.0 (facts_of texts x.1) finding) (λ i. (is i, same i)) (h statement found)
+finding-for texts C statement is long found Q R same (Err fault) h = tt
 
 -- the finding as text
 pub text-found : (texts : List (List ℕ)) (f : Fork) (finding : Finding) → IsFinding f.fixed (facts_of texts f.content) finding → (text : List ℕ) (clean : Bool) → text ≡ finding.text.items ++ total_line finding.standings.items → clean ≡ is_clean finding.standings.items

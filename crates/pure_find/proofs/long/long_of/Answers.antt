@@ -11,4 +11,4 @@ pub returns-in-Ok-clause-long : goal.returns-in-Ok-clause-long
 returns-in-Ok-clause-long c = long-proposition c.args.prop.now c.in-Ok.long c.requires c.in-Ok.ensures.0
 
 pub returns-in-Err-Big-clause-found : goal.returns-in-Err-Big-clause-found
-returns-in-Err-Big-clause-found c = let h = c.in-Err-Big.ensures in lacks-long c.args.prop.now h.0 h.1 h.2
+returns-in-Err-Big-clause-found c = let h = rw c.in-Err-Big.field-0-is at c.in-Err-Big.ensures in lacks-long c.args.prop.now h.0 h.1 h.2

@@ -3,6 +3,3 @@ use Rattle.pure_find.proofs.long.standing_of.Goals as goal
 
 pub returns-in-None : goal.returns-in-None
 returns-in-None c C found = statement-maybe c.args.prop.now c.args.long.now c.in-None.is C found
-
-pub returns : goal.returns
-returns c = found-so c.args.prop.now c.args.long.now c.in-Some.right.now c.in-Some.is _ c.standing_to.ensures
