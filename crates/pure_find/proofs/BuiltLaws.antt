@@ -1,18 +1,16 @@
 -- The built facts are propositions as they are compared; and so is each fact of a content.
-use Rattle.std.proofs.Common.{◌≡◌, ◌∙◌, ℕ, ◌≤◌, Bool, true, false, ◌&&◌, ◌==◌, List, [], ◌∷◌, ◌++◌, map, inl, inr, refl, sym, ap, subst, arith, nat_eq, Some, None}
+use Rattle.std.proofs.Common.{◌≡◌, ℕ, ◌≤◌, Bool, true, false, ◌&&◌, ◌==◌, List, [], ◌∷◌, inl, inr, refl, sym, ap, subst, arith, nat_eq, Some, None}
 use Rattle.std.specs.Prelude.{◌⊎◌, if◌then◌else◌}
 use Rattle.std.specs.List.{flat_map}
 use Rattle.std.proofs.lemmas.Bool.{and_parts, false≢true}
 use Rattle.std.proofs.lemmas.Bool.Decides.{nat_tests}
-use Rattle.pure_text.specs.Lists.{IsIn, Each}
+use Rattle.pure_text.specs.Lists.{IsIn}
 use Rattle.pure_text.proofs.ListLaws.{in_split}
 use Rattle.pure_definitions.specs.Names.{protect_name}
-use Rattle.pure_definitions.specs.Types.Typ.{Typ}
 use Rattle.pure_definitions.specs.Terms.Term.{Term, Const, Free, Var, Bound, Abs, App}
-use Rattle.pure_definitions.specs.Terms.Bounds.{Occurs}
 use Rattle.pure_definitions.specs.Declarations.Decl.{Decl, ClassDecl, ConDecl, ArityDecl, ConstDecl, AxiomDecl, PromiseDecl}
 use Rattle.pure_definitions.specs.Reduction.Beta.{IsAbs, IsBetaNormal}
-use Rattle.pure_logic.specs.BuiltFacts.{reflexivity, substitutivity, function_extensionality, propositional_extensionality, modus_ponens, specialisation, built_facts}
+use Rattle.pure_logic.specs.BuiltFacts.{reflexivity, substitutivity, function_extensionality, propositional_extensionality, modus_ponens, specialisation}
 use Rattle.pure_logic.specs.Content.{Content, IsStatement}
 use Rattle.pure_logic.specs.PureContent.{pure_content}
 use Rattle.pure_logic.proofs.BuiltFactLaws.{built_facts_are_statements}
@@ -20,7 +18,6 @@ use Rattle.pure_print.specs.NameText.{text_of_name}
 use Rattle.pure_theorem.specs.Built.{built_proposition}
 use Rattle.pure_theorem.specs.declared.built.Built.{Built}
 use Rattle.pure_theorem.specs.declared.built.Built.TheVariants.{Refl, Subst, Ext, Iff, Mp, Spec}
-use Rattle.pure_theory_tables.specs.Facts.{Stated, fact_decl}
 use Rattle.pure_unify_final.specs.Laws.{HasVariablesUpTo}
 use Rattle.pure_find.specs.Facts.{Fact, fact, built, declared, facts_of, written}
 use Rattle.pure_find.specs.Findings.{IsTidyProposition, StatesTidy}

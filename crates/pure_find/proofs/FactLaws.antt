@@ -1,5 +1,5 @@
 -- The facts of a content, declaration by declaration.
-use Rattle.std.proofs.Common.{◌≡◌, ◌≢◌, ◌∙◌, ℕ, suc, ◌+◌, ◌==◌, Bool, true, false, List, [], ◌∷◌, ◌++◌, take, inl, inr, refl, sym, ap, subst, arith, append_assoc, append-nil, add-one, true≢false, Option, Some, None}
+use Rattle.std.proofs.Common.{◌≡◌, ◌≢◌, ◌∙◌, ℕ, ◌+◌, ◌==◌, false, List, [], ◌∷◌, ◌++◌, take, refl, sym, ap, subst, arith, append_assoc, append-nil, add-one, Option, Some, None}
 use Rattle.std.specs.Prelude.{◌↔◌, slice_get, option_map, if◌then◌else◌, Result, Ok, Err, OnOk}
 use Rattle.std.specs.List.{flat_map}
 use Rattle.std.proofs.lemmas.Bool.Decides.{nat_tests}
@@ -14,7 +14,7 @@ use Rattle.pure_print.specs.NameText.{text_of_name}
 use Rattle.pure_theory_tables.specs.Facts.{Stated, fact_decl}
 use Rattle.pure_theory_tables.specs.View.{outline}
 use Rattle.pure_theory_tables.specs.declared.decl.Decl as outlined
-use Rattle.pure_theory_tables.specs.declared.decl.Decl.TheVariants.{Class, Con, Arity, Const, Axiom, Promise}
+use Rattle.pure_theory_tables.specs.declared.decl.Decl.TheVariants.{Axiom, Promise}
 use Rattle.pure_theory_tables.proofs.GetLaws.{get_in, take_next, all_taken}
 use Rattle.pure_find.specs.declared.finding.Finding.{Finding}
 use Rattle.pure_find.specs.Facts.{Fact, fact, built, declared, facts_of, written}
@@ -28,10 +28,6 @@ other-name name other = grind (arith, nat_tests)
 -- a fact whose name may be written
 pub written-fact : (texts : List (List ℕ)) (name : ℕ) (A : Term) → name ≢ protect_name → written texts name A ≡ fact (text_of_name texts name) A ∷ []
 written-fact texts name A other = ap (λ b. if b then [] else (fact (text_of_name texts name) A ∷ [])) (other-name name other)
-
--- none where it may not
-pub unwritten-fact : (texts : List (List ℕ)) (name : ℕ) (A : Term) → name ≡ protect_name → written texts name A ≡ []
-unwritten-fact texts name A same = ap (λ n. if n == protect_name then [] else (fact (text_of_name texts n) A ∷ [])) same
 
 -- ---- declarations and their outlines
 
@@ -59,7 +55,7 @@ GoesOnStated texts Q long name old new = (s : Stated) → IsIn (fact_decl name s
 abbrev pub GoesOnDeclared : (texts : List (List ℕ)) → Content → (long : Option Term) → outlined.Decl → (old new : Finding) → Type 0
 GoesOnDeclared texts Q long decl old new = (d : Decl) → IsIn d Q.declarations → outline d ≡ decl → (fs : List Fact) → GoesOn long fs (fs ++ declared texts d) old new
 
-pub axiom-goes_on : (texts : List (List ℕ)) (Q : Content) (long : Option Term) (name : ℕ) (old new : Finding) → GoesOnStated texts Q long name old new → GoesOnDeclared texts Q long (Axiom name) old new
+axiom-goes_on : (texts : List (List ℕ)) (Q : Content) (long : Option Term) (name : ℕ) (old new : Finding) → GoesOnStated texts Q long name old new → GoesOnDeclared texts Q long (Axiom name) old new
 axiom-goes_on texts Q long name old new h (ClassDecl k) there e fs = absurd (cc)
 axiom-goes_on texts Q long name old new h (ConDecl k n) there e fs = absurd (cc)
 axiom-goes_on texts Q long name old new h (ArityDecl a) there e fs = absurd (cc)
@@ -69,7 +65,7 @@ axiom-goes_on texts Q long name old new h (AxiomDecl x A) there e fs =
     subst (λ n. GoesOn long fs (fs ++ written texts n A) old new) (sym same) (h (record { label = None; prop = A }) (subst (λ n. IsIn (AxiomDecl n A) Q.declarations) same there) fs)
 axiom-goes_on texts Q long name old new h (PromiseDecl x l A) there e fs = absurd (cc)
 
-pub promise-goes_on : (texts : List (List ℕ)) (Q : Content) (long : Option Term) (name : ℕ) (label : Label) (old new : Finding) → GoesOnStated texts Q long name old new → GoesOnDeclared texts Q long (Promise name label) old new
+promise-goes_on : (texts : List (List ℕ)) (Q : Content) (long : Option Term) (name : ℕ) (label : Label) (old new : Finding) → GoesOnStated texts Q long name old new → GoesOnDeclared texts Q long (Promise name label) old new
 promise-goes_on texts Q long name label old new h (ClassDecl k) there e fs = absurd (cc)
 promise-goes_on texts Q long name label old new h (ConDecl k n) there e fs = absurd (cc)
 promise-goes_on texts Q long name label old new h (ArityDecl a) there e fs = absurd (cc)

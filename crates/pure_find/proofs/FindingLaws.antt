@@ -1,7 +1,6 @@
 -- What is found, fact by fact.
-use Rattle.std.proofs.Common.{◌≡◌, ◌∙◌, ℕ, List, [], ◌∷◌, ◌++◌, refl, sym, ap, subst, append_assoc, append-nil, Option}
+use Rattle.std.proofs.Common.{◌≡◌, ◌∙◌, ℕ, List, [], ◌∷◌, ◌++◌, sym, ap, subst, append_assoc, append-nil, Option}
 use Rattle.std.specs.Prelude.{Result, Ok, Err, OnOk}
-use Rattle.pure_text.specs.Lists.{EachTwo}
 use Rattle.pure_text.proofs.ListLaws.{two-append}
 use Rattle.pure_definitions.specs.Terms.Term.{Term}
 use Rattle.pure_find.specs.declared.finding.Finding.{Finding}
@@ -19,7 +18,7 @@ lines-more C [] (r ∷ rs) f s h = absurd h
 lines-more C (e ∷ es) [] f s h = absurd h
 lines-more C (e ∷ es) (r ∷ rs) f s h = ap (λ l. line_of r e.name ++ l) (lines-more C es rs f s h.1) ∙ sym (append_assoc (line_of r e.name) (lines_of es rs) (line_of s f.name))
 
-pub one-more : (C : Term) (fs : List Fact) (f : Fact) (s : Standing) (old new : Finding) → IsStanding f.prop C s → new.text.items ≡ old.text.items ++ line_of s f.name → new.standings.items ≡ old.standings.items ++ s ∷ []
+one-more : (C : Term) (fs : List Fact) (f : Fact) (s : Standing) (old new : Finding) → IsStanding f.prop C s → new.text.items ≡ old.text.items ++ line_of s f.name → new.standings.items ≡ old.standings.items ++ s ∷ []
     → IsFinding C fs old → IsFinding C (fs ++ f ∷ []) new
 one-more C fs f s old new stands text more h = record {
   are = subst (AreStandings C (fs ++ f ∷ [])) (sym more) (two-append (λ (g : Fact) r. IsStanding g.prop C r) fs (f ∷ []) old.standings.items (s ∷ []) h.are (stands, tt));

@@ -1,8 +1,7 @@
 -- A fact that matches has the statement as an instance, and one that doesn't hasn't.
-use Rattle.std.proofs.Common.{◌≡◌, ◌∙◌, ℕ, List, [], ◌∷◌, refl, sym, ap, subst}
-use Rattle.pure_definitions.specs.Types.Typ.{Typ}
+use Rattle.std.proofs.Common.{◌≡◌, ◌∙◌, [], ◌∷◌, refl, sym, ap, subst}
 use Rattle.pure_definitions.specs.Terms.Term.{Term, Const, Free, Var, Bound, Abs, App}
-use Rattle.pure_definitions.specs.Terms.Subst.{TermBind, IsTermMap, term_image, inst_term}
+use Rattle.pure_definitions.specs.Terms.Subst.{term_image, inst_term}
 use Rattle.pure_definitions.specs.Reduction.Eta.{IsLongForm}
 use Rattle.pure_reduction.specs.LongForms.{HasLongForm, HaveOneLongForm}
 use Rattle.pure_reduction.proofs.LongLaws.{long_form_of_normal}
@@ -15,7 +14,7 @@ use Rattle.pure_pattern_laws.proofs.GeneralLaws.{no_unifier_is_final}
 use Rattle.pure_pattern_laws.proofs.SoundLaws.{unifier_solves}
 use Rattle.pure_theory_run.specs.Declare.Tidy.{IsUnschematic}
 use Rattle.pure_find.specs.declared.standing.Standing.{Standing}
-use Rattle.pure_find.specs.declared.standing.Standing.TheVariants.{Match, Maybe, NoMatch}
+use Rattle.pure_find.specs.declared.standing.Standing.TheVariants.{Match, NoMatch}
 use Rattle.pure_find.specs.Standings.{IsStanding, asked, lacking, standing_by}
 use Rattle.pure_find.specs.Findings.{IsTidyProposition}
 use Rattle.pure_find.specs.Laws.{MatchIsInstance, NoMatchIsFinal, IsInstance, IsInstanceBy}

@@ -1,8 +1,8 @@
 -- Propositions and their long forms: what is asked of them where they are compared.
-use Rattle.std.proofs.Common.{◌≡◌, ℕ, ◌≤◌, List, [], ◌∷◌, inl, inr, refl, sym, subst, arith, Option, Some, None}
-use Rattle.std.specs.Prelude.{Result, Ok, Err, IfOk, IfSome}
+use Rattle.std.proofs.Common.{◌≡◌, ℕ, List, [], ◌∷◌, inl, inr, sym, subst, Option, None}
+use Rattle.std.specs.Prelude.{Result, Ok, Err, IfOk}
 use Rattle.pure_definitions.specs.Types.Typ.{Typ, prop}
-use Rattle.pure_definitions.specs.Terms.Term.{Term, Const, Free, Var, Bound, Abs, App, IsWithin}
+use Rattle.pure_definitions.specs.Terms.Term.{Term, Var, IsWithin}
 use Rattle.pure_definitions.specs.Terms.Bounds.{Occurs}
 use Rattle.pure_definitions.specs.Terms.Typing.{HasType}
 use Rattle.pure_definitions.specs.Reduction.Eta.{EtaStep, EtaReduces, IsLongForm}
@@ -11,8 +11,7 @@ use Rattle.pure_term_laws.proofs.EtaLaws.{one_long_form}
 use Rattle.pure_term_laws.proofs.TypingLaws.{typed-once}
 use Rattle.pure_eta.proofs.FormLaws.{long_form_of_long_form}
 use Rattle.pure_unify_definitions.specs.Fronts.{pair}
-use Rattle.pure_unify_final.specs.Laws.{HasVariablesUpTo}
-use Rattle.pure_pattern_laws.specs.Answers.{AreLongOfOneTyp, AreReady}
+use Rattle.pure_pattern_laws.specs.Answers.{AreReady}
 use Rattle.pure_pattern_laws.proofs.SolvedLaws.{occurs-lift}
 use Rattle.pure_find.specs.declared.standing.Standing.{Standing}
 use Rattle.pure_find.specs.declared.standing.Standing.TheVariants.{Maybe}
@@ -34,7 +33,7 @@ occurs-step x i T (EtaStep.argument k) (inl e) = absurd (cc)
 occurs-step x i T (EtaStep.argument k) (inr (inl o)) = inr (inl o)
 occurs-step x i T (EtaStep.argument k) (inr (inr o)) = inr (inr (occurs-step x i T k o))
 
-pub occurs-reduct : (x i : ℕ) (T : Typ) {t u : Term} → EtaReduces t u → Occurs (Var x i T) t → Occurs (Var x i T) u
+occurs-reduct : (x i : ℕ) (T : Typ) {t u : Term} → EtaReduces t u → Occurs (Var x i T) t → Occurs (Var x i T) u
 occurs-reduct x i T EtaReduces.done o = o
 occurs-reduct x i T (EtaReduces.next k r) o = occurs-reduct x i T r (occurs-step x i T k o)
 
@@ -73,7 +72,3 @@ statement-maybe P long is C found = lacking (inr (subst (IsLongFound C) is found
 pub compared-so : {E : Type 0} (P p c : Term) → IsLongWithin P p → (r : Result Standing E) → IfOk r (IsAnsweredBy (pair p c ∷ [])) → IfOk r (λ s. (C : Term) → IsLongWithin C c → IsStanding P C s)
 compared-so P p c h (Ok s) is = λ C k. asked h k is.1 is.2
 compared-so P p c h (Err fault) is = tt
-
-pub found-so : {E : Type 0} (P : Term) (long : Option Term) (c : Term) → long ≡ Some c → (r : Result Standing E) → IfOk r (λ s. (C : Term) → IsLongWithin C c → IsStanding P C s) → IfOk r (λ s. (C : Term) → IsLongFound C long → IsStanding P C s)
-found-so P long c is (Ok s) h = λ C found. h C (subst (IsLongFound C) is found)
-found-so P long c is (Err fault) h = tt

@@ -1,8 +1,8 @@
 -- From what is found for a lemma to what is said of the session's lemma; facts and statements as they are compared.
-use Rattle.std.proofs.Common.{◌≡◌, ◌∙◌, ℕ, ◌≤◌, Bool, List, [], ◌∷◌, ◌++◌, inl, inr, refl, sym, ap, subst, arith, Option, Some, None}
+use Rattle.std.proofs.Common.{◌≡◌, ◌∙◌, ℕ, Bool, List, [], ◌++◌, inl, inr, refl, sym, ap, subst, arith, Option, Some, None}
 use Rattle.std.specs.Prelude.{Result, Ok, Err, IfOk}
 use Rattle.std.specs.List.{flat_map}
-use Rattle.pure_text.specs.Lists.{IsIn, Each}
+use Rattle.pure_text.specs.Lists.{IsIn}
 use Rattle.pure_text.proofs.ListLaws.{each_at}
 use Rattle.pure_definitions.specs.Names.{Label}
 use Rattle.pure_definitions.specs.Types.Typ.{Typ, prop}
@@ -12,7 +12,7 @@ use Rattle.pure_definitions.specs.Terms.Bounds.{Occurs}
 use Rattle.pure_definitions.specs.Declarations.Decl.{AxiomDecl, PromiseDecl}
 use Rattle.pure_graph.specs.Order.{Loaded}
 use Rattle.pure_logic.specs.Content.{Content, IsContent, IsWellFormed}
-use Rattle.pure_theory_tables.specs.Facts.{Stated, fact as stated_fact, fact_decl}
+use Rattle.pure_theory_tables.specs.Facts.{fact as stated_fact}
 use Rattle.pure_theory_run.specs.Declare.Notes.{Fork}
 use Rattle.pure_theory_run.specs.Declare.Tidy.{IsTidy, IsTidyDecl, IsTidyFact, HasIndexes, IsUnschematic}
 use Rattle.pure_theory_run.specs.Method.Outcome.{IsProvable}
@@ -24,7 +24,7 @@ use Rattle.pure_unify_final.specs.Laws.{HasVariablesUpTo}
 use Rattle.pure_find.specs.declared.finding.Finding.{Finding}
 use Rattle.pure_find.specs.declared.named.Found.{Found}
 use Rattle.pure_find.specs.Facts.{facts_of}
-use Rattle.pure_find.specs.Lines.{lines_of, total_line, is_clean}
+use Rattle.pure_find.specs.Lines.{total_line, is_clean}
 use Rattle.pure_find.specs.Answers.{IsAnswer, IsFoundText, IsSaidOf}
 use Rattle.pure_find.specs.Findings.{IsTidyProposition, StatesTidy, IsFinding, IsLongFound}
 
@@ -58,6 +58,7 @@ states-tidy Q content tidy name s there = by s.label there
   where
     tidy-fact : (A : Term) → IsTidyFact A → HasType [] A prop → IsTidyProposition A
     tidy-fact A h typed = record { typed = typed; normal = h.normal; variables = zero-variables A h.zeros }
+
     by : (l : Option Label) → IsIn (stated_fact name l s.prop) Q.declarations → IsTidyProposition s.prop
     by None h = tidy-fact s.prop (each_at IsTidyDecl Q.declarations tidy (AxiomDecl name s.prop) h) (each_at (IsWellFormed Q) Q.declarations content.well_formed (AxiomDecl name s.prop) h).proposition.typed
     by (Some l) h = tidy-fact s.prop (each_at IsTidyDecl Q.declarations tidy (PromiseDecl name l s.prop) h) (each_at (IsWellFormed Q) Q.declarations content.well_formed (PromiseDecl name l s.prop) h).proposition.typed

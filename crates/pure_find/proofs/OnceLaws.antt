@@ -1,16 +1,15 @@
 -- A lemma has one answer.
-use Rattle.std.proofs.Common.{◌≡◌, ◌∙◌, ℕ, Bool, List, [], ◌∷◌, inl, inr, refl, sym, ap, subst}
-use Rattle.std.specs.Prelude.{◌⊎◌, map}
+use Rattle.std.proofs.Common.{◌≡◌, ◌∙◌, List, [], ◌∷◌, inl, inr, refl, sym, ap, subst}
+use Rattle.std.specs.Prelude.{◌⊎◌}
 use Rattle.pure_text.specs.Lists.{IsIn}
 use Rattle.pure_definitions.specs.Terms.Term.{Term}
 use Rattle.pure_lookup.specs.Meaning.{built_texts}
 use Rattle.pure_term_laws.proofs.EtaLaws.{one_long_form}
 use Rattle.pure_unify_definitions.specs.Fronts.{pair}
-use Rattle.pure_pattern_laws.specs.Answers.{Answer, IsPatternAnswer}
+use Rattle.pure_pattern_laws.specs.Answers.{IsPatternAnswer}
 use Rattle.pure_pattern_laws.proofs.OnceLaws.{one_answer}
 use Rattle.pure_find.specs.declared.standing.Standing.{Standing}
-use Rattle.pure_find.specs.declared.standing.Standing.TheVariants.{Match, Maybe, NoMatch}
-use Rattle.pure_find.specs.Facts.{Fact, built, facts_of}
+use Rattle.pure_find.specs.Facts.{Fact, facts_of}
 use Rattle.pure_find.specs.Standings.{IsStanding, asked, lacking, standing_by, LacksLongForm, IsLongWithin}
 use Rattle.pure_find.specs.Answers.{AreStandings}
 use Rattle.pure_find.specs.Lines.{found_text, is_clean}

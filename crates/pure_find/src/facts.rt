@@ -1,6 +1,5 @@
 //! The facts of a theory, compared with a statement one after the other.
 ghost use Rattle.std.specs.Prelude.{◌≡◌, ◌≢◌, ◌+◌, ◌++◌, ◌∷◌, [], List, IfOk, IfSome, OnOk, Some};
-ghost use Rattle.std.specs.List.{flat_map};
 ghost use Rattle.pure_text.specs.Lists.{IsIn};
 ghost use Rattle.pure_definitions.specs.Declarations.Decl as decls;
 ghost use Rattle.pure_definitions.specs.Names.{protect_name};
@@ -87,13 +86,7 @@ fn add_stated(
 {
     match theory.fact(name) {
         None => unreachable!(),
-        Some(statement) => add_fact(
-            alloc,
-            long,
-            text_of(names, name),
-            statement.prop(),
-            finding,
-        ),
+        Some(statement) => add_fact(alloc, long, text_of(names, name), statement.prop(), finding),
     }
 }
 

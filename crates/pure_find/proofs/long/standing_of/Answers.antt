@@ -1,4 +1,4 @@
-use Rattle.pure_find.proofs.LongPropositions.{statement-maybe, found-so}
+use Rattle.pure_find.proofs.LongPropositions.{statement-maybe}
 use Rattle.pure_find.proofs.long.standing_of.Goals as goal
 
 pub returns-in-None : goal.returns-in-None
