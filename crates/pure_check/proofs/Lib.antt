@@ -3,6 +3,7 @@ pub use Rattle.pure_check_work.proofs.Method as Method
 pub use Rattle.pure_check_work.proofs.TheoryRun as TheoryRun
 pub mod AnswerLemmas
 pub mod AxiomsLaws
+pub mod FindLemmas
 pub mod FormedLemmas
 pub mod GraphLemmas
 pub mod JobLemmas

@@ -5,7 +5,7 @@ use Rattle.std.specs.Prelude.{nat_le, codes, ◌*◌, ◌&&◌, if◌then◌else
 use Rattle.pure_grammar.specs.Theories.Lexeme.{same}
 use Rattle.pure_words.specs.Values.{number_of, within}
 use Rattle.pure_words.specs.Words.{IsJob, IsCommand, Item, no_given, given_by}
-use Rattle.pure_words.specs.Commands.{workers_of, fail_fast_of, cancels_of, checked, generated, with_places, check_of, generate_of, places_of, show_of, with_show, try_of, tried, name_given, size_of, sized, job_of, is_none, TableMeans, axioms_of, with_axioms, graph_of, with_graph, replay_of, with_replay, identifier_given}
+use Rattle.pure_words.specs.Commands.{workers_of, fail_fast_of, cancels_of, checked, generated, with_places, check_of, generate_of, places_of, show_of, with_show, try_of, tried, name_given, size_of, sized, job_of, is_none, TableMeans, axioms_of, with_axioms, graph_of, with_graph, replay_of, with_replay, find_of, with_find, identifier_given}
 use Rattle.pure_check.specs.Asked.{IsTaken}
 use Rattle.pure_check.specs.JobAnswers.{IsInRange}
 use Rattle.pure_check.specs.Laws.{JobInRange}
@@ -139,6 +139,17 @@ replay-some items = let g = given_by no_given items in by (is_none g.jobs && (is
     by true = replayed-some (identifier_given (given_by no_given items).arguments)
     by false = _
 
+found-some : (name : Option (List ℕ)) → IfJob (with_find name)
+found-some None = _
+found-some (Some name) = _
+
+find-some : (items : List Item) → IfJob (find_of (given_by no_given items))
+find-some items = let g = given_by no_given items in by (is_none g.jobs && (is_none g.cancels && is_none g.fail_fast))
+  where
+    by : (b : Bool) → IfJob (if b then with_find (name_given (given_by no_given items).arguments) else None)
+    by true = found-some (name_given (given_by no_given items).arguments)
+    by false = _
+
 tried-some : (workers : Option ℕ) (name : Option (List ℕ)) → IsBetween 1 64 workers → IfJob (tried workers name)
 tried-some None name w = _
 tried-some (Some n) None w = _
@@ -168,7 +179,8 @@ job-some means name items =
     (either (same name (codes "graph")) (graph_of g) _ (graph-some items)
     (either (same name (codes "show")) (show_of g) _ (show-some items)
     (either (same name (codes "replay")) (replay_of g) _ (replay-some items)
-    (either (same name (codes "try")) (try_of g) None (try-some items) _))))))))
+    (either (same name (codes "find")) (find_of g) _ (find-some items)
+    (either (same name (codes "try")) (try_of g) None (try-some items) _)))))))))
 
 command-some : TableMeans → (name : List ℕ) (words : List (List ℕ)) (job : Job) → IsCommand name words job → IsInRange job
 command-some means name words job is = subst IfJob is.job_is (job-some means name is.items)

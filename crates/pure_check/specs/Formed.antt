@@ -31,6 +31,7 @@ use Rattle.pure_check_work.specs.Cancelled.{cancelled_labels, entries_of}
 use Rattle.pure_check_work.specs.Heeded.{lot_of, gone_labels}
 use Rattle.pure_policy.specs.Asked.{Asked}
 use Rattle.pure_graph.specs.Order.{Loaded}
+use Rattle.pure_find.specs.Answers as found_lemma
 use Rattle.pure_show.specs.Answers as shown_lemma
 use Rattle.pure_try.specs.Answers as said
 use Rattle.pure_try.specs.Answers.{is_found, line_of}
@@ -120,6 +121,10 @@ pub record IsLineOf (texts : List (List ℕ)) (theories : List Loaded) (name : L
 -- The text shows the session's lemma with this name, and no board is handed out.
 abbrev pub IsShownSo : (texts : List (List ℕ)) → (theories : List Loaded) → (name : List ℕ) → Answer → Type 0
 IsShownSo texts theories name a = shown_lemma.IsAnswer texts theories name a.formed.text a.formed.clean × (a.run ≡ None)
+
+-- The text says of which facts the statement of the session's lemma with this name is an instance, and no board is handed out.
+abbrev pub IsFoundSo : (texts : List (List ℕ)) → (theories : List Loaded) → (name : List ℕ) → Answer → Type 0
+IsFoundSo texts theories name a = found_lemma.IsAnswer texts theories name a.formed.text a.formed.clean × (a.run ≡ None)
 
 -- Where the files could be read and memory sufficed, this is what is asked for of a table.
 abbrev pub IsTabled : Extent → Asked → (files : Option (List library.File)) → Result Answer LoadFault → Type 0

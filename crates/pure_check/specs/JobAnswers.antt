@@ -2,7 +2,7 @@
 use Rattle.std.specs.Prelude.{ℕ, Bool, List, Option}
 use Rattle.pure_io.specs.declared.library.File as library
 use Rattle.pure_words.specs.declared.job.Job.{Job}
-use Rattle.pure_words.specs.declared.job.Job.TheVariants.{Check, Generate, Places, Axioms, Graph, Show, Replay, Try}
+use Rattle.pure_words.specs.declared.job.Job.TheVariants.{Check, Generate, Places, Axioms, Graph, Show, Replay, Find, Try}
 use Rattle.pure_check_work.specs.Declare.Notes.{Fork}
 use Rattle.pure_check_work.specs.Method.declared.outcome.Outcome.{Outcome}
 use Rattle.pure_check_work.specs.TheoryRun.Checked.{Checked}
@@ -16,6 +16,7 @@ use Rattle.pure_check.specs.Jobs.Axioms as axioms
 use Rattle.pure_check.specs.Jobs.Graph as graph
 use Rattle.pure_check.specs.Jobs.Show as show
 use Rattle.pure_check.specs.Jobs.Replay as replay
+use Rattle.pure_check.specs.Jobs.Find as find
 use Rattle.pure_check.specs.Jobs.Try as try_lemma
 use Rattle.pure_check.specs.Sources.{is_looking, files_in}
 
@@ -28,6 +29,7 @@ meaning_of (Axioms workers name) = axioms.meaning workers name
 meaning_of (Graph workers) = graph.meaning workers
 meaning_of (Show name) = show.meaning name
 meaning_of (Replay name) = replay.meaning name
+meaning_of (Find name) = find.meaning name
 meaning_of (Try workers name) = try_lemma.meaning workers name
 
 -- The job's numbers are in range.

@@ -6,4 +6,5 @@ pub mod Axioms
 pub mod Graph
 pub mod Show
 pub mod Replay
+pub mod Find
 pub mod Try

@@ -1,9 +1,10 @@
 -- Laws of words, of what `pure` says of a check and of a generated library, and of what a lemma rests on.
-use Rattle.std.specs.Prelude.{◌≡◌, ◌≢◌, ◌++◌, ℕ, Bool, true, false, List, Option, Some, None, is_some}
+use Rattle.std.specs.Prelude.{◌≡◌, ◌≢◌, ◌++◌, ℕ, Bool, true, false, List, Option, Some, None, is_some, map}
 use Rattle.std.specs.List.{flat_map}
 use Rattle.pure_text.specs.Lists.{IsIn, AnyOf}
 use Rattle.pure_definitions.specs.Terms.Term.{Term}
 use Rattle.pure_typ.specs.NameTexts.{HasText}
+use Rattle.pure_logic.specs.Content.{Content}
 use Rattle.pure_logic.specs.Derivable.{IsDerivableAlone}
 use Rattle.pure_io.specs.declared.library.File as library
 use Rattle.pure_io.specs.Outside.{Rose}
@@ -27,6 +28,8 @@ use Rattle.pure_citations.specs.Heads.{Picks, IsTextOf}
 use Rattle.pure_citations.specs.Listed.{is_proved, own_row, no_lemma, IsListed}
 use Rattle.pure_citations.specs.Rowed.{Declares, IsListedFor, IsAxiomLedTo, IsFaultLedTo}
 use Rattle.pure_citations.specs.Without.{with_axioms}
+use Rattle.pure_find.specs.Facts as found
+use Rattle.pure_try.specs.Methods as tried
 use Rattle.pure_check.specs.Answer.{WroteAnswer, OnSilent, IsComplete}
 use Rattle.pure_check.specs.Asked.{IsTaken, IsLooking, IsMeantBy}
 use Rattle.pure_check.specs.JobAnswers.{IsInRange, IsAnswer}
@@ -110,3 +113,7 @@ SaysLed name S t text clean = SaysLedWith name S t (own_row name (table_rows S t
 abbrev pub AxiomsAreLedTo : Type 0
 AxiomsAreLedTo = (workers : ℕ) (name : List ℕ) (told : Option (List library.File)) (run : Option (Ending Checked Fork Outline Outcome)) (text : List ℕ) (clean : Bool)
     → IsAnswer (Axioms workers name) told run text clean → IsSessionAnswer (SaysLed name) (asked_for workers) told run text clean
+
+-- Finding asks the facts by which trying is done, in the same order.
+abbrev pub FindAsksTried : Type 0
+FindAsksTried = (texts : List (List ℕ)) (Q : Content) → map found.Fact.name (found.facts_of texts Q) ≡ tried.facts_of texts Q

@@ -10,6 +10,7 @@ use crate::answer::Answer;
 use crate::axioms::check_axioms;
 use crate::checked::check;
 use crate::ended::Ended;
+use crate::found::found;
 use crate::generated::check_generated;
 use crate::graphed::check_graph;
 use crate::laws::job_in_range;
@@ -61,6 +62,7 @@ fn done<R: Files + Print + AllocGlobal + Threads + Wait + Sync, L: Library, G: G
         Job::Graph { workers } => check_graph(rt, alloc, *workers, library, gate),
         Job::Show { name } => shown(rt, alloc, name, library),
         Job::Replay { name } => replayed(rt, alloc, name, library),
+        Job::Find { name } => found(rt, alloc, name, library),
         Job::Try { workers, name } => tried(rt, alloc, *workers, name, library),
     }
 }

@@ -1,7 +1,8 @@
 //! Laws of the definitions. What each function ensures is the law.
-ghost use Rattle.pure_check.specs.Laws.{AxiomsAreLedTo, AxiomsSuffice, CheckMeans, GenerateMeans, JobInRange};
+ghost use Rattle.pure_check.specs.Laws.{AxiomsAreLedTo, AxiomsSuffice, CheckMeans, FindAsksTried, GenerateMeans, JobInRange};
 
 use pure_citations::laws::listed_suffice;
+use pure_find::laws::built_are_named;
 use pure_words::laws::{one_reading, table_means};
 
 /// The numbers of a job that words ask for are in range.
@@ -38,4 +39,11 @@ pub fn axioms_are_led_to()
     ensures { AxiomsAreLedTo }
 {
     listed_suffice();
+}
+
+/// Of which facts a lemma is an instance is asked of those by which it is tried, in the same order.
+pub fn find_asks_tried()
+    ensures { FindAsksTried }
+{
+    built_are_named();
 }

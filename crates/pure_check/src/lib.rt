@@ -7,6 +7,7 @@ mod call;
 mod checked;
 mod ended;
 mod formed;
+mod found;
 mod generated;
 mod graphed;
 pub mod laws;

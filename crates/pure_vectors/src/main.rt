@@ -27,7 +27,7 @@ use std::sync::Wait;
 use std::thread::Threads;
 
 /// The files of rows.
-const FILES: [&str; 14] = [
+const FILES: [&str; 15] = [
     "examples.rows",
     "guide.rows",
     "worked.rows",
@@ -40,6 +40,7 @@ const FILES: [&str; 14] = [
     "places.rows",
     "shows.rows",
     "tries.rows",
+    "finds.rows",
     "rests.rows",
     "replays.rows",
 ];

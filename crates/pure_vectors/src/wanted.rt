@@ -16,7 +16,7 @@ pub(crate) enum Written<'w> {
 }
 
 /// The first words of jobs that hand out no board.
-const WITHOUT_BOARD: [&[u8]; 3] = [b"show", b"replay", b"try"];
+const WITHOUT_BOARD: [&[u8]; 4] = [b"show", b"replay", b"find", b"try"];
 
 /// What a run must answer and write.
 #[derive(Clone, Copy)]

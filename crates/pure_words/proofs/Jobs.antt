@@ -17,7 +17,7 @@ use Rattle.pure_words.specs.declared.job.CancelWord.{CancelWord}
 use Rattle.pure_words.specs.declared.job.Job.{Job}
 use Rattle.pure_words.specs.declared.command.Size.{Size}
 use Rattle.pure_words.specs.declared.table.Subcommand.{Subcommand}
-use Rattle.pure_words.specs.declared.table.Subcommand.TheVariants.{Check, Generate, Places, Axioms, Graph, Show, Replay, Try}
+use Rattle.pure_words.specs.declared.table.Subcommand.TheVariants.{Check, Generate, Places, Axioms, Graph, Show, Replay, Find, Try}
 use Rattle.pure_words.proofs.Fits.{Fits, at_most_once, at_most_one, is_plain}
 use Rattle.pure_words.proofs.Rows.{some_not_none}
 
@@ -225,6 +225,20 @@ job_fits Replay g job e =
       },
       whole,
     )
+job_fits Find g job e =
+    let both = passed (is_taken (row_of Find) g) (job_given Find g) job e in
+    let one = and_parts (is_none g.jobs) (is_none g.cancels && (is_none g.fail_fast && length g.arguments == 1)) both.0 in
+    let two = and_parts (is_none g.cancels) (is_none g.fail_fast && length g.arguments == 1) one.1 in
+    let three = and_parts (is_none g.fail_fast) (length g.arguments == 1) two.1 in
+    let whole : length g.arguments ≡ 1 = same_number (length g.arguments) 1 three.1 in (
+      record {
+        jobs = none_fits g.jobs one.0;
+        cancels = none_fits g.cancels two.0;
+        fail_fast = no_flag_fits g.fail_fast three.0;
+        arguments = omega (arith, whole);
+      },
+      whole,
+    )
 job_fits Try g job e =
     let both = passed (is_taken (row_of Try) g) (job_given Try g) job e in
     let one = and_parts (is_none g.cancels) (is_none g.fail_fast && length g.arguments == 1) both.0 in
@@ -250,7 +264,7 @@ pub record IsNamed (name : List ℕ) (g : Given) (job : Job) : Type 0 where
 -- the subcommand whose job it is
 pub named : (name : List ℕ) (g : Given) (job : Job) → job_of name g ≡ Some job → IsNamed name g job
 unfolding job_of subcommand_named
-named name g job e = pick (same name (codes "check")) refl (same name (codes "generate")) refl (same name (codes "places")) refl (same name (codes "axioms")) refl (same name (codes "graph")) refl (same name (codes "show")) refl (same name (codes "replay")) refl (same name (codes "try")) refl e
+named name g job e = pick (same name (codes "check")) refl (same name (codes "generate")) refl (same name (codes "places")) refl (same name (codes "axioms")) refl (same name (codes "graph")) refl (same name (codes "show")) refl (same name (codes "replay")) refl (same name (codes "find")) refl (same name (codes "try")) refl e
   where
     pick : (b0 : Bool) → same name (codes "check") ≡ b0
         → (b1 : Bool) → same name (codes "generate") ≡ b1
@@ -259,14 +273,16 @@ named name g job e = pick (same name (codes "check")) refl (same name (codes "ge
         → (b4 : Bool) → same name (codes "graph") ≡ b4
         → (b5 : Bool) → same name (codes "show") ≡ b5
         → (b6 : Bool) → same name (codes "replay") ≡ b6
-        → (b7 : Bool) → same name (codes "try") ≡ b7
-        → option_and_then (job_by g) (cond b0 (Some Check) (cond b1 (Some Generate) (cond b2 (Some Places) (cond b3 (Some Axioms) (cond b4 (Some Graph) (cond b5 (Some Show) (cond b6 (Some Replay) (cond b7 (Some Try) None)))))))) ≡ Some job → IsNamed name g job
-    pick true is0 b1 is1 b2 is2 b3 is3 b4 is4 b5 is5 b6 is6 b7 is7 e' = record { subcommand = Check; name_is = (bytes_eq-Decides name (codes "check")).0 is0; job_is = e' }
-    pick false is0 true is1 b2 is2 b3 is3 b4 is4 b5 is5 b6 is6 b7 is7 e' = record { subcommand = Generate; name_is = (bytes_eq-Decides name (codes "generate")).0 is1; job_is = e' }
-    pick false is0 false is1 true is2 b3 is3 b4 is4 b5 is5 b6 is6 b7 is7 e' = record { subcommand = Places; name_is = (bytes_eq-Decides name (codes "places")).0 is2; job_is = e' }
-    pick false is0 false is1 false is2 true is3 b4 is4 b5 is5 b6 is6 b7 is7 e' = record { subcommand = Axioms; name_is = (bytes_eq-Decides name (codes "axioms")).0 is3; job_is = e' }
-    pick false is0 false is1 false is2 false is3 true is4 b5 is5 b6 is6 b7 is7 e' = record { subcommand = Graph; name_is = (bytes_eq-Decides name (codes "graph")).0 is4; job_is = e' }
-    pick false is0 false is1 false is2 false is3 false is4 true is5 b6 is6 b7 is7 e' = record { subcommand = Show; name_is = (bytes_eq-Decides name (codes "show")).0 is5; job_is = e' }
-    pick false is0 false is1 false is2 false is3 false is4 false is5 true is6 b7 is7 e' = record { subcommand = Replay; name_is = (bytes_eq-Decides name (codes "replay")).0 is6; job_is = e' }
-    pick false is0 false is1 false is2 false is3 false is4 false is5 false is6 true is7 e' = record { subcommand = Try; name_is = (bytes_eq-Decides name (codes "try")).0 is7; job_is = e' }
-    pick false is0 false is1 false is2 false is3 false is4 false is5 false is6 false is7 e' = absurd (not_none job e')
+        → (b7 : Bool) → same name (codes "find") ≡ b7
+        → (b8 : Bool) → same name (codes "try") ≡ b8
+        → option_and_then (job_by g) (cond b0 (Some Check) (cond b1 (Some Generate) (cond b2 (Some Places) (cond b3 (Some Axioms) (cond b4 (Some Graph) (cond b5 (Some Show) (cond b6 (Some Replay) (cond b7 (Some Find) (cond b8 (Some Try) None))))))))) ≡ Some job → IsNamed name g job
+    pick true is0 b1 is1 b2 is2 b3 is3 b4 is4 b5 is5 b6 is6 b7 is7 b8 is8 e' = record { subcommand = Check; name_is = (bytes_eq-Decides name (codes "check")).0 is0; job_is = e' }
+    pick false is0 true is1 b2 is2 b3 is3 b4 is4 b5 is5 b6 is6 b7 is7 b8 is8 e' = record { subcommand = Generate; name_is = (bytes_eq-Decides name (codes "generate")).0 is1; job_is = e' }
+    pick false is0 false is1 true is2 b3 is3 b4 is4 b5 is5 b6 is6 b7 is7 b8 is8 e' = record { subcommand = Places; name_is = (bytes_eq-Decides name (codes "places")).0 is2; job_is = e' }
+    pick false is0 false is1 false is2 true is3 b4 is4 b5 is5 b6 is6 b7 is7 b8 is8 e' = record { subcommand = Axioms; name_is = (bytes_eq-Decides name (codes "axioms")).0 is3; job_is = e' }
+    pick false is0 false is1 false is2 false is3 true is4 b5 is5 b6 is6 b7 is7 b8 is8 e' = record { subcommand = Graph; name_is = (bytes_eq-Decides name (codes "graph")).0 is4; job_is = e' }
+    pick false is0 false is1 false is2 false is3 false is4 true is5 b6 is6 b7 is7 b8 is8 e' = record { subcommand = Show; name_is = (bytes_eq-Decides name (codes "show")).0 is5; job_is = e' }
+    pick false is0 false is1 false is2 false is3 false is4 false is5 true is6 b7 is7 b8 is8 e' = record { subcommand = Replay; name_is = (bytes_eq-Decides name (codes "replay")).0 is6; job_is = e' }
+    pick false is0 false is1 false is2 false is3 false is4 false is5 false is6 true is7 b8 is8 e' = record { subcommand = Find; name_is = (bytes_eq-Decides name (codes "find")).0 is7; job_is = e' }
+    pick false is0 false is1 false is2 false is3 false is4 false is5 false is6 false is7 true is8 e' = record { subcommand = Try; name_is = (bytes_eq-Decides name (codes "try")).0 is8; job_is = e' }
+    pick false is0 false is1 false is2 false is3 false is4 false is5 false is6 false is7 false is8 e' = absurd (not_none job e')

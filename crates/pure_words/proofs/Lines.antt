@@ -16,7 +16,7 @@ use Rattle.pure_words.specs.Table.{name_of, row_of}
 use Rattle.pure_words.specs.Words.{Item, is_well_formed, words_of, no_given, given_by}
 use Rattle.pure_words.specs.declared.given.Given.{Given}
 use Rattle.pure_words.specs.declared.table.Subcommand.{Subcommand}
-use Rattle.pure_words.specs.declared.table.Subcommand.TheVariants.{Check, Generate, Places, Axioms, Graph, Show, Replay, Try}
+use Rattle.pure_words.specs.declared.table.Subcommand.TheVariants.{Check, Generate, Places, Axioms, Graph, Show, Replay, Find, Try}
 use Rattle.pure_words.specs.declared.table.Takes.{Takes}
 use Rattle.pure_words.proofs.Fits.{Fits, at_most_once, at_most_one}
 use Rattle.pure_words.proofs.Rows.{at_end, found, found_new, found_other, no_row, some_not_none}
@@ -123,6 +123,21 @@ table_of Show = record {
   most = omega arith;
 }
 table_of Replay = record {
+  jobs_long = λ e. absurd (false≢true e);
+  jobs_short = λ e. absurd (false≢true e);
+  jobs = λ e. absurd (false≢true e);
+  cancel_long = λ e. absurd (false≢true e);
+  cancel = λ e. absurd (false≢true e);
+  fail_fast_long = λ e. absurd (false≢true e);
+  first_place = λ _. refl;
+  first = λ _. refl;
+  second_place = λ (e : 2 ≤ 1). absurd (omega (arith, e));
+  second = λ (e : 2 ≤ 1). absurd (omega (arith, e));
+  third_place = λ (e : 3 ≤ 1). absurd (omega (arith, e));
+  third = λ (e : 3 ≤ 1). absurd (omega (arith, e));
+  most = omega arith;
+}
+table_of Find = record {
   jobs_long = λ e. absurd (false≢true e);
   jobs_short = λ e. absurd (false≢true e);
   jobs = λ e. absurd (false≢true e);
@@ -258,6 +273,9 @@ finished_shows Show rows pending g fits shows =
 finished_shows Replay rows pending g fits shows =
     let whole = settled_rows (leaf Replay).rules pending rows in
     subst (λ rs. ShowsAll rs g) (sym (no_defaults (leaf Replay).rules whole refl)) (unflagged whole g g.fail_fast refl fits.fail_fast shows)
+finished_shows Find rows pending g fits shows =
+    let whole = settled_rows (leaf Find).rules pending rows in
+    subst (λ rs. ShowsAll rs g) (sym (no_defaults (leaf Find).rules whole refl)) (unflagged whole g g.fail_fast refl fits.fail_fast shows)
 finished_shows Try rows pending g fits shows =
     let whole = settled_rows (leaf Try).rules pending rows in
     subst (λ rs. ShowsAll rs g) (sym (no_defaults (leaf Try).rules whole refl)) (unflagged whole g g.fail_fast refl fits.fail_fast shows)
@@ -334,6 +352,9 @@ leaf_valid Show rows g whole shows =
 leaf_valid Replay rows g whole shows =
     let first = argument_given (argument_full 1 (codes "first")) rows g.arguments shows.first (omega (arith, whole)) in
     rw first refl
+leaf_valid Find rows g whole shows =
+    let first = argument_given (argument_full 1 (codes "first")) rows g.arguments shows.first (omega (arith, whole)) in
+    rw first refl
 leaf_valid Try rows g whole shows =
     let first = argument_given (argument_full 1 (codes "first")) rows g.arguments shows.first (omega (arith, whole)) in
     rw first refl
@@ -346,6 +367,7 @@ defaults_pass Axioms = refl
 defaults_pass Graph = refl
 defaults_pass Show = refl
 defaults_pass Replay = refl
+defaults_pass Find = refl
 defaults_pass Try = refl
 
 -- a subcommand takes its words
@@ -381,6 +403,7 @@ stops Axioms words = sym (walk_stopped whole_line.top.rules (names_of whole_line
 stops Graph words = sym (walk_stopped whole_line.top.rules (names_of whole_line) (walk_from nothing_held) (codes "graph") [] words)
 stops Show words = sym (walk_stopped whole_line.top.rules (names_of whole_line) (walk_from nothing_held) (codes "show") [] words)
 stops Replay words = sym (walk_stopped whole_line.top.rules (names_of whole_line) (walk_from nothing_held) (codes "replay") [] words)
+stops Find words = sym (walk_stopped whole_line.top.rules (names_of whole_line) (walk_from nothing_held) (codes "find") [] words)
 stops Try words = sym (walk_stopped whole_line.top.rules (names_of whole_line) (walk_from nothing_held) (codes "try") [] words)
 
 left_over : (name : Text) (seen words : List Text) → walk_passes whole_line.top (names_of whole_line) (stopped_at name seen) words ≡ true
@@ -397,6 +420,7 @@ top_passes Axioms words = left_over (codes "axioms") [] words
 top_passes Graph words = left_over (codes "graph") [] words
 top_passes Show words = left_over (codes "show") [] words
 top_passes Replay words = left_over (codes "replay") [] words
+top_passes Find words = left_over (codes "find") [] words
 top_passes Try words = left_over (codes "try") [] words
 
 entered_level : (s : Subcommand) (words : List Text) → entered_passes whole_line (Some (name_of s, words)) ≡ level_passes (leaf s) [] nothing_held words false
@@ -407,6 +431,7 @@ entered_level Axioms words = refl
 entered_level Graph words = refl
 entered_level Show words = refl
 entered_level Replay words = refl
+entered_level Find words = refl
 entered_level Try words = refl
 
 entered_rows : (s : Subcommand) (words : List Text) → entered whole_line (Some (name_of s, words)) ≡ Some (name_of s, rows_after (leaf s).rules [] words)
@@ -417,6 +442,7 @@ entered_rows Axioms words = refl
 entered_rows Graph words = refl
 entered_rows Show words = refl
 entered_rows Replay words = refl
+entered_rows Find words = refl
 entered_rows Try words = refl
 
 -- A line of the grammar is taken.

@@ -3,12 +3,12 @@ use Rattle.std.proofs.lemmas.Bool.Decides.{nat_tests}
 use Rattle.std.proofs.Common.{◌≡◌, ◌≢◌, suc, arith, ◌∙◌, ℕ, ◌==◌, Bool, true, false, List, [], ◌∷◌, Option, Some, None, length, refl, sym, ap, cond, codes, ◌&&◌}
 use Rattle.std.specs.Prelude.{if◌then◌else◌, option_and_then}
 use Rattle.pure_grammar.specs.Theories.Lexeme.{same}
-use Rattle.pure_words.specs.Commands.{TableMeans, check_of, generate_of, places_of, axioms_of, graph_of, show_of, replay_of, try_of, checked, generated, tried, cancels_of, fail_fast_of, identifier_given, is_none, is_taken, job_by, job_of, name_given, size_of, with_places, with_axioms, with_graph, with_show, with_replay, workers_of}
+use Rattle.pure_words.specs.Commands.{TableMeans, check_of, generate_of, places_of, axioms_of, graph_of, show_of, replay_of, find_of, try_of, checked, generated, tried, cancels_of, fail_fast_of, identifier_given, is_none, is_taken, job_by, job_of, name_given, size_of, with_places, with_axioms, with_graph, with_show, with_replay, with_find, workers_of}
 use Rattle.pure_words.specs.Table.{subcommand_named}
 use Rattle.pure_words.specs.declared.job.Job.{Job}
 use Rattle.pure_words.specs.declared.given.Given.{Given}
 use Rattle.pure_words.specs.declared.command.Size.{Size}
-use Rattle.pure_words.specs.declared.table.Subcommand.TheVariants.{Check, Generate, Places, Axioms, Graph, Show, Replay, Try}
+use Rattle.pure_words.specs.declared.table.Subcommand.TheVariants.{Check, Generate, Places, Axioms, Graph, Show, Replay, Find, Try}
 
 same_either : {X : Type 0} (b : Bool) (x : X) → cond b x x ≡ x
 same_either true x = refl
@@ -92,6 +92,19 @@ replay_by true true true (a ∷ b ∷ rest) = same_either (length (a ∷ b ∷ r
 replay_same : (g : Given) → job_by g Replay ≡ replay_of g
 replay_same g = replay_by (is_none g.jobs) (is_none g.cancels) (is_none g.fail_fast) g.arguments
 
+find_by : (jobs cancels fail_fast : Bool) (arguments : List (List ℕ))
+    → (if jobs && (cancels && (fail_fast && length arguments == 1)) then with_find (name_given arguments) else None)
+    ≡ (if jobs && (cancels && fail_fast) then with_find (name_given arguments) else None)
+find_by false cancels fail_fast arguments = refl
+find_by true false fail_fast arguments = refl
+find_by true true false arguments = refl
+find_by true true true [] = refl
+find_by true true true (a ∷ []) = refl
+find_by true true true (a ∷ b ∷ rest) = same_either (length (a ∷ b ∷ rest) == 1) None
+
+find_same : (g : Given) → job_by g Find ≡ find_of g
+find_same g = find_by (is_none g.jobs) (is_none g.cancels) (is_none g.fail_fast) g.arguments
+
 -- one argument, else there is no name
 named_same : (workers : Option ℕ) (cancels fail_fast : Bool) (arguments : List (List ℕ))
     → (if cancels && (fail_fast && length arguments == 1) then tried workers (name_given arguments) else None)
@@ -107,19 +120,20 @@ named_same (Some n) true true (a ∷ b ∷ rest) = same_either (length (a ∷ b 
 try_same : (g : Given) → job_by g Try ≡ try_of g
 try_same g = named_same (workers_of g.jobs) (is_none g.cancels) (is_none g.fail_fast) g.arguments
 
-by_name : (check generate places axioms graph show replay try : Bool) (g : Given)
-    → option_and_then (job_by g) (cond check (Some Check) (cond generate (Some Generate) (cond places (Some Places) (cond axioms (Some Axioms) (cond graph (Some Graph) (cond show (Some Show) (cond replay (Some Replay) (cond try (Some Try) None))))))))
-    ≡ (if check then check_of g else (if generate then generate_of g else (if places then places_of g else (if axioms then axioms_of g else (if graph then graph_of g else (if show then show_of g else (if replay then replay_of g else (if try then try_of g else None))))))))
-by_name true generate places axioms graph show replay try g = check_same g
-by_name false true places axioms graph show replay try g = generate_same g
-by_name false false true axioms graph show replay try g = places_same g
-by_name false false false true graph show replay try g = axioms_same g
-by_name false false false false true show replay try g = graph_same g
-by_name false false false false false true replay try g = show_same g
-by_name false false false false false false true try g = replay_same g
-by_name false false false false false false false true g = try_same g
-by_name false false false false false false false false g = refl
+by_name : (check generate places axioms graph show replay find try : Bool) (g : Given)
+    → option_and_then (job_by g) (cond check (Some Check) (cond generate (Some Generate) (cond places (Some Places) (cond axioms (Some Axioms) (cond graph (Some Graph) (cond show (Some Show) (cond replay (Some Replay) (cond find (Some Find) (cond try (Some Try) None)))))))))
+    ≡ (if check then check_of g else (if generate then generate_of g else (if places then places_of g else (if axioms then axioms_of g else (if graph then graph_of g else (if show then show_of g else (if replay then replay_of g else (if find then find_of g else (if try then try_of g else None)))))))))
+by_name true generate places axioms graph show replay find try g = check_same g
+by_name false true places axioms graph show replay find try g = generate_same g
+by_name false false true axioms graph show replay find try g = places_same g
+by_name false false false true graph show replay find try g = axioms_same g
+by_name false false false false true show replay find try g = graph_same g
+by_name false false false false false true replay find try g = show_same g
+by_name false false false false false false true find try g = replay_same g
+by_name false false false false false false false true try g = find_same g
+by_name false false false false false false false false true g = try_same g
+by_name false false false false false false false false false g = refl
 
 pub table_means : TableMeans
 unfolding job_of subcommand_named
-table_means name g = by_name (same name (codes "check")) (same name (codes "generate")) (same name (codes "places")) (same name (codes "axioms")) (same name (codes "graph")) (same name (codes "show")) (same name (codes "replay")) (same name (codes "try")) g
+table_means name g = by_name (same name (codes "check")) (same name (codes "generate")) (same name (codes "places")) (same name (codes "axioms")) (same name (codes "graph")) (same name (codes "show")) (same name (codes "replay")) (same name (codes "find")) (same name (codes "try")) g

@@ -6,7 +6,7 @@ use Rattle.pure_words.specs.Values.{comma, number_of, within, parts, cancels_in,
 use Rattle.pure_words.specs.Table.{row_of, subcommand_named}
 use Rattle.pure_words.specs.declared.job.CancelWord.{CancelWord}
 use Rattle.pure_words.specs.declared.job.Job.{Job}
-use Rattle.pure_words.specs.declared.job.Job.TheVariants.{Check, Generate, Places, Axioms, Graph, Show, Replay, Try}
+use Rattle.pure_words.specs.declared.job.Job.TheVariants.{Check, Generate, Places, Axioms, Graph, Show, Replay, Find, Try}
 use Rattle.pure_words.specs.declared.given.Given.{Given}
 use Rattle.pure_words.specs.declared.command.Size.{Size}
 use Rattle.pure_words.specs.declared.table.Subcommand.{Subcommand}
@@ -93,6 +93,11 @@ abbrev pub with_replay : Option (List ℕ) → Option Job
 with_replay (Some name) = Some (Replay name)
 with_replay None = None
 
+-- the job of `find`, where its name is right
+abbrev pub with_find : Option (List ℕ) → Option Job
+with_find (Some name) = Some (Find name)
+with_find None = None
+
 -- the job of `try`, where all its values are right
 abbrev pub tried : Option ℕ → Option (List ℕ) → Option Job
 tried (Some workers) (Some name) = Some (Try workers name)
@@ -133,6 +138,11 @@ abbrev pub replay_of : Given → Option Job
 replay_of g =
     if is_none g.jobs && (is_none g.cancels && is_none g.fail_fast) then with_replay (identifier_given g.arguments) else None
 
+-- `find`: NAME
+abbrev pub find_of : Given → Option Job
+find_of g =
+    if is_none g.jobs && (is_none g.cancels && is_none g.fail_fast) then with_find (name_given g.arguments) else None
+
 -- `try`: --jobs, and NAME
 abbrev pub try_of : Given → Option Job
 try_of g =
@@ -152,6 +162,7 @@ job_given table.Axioms g = with_axioms (workers_of g.jobs) (name_given g.argumen
 job_given table.Graph g = with_graph (workers_of g.jobs)
 job_given table.Show g = with_show (name_given g.arguments)
 job_given table.Replay g = with_replay (identifier_given g.arguments)
+job_given table.Find g = with_find (name_given g.arguments)
 job_given table.Try g = tried (workers_of g.jobs) (name_given g.arguments)
 
 -- the job of a subcommand, where it takes what is given
@@ -172,5 +183,6 @@ TableMeans = (name : List ℕ) (g : Given) → job_of name g
     else (if same name (codes "graph") then graph_of g
     else (if same name (codes "show") then show_of g
     else (if same name (codes "replay") then replay_of g
+    else (if same name (codes "find") then find_of g
     else (if same name (codes "try") then try_of g
-    else None))))))))
+    else None)))))))))

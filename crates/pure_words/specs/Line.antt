@@ -8,7 +8,7 @@ use Rattle.pure_words.specs.Commands.{job_of}
 use Rattle.pure_words.specs.Words.{IsCommand}
 use Rattle.pure_words.specs.Table.{name_of, row_of}
 use Rattle.pure_words.specs.declared.table.Subcommand.{Subcommand}
-use Rattle.pure_words.specs.declared.table.Subcommand.TheVariants.{Check, Generate, Places, Axioms, Graph, Show, Replay, Try}
+use Rattle.pure_words.specs.declared.table.Subcommand.TheVariants.{Check, Generate, Places, Axioms, Graph, Show, Replay, Find, Try}
 use Rattle.pure_words.specs.declared.given.Given.{Given}
 use Rattle.pure_words.specs.declared.job.Job.{Job}
 use Rattle.pure_words.specs.declared.table.Takes.{Takes}
@@ -54,7 +54,7 @@ with_made a s = with_subcommand a (subcommand_app s).top
 
 -- the whole command
 abbrev pub line_app : App
-line_app = with_made (with_made (with_made (with_made (with_made (with_made (with_made (with_made bare_app Check) Generate) Places) Axioms) Graph) Show) Replay) Try
+line_app = with_made (with_made (with_made (with_made (with_made (with_made (with_made (with_made (with_made bare_app Check) Generate) Places) Axioms) Graph) Show) Replay) Find) Try
 
 -- ---- what the matches give
 

@@ -207,6 +207,16 @@ fn replay(alloc: Global, given: &Given) -> Result<Option<Job>, AllocError>
     }
 }
 
+/// The job of `find`.
+fn find(alloc: Global, given: &Given) -> Result<Option<Job>, AllocError>
+    ensures { IfOk result (λ found. found ≡ spec.job_given Subcommand.Find given.now) }
+{
+    match name_in(alloc, given.arguments.list())? {
+        Some(name) => Ok(Some(Job::Find { name })),
+        None => Ok(None),
+    }
+}
+
 /// The job of `try`.
 fn try_lemma(alloc: Global, given: &Given) -> Result<Option<Job>, AllocError>
     ensures { IfOk result (λ found. found ≡ spec.job_given Subcommand.Try given.now) }
@@ -235,6 +245,7 @@ fn job_by(alloc: Global, subcommand: Subcommand, given: &Given) -> Result<Option
         Subcommand::Graph => Ok(graph(given)),
         Subcommand::Show => show(alloc, given),
         Subcommand::Replay => replay(alloc, given),
+        Subcommand::Find => find(alloc, given),
         Subcommand::Try => try_lemma(alloc, given),
     }
 }

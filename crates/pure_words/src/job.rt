@@ -90,6 +90,10 @@ pub enum Job {
     Replay {
         name: Text,
     },
+    /// Say of which facts the statement of the lemma with this full name is an instance.
+    Find {
+        name: Text,
+    },
     /// Look for a proof in one step of the lemma with this full name.
     Try {
         workers: u32,

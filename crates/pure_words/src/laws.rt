@@ -8,7 +8,7 @@ pub fn one_reading()
     ensures { OneReading }
 {}
 
-/// What the table says of each subcommand, written out: `check`, `generate`, `places`, `axioms`, `graph`, `show`, `replay` and `try` take what they take, and there is no other.
+/// What the table says of each subcommand, written out: `check`, `generate`, `places`, `axioms`, `graph`, `show`, `replay`, `find` and `try` take what they take, and there is no other.
 pub fn table_means()
     ensures { TableMeans }
 {}

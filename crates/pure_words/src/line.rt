@@ -138,6 +138,7 @@ fn line<'a>(alloc: Global) -> Result<Command<'a>, AllocError>
     let command = with_subcommand(alloc, command, Subcommand::Graph)?;
     let command = with_subcommand(alloc, command, Subcommand::Show)?;
     let command = with_subcommand(alloc, command, Subcommand::Replay)?;
+    let command = with_subcommand(alloc, command, Subcommand::Find)?;
     let command = with_subcommand(alloc, command, Subcommand::Try)?;
     Ok(command)
 }

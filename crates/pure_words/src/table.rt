@@ -12,6 +12,7 @@ pub(crate) enum Subcommand {
     Graph,
     Show,
     Replay,
+    Find,
     Try,
 }
 
@@ -36,6 +37,7 @@ pub(crate) fn name_of<'a>(subcommand: Subcommand) -> &'a str
         Subcommand::Graph => "graph",
         Subcommand::Show => "show",
         Subcommand::Replay => "replay",
+        Subcommand::Find => "find",
         Subcommand::Try => "try",
     }
 }
@@ -87,6 +89,12 @@ pub(crate) fn row_of(subcommand: Subcommand) -> Takes
             fail_fast: false,
             arguments: 1,
         },
+        Subcommand::Find => Takes {
+            jobs: false,
+            cancel: false,
+            fail_fast: false,
+            arguments: 1,
+        },
         Subcommand::Try => Takes {
             jobs: true,
             cancel: false,
@@ -121,6 +129,9 @@ pub(crate) fn subcommand_named(name: &[u8]) -> Option<Subcommand>
     }
     if name == b"replay".as_slice() {
         return Some(Subcommand::Replay);
+    }
+    if name == b"find".as_slice() {
+        return Some(Subcommand::Find);
     }
     if name == b"try".as_slice() {
         return Some(Subcommand::Try);

@@ -114,6 +114,7 @@ fn push_job(alloc: Global, text: &mut Vec<u8>, job: &Job) -> Result<(), AllocErr
         Job::Graph { workers } => push_workers(alloc, text, b"graph", *workers),
         Job::Show { name } => push_named(text, b"show", name),
         Job::Replay { name } => push_named(text, b"replay", name),
+        Job::Find { name } => push_named(text, b"find", name),
         Job::Try { workers, name } => push_both(alloc, text, b"try", *workers, name),
     }
 }
