@@ -1,6 +1,7 @@
 //! Whether pairs are such as the call asks for.
-ghost use Rattle.std.specs.Prelude.{◌≡◌, [], IfSome, IsTrue};
+ghost use Rattle.std.specs.Prelude.{◌≡◌, [], IfSome};
 ghost use Rattle.std.specs.Bool.{OnTrue};
+ghost use Rattle.pure_definitions.specs.Types.Typ.{typ_eq};
 ghost use Rattle.pure_definitions.specs.Terms.Typing.{HasType};
 ghost use Rattle.pure_pattern_laws.specs.Answers.{AreReady};
 ghost use Rattle.pure_pattern_rows.specs.Sides.{IsSide, IsReadyPair};
@@ -40,9 +41,9 @@ fn side_typ(alloc: Global, t: &Term) -> Option<Typ>
 
 /// Whether the types are equal.
 fn are_one(left: &Typ, right: &Typ) -> bool
-    ensures { IsTrue result → left.now ≡ right.now }
+    ensures { result ≡ typ_eq left.now right.now }
 {
-    left == right
+    *left == *right
 }
 
 /// Whether both sides are such, and of one type.
