@@ -13,7 +13,7 @@ use Rattle.pure_logic.specs.Content.{TheoryId, Content}
 use Rattle.pure_logic.specs.Beginning.{theories_of}
 use Rattle.pure_logic.proofs.AncestorLaws.{theories_are_told_apart}
 use Rattle.pure_lookup.specs.Meaning.{Space, IsDeclaredIn, pure_text, full_text, Meaning, Declared, Built, IsWritable, IsVisible, IsMeantInFull, IsMeantByBase, IsMeant}
-use Rattle.pure_lookup.specs.Places.{IsIndexOf, IsPlaceOf, IsTheoryIn, IsBest}
+use Rattle.pure_lookup.specs.Places.{IsIndexOf, IsPlaceOf, IsTheoryIn, IsBest, IsPassed}
 use Rattle.pure_lookup.specs.Laws.{IsInSession}
 use Rattle.pure_lookup.proofs.MeaningLaws.{visible-writable}
 use Rattle.pure_lookup.proofs.TextLemmas.{one_name, pure-has_no_dot, one_cut}
@@ -171,13 +171,10 @@ module _ (texts : List (List ℕ)) (Q : Content) (space : Space) where
 
     -- What is passed over: a name that is visible nowhere, or before the last place.
     module _ (n last : ℕ) where
-      abbrev pub IsPassed : Type 0
-      IsPassed = (p : ℕ) (t b : List ℕ) → IsVisible texts Q space p t b (Declared n) → p < last
-
-      pub passed-unplaced : (IsWritable Q space n → IsPlaceOf texts Q space n None) → IsPassed
+      pub passed-unplaced : (IsWritable Q space n → IsPlaceOf texts Q space n None) → IsPassed texts Q space n last
       passed-unplaced absent p t b v = absurd (absent (visible-writable texts Q space p t b n v) p t b v)
 
-      pub passed-unwritable : (¬ IsWritable Q space n) → IsPassed
+      pub passed-unwritable : (¬ IsWritable Q space n) → IsPassed texts Q space n last
       passed-unwritable none p t b v = absurd (none (visible-writable texts Q space p t b n v))
 
       same-place : (p q : ℕ) (t u b c : List ℕ) → IsVisible texts Q space p t b (Declared n) → IsVisible texts Q space q u c (Declared n) → p ≡ q
@@ -186,13 +183,13 @@ module _ (texts : List (List ℕ)) (Q : Content) (space : Space) where
           let bases : c ≡ b = (one_cut u t c b (visible-clean q u c (Declared n) w) (visible-clean p t b (Declared n) v) full).1 in
           place-once b n p q t u v (subst (λ k. IsVisible texts Q space q u k (Declared n)) bases w)
 
-      pub passed-before : (place : ℕ) → (IsWritable Q space n → IsPlaceOf texts Q space n (Some place)) → place < last → IsPassed
+      pub passed-before : (place : ℕ) → (IsWritable Q space n → IsPlaceOf texts Q space n (Some place)) → place < last → IsPassed texts Q space n last
       passed-before place here less p t b v =
           let there = here (visible-writable texts Q space p t b n v) in
           let same = same-place p place t there.0 b there.1 v there.2 in
           omega (arith, same, less)
 
-    pub passed-everywhere : (n : ℕ) → IsPassed n 0 → IsPlaceOf texts Q space n None
+    pub passed-everywhere : (n : ℕ) → IsPassed texts Q space n 0 → IsPlaceOf texts Q space n None
     passed-everywhere n passed p t b v = let less = passed p t b v in absurd (omega (arith, less))
 
     -- One name more in front.
@@ -204,7 +201,7 @@ module _ (texts : List (List ℕ)) (Q : Content) (space : Space) where
       best-front None last (start, none_so) = (start, λ n m. none_so n (turned-in n m))
       best-front (Some b) last (there, after) = (there, λ n m. after n (turned-in n m))
 
-      pub best-passed : (best : Option ℕ) (last : ℕ) → IsPassed x last → IsBest texts Q space base names best last → IsBest texts Q space base (x ∷ names) best last
+      pub best-passed : (best : Option ℕ) (last : ℕ) → IsPassed texts Q space x last → IsBest texts Q space base names best last → IsBest texts Q space base (x ∷ names) best last
       best-passed None last passed (start, none_so) = (start, λ n m p t v. elim m [ inl e ↦ (let less = passed p t base (rw (← e) v) in absurd (omega (arith, start, less))) | inr i ↦ none_so n i p t v ])
       best-passed (Some b) last passed (there, after) = (there, λ n m p t v. elim m [ inl e ↦ (let less = passed p t base (rw (← e) v) in omega (arith, less)) | inr i ↦ after n i p t v ])
 

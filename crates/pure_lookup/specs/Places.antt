@@ -1,5 +1,5 @@
 -- Where in load order a name is visible, and what a look-up finds.
-use Rattle.std.specs.Prelude.{◌≡◌, ◌≤◌, ℕ, List, Option, Some, None}
+use Rattle.std.specs.Prelude.{◌≡◌, ◌<◌, ◌≤◌, ℕ, List, Option, Some, None}
 use Rattle.pure_text.specs.Lists.{IsIn}
 use Rattle.pure_logic.specs.Content.{TheoryId, Content}
 use Rattle.pure_logic.specs.Beginning.{theories_of}
@@ -24,3 +24,12 @@ abbrev pub IsBest : (texts : List (List ℕ)) → Content → Space → (base : 
 IsBest texts Q space base names None last = (last ≡ 0) × ((n : ℕ) → IsIn n names → (place : ℕ) (theory : List ℕ) → ¬ IsVisible texts Q space place theory base (Declared n))
 IsBest texts Q space base names (Some best) last = ((theory : List ℕ) × IsVisible texts Q space last theory base (Declared best))
     × ((n : ℕ) → IsIn n names → (place : ℕ) (theory : List ℕ) → IsVisible texts Q space place theory base (Declared n) → place ≤ last)
+
+-- The name is passed over: it is visible before this place alone, or nowhere.
+abbrev pub IsPassed : (texts : List (List ℕ)) → Content → Space → (n last : ℕ) → Type 0
+IsPassed texts Q space n last = (place : ℕ) (theory base : List ℕ) → IsVisible texts Q space place theory base (Declared n) → place < last
+
+-- The answer to the question at which place, not before the last one, the name is visible.
+abbrev pub IsLaterPlaceOf : (texts : List (List ℕ)) → Content → Space → (n last : ℕ) → Option ℕ → Type 0
+IsLaterPlaceOf texts Q space n last (Some place) = IsPlaceOf texts Q space n (Some place) × (last ≤ place)
+IsLaterPlaceOf texts Q space n last None = IsPassed texts Q space n last

@@ -1,11 +1,11 @@
 //! Look-ups of written names.
-ghost use Rattle.std.specs.Prelude.{◌≡◌, ◌↔◌, ◌<◌, ◌≤◌, ◌-◌, ℕ, List, IsTrue, MatchOption, Some, get_or, length};
+ghost use Rattle.std.specs.Prelude.{◌≡◌, ◌↔◌, ◌<◌, ◌≤◌, ◌-◌, ℕ, IsTrue, MatchOption, get_or, length};
 ghost use Rattle.pure_text.specs.Lists.{IsIn};
 ghost use Rattle.pure_definitions.specs.Names.{builtin_count};
 ghost use Rattle.pure_typ.specs.NameTexts.{HasText, NameHasBase, IsFound, name_texts};
-ghost use Rattle.pure_lookup.specs.Meaning.{Declared, IsWritable, IsVisible, IsMeantInFull, IsMeantByBase, IsMeant};
+ghost use Rattle.pure_lookup.specs.Meaning.{Declared, IsWritable, IsMeantInFull, IsMeantByBase, IsMeant};
 ghost use Rattle.pure_lookup.specs.Laws.{IsInSession};
-ghost use Rattle.pure_lookup.specs.Places.{IsPlaceOf, IsTheoryIn, IsBest};
+ghost use Rattle.pure_lookup.specs.Places.{IsPlaceOf, IsLaterPlaceOf, IsTheoryIn, IsBest};
 
 use crate::scope::Scope;
 use pure_typ::{BUILTIN_COUNT, Name, Names, NamesByBase};
@@ -132,9 +132,7 @@ fn later_place<S: Scope>(
     gap: &mut u32,
 ) -> Option<u64>
     requires { IsInSession names.now (S.content scope.now) }
-    ensures { MatchOption result
-        ((place : ℕ) (theory base : List ℕ) → IsVisible names.now (S.content scope.now) (S.space scope.now) place theory base (Declared name) → place < last)
-        (λ place. IsPlaceOf names.now (S.content scope.now) (S.space scope.now) name (Some place) × (last ≤ place)) }
+    ensures { IsLaterPlaceOf names.now (S.content scope.now) (S.space scope.now) name last result }
 {
     let Some(place) = place_if_writable(scope, names, name, gap) else {
         return None;
