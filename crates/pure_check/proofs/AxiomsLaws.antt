@@ -77,7 +77,7 @@ module _ (P : Place) where
   outcome-fits (Const x span) o (k, is, h) = said-fits (Const x span) (IsConstChange P k span) o h
   outcome-fits (Axiom x span) o (k, is, h) = said-fits (Axiom x span) (IsAxiomChange P k span) o h
   outcome-fits (Definition x typ text) o (k, f, is, also, h) = said-fits (Definition x typ text) (IsDefinitionChange P x k f typ text) o h
-  outcome-fits (Lemma x span script) o (k, is, h) = lemma-fits k _ is span script o h
+  outcome-fits (Lemma x span haves script) o (k, is, h) = lemma-fits k _ is span script o h
 
   answer-fits : (command : Command) (o : Outcome) (answer : Result Outcome Reason) → IsOutcome P command answer → o ≡ outcome_of P command answer → Fits P.texts o.note
   answer-fits command o (Ok p) h e = subst (λ (x : Outcome). Fits P.texts x.note) (sym e) (outcome-fits command p h)

@@ -179,7 +179,7 @@ module _ (P : Place) (n : ℕ) (A : Term) where
   outcome-comes (Const x span) o (k, is, h) = said-comes (Const x span) (IsConstChange P k span) ⊥ (const-adds k span) (no-row (Const x span)) o h
   outcome-comes (Axiom x span) o (k, is, h) = said-comes (Axiom x span) (IsAxiomChange P k span) (n ≡ k) (axiom-adds k span) (axiom-row x span k is) o h
   outcome-comes (Definition x typ text) o (k, f, is, also, h) = said-comes (Definition x typ text) (IsDefinitionChange P x k f typ text) (n ≡ f) (definition-adds x k f typ text) (definition-row x typ text f also) o h
-  outcome-comes (Lemma x span script) o (k, is, h) = lemma-comes x k span script o h
+  outcome-comes (Lemma x span haves script) o (k, is, h) = lemma-comes x k span script o h
 
   answer-comes : (command : Command) (o : Outcome) (answer : Result Outcome Reason) → IsOutcome P command answer → o ≡ outcome_of P command answer → Comes o
   answer-comes command o (Ok p) h e = subst Comes (sym e) (outcome-comes command p h)

@@ -81,7 +81,7 @@ module _ (P : Place) (session : IsInSession P.texts P.content) (sound : IsSound 
     label_is = refl;
     content_is = refl;
     proposition = (stated-of P.source b.span b.stated b.states).proposition;
-    from = (b.base, b.span, b.command_is);
+    from = (b.base, b.span, b.haves, b.command_is);
   })
 
 pub forks_bound : ForksBound

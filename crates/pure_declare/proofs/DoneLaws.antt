@@ -7,7 +7,7 @@ use Rattle.pure_definitions.specs.Types.Order.{Class, Arity, IsCoregular}
 use Rattle.pure_definitions.specs.Terms.Term.{Term}
 use Rattle.pure_definitions.specs.Terms.Subst.{typ_instance}
 use Rattle.pure_definitions.specs.Declarations.Decl.{ClassDecl, ConDecl, ArityDecl, ConstDecl, AxiomDecl, algebra_of}
-use Rattle.pure_grammar.specs.Theories.TheoryText.{Span, Step, Command, Class as ClassOf, TypeDecl, Arity as ArityOf, Const, Axiom, Definition, Lemma}
+use Rattle.pure_grammar.specs.Theories.TheoryText.{Span, Step, Have, Command, Class as ClassOf, TypeDecl, Arity as ArityOf, Const, Axiom, Definition, Lemma}
 use Rattle.pure_grammar.specs.Terms.RawTree.{RawTree}
 use Rattle.pure_order.specs.OrderTables.Arities.{with_arity}
 use Rattle.pure_order.specs.OrderTables.Unknown.{HasArityFor}
@@ -58,10 +58,11 @@ pub data IsChanged (P : Place) (R : Content) : Type 0 where
 pub record IsBinding (P : Place) (command : Command) (o : Outcome) : Type 0 where
   pub base : List ℕ
   pub span : Span
+  pub haves : List Have
   pub script : List Step
   pub number : ℕ
   pub stated : Stated
-  pub command_is : command ≡ Lemma base span script
+  pub command_is : command ≡ Lemma base span haves script
   pub new : IsTaken P facts number → ⊥
   pub states : IsStated (vocabulary P) P.source span (Ok stated)
   pub is : o ≡ forking P number script stated
@@ -162,12 +163,12 @@ module _ (P : Place) where
       let same : o ≡ saying P command c = given-outcome o (saying P command c) e in
       changes (declared_row P.theory command c.tail) (ap (λ (x : Outcome). x.note) same) (subst (λ (x : Outcome). IsChanged P x.next) (sym same) (changed c h))
 
-  lemma-done : (base : List ℕ) (n : ℕ) (span : Span) (script : List Step) (o : Outcome) → IsLemmaOutcome P n span script (Ok o) → IsDone P (Lemma base span script) o
+  lemma-done : (base : List ℕ) (n : ℕ) (span : Span) (haves : List Have) (script : List Step) (o : Outcome) → IsLemmaOutcome P n span script (Ok o) → IsDone P (Lemma base span haves script) o
   unfolding IsLemmaOutcome
-  lemma-done base n span script o (holds h e) = absurd (cc)
-  lemma-done base n span script o (passes new (refuses reason h e)) = absurd (cc)
-  lemma-done base n span script o (passes new (goes_on s h e)) =
-      binds (record { base = base; span = span; script = script; number = n; stated = s; command_is = refl; new = new; states = h; is = given-outcome o (forking P n script s) e })
+  lemma-done base n span haves script o (holds h e) = absurd (cc)
+  lemma-done base n span haves script o (passes new (refuses reason h e)) = absurd (cc)
+  lemma-done base n span haves script o (passes new (goes_on s h e)) =
+      binds (record { base = base; span = span; haves = haves; script = script; number = n; stated = s; command_is = refl; new = new; states = h; is = given-outcome o (forking P n script s) e })
 
   outcome-done : (command : Command) (o : Outcome) → IsOutcome P command (Ok o) → IsDone P command o
   outcome-done (ClassOf x names) o (n, is, h) = said-done (ClassOf x names) (IsClassChange P n names) (class-changed n names) o h
@@ -176,7 +177,7 @@ module _ (P : Place) where
   outcome-done (Const x span) o (n, is, h) = said-done (Const x span) (IsConstChange P n span) (const-changed n span) o h
   outcome-done (Axiom x span) o (n, is, h) = said-done (Axiom x span) (IsAxiomChange P n span) (axiom-changed n span) o h
   outcome-done (Definition x typ text) o (n, f, is, also, h) = said-done (Definition x typ text) (IsDefinitionChange P x n f typ text) (definition-changed x n f typ text) o h
-  outcome-done (Lemma x span script) o (n, is, h) = lemma-done x n span script o h
+  outcome-done (Lemma x span haves script) o (n, is, h) = lemma-done x n span haves script o h
 
   answer-done : (command : Command) (o : Outcome) (answer : Result Outcome Reason) → IsOutcome P command answer → o ≡ outcome_of P command answer → IsDone P command o
   answer-done command o (Ok p) h e = subst (IsDone P command) (sym e) (outcome-done command p h)

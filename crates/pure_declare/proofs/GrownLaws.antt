@@ -175,7 +175,7 @@ module _ (P : Place) (s : IsInSession P.texts P.content) (content : IsContent P.
   outcome-grows (Const x span) o (n, is, h) = said (Const x span) (IsConstChange P n span) (const-grows n span) o h
   outcome-grows (Axiom x span) o (n, is, h) = said (Axiom x span) (IsAxiomChange P n span) (axiom-grows n span) o h
   outcome-grows (Definition x typ text) o (n, f, is, also, h) = said (Definition x typ text) (IsDefinitionChange P x n f typ text) (definition-grows x n f typ text) o h
-  outcome-grows (Lemma x span script) o (n, is, h) = lemma-grows n span script o h
+  outcome-grows (Lemma x span haves script) o (n, is, h) = lemma-grows n span script o h
 
   answer-grows : (command : Command) (o : Outcome) (answer : Result Outcome Reason) → IsOutcome P command answer → o ≡ outcome_of P command answer → Grows o.next
   answer-grows command o (Ok p) h e = subst (λ (x : Outcome). Grows x.next) (sym e) (outcome-grows command p h)

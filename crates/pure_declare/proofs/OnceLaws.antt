@@ -142,7 +142,7 @@ module _ (P : Place) (anti : IsAntisymmetric (algebra_of P.content.declarations)
     outcome-once (Const x span) = named-once x (λ n. IsSaid P (Const x span) (IsConstChange P n span)) (λ n. said-once (Const x span) (IsConstChange P n span) (const-once n span))
     outcome-once (Axiom x span) = named-once x (λ n. IsSaid P (Axiom x span) (IsAxiomChange P n span)) (λ n. said-once (Axiom x span) (IsAxiomChange P n span) (axiom-once n span))
     outcome-once (Definition x typ text) = paired-once x typ text
-    outcome-once (Lemma x span script) = named-once x (λ n. IsLemmaOutcome P n span script) (λ n. lemma-once n span script)
+    outcome-once (Lemma x span haves script) = named-once x (λ n. IsLemmaOutcome P n span script) (λ n. lemma-once n span script)
 
     declared-once : (command : Command) (o p : Outcome) → IsDeclaredAs P command o → IsDeclaredAs P command p → o ≡ p
     declared-once command o p h k = h.comes ∙ ap (outcome_of P command) (outcome-once command h.answer k.answer h.is k.is) ∙ sym k.comes

@@ -67,7 +67,7 @@ module _ (P : Place) where
   said-outcome (Const x span) answer kind h = by-name (Const x span) x (λ n a. IsConstChange P n span a) answer h
   said-outcome (Axiom x span) answer kind h = by-name (Axiom x span) x (λ n a. IsAxiomChange P n span a) answer h
   said-outcome (Definition x typ text) answer kind h = by-names (Definition x typ text) x (λ n f a. IsDefinitionChange P x n f typ text a) answer h
-  said-outcome (Lemma x span script) answer kind h = absurd kind
+  said-outcome (Lemma x span haves script) answer kind h = absurd kind
 
   pub outcome-said : (command : Command) (r : Result Declared Failed) → IsNoLemma command → IfOk r (λ d. IsSaid P command (IsCommandChange P command) (Ok (seen_outcome d))) → IfOk r (λ d. IsOutcome P command (Ok (seen_outcome d)))
   outcome-said command (Ok d) kind h = said-outcome command (Ok (seen_outcome d)) kind h

@@ -121,7 +121,7 @@ module _ (P : Place) (g : IsGood P.content) where
       let f = full.1.0 in
       let r = said-some (Definition x typ text) (IsDefinitionChange P x n.0 f.0 typ text) (definition-some x n.0 f.0 typ text ranges.0 ranges.1.0) in
       (r.0, (n.0, f.0, n.1, f.1, r.1))
-  outcome-some (Lemma x span script) full ranges = let n = full.0 in let r = lemma-some span ranges.0 n.0 script in (r.0, (n.0, n.1, r.1))
+  outcome-some (Lemma x span haves script) full ranges = let n = full.0 in let r = lemma-some span ranges.0 n.0 script in (r.0, (n.0, n.1, r.1))
 
 pub declares_somehow : DeclaresSomehow
 declares_somehow texts source label Q command names ranges given g =

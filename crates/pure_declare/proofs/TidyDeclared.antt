@@ -187,7 +187,7 @@ module _ (P : Place) (old : IsTidy P.content) where
   outcome-tidy (ConstOf x span) o (n, is, h) = said (ConstOf x span) (IsConstChange P n span) (const-tidy n span) o h
   outcome-tidy (Axiom x span) o (n, is, h) = said (Axiom x span) (IsAxiomChange P n span) (axiom-tidy n span) o h
   outcome-tidy (Definition x typ text) o (n, f, is, also, h) = said (Definition x typ text) (IsDefinitionChange P x n f typ text) (definition-tidy x n f typ text) o h
-  outcome-tidy (Lemma x span script) o (n, is, h) = lemma-tidy n span script o h
+  outcome-tidy (Lemma x span haves script) o (n, is, h) = lemma-tidy n span script o h
 
   declared-tidy : (command : Command) (o : Outcome) (answer : Result Outcome Reason) → IsOutcome P command answer → o ≡ outcome_of P command answer → IsTidy o.next
   declared-tidy command o (Ok p) h e = subst (λ (x : Outcome). IsTidy x.next) (sym e) (outcome-tidy command p h)
@@ -220,7 +220,7 @@ module _ (P : Place) where
   outcome-fork (ConstOf x span) o f (n, is, h) e = absurd (no-fork (ConstOf x span) (IsConstChange P n span) o f h e)
   outcome-fork (Axiom x span) o f (n, is, h) e = absurd (no-fork (Axiom x span) (IsAxiomChange P n span) o f h e)
   outcome-fork (Definition x typ text) o f (n, g, is, also, h) e = absurd (no-fork (Definition x typ text) (IsDefinitionChange P x n g typ text) o f h e)
-  outcome-fork (Lemma x span script) o f (n, is, h) e = lemma-fork n span script o f h e
+  outcome-fork (Lemma x span haves script) o f (n, is, h) e = lemma-fork n span script o f h e
 
   declared-fork : (command : Command) (o : Outcome) (f : Fork) (answer : Result Outcome Reason) → IsOutcome P command answer → o ≡ outcome_of P command answer → o.note ≡ Forked f → IsTidyFork f
   declared-fork command o f (Ok p) h e is = outcome-fork command p f h (ap (λ (x : Outcome). x.note) (sym e) ∙ is)

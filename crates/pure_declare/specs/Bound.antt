@@ -1,7 +1,7 @@
 -- The lemmas that commands bind.
 use Rattle.std.specs.Prelude.{◌≡◌, ℕ, List}
 use Rattle.pure_definitions.specs.Names.{Label}
-use Rattle.pure_grammar.specs.Theories.TheoryText.{Span, Command, Lemma}
+use Rattle.pure_grammar.specs.Theories.TheoryText.{Span, Have, Command, Lemma}
 use Rattle.pure_logic.specs.Content.{Content, IsProposition}
 use Rattle.pure_lookup.specs.Laws.{IsInSession}
 use Rattle.pure_theory.specs.Stage.{IsSound}
@@ -13,7 +13,7 @@ pub record IsBoundAs (label : Label) (Q : Content) (command : Command) (f : Fork
   pub label_is : f.label ≡ label
   pub content_is : f.content ≡ Q
   pub proposition : IsProposition Q f.fixed
-  pub from : (base : List ℕ) × (span : Span) × (command ≡ Lemma base span f.script)
+  pub from : (base : List ℕ) × (span : Span) × (haves : List Have) × (command ≡ Lemma base span haves f.script)
 
 -- Over a sound content of a session the lemma that a command leaves is one that it binds.
 abbrev pub ForksBound : Type 0

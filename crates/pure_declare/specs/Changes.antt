@@ -18,11 +18,11 @@ IsCommandChange P (Arity con domains class) answer = IsArityChange P con domains
 IsCommandChange P (Const x span) answer = (n : ℕ) × IsNameOf P x n × IsConstChange P n span answer
 IsCommandChange P (Axiom x span) answer = (n : ℕ) × IsNameOf P x n × IsAxiomChange P n span answer
 IsCommandChange P (Definition x typ text) answer = (n : ℕ) × (f : ℕ) × IsNameOf P x n × IsNameOf P (fact_base x) f × IsDefinitionChange P x n f typ text answer
-IsCommandChange P (Lemma x span script) answer = ⊥
+IsCommandChange P (Lemma x span haves script) answer = ⊥
 
 -- The command isn't a lemma.
 abbrev pub IsNoLemma : Command → Type 0
-IsNoLemma (Lemma x span script) = ⊥
+IsNoLemma (Lemma x span haves script) = ⊥
 IsNoLemma _ = Unit {0}
 
 -- the fault of a declaration as one of a command

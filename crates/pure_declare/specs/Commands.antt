@@ -226,4 +226,4 @@ IsOutcome P (ArityOf con domains class) answer = IsSaid P (ArityOf con domains c
 IsOutcome P (ConstOf x span) answer = (n : ℕ) × IsNameOf P x n × IsSaid P (ConstOf x span) (IsConstChange P n span) answer
 IsOutcome P (Axiom x span) answer = (n : ℕ) × IsNameOf P x n × IsSaid P (Axiom x span) (IsAxiomChange P n span) answer
 IsOutcome P (Definition x typ text) answer = (n : ℕ) × (f : ℕ) × IsNameOf P x n × IsNameOf P (fact_base x) f × IsSaid P (Definition x typ text) (IsDefinitionChange P x n f typ text) answer
-IsOutcome P (Lemma x span script) answer = (n : ℕ) × IsNameOf P x n × IsLemmaOutcome P n span script answer
+IsOutcome P (Lemma x span haves script) answer = (n : ℕ) × IsNameOf P x n × IsLemmaOutcome P n span script answer

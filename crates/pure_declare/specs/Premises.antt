@@ -22,7 +22,7 @@ bases_of (Arity con domains class) = []
 bases_of (Const x typ) = x ∷ []
 bases_of (Axiom x prop) = x ∷ []
 bases_of (Definition x typ prop) = x ∷ fact_base x ∷ []
-bases_of (Lemma x prop script) = x ∷ []
+bases_of (Lemma x prop haves script) = x ∷ []
 
 -- Some name has this text.
 abbrev pub IsNamed : (texts : List (List ℕ)) → List ℕ → Type 0

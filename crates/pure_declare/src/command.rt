@@ -170,7 +170,9 @@ fn outcome_of(alloc: Global, place: &Place<'_>, command: &Command) -> Result<Dec
     ensures failed { IfErr result (FailsAs (IsOutcome place.now (seen_command command.now))) }
 {
     match command {
-        Command::Lemma { name, prop, script } => {
+        Command::Lemma {
+            name, prop, script, ..
+        } => {
             based_lemma(alloc, place, name.bytes(), *prop, script)
         }
         _ => said(alloc, place, command),

@@ -110,7 +110,7 @@ goes-body h cs (InProof x p script (AfterBasic false)) = record { one = Signed s
 goes-body h cs (InProof x p script (AtFact false method)) = record { one = Plain (codes "a") nowhere; rest = Signed sign.CloseParenthesis ∷ Reserved keyword.Done ∷ the_end; theory = _; is_kind = refl; gets = refl }
 goes-body h cs (InProof x p script (AtUnfolded false)) = record { one = Plain (codes "a") nowhere; rest = Signed sign.CloseParenthesis ∷ Reserved keyword.Done ∷ the_end; theory = _; is_kind = refl; gets = refl }
 goes-body h cs (InProof x p script (AfterUnfolded false facts)) = record { one = Signed sign.CloseParenthesis; rest = Reserved keyword.Done ∷ the_end; theory = _; is_kind = refl; gets = refl }
-goes-body h cs (AtParam xs) = record { one = Variable (fresh xs) nowhere; rest = Signed sign.CloseParenthesis ∷ Plain (codes "a") nowhere ∷ the_end; theory = record { name = h.name; imports = h.imports; commands = cs ++ TypeDecl (codes "a") (length (xs ++ fresh xs ∷ [])) ∷ [] }; is_kind = refl; gets = rw (list_any-fresh xs) refl }
+goes-body h cs (AtParam xs) = record { one = Variable (fresh xs) nowhere; rest = Signed sign.CloseParenthesis ∷ Plain (codes "a") nowhere ∷ the_end; theory = record { version = 1; name = h.name; imports = h.imports; commands = cs ++ TypeDecl (codes "a") (length (xs ++ fresh xs ∷ [])) ∷ [] }; is_kind = refl; gets = rw (list_any-fresh xs) refl }
 
 -- the source has ended
 abbrev pub is_last : State → Bool

@@ -565,7 +565,7 @@ got-method h cs x p script last t (l ∷ r) g = absurd (none g refl)
 
 -- the end of a proof
 abbrev OutProof : Header → List Command → List ℕ → Span → TheoryText → List Step → List Lexeme → Type 0
-OutProof h cs x p t script r = One end_text (λ e. InBody h (cs ++ tree.Lemma x p (script ++ end_steps e) ∷ []) AtCommand) r t
+OutProof h cs x p t script r = One end_text (λ e. InBody h (cs ++ tree.Lemma x p [] (script ++ end_steps e) ∷ []) AtCommand) r t
 
 one-step : (h : Header) (cs : List Command) (x : List ℕ) (p : Span) (t : TheoryText) (script : List Step) (r : List Lexeme) → Gets (InBody h cs (InProof x p script AtStep)) r t
     → One step_text (λ s. InBody h cs (InProof x p (script ++ step_steps s) AtStep)) r t ⊎ OutProof h cs x p t script r
@@ -584,20 +584,20 @@ one-step h cs x p t script (Reserved keyword.By ∷ r) g =
       item = ByEnd m.item;
       behind = m.behind;
       is = ap (λ z. Reserved keyword.By ∷ z) m.is;
-      gets = subst (λ z. Gets (InBody h (cs ++ tree.Lemma x p z ∷ []) AtCommand) m.behind t) (append_assoc script (method_steps m.item) (tree.Close ∷ tree.Done ∷ [])) m.gets;
+      gets = subst (λ z. Gets (InBody h (cs ++ tree.Lemma x p [] z ∷ []) AtCommand) m.behind t) (append_assoc script (method_steps m.item) (tree.Close ∷ tree.Done ∷ [])) m.gets;
       less = omega (arith, m.less);
     })
 one-step h cs x p t script (l ∷ r) g = absurd (none g refl)
 
 got-proof : (h : Header) (cs : List Command) (x : List ℕ) (p : Span) (t : TheoryText) (r : List Lexeme) → Gets (InBody h cs (InProof x p [] AtStep)) r t
-    → One proof_text (λ y. InBody h (cs ++ tree.Lemma x p (proof_steps y) ∷ []) AtCommand) r t
+    → One proof_text (λ y. InBody h (cs ++ tree.Lemma x p [] (proof_steps y) ∷ []) AtCommand) r t
 got-proof h cs x p t r g =
     let m = got-each step_text (λ z y. z ++ step_steps y) (λ z. InBody h cs (InProof x p z AtStep)) (OutProof h cs x p t) t (one-step h cs x p t) (suc (length r)) [] r (omega arith) g in
     record {
       item = record { steps = m.items; ending = m.ends.item };
       behind = m.ends.behind;
       is = m.is ∙ ap (each step_text m.items) m.ends.is;
-      gets = subst (λ z. Gets (InBody h (cs ++ tree.Lemma x p (z ++ end_steps m.ends.item) ∷ []) AtCommand) m.ends.behind t) (fold-all step_steps [] m.items) m.ends.gets;
+      gets = subst (λ z. Gets (InBody h (cs ++ tree.Lemma x p [] (z ++ end_steps m.ends.item) ∷ []) AtCommand) m.ends.behind t) (fold-all step_steps [] m.items) m.ends.gets;
       less = omega (arith, m.shorter, m.ends.less);
     }
 
@@ -607,7 +607,7 @@ record LemmaPhrase : Type 0 where
   proof : ProofPhrase
 
 got-lemma : (h : Header) (cs : List Command) (t : TheoryText) (r : List Lexeme) → Gets (InBody h cs AtLemma) r t
-    → One (λ (y : LemmaPhrase) r. axiom_text y.statement (proof_text y.proof r)) (λ y. InBody h (cs ++ tree.Lemma y.statement.name.text y.statement.prop (proof_steps y.proof) ∷ []) AtCommand) r t
+    → One (λ (y : LemmaPhrase) r. axiom_text y.statement (proof_text y.proof r)) (λ y. InBody h (cs ++ tree.Lemma y.statement.name.text y.statement.prop [] (proof_steps y.proof) ∷ []) AtCommand) r t
 got-lemma h cs t [] g = absurd (none g refl)
 got-lemma h cs t (Plain x at ∷ []) g = absurd (none g refl)
 got-lemma h cs t (Plain x at ∷ Signed sign.Colon ∷ []) g = absurd (none g refl)
@@ -629,7 +629,7 @@ record GotCommands (h : Header) (before : List Command) (r : List Lexeme) (t : T
   commands : List CommandPhrase
   distinct : AllByRecursion IsCommandPhrase commands
   is : r ≡ each command_text commands (Reserved keyword.End ∷ Ends ∷ [])
-  theory : record { name = h.name; imports = h.imports; commands = before ++ commands_of commands } ≡ t
+  theory : record { version = 1; name = h.name; imports = h.imports; commands = before ++ commands_of commands } ≡ t
 
 the_theory : TheoryText → Outcome → TheoryText
 the_theory t (Through (AtLast u)) = u
@@ -655,7 +655,7 @@ one-command h t before (Reserved keyword.Theorem ∷ r) g =
     inl (record { command = LemmaCommand TheoremWritten o.item.statement o.item.proof; distinct = tt; behind = o.behind; is = ap (λ z. Reserved keyword.Theorem ∷ z) o.is; gets = o.gets; less = omega (arith, o.less) })
 one-command h t before (Reserved keyword.End ∷ []) g = absurd (none g refl)
 one-command h t before (Reserved keyword.End ∷ Ends ∷ []) g =
-    inr (record { commands = []; distinct = tt; is = refl; theory = ap (λ z. record { name = h.name; imports = h.imports; commands = z }) (append-nil before) ∙ AtLast-once _ t g })
+    inr (record { commands = []; distinct = tt; is = refl; theory = ap (λ z. record { version = 1; name = h.name; imports = h.imports; commands = z }) (append-nil before) ∙ AtLast-once _ t g })
 one-command h t before (Reserved keyword.End ∷ Ends ∷ l ∷ r) g = absurd (none g refl)
 one-command h t before (Reserved keyword.End ∷ l ∷ r) g = absurd (none g refl)
 one-command h t before (l ∷ r) g = absurd (none g refl)
@@ -670,7 +670,7 @@ more_commands h t n before r again fits (inl o) =
       commands = o.command ∷ m.commands;
       distinct = (o.distinct, m.distinct);
       is = o.is ∙ ap (command_text o.command) m.is;
-      theory = ap (λ z. record { name = h.name; imports = h.imports; commands = z }) (sym (append_assoc before (phrase_commands o.command) (commands_of m.commands))) ∙ m.theory;
+      theory = ap (λ z. record { version = 1; name = h.name; imports = h.imports; commands = z }) (sym (append_assoc before (phrase_commands o.command) (commands_of m.commands))) ∙ m.theory;
     }
 
 got-commands : (h : Header) (t : TheoryText) (n : ℕ) (before : List Command) (r : List Lexeme) → length r < n → Gets (InBody h before AtCommand) r t → GotCommands h before r t

@@ -167,7 +167,7 @@ run-basic h cs x p script last (ByUnfold at n more) r e = run-unfold h cs x p sc
 
 -- behind the method
 abbrev pub after : Header → List Command → List ℕ → Span → Bool → List Step → State
-after h cs x p true script = InBody h (cs ++ tree.Lemma x p (script ++ (tree.Close ∷ tree.Done ∷ [])) ∷ []) AtCommand
+after h cs x p true script = InBody h (cs ++ tree.Lemma x p [] (script ++ (tree.Close ∷ tree.Done ∷ [])) ∷ []) AtCommand
 after h cs x p false script = InBody h cs (InProof x p script AtStep)
 
 run-basics : (h : Header) (cs : List Command) (x : List ℕ) (p : Span) (script : List Step) (last : Bool) (b : BasicPhrase) (bs : List BasicPhrase) (r : List Lexeme)
@@ -192,14 +192,14 @@ run-step h cs x p script (PreferStep n) r = refl
 run-step h cs x p script DeferStep r = refl
 
 run-ending : (h : Header) (cs : List Command) (x : List ℕ) (p : Span) (script : List Step) (e : EndPhrase) (r : List Lexeme)
-    → run (InBody h cs (InProof x p script AtStep)) (end_text e r) ≡ run (InBody h (cs ++ tree.Lemma x p (script ++ end_steps e) ∷ []) AtCommand) r
+    → run (InBody h cs (InProof x p script AtStep)) (end_text e r) ≡ run (InBody h (cs ++ tree.Lemma x p [] (script ++ end_steps e) ∷ []) AtCommand) r
 run-ending h cs x p script DoneEnd r = refl
 run-ending h cs x p script (ByEnd m) r =
     run-method h cs x p script true m r
-    ∙ ap (λ z. run (InBody h (cs ++ tree.Lemma x p z ∷ []) AtCommand) r) (append_assoc script (method_steps m) (tree.Close ∷ tree.Done ∷ []))
+    ∙ ap (λ z. run (InBody h (cs ++ tree.Lemma x p [] z ∷ []) AtCommand) r) (append_assoc script (method_steps m) (tree.Close ∷ tree.Done ∷ []))
 
 run-proof : (h : Header) (cs : List Command) (x : List ℕ) (p : Span) (proof : ProofPhrase) (r : List Lexeme)
-    → run (InBody h cs (InProof x p [] AtStep)) (proof_text proof r) ≡ run (InBody h (cs ++ tree.Lemma x p (proof_steps proof) ∷ []) AtCommand) r
+    → run (InBody h cs (InProof x p [] AtStep)) (proof_text proof r) ≡ run (InBody h (cs ++ tree.Lemma x p [] (proof_steps proof) ∷ []) AtCommand) r
 run-proof h cs x p proof r =
     run-each_all step_text step_steps (λ z. InBody h cs (InProof x p z AtStep)) (run-step h cs x p) [] proof.steps (end_text proof.ending r)
     ∙ run-ending h cs x p (steps_of proof.steps) proof.ending r
@@ -267,12 +267,12 @@ begun (LemmaCommand TheoremWritten a p ∷ cs) = record { word = keyword.Theorem
 
 run-commands : (h : Header) (before : List Command) (cs : List CommandPhrase) → AllByRecursion IsCommandPhrase cs
     → run (InBody h before AtCommand) (each command_text cs (Reserved keyword.End ∷ Ends ∷ []))
-    ≡ Through (AtLast (record { name = h.name; imports = h.imports; commands = before ++ commands_of cs }))
-run-commands h before [] w = ap (λ z. Through (AtLast (record { name = h.name; imports = h.imports; commands = z }))) (sym (append-nil before))
+    ≡ Through (AtLast (record { version = 1; name = h.name; imports = h.imports; commands = before ++ commands_of cs }))
+run-commands h before [] w = ap (λ z. Through (AtLast (record { version = 1; name = h.name; imports = h.imports; commands = z }))) (sym (append-nil before))
 run-commands h before (c ∷ cs) w =
     run-command h before c (each command_text cs (Reserved keyword.End ∷ Ends ∷ [])) w.0 (begun cs)
     ∙ run-commands h (before ++ phrase_commands c) cs w.1
-    ∙ ap (λ z. Through (AtLast (record { name = h.name; imports = h.imports; commands = z }))) (append_assoc before (phrase_commands c) (commands_of cs))
+    ∙ ap (λ z. Through (AtLast (record { version = 1; name = h.name; imports = h.imports; commands = z }))) (append_assoc before (phrase_commands c) (commands_of cs))
 
 -- ---- files
 run-imports : (x : List ℕ) (known : List (List ℕ)) (xs : List Ident) (r : List Lexeme)
@@ -282,7 +282,7 @@ run-imports x known (y ∷ ys) r = run-imports x (with_text known y.text) ys r
 
 run-file : (x : Ident) (imports : ImportsPhrase) (cs : List CommandPhrase) → AllByRecursion IsCommandPhrase cs
     → run AtStart (file_text (record { name = x; imports = imports; commands = cs }))
-    ≡ Through (AtLast (record { name = x.text; imports = imports_of imports; commands = commands_of cs }))
+    ≡ Through (AtLast (record { version = 1; name = x.text; imports = imports_of imports; commands = commands_of cs }))
 run-file x NoImport cs w = run-commands (record { name = x.text; imports = imports_of NoImport }) [] cs w
 run-file x (Imports i is) cs w =
     run-imports x.text (i.text ∷ []) is (Reserved keyword.Begin ∷ each command_text cs (Reserved keyword.End ∷ Ends ∷ []))

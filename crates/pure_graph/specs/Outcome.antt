@@ -39,7 +39,7 @@ is_numbered _ = true
 
 -- a lemma with more steps than a proof may have
 abbrev pub has_long_proof : Command → Bool
-has_long_proof (Lemma name prop script) = nat_lt most_steps (count_by is_numbered script)
+has_long_proof (Lemma name prop haves script) = nat_lt most_steps (count_by is_numbered script)
 has_long_proof _ = false
 
 -- more commands than a theory may have, or a proof that is too long

@@ -47,7 +47,7 @@ full_names theory (Arity con doms class) = []
 full_names theory (Const name typ) = full_name theory name ∷ []
 full_names theory (Axiom name prop) = full_name theory name ∷ []
 full_names theory (Definition name typ prop) = full_name theory name ∷ full_name theory (name ++ codes "_def") ∷ []
-full_names theory (Lemma name prop script) = full_name theory name ∷ []
+full_names theory (Lemma name prop haves script) = full_name theory name ∷ []
 
 -- a text that a loaded theory gives
 abbrev pub IsGiven : Loaded → List ℕ → Type 0

@@ -1,5 +1,5 @@
 -- The places and turns of the reader, as contracts see them.
-use Rattle.std.specs.Prelude.{Option, Some, None}
+use Rattle.std.specs.Prelude.{[], Option, Some, None}
 use Rattle.pure_grammar.specs.Theories.TheoryText as tree
 use Rattle.pure_grammar.specs.Theories.Lexeme.{Lexeme}
 use Rattle.pure_grammar.specs.Theories.Reader as spec
@@ -143,7 +143,7 @@ abbrev pub seen_ended : RestPlace → Lexeme → spec.Turn
 seen_ended (InClass class place) l = spec.leave_with (tree.Class class.name class.above.items) (spec.command_begun l)
 seen_ended (InDomains domains place) l = spec.Moves (spec.AtArityClass domains.con (sorts domains.doms.items))
 seen_ended (OfItem place) l = seen_added place
-seen_ended (InProof goal place) l = spec.Adds (tree.Lemma goal.name (span goal.prop) (seen_steps goal.script.items)) spec.AtCommand
+seen_ended (InProof goal place) l = spec.Adds (tree.Lemma goal.name (span goal.prop) [] (seen_steps goal.script.items)) spec.AtCommand
 
 -- where a token of the rest of a command leads to, by the place behind it
 abbrev pub seen_course : Course → RestPlace → Lexeme → spec.Turn

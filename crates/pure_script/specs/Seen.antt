@@ -5,6 +5,7 @@ use Rattle.pure_grammar.specs.Theories.TheoryText as tree
 use Rattle.pure_script.specs.declared.theory.Span.{Span}
 use Rattle.pure_script.specs.declared.theory.Step.{Step}
 use Rattle.pure_script.specs.declared.theory.Step.TheVariants.{Rule, Erule, Drule, Assumption, Unfold, Prefer, Defer, Close, Done}
+use Rattle.pure_script.specs.declared.theory.Have.{Have}
 use Rattle.pure_script.specs.declared.theory.Command.{Command}
 use Rattle.pure_script.specs.declared.theory.Command.TheVariants.{Class, TypeDecl, Arity, Const, Axiom, Definition, Lemma}
 use Rattle.pure_script.specs.declared.theory.TheoryText.{TheoryText}
@@ -30,6 +31,9 @@ seen_step Done = tree.Done
 abbrev pub seen_steps : List Step → List tree.Step
 seen_steps = map seen_step
 
+abbrev pub seen_have : Have → tree.Have
+seen_have h = record { name = h.name; prop = span h.prop; script = seen_steps h.script.items }
+
 abbrev pub seen_command : Command → tree.Command
 seen_command (Class x0 x1) = tree.Class x0 x1.items
 seen_command (TypeDecl x0 x1) = tree.TypeDecl x0 x1
@@ -37,10 +41,10 @@ seen_command (Arity x0 x1 x2) = tree.Arity x0 (sorts x1.items) x2
 seen_command (Const x0 x1) = tree.Const x0 (span x1)
 seen_command (Axiom x0 x1) = tree.Axiom x0 (span x1)
 seen_command (Definition x0 x1 x2) = tree.Definition x0 (span x1) (span x2)
-seen_command (Lemma x0 x1 x2) = tree.Lemma x0 (span x1) (seen_steps x2.items)
+seen_command (Lemma x0 x1 x2 x3) = tree.Lemma x0 (span x1) (map seen_have x2.items) (seen_steps x3.items)
 
 abbrev pub seen_commands : List Command → List tree.Command
 seen_commands = map seen_command
 
 abbrev pub seen_theory : TheoryText → tree.TheoryText
-seen_theory t = record { name = t.name; imports = t.imports.items; commands = seen_commands t.commands.items }
+seen_theory t = record { version = t.version; name = t.name; imports = t.imports.items; commands = seen_commands t.commands.items }

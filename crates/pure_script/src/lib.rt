@@ -17,4 +17,4 @@ mod typedecl;
 
 pub use pure_text::TextList;
 pub use read::read_theory;
-pub use theory::{Command, ScriptFault, Span, Step, TheoryText};
+pub use theory::{Command, Have, ScriptFault, Span, Step, TheoryText};

@@ -85,8 +85,8 @@ fn fact_step(method: FactMethod, fact: Text) -> Step
 }
 
 /// The lemma, whose proof is read.
-pub(crate) fn proved(goal: Goal) -> Turn
-    ensures { seen_turn result ≡ spec.Adds (Lemma goal.name (span goal.prop) (seen_steps goal.script.items)) spec.AtCommand }
+pub(crate) fn proved(alloc: Global, goal: Goal) -> Turn
+    ensures { seen_turn result ≡ spec.Adds (Lemma goal.name (span goal.prop) [] (seen_steps goal.script.items)) spec.AtCommand }
 {
     let Goal {
         name,
@@ -94,8 +94,14 @@ pub(crate) fn proved(goal: Goal) -> Turn
         script,
         ..
     } = goal;
+    let haves = Vec::new(alloc);
     Turn::Adds {
-        command: Command::Lemma { name, prop, script },
+        command: Command::Lemma {
+            name,
+            prop,
+            haves,
+            script,
+        },
         place: at_command(),
     }
 }

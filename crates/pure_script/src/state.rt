@@ -219,6 +219,7 @@ fn in_head(
 /// The rest of a command ends, or an item of it, and whether the text goes on.
 #[inline(never)]
 fn finish(
+    alloc: Global,
     commands: &mut Vec<Command>,
     place: &mut Place,
     rest: RestPlace,
@@ -226,7 +227,7 @@ fn finish(
 ) -> Result<bool, AllocError>
     ensures { IfOk result (λ on. IsLed on (seen_commands commands.new.items) (seen_place place.new) (seen_commands commands.old.items) (seen_ended rest (seen_lexeme lexeme.entry))) }
 {
-    led(commands, place, turn::ended(rest, lexeme))
+    led(commands, place, turn::ended(alloc, rest, lexeme))
 }
 
 /// The next command begins, or the end, and whether the text goes on.
@@ -263,7 +264,7 @@ fn in_body(
             Course::Ends => {
                 let nothing = ItemPlace::AtItem;
                 let rest = mem::replace(here, RestPlace::OfItem { place: nothing });
-                finish(commands, place, rest, lexeme)
+                finish(alloc, commands, place, rest, lexeme)
             }
         },
     }
@@ -377,6 +378,7 @@ pub(crate) fn ended(state: State) -> Option<TheoryText>
             discard(place);
             if may_end {
                 return Some(TheoryText {
+                    version: 1,
                     name: header.name,
                     imports: header.imports.into_list(),
                     commands,

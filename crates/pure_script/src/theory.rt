@@ -54,6 +54,14 @@ impl Step {
     }
 }
 
+/// A have: a fact that is stated inside a lemma, with a name and a proof of its own.
+#[derive(Drop)]
+pub struct Have {
+    pub name: Text,
+    pub prop: Span,
+    pub script: Vec<Step>,
+}
+
 /// A command; quoted texts without their marks.
 #[derive(Drop)]
 pub enum Command {
@@ -86,13 +94,15 @@ pub enum Command {
     Lemma {
         name: Text,
         prop: Span,
+        haves: Vec<Have>,
         script: Vec<Step>,
     },
 }
 
-/// A theory as it is written.
+/// A theory as it is written, in the language of this version.
 #[derive(Drop)]
 pub struct TheoryText {
+    pub version: u32,
     pub name: Text,
     pub imports: Vec<Text>,
     pub commands: Vec<Command>,

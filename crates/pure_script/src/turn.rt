@@ -81,13 +81,13 @@ pub(crate) fn rest_course(
 }
 
 /// What the token leads to that ends the rest of a command, or an item of it.
-pub(crate) fn ended(place: RestPlace, l: Lexeme<'_>) -> Turn
+pub(crate) fn ended(alloc: Global, place: RestPlace, l: Lexeme<'_>) -> Turn
     ensures { seen_turn result ≡ seen_ended place (seen_lexeme l.entry) }
 {
     match place {
         RestPlace::InClass { class, .. } => class::declared(class, l),
         RestPlace::InDomains { domains, .. } => arity::closed(domains),
         RestPlace::OfItem { place } => item::added(place),
-        RestPlace::InProof { goal, .. } => proof::proved(goal),
+        RestPlace::InProof { goal, .. } => proof::proved(alloc, goal),
     }
 }

@@ -103,7 +103,7 @@ full-names theory (Arity con doms class) t m = absurd m
 full-names theory (Const name typ) t m = elim m [ inl e ↦ (name, e) | inr n ↦ absurd n ]
 full-names theory (Axiom name prop) t m = elim m [ inl e ↦ (name, e) | inr n ↦ absurd n ]
 full-names theory (Definition name typ prop) t m = elim m [ inl e ↦ (name, e) | inr n ↦ elim n [ inl e ↦ (name ++ codes "_def", e) | inr k ↦ absurd k ] ]
-full-names theory (Lemma name prop script) t m = elim m [ inl e ↦ (name, e) | inr n ↦ absurd n ]
+full-names theory (Lemma name prop haves script) t m = elim m [ inl e ↦ (name, e) | inr n ↦ absurd n ]
 
 -- the texts of names of Pure have its name in front of their dot
 abbrev IsOfPure : List ℕ → Type 0

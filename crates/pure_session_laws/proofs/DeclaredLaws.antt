@@ -127,7 +127,7 @@ module _ (P : Place) (t : TheoryId) (text : HasText P.texts t.name P.theory) (in
   outcome-adds (Axiom x span) o (n, is, h) = said (Axiom x span) (IsAxiomChange P n span) (axiom-adds n (its-name x n is) span) o h
   outcome-adds (Definition x typ span) o (n, f, is, also, h) =
       said (Definition x typ span) (IsDefinitionChange P x n f typ span) (definition-adds x n f (its-name x n is) (its-name (fact_base x) f also) typ span) o h
-  outcome-adds (Lemma x span script) o (n, is, h) = lemma-adds n (its-name x n is) span script o h
+  outcome-adds (Lemma x span haves script) o (n, is, h) = lemma-adds n (its-name x n is) span script o h
 
   answer-adds : (command : Command) (o : Outcome) (answer : Result Outcome Reason) → IsOutcome P command answer → o ≡ outcome_of P command answer → Adds o.next
   answer-adds command o (Ok p) h e = subst (λ (x : Outcome). Adds x.next) (sym e) (outcome-adds command p h)

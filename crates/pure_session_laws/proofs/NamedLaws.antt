@@ -27,4 +27,4 @@ full-named texts theory (Arity con doms class) has = tt
 full-named texts theory (Const name typ) has = (has _ (inl refl), tt)
 full-named texts theory (Axiom name prop) has = (has _ (inl refl), tt)
 full-named texts theory (Definition name typ prop) has = (has _ (inl refl), (has _ (inr (inl refl)), tt))
-full-named texts theory (Lemma name prop script) has = (has _ (inl refl), tt)
+full-named texts theory (Lemma name prop haves script) has = (has _ (inl refl), tt)

@@ -56,7 +56,7 @@ proof-script p = further (steps_of p.steps) (end_steps p.ending) (steps-inner p.
 
 -- if the command is a lemma, then its script ends
 abbrev Ends : Command → Type 0
-Ends (Lemma name prop script) = IsScript script
+Ends (Lemma name prop haves script) = IsScript script
 Ends _ = Unit {0}
 
 items-end : (is : List ItemPhrase) → Each Ends (map item_command is)
@@ -93,7 +93,7 @@ has-script (Arity con doms class) e h = tt
 has-script (Const name typ) e h = tt
 has-script (Axiom name prop) e h = tt
 has-script (Definition name typ prop) e h = tt
-has-script (Lemma name prop script) e h = record { ends = e; few = ltb-false most_steps (count_by is_numbered script) h }
+has-script (Lemma name prop haves script) e h = record { ends = e; few = ltb-false most_steps (count_by is_numbered script) h }
 
 have-scripts : (cs : List Command) → Each Ends cs → list_any has_long_proof cs ≡ false → Each HasProofScript cs
 have-scripts [] e h = tt

@@ -19,7 +19,7 @@ pub record IsProofScript (script : List Step) : Type 0 where
 
 -- If the command is a lemma, then its script is that of a proof.
 abbrev pub HasProofScript : Command → Type 0
-HasProofScript (Lemma name prop script) = IsProofScript script
+HasProofScript (Lemma name prop haves script) = IsProofScript script
 HasProofScript _ = Unit {0}
 
 -- A loaded theory among the names of its session: the source isn't too long, the ranges of each command lie in it, the theory and all that its commands declare have names, its own name has no dot (46) and isn't Pure's, the scripts are those of proofs, and the commands aren't too many.

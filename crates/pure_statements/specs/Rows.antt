@@ -43,7 +43,7 @@ head_text theory (Arity con doms class) = arity_word ++ (theory ++ (colon ++ (co
 head_text theory (Const name typ) = const_word ++ full_text theory name
 head_text theory (Axiom name prop) = axiom_word ++ full_text theory name
 head_text theory (Definition name typ prop) = definition_word ++ full_text theory name
-head_text theory (Lemma name prop script) = lemma_word ++ full_text theory name
+head_text theory (Lemma name prop haves script) = lemma_word ++ full_text theory name
 
 -- the row of a command that declares, with what is said behind its head
 abbrev pub declared_row : (theory : List ℕ) → Command → (tail : List ℕ) → Row

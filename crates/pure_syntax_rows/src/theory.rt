@@ -142,7 +142,9 @@ fn say_parts(
             say_span(shown, source, *typ)?;
             say_span(shown, source, *prop)
         }
-        Command::Lemma { name, prop, script } => {
+        Command::Lemma {
+            name, prop, script, ..
+        } => {
             say_text(shown, name)?;
             say_span(shown, source, *prop)?;
             say_script(alloc, shown, script)

@@ -88,7 +88,7 @@ phrase_commands (AritiesCommand con doms class) = tree.Arity (name_of con) (doma
 phrase_commands (ConstsCommand i is) = item_command i ∷ map item_command is
 phrase_commands (AxiomsCommand a more) = axiom_command a ∷ map axiom_command more
 phrase_commands (DefinitionCommand i prop) = tree.Definition i.name.text (type_span i.typ) prop ∷ []
-phrase_commands (LemmaCommand word a p) = tree.Lemma a.name.text a.prop (proof_steps p) ∷ []
+phrase_commands (LemmaCommand word a p) = tree.Lemma a.name.text a.prop [] (proof_steps p) ∷ []
 
 abbrev pub commands_of : List CommandPhrase → List Command
 commands_of = all_of phrase_commands
@@ -108,7 +108,7 @@ imports_of NoImport = codes "Pure" ∷ []
 imports_of (Imports x xs) = mentions (x.text ∷ []) xs
 
 abbrev pub file_tree : FilePhrase → TheoryText
-file_tree f = record { name = f.name.text; imports = imports_of f.imports; commands = commands_of f.commands }
+file_tree f = record { version = 1; name = f.name.text; imports = imports_of f.imports; commands = commands_of f.commands }
 
 -- the type variables of a typedecl are distinct
 abbrev pub IsCommandPhrase : CommandPhrase → Type 0

@@ -123,7 +123,7 @@ new_param params (Some x) = if list_any (same x) params then Refuses else Moves 
 
 -- A step of the proof is read; behind the last one `by m` closes.
 abbrev pub after_method : List ℕ → Span → Bool → List Step → Turn
-after_method name prop true script = Adds (tree.Lemma name prop (script ++ (tree.Close ∷ tree.Done ∷ []))) AtCommand
+after_method name prop true script = Adds (tree.Lemma name prop [] (script ++ (tree.Close ∷ tree.Done ∷ []))) AtCommand
 after_method name prop false script = Moves (InProof name prop script AtStep)
 
 abbrev pub basic_turn : List ℕ → Span → List Step → Bool → Lexeme → Turn
@@ -147,7 +147,7 @@ step_turn name prop script l =
     if is_word keyword.Apply l then Moves (InProof name prop script (AtMethod false))
     else (if is_word keyword.Prefer l then Moves (InProof name prop script AtNumber)
     else (if is_word keyword.Defer l then Moves (InProof name prop (script ++ tree.Defer ∷ []) AtStep)
-    else (if is_word keyword.Done l then Adds (tree.Lemma name prop (script ++ tree.Done ∷ [])) AtCommand
+    else (if is_word keyword.Done l then Adds (tree.Lemma name prop [] (script ++ tree.Done ∷ [])) AtCommand
     else (if is_word keyword.By l then Moves (InProof name prop script (AtMethod true))
     else Refuses))))
 
@@ -286,7 +286,7 @@ is_after_end AfterEnd = true
 is_after_end _ = false
 
 abbrev pub body_next : Header → List Command → Place → Lexeme → Option State
-body_next h cs place Ends = goes_if (is_after_end place) (AtLast (record { name = h.name; imports = h.imports; commands = cs }))
+body_next h cs place Ends = goes_if (is_after_end place) (AtLast (record { version = 1; name = h.name; imports = h.imports; commands = cs }))
 body_next h cs place l = body_state h cs (turn place l)
 
 -- where the text is, behind one more token

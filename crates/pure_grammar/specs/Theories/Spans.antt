@@ -4,7 +4,7 @@ use Rattle.pure_text.specs.Lists.{Each, AnyOf}
 use Rattle.pure_grammar.specs.declared.token.Token.{Token}
 use Rattle.pure_grammar.specs.declared.token.TokenKind.TheVariants.{Quote, Ident, Qualified, TypeVar}
 use Rattle.pure_grammar.specs.Tokens.Spelling.{AreSlices}
-use Rattle.pure_grammar.specs.Theories.TheoryText.{Span, Command, Class, TypeDecl, Arity, Const, Axiom, Definition, Lemma, TheoryText}
+use Rattle.pure_grammar.specs.Theories.TheoryText.{Span, Have, Command, Class, TypeDecl, Arity, Const, Axiom, Definition, Lemma, TheoryText}
 use Rattle.pure_grammar.specs.Theories.PhraseTree.{all_of}
 use Rattle.pure_grammar.specs.Theories.Outer.{SpellsTheory}
 
@@ -25,7 +25,7 @@ command_spans (Arity con doms class) = []
 command_spans (Const name typ) = OfType typ ∷ []
 command_spans (Axiom name prop) = OfProp prop ∷ []
 command_spans (Definition name typ prop) = OfType typ ∷ OfProp prop ∷ []
-command_spans (Lemma name prop script) = OfProp prop ∷ []
+command_spans (Lemma name prop haves script) = OfProp prop ∷ map (λ (h : Have). OfProp h.prop) haves
 
 -- the ranges of a theory, in their order
 abbrev pub theory_spans : TheoryText → List Cited

@@ -18,6 +18,12 @@ pub data Step : Type 0 where
   Close : Step
   Done : Step
 
+-- A have: a fact that is stated inside a lemma, before its own proof, with a name and a proof of its own.
+pub record Have : Type 0 where
+  pub name : List ℕ
+  pub prop : Span
+  pub script : List Step
+
 -- A command. Quoted texts and types are ranges of the source, a quoted text without its marks; of a declared type's
 -- parameters only the count is kept.
 pub data Command : Type 0 where
@@ -27,9 +33,11 @@ pub data Command : Type 0 where
   Const : (name : List ℕ) → (typ : Span) → Command
   Axiom : (name : List ℕ) → (prop : Span) → Command
   Definition : (name : List ℕ) → (typ : Span) → (prop : Span) → Command
-  Lemma : (name : List ℕ) → (prop : Span) → (script : List Step) → Command
+  Lemma : (name : List ℕ) → (prop : Span) → (haves : List Have) → (script : List Step) → Command
 
+-- A theory's text. Its version is that of the language in which it is written, 1 where none is.
 pub record TheoryText : Type 0 where
+  pub version : ℕ
   pub name : List ℕ
   pub imports : List (List ℕ)
   pub commands : List Command
