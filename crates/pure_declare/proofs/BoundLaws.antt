@@ -29,7 +29,7 @@ use Rattle.pure_declare.proofs.DoneLaws.{IsBinding, IsDone, changes, binds, is_r
 -- The lemma that is bound is the one that the command leaves.
 module _ (P : Place) (command : Command) (o : Outcome) (f : Fork) (is : o.note ≡ Forked f) where
   abbrev fork_of : IsBinding P command o → Fork
-  fork_of b = record { label = P.label; name = b.number; content = P.content; fixed = b.stated.fixed; prop = b.stated.prop; script = b.script }
+  fork_of b = record { label = P.label; name = b.number; lemma = b.number; content = P.content; fixed = b.stated.fixed; prop = b.stated.prop; script = b.script }
 
   fork-same : (b : IsBinding P command o) → fork_of b ≡ f
   fork-same b =

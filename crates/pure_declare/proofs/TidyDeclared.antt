@@ -210,7 +210,7 @@ module _ (P : Place) where
   lemma-fork n span script o f (passes new (refuses reason h e)) is = absurd (cc)
   lemma-fork n span script o f (passes new (goes_on s h e)) is =
       let tidy = stated-tidy (vocabulary P) P.source span s h in
-      let same : record { label = P.label; name = n; content = P.content; fixed = s.fixed; prop = s.prop; script = script } ≡ f = cc in
+      let same : record { label = P.label; name = n; lemma = n; content = P.content; fixed = s.fixed; prop = s.prop; script = script } ≡ f = cc in
       subst IsTidyFork same (record { normal = tidy.term.normal; closed = tidy.term.closed; fixed = tidy.term.fixed; prop = tidy.prop })
 
   outcome-fork : (command : Command) (o : Outcome) (f : Fork) → IsOutcome P command (Ok o) → o.note ≡ Forked f → IsTidyFork f

@@ -68,7 +68,7 @@ coded_step =
 
 abbrev pub coded_fork : Coded Fork
 coded_fork =
-    code_by (Label × (ℕ × (Content × (Term × (Term × List Step))))) (coded× coded_label (coded× coded_ℕ (coded× coded_content (coded× coded_term (coded× coded_term (coded_list coded_step))))))
-    (λ f. (f.label, (f.name, (f.content, (f.fixed, (f.prop, f.script))))))
-    (λ p. record { label = p.0; name = p.1.0; content = p.1.1.0; fixed = p.1.1.1.0; prop = p.1.1.1.1.0; script = p.1.1.1.1.1 })
+    code_by (Label × (ℕ × (ℕ × (Content × (Term × (Term × List Step)))))) (coded× coded_label (coded× coded_ℕ (coded× coded_ℕ (coded× coded_content (coded× coded_term (coded× coded_term (coded_list coded_step)))))))
+    (λ f. (f.label, (f.name, (f.lemma, (f.content, (f.fixed, (f.prop, f.script)))))))
+    (λ p. record { label = p.0; name = p.1.0; lemma = p.1.1.0; content = p.1.1.1.0; fixed = p.1.1.1.1.0; prop = p.1.1.1.1.1.0; script = p.1.1.1.1.1.1 })
     (λ _. refl)

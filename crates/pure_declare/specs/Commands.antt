@@ -188,10 +188,10 @@ pub record AreKnown (P : Place) (a : Arity) : Type 0 where
   pub con : (n : ℕ) × IsIn (ConDecl a.con n) P.content.declarations
   pub classes : IsKnown (classes_of P.content.declarations) a
 
--- what a lemma leaves: its fork, with the content before it; the next content has its promise
+-- what a lemma leaves: its fork, with its own name as the lemma's and the content before it; the next content has its promise
 abbrev pub forking : Place → (number : ℕ) → List Step → Stated → Outcome
 forking P n script s = record {
-  note = Forked (record { label = P.label; name = n; content = P.content; fixed = s.fixed; prop = s.prop; script = script });
+  note = Forked (record { label = P.label; name = n; lemma = n; content = P.content; fixed = s.fixed; prop = s.prop; script = script });
   next = with_decl P.content (PromiseDecl n P.label s.prop);
 }
 

@@ -6,10 +6,11 @@ use Rattle.pure_grammar.specs.Theories.TheoryText.{Step}
 use Rattle.pure_logic.specs.Content.{Content}
 use Rattle.pure_print.specs.declared.row.Row.{Row}
 
--- a lemma that is bound before its proof is run: its label and name, the content before it, its statement with fixed variables and generalised, and its proof
+-- a statement that is bound before its proof is run: its label and name, the name of the lemma that it is or stands in, the content before it, its statement with fixed variables and generalised, and its proof
 pub record Fork : Type 0 where
   pub label : Label
   pub name : ℕ
+  pub lemma : ℕ
   pub content : Content
   pub fixed : Term
   pub prop : Term

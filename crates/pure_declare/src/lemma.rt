@@ -58,6 +58,7 @@ fn forked(
     let duty = Duty {
         label,
         name,
+        lemma: name,
         stage,
         prop,
         script,

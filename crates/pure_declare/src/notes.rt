@@ -11,11 +11,12 @@ use std::alloc::{AllocError, Global};
 use std::marker::Model;
 use std::sync::Arc;
 
-/// A lemma that is bound before its proof is run: its label and name, the stage before it, its statement, generalised, and the steps of its proof. The statement is shared with the stage behind it; the one with fixed variables, of which the proof is, is made of it where it is asked for.
+/// A statement that is bound before its proof is run: its label and name, the name of the lemma that it is or stands in, the stage before it, the statement, generalised, and the steps of its proof. The statement is shared with the stage behind it; the one with fixed variables, of which the proof is, is made of it where it is asked for.
 #[derive(Drop)]
 pub struct Duty {
     pub label: Label,
     pub name: Name,
+    pub lemma: Name,
     pub stage: Stage,
     pub prop: Arc<Term>,
     pub script: Vec<Step>,
@@ -31,7 +32,7 @@ impl Model for Duty {
 
     ghost coded = { coded_fork };
 
-    ghost view = { λ d. record { label = d.label; name = d.name; content = d.stage.value; fixed = fixed_again d.prop.value; prop = d.prop.value; script = seen_steps d.script.items } };
+    ghost view = { λ d. record { label = d.label; name = d.name; lemma = d.lemma; content = d.stage.value; fixed = fixed_again d.prop.value; prop = d.prop.value; script = seen_steps d.script.items } };
 }
 
 impl Duty {

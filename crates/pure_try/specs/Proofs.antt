@@ -17,7 +17,7 @@ use Rattle.pure_try.specs.First.{Tells}
 
 -- the lemma with these steps for its proof
 abbrev pub by_script : Fork → List Step → Fork
-by_script f script = record { label = f.label; name = f.name; content = f.content; fixed = f.fixed; prop = f.prop; script = script }
+by_script f script = record { label = f.label; name = f.name; lemma = f.lemma; content = f.content; fixed = f.fixed; prop = f.prop; script = script }
 
 -- the lemma with the proof by this method
 abbrev pub by_method : Fork → Method → Fork

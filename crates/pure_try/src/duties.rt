@@ -26,6 +26,7 @@ fn with_script(duty: &Duty, script: Vec<Step>) -> Result<Duty, AllocError>
     Ok(Duty {
         label: duty.label,
         name: duty.name,
+        lemma: duty.lemma,
         stage,
         prop,
         script,
