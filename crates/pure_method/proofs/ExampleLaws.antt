@@ -31,7 +31,7 @@ use Rattle.pure_resolve.specs.GoalSteps.State.{State, theorem_of}
 use Rattle.pure_resolve.specs.GoalSteps.Follows.{Come, Becomes, FollowsByFirst}
 use Rattle.pure_resolve.specs.GoalSteps.Steps.{BeginsAs, AssumptionStep, EndsAs}
 use Rattle.pure_resolve.specs.GoalSteps.declared.fault.StepFault.TheVariants as fault
-use Rattle.pure_method.specs.Facts.{IsNamed, AreNamed}
+use Rattle.pure_method.specs.Facts.{IsNamedBy, AreNamedBy}
 use Rattle.pure_method.specs.Proof.{Closes, EndsBy, IsProofBy}
 use Rattle.pure_method.specs.Examples.{premise, trivial_statement, AssumptionExample, ClosedExample, SecondStepExample, FirstStepExample, LeftExample, DerivableExample}
 use Rattle.pure_method.proofs.SoundLaws.{proved-derivable}
@@ -99,7 +99,7 @@ module _ (A : Algebra) where
 ends : EndsAs last_goal (Ok (record { hyps = []; pairs = []; prop = trivial_statement; rests = [] }))
 ends = EndsAs.proved {smashed = theorem_of last_goal []} {C = trivial_statement} refl (Smashes.no_pair refl) (record { hyps = tt; pairs = tt; prop = mark-within }) refl
 
-none_named : (script : List Step) → ((l : Label) → ¬ IsNamed [] pure_content script l) → AreNamed [] pure_content script []
+none_named : (script : List Step) → ((l : Label) → ¬ IsNamedBy (IsFoundFact [] pure_content) script l) → AreNamedBy (IsFoundFact [] pure_content) script []
 none_named script unnamed = record { ascend = no_labels; exactly = λ l. (λ m. absurd m, λ n. absurd (unnamed l n)) }
 
 names_nothing : {A B : Type 0} → ¬ A → ¬ B → ¬ (A ⊎ B)

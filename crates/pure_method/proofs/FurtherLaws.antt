@@ -6,14 +6,13 @@ use Rattle.pure_logic.specs.Derivable.{Theorem}
 use Rattle.pure_declare.specs.Notes.{Fork}
 use Rattle.pure_resolve.specs.GoalSteps.declared.fault.StepFault.{StepFault}
 use Rattle.pure_resolve.specs.GoalSteps.declared.fault.StepFault.TheVariants.{Memory}
-use Rattle.pure_resolve.specs.Goals.{IsStep}
 use Rattle.pure_resolve.specs.Ending.{IsEnd}
 use Rattle.pure_method.specs.Facts.{named_facts}
 use Rattle.pure_method.specs.Proof as proof
-use Rattle.pure_method.specs.Proof.{Gives, Ending, Failed}
-use Rattle.pure_method.specs.Course.{LeadsBy, StopsBy, Stops}
+use Rattle.pure_method.specs.Proof.{GivesIn, Ending, Failed}
+use Rattle.pure_method.specs.Course.{LeadsBy, StopsBy, StopsIn}
 use Rattle.pure_method.specs.Closing.{IsClosed}
-use Rattle.pure_method.specs.Running.{GainsNamed, HasCome, IsFurther, StopsSo}
+use Rattle.pure_method.specs.Running.{GainsNamed, IsStepIn, HasCome, IsFurther, StopsSo}
 use Rattle.pure_method.specs.declared.run.Run.{Run}
 use Rattle.pure_method.specs.declared.outcome.Outcome.TheVariants.{Proved, Fault}
 use Rattle.pure_method.proofs.RunLaws.{numbered, script-end, step-fault, end-fault}
@@ -36,7 +35,7 @@ module _ (texts : List (List ℕ)) (f : Fork) (run : Run) (step : Step) (left : 
   }
 
   -- The step has a number, and goes on.
-  pub given-further : step ≢ Close → (new : Run) → IsStep (λ s. Gives texts f.content step s) run.goal.thm (GainsNamed texts f.content (named_facts step) run.goal.thm.rests) (Ok new.goal)
+  pub given-further : step ≢ Close → (new : Run) → IsStepIn texts f.content f.lemma step run.goal.thm (Ok new.goal)
       → new.at ≡ run.at + 1 → new.number ≡ run.number + 1 → IsFurther texts f run new
   given-further other new (s, is, kept, (t, gives, after, long, gains)) at number = record {
     step = step;
@@ -52,11 +51,11 @@ module _ (texts : List (List ℕ)) (f : Fork) (run : Run) (step : Step) (left : 
   }
 
   -- The step is refused.
-  pub refused-stops : (fault : StepFault) → (fault ≡ Memory → ⊥) → IsStep (λ s. Gives texts f.content step s) run.goal.thm (GainsNamed texts f.content (named_facts step) run.goal.thm.rests) (Err fault) → StopsSo texts f run (Fault run.number fault)
+  pub refused-stops : (fault : StepFault) → (fault ≡ Memory → ⊥) → IsStepIn texts f.content f.lemma step run.goal.thm (Err fault) → StopsSo texts f run (Fault run.number fault)
   refused-stops fault n h =
-      let found = step-fault (λ s. Gives texts f.content step s) (GainsNamed texts f.content (named_facts step) run.goal.thm.rests) run.goal.thm fault n h in
+      let found = step-fault (λ s. GivesIn texts f.content f.lemma step s) (GainsNamed texts f.content f.lemma (named_facts step) run.goal.thm.rests) run.goal.thm fault n h in
       let end : Ending = Failed (record { step = run.number; fault = fault }) in
-      (found.0, found.1, subst (λ (xs : List Step). Stops texts f.content run.number found.0 xs end) (sym left) (StopsBy.refused found.2))
+      (found.0, found.1, subst (λ (xs : List Step). StopsIn texts f.content f.lemma run.number found.0 xs end) (sym left) (StopsBy.refused found.2))
 
   module _ (come : HasCome texts f run.goal.thm run.number (drop run.at f.script)) (is_end : step ≡ Done) where
     done-left : drop run.at f.script ≡ Done ∷ []
@@ -66,11 +65,11 @@ module _ (texts : List (List ℕ)) (f : Fork) (run : Run) (step : Step) (left : 
 
     -- The end proves the statement,
     pub done-stops : (th : Theorem) → IsEnd run.goal.thm (Ok th) → (c : _) → StopsSo texts f run (Proved c)
-    done-stops th (s, is, ends, rests) c = (s, is, subst (λ (xs : List Step). Stops texts f.content run.number s xs proof.Proved) (sym done-left) (StopsBy.finished ends))
+    done-stops th (s, is, ends, rests) c = (s, is, subst (λ (xs : List Step). StopsIn texts f.content f.lemma run.number s xs proof.Proved) (sym done-left) (StopsBy.finished ends))
 
     -- or is refused.
     pub unfinished-stops : (fault : StepFault) → (fault ≡ Memory → ⊥) → IsEnd run.goal.thm (Err fault) → StopsSo texts f run (Fault run.number fault)
     unfinished-stops fault n h =
         let found = end-fault run.goal.thm fault n h in
         let end : Ending = Failed (record { step = run.number; fault = fault }) in
-        (found.0, found.1, subst (λ (xs : List Step). Stops texts f.content run.number found.0 xs end) (sym done-left) (StopsBy.unfinished found.2))
+        (found.0, found.1, subst (λ (xs : List Step). StopsIn texts f.content f.lemma run.number found.0 xs end) (sym done-left) (StopsBy.unfinished found.2))

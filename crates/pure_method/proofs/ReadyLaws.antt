@@ -16,17 +16,17 @@ use Rattle.pure_term_laws.specs.LawsOccurs.{TypOccurs, HasNoSchematic}
 use Rattle.pure_logic.specs.Content.{Content}
 use Rattle.pure_logic.specs.Derivable.{Theorem}
 use Rattle.pure_logic.specs.BuiltFacts.{built_facts}
-use Rattle.pure_lookup.specs.LookUps.{Fact, BuiltFact, AxiomFact, PromisedFact, IsFoundFact}
+use Rattle.pure_lookup.specs.LookUps.{Fact, BuiltFact, AxiomFact, PromisedFact, IsFoundLocal}
 use Rattle.pure_declare.specs.Theory.Stage.{IsSound, IsCertifiedDecl}
 use Rattle.pure_theorem.specs.Facts.{IsTheoryContent}
 use Rattle.pure_unify_laws.specs.Condition.{IsUnifyContent}
 use Rattle.pure_declare.specs.Notes.{Fork}
 use Rattle.pure_declare.specs.Tidy.{HasTypIndexes, HaveTypIndexes, IsUnschematic, IsTidyDecl, IsTidy}
-use Rattle.pure_method.specs.Facts.{theorem, IsFact, LookUp, IsFoundBy, MeansPromiseBy, IsFound, MeansPromise}
+use Rattle.pure_method.specs.Facts.{theorem, IsFact, LookUp, IsFoundBy, MeansPromiseBy, IsFoundIn, MeansPromiseIn}
 use Rattle.pure_method.specs.Outcome.{IsProvable}
 use Rattle.pure_method.specs.Running.{IsReady}
 use Rattle.pure_method.specs.Taking.{IsReadyFact}
-use Rattle.pure_method.proofs.FactLaws.{IsOnce, IsFactOver, FindsOver, everywhere-over, everywhere-once, found-usable}
+use Rattle.pure_method.proofs.FactLaws.{IsOnce, IsFactOver, FindsOver, in_lemma-over, in_lemma-once, found-usable}
 
 -- The declarations of a stage are over declared classes.
 pub unify_content : (Q : Content) → IsSound Q → IsUnifyContent Q
@@ -139,10 +139,10 @@ module _ (L : LookUp) (Q : Content) (over : FindsOver Q L) (unify : IsUnifyConte
   pub rests_by-named : IsOnce L → (written : List ℕ) (th : Theorem) → IsFoundBy L written th → (label : Label) → IsIn label th.rests ↔ MeansPromiseBy L label written
   rests_by-named once written th h label = (λ m. (found-usable L Q over unify.above written th h).named label m, λ p. promise-in once label written th h p)
 
--- The look-up over the content alone.
-module _ (texts : List (List ℕ)) (Q : Content) (r : IsReady texts Q) where
-  pub ready-fact : (written : List ℕ) (th : Theorem) → IsFound texts Q written th → IsReadyFact Q th
-  ready-fact = ready_by-fact (IsFoundFact texts Q) Q (everywhere-over texts Q) r.unify r.tidy
+-- The look-up in a lemma.
+module _ (texts : List (List ℕ)) (Q : Content) (r : IsReady texts Q) (lemma : ℕ) where
+  pub ready-fact : (written : List ℕ) (th : Theorem) → IsFoundIn texts Q lemma written th → IsReadyFact Q th
+  ready-fact = ready_by-fact (IsFoundLocal texts Q lemma) Q (in_lemma-over texts Q lemma) r.unify r.tidy
 
-  pub rests-named : (written : List ℕ) (th : Theorem) → IsFound texts Q written th → (label : Label) → IsIn label th.rests ↔ MeansPromise texts Q label written
-  rests-named = rests_by-named (IsFoundFact texts Q) Q (everywhere-over texts Q) r.unify (everywhere-once texts Q r.in_session r.unify.content)
+  pub rests-named : (written : List ℕ) (th : Theorem) → IsFoundIn texts Q lemma written th → (label : Label) → IsIn label th.rests ↔ MeansPromiseIn texts Q lemma label written
+  rests-named = rests_by-named (IsFoundLocal texts Q lemma) Q (in_lemma-over texts Q lemma) r.unify (in_lemma-once texts Q r.in_session r.unify.content lemma)

@@ -25,17 +25,17 @@ use Rattle.pure_resolve.specs.Ending.{IsEnd}
 use Rattle.pure_resolve.specs.Uses.{MayStep}
 use Rattle.pure_resolve.specs.declared.state.Goal.{Goal}
 use Rattle.pure_resolve.proofs.ChainLaws.{chain_once}
-use Rattle.pure_method.specs.Facts.{theorem, named_facts, MeansPromise, IsNamed}
-use Rattle.pure_method.specs.Proof.{Gives, Ending, Proved, Failed, EndsBy, Ends, IsProofBy, IsProof}
+use Rattle.pure_method.specs.Facts.{theorem, named_facts, MeansPromiseIn, IsNamedIn}
+use Rattle.pure_method.specs.Proof.{GivesIn, Ending, Proved, Failed, EndsBy, EndsIn, IsProofBy, IsProofIn}
 use Rattle.pure_method.specs.Outcomes.{IsScript}
 use Rattle.pure_method.specs.Outcome.{is_numbered, IsProvable, IsOutcomeOf}
-use Rattle.pure_method.specs.Running.{GainsNamed, EndsWhole, HasCome, StopsSo}
+use Rattle.pure_method.specs.Running.{GainsNamed, IsStepIn, EndsWhole, HasCome, StopsSo}
 use Rattle.pure_method.specs.declared.run.Run.{Run}
 use Rattle.pure_method.specs.Closing.{IsClosed}
 use Rattle.pure_method.specs.declared.outcome.Outcome as code
 use Rattle.pure_method.specs.declared.outcome.Outcome.TheVariants as outcome
 use Rattle.pure_method.proofs.ReadyLaws.{no-schematic}
-use Rattle.pure_method.proofs.SoundLaws.{proved-derivable}
+use Rattle.pure_method.proofs.SoundLaws.{proved_in-derivable}
 
 -- A theorem is that of one state.
 pub state-once : (s t : State) (th : Theorem) → IsTheoremOf s th → IsTheoremOf t th → s ≡ t
@@ -88,11 +88,14 @@ module _ (texts : List (List ℕ)) (f : Fork) where
   abbrev Q : Content
   Q = f.content
 
+  abbrev lemma : ℕ
+  lemma = f.lemma
+
   -- The proof begins.
   pub come-first : IsProvable texts f → (goal : Theorem) (s : State) → BeginsAs f.fixed (Ok s) → IsTheoremOf s goal → MayStep Q goal → goal.rests ≡ [] → HasCome texts f goal 1 f.script
   come-first p goal s begins is may none = record {
     may = may;
-    ends = λ t h end e. record { first = s; begins = begins; ends = subst (λ (u : State). Ends texts Q 1 u f.script end) (state-once t s goal h is) e };
+    ends = λ t h end e. record { first = s; begins = begins; ends = subst (λ (u : State). EndsIn texts Q lemma 1 u f.script end) (state-once t s goal h is) e };
     ascend = subst IsLabelSet (sym none) no_labels;
     named = λ l. (λ m. inr m, λ m. elim m [ inl a ↦ absurd (subst (λ (ls : List Label). IsIn l ls) none a) | inr b ↦ b ]);
     script = p.script;
@@ -100,33 +103,33 @@ module _ (texts : List (List ℕ)) (f : Fork) where
   }
 
   -- The promises that steps name: those of the first and of the others.
-  gained : (written : List (List ℕ)) (step : Step) (steps : List Step) (old new : List Label) → named_facts step ≡ written → GainsNamed texts Q written old new → (l : Label)
-      → IsNamed texts Q f.script l ↔ (IsIn l old ⊎ IsNamed texts Q (step ∷ steps) l) → IsNamed texts Q f.script l ↔ (IsIn l new ⊎ IsNamed texts Q steps l)
+  gained : (written : List (List ℕ)) (step : Step) (steps : List Step) (old new : List Label) → named_facts step ≡ written → GainsNamed texts Q lemma written old new → (l : Label)
+      → IsNamedIn texts Q lemma f.script l ↔ (IsIn l old ⊎ IsNamedIn texts Q lemma (step ∷ steps) l) → IsNamedIn texts Q lemma f.script l ↔ (IsIn l new ⊎ IsNamedIn texts Q lemma steps l)
   gained written step steps old new e g l before =
-      let names : AnyOf (MeansPromise texts Q l) (named_facts step) ≡ AnyOf (MeansPromise texts Q l) written = ap (AnyOf (MeansPromise texts Q l)) e in (
+      let names : AnyOf (MeansPromiseIn texts Q lemma l) (named_facts step) ≡ AnyOf (MeansPromiseIn texts Q lemma l) written = ap (AnyOf (MeansPromiseIn texts Q lemma l)) e in (
         λ m. elim (before.0 m) [
           | inl a ↦ inl ((g.exactly l).1 (inl a))
-          | inr b ↦ elim b [ inl here ↦ inl ((g.exactly l).1 (inr (subst (AnyOf (MeansPromise texts Q l)) e here))) | inr later ↦ inr later ]
+          | inr b ↦ elim b [ inl here ↦ inl ((g.exactly l).1 (inr (subst (AnyOf (MeansPromiseIn texts Q lemma l)) e here))) | inr later ↦ inr later ]
         ],
         λ m. before.1 (elim m [
-          | inl a ↦ elim ((g.exactly l).0 a) [ inl o ↦ inl o | inr here ↦ inr (inl (subst (AnyOf (MeansPromise texts Q l)) (sym e) here)) ]
+          | inl a ↦ elim ((g.exactly l).0 a) [ inl o ↦ inl o | inr here ↦ inr (inl (subst (AnyOf (MeansPromiseIn texts Q lemma l)) (sym e) here)) ]
           | inr later ↦ inr (inr later)
         ]),
       )
 
   module _ (goal : Theorem) (number : ℕ) (step : Step) (steps : List Step) (c : HasCome texts f goal number (step ∷ steps)) where
     -- The step fails, and so does the proof.
-    pub come-failed : (s : State) → IsTheoremOf s goal → (fault : StepFault) → Gives texts Q step s (Err fault) → IsProof texts Q f.fixed f.script (Err (record { step = number; fault = fault }))
+    pub come-failed : (s : State) → IsTheoremOf s goal → (fault : StepFault) → GivesIn texts Q lemma step s (Err fault) → IsProofIn texts Q lemma f.fixed f.script (Err (record { step = number; fault = fault }))
     come-failed s is fault gives =
         let whole = c.ends s is (Failed (record { step = number; fault = fault })) (EndsBy.refused gives) in
         IsProofBy.failed whole.begins whole.ends
 
     -- A step that has a number goes on.
-    pub come-further : step ≢ Close → step ≢ Done → (s : State) → IsTheoremOf s goal → (new : Theorem) (t : State) → Gives texts Q step s (Ok t) → IsTheoremOf t new → MayStep Q new → GainsNamed texts Q (named_facts step) goal.rests new.rests
+    pub come-further : step ≢ Close → step ≢ Done → (s : State) → IsTheoremOf s goal → (new : Theorem) (t : State) → GivesIn texts Q lemma step s (Ok t) → IsTheoremOf t new → MayStep Q new → GainsNamed texts Q lemma (named_facts step) goal.rests new.rests
         → HasCome texts f new (number + 1) steps
     come-further no_close no_end s is new t gives after may gains = record {
       may = may;
-      ends = λ u h end e. c.ends s is end (EndsBy.goes_on gives (subst (λ (v : State). Ends texts Q (number + 1) v steps end) (state-once u t new h after) e));
+      ends = λ u h end e. c.ends s is end (EndsBy.goes_on gives (subst (λ (v : State). EndsIn texts Q lemma (number + 1) v steps end) (state-once u t new h after) e));
       ascend = gains.ascend;
       named = λ l. gained (named_facts step) step steps goal.rests new.rests refl gains l (c.named l);
       script = script-behind step steps no_end c.script;
@@ -137,7 +140,7 @@ module _ (texts : List (List ℕ)) (f : Fork) where
     pub come-closed : step ≡ Close → (new : Theorem) → IsClosed Q goal new → HasCome texts f new number steps
     come-closed e new k = record {
       may = k.may;
-      ends = λ u h end rest. c.ends k.before k.is_before end (subst (λ (x : Step). Ends texts Q number k.before (x ∷ steps) end) (sym e) (EndsBy.closed k.closes (subst (λ (v : State). Ends texts Q number v steps end) (state-once u k.after new h k.is_after) rest)));
+      ends = λ u h end rest. c.ends k.before k.is_before end (subst (λ (x : Step). EndsIn texts Q lemma number k.before (x ∷ steps) end) (sym e) (EndsBy.closed k.closes (subst (λ (v : State). EndsIn texts Q lemma number v steps end) (state-once u k.after new h k.is_after) rest)));
       ascend = subst IsLabelSet (sym k.rests) c.ascend;
       named = λ l. gained [] step steps goal.rests new.rests (ap named_facts e) (record { ascend = subst IsLabelSet (sym k.rests) c.ascend; exactly = λ m. same m }) l (c.named l);
       script = script-behind step steps (λ d. let no : Close ≡ Done = sym e ∙ d in close-no_end no) c.script;
@@ -151,25 +154,25 @@ module _ (texts : List (List ℕ)) (f : Fork) where
         same l = (λ m. inl (subst (λ (ls : List Label). IsIn l ls) k.rests m), λ m. elim m [ inl a ↦ subst (λ (ls : List Label). IsIn l ls) (sym k.rests) a | inr n ↦ absurd n ])
 
     module _ (end : step ≡ Done) where
-      at-end : (s : State) → IsTheoremOf s goal → (ending : Ending) → Ends texts Q number s (Done ∷ []) ending → EndsWhole texts f ending
+      at-end : (s : State) → IsTheoremOf s goal → (ending : Ending) → EndsIn texts Q lemma number s (Done ∷ []) ending → EndsWhole texts f ending
       at-end s is ending e =
-          c.ends s is ending (subst (λ (xs : List Step). Ends texts Q number s xs ending) (λ i. sym end i ∷ sym (script-end step steps end c.script) i) e)
+          c.ends s is ending (subst (λ (xs : List Step). EndsIn texts Q lemma number s xs ending) (λ i. sym end i ∷ sym (script-end step steps end c.script) i) e)
 
       -- The end fails.
-      pub come-unfinished : (s : State) → IsTheoremOf s goal → (fault : StepFault) → EndsAs s (Err fault) → IsProof texts Q f.fixed f.script (Err (record { step = number; fault = fault }))
+      pub come-unfinished : (s : State) → IsTheoremOf s goal → (fault : StepFault) → EndsAs s (Err fault) → IsProofIn texts Q lemma f.fixed f.script (Err (record { step = number; fault = fault }))
       come-unfinished s is fault e =
           let whole = at-end s is (Failed (record { step = number; fault = fault })) (EndsBy.unfinished e) in
           IsProofBy.failed whole.begins whole.ends
 
-      nothing-named : (l : Label) → IsNamed texts Q (step ∷ steps) l → ⊥
-      nothing-named l m = by (subst (λ (xs : List Step). IsNamed texts Q xs l) (λ i. end i ∷ script-end step steps end c.script i) m)
+      nothing-named : (l : Label) → IsNamedIn texts Q lemma (step ∷ steps) l → ⊥
+      nothing-named l m = by (subst (λ (xs : List Step). IsNamedIn texts Q lemma xs l) (λ i. end i ∷ script-end step steps end c.script i) m)
         where
-          by : IsNamed texts Q (Done ∷ []) l → ⊥
+          by : IsNamedIn texts Q lemma (Done ∷ []) l → ⊥
           by (inl n) = n
           by (inr n) = n
 
       -- The statement is proved, and rests on what the goal rests on.
-      pub come-proved : (s : State) → IsTheoremOf s goal → (th : Theorem) → EndsAs s (Ok th) → (rests : List Label) → rests ≡ goal.rests → IsProof texts Q f.fixed f.script (Ok rests)
+      pub come-proved : (s : State) → IsTheoremOf s goal → (th : Theorem) → EndsAs s (Ok th) → (rests : List Label) → rests ≡ goal.rests → IsProofIn texts Q lemma f.fixed f.script (Ok rests)
       come-proved s is th e rests same =
           let whole = at-end s is Proved (EndsBy.finished e) in
           IsProofBy.proved whole.begins whole.ends (record {
@@ -181,10 +184,10 @@ module _ (texts : List (List ℕ)) (f : Fork) where
           })
 
   -- What is proved is the lemma's theorem, derivable.
-  pub lemma-derivable : IsUnifyContent Q → IsProvable texts f → (labels : List Label) → IsProof texts Q f.fixed f.script (Ok labels) → IsDerivable Q (theorem f.prop labels)
+  pub lemma-derivable : IsUnifyContent Q → IsProvable texts f → (labels : List Label) → IsProofIn texts Q lemma f.fixed f.script (Ok labels) → IsDerivable Q (theorem f.prop labels)
   lemma-derivable k p labels proof =
       let same : f.prop ≡ maps.generalised (everything 0) f.fixed = p.statement.prop ∙ schematic-is_generalised f.fixed in
-      subst (λ (A : Term). IsDerivable Q (theorem A labels)) (sym same) (proved-derivable texts Q k f.fixed (no-schematic f.fixed p.statement.fixed) labels f.script proof p.proposition)
+      subst (λ (A : Term). IsDerivable Q (theorem A labels)) (sym same) (proved_in-derivable texts Q k lemma f.fixed p.proposition (no-schematic f.fixed p.statement.fixed) f.script labels proof)
 
 -- What a fault that isn't want of memory says of the step.
 pub step-fault : (G : State → Outcome → Type 0) (R : List Label → Type 0) (goal : Theorem) (fault : StepFault) → (fault ≡ Memory → ⊥) → IsStep G goal R (Err fault) → (s : State) × IsTheoremOf s goal × G s (Err fault)
@@ -230,14 +233,14 @@ begin-fault C R NoHypothesis n h = h
 begin-fault C R SubgoalsLeft n h = h
 
 -- What comes of the proof is the call's value.
-pub shown-proved : (texts : List (List ℕ)) (f : Fork) (rests : List Label) → IsProof texts f.content f.fixed f.script (Ok rests) → (made : code.Outcome) → made ≡ outcome.Proved (record { content = f.content; theorem = theorem f.prop rests }) → IsOutcomeOf texts f made
+pub shown-proved : (texts : List (List ℕ)) (f : Fork) (rests : List Label) → IsProofIn texts f.content f.lemma f.fixed f.script (Ok rests) → (made : code.Outcome) → made ≡ outcome.Proved (record { content = f.content; theorem = theorem f.prop rests }) → IsOutcomeOf texts f made
 shown-proved texts f rests proof made e = subst (IsOutcomeOf texts f) (sym e) (proof, refl)
 
 module _ (texts : List (List ℕ)) (f : Fork) (p : IsProvable texts f) where
   pub begun-run : (goal : Goal) → IsOutcome (BeginsAs f.fixed) (λ rests. rests ≡ []) (Ok goal) → MayStep f.content goal.thm → HasCome texts f goal.thm 1 f.script
   begun-run goal (s, begins, is, kept, none) may = come-first texts f p goal.thm s begins is may none
 
-  pub not_begun : (fault : StepFault) → (fault ≡ Memory → ⊥) → IsOutcome (BeginsAs f.fixed) (λ rests. rests ≡ []) (Err fault) → IsProof texts f.content f.fixed f.script (Err (record { step = 0; fault = Big }))
+  pub not_begun : (fault : StepFault) → (fault ≡ Memory → ⊥) → IsOutcome (BeginsAs f.fixed) (λ rests. rests ≡ []) (Err fault) → IsProofIn texts f.content f.lemma f.fixed f.script (Err (record { step = 0; fault = Big }))
   not_begun fault n h = IsProofBy.not_begun (begin-fault f.fixed (λ rests. rests ≡ []) fault n h)
 
   module _ (goal : Theorem) (number at : ℕ) (come : HasCome texts f goal number (drop at f.script)) (step : Step) (left : drop at f.script ≡ step ∷ drop (at + 1) f.script) where
@@ -250,35 +253,34 @@ module _ (texts : List (List ℕ)) (f : Fork) (p : IsProvable texts f) where
     pub run-closed : step ≡ Close → (new : Theorem) → IsClosed f.content goal new → (behind : ℕ) → behind ≡ at + 1 → HasCome texts f new number (drop behind f.script)
     run-closed e new k behind b = behind-left behind b new number (come-closed texts f goal number step (drop (at + 1) f.script) here e new k)
 
-    pub run-further : step ≢ Close → step ≢ Done → (new : Goal) → IsStep (λ s. Gives texts f.content step s) goal (GainsNamed texts f.content (named_facts step) goal.rests) (Ok new) → MayStep f.content new.thm → (behind : ℕ) → behind ≡ at + 1
+    pub run-further : step ≢ Close → step ≢ Done → (new : Goal) → IsStepIn texts f.content f.lemma step goal (Ok new) → MayStep f.content new.thm → (behind : ℕ) → behind ≡ at + 1
         → HasCome texts f new.thm (number + 1) (drop behind f.script)
     run-further no_close no_end new (s, is, kept, (t, gives, after, long, gains)) may behind b =
         behind-left behind b new.thm (number + 1) (come-further texts f goal number step (drop (at + 1) f.script) here no_close no_end s is new.thm t gives after may gains)
 
-    pub run-failed : (fault : StepFault) → (fault ≡ Memory → ⊥) → IsStep (λ s. Gives texts f.content step s) goal (GainsNamed texts f.content (named_facts step) goal.rests) (Err fault)
-        → IsProof texts f.content f.fixed f.script (Err (record { step = number; fault = fault }))
+    pub run-failed : (fault : StepFault) → (fault ≡ Memory → ⊥) → IsStepIn texts f.content f.lemma step goal (Err fault)
+        → IsProofIn texts f.content f.lemma f.fixed f.script (Err (record { step = number; fault = fault }))
     run-failed fault n h =
-        let found = step-fault (λ s. Gives texts f.content step s) (GainsNamed texts f.content (named_facts step) goal.rests) goal fault n h in
+        let found = step-fault (λ s. GivesIn texts f.content f.lemma step s) (GainsNamed texts f.content f.lemma (named_facts step) goal.rests) goal fault n h in
         come-failed texts f goal number step (drop (at + 1) f.script) here found.0 found.1 fault found.2
 
     -- It rests on what the goal rests on.
-    pub run-ends : step ≡ Done → (th : Theorem) → IsEnd goal (Ok th) → IsProof texts f.content f.fixed f.script (Ok goal.rests)
+    pub run-ends : step ≡ Done → (th : Theorem) → IsEnd goal (Ok th) → IsProofIn texts f.content f.lemma f.fixed f.script (Ok goal.rests)
     run-ends e th (s, is, ends, rests) = come-proved texts f goal number step (drop (at + 1) f.script) here e s is (record th { rests = [] }) ends goal.rests refl
 
-    pub run-unfinished : step ≡ Done → (fault : StepFault) → (fault ≡ Memory → ⊥) → IsEnd goal (Err fault) → IsProof texts f.content f.fixed f.script (Err (record { step = number; fault = fault }))
+    pub run-unfinished : step ≡ Done → (fault : StepFault) → (fault ≡ Memory → ⊥) → IsEnd goal (Err fault) → IsProofIn texts f.content f.lemma f.fixed f.script (Err (record { step = number; fault = fault }))
     run-unfinished e fault n h =
         let found = end-fault goal fault n h in
         come-unfinished texts f goal number step (drop (at + 1) f.script) here e found.0 found.1 fault found.2
 
-pub shown-result : {E : Type 0} (texts : List (List ℕ)) (f : Fork) (run : Run) (rests : List Label) → IsProof texts f.content f.fixed f.script (Ok rests) → ((c : _) → StopsSo texts f run (outcome.Proved c))
+pub shown-result : {E : Type 0} (texts : List (List ℕ)) (f : Fork) (run : Run) (rests : List Label) → IsProofIn texts f.content f.lemma f.fixed f.script (Ok rests) → ((c : _) → StopsSo texts f run (outcome.Proved c))
     → (result : Result code.Outcome E) → IfOk result (λ made. made ≡ outcome.Proved (record { content = f.content; theorem = theorem f.prop rests })) → IfOk result (λ made. IsOutcomeOf texts f made × StopsSo texts f run made)
 shown-result texts f run rests proof stops (Ok made) e = (shown-proved texts f rests proof made e, subst (StopsSo texts f run) (sym e) (stops (record { content = f.content; theorem = theorem f.prop rests })))
 shown-result texts f run rests proof stops (Err fault) e = tt
 
--- A step over a theory whose content is that of the lemma.
-pub step-over : (texts : List (List ℕ)) (R Q : Content) → R ≡ Q → (step : Step) (goal : Theorem) (result : Result Goal StepFault) → IsStep (λ s. Gives texts R step s) goal (GainsNamed texts R (named_facts step) goal.rests) result
-    → IsStep (λ s. Gives texts Q step s) goal (GainsNamed texts Q (named_facts step) goal.rests) result
-step-over texts R Q e step goal result h = subst (λ (S : Content). IsStep (λ s. Gives texts S step s) goal (GainsNamed texts S (named_facts step) goal.rests) result) e h
+-- A step over a theory whose content is that of the lemma's fork, in the lemma that it names.
+pub step-over : (texts : List (List ℕ)) (R Q : Content) → R ≡ Q → (m n : ℕ) → m ≡ n → (step : Step) (goal : Theorem) (result : Result Goal StepFault) → IsStepIn texts R m step goal result → IsStepIn texts Q n step goal result
+step-over texts R Q e m n same step goal result h = subst (λ (x : Content × ℕ). IsStepIn texts x.0 x.1 step goal result) (λ i. (e i, same i)) h
 
 pub may-over : (R Q : Content) → R ≡ Q → (goal : Goal) → MayStep R goal.thm → MayStep Q goal.thm
 may-over R Q e goal h = subst (λ (S : Content). MayStep S goal.thm) e h

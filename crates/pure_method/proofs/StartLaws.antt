@@ -12,7 +12,7 @@ use Rattle.pure_resolve.specs.GoalSteps.declared.fault.StepFault.{StepFault}
 use Rattle.pure_resolve.specs.GoalSteps.declared.fault.StepFault.TheVariants.{Memory, Big}
 use Rattle.pure_resolve.specs.Goals.{IsOutcome}
 use Rattle.pure_resolve.specs.declared.state.Goal.{Goal}
-use Rattle.pure_method.specs.Proof.{IsProof}
+use Rattle.pure_method.specs.Proof.{IsProofIn}
 use Rattle.pure_method.specs.Outcome.{IsProvable}
 use Rattle.pure_method.specs.Running.{HasCome, StandsFirst}
 use Rattle.pure_method.specs.declared.proving.Place.TheVariants.{Runs, Refused}
@@ -30,7 +30,7 @@ module _ (texts : List (List ℕ)) (f : Fork) (p : IsProvable texts f) (C : Term
       let own : IsOutcome (BeginsAs f.fixed) (λ rests. rests ≡ []) (Ok goal) = subst (λ (A : Term). IsOutcome (BeginsAs A) (λ rests. rests ≡ []) (Ok goal)) is outcome in
       begun-run texts f p goal own (begun f.content (BeginsAs f.fixed) (λ rests. rests ≡ []) q (Ok goal) own d)
 
-  pub started-fault : (fault : StepFault) → (fault ≡ Memory → ⊥) → IsOutcome (BeginsAs C) (λ rests. rests ≡ []) (Err fault) → IsProof texts f.content f.fixed f.script (Err (record { step = 0; fault = Big }))
+  pub started-fault : (fault : StepFault) → (fault ≡ Memory → ⊥) → IsOutcome (BeginsAs C) (λ rests. rests ≡ []) (Err fault) → IsProofIn texts f.content f.lemma f.fixed f.script (Err (record { step = 0; fault = Big }))
   started-fault fault n outcome = not_begun texts f p fault n (subst (λ (A : Term). IsOutcome (BeginsAs A) (λ rests. rests ≡ []) (Err fault)) is outcome)
 
   -- The goal stands at the first state, or none began.

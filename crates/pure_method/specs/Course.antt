@@ -55,15 +55,6 @@ pub record CourseEndsBy (L : LookUp) (Q : Content) (statement : Term) (script : 
   pub proves : (states : List State) (labels : List Label) → IsProofCourseBy L Q statement script states Proved → AreNamedBy L script labels → IsProofBy L Q statement script (Ok labels)
 
 -- The same where facts are looked up over the content alone.
-abbrev pub Leads : (texts : List (List ℕ)) → Content → Step → State → State → Type 0
-Leads texts Q = LeadsBy (IsFoundFact texts Q) Q
-
-abbrev pub Stops : (texts : List (List ℕ)) → Content → (number : ℕ) → State → List Step → Ending → Type 0
-Stops texts Q = StopsBy (IsFoundFact texts Q) Q
-
-abbrev pub IsCourse : (texts : List (List ℕ)) → Content → (number : ℕ) → List State → List Step → Ending → Type 0
-IsCourse texts Q = IsCourseBy (IsFoundFact texts Q) Q
-
 abbrev pub IsProofCourse : (texts : List (List ℕ)) → Content → (statement : Term) → (script : List Step) → List State → Ending → Type 0
 IsProofCourse texts Q = IsProofCourseBy (IsFoundFact texts Q) Q
 
@@ -75,7 +66,17 @@ abbrev pub CourseOnce : Type 0
 CourseOnce = (texts : List (List ℕ)) (Q : Content) → IsInSession texts Q → IsContent Q → IsAntisymmetric (algebra_of Q.declarations) → (statement : Term) (script : List Step) (one other : List State) (end last : Ending)
     → IsProofCourse texts Q statement script one end → IsProofCourse texts Q statement script other last → (one ≡ other) × (end ≡ last)
 
--- The course of a proof in the lemma of this name; its end is the proof's outcome, and it is the only one.
+-- The same in the lemma of this name.
+abbrev pub LeadsIn : (texts : List (List ℕ)) → Content → (lemma : ℕ) → Step → State → State → Type 0
+LeadsIn texts Q lemma = LeadsBy (IsFoundLocal texts Q lemma) Q
+
+abbrev pub StopsIn : (texts : List (List ℕ)) → Content → (lemma number : ℕ) → State → List Step → Ending → Type 0
+StopsIn texts Q lemma = StopsBy (IsFoundLocal texts Q lemma) Q
+
+abbrev pub IsCourseIn : (texts : List (List ℕ)) → Content → (lemma number : ℕ) → List State → List Step → Ending → Type 0
+IsCourseIn texts Q lemma = IsCourseBy (IsFoundLocal texts Q lemma) Q
+
+-- The course of a proof in the lemma; its end is the proof's outcome, and it is the only one.
 abbrev pub IsProofCourseIn : (texts : List (List ℕ)) → Content → (lemma : ℕ) → (statement : Term) → (script : List Step) → List State → Ending → Type 0
 IsProofCourseIn texts Q lemma = IsProofCourseBy (IsFoundLocal texts Q lemma) Q
 

@@ -7,7 +7,7 @@ use Rattle.pure_grammar.specs.Theories.TheoryText.{Step, Rule, Erule, Drule, Unf
 use Rattle.pure_logic.specs.Content.{Content}
 use Rattle.pure_logic.specs.Derivable.{Theorem}
 use Rattle.pure_logic.specs.BuiltFacts.{built_facts}
-use Rattle.pure_lookup.specs.LookUps.{Fact, BuiltFact, AxiomFact, PromisedFact, IsFoundFact}
+use Rattle.pure_lookup.specs.LookUps.{Fact, BuiltFact, AxiomFact, PromisedFact, IsFoundLocal}
 use Rattle.pure_theorem.specs.Sets.{IsLabelSet}
 
 -- a proposition as a theorem that rests on these promises, without hypotheses and pairs
@@ -55,18 +55,18 @@ pub record AreNamedBy (L : LookUp) (script : List Step) (labels : List Label) : 
   pub ascend : IsLabelSet labels
   pub exactly : (label : Label) → IsIn label labels ↔ IsNamedBy L script label
 
--- The same by the look-up over the content alone, which finds no fact that is local to a lemma.
-abbrev pub IsFound : (texts : List (List ℕ)) → Content → (written : List ℕ) → Theorem → Type 0
-IsFound texts Q = IsFoundBy (IsFoundFact texts Q)
+-- The same in the lemma of this name, in which facts that are local to the lemma are found first.
+abbrev pub IsFoundIn : (texts : List (List ℕ)) → Content → (lemma : ℕ) → (written : List ℕ) → Theorem → Type 0
+IsFoundIn texts Q lemma = IsFoundBy (IsFoundLocal texts Q lemma)
 
-abbrev pub IsUnknown : (texts : List (List ℕ)) → Content → (written : List ℕ) → Type 0
-IsUnknown texts Q = IsUnknownBy (IsFoundFact texts Q)
+abbrev pub IsUnknownIn : (texts : List (List ℕ)) → Content → (lemma : ℕ) → (written : List ℕ) → Type 0
+IsUnknownIn texts Q lemma = IsUnknownBy (IsFoundLocal texts Q lemma)
 
-abbrev pub MeansPromise : (texts : List (List ℕ)) → Content → Label → (written : List ℕ) → Type 0
-MeansPromise texts Q = MeansPromiseBy (IsFoundFact texts Q)
+abbrev pub MeansPromiseIn : (texts : List (List ℕ)) → Content → (lemma : ℕ) → Label → (written : List ℕ) → Type 0
+MeansPromiseIn texts Q lemma = MeansPromiseBy (IsFoundLocal texts Q lemma)
 
-abbrev pub IsNamed : (texts : List (List ℕ)) → Content → (script : List Step) → Label → Type 0
-IsNamed texts Q = IsNamedBy (IsFoundFact texts Q)
+abbrev pub IsNamedIn : (texts : List (List ℕ)) → Content → (lemma : ℕ) → (script : List Step) → Label → Type 0
+IsNamedIn texts Q lemma = IsNamedBy (IsFoundLocal texts Q lemma)
 
-abbrev pub AreNamed : (texts : List (List ℕ)) → Content → (script : List Step) → (labels : List Label) → Type 0
-AreNamed texts Q = AreNamedBy (IsFoundFact texts Q)
+abbrev pub AreNamedIn : (texts : List (List ℕ)) → Content → (lemma : ℕ) → (script : List Step) → (labels : List Label) → Type 0
+AreNamedIn texts Q lemma = AreNamedBy (IsFoundLocal texts Q lemma)

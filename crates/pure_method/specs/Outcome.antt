@@ -6,7 +6,7 @@ use Rattle.pure_lookup.specs.Laws.{IsInSession}
 use Rattle.pure_declare.specs.Notes.{Fork}
 use Rattle.pure_declare.specs.Tidy.{IsTidy, IsTidyFork}
 use Rattle.pure_method.specs.Facts.{theorem}
-use Rattle.pure_method.specs.Proof.{IsProof}
+use Rattle.pure_method.specs.Proof.{IsProofIn}
 use Rattle.pure_method.specs.Outcomes.{IsScript}
 use Rattle.pure_method.specs.declared.outcome.Outcome.{Outcome}
 use Rattle.pure_method.specs.declared.outcome.Outcome.TheVariants.{Proved, Fault}
@@ -25,7 +25,7 @@ pub record IsProvable (texts : List (List ℕ)) (f : Fork) : Type 0 where
   pub script : IsScript f.script
   pub few : count_by is_numbered f.script ≤ 1000
 
--- The call's value is what comes of the lemma's proof. Where the lemma is proved, it is the lemma's theorem, with its content: its statement with schematic variables, without hypotheses and pairs, which rests on the promises that the proof's steps name.
+-- The call's value is what comes of the lemma's proof, whose steps look facts up in the lemma that it is or stands in. Where the lemma is proved, it is the lemma's theorem, with its content: its statement with schematic variables, without hypotheses and pairs, which rests on the promises that the proof's steps name.
 abbrev pub IsOutcomeOf : (texts : List (List ℕ)) → Fork → Outcome → Type 0
-IsOutcomeOf texts f (Proved c) = IsProof texts f.content f.fixed f.script (Ok c.theorem.rests) × (c ≡ record { content = f.content; theorem = theorem f.prop c.theorem.rests })
-IsOutcomeOf texts f (Fault step fault) = IsProof texts f.content f.fixed f.script (Err (record { step = step; fault = fault }))
+IsOutcomeOf texts f (Proved c) = IsProofIn texts f.content f.lemma f.fixed f.script (Ok c.theorem.rests) × (c ≡ record { content = f.content; theorem = theorem f.prop c.theorem.rests })
+IsOutcomeOf texts f (Fault step fault) = IsProofIn texts f.content f.lemma f.fixed f.script (Err (record { step = step; fault = fault }))

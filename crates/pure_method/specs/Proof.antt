@@ -73,19 +73,19 @@ pub data IsProofBy (L : LookUp) (Q : Content) (statement : Term) (script : List 
   failed : {s : State} {f : ProofFault} → BeginsAs statement (Ok s) → EndsBy L Q 1 s script (Failed f) → IsProofBy L Q statement script (Err f)
   proved : {s : State} {labels : List Label} → BeginsAs statement (Ok s) → EndsBy L Q 1 s script Proved → AreNamedBy L script labels → IsProofBy L Q statement script (Ok labels)
 
--- The same where facts are looked up over the content alone.
-abbrev pub ByFacts : (texts : List (List ℕ)) → Content → (List Theorem → Outcome → Type 0) → (written : List (List ℕ)) → Outcome → Type 0
-ByFacts texts Q = ByFactsOf (IsFoundFact texts Q)
-
-abbrev pub Gives : (texts : List (List ℕ)) → Content → Step → State → Outcome → Type 0
-Gives texts Q = GivesBy (IsFoundFact texts Q) Q
-
-abbrev pub Ends : (texts : List (List ℕ)) → Content → (number : ℕ) → State → List Step → Ending → Type 0
-Ends texts Q = EndsBy (IsFoundFact texts Q) Q
-
+-- What comes of a proof where facts are looked up over the content alone, which finds none that is local to a lemma.
 abbrev pub IsProof : (texts : List (List ℕ)) → Content → (statement : Term) → (script : List Step) → ProofOutcome → Type 0
 IsProof texts Q = IsProofBy (IsFoundFact texts Q) Q
 
--- What comes of a proof in the lemma of this name: facts that are local to the lemma are found first.
+-- The same in the lemma of this name: facts that are local to the lemma are found first.
+abbrev pub ByFactsIn : (texts : List (List ℕ)) → Content → (lemma : ℕ) → (List Theorem → Outcome → Type 0) → (written : List (List ℕ)) → Outcome → Type 0
+ByFactsIn texts Q lemma = ByFactsOf (IsFoundLocal texts Q lemma)
+
+abbrev pub GivesIn : (texts : List (List ℕ)) → Content → (lemma : ℕ) → Step → State → Outcome → Type 0
+GivesIn texts Q lemma = GivesBy (IsFoundLocal texts Q lemma) Q
+
+abbrev pub EndsIn : (texts : List (List ℕ)) → Content → (lemma number : ℕ) → State → List Step → Ending → Type 0
+EndsIn texts Q lemma = EndsBy (IsFoundLocal texts Q lemma) Q
+
 abbrev pub IsProofIn : (texts : List (List ℕ)) → Content → (lemma : ℕ) → (statement : Term) → (script : List Step) → ProofOutcome → Type 0
 IsProofIn texts Q lemma = IsProofBy (IsFoundLocal texts Q lemma) Q

@@ -1,5 +1,5 @@
 -- How far a proof has come, and what is known of it there.
-use Rattle.std.specs.Prelude.{◌≡◌, ◌≢◌, MatchOption, ◌↔◌, ◌⊎◌, ◌≤◌, ℕ, ◌+◌, List, ◌∷◌, length, drop, count_by, Ok, Err, Some, None}
+use Rattle.std.specs.Prelude.{◌≡◌, ◌≢◌, MatchOption, ◌↔◌, ◌⊎◌, ◌≤◌, ℕ, ◌+◌, List, ◌∷◌, length, drop, count_by, Result, Ok, Err, Some, None}
 use Rattle.pure_text.specs.Lists.{IsIn, AnyOf}
 use Rattle.pure_definitions.specs.Names.{Label}
 use Rattle.pure_grammar.specs.Theories.TheoryText.{Step}
@@ -12,13 +12,15 @@ use Rattle.pure_resolve.specs.GoalSteps.State.{State, IsTheoremOf}
 use Rattle.pure_resolve.specs.GoalSteps.Steps.{BeginsAs}
 use Rattle.pure_resolve.specs.GoalSteps.declared.fault.StepFault.{StepFault}
 use Rattle.pure_resolve.specs.GoalSteps.declared.fault.StepFault.TheVariants.{Big}
+use Rattle.pure_resolve.specs.Goals.{IsStep}
 use Rattle.pure_resolve.specs.Uses.{MayStep}
+use Rattle.pure_resolve.specs.declared.state.Goal.{Goal}
 use Rattle.pure_declare.specs.Notes.{Fork}
 use Rattle.pure_declare.specs.Tidy.{IsTidy}
-use Rattle.pure_method.specs.Facts.{MeansPromise, IsNamed}
+use Rattle.pure_method.specs.Facts.{named_facts, MeansPromiseIn, IsNamedIn}
 use Rattle.pure_method.specs.Proof as proof
-use Rattle.pure_method.specs.Proof.{Ending, Failed, Ends, IsProof}
-use Rattle.pure_method.specs.Course.{Leads, Stops, number_behind}
+use Rattle.pure_method.specs.Proof.{Ending, Failed, GivesIn, EndsIn, IsProofIn}
+use Rattle.pure_method.specs.Course.{LeadsIn, StopsIn, number_behind}
 use Rattle.pure_method.specs.Outcomes.{IsScript}
 use Rattle.pure_method.specs.Outcome.{is_numbered, IsOutcomeOf}
 use Rattle.pure_method.specs.declared.outcome.Outcome.{Outcome}
@@ -37,23 +39,27 @@ pub record IsReady (texts : List (List ℕ)) (Q : Content) : Type 0 where
   pub unify : IsUnifyContent Q
   pub tidy : IsTidy Q
 
--- A goal that rested on the old promises rests on the new ones: on these, and on those that the written names mean.
-pub record GainsNamed (texts : List (List ℕ)) (Q : Content) (written : List (List ℕ)) (old new : List Label) : Type 0 where
+-- A goal that rested on the old promises rests on the new ones: on these, and on those that the written names mean in the lemma.
+pub record GainsNamed (texts : List (List ℕ)) (Q : Content) (lemma : ℕ) (written : List (List ℕ)) (old new : List Label) : Type 0 where
   pub ascend : IsLabelSet new
-  pub exactly : (label : Label) → IsIn label new ↔ (IsIn label old ⊎ AnyOf (MeansPromise texts Q label) written)
+  pub exactly : (label : Label) → IsIn label new ↔ (IsIn label old ⊎ AnyOf (MeansPromiseIn texts Q lemma label) written)
+
+-- The call's answer is what the step gives on the goal, in a proof in the lemma; the goal gains the promises that the step names.
+abbrev pub IsStepIn : (texts : List (List ℕ)) → Content → (lemma : ℕ) → Step → (goal : Theorem) → Result Goal StepFault → Type 0
+IsStepIn texts Q lemma step goal result = IsStep (λ s. GivesIn texts Q lemma step s) goal (GainsNamed texts Q lemma (named_facts step) goal.rests) result
 
 -- The lemma's proof begins, and ends so.
 pub record EndsWhole (texts : List (List ℕ)) (f : Fork) (end : Ending) : Type 0 where
   pub first : State
   pub begins : BeginsAs f.fixed (Ok first)
-  pub ends : Ends texts f.content 1 first f.script end
+  pub ends : EndsIn texts f.content f.lemma 1 first f.script end
 
 -- The lemma's proof has come to a goal with this theorem: the next step that has a number has this one, and these steps are left. However they end from there, so does the whole proof. On the goal steps may be made, and it rests on the promises that the steps so far name.
 pub record HasCome (texts : List (List ℕ)) (f : Fork) (goal : Theorem) (number : ℕ) (left : List Step) : Type 0 where
   pub may : MayStep f.content goal
-  pub ends : (s : State) → IsTheoremOf s goal → (end : Ending) → Ends texts f.content number s left end → EndsWhole texts f end
+  pub ends : (s : State) → IsTheoremOf s goal → (end : Ending) → EndsIn texts f.content f.lemma number s left end → EndsWhole texts f end
   pub ascend : IsLabelSet goal.rests
-  pub named : (label : Label) → IsNamed texts f.content f.script label ↔ (IsIn label goal.rests ⊎ IsNamed texts f.content left label)
+  pub named : (label : Label) → IsNamedIn texts f.content f.lemma f.script label ↔ (IsIn label goal.rests ⊎ IsNamedIn texts f.content f.lemma left label)
   pub script : IsScript left
   pub few : number + count_by is_numbered left ≤ 1001
 
@@ -72,7 +78,7 @@ pub record IsFurther (texts : List (List ℕ)) (f : Fork) (run next : Run) : Typ
   pub is_before : IsTheoremOf before run.goal.thm
   pub after : State
   pub is_after : IsTheoremOf after next.goal.thm
-  pub leads : Leads texts f.content step before after
+  pub leads : LeadsIn texts f.content f.lemma step before after
 
 -- how a proof ends of which this comes
 abbrev pub shown_ending : Outcome → Ending
@@ -81,7 +87,7 @@ shown_ending (Fault step fault) = Failed (record { step = step; fault = fault })
 
 -- With the step that comes next the proof ends so on the run's state.
 abbrev pub StopsSo : (texts : List (List ℕ)) → Fork → Run → Outcome → Type 0
-StopsSo texts f run outcome = (s : State) × IsTheoremOf s run.goal.thm × Stops texts f.content run.number s (drop run.at f.script) (shown_ending outcome)
+StopsSo texts f run outcome = (s : State) × IsTheoremOf s run.goal.thm × StopsIn texts f.content f.lemma run.number s (drop run.at f.script) (shown_ending outcome)
 
 -- What a step leaves of a run: a run that is one step further; or the run, and what comes of the proof.
 abbrev pub IsNext : (texts : List (List ℕ)) → Fork → Run → Next → Type 0
@@ -91,7 +97,7 @@ IsNext texts f run (EndsWith same outcome) = IsRun texts f same × IsOutcomeOf t
 -- What is known of where a proof stands: it runs; or no goal began with its statement; or it is broken by want of memory, and answers that from then on.
 abbrev pub IsPlace : (texts : List (List ℕ)) → Fork → Place → Type 0
 IsPlace texts f (Runs run) = IsRun texts f run
-IsPlace texts f Refused = IsProof texts f.content f.fixed f.script (Err (record { step = 0; fault = Big }))
+IsPlace texts f Refused = IsProofIn texts f.content f.lemma f.fixed f.script (Err (record { step = 0; fault = Big }))
 IsPlace texts f Broken = Unit {0}
 
 -- The same of a proof on its way.

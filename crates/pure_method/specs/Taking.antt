@@ -14,22 +14,22 @@ use Rattle.pure_conv.specs.declared.fault.ConvFault.{ConvFault}
 use Rattle.pure_conv.specs.declared.fault.ConvFault.TheVariants as conv
 use Rattle.pure_resolve.specs.GoalSteps.declared.fault.StepFault.{StepFault}
 use Rattle.pure_resolve.specs.GoalSteps.declared.fault.StepFault.TheVariants.{UnknownFact, NotDefinition, NothingToUnfold, Big, Memory}
-use Rattle.pure_method.specs.Facts.{theorem, IsFound, IsUnknown}
+use Rattle.pure_method.specs.Facts.{theorem, IsFoundIn, IsUnknownIn}
 use Rattle.pure_method.specs.Unfolding.{IsSmallEquation, TakesFact, ComesByFacts, all_rests}
 
--- The fact that is written so; or it isn't known; or memory ran out.
-abbrev pub IsFactAnswer : (texts : List (List ℕ)) → Content → (written : List ℕ) → Result Theorem StepFault → Type 0
-IsFactAnswer texts Q written (Ok th) = IsFound texts Q written th
-IsFactAnswer texts Q written (Err UnknownFact) = IsUnknown texts Q written
-IsFactAnswer texts Q written (Err Memory) = Unit {0}
-IsFactAnswer texts Q written (Err _) = ⊥
+-- The fact that is written so in the lemma; or it isn't known; or memory ran out.
+abbrev pub IsFactAnswer : (texts : List (List ℕ)) → Content → (lemma : ℕ) → (written : List ℕ) → Result Theorem StepFault → Type 0
+IsFactAnswer texts Q lemma written (Ok th) = IsFoundIn texts Q lemma written th
+IsFactAnswer texts Q lemma written (Err UnknownFact) = IsUnknownIn texts Q lemma written
+IsFactAnswer texts Q lemma written (Err Memory) = Unit {0}
+IsFactAnswer texts Q lemma written (Err _) = ⊥
 
--- The facts that are written so; or one isn't known; or memory ran out.
-abbrev pub AreFactsAnswer : (texts : List (List ℕ)) → Content → (written : List (List ℕ)) → Result (List Theorem) StepFault → Type 0
-AreFactsAnswer texts Q written (Ok ths) = EachTwo (IsFound texts Q) written ths
-AreFactsAnswer texts Q written (Err UnknownFact) = AnyOf (IsUnknown texts Q) written
-AreFactsAnswer texts Q written (Err Memory) = Unit {0}
-AreFactsAnswer texts Q written (Err _) = ⊥
+-- The facts that are written so in the lemma; or one isn't known; or memory ran out.
+abbrev pub AreFactsAnswer : (texts : List (List ℕ)) → Content → (lemma : ℕ) → (written : List (List ℕ)) → Result (List Theorem) StepFault → Type 0
+AreFactsAnswer texts Q lemma written (Ok ths) = EachTwo (IsFoundIn texts Q lemma) written ths
+AreFactsAnswer texts Q lemma written (Err UnknownFact) = AnyOf (IsUnknownIn texts Q lemma) written
+AreFactsAnswer texts Q lemma written (Err Memory) = Unit {0}
+AreFactsAnswer texts Q lemma written (Err _) = ⊥
 
 -- The fact may be used on each goal: it is derivable, has no hypotheses and no pairs, and is beta-normal.
 pub record IsReadyFact (Q : Content) (fact : Theorem) : Type 0 where

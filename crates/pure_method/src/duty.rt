@@ -9,7 +9,7 @@ ghost use Rattle.pure_method.specs.Facts as facts;
 use pure_declare::Duty;
 use pure_declare::theory::{Cthm, Theory};
 use pure_script::Step;
-use pure_term::Label;
+use pure_term::{Label, Name};
 use pure_theorem::Thm;
 use pure_theory_tables::shared;
 use std::alloc::{AllocError, Global};
@@ -23,6 +23,13 @@ pub fn theory_of(duty: &Duty) -> &Theory
     let theory = &*duty.stage;
     theory.content_is_sound();
     theory
+}
+
+/// The name of the lemma that is proved, or in which the statement stands.
+pub fn lemma_of(duty: &Duty) -> Name
+    ensures { result ≡ duty.now.lemma }
+{
+    duty.lemma
 }
 
 /// The step at this place of the proof.

@@ -9,7 +9,7 @@ ghost use Rattle.pure_method.specs.Taking.{IsFactAnswer, AreFactsAnswer};
 use pure_declare::theory::{Fact, Theory};
 use pure_resolve::goal_steps::StepFault;
 use pure_script::TextList;
-use pure_term::{Label, Term};
+use pure_term::{Label, Name, Term};
 use pure_theorem::{Thm, built_term};
 use pure_typ::NamesByBase;
 use std::alloc::{AllocError, Global};
@@ -53,17 +53,18 @@ fn theorem_of(alloc: Global, fact: Fact) -> Result<Thm, AllocError>
     }
 }
 
-/// The fact that is written so.
+/// The fact that is written so in a proof in the lemma.
 pub fn found_fact(
     alloc: Global,
     names: &NamesByBase,
     theory: &Theory,
+    lemma: Name,
     written: &[u8],
 ) -> Result<Thm, StepFault>
     requires { IsInSession names.now theory.now }
-    ensures { IsFactAnswer names.now theory.now written.now result }
+    ensures { IsFactAnswer names.now theory.now lemma written.now result }
 {
-    match theory.find_fact(names, written)? {
+    match theory.find_local(names, written, lemma)? {
         None => Err(StepFault::UnknownFact),
         Some(fact) => Ok(theorem_of(alloc, fact)?),
     }
@@ -77,20 +78,21 @@ fn put(list: &mut Vec<Thm>, fact: Thm) -> Result<(), AllocError>
     Ok(())
 }
 
-/// The facts that are written so, in order.
+/// The facts that are written so in a proof in the lemma, in order.
 pub fn found_facts(
     alloc: Global,
     names: &NamesByBase,
     theory: &Theory,
+    lemma: Name,
     written: &TextList,
 ) -> Result<Vec<Thm>, StepFault>
     requires { IsInSession names.now theory.now }
-    ensures facts { IfOk result (λ found. AreFactsAnswer names.now theory.now written.now (Ok found.items)) }
-    ensures fault { IfErr result (λ fault. AreFactsAnswer names.now theory.now written.now (Err fault)) }
+    ensures facts { IfOk result (λ found. AreFactsAnswer names.now theory.now lemma written.now (Ok found.items)) }
+    ensures fault { IfErr result (λ fault. AreFactsAnswer names.now theory.now lemma written.now (Err fault)) }
 {
     let mut found = Vec::new(alloc);
     for place in 0..written.len() {
-        match found_fact(alloc, names, theory, written.at(place)) {
+        match found_fact(alloc, names, theory, lemma, written.at(place)) {
             Ok(fact) => put(&mut found, fact)?,
             Err(fault) => return Err(fault),
         }

@@ -10,7 +10,7 @@ ghost use Rattle.pure_method.specs.Running.{IsRun, IsNext, IsFurther, StopsSo};
 ghost use Rattle.pure_method.specs.declared.outcome.Outcome.TheVariants as shown;
 
 use crate::close::closed;
-use crate::duty::{certified, place_behind, step_at, theory_of};
+use crate::duty::{certified, lemma_of, place_behind, step_at, theory_of};
 use crate::fault::is_memory;
 use crate::outcome::Outcome;
 use crate::step::stepped;
@@ -105,7 +105,15 @@ fn further<W: Watch>(
     ensures { IfOk result (IsNext names.now duty.now run) }
 {
     let at = place_behind(duty, run.at);
-    match stepped(alloc, names, theory_of(duty), &run.goal, step, watch) {
+    match stepped(
+        alloc,
+        names,
+        theory_of(duty),
+        lemma_of(duty),
+        &run.goal,
+        step,
+        watch,
+    ) {
         Ok(goal) => Ok(Next::Goes {
             run: Run {
                 goal,

@@ -11,20 +11,20 @@ use Rattle.pure_method.proofs.step.by_rule.Goals as goal
 
 pub rule_while-answer-requires : goal.rule_while-answer-requires
 rule_while-answer-requires g c =
-    may_use c.args.theory.now c.args.goal.now.thm c.in-Ok.fact c.requires.goal (ready-fact c.args.names.now c.args.theory.now c.requires.ready c.args.written.now c.in-Ok.fact c.in-Ok.ensures)
+    may_use c.args.theory.now c.args.goal.now.thm c.in-Ok.fact c.requires.goal (ready-fact c.args.names.now c.args.theory.now c.requires.ready c.args.lemma c.args.written.now c.in-Ok.fact c.in-Ok.ensures)
 
 pub returns-in-Ok : goal.returns-in-Ok
 returns-in-Ok g c =
     let algebra = algebra_of c.args.theory.now.declarations in
     record {
-      answer = by_fact c.args.names.now c.args.theory.now c.requires.ready (RuleStep algebra) c.args.goal.now.thm c.in-Ok.fact c.args.written.now c.in-Ok.ensures c.rule_while-answer.result c.rule_while-answer.ensures.answer;
+      answer = by_fact c.args.names.now c.args.theory.now c.requires.ready c.args.lemma (RuleStep algebra) c.args.goal.now.thm c.in-Ok.fact c.args.written.now c.in-Ok.ensures c.rule_while-answer.result c.rule_while-answer.ensures.answer;
       may = goes_on c.args.theory.now (λ (s : State). RuleStep algebra s c.in-Ok.fact) (IsSetOf label_cmp (c.args.goal.now.thm.rests ++ c.in-Ok.fact.rests)) c.args.goal.now.thm
           c.requires.goal.content c.rule_while-answer.result c.rule_while-answer.ensures.answer (c.rule_while-answer.ensures.derivable c.requires.ready.unify);
     }
 
 pub returns-in-Err : goal.returns-in-Err
 returns-in-Err g c = record {
-  answer = facts_fault c.args.names.now c.args.theory.now (λ (s : State). WithOne (RuleStep (algebra_of c.args.theory.now.declarations) s)) (GainsNamed c.args.names.now c.args.theory.now (c.args.written.now ∷ []) c.args.goal.now.thm.rests) c.args.goal.now.thm
-      c.requires.goal.is (c.args.written.now ∷ []) c.in-Err.fault (one_of c.args.names.now c.args.theory.now c.args.written.now c.in-Err.fault c.in-Err.ensures);
+  answer = facts_fault c.args.names.now c.args.theory.now c.args.lemma (λ (s : State). WithOne (RuleStep (algebra_of c.args.theory.now.declarations) s)) (GainsNamed c.args.names.now c.args.theory.now c.args.lemma (c.args.written.now ∷ []) c.args.goal.now.thm.rests) c.args.goal.now.thm
+      c.requires.goal.is (c.args.written.now ∷ []) c.in-Err.fault (one_of c.args.names.now c.args.theory.now c.args.lemma c.args.written.now c.in-Err.fault c.in-Err.ensures);
   may = tt;
 }

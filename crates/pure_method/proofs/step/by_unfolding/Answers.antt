@@ -13,17 +13,17 @@ use Rattle.pure_method.proofs.step.by_unfolding.Goals as goal
 
 pub unfolded-answer-requires-clause-facts : goal.unfolded-answer-requires-clause-facts
 unfolded-answer-requires-clause-facts c =
-    subst (λ (ths : List Theorem). Each (IsReadyFact c.args.theory.now) ths) (sym c.deref.ensures.value) (all-ready c.args.names.now c.args.theory.now c.requires.ready c.args.written.now c.in-Ok.found.items c.in-Ok.ensures.facts)
+    subst (λ (ths : List Theorem). Each (IsReadyFact c.args.theory.now) ths) (sym c.deref.ensures.value) (all-ready c.args.names.now c.args.theory.now c.requires.ready c.args.lemma c.args.written.now c.in-Ok.found.items c.in-Ok.ensures.facts)
 
 pub returns-in-Ok-clause-answer : goal.returns-in-Ok-clause-answer
 returns-in-Ok-clause-answer c =
-    by_facts c.args.names.now c.args.theory.now c.requires.ready (UnfoldStep (algebra_of c.args.theory.now.declarations)) c.args.goal.now.thm c.in-Ok.found.items c.args.written.now c.in-Ok.ensures.facts
+    by_facts c.args.names.now c.args.theory.now c.requires.ready c.args.lemma (UnfoldStep (algebra_of c.args.theory.now.declarations)) c.args.goal.now.thm c.in-Ok.found.items c.args.written.now c.in-Ok.ensures.facts
     c.unfolded-answer.result
     (subst (λ (ths : List Theorem). IsStep (λ (s : State). UnfoldStep (algebra_of c.args.theory.now.declarations) s ths) c.args.goal.now.thm (IsSetOf label_cmp (c.args.goal.now.thm.rests ++ all_rests ths)) c.unfolded-answer.result) c.deref.ensures.value c.unfolded-answer.ensures.answer)
 
 pub returns-in-Err : goal.returns-in-Err
 returns-in-Err c = record {
-  answer = facts_fault c.args.names.now c.args.theory.now (λ (s : State). UnfoldStep (algebra_of c.args.theory.now.declarations) s) (GainsNamed c.args.names.now c.args.theory.now c.args.written.now c.args.goal.now.thm.rests) c.args.goal.now.thm
+  answer = facts_fault c.args.names.now c.args.theory.now c.args.lemma (λ (s : State). UnfoldStep (algebra_of c.args.theory.now.declarations) s) (GainsNamed c.args.names.now c.args.theory.now c.args.lemma c.args.written.now c.args.goal.now.thm.rests) c.args.goal.now.thm
       c.requires.goal.is c.args.written.now c.in-Err.fault c.in-Err.ensures.fault;
   may = tt;
 }
