@@ -9,7 +9,7 @@ use Rattle.pure_definitions.specs.Names.{Label}
 use Rattle.pure_theorem.specs.Sets.{IsLabelSet}
 use Rattle.pure_promise_fates.proofs.LabelSets.{not_itself, first_below, rest_is_set}
 use Rattle.pure_table.specs.Declare.Notes.{Fork}
-use Rattle.pure_table.specs.Method.Proof.{IsProof}
+use Rattle.pure_table.specs.Method.Proof.{IsProofIn}
 use Rattle.pure_table.specs.Method.Outcome.{IsOutcomeOf}
 use Rattle.pure_table.specs.Method.declared.outcome.Outcome.{Outcome}
 use Rattle.pure_table.specs.Method.declared.outcome.Outcome.TheVariants.{Proved, Fault}
@@ -49,7 +49,7 @@ passes {A} t x (y ∷ ys) m = by_test (t y) refl (passes t x ys) m
     by_test true e rest (inr there) = rest there
     by_test false e rest there = rest there
 
-outcome-proof : (texts : List (List ℕ)) (f : Fork) (o : Outcome) → IsOutcomeOf texts f o → IsProof texts f.content f.fixed f.script (seen_outcome o)
+outcome-proof : (texts : List (List ℕ)) (f : Fork) (o : Outcome) → IsOutcomeOf texts f o → IsProofIn texts f.content f.lemma f.fixed f.script (seen_outcome o)
 outcome-proof texts f (Proved c) h = h.0
 outcome-proof texts f (Fault step fault) h = h
 

@@ -10,7 +10,7 @@ use Rattle.pure_check_work.specs.Declare.Notes.{Fork}
 use Rattle.pure_check_work.specs.Method.Outcome.{IsOutcomeOf}
 use Rattle.pure_check_work.specs.Method.declared.outcome.Outcome.{Outcome}
 use Rattle.pure_check_work.specs.Method.declared.outcome.Outcome.TheVariants.{Proved}
-use Rattle.pure_check_work.proofs.Method.FaultLaws.{rests-promised}
+use Rattle.pure_check_work.proofs.Method.FaultLaws.{rests_in-promised}
 use Rattle.pure_check_work.specs.Promise.Accepting.{IsForkedBefore}
 use Rattle.pure_check_work.specs.SessionMeaning.Statements.{IsFork}
 use Rattle.pure_check_work.specs.TheoryRun.Outline.{Outline}
@@ -45,7 +45,7 @@ pub rests_come_before : RestsComeBefore
 rests_come_before texts theories loaded s legal number p stands c settled l among =
     let f = p.goal in
     let result = settled-result texts theories s legal number p stands c settled in
-    let promised = each_at (IsPromised f) result.labels (rests-promised texts f.content f.fixed f.script result.labels result.proof) l
+    let promised = each_at (IsPromised f) result.labels (rests_in-promised texts f.content f.lemma f.fixed f.script result.labels result.proof) l
     (subst (λ (th : Theorem). IsIn l th.rests) result.states among) in
     (promised.0, promises_come_before texts theories loaded s legal number p stands promised.1.0 l promised.0 promised.1.1)
 

@@ -28,9 +28,9 @@ use Rattle.pure_table.proofs.Promise.FateLaws.{proved_row}
 use Rattle.pure_statements.proofs.JoinLaws.{schematic-is_generalised}
 use Rattle.pure_table.specs.Declare.Notes.{Fork, Note}
 use Rattle.pure_table.specs.Method.Facts.{theorem}
-use Rattle.pure_table.specs.Method.Proof.{IsProof}
+use Rattle.pure_table.specs.Method.Proof.{IsProofIn}
 use Rattle.pure_table.proofs.Method.ReadyLaws.{unify_content, no-schematic}
-use Rattle.pure_table.proofs.Method.SoundLaws.{proved-derivable}
+use Rattle.pure_table.proofs.Method.SoundLaws.{proved_in-derivable}
 use Rattle.pure_table.specs.SessionLaws.Loaded.{IsLoadedSession}
 use Rattle.pure_table.specs.SessionMeaning.Statements.{forks_of, AreStatements}
 use Rattle.pure_table.specs.SessionMeaning.Laws.{IsSomeFork}
@@ -86,7 +86,7 @@ module _ (texts : List (List ℕ)) (theories : List Loaded) (loaded : IsLoadedSe
   lists = (has_fates texts theories loaded notes statements cancelled es are).ascend
 
   -- A lemma that became shown has a proof that comes to the same promises.
-  pub proof-of : (f : Fork) → IsIn f fs → (rests : List Label) → Became ps f.label (Shown rests) → IsProof texts f.content f.fixed f.script (Ok rests)
+  pub proof-of : (f : Fork) → IsIn f fs → (rests : List Label) → Became ps f.label (Shown rests) → IsProofIn texts f.content f.lemma f.fixed f.script (Ok rests)
   proof-of f m rests b =
       let found = beside (IsEntryOf texts cancelled) fs es are f m in
       let e = found.0 in
@@ -104,10 +104,10 @@ module _ (texts : List (List ℕ)) (theories : List Loaded) (loaded : IsLoadedSe
         let p = provable texts theories loaded f (some f m) in
         let u = unify f m in
         let prop : maps.generalised (everything 0) f.fixed ≡ f.prop = sym (p.statement.prop ∙ schematic-is_generalised f.fixed) in
-        let proof = proof-kept texts f.content names p.in_session u.content f.fixed f.script rests
+        let proof = proof-kept texts f.content names f.lemma p.in_session u.content f.fixed f.script rests
         (λ n h. cited n (record { lemma = f; stands = m; reached = reached; shown = (rests, b); names = h })) (proof-of f m rests b) in
         subst (λ (A : Term). IsDerivable (with_axioms names f.content) (theorem A rests)) prop
-        (proved-derivable texts (with_axioms names f.content) (unify-kept names f.content u) f.fixed (no-schematic f.fixed p.statement.fixed) rests f.script proof (proposition-kept names f.content f.fixed p.proposition))
+        (proved_in-derivable texts (with_axioms names f.content) (unify-kept names f.content u) f.lemma f.fixed (proposition-kept names f.content f.fixed p.proposition) (no-schematic f.fixed p.statement.fixed) f.script rests proof)
 
     through_one : (k j : Label) → IsReachedFrom es l k → RestsOn ps k j → IsReachedFrom es l j
     through_one k j (inl e) on = inr (directly (subst (λ i. RestsOn ps i j) (sym e) on))

@@ -98,7 +98,7 @@ module _ (texts : List (List ℕ)) (fs : List Fork) (es : List LemmaEntry) (entr
       at-once fs place g f (subst (λ k. IsAt fs k g) one q.1) here
 
   -- What was gathered is just that to which edges lead.
-  pub edge-names : (f : Fork) → IsAt fs place f → (rests : List Label) → (plain e).own ≡ Shown rests → (mid named : List ℕ) → Gains (λ n. NamesAxiom texts f.content f.script n) [] mid → Gains (λ n. AnyOf (λ k. IsNameOf es k n) rests) mid named
+  pub edge-names : (f : Fork) → IsAt fs place f → (rests : List Label) → (plain e).own ≡ Shown rests → (mid named : List ℕ) → Gains (λ n. NamesAxiom texts f.content f.lemma f.script n) [] mid → Gains (λ n. AnyOf (λ k. IsNameOf es k n) rests) mid named
       → (n : ℕ) → Holds named n ↔ IsEdgeToName texts fs es e.label n
   edge-names f here rests own mid named axioms lemmas n = (
     λ h. elim ((lemmas n).0 h) [
@@ -114,7 +114,7 @@ module _ (texts : List (List ℕ)) (fs : List Fork) (es : List LemmaEntry) (entr
     λ w. elim w [
       | inl edge ↦
           (let same = one-fork f edge.lemma here edge.stands edge.label in
-          (lemmas n).1 (inr ((axioms n).1 (inl (subst (λ (g : Fork). NamesAxiom texts g.content g.script n) same edge.names)))))
+          (lemmas n).1 (inr ((axioms n).1 (inl (subst (λ (g : Fork). NamesAxiom texts g.content g.lemma g.script n) same edge.names)))))
       | inr k ↦
           (let on = (law e.label k.0).0 k.2 in
           let same : rests ≡ on.0 = shown-same rests on.0 (became_once ps entries.ascend e.label (Shown rests) (Shown on.0) (became (Shown rests) own) on.1) in

@@ -11,8 +11,8 @@ use Rattle.pure_promise_fates.specs.Entries as fates
 use Rattle.pure_promise_fates.specs.Entries.{Shown, Became, RestsOn, Reaches, directly, through}
 use Rattle.pure_promise_fates.proofs.ProvedLaws.{in_mapped}
 use Rattle.pure_table.specs.Declare.Notes.{Fork, Note}
-use Rattle.pure_table.specs.Method.Facts.{AreNamed}
-use Rattle.pure_table.specs.Method.Proof.{IsProofBy, IsProof}
+use Rattle.pure_table.specs.Method.Facts.{AreNamedIn}
+use Rattle.pure_table.specs.Method.Proof.{IsProofBy, IsProofIn}
 use Rattle.pure_table.specs.Promise.Entries.{LemmaEntry, plain}
 use Rattle.pure_table.specs.SessionLaws.Loaded.{IsLoadedSession}
 use Rattle.pure_table.specs.SessionMeaning.Statements.{forks_of, AreStatements}
@@ -23,8 +23,8 @@ use Rattle.pure_citations.specs.Laws.{CitedAreLedTo, ReachedAreLedTo}
 use Rattle.pure_citations.proofs.CitedLaws.{proof-of}
 
 -- the promises that a proof's steps name are those on which it rests
-named-of : (texts : List (List ℕ)) (Q : Content) (C : Term) (script : List Step) (labels : List Label) → IsProof texts Q C script (Ok labels) → AreNamed texts Q script labels
-named-of texts Q C script labels (IsProofBy.proved b h named) = named
+named-of : (texts : List (List ℕ)) (Q : Content) (lemma : ℕ) (C : Term) (script : List Step) (labels : List Label) → IsProofIn texts Q lemma C script (Ok labels) → AreNamedIn texts Q lemma script labels
+named-of texts Q lemma C script labels (IsProofBy.proved b h named) = named
 
 -- Of two lists that belong together, what an element of the second stands beside.
 beside-second : {A B : Type 0} (T : A → B → Type 0) (xs : List A) (ys : List B) → EachTwo T xs ys → (y : B) → IsIn y ys → (x : A) × IsIn x xs × T x y
@@ -48,7 +48,7 @@ module _ (texts : List (List ℕ)) (theories : List Loaded) (loaded : IsLoadedSe
       let f = e.lemma in
       let rests = e.shown.0 in
       let became : Became ps f.label (Shown rests) = subst (λ i. Became ps i (Shown rests)) (sym e.label) e.shown.1 in
-      let named = named-of texts f.content f.fixed f.script rests (proof-of texts theories loaded notes statements cancelled es are f e.stands rests became) in
+      let named = named-of texts f.content f.lemma f.fixed f.script rests (proof-of texts theories loaded notes statements cancelled es are f e.stands rests became) in
       (rests, e.shown.1, (named.exactly k).1 e.names)
 
   pub rests-edge : (l k : Label) → RestsOn ps l k → Edge texts fs es l (OfLemma k)
@@ -58,7 +58,7 @@ module _ (texts : List (List ℕ)) (theories : List Loaded) (loaded : IsLoadedSe
       let f = beside.0 in
       let label : f.label ≡ l = sym beside.2.label ∙ ap (λ (x : fates.Entry). x.label) entry.2 ∙ b.of_label in
       let became : Became ps f.label (Shown rests) = subst (λ i. Became ps i (Shown rests)) (sym label) b in
-      let named = named-of texts f.content f.fixed f.script rests (proof-of texts theories loaded notes statements cancelled es are f beside.1 rests became) in
+      let named = named-of texts f.content f.lemma f.fixed f.script rests (proof-of texts theories loaded notes statements cancelled es are f beside.1 rests became) in
       record { lemma = f; stands = beside.1; label = label; shown = (rests, b); names = (named.exactly k).0 m }
 
   reached-led : (l k : Label) → Reaches ps l k → Leads texts fs es (OfLemma k) l

@@ -1,6 +1,6 @@
 -- A proof stays one over the content without the axioms that its steps don't name.
-use Rattle.std.proofs.Common.{◌≡◌, ℕ, ◌+◌, List, [], ◌∷◌, inl, inr, sym, subst}
-use Rattle.std.specs.Prelude.{Some, Ok}
+use Rattle.std.proofs.Common.{◌≡◌, ℕ, ◌+◌, List, [], ◌∷◌, inl, inr, refl, sym, subst}
+use Rattle.std.specs.Prelude.{Option, Some, Ok}
 use Rattle.std.proofs.lemmas.Option.{same_Some}
 use Rattle.pure_text.specs.Lists.{IsIn, AnyOf, EachTwo}
 use Rattle.pure_text.proofs.ListLaws.{any_imply}
@@ -12,20 +12,20 @@ use Rattle.pure_grammar.specs.Theories.TheoryText.{Step, Rule, Erule, Drule, Ass
 use Rattle.pure_logic.specs.Content.{Content, IsContent}
 use Rattle.pure_logic.specs.Derivable.{Theorem}
 use Rattle.pure_lookup.specs.Meaning.{facts, IsDeclaredIn, Meaning, Declared, Built, IsVisible, IsMeant}
-use Rattle.pure_lookup.specs.LookUps.{Fact, BuiltFact, AxiomFact, PromisedFact, IsFoundFact}
+use Rattle.pure_lookup.specs.LookUps.{Fact, BuiltFact, AxiomFact, PromisedFact, IsFoundFact, IsLocal, IsFoundLocal, local, elsewhere}
 use Rattle.pure_lookup.specs.Laws.{IsInSession}
-use Rattle.pure_lookup.proofs.MeaningLaws.{one_fact}
+use Rattle.pure_lookup.proofs.MeaningLaws.{one_local}
 use Rattle.pure_resolve.specs.GoalSteps.State.{State}
 use Rattle.pure_resolve.specs.GoalSteps.Steps.{RuleStep, EliminationStep, DestructionStep, AssumptionStep}
-use Rattle.pure_table.specs.Method.Facts.{IsFound, named_facts, MeansPromise, IsNamed}
+use Rattle.pure_table.specs.Method.Facts.{IsFoundIn, named_facts, MeansPromiseIn, IsNamedIn}
 use Rattle.pure_table.specs.Method.Unfolding.{UnfoldStep}
-use Rattle.pure_table.specs.Method.Proof.{ByFactsOf, Gives, Closes, Proved, EndsBy, Ends, IsProofBy, IsProof}
+use Rattle.pure_table.specs.Method.Proof.{ByFactsOf, GivesIn, Closes, Proved, EndsBy, EndsIn, IsProofBy, IsProofIn}
 use Rattle.pure_citations.specs.Without.{with_axioms}
 use Rattle.pure_citations.specs.Named.{MeansAxiom, NamesAxiom}
 use Rattle.pure_citations.specs.Laws.{ProofIsKept}
 use Rattle.pure_citations.proofs.WithoutLaws.{in-kept, kept-in, algebra-kept, content-kept}
 
-module _ (texts : List (List ℕ)) (Q : Content) (names : List ℕ) where
+module _ (texts : List (List ℕ)) (Q : Content) (names : List ℕ) (lemma : ℕ) where
   abbrev R : Content
   R = with_axioms names Q
 
@@ -66,34 +66,49 @@ module _ (texts : List (List ℕ)) (Q : Content) (names : List ℕ) where
     },
   )
 
-  -- Each axiom that the written name means is listed.
-  abbrev IsListed : (written : List ℕ) → Type 0
-  IsListed written = (n : ℕ) → MeansAxiom texts Q n written → IsIn n names
-
-  found-still : (written : List ℕ) (fact : Fact) → IsListed written → IsFoundFact texts Q written (Some fact) → IsFoundFact texts R written (Some fact)
-  found-still written (BuiltFact place) listed (m, meant, is) = (m, meant-still written m (subst IsStill (sym is) tt) meant, is)
-  found-still written (AxiomFact n A) listed (m, meant, is) =
-      let stays : IsIn (AxiomDecl n A) R.declarations = in-kept names (AxiomDecl n A) Q.declarations (inr (listed n (A, (m, meant, is)))) is.1 in
+  everywhere-still : (written : List ℕ) (fact : Fact) → ((n : ℕ) (A : Term) → fact ≡ AxiomFact n A → IsIn n names) → IsFoundFact texts Q written (Some fact) → IsFoundFact texts R written (Some fact)
+  everywhere-still written (BuiltFact place) listed (m, meant, is) = (m, meant-still written m (subst IsStill (sym is) tt) meant, is)
+  everywhere-still written (AxiomFact n A) listed (m, meant, is) =
+      let stays : IsIn (AxiomDecl n A) R.declarations = in-kept names (AxiomDecl n A) Q.declarations (inr (listed n A refl)) is.1 in
       (m, meant-still written m (subst IsStill (sym is.0) (inl (A, stays))) meant, (is.0, stays))
-  found-still written (PromisedFact n l A) listed (m, meant, is) =
+  everywhere-still written (PromisedFact n l A) listed (m, meant, is) =
       let stays : IsIn (PromiseDecl n l A) R.declarations = in-kept names (PromiseDecl n l A) Q.declarations tt is.1 in
       (m, meant-still written m (subst IsStill (sym is.0) (inr (l, A, stays))) meant, (is.0, stays))
 
-  is_found-still : (written : List ℕ) (th : Theorem) → IsListed written → IsFound texts Q written th → IsFound texts R written th
+  -- The same promises are local to the lemma.
+  local-still : (written : List ℕ) (n : ℕ) (l : Label) (A : Term) → IsLocal texts Q lemma written n l A → IsLocal texts R lemma written n l A
+  local-still written n l A h = record { text = h.text; lemma_text = h.lemma_text; base = h.base; full = h.full; promised = in-kept names (PromiseDecl n l A) Q.declarations tt h.promised }
+
+  local-back : (written : List ℕ) (n : ℕ) (l : Label) (A : Term) → IsLocal texts R lemma written n l A → IsLocal texts Q lemma written n l A
+  local-back written n l A h = record { text = h.text; lemma_text = h.lemma_text; base = h.base; full = h.full; promised = kept-in names (PromiseDecl n l A) Q.declarations h.promised }
+
+  -- A fact that is found still is, where it is no axiom or one that is listed.
+  answer-still : (written : List ℕ) (answer : Option Fact) → IsFoundLocal texts Q lemma written answer → (fact : Fact) → answer ≡ Some fact → ((n : ℕ) (A : Term) → fact ≡ AxiomFact n A → IsIn n names) → IsFoundLocal texts R lemma written (Some fact)
+  answer-still written (Some (PromisedFact n l A)) (local h) fact e listed = subst (λ (f : Fact). IsFoundLocal texts R lemma written (Some f)) (same_Some (PromisedFact n l A) fact e) (local (local-still written n l A h))
+  answer-still written answer (elsewhere none h) fact e listed = elsewhere (λ n l A k. none n l A (local-back written n l A k)) (everywhere-still written fact listed (subst (IsFoundFact texts Q written) e h))
+
+  -- Each axiom that the written name means is listed.
+  abbrev IsListed : (written : List ℕ) → Type 0
+  IsListed written = (n : ℕ) → MeansAxiom texts Q lemma n written → IsIn n names
+
+  found-still : (written : List ℕ) (fact : Fact) → IsListed written → IsFoundLocal texts Q lemma written (Some fact) → IsFoundLocal texts R lemma written (Some fact)
+  found-still written fact listed found = answer-still written (Some fact) found fact refl (λ n A same. listed n (A, subst (λ (f : Fact). IsFoundLocal texts Q lemma written (Some f)) same found))
+
+  is_found-still : (written : List ℕ) (th : Theorem) → IsListed written → IsFoundIn texts Q lemma written th → IsFoundIn texts R lemma written th
   is_found-still written th listed h = record { fact = h.fact; found = found-still written h.fact listed h.found; is = h.is }
 
   -- Each axiom that one of the written names means is listed.
   abbrev AreListed : List (List ℕ) → Type 0
-  AreListed written = (n : ℕ) → AnyOf (MeansAxiom texts Q n) written → IsIn n names
+  AreListed written = (n : ℕ) → AnyOf (MeansAxiom texts Q lemma n) written → IsIn n names
 
-  all_found-still : (written : List (List ℕ)) (ths : List Theorem) → AreListed written → EachTwo (IsFound texts Q) written ths → EachTwo (IsFound texts R) written ths
+  all_found-still : (written : List (List ℕ)) (ths : List Theorem) → AreListed written → EachTwo (IsFoundIn texts Q lemma) written ths → EachTwo (IsFoundIn texts R lemma) written ths
   all_found-still [] [] listed h = tt
   all_found-still [] (th ∷ ths) listed h = absurd h
   all_found-still (w ∷ ws) [] listed h = absurd h
   all_found-still (w ∷ ws) (th ∷ ths) listed h = (is_found-still w th (λ n m. listed n (inl m)) h.0, all_found-still ws ths (λ n m. listed n (inr m)) h.1)
 
   -- What a step gives it gives over the smaller content.
-  gives-still : (step : Step) (s new : State) → AreListed (named_facts step) → Gives texts Q step s (Ok new) → Gives texts R step s (Ok new)
+  gives-still : (step : Step) (s new : State) → AreListed (named_facts step) → GivesIn texts Q lemma step s (Ok new) → GivesIn texts R lemma step s (Ok new)
   gives-still (Rule fact) s new listed (ByFactsOf.known {facts = ths} found (th, e, f)) =
       ByFactsOf.known (all_found-still (fact ∷ []) ths listed found) (th, e, subst (λ (A : Algebra). RuleStep A s th (Ok new)) (sym (algebra-kept names Q.declarations)) f)
   gives-still (Erule fact) s new listed (ByFactsOf.known {facts = ths} found (th, e, f)) =
@@ -110,9 +125,9 @@ module _ (texts : List (List ℕ)) (Q : Content) (names : List ℕ) where
 
   -- Each axiom that the steps name is listed.
   abbrev AreStepsListed : List Step → Type 0
-  AreStepsListed steps = (n : ℕ) → NamesAxiom texts Q steps n → IsIn n names
+  AreStepsListed steps = (n : ℕ) → NamesAxiom texts Q lemma steps n → IsIn n names
 
-  ends-still : (number : ℕ) (s : State) (steps : List Step) → AreStepsListed steps → Ends texts Q number s steps Proved → Ends texts R number s steps Proved
+  ends-still : (number : ℕ) (s : State) (steps : List Step) → AreStepsListed steps → EndsIn texts Q lemma number s steps Proved → EndsIn texts R lemma number s steps Proved
   ends-still number s steps listed (EndsBy.finished f) = EndsBy.finished f
   ends-still number s steps listed (EndsBy.closed {next = next} {steps = left} f rest) =
       EndsBy.closed (subst (λ (A : Algebra). Closes A s next) (sym (algebra-kept names Q.declarations)) f) (ends-still number next left (λ n m. listed n (inr m)) rest)
@@ -124,19 +139,19 @@ module _ (texts : List (List ℕ)) (Q : Content) (names : List ℕ) where
     smaller-session = record { names = session.names; apart = record { ancestors = session.apart.ancestors; own = session.apart.own }; theories = session.theories }
 
     -- A name that is found means no other promise over the smaller content.
-    promise-back : (l : Label) (written : List ℕ) (th : Theorem) → IsListed written → IsFound texts Q written th → MeansPromise texts R l written → MeansPromise texts Q l written
+    promise-back : (l : Label) (written : List ℕ) (th : Theorem) → IsListed written → IsFoundIn texts Q lemma written th → MeansPromiseIn texts R lemma l written → MeansPromiseIn texts Q lemma l written
     promise-back l written th listed h (n, A, found) =
         let same : h.fact ≡ PromisedFact n l A = same_Some h.fact (PromisedFact n l A)
-        (one_fact texts R smaller-session (content-kept names Q content) written (Some h.fact) (Some (PromisedFact n l A)) (found-still written h.fact listed h.found) found) in
-        (n, A, subst (λ (f : Fact). IsFoundFact texts Q written (Some f)) same h.found)
+        (one_local texts R smaller-session (content-kept names Q content) lemma written (Some h.fact) (Some (PromisedFact n l A)) (found-still written h.fact listed h.found) found) in
+        (n, A, subst (λ (f : Fact). IsFoundLocal texts Q lemma written (Some f)) same h.found)
 
-    promises-back : (l : Label) (written : List (List ℕ)) (ths : List Theorem) → AreListed written → EachTwo (IsFound texts Q) written ths → AnyOf (MeansPromise texts R l) written → AnyOf (MeansPromise texts Q l) written
+    promises-back : (l : Label) (written : List (List ℕ)) (ths : List Theorem) → AreListed written → EachTwo (IsFoundIn texts Q lemma) written ths → AnyOf (MeansPromiseIn texts R lemma l) written → AnyOf (MeansPromiseIn texts Q lemma l) written
     promises-back l [] ths listed h m = absurd m
     promises-back l (w ∷ ws) [] listed h m = absurd h
     promises-back l (w ∷ ws) (th ∷ ths) listed h (inl m) = inl (promise-back l w th (λ n a. listed n (inl a)) h.0 m)
     promises-back l (w ∷ ws) (th ∷ ths) listed h (inr m) = inr (promises-back l ws ths (λ n a. listed n (inr a)) h.1 m)
 
-    step-back : (l : Label) (step : Step) (s new : State) → AreListed (named_facts step) → Gives texts Q step s (Ok new) → AnyOf (MeansPromise texts R l) (named_facts step) → AnyOf (MeansPromise texts Q l) (named_facts step)
+    step-back : (l : Label) (step : Step) (s new : State) → AreListed (named_facts step) → GivesIn texts Q lemma step s (Ok new) → AnyOf (MeansPromiseIn texts R lemma l) (named_facts step) → AnyOf (MeansPromiseIn texts Q lemma l) (named_facts step)
     step-back l (Rule fact) s new listed (ByFactsOf.known {facts = ths} found f) m = promises-back l (fact ∷ []) ths listed found m
     step-back l (Erule fact) s new listed (ByFactsOf.known {facts = ths} found f) m = promises-back l (fact ∷ []) ths listed found m
     step-back l (Drule fact) s new listed (ByFactsOf.known {facts = ths} found f) m = promises-back l (fact ∷ []) ths listed found m
@@ -147,7 +162,7 @@ module _ (texts : List (List ℕ)) (Q : Content) (names : List ℕ) where
     step-back l Close s new listed f m = absurd m
     step-back l Done s new listed f m = absurd m
 
-    named-back : (l : Label) (number : ℕ) (s : State) (steps : List Step) → AreStepsListed steps → Ends texts Q number s steps Proved → IsNamed texts R steps l → IsNamed texts Q steps l
+    named-back : (l : Label) (number : ℕ) (s : State) (steps : List Step) → AreStepsListed steps → EndsIn texts Q lemma number s steps Proved → IsNamedIn texts R lemma steps l → IsNamedIn texts Q lemma steps l
     named-back l number s steps listed (EndsBy.finished f) m = elim m [ inl n ↦ absurd n | inr n ↦ absurd n ]
     named-back l number s steps listed (EndsBy.closed {next = next} {steps = left} f rest) m = elim m [
       | inl n ↦ absurd n
@@ -159,17 +174,18 @@ module _ (texts : List (List ℕ)) (Q : Content) (names : List ℕ) where
     ]
 
   -- A name that means a promise still does.
-  promise-still : (l : Label) (written : List ℕ) → MeansPromise texts Q l written → MeansPromise texts R l written
-  promise-still l written (n, A, (m, meant, is)) =
-      let stays : IsIn (PromiseDecl n l A) R.declarations = in-kept names (PromiseDecl n l A) Q.declarations tt is.1 in
-      (n, A, (m, meant-still written m (subst IsStill (sym is.0) (inr (l, A, stays))) meant, (is.0, stays)))
+  promise-still : (l : Label) (written : List ℕ) → MeansPromiseIn texts Q lemma l written → MeansPromiseIn texts R lemma l written
+  promise-still l written (n, A, found) = (n, A, answer-still written (Some (PromisedFact n l A)) found (PromisedFact n l A) refl (λ m B same. no-axiom n l A m B same))
+    where
+      no-axiom : (n : ℕ) (l : Label) (A : Term) (m : ℕ) (B : Term) → PromisedFact n l A ≡ AxiomFact m B → IsIn m names
+      no-axiom n l A m B same = let no : ⊥ = cc in absurd no
 
-  named-still : (l : Label) (steps : List Step) → IsNamed texts Q steps l → IsNamed texts R steps l
+  named-still : (l : Label) (steps : List Step) → IsNamedIn texts Q lemma steps l → IsNamedIn texts R lemma steps l
   named-still l steps h =
-      any_imply (λ step. AnyOf (MeansPromise texts Q l) (named_facts step)) (λ step. AnyOf (MeansPromise texts R l) (named_facts step)) steps
-      (λ step. any_imply (MeansPromise texts Q l) (MeansPromise texts R l) (named_facts step) (promise-still l)) h
+      any_imply (λ step. AnyOf (MeansPromiseIn texts Q lemma l) (named_facts step)) (λ step. AnyOf (MeansPromiseIn texts R lemma l) (named_facts step)) steps
+      (λ step. any_imply (MeansPromiseIn texts Q lemma l) (MeansPromiseIn texts R lemma l) (named_facts step) (promise-still l)) h
 
-  pub proof-kept : IsInSession texts Q → IsContent Q → (C : Term) (script : List Step) (labels : List Label) → AreStepsListed script → IsProof texts Q C script (Ok labels) → IsProof texts R C script (Ok labels)
+  pub proof-kept : IsInSession texts Q → IsContent Q → (C : Term) (script : List Step) (labels : List Label) → AreStepsListed script → IsProofIn texts Q lemma C script (Ok labels) → IsProofIn texts R lemma C script (Ok labels)
   proof-kept session content C script labels listed (IsProofBy.proved {s = s} begun ended named) =
       IsProofBy.proved begun (ends-still 1 s script listed ended) (record {
         ascend = named.ascend;
@@ -177,4 +193,4 @@ module _ (texts : List (List ℕ)) (Q : Content) (names : List ℕ) where
       })
 
 pub proof_is_kept : ProofIsKept
-proof_is_kept texts Q session content names statement script labels listed proof = proof-kept texts Q names session content statement script labels listed proof
+proof_is_kept texts Q session content names lemma statement script labels listed proof = proof-kept texts Q names lemma session content statement script labels listed proof

@@ -13,6 +13,7 @@ use Rattle.pure_logic.specs.Content.{TheoryId, Content, IsBelow}
 use Rattle.pure_logic.specs.PureContent.{pure_content}
 use Rattle.pure_logic.proofs.MergeLaws.{merge_has_declarations}
 use Rattle.pure_lookup.specs.Meaning.{facts, Declared, IsMeant}
+use Rattle.pure_lookup.specs.LookUps.{AxiomFact}
 use Rattle.pure_lookup.proofs.MeaningLaws.{protect_is_never_found}
 use Rattle.pure_graph.specs.Order.{Loaded}
 use Rattle.pure_graph.specs.Session.{shown}
@@ -33,6 +34,7 @@ use Rattle.pure_table.specs.Table.{with_rows, refusal_row, table_rows}
 use Rattle.pure_citations.specs.Named.{MeansAxiom, NamesAxiom}
 use Rattle.pure_citations.specs.Rowed.{Declares, CitedHaveRows}
 use Rattle.pure_citations.proofs.AxiomRows.{IsRowNote, declares_axioms}
+use Rattle.pure_citations.proofs.NamedLaws.{axiom-found}
 
 -- The note is left by some command of the session.
 abbrev pub IsSomeNote : (texts : List (List ℕ)) → (theories : List Loaded) → Note → Type 0
@@ -122,11 +124,11 @@ said-row (Forked fork ∷ notes) lemmas row (inl same) = absurd (cc)
 said-row (Forked fork ∷ notes) lemmas row (inr m) = in-append_right row (take 1 lemmas) (with_rows notes (drop 1 lemmas)) (said-row notes (drop 1 lemmas) row m)
 
 -- An axiom that steps name is declared, and not Pure's own.
-named-declared : (texts : List (List ℕ)) (Q : Content) (script : List Step) (n : ℕ) → NamesAxiom texts Q script n → (A : Term) × IsIn (AxiomDecl n A) Q.declarations × (n ≢ protect_name)
-named-declared texts Q script n names =
-    let step = any_some (λ step. AnyOf (MeansAxiom texts Q n) (named_facts step)) script names in
-    let fact = any_some (MeansAxiom texts Q n) (named_facts step.0) step.2 in
-    let found = fact.2.1 in
+named-declared : (texts : List (List ℕ)) (Q : Content) (lemma : ℕ) (script : List Step) (n : ℕ) → NamesAxiom texts Q lemma script n → (A : Term) × IsIn (AxiomDecl n A) Q.declarations × (n ≢ protect_name)
+named-declared texts Q lemma script n names =
+    let step = any_some (λ step. AnyOf (MeansAxiom texts Q lemma n) (named_facts step)) script names in
+    let fact = any_some (MeansAxiom texts Q lemma n) (named_facts step.0) step.2 in
+    let found = axiom-found texts Q lemma fact.0 (Some (AxiomFact n fact.2.0)) fact.2.1 n fact.2.0 refl in
     let meant = subst (λ m. IsMeant texts Q facts fact.0 m) found.2.0 found.1 in
     (fact.2.0, found.2.1, λ same. protect_is_never_found texts Q facts fact.0 (subst (λ k. IsMeant texts Q facts fact.0 (Declared k)) same meant))
 
@@ -134,7 +136,7 @@ pub cited_have_rows : CitedHaveRows
 cited_have_rows S loaded cancelled t table l name c =
     let f = c.lemma in
     let s = standing S.names S.theories loaded f (some_fork S.names S.theories loaded t.notes table.statements f c.stands) in
-    let d = named-declared S.names f.content f.script name c.names in
+    let d = named-declared S.names f.content f.lemma f.script name c.names in
     let note = runs-rows S.names S.theories loaded s.index s.notes f.content s.left s.run name d.0 d.1 d.2 in
     let there : IsIn note.0 t.notes = noted S.names S.theories loaded t.notes table.statements note.0 note.1 in
     let row = note.2 in

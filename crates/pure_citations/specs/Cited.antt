@@ -28,7 +28,7 @@ AreBeside fs es = EachTwo (λ f e. e.label ≡ f.label) fs es
 
 -- A proof shows the lemma, and its steps name the axiom.
 abbrev pub IsNamedBy : (texts : List (List ℕ)) → Fork → fates.Entry → (n : ℕ) → Type 0
-IsNamedBy texts f e n = ((rests : List Label) × (e.own ≡ Shown rests)) × NamesAxiom texts f.content f.script n
+IsNamedBy texts f e n = ((rests : List Label) × (e.own ≡ Shown rests)) × NamesAxiom texts f.content f.lemma f.script n
 
 -- The row holds the place, a proof shows the lemma there, and its steps name the axiom.
 abbrev pub IsNamedAt : (texts : List (List ℕ)) → (row : List ℕ) → List Fork → List fates.Entry → (n place : ℕ) → Type 0

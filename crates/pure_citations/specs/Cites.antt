@@ -21,4 +21,4 @@ pub record Cites (texts : List (List ℕ)) (lemmas : List Fork) (entries : List 
   pub stands : IsIn lemma lemmas
   pub reached : IsReachedFrom entries l lemma.label
   pub shown : IsOk entries lemma.label
-  pub names : NamesAxiom texts lemma.content lemma.script name
+  pub names : NamesAxiom texts lemma.content lemma.lemma lemma.script name

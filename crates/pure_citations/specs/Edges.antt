@@ -5,7 +5,7 @@ use Rattle.pure_definitions.specs.Names.{Label}
 use Rattle.pure_grammar.specs.Theories.TheoryText.{Step}
 use Rattle.pure_logic.specs.Content.{Content}
 use Rattle.pure_table.specs.Declare.Notes.{Fork}
-use Rattle.pure_table.specs.Method.Facts.{IsNamed}
+use Rattle.pure_table.specs.Method.Facts.{IsNamedIn}
 use Rattle.pure_table.specs.Promise.Entries.{LemmaEntry}
 use Rattle.pure_citations.specs.Named.{NamesAxiom}
 use Rattle.pure_citations.specs.Cites.{IsOk}
@@ -16,9 +16,9 @@ pub data Node : Type 0 where
   OfLemma : (label : Label) → Node
 
 -- Some step names it.
-abbrev pub NamesNode : (texts : List (List ℕ)) → Content → (script : List Step) → Node → Type 0
-NamesNode texts Q script (OfAxiom name) = NamesAxiom texts Q script name
-NamesNode texts Q script (OfLemma label) = IsNamed texts Q script label
+abbrev pub NamesNode : (texts : List (List ℕ)) → Content → (lemma : ℕ) → (script : List Step) → Node → Type 0
+NamesNode texts Q lemma script (OfAxiom name) = NamesAxiom texts Q lemma script name
+NamesNode texts Q lemma script (OfLemma label) = IsNamedIn texts Q lemma script label
 
 -- An edge leads from the lemma with the label to the node.
 pub record Edge (texts : List (List ℕ)) (lemmas : List Fork) (entries : List LemmaEntry) (l : Label) (to : Node) : Type 0 where
@@ -26,7 +26,7 @@ pub record Edge (texts : List (List ℕ)) (lemmas : List Fork) (entries : List L
   pub stands : IsIn lemma lemmas
   pub label : lemma.label ≡ l
   pub shown : IsOk entries l
-  pub names : NamesNode texts lemma.content lemma.script to
+  pub names : NamesNode texts lemma.content lemma.lemma lemma.script to
 
 -- Edges lead, one after the other, from the lemma with the label to the node.
 pub data Leads (texts : List (List ℕ)) (lemmas : List Fork) (entries : List LemmaEntry) (to : Node) : Label → Type 0 where

@@ -14,7 +14,7 @@ use Rattle.pure_graph.specs.Session.{Session}
 use Rattle.pure_print.specs.declared.row.Row.{Row}
 use Rattle.pure_print.specs.declared.row.RowStatus.TheVariants.{Proved}
 use Rattle.pure_table.specs.Declare.Notes.{Fork}
-use Rattle.pure_table.specs.Method.Proof.{IsProof}
+use Rattle.pure_table.specs.Method.Proof.{IsProofIn}
 use Rattle.pure_table.specs.Promise.Entries.{plain}
 use Rattle.pure_table.specs.SessionLaws.Loaded.{IsLoadedSession}
 use Rattle.pure_table.specs.SessionMeaning.Statements.{forks_of}
@@ -29,10 +29,10 @@ use Rattle.pure_citations.specs.Edges.{OfAxiom, OfLemma, Leads}
 abbrev pub StaysExactly : Type 0
 StaysExactly = (names : List ℕ) (Q : Content) (d : Decl) → IsIn d (with_axioms names Q).declarations ↔ (IsIn d Q.declarations × Stays names d)
 
--- A proof that comes to promises comes to the same ones over the content without the axioms that its steps don't name.
+-- A proof, in whichever lemma, that comes to promises comes to the same ones over the content without the axioms that its steps don't name.
 abbrev pub ProofIsKept : Type 0
-ProofIsKept = (texts : List (List ℕ)) (Q : Content) → IsInSession texts Q → IsContent Q → (names : List ℕ) (statement : Term) (script : List Step) (labels : List Label)
-    → ((name : ℕ) → NamesAxiom texts Q script name → IsIn name names) → IsProof texts Q statement script (Ok labels) → IsProof texts (with_axioms names Q) statement script (Ok labels)
+ProofIsKept = (texts : List (List ℕ)) (Q : Content) → IsInSession texts Q → IsContent Q → (names : List ℕ) (lemma : ℕ) (statement : Term) (script : List Step) (labels : List Label)
+    → ((name : ℕ) → NamesAxiom texts Q lemma script name → IsIn name names) → IsProofIn texts Q lemma statement script (Ok labels) → IsProofIn texts (with_axioms names Q) lemma statement script (Ok labels)
 
 -- These names are those of all axioms that the lemma cites.
 abbrev pub AreAllCited : Session → Table → Fork → (names : List ℕ) → Type 0

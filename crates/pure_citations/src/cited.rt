@@ -30,6 +30,13 @@ fn theory_of(duty: &Duty) -> &Theory
     theory
 }
 
+/// The name of the lemma that is proved, or in which the statement stands.
+fn lemma_of(duty: &Duty) -> Name
+    ensures { result ≡ duty.now.lemma }
+{
+    duty.lemma
+}
+
 /// Puts in the axioms that the steps of the proof name.
 pub(crate) fn put_named(
     names: &NamesByBase,
@@ -37,9 +44,15 @@ pub(crate) fn put_named(
     cited: &mut Vec<u64>,
 ) -> Result<(), AllocError>
     requires { IsInSession names.now duty.now.content }
-    ensures { OnOk result (Gains (λ n. NamesAxiom names.now duty.now.content duty.now.script n) cited.old.items cited.new.items) }
+    ensures { OnOk result (Gains (λ n. NamesAxiom names.now duty.now.content duty.now.lemma duty.now.script n) cited.old.items cited.new.items) }
 {
-    put_script(names, theory_of(duty), duty.script.as_slice(), cited)?;
+    put_script(
+        names,
+        theory_of(duty),
+        lemma_of(duty),
+        duty.script.as_slice(),
+        cited,
+    )?;
     Ok(())
 }
 

@@ -1,4 +1,4 @@
-//! The axioms that the steps of a proof name.
+//! The axioms that the steps of a proof name, in the lemma that is proved or in which the statement stands.
 ghost use Rattle.std.specs.Prelude.{◌≡◌, ◌⊎◌, MatchOption, IfOk, OnOk};
 ghost use Rattle.pure_text.specs.Lists.{AnyOf};
 ghost use Rattle.pure_definitions.specs.Terms.Term.{Term};
@@ -39,17 +39,18 @@ pub(crate) fn put_name(cited: &mut Vec<u64>, name: Name) -> Result<(), AllocErro
     Ok(())
 }
 
-/// The name of the axiom that is written so, if it is one.
+/// The name of the axiom that is written so in a proof in the lemma, if it is one.
 fn written_axiom(
     names: &NamesByBase,
     theory: &Theory,
+    lemma: Name,
     written: &[u8],
 ) -> Result<Option<Name>, AllocError>
     requires session { IsInSession names.now theory.now }
     requires content { IsContent theory.now }
-    ensures { IfOk result (IsAxiomWritten names.now theory.now written.now) }
+    ensures { IfOk result (IsAxiomWritten names.now theory.now lemma written.now) }
 {
-    match theory.find_fact(names, written)? {
+    match theory.find_local(names, written, lemma)? {
         Some(fact) => {
             let name = axiom_of(&fact);
             discard(fact);
@@ -63,14 +64,15 @@ fn written_axiom(
 fn put_fact(
     names: &NamesByBase,
     theory: &Theory,
+    lemma: Name,
     written: &[u8],
     cited: &mut Vec<u64>,
 ) -> Result<(), AllocError>
     requires session { IsInSession names.now theory.now }
     requires content { IsContent theory.now }
-    ensures { OnOk result (Gains (λ n. MeansAxiom names.now theory.now n written.now) cited.old.items cited.new.items) }
+    ensures { OnOk result (Gains (λ n. MeansAxiom names.now theory.now lemma n written.now) cited.old.items cited.new.items) }
 {
-    match written_axiom(names, theory, written)? {
+    match written_axiom(names, theory, lemma, written)? {
         Some(name) => {
             put_name(cited, name)?;
             Ok(())
@@ -83,15 +85,16 @@ fn put_fact(
 fn put_facts(
     names: &NamesByBase,
     theory: &Theory,
+    lemma: Name,
     written: &TextList,
     cited: &mut Vec<u64>,
 ) -> Result<(), AllocError>
     requires session { IsInSession names.now theory.now }
     requires content { IsContent theory.now }
-    ensures { OnOk result (Gains (λ n. AnyOf (MeansAxiom names.now theory.now n) written.now) cited.old.items cited.new.items) }
+    ensures { OnOk result (Gains (λ n. AnyOf (MeansAxiom names.now theory.now lemma n) written.now) cited.old.items cited.new.items) }
 {
     for place in 0..written.len() {
-        put_fact(names, theory, written.at(place), cited)?;
+        put_fact(names, theory, lemma, written.at(place), cited)?;
     }
     Ok(())
 }
@@ -101,14 +104,15 @@ fn put_facts(
 fn put_alone(
     names: &NamesByBase,
     theory: &Theory,
+    lemma: Name,
     written: &[u8],
     cited: &mut Vec<u64>,
 ) -> Result<(), AllocError>
     requires session { IsInSession names.now theory.now }
     requires content { IsContent theory.now }
-    ensures { OnOk result (Gains (λ n. MeansAxiom names.now theory.now n written.now ⊎ ⊥) cited.old.items cited.new.items) }
+    ensures { OnOk result (Gains (λ n. MeansAxiom names.now theory.now lemma n written.now ⊎ ⊥) cited.old.items cited.new.items) }
 {
-    put_fact(names, theory, written, cited)?;
+    put_fact(names, theory, lemma, written, cited)?;
     Ok(())
 }
 
@@ -117,18 +121,19 @@ fn put_alone(
 fn put_step(
     names: &NamesByBase,
     theory: &Theory,
+    lemma: Name,
     step: &Step,
     cited: &mut Vec<u64>,
 ) -> Result<(), AllocError>
     requires session { IsInSession names.now theory.now }
     requires content { IsContent theory.now }
-    ensures { OnOk result (Gains (λ n. AnyOf (MeansAxiom names.now theory.now n) (named_facts (seen_step step.now))) cited.old.items cited.new.items) }
+    ensures { OnOk result (Gains (λ n. AnyOf (MeansAxiom names.now theory.now lemma n) (named_facts (seen_step step.now))) cited.old.items cited.new.items) }
 {
     match step {
-        Step::Rule { fact } => put_alone(names, theory, fact.bytes(), cited),
-        Step::Erule { fact } => put_alone(names, theory, fact.bytes(), cited),
-        Step::Drule { fact } => put_alone(names, theory, fact.bytes(), cited),
-        Step::Unfold { facts } => put_facts(names, theory, facts, cited),
+        Step::Rule { fact } => put_alone(names, theory, lemma, fact.bytes(), cited),
+        Step::Erule { fact } => put_alone(names, theory, lemma, fact.bytes(), cited),
+        Step::Drule { fact } => put_alone(names, theory, lemma, fact.bytes(), cited),
+        Step::Unfold { facts } => put_facts(names, theory, lemma, facts, cited),
         Step::Assumption => Ok(()),
         Step::Prefer { .. } => Ok(()),
         Step::Defer => Ok(()),
@@ -141,15 +146,16 @@ fn put_step(
 pub(crate) fn put_script(
     names: &NamesByBase,
     theory: &Theory,
+    lemma: Name,
     script: &[Step],
     cited: &mut Vec<u64>,
 ) -> Result<(), AllocError>
     requires session { IsInSession names.now theory.now }
     requires content { IsContent theory.now }
-    ensures { OnOk result (Gains (λ n. NamesAxiom names.now theory.now (seen_steps script.now) n) cited.old.items cited.new.items) }
+    ensures { OnOk result (Gains (λ n. NamesAxiom names.now theory.now lemma (seen_steps script.now) n) cited.old.items cited.new.items) }
 {
     for step in script {
-        put_step(names, theory, step, cited)?;
+        put_step(names, theory, lemma, step, cited)?;
     }
     Ok(())
 }

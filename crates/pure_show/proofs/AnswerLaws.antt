@@ -9,7 +9,7 @@ use Rattle.pure_places.specs.declared.parts.Part as code
 use Rattle.pure_row_places.specs.Lines.{Theory}
 use Rattle.pure_row_places.specs.Scans.{IsScanOf}
 use Rattle.pure_theory_run.specs.Declare.Notes.{Fork}
-use Rattle.pure_theory_run.specs.Method.Course.{CourseOnce}
+use Rattle.pure_theory_run.specs.Method.Course.{CourseInOnce}
 use Rattle.pure_theory_run.specs.Named.{lemma_named}
 use Rattle.pure_theory_run.specs.Outline.{Outline}
 use Rattle.pure_theory_run.specs.Sessions.{AreSaid}
@@ -41,9 +41,9 @@ stands-in theories f theory at t scan source is part part_is =
     record { theory = theory; is_at = at; source_is = same; places = t.places; are = subst (λ (s : List ℕ). ArePlaces s t.places) (sym same) scan.places; part_is = part_is }
 
 -- a course has one text
-pub shown-once : CourseOnce → ShownOnce
+pub shown-once : CourseInOnce → ShownOnce
 shown-once once texts f session content anti name place one other clean also a b =
-    let same = once texts f.content session content anti f.fixed f.script a.states b.states a.end b.end a.course b.course in (
+    let same = once texts f.content session content anti f.lemma f.fixed f.script a.states b.states a.end b.end a.course b.course in (
       a.text_is ∙ ((λ i. course_text texts place name f.fixed f.script (same.0 i) (same.1 i)) ∙ sym b.text_is),
       a.clean_is ∙ ((λ i. is_clean (room_left texts (Some limit) (same.0 i)) (same.1 i)) ∙ sym b.clean_is),
     )

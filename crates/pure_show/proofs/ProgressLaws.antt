@@ -7,7 +7,7 @@ use Rattle.pure_resolve.specs.GoalSteps.State.{State, IsTheoremOf}
 use Rattle.pure_resolve.specs.GoalSteps.Steps.{BeginsAs}
 use Rattle.pure_resolve.specs.GoalSteps.declared.fault.StepFault.TheVariants.{Big}
 use Rattle.pure_theory_run.specs.Declare.Notes.{Fork}
-use Rattle.pure_theory_run.specs.Method.Course.{IsCourse, stops, leads, not_begun, begun, number_behind}
+use Rattle.pure_theory_run.specs.Method.Course.{IsCourseIn, stops, leads, not_begun, begun, number_behind}
 use Rattle.pure_theory_run.specs.Method.Proof.{Ending, Failed}
 use Rattle.pure_theory_run.specs.Method.Running.{IsFurther, IsPlace, LeadsOn, Proves, StandsFirst, StopsAt, StopsSo, shown_ending}
 use Rattle.pure_theory_run.specs.Method.declared.outcome.Outcome.{Outcome}
@@ -53,10 +53,10 @@ module _ (texts : List (List ℕ)) (f : Fork) (name : List ℕ) (place : ℕ →
   run-on old new run next k written shown s is rest end course =
       let pushed = written k.step k.steps k.left k.before k.is_before in
       let same : s ≡ k.after = state-once s k.after next.goal.thm is k.is_after in
-      let here : IsCourse texts f.content (number_behind run.number k.step) (k.after ∷ rest) k.steps end =
-      subst (λ (x : (ℕ × State) × List Step). IsCourse texts f.content x.0.0 (x.0.1 ∷ rest) x.1 end) (λ i. ((k.number i, same i), k.behind i)) course in
-      let whole : IsCourse texts f.content run.number (k.before ∷ s ∷ rest) (drop run.at f.script) end =
-      subst (λ (x : State × List Step). IsCourse texts f.content run.number (k.before ∷ x.0 ∷ rest) x.1 end) (λ i. (sym same i, sym k.left i)) (leads k.leads here) in
+      let here : IsCourseIn texts f.content f.lemma (number_behind run.number k.step) (k.after ∷ rest) k.steps end =
+      subst (λ (x : (ℕ × State) × List Step). IsCourseIn texts f.content f.lemma x.0.0 (x.0.1 ∷ rest) x.1 end) (λ i. ((k.number i, same i), k.behind i)) course in
+      let whole : IsCourseIn texts f.content f.lemma run.number (k.before ∷ s ∷ rest) (drop run.at f.script) end =
+      subst (λ (x : State × List Step). IsCourseIn texts f.content f.lemma run.number (k.before ∷ x.0 ∷ rest) x.1 end) (λ i. (sym same i, sym k.left i)) (leads k.leads here) in
       let text : new.text ++ course_lines texts place new.room next.number (s ∷ rest) (drop next.at f.script) ≡ old.text ++ course_lines texts place old.room run.number (k.before ∷ s ∷ rest) (drop run.at f.script) =
       (λ i. new.text ++ course_lines texts place new.room (k.number i) (s ∷ rest) (k.behind i)) ∙ (written-behind old new run.number k.step k.before pushed (s ∷ rest) k.steps
       ∙ (λ i. old.text ++ course_lines texts place old.room run.number (k.before ∷ s ∷ rest) (sym k.left i))) in
@@ -106,12 +106,12 @@ module _ (texts : List (List ℕ)) (f : Fork) (name : List ℕ) (place : ℕ →
   abbrev first-written : Written
   first-written = record { text = lemma_line texts name f.fixed; room = Some limit }
 
-  first-run : (s : State) → BeginsAs f.fixed (Ok s) → (number at : ℕ) → at ≡ 0 → number ≡ 1 → (t : State) → t ≡ s → (rest : List State) (end : Ending) → IsCourse texts f.content number (t ∷ rest) (drop at f.script) end
+  first-run : (s : State) → BeginsAs f.fixed (Ok s) → (number at : ℕ) → at ≡ 0 → number ≡ 1 → (t : State) → t ≡ s → (rest : List State) (end : Ending) → IsCourseIn texts f.content f.lemma number (t ∷ rest) (drop at f.script) end
       → EndsShown texts f name place (record { text = lemma_line texts name f.fixed ++ course_lines texts place (Some limit) number (t ∷ rest) (drop at f.script); room = room_left texts (Some limit) (t ∷ rest) }) end
   first-run s begins number at zero_at one_number t same rest end course = record {
     states = s ∷ rest;
     end = end;
-    course = begun begins (subst (λ (x : (ℕ × State) × ℕ). IsCourse texts f.content x.0.0 (x.0.1 ∷ rest) (drop x.1 f.script) end) (λ i. ((one_number i, same i), zero_at i)) course);
+    course = begun begins (subst (λ (x : (ℕ × State) × ℕ). IsCourseIn texts f.content f.lemma x.0.0 (x.0.1 ∷ rest) (drop x.1 f.script) end) (λ i. ((one_number i, same i), zero_at i)) course);
     text_is = append_assoc (lemma_line texts name f.fixed) (course_lines texts place (Some limit) number (t ∷ rest) (drop at f.script)) (end_line end)
         ∙ (λ i. lemma_line texts name f.fixed ++ (course_lines texts place (Some limit) (one_number i) (same i ∷ rest) (drop (zero_at i) f.script) ++ end_line end));
     clean_is = λ i. is_clean (room_left texts (Some limit) (same i ∷ rest)) end;

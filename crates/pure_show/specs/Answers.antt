@@ -7,7 +7,7 @@ use Rattle.pure_resolve.specs.GoalSteps.State.{State}
 use Rattle.pure_row_places.specs.Lines.{place_text}
 use Rattle.pure_row_places.specs.Reasons.{step_place}
 use Rattle.pure_theory_run.specs.Declare.Notes.{Fork, Note}
-use Rattle.pure_theory_run.specs.Method.Course.{IsProofCourse}
+use Rattle.pure_theory_run.specs.Method.Course.{IsProofCourseIn}
 use Rattle.pure_theory_run.specs.Method.Proof.{Ending}
 use Rattle.pure_theory_run.specs.Named.{lemma_named}
 use Rattle.pure_theory_run.specs.SessionMeaning.Statements.{forks_of, AreStatements}
@@ -35,7 +35,7 @@ place_of source part number = place_text source (step_place part number)
 pub record IsCourseText (texts : List (List ℕ)) (f : Fork) (name : List ℕ) (place : ℕ → List ℕ) (text : List ℕ) (clean : Bool) : Type 0 where
   pub states : List State
   pub end : Ending
-  pub course : IsProofCourse texts f.content f.fixed f.script states end
+  pub course : IsProofCourseIn texts f.content f.lemma f.fixed f.script states end
   pub text_is : text ≡ course_text texts place name f.fixed f.script states end
   pub clean_is : clean ≡ is_clean (room_left texts (Some limit) states) end
 

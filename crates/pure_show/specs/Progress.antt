@@ -4,7 +4,7 @@ use Rattle.pure_grammar.specs.Theories.TheoryText.{Step}
 use Rattle.pure_resolve.specs.GoalSteps.State.{State, IsTheoremOf}
 use Rattle.pure_resolve.specs.GoalSteps.declared.fault.StepFault.TheVariants.{Big}
 use Rattle.pure_theory_run.specs.Declare.Notes.{Fork}
-use Rattle.pure_theory_run.specs.Method.Course.{IsCourse}
+use Rattle.pure_theory_run.specs.Method.Course.{IsCourseIn}
 use Rattle.pure_theory_run.specs.Method.Proof.{Ending, Failed}
 use Rattle.pure_theory_run.specs.Method.declared.proving.Place.{Place}
 use Rattle.pure_theory_run.specs.Method.declared.proving.Place.TheVariants.{Runs, Refused, Broken}
@@ -27,7 +27,7 @@ EndsShown texts f name place w end = IsCourseText texts f name place (w.text ++ 
 
 -- So is it with each course from the run's state on, where its lines are written behind.
 abbrev pub RunShown : (texts : List (List ℕ)) → Fork → (name : List ℕ) → (place : ℕ → List ℕ) → Written → Run → Type 0
-RunShown texts f name place w run = (s : State) → IsTheoremOf s run.goal.thm → (rest : List State) (end : Ending) → IsCourse texts f.content run.number (s ∷ rest) (drop run.at f.script) end
+RunShown texts f name place w run = (s : State) → IsTheoremOf s run.goal.thm → (rest : List State) (end : Ending) → IsCourseIn texts f.content f.lemma run.number (s ∷ rest) (drop run.at f.script) end
     → EndsShown texts f name place (record { text = w.text ++ course_lines texts place w.room run.number (s ∷ rest) (drop run.at f.script); room = room_left texts w.room (s ∷ rest) }) end
 
 -- The same of a place; where no goal began, the proof ends with the fault of the step 0.

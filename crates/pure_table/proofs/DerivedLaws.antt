@@ -20,11 +20,11 @@ use Rattle.pure_print.specs.declared.row.RowStatus.TheVariants as status
 use Rattle.pure_statements.proofs.JoinLaws.{schematic-is_generalised}
 use Rattle.pure_theory_run.specs.Declare.Notes.{Fork, Note}
 use Rattle.pure_theory_run.specs.Method.Facts.{theorem}
-use Rattle.pure_theory_run.specs.Method.Proof.{IsProof}
+use Rattle.pure_theory_run.specs.Method.Proof.{IsProofIn}
 use Rattle.pure_theory_run.specs.Method.Outcome.{IsProvable}
 use Rattle.pure_theory_run.proofs.Method.ReadyLaws.{unify_content, no-schematic}
-use Rattle.pure_theory_run.proofs.Method.SoundLaws.{proved-derivable}
-use Rattle.pure_theory_run.proofs.Method.FaultLaws.{rests-promised}
+use Rattle.pure_theory_run.proofs.Method.SoundLaws.{proved_in-derivable}
+use Rattle.pure_theory_run.proofs.Method.FaultLaws.{rests_in-promised}
 use Rattle.pure_promise.specs.Entries.{LemmaEntry, plain}
 use Rattle.pure_promise.specs.Rows.{IsRowOf}
 use Rattle.pure_promise.proofs.FateLaws.{proved_row}
@@ -71,15 +71,15 @@ module _ (texts : List (List ℕ)) (theories : List Loaded) (loaded : IsLoadedSe
       unify_content f.content (runs_orderly texts theories loaded s.index s.notes f.content s.left s.run).good.sound
 
   -- a lemma whose proof came to these promises is shown
-  pub shown_by : (f : Fork) → IsSomeFork texts theories f → (rests : List Label) → IsProof texts f.content f.fixed f.script (Ok rests) → IsShownBy f rests
+  pub shown_by : (f : Fork) → IsSomeFork texts theories f → (rests : List Label) → IsProofIn texts f.content f.lemma f.fixed f.script (Ok rests) → IsShownBy f rests
   shown_by f some rests proof =
       let u = unify f some in
       let p = provable f some in
       let prop : maps.generalised (everything 0) f.fixed ≡ f.prop = sym (p.statement.prop ∙ schematic-is_generalised f.fixed) in
       record {
         content = u.content;
-        derivable = subst (λ (A : Term). IsDerivable f.content (theorem A rests)) prop (proved-derivable texts f.content u f.fixed (no-schematic f.fixed p.statement.fixed) rests f.script proof p.proposition);
-        promised = rests-promised texts f.content f.fixed f.script rests proof;
+        derivable = subst (λ (A : Term). IsDerivable f.content (theorem A rests)) prop (proved_in-derivable texts f.content u f.lemma f.fixed p.proposition (no-schematic f.fixed p.statement.fixed) f.script rests proof);
+        promised = rests_in-promised texts f.content f.lemma f.fixed f.script rests proof;
       }
 
   entry-of : (cancelled : List Label) (f : Fork) (e : LemmaEntry) → IsSomeFork texts theories f → IsEntryOf texts cancelled f e → IsOf f e

@@ -8,8 +8,8 @@ use Rattle.pure_promise_fates.specs.Entries.{AreEntries}
 use Rattle.pure_promise_fates.proofs.FateLaws.{one_fate}
 use Rattle.pure_print.specs.declared.row.Row.{Row}
 use Rattle.pure_theory_run.specs.Declare.Notes.{Fork, Note}
-use Rattle.pure_theory_run.specs.Method.Proof.{ProofOutcome, IsProof}
-use Rattle.pure_theory_run.proofs.Method.OnceLaws.{proof-once}
+use Rattle.pure_theory_run.specs.Method.Proof.{ProofOutcome, IsProofIn}
+use Rattle.pure_theory_run.proofs.Method.OnceLaws.{proof_in-once}
 use Rattle.pure_promise.specs.Entries.{LemmaEntry, plain}
 use Rattle.pure_promise.specs.Rows.{IsRowOf, AreRowsOf}
 use Rattle.pure_promise.specs.RowText.{fate_row}
@@ -44,11 +44,11 @@ same_table : (n m : List Note) (es ds : List LemmaEntry) (rs ss : List Row) → 
 same_table n m es ds rs ss a b c = λ i. record { notes = a i; entries = b i; lemmas = c i }
 
 module _ (texts : List (List ℕ)) (theories : List Loaded) (loaded : IsLoadedSession texts theories) where
-  pub proof_once : (f : Fork) → IsSomeFork texts theories f → (o p : ProofOutcome) → IsProof texts f.content f.fixed f.script o → IsProof texts f.content f.fixed f.script p → o ≡ p
+  pub proof_once : (f : Fork) → IsSomeFork texts theories f → (o p : ProofOutcome) → IsProofIn texts f.content f.lemma f.fixed f.script o → IsProofIn texts f.content f.lemma f.fixed f.script p → o ≡ p
   proof_once f some o p h k =
       let s = standing texts theories loaded f some in
       let good = (runs_orderly texts theories loaded s.index s.notes f.content s.left s.run).good in
-      proof-once texts f.content (provable texts theories loaded f some).in_session good.sound.content good.antisymmetric f.fixed f.script o p h k
+      proof_in-once texts f.content (provable texts theories loaded f some).in_session good.sound.content good.antisymmetric f.lemma f.fixed f.script o p h k
 
   own_once : (cancelled : List Label) (f : Fork) → IsSomeFork texts theories f → (o p : Option ProofOutcome) → IsOwn texts cancelled f o → IsOwn texts cancelled f p → o ≡ p
   own_once cancelled f some None None h k = refl

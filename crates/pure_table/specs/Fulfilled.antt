@@ -13,7 +13,7 @@ use Rattle.pure_promise.specs.Joining.{MayJoin}
 use Rattle.pure_promise.specs.Seen.{seen_entry}
 use Rattle.pure_theory_run.specs.Declare.Notes.{Fork, Note}
 use Rattle.pure_theory_run.specs.Method.Facts.{theorem}
-use Rattle.pure_theory_run.specs.Method.Proof.{IsProof}
+use Rattle.pure_theory_run.specs.Method.Proof.{IsProofIn}
 use Rattle.pure_theory_run.specs.Method.declared.outcome.Outcome.{Outcome}
 use Rattle.pure_theory_run.specs.Method.declared.outcome.Outcome.TheVariants as shown
 use Rattle.pure_theory_run.specs.SessionMeaning.Statements.{forks_of, AreStatements}
@@ -25,7 +25,7 @@ pub record IsResultOf (texts : List (List ℕ)) (f : Fork) (c : Certified) : Typ
   pub labels : List Label
   pub content : c.content ≡ f.content
   pub states : c.theorem ≡ theorem f.prop labels
-  pub proof : IsProof texts f.content f.fixed f.script (Ok labels)
+  pub proof : IsProofIn texts f.content f.lemma f.fixed f.script (Ok labels)
 
 -- The promise is that of the lemma, before which so many were bound: it states what the lemma does, over its content.
 pub record IsPromiseFor (number : ℕ) (f : Fork) (p : Promise) : Type 0 where

@@ -8,7 +8,7 @@ use Rattle.pure_print.specs.declared.row.Row.{Row}
 use Rattle.pure_print.specs.declared.row.RowStatus.TheVariants.{Proved}
 use Rattle.pure_print.specs.RowText.{table_text}
 use Rattle.pure_theory_run.specs.Declare.Notes.{Fork, Note, Said, Forked}
-use Rattle.pure_theory_run.specs.Method.Proof.{ProofOutcome, IsProof}
+use Rattle.pure_theory_run.specs.Method.Proof.{ProofOutcome, IsProofIn}
 use Rattle.pure_promise.specs.Entries.{LemmaEntry}
 use Rattle.pure_promise.specs.Rows.{AreRowsOf}
 use Rattle.pure_theory_run.specs.SessionMeaning.Verdicts.{refused_theory}
@@ -23,7 +23,7 @@ pub record Table : Type 0 where
 -- What became of the lemma: it is cancelled where its label is among these; else this is what its proof comes to.
 abbrev pub IsOwn : (texts : List (List ℕ)) → (cancelled : List Label) → Fork → Option ProofOutcome → Type 0
 IsOwn texts cancelled f None = IsIn f.label cancelled
-IsOwn texts cancelled f (Some outcome) = (¬ IsIn f.label cancelled) × IsProof texts f.content f.fixed f.script outcome
+IsOwn texts cancelled f (Some outcome) = (¬ IsIn f.label cancelled) × IsProofIn texts f.content f.lemma f.fixed f.script outcome
 
 -- The entry is that of the lemma.
 pub record IsEntryOf (texts : List (List ℕ)) (cancelled : List Label) (f : Fork) (e : LemmaEntry) : Type 0 where

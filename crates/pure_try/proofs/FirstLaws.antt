@@ -8,8 +8,8 @@ use Rattle.pure_lookup.specs.Laws.{IsInSession}
 use Rattle.pure_order_tables.specs.Classes.{IsAntisymmetric}
 use Rattle.pure_race.specs.Least.{IsLeastWin}
 use Rattle.pure_check_work.specs.Declare.Notes.{Fork}
-use Rattle.pure_check_work.specs.Method.Laws.{ProofOnce}
-use Rattle.pure_check_work.specs.Method.Proof.{ProofOutcome, IsProof}
+use Rattle.pure_check_work.specs.Method.Laws.{ProofInOnce}
+use Rattle.pure_check_work.specs.Method.Proof.{ProofOutcome, IsProofIn}
 use Rattle.pure_try.specs.declared.method.Method.{Method}
 use Rattle.pure_try.specs.Methods.{methods_of, script_of}
 use Rattle.pure_try.specs.First.{IsFirst, nothing, proves, fails, Tells, TriedOnce}
@@ -30,14 +30,14 @@ first-of texts f (m ∷ ms) Win tells (Some (suc n)) least =
 -- what is told of the lemma with the proof by a method
 -- what is told of the lemma with the proof by a method
 tells-here : (texts : List (List ℕ)) (f g : Fork) (k m : Method) (b : Bool) → k ≡ m → by_method f k ≡ g → Tells texts g g.script b → Tells texts f (script_of m) b
-tells-here texts f g k m true is of (labels, proof) = (labels, at-method k m is (subst (λ (h : Fork). IsProof texts h.content h.fixed h.script (Ok labels)) (sym of) proof))
+tells-here texts f g k m true is of (labels, proof) = (labels, at-method k m is (subst (λ (h : Fork). IsProofIn texts h.content h.lemma h.fixed h.script (Ok labels)) (sym of) proof))
   where
-    at-method : (k m : Method) → k ≡ m → IsProof texts f.content f.fixed (script_of k) (Ok labels) → IsProof texts f.content f.fixed (script_of m) (Ok labels)
-    at-method k m is p = subst (λ n. IsProof texts f.content f.fixed (script_of n) (Ok labels)) is p
-tells-here texts f g k m false is of (fault, proof) = (fault, at-method k m is (subst (λ (h : Fork). IsProof texts h.content h.fixed h.script (Err fault)) (sym of) proof))
+    at-method : (k m : Method) → k ≡ m → IsProofIn texts f.content f.lemma f.fixed (script_of k) (Ok labels) → IsProofIn texts f.content f.lemma f.fixed (script_of m) (Ok labels)
+    at-method k m is p = subst (λ n. IsProofIn texts f.content f.lemma f.fixed (script_of n) (Ok labels)) is p
+tells-here texts f g k m false is of (fault, proof) = (fault, at-method k m is (subst (λ (h : Fork). IsProofIn texts h.content h.lemma h.fixed h.script (Err fault)) (sym of) proof))
   where
-    at-method : (k m : Method) → k ≡ m → IsProof texts f.content f.fixed (script_of k) (Err fault) → IsProof texts f.content f.fixed (script_of m) (Err fault)
-    at-method k m is p = subst (λ n. IsProof texts f.content f.fixed (script_of n) (Err fault)) is p
+    at-method : (k m : Method) → k ≡ m → IsProofIn texts f.content f.lemma f.fixed (script_of k) (Err fault) → IsProofIn texts f.content f.lemma f.fixed (script_of m) (Err fault)
+    at-method k m is p = subst (λ n. IsProofIn texts f.content f.lemma f.fixed (script_of n) (Err fault)) is p
 
 tells-by : (texts : List (List ℕ)) (f : Fork) (ms : List Method) (n : ℕ) (m : Method) (b : Bool) → slice_get ms n ≡ Some m → Wins (record { texts = texts; forks = map (by_method f) ms }) n b → Tells texts f (script_of m) b
 tells-by texts f [] n m b at win = absurd (cc)
@@ -53,12 +53,12 @@ ok-not_err (Ok labels) = true
 ok-not_err (Err fault) = false
 
 -- a lemma isn't both proved and not proved by the same steps
-apart : ProofOnce → (texts : List (List ℕ)) (f : Fork) → IsInSession texts f.content → IsContent f.content → IsAntisymmetric (algebra_of f.content.declarations)
+apart : ProofInOnce → (texts : List (List ℕ)) (f : Fork) → IsInSession texts f.content → IsContent f.content → IsAntisymmetric (algebra_of f.content.declarations)
     → (m : Method) → Tells texts f (script_of m) true → Tells texts f (script_of m) false → ⊥
 apart once texts f session content order m (labels, is) (fault, other) =
-    true≢false (ap ok-not_err (once texts f.content session content order f.fixed (script_of m) (Ok labels) (Err fault) is other))
+    true≢false (ap ok-not_err (once texts f.content session content order f.lemma f.fixed (script_of m) (Ok labels) (Err fault) is other))
 
-first-once : ProofOnce → (texts : List (List ℕ)) (f : Fork) → IsInSession texts f.content → IsContent f.content → IsAntisymmetric (algebra_of f.content.declarations)
+first-once : ProofInOnce → (texts : List (List ℕ)) (f : Fork) → IsInSession texts f.content → IsContent f.content → IsAntisymmetric (algebra_of f.content.declarations)
     → (ms : List Method) (one other : Option Method) → IsFirst texts f ms one → IsFirst texts f ms other → one ≡ other
 first-once once texts f session content order [] one other nothing nothing = refl
 first-once once texts f session content order (m ∷ ms) one other (proves p) (proves q) = refl
@@ -66,5 +66,5 @@ first-once once texts f session content order (m ∷ ms) one other (proves p) (f
 first-once once texts f session content order (m ∷ ms) one other (fails p rest) (proves q) = absurd (apart once texts f session content order m q p)
 first-once once texts f session content order (m ∷ ms) one other (fails p rest) (fails q more) = first-once once texts f session content order ms one other rest more
 
-pub tried_once : ProofOnce → TriedOnce
+pub tried_once : ProofInOnce → TriedOnce
 tried_once once texts f session content order one other first second = first-once once texts f session content order (methods_of texts f.content) one other first second

@@ -7,14 +7,14 @@ use Rattle.pure_logic.specs.Content.{IsContent}
 use Rattle.pure_lookup.specs.Laws.{IsInSession}
 use Rattle.pure_order_tables.specs.Classes.{IsAntisymmetric}
 use Rattle.pure_check_work.specs.Declare.Notes.{Fork}
-use Rattle.pure_check_work.specs.Method.Proof.{ProofFault, IsProof}
+use Rattle.pure_check_work.specs.Method.Proof.{ProofFault, IsProofIn}
 use Rattle.pure_try.specs.declared.method.Method.{Method}
 use Rattle.pure_try.specs.Methods.{script_of, methods_of}
 
 -- These steps prove the lemma, or they don't.
 abbrev pub Tells : (texts : List (List ℕ)) → Fork → List Step → (proves : Bool) → Type 0
-Tells texts f script true = (labels : List Label) × IsProof texts f.content f.fixed script (Ok labels)
-Tells texts f script false = (fault : ProofFault) × IsProof texts f.content f.fixed script (Err fault)
+Tells texts f script true = (labels : List Label) × IsProofIn texts f.content f.lemma f.fixed script (Ok labels)
+Tells texts f script false = (fault : ProofFault) × IsProofIn texts f.content f.lemma f.fixed script (Err fault)
 
 -- The first of the methods by which the lemma is proved; none where it is proved by none of them.
 pub data IsFirst (texts : List (List ℕ)) (f : Fork) : List Method → Option Method → Type 0 where

@@ -8,4 +8,4 @@ use Rattle.pure_citations.specs.Named.{MeansAxiom}
 use Rattle.pure_citations.proofs.facts.put_script.Given as goal
 
 abbrev pub invariant-loop-step : goal.invariant-loop-step
-invariant-loop-step l = (n : ℕ) → Holds l.cited.items n ↔ (AnyOf (λ (s : Step). AnyOf (MeansAxiom l.names l.theory n) (named_facts (seen_step s))) (take l.step-index l.script) ⊎ Holds l.fn.cited.items n)
+invariant-loop-step l = (n : ℕ) → Holds l.cited.items n ↔ (AnyOf (λ (s : Step). AnyOf (MeansAxiom l.names l.theory l.lemma n) (named_facts (seen_step s))) (take l.step-index l.script) ⊎ Holds l.fn.cited.items n)

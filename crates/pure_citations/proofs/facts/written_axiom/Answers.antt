@@ -5,7 +5,7 @@ use Rattle.pure_citations.proofs.NamedLaws.{written-some, written-none}
 use Rattle.pure_citations.proofs.facts.written_axiom.Goals as goal
 
 pub returns-in-Some : goal.returns-in-Some
-returns-in-Some c = written-some c.args.names.now c.args.theory.now c.args.written.now c.requires.session c.requires.content _ _ c.in_ok-fact.ensures (ap (option_map seen_fact) c.in-Some.is) _ c.axiom_of-name.ensures
+returns-in-Some c = written-some c.args.names.now c.args.theory.now c.args.lemma c.args.written.now c.requires.session c.requires.content _ _ c.in_ok-fact.ensures (ap (option_map seen_fact) c.in-Some.is) _ c.axiom_of-name.ensures
 
 pub returns-in-None : goal.returns-in-None
-returns-in-None c = written-none c.args.names.now c.args.theory.now c.args.written.now _ c.in_ok-fact.ensures (ap (option_map seen_fact) c.in-None.is)
+returns-in-None c = written-none c.args.names.now c.args.theory.now c.args.lemma c.args.written.now c.requires.session c.requires.content _ c.in_ok-fact.ensures (ap (option_map seen_fact) c.in-None.is)
