@@ -39,7 +39,11 @@ IsSpelled source spelling =
 abbrev pub full_name : (theory name : List ℕ) → List ℕ
 full_name theory name = theory ++ (46 ∷ name)
 
--- the full names that a command declares: that of its name, of a definition's fact, and of each have of a lemma, behind the lemma's own
+-- the full names of the haves of a lemma with this full name: the lemma's, a dot and the name that the have is given
+abbrev pub have_names : (lemma : List ℕ) → List Have → List (List ℕ)
+have_names lemma haves = map (λ (h : Have). full_name lemma h.name) haves
+
+-- the full names that a command declares: that of its name, of a definition's fact, and of a lemma's haves
 abbrev pub full_names : (theory : List ℕ) → Command → List (List ℕ)
 full_names theory (Class name above) = full_name theory name ∷ []
 full_names theory (TypeDecl name params) = full_name theory name ∷ []
@@ -47,7 +51,7 @@ full_names theory (Arity con doms class) = []
 full_names theory (Const name typ) = full_name theory name ∷ []
 full_names theory (Axiom name prop) = full_name theory name ∷ []
 full_names theory (Definition name typ prop) = full_name theory name ∷ full_name theory (name ++ codes "_def") ∷ []
-full_names theory (Lemma name prop haves script) = full_name theory name ∷ map (λ (h : Have). full_name (full_name theory name) h.name) haves
+full_names theory (Lemma name prop haves script) = full_name theory name ∷ have_names (full_name theory name) haves
 
 -- a text that a loaded theory gives
 abbrev pub IsGiven : Loaded → List ℕ → Type 0
