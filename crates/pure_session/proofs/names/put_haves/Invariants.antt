@@ -6,4 +6,4 @@ use Rattle.pure_session.specs.NameSets.{Gains}
 use Rattle.pure_session.proofs.names.put_haves.Given as goal
 
 abbrev pub invariant-loop-inner : goal.invariant-loop-inner
-invariant-loop-inner l = Gains l.initial.texts l.texts (λ t. AnyOf (λ h. IsIn t (full_name l.lemma.now (seen_have h).name ∷ [])) (take l.inner-index l.haves))
+invariant-loop-inner l = Gains l.initial.texts l.texts (λ t. AnyOf (λ h. IsIn t (full_name l.lemma (seen_have h).name ∷ [])) (take l.inner-index l.haves))
