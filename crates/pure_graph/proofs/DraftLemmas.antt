@@ -8,7 +8,7 @@ use Rattle.pure_text.proofs.ListLaws.{two_long}
 use Rattle.pure_text.proofs.LoopLaws.{longer_by}
 use Rattle.pure_graph.specs.Limits.{most_files}
 use Rattle.pure_graph.specs.Outcome.{Outcome}
-use Rattle.pure_graph.specs.Reading.{counted, command_count}
+use Rattle.pure_graph.specs.Reading.{counted, file_parts}
 use Rattle.pure_graph.specs.Told.{IsTriedOf, AreReadOf}
 use Rattle.pure_graph.specs.Seen.{seen_outcome, seen_file, seen_files}
 use Rattle.pure_graph.specs.Drafts.{IsKnownOf, AreDraftsFrom, IsSaidOf}
@@ -77,7 +77,7 @@ counted-none drafts left files none same = record {
 counted-one : (told : Option (List library.File)) (done others : List (List ℕ)) (drafts rest : List Draft) (draft : Draft) (files : List TheoryFile) (file : TheoryFile) (own : Outcome) (before : ℕ)
     → IsReadSoFar told done (seen_files files) before → AreDraftsFrom told (length files) others (draft ∷ rest) → file.theory ≡ draft.theory
     → ((told : Option (List library.File)) (place : ℕ) → IsKnownOf told place draft.theory draft.known → IsTriedOf told (nat_lt place most_files) draft.theory own) → seen_outcome file.outcome ≡ counted before own
-    → (more : List (List ℕ)) × (rest_theories : List (List ℕ)) × (done ++ others ≡ more ++ rest_theories) × IsReadSoFar told more (seen_files (files ++ file ∷ [])) (before + command_count (counted before own)) × AreDraftsFrom told (length (files ++ file ∷ [])) rest_theories rest
+    → (more : List (List ℕ)) × (rest_theories : List (List ℕ)) × (done ++ others ≡ more ++ rest_theories) × IsReadSoFar told more (seen_files (files ++ file ∷ [])) (before + file_parts (counted before own)) × AreDraftsFrom told (length (files ++ file ∷ [])) rest_theories rest
 counted-one told done [] drafts rest draft files file own before so_far all same tells said = absurd all
 counted-one told done (t ∷ others) drafts rest draft files file own before so_far all same tells said =
     let theory : draft.theory ≡ t = all.0 in
@@ -90,24 +90,24 @@ counted-one told done (t ∷ others) drafts rest draft files file own before so_
       done ++ t ∷ [],
       others,
       sym (append_assoc done (t ∷ []) others),
-      subst (λ fs. IsReadSoFar told (done ++ t ∷ []) fs (before + command_count (counted before own))) (sym grown) (IsReadSoFar-more told done t (seen_files files) (seen_file file) before own so_far tried seen),
+      subst (λ fs. IsReadSoFar told (done ++ t ∷ []) fs (before + file_parts (counted before own))) (sym grown) (IsReadSoFar-more told done t (seen_files files) (seen_file file) before own so_far tried seen),
       subst (λ n. AreDraftsFrom told n others rest) (sym (length-append files (file ∷ []))) all.2,
     )
 
 -- one turn of the loop
-pub counted-turn : (drafts left rest : List Draft) (draft : Draft) (files files' : List TheoryFile) (file : TheoryFile) (own : Outcome) (before count : ℕ)
+pub counted-turn : (drafts left rest : List Draft) (draft : Draft) (files files' : List TheoryFile) (file : TheoryFile) (own : Outcome) (before sum : ℕ)
     → left ≡ draft ∷ rest → file.theory ≡ draft.theory
     → ((told : Option (List library.File)) (place : ℕ) → IsKnownOf told place draft.theory draft.known → IsTriedOf told (nat_lt place most_files) draft.theory own) → seen_outcome file.outcome ≡ counted before own
-    → count ≡ command_count (seen_outcome file.outcome) → files' ≡ files ++ file ∷ [] → AreCounted drafts left files before → AreCounted drafts rest files' (before + count)
-counted-turn drafts left rest draft files files' file own before count first same tells said count_is longer on = record {
+    → sum ≡ before + file_parts (seen_outcome file.outcome) → files' ≡ files ++ file ∷ [] → AreCounted drafts left files before → AreCounted drafts rest files' sum
+counted-turn drafts left rest draft files files' file own before sum first same tells said sum_is longer on = record {
   so_far = λ told theories all.
       (let was = on.so_far told theories all in
       let one = counted-one told was.0 was.1 drafts rest draft files file own before was.3 (subst (AreDraftsFrom told (length files) was.1) first was.4) same tells said in
-      let counts : before + command_count (counted before own) ≡ before + count = ap (λ n. before + n) (sym (count_is ∙ ap command_count said)) in (
+      let counts : before + file_parts (counted before own) ≡ sum = sym (sum_is ∙ ap (λ o. before + file_parts o) said) in (
         one.0,
         one.1,
         was.2 ∙ one.2,
-        subst (λ n. IsReadSoFar told one.0 (seen_files files') n) counts (subst (λ fs. IsReadSoFar told one.0 (seen_files fs) (before + command_count (counted before own))) (sym longer) one.3),
+        subst (λ n. IsReadSoFar told one.0 (seen_files files') n) counts (subst (λ fs. IsReadSoFar told one.0 (seen_files fs) (before + file_parts (counted before own))) (sym longer) one.3),
         subst (λ (fs : List TheoryFile). AreDraftsFrom told (length fs) one.1 rest) (sym longer) one.4,
       ));
 }

@@ -1,20 +1,16 @@
 -- What was read of a library so far.
-use Rattle.std.proofs.Common.{◌≡◌, ℕ, zero, suc, ◌+◌, ◌<◌, ◌≤◌, Bool, true, false, cond, List, [], ◌∷◌, ◌++◌, length, map, refl, sym, ◌∙◌, ap, subst, arith, append_assoc, length-append, get_or, take, take_all, Option, Some, None, IfSome, nat_lt, nat_le}
-use Rattle.std.proofs.lemmas.List.{map-append, append-nil, length-map}
-use Rattle.std.proofs.lemmas.Bool.{leb-true}
+use Rattle.std.proofs.Common.{◌≡◌, ℕ, ◌+◌, ◌<◌, ◌≤◌, true, false, List, [], ◌∷◌, ◌++◌, length, map, refl, sym, ◌∙◌, ap, subst, arith, append_assoc, length-append, Option, Some, None, IfSome, nat_lt}
+use Rattle.std.proofs.lemmas.List.{map-append, append-nil}
 use Rattle.std.proofs.lemmas.Bool.Decides.{nat_tests}
 use Rattle.pure_io.specs.declared.library.File as library
 use Rattle.pure_io.specs.Outside.{text_named}
-use Rattle.pure_graph.specs.Limits.{most_files, most_bytes, most_session_commands}
+use Rattle.pure_graph.specs.Limits.{most_files}
 use Rattle.pure_graph.specs.Listing.{AreTheories, file_name}
-use Rattle.pure_graph.specs.Outcome.{Outcome, Refused, Stands, IsOwnOutcome}
-use Rattle.pure_graph.specs.Reading.{Answer, File, IsTried, AreReadFrom, AreRead, fits, counted, command_count}
+use Rattle.pure_graph.specs.Outcome.{Outcome, Refused, IsOwnOutcome}
+use Rattle.pure_graph.specs.Reading.{Answer, File, IsTried, AreReadFrom, AreRead, counted, file_parts}
 use Rattle.pure_graph.specs.Session.{answer_in}
 use Rattle.pure_graph.specs.Told.{IsHeld, TellsBytes, IsTriedOf, AreReadOf, AreFilesOf}
-use Rattle.pure_graph.specs.declared.outcome.Reason.TheVariants.{TooManyFiles, TooLarge}
-use Rattle.pure_graph.specs.Seen.{seen_outcome, seen_file, seen_files}
-use Rattle.pure_graph.specs.declared.outcome.TheoryFile.{TheoryFile}
-use Rattle.pure_text.proofs.LoopLaws.{longer_by}
+use Rattle.pure_graph.specs.declared.outcome.Reason.TheVariants.{TooManyFiles}
 use Rattle.pure_graph.proofs.SourceLemmas.{front-outcome}
 
 -- ---- one file
@@ -45,11 +41,6 @@ pub read-file : (told : Option (List library.File)) (theory : List ℕ) (place :
 read-file told theory place held outcome before is own =
     subst (λ b. IsTriedOf told b theory outcome) (sym (before-limit most_files place before)) (held-file told theory held outcome is own)
 
--- ---- the commands so far
-pub fits-few : (before : ℕ) (outcome : Outcome) → before ≤ most_session_commands → fits before outcome ≡ true → before + command_count outcome ≤ most_session_commands
-fits-few before (Refused reason) few h = omega arith
-fits-few before (Stands source text) few h = leb-true (before + length text.commands) most_session_commands h
-
 -- ---- the files so far
 pub record IsReadSoFar (told : Option (List library.File)) (theories : List (List ℕ)) (files : List File) (before : ℕ) : Type 0 where
   pub answers : List Answer
@@ -78,7 +69,7 @@ tells-more (Some files) theories theory answers bytes all one =
 
 pub IsReadSoFar-more : (told : Option (List library.File)) (theories : List (List ℕ)) (theory : List ℕ) (files : List File) (file : File) (before : ℕ) (own : Outcome)
     → IsReadSoFar told theories files before → IsTriedOf told (nat_lt (length files) most_files) theory own → file ≡ record { theory = theory; outcome = counted before own }
-    → IsReadSoFar told (theories ++ theory ∷ []) (files ++ file ∷ []) (before + command_count (counted before own))
+    → IsReadSoFar told (theories ++ theory ∷ []) (files ++ file ∷ []) (before + file_parts (counted before own))
 IsReadSoFar-more told theories theory files file before own so_far tried is =
     let answer : Answer = record { theory = theory; bytes = tried.0 } in
     record {
@@ -86,30 +77,12 @@ IsReadSoFar-more told theories theory files file before own so_far tried is =
       of_theories = map-append (λ (a : Answer). a.theory) so_far.answers (answer ∷ []) ∙ ap (λ ts. ts ++ theory ∷ []) so_far.of_theories;
       tells = tells-more told theories theory so_far.answers tried.0 so_far.tells tried.1;
       on = λ more others rest.
-          let behind : AreReadFrom (length files + 1) (before + command_count (counted before own)) more others =
-          subst (λ n. AreReadFrom n (before + command_count (counted before own)) more others) (length-append files (file ∷ [])) rest in
+          let behind : AreReadFrom (length files + 1) (before + file_parts (counted before own)) more others =
+          subst (λ n. AreReadFrom n (before + file_parts (counted before own)) more others) (length-append files (file ∷ [])) rest in
           subst (λ given. AreRead given ((files ++ file ∷ []) ++ others)) (sym (append_assoc so_far.answers (answer ∷ []) more))
           (subst (λ fs. AreRead (so_far.answers ++ answer ∷ more) fs) (sym (append_assoc files (file ∷ []) others))
           (so_far.on (answer ∷ more) (file ∷ others) (own, tried.2, is, behind)));
     }
-
--- one turn of the loop
-pub IsReadSoFar-step : (told now : Option (List library.File)) (theories : List (List ℕ)) (i : ℕ) (theory : List ℕ) (items items' : List TheoryFile) (pushed : TheoryFile) (before place count : ℕ) (own : Outcome)
-    → now ≡ told → i < length theories → theory ≡ get_or theories i theory → place ≡ length items → IsReadSoFar told (take i theories) (seen_files items) before
-    → IsTriedOf now (nat_lt place most_files) theory own → pushed.theory ≡ theory → seen_outcome pushed.outcome ≡ counted before own → items' ≡ items ++ pushed ∷ []
-    → count ≡ command_count (seen_outcome pushed.outcome) → IsReadSoFar told (take (i + 1) theories) (seen_files items') (before + count)
-IsReadSoFar-step told now theories i theory items items' pushed before place count own same within read place_is so_far tried copied said longer count_is =
-    let listed : take i theories ++ theory ∷ [] ≡ take (i + 1) theories = sym (longer_by theories i theory within read) in
-    let file : seen_file pushed ≡ record { theory = theory; outcome = counted before own } = λ j. record { theory = copied j; outcome = said j } in
-    let files : seen_files items ++ seen_file pushed ∷ [] ≡ seen_files items' = sym (map-append seen_file items (pushed ∷ [])) ∙ ap seen_files (sym longer) in
-    let place_seen : place ≡ length (seen_files items) = place_is ∙ sym (length-map items seen_file) in
-    let tried_told : IsTriedOf told (nat_lt (length (seen_files items)) most_files) theory own =
-    subst (λ n. IsTriedOf told (nat_lt n most_files) theory own) place_seen (subst (λ o. IsTriedOf o (nat_lt place most_files) theory own) same tried) in
-    let counts : before + command_count (counted before own) ≡ before + count = ap (λ n. before + n) (sym (count_is ∙ ap command_count said)) in
-    let grown = IsReadSoFar-more told (take i theories) theory (seen_files items) (seen_file pushed) before own so_far tried_told file in
-    subst (λ n. IsReadSoFar told (take (i + 1) theories) (seen_files items') n) counts
-    (subst (λ fs. IsReadSoFar told (take (i + 1) theories) fs (before + command_count (counted before own))) files
-    (subst (λ ts. IsReadSoFar told ts (seen_files items ++ seen_file pushed ∷ []) (before + command_count (counted before own))) listed grown))
 
 pub IsReadSoFar-all : (told : Option (List library.File)) (theories : List (List ℕ)) (files : List File) (before : ℕ) → IsReadSoFar told theories files before → AreReadOf told theories files
 IsReadSoFar-all told theories files before so_far = record {
@@ -118,9 +91,6 @@ IsReadSoFar-all told theories files before so_far = record {
   tells = so_far.tells;
   are_read = subst (λ given. AreRead given files) (append-nil so_far.answers) (subst (λ fs. AreRead (so_far.answers ++ []) fs) (append-nil files) (so_far.on [] [] tt));
 }
-
-pub IsReadSoFar-end : (told : Option (List library.File)) (theories : List (List ℕ)) (files : List File) (i before : ℕ) → length theories ≤ i → IsReadSoFar told (take i theories) files before → AreReadOf told theories files
-IsReadSoFar-end told theories files i before past so_far = IsReadSoFar-all told theories files before (subst (λ ts. IsReadSoFar told ts files before) (take_all i theories past) so_far)
 
 pub files-of : (told now : Option (List library.File)) (names theories : List (List ℕ)) (files : List File) → now ≡ told
     → IfSome told (λ library_files. names ≡ map (λ (f : library.File). f.name) library_files) → AreTheories names theories → AreReadOf now theories files → AreFilesOf told files

@@ -20,7 +20,7 @@ use Rattle.pure_script.proofs.FaultLaws.{theory_or_fault, one_fault_place}
 use Rattle.pure_io.specs.declared.library.File as library
 use Rattle.pure_graph.specs.Limits.{most_files, most_bytes}
 use Rattle.pure_graph.specs.Outcome.{Outcome, Refused, Stands, IsTheoryText, IsFaultPlace, IsSourceOutcome, IsBytesOutcome, IsOwnOutcome, syntax_at, tree_outcome}
-use Rattle.pure_graph.specs.Reading.{Answer, File, IsTried, AreReadFrom, counted, command_count}
+use Rattle.pure_graph.specs.Reading.{Answer, File, IsTried, AreReadFrom, counted, file_parts}
 use Rattle.pure_graph.specs.Graph.{IsRefused, IsFirstRefused, IsStandingJudged, IsOutcomeJudged, AreJudged, linked, named_imports, IsCyclic}
 use Rattle.pure_graph.specs.Order.{Loaded, IsReady, IsLeastReady, AreTakenBehind, file_of, index_among}
 use Rattle.pure_graph.specs.Session.{Session, IsSessionOf, IsSession, refusal_of, answer_in}
@@ -82,8 +82,8 @@ read_once place before (x ∷ answers) (f ∷ files) [] a b = absurd b
 read_once place before (x ∷ answers) (f ∷ files) (g ∷ others) (own, tried, is, rest) (own', tried', is', rest') =
     let one : own ≡ own' = tried_once (nat_lt place most_files) x own own' tried tried' in
     let first : f ≡ g = is ∙ ap (λ o. record { theory = x.theory; outcome = counted before o }) one ∙ sym is' in
-    let behind : files ≡ others = read_once (place + 1) (before + command_count (counted before own)) answers files others rest
-    (subst (λ o. AreReadFrom (place + 1) (before + command_count (counted before o)) answers others) (sym one) rest') in
+    let behind : files ≡ others = read_once (place + 1) (before + file_parts (counted before own)) answers files others rest
+    (subst (λ o. AreReadFrom (place + 1) (before + file_parts (counted before o)) answers others) (sym one) rest') in
     λ i. first i ∷ behind i
 
 -- ---- the imports
@@ -139,7 +139,7 @@ read_theories place before [] (f ∷ files) a = absurd a
 read_theories place before (x ∷ answers) [] a = absurd a
 read_theories place before (x ∷ answers) (f ∷ files) (own, tried, is, rest) =
     let first : f.theory ≡ x.theory = ap (λ (f : File). f.theory) is in
-    let behind = read_theories (place + 1) (before + command_count (counted before own)) answers files rest in
+    let behind = read_theories (place + 1) (before + file_parts (counted before own)) answers files rest in
     λ i. first i ∷ behind i
 
 pub linked_theories : (listed : List (List ℕ)) (files : List File) → map (λ (f : File). f.theory) (map (linked listed) files) ≡ map (λ (f : File). f.theory) files

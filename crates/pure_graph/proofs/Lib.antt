@@ -1,4 +1,5 @@
 pub mod HeaderLemmas
+pub mod SumLemmas
 pub mod ListingLemmas
 pub mod SourceLemmas
 pub mod FilesLemmas

@@ -9,14 +9,14 @@ most_files = 256
 abbrev pub most_bytes : ℕ
 most_bytes = 262144
 
--- commands of a theory
-abbrev pub most_commands : ℕ
-most_commands = 512
+-- parts of a theory
+abbrev pub most_parts : ℕ
+most_parts = 512
 
 -- numbered steps of a proof
 abbrev pub most_steps : ℕ
 most_steps = 1000
 
--- commands of all theories together
-abbrev pub most_session_commands : ℕ
-most_session_commands = 4096
+-- parts of all theories together
+abbrev pub most_session_parts : ℕ
+most_session_parts = 4096

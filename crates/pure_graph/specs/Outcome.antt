@@ -1,14 +1,14 @@
 -- What the file of a theory says by itself.
-use Rattle.std.specs.Prelude.{◌≡◌, ◌⊎◌, ℕ, ◌<◌, ◌≤◌, Bool, true, false, not, ◌&&◌, ◌||◌, List, length, take, codes, count_by, nat_lt, Option, Some, None, if◌then◌else◌}
-use Rattle.std.specs.List.{list_any}
+use Rattle.std.specs.Prelude.{◌≡◌, ◌⊎◌, ℕ, ◌+◌, ◌<◌, ◌≤◌, Bool, true, false, not, ◌&&◌, ◌||◌, List, length, take, codes, count_by, nat_lt, Option, Some, None, if◌then◌else◌}
+use Rattle.std.specs.List.{list_any, sum_by}
 use Rattle.pure_grammar.specs.declared.token.Token.{Token}
 use Rattle.pure_grammar.specs.declared.token.TokenKind.{TokenKind}
 use Rattle.pure_grammar.specs.Tokens.Spelling.{Spells, HasFault}
 use Rattle.pure_grammar.specs.Theories.Lexeme.{same}
 use Rattle.pure_grammar.specs.Theories.Outer.{SpellsTheory, HasSyntaxFault}
-use Rattle.pure_grammar.specs.Theories.TheoryText.{Step, Close, Command, Lemma, TheoryText}
+use Rattle.pure_grammar.specs.Theories.TheoryText.{Step, Close, Have, Command, Lemma, TheoryText}
 use Rattle.pure_lex.specs.Lines.{line_behind, column_behind}
-use Rattle.pure_graph.specs.Limits.{most_bytes, most_commands, most_steps}
+use Rattle.pure_graph.specs.Limits.{most_bytes, most_parts, most_steps}
 use Rattle.pure_graph.specs.declared.outcome.Reason.{Reason}
 use Rattle.pure_graph.specs.declared.outcome.Reason.TheVariants.{NoFile, TooLarge, Syntax, HeaderName}
 
@@ -37,14 +37,27 @@ abbrev pub is_numbered : Step → Bool
 is_numbered Close = false
 is_numbered _ = true
 
--- a lemma with more steps than a proof may have
+-- more steps than a proof may have
+abbrev pub is_long : List Step → Bool
+is_long script = nat_lt most_steps (count_by is_numbered script)
+
+-- a lemma with a proof that is too long, its own or that of a have
 abbrev pub has_long_proof : Command → Bool
-has_long_proof (Lemma name prop haves script) = nat_lt most_steps (count_by is_numbered script)
+has_long_proof (Lemma name prop haves script) = list_any (λ (h : Have). is_long h.script) haves || is_long script
 has_long_proof _ = false
 
--- more commands than a theory may have, or a proof that is too long
+-- the parts of a command: it is one itself, and each have of a lemma is one
+abbrev pub command_parts : Command → ℕ
+command_parts (Lemma name prop haves script) = 1 + length haves
+command_parts _ = 1
+
+-- the parts of these commands
+abbrev pub part_count : List Command → ℕ
+part_count commands = sum_by command_parts commands
+
+-- more parts than a theory may have, or a proof that is too long
 abbrev pub is_large : TheoryText → Bool
-is_large text = nat_lt most_commands (length text.commands) || list_any has_long_proof text.commands
+is_large text = nat_lt most_parts (part_count text.commands) || list_any has_long_proof text.commands
 
 unfoldable pub pure_theory : List ℕ
 pure_theory = codes "Pure"

@@ -1,7 +1,7 @@
 -- What the files of some theories say, each by itself and by its place among them.
-use Rattle.std.specs.Prelude.{◌≡◌, ℕ, ◌+◌, Bool, true, false, List, [], ◌∷◌, length, Option, nat_lt, nat_le, if◌then◌else◌}
-use Rattle.pure_graph.specs.Limits.{most_files, most_session_commands}
-use Rattle.pure_graph.specs.Outcome.{Outcome, Refused, Stands, IsOwnOutcome}
+use Rattle.std.specs.Prelude.{◌≡◌, ℕ, ◌+◌, Bool, true, false, List, [], ◌∷◌, Option, nat_lt, nat_le, if◌then◌else◌}
+use Rattle.pure_graph.specs.Limits.{most_files, most_session_parts}
+use Rattle.pure_graph.specs.Outcome.{Outcome, Refused, Stands, IsOwnOutcome, part_count}
 use Rattle.pure_graph.specs.declared.outcome.Reason.TheVariants.{TooManyFiles, TooLarge}
 
 -- a theory, and the bytes of its file, none where that is missing
@@ -19,27 +19,27 @@ abbrev pub IsTried : (is_read : Bool) → Answer → Outcome → Type 0
 IsTried true answer outcome = IsOwnOutcome answer.theory answer.bytes outcome
 IsTried false answer outcome = outcome ≡ Refused TooManyFiles
 
--- Behind files with so many commands there is room for those of the file.
+-- Behind files with so many parts there is room for those of the file.
 abbrev pub fits : (before : ℕ) → Outcome → Bool
 fits before (Refused reason) = true
-fits before (Stands source text) = nat_le (before + length text.commands) most_session_commands
+fits before (Stands source text) = nat_le (before + part_count text.commands) most_session_parts
 
--- a file behind others with so many commands: with its own they may be too many
+-- a file behind others with so many parts: with its own they may be too many
 abbrev pub counted : (before : ℕ) → Outcome → Outcome
 counted before outcome = if fits before outcome then outcome else Refused TooLarge
 
--- the commands of a file, none where it is refused
-abbrev pub command_count : Outcome → ℕ
-command_count (Refused reason) = 0
-command_count (Stands source text) = length text.commands
+-- the parts of a file, none where it is refused
+abbrev pub file_parts : Outcome → ℕ
+file_parts (Refused reason) = 0
+file_parts (Stands source text) = part_count text.commands
 
--- The files of theories in byte order, from the one at this place on, behind files with so many commands. The first 256
+-- The files of theories in byte order, from the one at this place on, behind files with so many parts. The first 256
 -- are read.
 abbrev pub AreReadFrom : (place before : ℕ) → List Answer → List File → Type 0
 AreReadFrom place before [] [] = Unit {0}
 AreReadFrom place before (a ∷ answers) (f ∷ files) =
     (own : Outcome) × IsTried (nat_lt place most_files) a own × (f ≡ record { theory = a.theory; outcome = counted before own })
-    × AreReadFrom (place + 1) (before + command_count (counted before own)) answers files
+    × AreReadFrom (place + 1) (before + file_parts (counted before own)) answers files
 AreReadFrom place before _ _ = ⊥
 
 -- the files of these theories

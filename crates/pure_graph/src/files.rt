@@ -13,7 +13,7 @@ use crate::fault::LoadFault;
 use crate::listing::{file_of, theories_of};
 use crate::outcome::{Outcome, Reason, TheoryFile};
 use crate::source::MOST_BYTES;
-use crate::sum::{command_count, counted};
+use crate::sum::counted;
 use pure_io::{LibFault, Library, ReadFault};
 use pure_text::Text;
 use std::alloc::{AllocError, Global};
@@ -119,8 +119,7 @@ fn counted_files(alloc: Global, drafts: Vec<Draft>) -> Result<Vec<TheoryFile>, A
     let mut before = 0;
     for draft in drafts {
         let TheoryFile { theory, outcome } = own_file(alloc, draft)?;
-        let outcome = counted(before, outcome);
-        before += command_count(&outcome);
+        let outcome = counted(&mut before, outcome);
         files.push(TheoryFile { theory, outcome })?;
     }
     Ok(files)

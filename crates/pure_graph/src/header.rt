@@ -1,16 +1,17 @@
 //! What the tree of a theory's file says.
-ghost use Rattle.std.specs.Prelude.{◌≡◌, count_by};
+ghost use Rattle.std.specs.Prelude.{◌≡◌, ◌<◌, ◌≤◌, ◌||◌, MatchOption, count_by, nat_lt};
 ghost use Rattle.std.specs.List.{list_any};
-ghost use Rattle.pure_script.specs.Seen.{seen_theory, seen_command, seen_step, seen_steps};
+ghost use Rattle.pure_script.specs.Seen.{seen_theory, seen_have, seen_command, seen_commands, seen_step, seen_steps};
+ghost use Rattle.pure_graph.specs.Limits.{most_parts};
 ghost use Rattle.pure_graph.specs.Outcome as spec;
 ghost use Rattle.pure_graph.specs.Seen.{seen_outcome};
 
 use crate::outcome::{Outcome, Reason};
-use pure_script::{Command, Step, TheoryText};
+use pure_script::{Command, Have, Step, TheoryText};
 use pure_text::Text;
 
-/// The most commands that a theory may have.
-const MOST_COMMANDS: usize = 512;
+/// The most parts that a theory may have.
+const MOST_PARTS: usize = 512;
 
 /// The most numbered steps that a proof may have.
 const MOST_STEPS: usize = 1000;
@@ -39,7 +40,35 @@ fn step_count(script: &[Step]) -> usize
     script.iter().filter(|step| is_numbered(step)).count()
 }
 
-/// Whether the command is a lemma with more steps than a proof may have.
+/// Whether there are more steps than a proof may have.
+fn is_long(script: &[Step]) -> bool
+    ensures { result ≡ spec.is_long (seen_steps script.now) }
+{
+    step_count(script) > MOST_STEPS
+}
+
+/// Whether the have has a proof that is too long.
+fn has_long_script(inner: &Have) -> bool
+    ensures { result ≡ spec.is_long (seen_have inner.now).script }
+{
+    is_long(inner.script.as_slice())
+}
+
+/// Whether some have has a proof that is too long.
+fn has_long_have(haves: &[Have]) -> bool
+    ensures { result ≡ list_any (λ h. spec.is_long (seen_have h).script) haves.now }
+{
+    haves.iter().any(|inner| has_long_script(inner))
+}
+
+/// Whether a lemma's proof, or that of one of its haves, is too long.
+fn has_long_part(haves: &[Have], script: &[Step]) -> bool
+    ensures { result ≡ (list_any (λ h. spec.is_long (seen_have h).script) haves.now || spec.is_long (seen_steps script.now)) }
+{
+    has_long_have(haves) || is_long(script)
+}
+
+/// Whether the command is a lemma with a proof that is too long, its own or that of a have.
 fn has_long_proof(command: &Command) -> bool
     ensures { result ≡ spec.has_long_proof (seen_command command.now) }
 {
@@ -50,22 +79,61 @@ fn has_long_proof(command: &Command) -> bool
         Command::Const { .. } => false,
         Command::Axiom { .. } => false,
         Command::Definition { .. } => false,
-        Command::Lemma { script, .. } => step_count(script.as_slice()) > MOST_STEPS,
+        Command::Lemma { haves, script, .. } => {
+            has_long_part(haves.as_slice(), script.as_slice())
+        }
     }
 }
 
-/// Whether some command is a lemma with more steps than a proof may have.
+/// Whether some command is a lemma with a proof that is too long.
 fn have_long_proof(commands: &[Command]) -> bool
     ensures { result ≡ list_any (λ c. spec.has_long_proof (seen_command c)) commands.now }
 {
     commands.iter().any(|command| has_long_proof(command))
 }
 
-/// Whether the theory has more commands than it may have, or a proof that is too long.
+/// The parts of a command: it is one itself, and each have of a lemma is one.
+fn command_parts(command: &Command) -> usize
+    ensures { result ≡ spec.command_parts (seen_command command.now) }
+{
+    match command {
+        Command::Class { .. } => 1,
+        Command::TypeDecl { .. } => 1,
+        Command::Arity { .. } => 1,
+        Command::Const { .. } => 1,
+        Command::Axiom { .. } => 1,
+        Command::Definition { .. } => 1,
+        Command::Lemma { haves, .. } => 1 + haves.len(),
+    }
+}
+
+/// The parts of the commands, if they are at most so many.
+pub(crate) fn parts_within(commands: &[Command], most: usize) -> Option<usize>
+    ensures { MatchOption result (most < spec.part_count (seen_commands commands.now)) (λ n. (n ≡ spec.part_count (seen_commands commands.now)) × (n ≤ most)) }
+{
+    let mut count = 0;
+    for command in commands {
+        let parts = command_parts(command);
+        if parts > most - count {
+            return None;
+        }
+        count += parts;
+    }
+    Some(count)
+}
+
+/// Whether the commands have more parts than a theory may have.
+fn has_many_parts(commands: &[Command]) -> bool
+    ensures { result ≡ nat_lt most_parts (spec.part_count (seen_commands commands.now)) }
+{
+    parts_within(commands, MOST_PARTS).is_none()
+}
+
+/// Whether the theory has more parts than it may have, or a proof that is too long.
 fn is_large(text: &TheoryText) -> bool
     ensures { result ≡ spec.is_large (seen_theory text.now) }
 {
-    text.commands.len() > MOST_COMMANDS || have_long_proof(text.commands.as_slice())
+    has_many_parts(text.commands.as_slice()) || have_long_proof(text.commands.as_slice())
 }
 
 /// Whether the header's name is the file's, and isn't Pure.

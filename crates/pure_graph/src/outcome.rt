@@ -9,7 +9,7 @@ pub enum Reason {
     TooManyFiles,
     /// The file of this theory, its own or that of an import, is missing.
     NoFile { theory: Text },
-    /// It has too many bytes, commands or steps of a proof, or there are too many commands with it.
+    /// It has too many bytes, parts or steps of a proof, or there are too many parts with it.
     TooLarge,
     /// It isn't in the grammar.
     Syntax { line: u32, column: u32 },

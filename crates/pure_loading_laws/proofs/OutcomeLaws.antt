@@ -17,7 +17,7 @@ use Rattle.pure_grammar.proofs.FaultLemmas.{Gets-IsTheory, goes-wrong, is_last}
 use Rattle.pure_lex.proofs.Existence.{some_reading}
 use Rattle.pure_graph.specs.Limits.{most_bytes, most_files}
 use Rattle.pure_graph.specs.Outcome.{Outcome, Refused, IsSourceOutcome, IsBytesOutcome, syntax_at, tree_outcome}
-use Rattle.pure_graph.specs.Reading.{Answer, File, IsTried, AreReadFrom, counted, command_count}
+use Rattle.pure_graph.specs.Reading.{Answer, File, IsTried, AreReadFrom, counted, file_parts}
 use Rattle.pure_graph.specs.declared.outcome.Reason.TheVariants.{TooManyFiles, NoFile, TooLarge}
 use Rattle.pure_loading_laws.specs.Loading.{EachFileSaysSomething}
 
@@ -224,5 +224,5 @@ pub files-say : (place before : ℕ) (answers : List Answer) → (files : List F
 files-say place before [] = ([], tt, refl)
 files-say place before (a ∷ answers) =
     let own = tried (nat_lt place most_files) a in
-    let rest = files-say (place + 1) (before + command_count (counted before own.0)) answers in
+    let rest = files-say (place + 1) (before + file_parts (counted before own.0)) answers in
     (record { theory = a.theory; outcome = counted before own.0 } ∷ rest.0, (own.0, own.1, refl, rest.1), ap (λ ts. a.theory ∷ ts) rest.2)

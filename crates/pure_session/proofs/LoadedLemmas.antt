@@ -13,7 +13,7 @@ use Rattle.pure_lex.specs.Identifier.{is_identifier}
 use Rattle.pure_graph.specs.Limits.{most_files}
 use Rattle.pure_graph.specs.Listing.{AreTheories, file_name}
 use Rattle.pure_graph.specs.Outcome.{Outcome, Refused, Stands, IsOwnOutcome, is_headed, tree_outcome, pure_theory}
-use Rattle.pure_graph.specs.Reading.{Answer, File, IsTried, AreReadFrom, counted, fits, command_count}
+use Rattle.pure_graph.specs.Reading.{Answer, File, IsTried, AreReadFrom, counted, fits, file_parts}
 use Rattle.pure_graph.specs.declared.outcome.Reason.TheVariants.{TooManyFiles, TooLarge, HeaderName}
 use Rattle.pure_graph.specs.Session.{Shown}
 use Rattle.pure_graph.specs.Graph.{IsOutcomeJudged, linked, without, first_absent, imports_of}
@@ -86,7 +86,7 @@ read-named place n (a ∷ answers) (g ∷ files) f s x (own, tried, made, rest) 
     let said : counted n own ≡ Stands s x = sym (ap (λ (h : File). h.outcome) (e ∙ made)) ∙ o in
     (inl theory, λ p. tried-headed (nat_lt place most_files) a own s x tried (counted-before n own s x said) (sym theory ∙ p))
 read-named place n (a ∷ answers) (g ∷ files) f s x (own, tried, made, rest) (inr m) o =
-    let w = read-named (place + 1) (n + command_count (counted n own)) answers files f s x rest m o in
+    let w = read-named (place + 1) (n + file_parts (counted n own)) answers files f s x rest m o in
     (inr w.0, w.1)
 
 plain-listed : (names theories : List (List ℕ)) (t : List ℕ) → AreTheories names theories → IsIn t theories → IsIn 46 t → ⊥

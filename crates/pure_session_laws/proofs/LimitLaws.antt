@@ -5,9 +5,9 @@ use Rattle.std.proofs.lemmas.List.Sums.{sum_by-cons}
 use Rattle.std.proofs.lemmas.Bool.{ltb-true, ltb-false, leb-true}
 use Rattle.pure_text.specs.Lists.{IsIn, EachTwo, AreDistinct}
 use Rattle.pure_text.proofs.ListLaws.{moved}
-use Rattle.pure_graph.specs.Limits.{most_files, most_session_commands}
-use Rattle.pure_graph.specs.Outcome.{Outcome, Refused, Stands}
-use Rattle.pure_graph.specs.Reading.{Answer, File, IsTried, AreReadFrom, counted, command_count}
+use Rattle.pure_graph.specs.Limits.{most_files, most_session_parts}
+use Rattle.pure_graph.specs.Outcome.{Outcome, Refused, Stands, part_count}
+use Rattle.pure_graph.specs.Reading.{Answer, File, IsTried, AreReadFrom, counted, file_parts}
 use Rattle.pure_graph.specs.Graph.{IsOutcomeJudged, linked, without, first_absent, imports_of}
 use Rattle.pure_graph.specs.Order.{Loaded, file_of}
 use Rattle.pure_graph.specs.Session.{Refusal, IsLoadingOf}
@@ -38,7 +38,7 @@ few-read place n [] [] read = omega arith
 few-read place n [] (f ∷ files) read = absurd read
 few-read place n (a ∷ answers) [] read = absurd read
 few-read place n (a ∷ answers) (f ∷ files) (own, tried, made, rest) =
-    let more = few-read (place + 1) (n + command_count (counted n own)) answers files rest in
+    let more = few-read (place + 1) (n + file_parts (counted n own)) answers files rest in
     by (nat_lt place most_files) refl tried more
   where
     by : (b : Bool) → nat_lt place most_files ≡ b → IsTried b a own → total one_each files ≤ most_files - (place + 1) → one_each f.outcome + total one_each files ≤ most_files - place
@@ -51,21 +51,21 @@ few-read place n (a ∷ answers) (f ∷ files) (own, tried, made, rest) =
         let nothing : one_each f.outcome ≡ 0 = ap (λ (g : File). one_each g.outcome) made ∙ ap (λ o. one_each (counted n o)) t in
         omega arith
 
-fits-count : (n : ℕ) (o : Outcome) → n ≤ most_session_commands → n + command_count (counted n o) ≤ most_session_commands
-fits-count n (Refused reason) h = omega (arith, h)
-fits-count n (Stands source text) h = by (nat_le (n + length text.commands) most_session_commands) refl
+fits-parts : (n : ℕ) (o : Outcome) → n ≤ most_session_parts → n + file_parts (counted n o) ≤ most_session_parts
+fits-parts n (Refused reason) h = omega (arith, h)
+fits-parts n (Stands source text) h = by (nat_le (n + part_count text.commands) most_session_parts) refl
   where
-    by : (b : Bool) → nat_le (n + length text.commands) most_session_commands ≡ b → n + command_count (cond b (Stands source text) (Refused TooLarge)) ≤ most_session_commands
-    by true e = leb-true (n + length text.commands) most_session_commands e
+    by : (b : Bool) → nat_le (n + part_count text.commands) most_session_parts ≡ b → n + file_parts (cond b (Stands source text) (Refused TooLarge)) ≤ most_session_parts
+    by true e = leb-true (n + part_count text.commands) most_session_parts e
     by false e = omega (arith, h)
 
-commands-read : (place n : ℕ) (answers : List Answer) (files : List File) → n ≤ most_session_commands → AreReadFrom place n answers files → n + total command_count files ≤ most_session_commands
-commands-read place n [] [] h read = omega (arith, h)
-commands-read place n [] (f ∷ files) h read = absurd read
-commands-read place n (a ∷ answers) [] h read = absurd read
-commands-read place n (a ∷ answers) (f ∷ files) h (own, tried, made, rest) =
-    let more = commands-read (place + 1) (n + command_count (counted n own)) answers files (fits-count n own h) rest in
-    let same : command_count f.outcome ≡ command_count (counted n own) = ap (λ (g : File). command_count g.outcome) made in
+parts-read : (place n : ℕ) (answers : List Answer) (files : List File) → n ≤ most_session_parts → AreReadFrom place n answers files → n + total file_parts files ≤ most_session_parts
+parts-read place n [] [] h read = omega (arith, h)
+parts-read place n [] (f ∷ files) h read = absurd read
+parts-read place n (a ∷ answers) [] h read = absurd read
+parts-read place n (a ∷ answers) (f ∷ files) h (own, tried, made, rest) =
+    let more = parts-read (place + 1) (n + file_parts (counted n own)) answers files (fits-parts n own h) rest in
+    let same : file_parts f.outcome ≡ file_parts (counted n own) = ap (λ (g : File). file_parts g.outcome) made in
     omega arith
 
 -- ---- the files that are left
@@ -161,8 +161,8 @@ as-many (l ∷ loaded) = let more = as-many loaded in let sum = sum_by-cons (λ 
 pub loaded-within_limits : LoadedWithinLimits
 loaded-within_limits answers theories refused n of =
     let ones = loaded-weigh one_each (record { nothing = λ r. refl }) answers theories refused n of in
-    let commands = loaded-weigh command_count (record { nothing = λ r. refl }) answers theories refused n of in
+    let parts = loaded-weigh file_parts (record { nothing = λ r. refl }) answers theories refused n of in
     let files = few-read 0 0 answers of.read of.are_read in
-    let read = commands-read 0 0 answers of.read (omega arith) of.are_read in
+    let read = parts-read 0 0 answers of.read (omega arith) of.are_read in
     let size = as-many theories in
-    record { few = omega (arith, ones, files, size); few_commands = omega (arith, commands, read) }
+    record { few = omega (arith, ones, files, size); few_parts = omega (arith, parts, read) }

@@ -4,13 +4,13 @@ use Rattle.std.specs.List.{list_any, count_by}
 use Rattle.std.proofs.lemmas.Bool.{ltb-false}
 use Rattle.pure_text.specs.Lists.{Each}
 use Rattle.pure_text.proofs.ListLaws.{each-append}
-use Rattle.pure_grammar.specs.Theories.TheoryText.{Step, Done, Close, Command, Class, TypeDecl, Arity, Const, Axiom, Definition, Lemma}
+use Rattle.pure_grammar.specs.Theories.TheoryText.{Step, Done, Close, Have, Command, Class, TypeDecl, Arity, Const, Axiom, Definition, Lemma}
 use Rattle.pure_grammar.specs.Theories.Phrase.{BasicPhrase, ByAssumption, ByRule, ByErule, ByDrule, ByUnfold, MethodPhrase, Alone, Together, StepPhrase, ApplyStep, PreferStep, DeferStep, EndPhrase, DoneEnd, ByEnd, ProofPhrase, ItemPhrase, AxiomPhrase, CommandPhrase, ClassCommand, TypedeclCommand, AritiesCommand, ConstsCommand, AxiomsCommand, DefinitionCommand, LemmaCommand}
 use Rattle.pure_grammar.specs.Theories.PhraseTree.{basic_step, method_steps, step_steps, end_steps, steps_of, proof_steps, item_command, axiom_command, phrase_commands, commands_of}
 use Rattle.pure_graph.specs.Limits.{most_steps}
-use Rattle.pure_graph.specs.Outcome.{is_numbered, has_long_proof}
+use Rattle.pure_graph.specs.Outcome.{is_numbered, is_long, has_long_proof}
 use Rattle.pure_method.specs.Outcomes.{IsScript, ends_here, goes_further}
-use Rattle.pure_session_laws.specs.Well.{HasProofScript}
+use Rattle.pure_session_laws.specs.Well.{IsProofScript, HasProofScript}
 
 -- ---- the end of a script
 
@@ -54,9 +54,9 @@ proof-script p = further (steps_of p.steps) (end_steps p.ending) (steps-inner p.
 
 -- ---- the commands
 
--- if the command is a lemma, then its script ends
+-- if the command is a lemma, then its script and those of its haves end
 abbrev Ends : Command → Type 0
-Ends (Lemma name prop haves script) = IsScript script
+Ends (Lemma name prop haves script) = Each (λ (h : Have). IsScript h.script) haves × IsScript script
 Ends _ = Unit {0}
 
 items-end : (is : List ItemPhrase) → Each Ends (map item_command is)
@@ -74,7 +74,7 @@ phrase-ends (AritiesCommand con doms class) = (tt, tt)
 phrase-ends (ConstsCommand i is) = (tt, items-end is)
 phrase-ends (AxiomsCommand a more) = (tt, axioms-end more)
 phrase-ends (DefinitionCommand i prop) = (tt, tt)
-phrase-ends (LemmaCommand word a p) = (proof-script p, tt)
+phrase-ends (LemmaCommand word a p) = ((tt, proof-script p), tt)
 
 commands-end : (ps : List CommandPhrase) → Each Ends (commands_of ps)
 commands-end [] = tt
@@ -86,6 +86,15 @@ pub neither : (a b : Bool) → (a || b) ≡ false → (a ≡ false) × (b ≡ fa
 neither true b e = absurd (cc)
 neither false b e = (refl, e)
 
+proof-script_of : (script : List Step) → IsScript script → is_long script ≡ false → IsProofScript script
+proof-script_of script ends h = record { ends = ends; few = ltb-false most_steps (count_by is_numbered script) h }
+
+have-proofs : (haves : List Have) → Each (λ (h : Have). IsScript h.script) haves → list_any (λ (h : Have). is_long h.script) haves ≡ false → Each (λ (h : Have). IsProofScript h.script) haves
+have-proofs [] e h = tt
+have-proofs (x ∷ haves) e h =
+    let n = neither (is_long x.script) (list_any (λ (y : Have). is_long y.script) haves) h in
+    (proof-script_of x.script e.0 n.0, have-proofs haves e.1 n.1)
+
 has-script : (c : Command) → Ends c → has_long_proof c ≡ false → HasProofScript c
 has-script (Class name above) e h = tt
 has-script (TypeDecl name params) e h = tt
@@ -93,7 +102,9 @@ has-script (Arity con doms class) e h = tt
 has-script (Const name typ) e h = tt
 has-script (Axiom name prop) e h = tt
 has-script (Definition name typ prop) e h = tt
-has-script (Lemma name prop haves script) e h = record { ends = e; few = ltb-false most_steps (count_by is_numbered script) h }
+has-script (Lemma name prop haves script) e h =
+    let n = neither (list_any (λ (x : Have). is_long x.script) haves) (is_long script) h in
+    (have-proofs haves e.0 n.0, proof-script_of script e.1 n.1)
 
 have-scripts : (cs : List Command) → Each Ends cs → list_any has_long_proof cs ≡ false → Each HasProofScript cs
 have-scripts [] e h = tt

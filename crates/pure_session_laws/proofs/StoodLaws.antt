@@ -4,7 +4,7 @@ use Rattle.pure_text.specs.Lists.{IsIn}
 use Rattle.pure_grammar.specs.Theories.TheoryText.{TheoryText}
 use Rattle.pure_graph.specs.Limits.{most_files, most_bytes}
 use Rattle.pure_graph.specs.Outcome.{Outcome, Refused, Stands, IsTheoryText, IsOwnOutcome, is_headed, is_large, tree_outcome}
-use Rattle.pure_graph.specs.Reading.{Answer, File, IsTried, AreReadFrom, counted, command_count}
+use Rattle.pure_graph.specs.Reading.{Answer, File, IsTried, AreReadFrom, counted, file_parts}
 use Rattle.pure_graph.specs.Graph.{IsOutcomeJudged, linked, first_absent, imports_of}
 use Rattle.pure_graph.specs.Order.{Loaded, file_of, AreTakenBehind}
 use Rattle.pure_graph.specs.Session.{Refusal, IsLoadingOf}
@@ -61,7 +61,7 @@ read-stands place n (a ∷ answers) (g ∷ files) f s x (own, tried, made, rest)
     let said : counted n own ≡ Stands s x = sym (ap (λ (h : File). h.outcome) (e ∙ made)) ∙ o in
     subst (λ t. IsOwn t s x) (sym theory) (tried-stands (nat_lt place most_files) a own s x tried (counted-before n own s x said))
 read-stands place n (a ∷ answers) (g ∷ files) f s x (own, tried, made, rest) (inr m) o =
-    read-stands (place + 1) (n + command_count (counted n own)) answers files f s x rest m o
+    read-stands (place + 1) (n + file_parts (counted n own)) answers files f s x rest m o
 
 -- a loaded theory is that of a file that stands
 pub taken-stands : (files : List File) (taken : List (List ℕ)) (loaded : List Loaded) → AreTakenBehind files taken loaded → (l : Loaded) → IsIn l loaded → IsIn (file_of l.name l.source l.text) files

@@ -17,8 +17,8 @@ use Rattle.pure_grammar.specs.Theories.Spans.{Cited, IsCited, command_spans, cit
 use Rattle.pure_grammar.specs.Theories.Outer.{SpellsTheory}
 use Rattle.pure_grammar.proofs.Slices.{tokens_are_slices}
 use Rattle.pure_grammar.proofs.SpanLemmas.{each_span_is_cited}
-use Rattle.pure_graph.specs.Limits.{most_bytes, most_commands}
-use Rattle.pure_graph.specs.Outcome.{IsTheoryText, is_headed, has_long_proof, pure_theory}
+use Rattle.pure_graph.specs.Limits.{most_bytes, most_parts}
+use Rattle.pure_graph.specs.Outcome.{IsTheoryText, is_headed, has_long_proof, part_count, pure_theory}
 use Rattle.pure_graph.specs.Order.{Loaded}
 use Rattle.pure_graph.specs.SessionNames.{spelling_of, Gives, GivesInside, IsSpelled, IsGiven, full_names}
 use Rattle.pure_graph.proofs.SourceLemmas.{whole-range}
@@ -107,7 +107,7 @@ well : (texts : List (List ℕ)) (l : Loaded) → AreItsNames texts l → IsOwn 
 well texts l has own =
     let head : IsHead l.name l.text = head-of l.name l.text own.headed in
     let name : IsPlainName l.source l.name = subst (IsPlainName l.source) head.same_name (plain-name l.source l.text own.spelled) in
-    let sizes = neither (nat_lt most_commands (length l.text.commands)) (list_any has_long_proof l.text.commands) own.fitting in
+    let sizes = neither (nat_lt most_parts (part_count l.text.commands)) (list_any has_long_proof l.text.commands) own.fitting in
     let is = own.spelled.2 in
     record {
       small = small-enough (length l.source) own.size;
@@ -116,7 +116,7 @@ well texts l has own =
       full = full-of texts l has;
       plain = (name.plain, head.other);
       scripts = scripts-of is.file.commands l.text.commands (ap (λ (t : TheoryText). t.commands) is.means) sizes.1;
-      few = ltb-false most_commands (length l.text.commands) sizes.0;
+      few = ltb-false most_parts (part_count l.text.commands) sizes.0;
     }
 
 pub loaded-well : LoadedWell

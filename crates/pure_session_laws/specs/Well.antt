@@ -1,10 +1,10 @@
 -- What is known of each theory of a session.
 use Rattle.std.specs.Prelude.{◌≢◌, ◌<◌, ◌≤◌, ℕ, List, length, count_by}
 use Rattle.pure_text.specs.Lists.{IsIn, Each}
-use Rattle.pure_grammar.specs.Theories.TheoryText.{Step, Command, Lemma}
+use Rattle.pure_grammar.specs.Theories.TheoryText.{Step, Have, Command, Lemma}
 use Rattle.pure_lookup.specs.Meaning.{pure_text}
-use Rattle.pure_graph.specs.Limits.{most_commands, most_steps}
-use Rattle.pure_graph.specs.Outcome.{is_numbered}
+use Rattle.pure_graph.specs.Limits.{most_parts, most_steps}
+use Rattle.pure_graph.specs.Outcome.{is_numbered, part_count}
 use Rattle.pure_graph.specs.Reading.{Answer}
 use Rattle.pure_graph.specs.Order.{Loaded}
 use Rattle.pure_graph.specs.SessionNames.{AreNames}
@@ -17,12 +17,12 @@ pub record IsProofScript (script : List Step) : Type 0 where
   pub ends : IsScript script
   pub few : count_by is_numbered script ≤ most_steps
 
--- If the command is a lemma, then its script is that of a proof.
+-- If the command is a lemma, then its script and that of each of its haves are those of proofs.
 abbrev pub HasProofScript : Command → Type 0
-HasProofScript (Lemma name prop haves script) = IsProofScript script
+HasProofScript (Lemma name prop haves script) = Each (λ (h : Have). IsProofScript h.script) haves × IsProofScript script
 HasProofScript _ = Unit {0}
 
--- A loaded theory among the names of its session: the source isn't too long, the ranges of each command lie in it, the theory and all that its commands declare have names, its own name has no dot (46) and isn't Pure's, the scripts are those of proofs, and the commands aren't too many.
+-- A loaded theory among the names of its session: the source isn't too long, the ranges of each command lie in it, the theory and all that its commands declare have names, its own name has no dot (46) and isn't Pure's, the scripts are those of proofs, and the parts aren't too many.
 pub record IsWellLoaded (texts : List (List ℕ)) (l : Loaded) : Type 0 where
   pub small : length l.source < 4294967295
   pub ranges : Each (HasRanges l.source) l.text.commands
@@ -30,7 +30,7 @@ pub record IsWellLoaded (texts : List (List ℕ)) (l : Loaded) : Type 0 where
   pub full : Each (λ (c : Command). HasFullNames texts l.name c) l.text.commands
   pub plain : (¬ IsIn 46 l.name) × (l.name ≢ pure_text)
   pub scripts : Each HasProofScript l.text.commands
-  pub few : length l.text.commands ≤ most_commands
+  pub few : part_count l.text.commands ≤ most_parts
 
 -- Among the names of their session the theories that are loaded are as those who check them ask.
 abbrev pub LoadedWell : Type 0

@@ -45,7 +45,7 @@ module _ (texts : List (List ℕ)) (theories : List Loaded) (session : IsLoadedS
   script =
       let there : IsIn left.command left.run.theory.text.commands = subst (λ (cs : List Command). IsIn left.command cs) (sym left.run.commands) (in-append_right left.command left.run.done (left.command ∷ left.left) (inl refl)) in
       let has = each_at HasProofScript left.run.theory.text.commands (theory-well texts theories session index left.run.theory left.run.is_at).scripts left.command there in
-      subst HasProofScript bound.from.3 has
+      (subst HasProofScript bound.from.3 has).1
 
   pub left-provable : IsProvable texts f
   left-provable = record {

@@ -4,6 +4,7 @@ pub mod NumberedLaws
 pub mod TableLaws
 pub mod FactLaws
 pub mod LabelLaws
+pub mod KeyLaws
 pub mod IndexLaws
 pub mod OtherLaws
 pub mod AlgebraLaws

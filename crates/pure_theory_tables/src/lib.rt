@@ -9,6 +9,7 @@ mod fact;
 mod growing;
 mod index;
 mod labels;
+pub mod laws;
 mod members;
 mod numbers;
 mod pointers;

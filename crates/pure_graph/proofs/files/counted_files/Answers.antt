@@ -13,9 +13,9 @@ loop-draft-init c = record {
 pub loop-draft-preserved : goal.loop-draft-preserved
 loop-draft-preserved c = record {
   so_far = counted-turn c.args.drafts.items (into_iter_items c.loop-draft.draft-iterator) (into_iter_items c.next.new.self) c.in-Some.draft c.loop-draft.files.items c.push.new.self.items _
-      (seen_outcome c.in_ok-theory.field-0.outcome) c.loop-draft.before c.command_count-before.result
-      c.in-Some.ensures.steps.0 c.in_ok-theory.ensures.theory c.in_ok-theory.ensures.own c.counted-outcome.ensures.said c.command_count-before.ensures c.in_ok-push.ensures.items c.loop-draft.invariant.so_far;
-  few = rw c.command_count-before.ensures c.counted-outcome.ensures.few;
+      (seen_outcome c.in_ok-theory.field-0.outcome) c.loop-draft.before c.counted-outcome.new.before
+      c.in-Some.ensures.steps.0 c.in_ok-theory.ensures.theory c.in_ok-theory.ensures.own c.counted-outcome.ensures.said c.counted-outcome.ensures.sum c.in_ok-push.ensures.items c.loop-draft.invariant.so_far;
+  few = c.counted-outcome.ensures.few;
 }
 
 pub returns : goal.returns
