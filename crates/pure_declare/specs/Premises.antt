@@ -13,7 +13,7 @@ use Rattle.pure_lookup.specs.Laws.{IsInSession}
 use Rattle.pure_theory.specs.Refusals.{IsLabelAbove}
 use Rattle.pure_declare.specs.Commands.{IsOwnText, fact_base}
 
--- the bases of what a command declares
+-- the bases of what a command declares; a have has none
 abbrev pub bases_of : Command → List (List ℕ)
 bases_of (ClassOf x above) = x ∷ []
 bases_of (TypeDecl x params) = x ∷ []
@@ -27,8 +27,13 @@ bases_of (Lemma x prop haves script) = x ∷ []
 abbrev pub IsNamed : (texts : List (List ℕ)) → List ℕ → Type 0
 IsNamed texts text = (n : ℕ) × HasText texts n text
 
--- In a theory with this text each full name that the command declares is a name's.
+-- Of a lemma with this full name the full name of each have is a name's: the lemma's, a dot and the name that the have is given.
+abbrev pub AreHavesNamed : (texts : List (List ℕ)) → (lemma : List ℕ) → List Have → Type 0
+AreHavesNamed texts lemma haves = Each (λ (h : Have). IsNamed texts (full_text lemma h.name)) haves
+
+-- In a theory with this text each full name that the command declares is a name's, those of a lemma's haves among them.
 abbrev pub HasFullNames : (texts : List (List ℕ)) → (theory : List ℕ) → Command → Type 0
+HasFullNames texts theory (Lemma x prop haves script) = IsNamed texts (full_text theory x) × AreHavesNamed texts (full_text theory x) haves
 HasFullNames texts theory command = Each (λ base. IsNamed texts (full_text theory base)) (bases_of command)
 
 -- The content's own theory has a text, and the full names that the command declares are names'.

@@ -1,5 +1,5 @@
 -- The texts of a session's names.
-use Rattle.std.specs.Prelude.{◌≡◌, ◌⊎◌, ◌↔◌, ℕ, ◌+◌, ◌-◌, Bool, true, false, List, [], ◌∷◌, ◌++◌, length, codes, slice_range, Option, Some, None, if◌then◌else◌}
+use Rattle.std.specs.Prelude.{◌≡◌, ◌⊎◌, ◌↔◌, ℕ, ◌+◌, ◌-◌, Bool, true, false, List, [], ◌∷◌, ◌++◌, length, map, codes, slice_range, Option, Some, None, if◌then◌else◌}
 use Rattle.std.specs.List.Sorted.{IsStrictlySortedBy}
 use Rattle.std.specs.Ordering.{nat_cmp}
 use Rattle.std.specs.Cmp.Lexicographic.{slice_cmp}
@@ -9,7 +9,7 @@ use Rattle.pure_grammar.specs.declared.token.TokenKind.{TokenKind}
 use Rattle.pure_grammar.specs.declared.token.TokenKind.TheVariants as kind
 use Rattle.pure_grammar.specs.Tokens.Token.{tail}
 use Rattle.pure_grammar.specs.Tokens.Spelling.{Spells}
-use Rattle.pure_grammar.specs.Theories.TheoryText.{Command, Class, TypeDecl, Arity, Const, Axiom, Definition, Lemma}
+use Rattle.pure_grammar.specs.Theories.TheoryText.{Have, Command, Class, TypeDecl, Arity, Const, Axiom, Definition, Lemma}
 use Rattle.pure_graph.specs.Order.{Loaded}
 
 -- The spelling that a token gives: an identifier's, and that of a type variable behind its mark. In a quoted text a keyword
@@ -39,7 +39,11 @@ IsSpelled source spelling =
 abbrev pub full_name : (theory name : List ℕ) → List ℕ
 full_name theory name = theory ++ (46 ∷ name)
 
--- the full names that a command declares: that of its name, and of a definition's fact
+-- the full names of the haves of a lemma with this full name: the lemma's, a dot and the name that the have is given
+abbrev pub have_names : (lemma : List ℕ) → List Have → List (List ℕ)
+have_names lemma haves = map (λ (h : Have). full_name lemma h.name) haves
+
+-- the full names that a command declares: that of its name, of a definition's fact, and of a lemma's haves
 abbrev pub full_names : (theory : List ℕ) → Command → List (List ℕ)
 full_names theory (Class name above) = full_name theory name ∷ []
 full_names theory (TypeDecl name params) = full_name theory name ∷ []
@@ -47,7 +51,7 @@ full_names theory (Arity con doms class) = []
 full_names theory (Const name typ) = full_name theory name ∷ []
 full_names theory (Axiom name prop) = full_name theory name ∷ []
 full_names theory (Definition name typ prop) = full_name theory name ∷ full_name theory (name ++ codes "_def") ∷ []
-full_names theory (Lemma name prop haves script) = full_name theory name ∷ []
+full_names theory (Lemma name prop haves script) = full_name theory name ∷ have_names (full_name theory name) haves
 
 -- a text that a loaded theory gives
 abbrev pub IsGiven : Loaded → List ℕ → Type 0

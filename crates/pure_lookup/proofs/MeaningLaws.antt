@@ -1,5 +1,5 @@
 -- What a written name means: one thing at most, what is declared, and what one declaration more changes.
-use Rattle.std.proofs.Common.{◌≡◌, ◌≢◌, ◌⊎◌, ◌↔◌, ℕ, ◌+◌, ◌<◌, ◌≤◌, List, [], ◌∷◌, ◌++◌, refl, ap, sym, ◌∙◌, inl, inr, arith}
+use Rattle.std.proofs.Common.{◌≡◌, ◌≢◌, ◌⊎◌, ◌↔◌, ℕ, ◌+◌, ◌<◌, ◌≤◌, List, [], ◌∷◌, ◌++◌, refl, ap, sym, ◌∙◌, subst, inl, inr, arith}
 use Rattle.std.specs.Prelude.{Option, Some, None, slice_get}
 use Rattle.std.proofs.lemmas.Option.{slice_get_within}
 use Rattle.pure_text.specs.Lists.{IsIn}
@@ -204,12 +204,13 @@ module _ (texts : List (List ℕ)) (Q : Content) (d : Decl) (space : Space) wher
   visible-back p t b (Declared n) old (inr (v, i, place, text, h)) = inr (v, i, place, text, (writable-back n (λ new. old (inr (v, i, text)) n new h.1) h.0, h.1))
   visible-back p t b (Built j) old (inr h) = inr h
 
-  module _ (written : List ℕ) (other : (n : ℕ) (theory base : List ℕ) → Declares d space n → IsTheoryText texts Q theory → HasText texts n (full_text theory base) → (written ≢ full_text theory base) × (written ≢ base)) where
-    old-in_full : (t b : List ℕ) → written ≡ full_text t b → IsTheoryText texts Q t → IsOld (full_text t b)
-    old-in_full t b e theory n new text = (other n t b new theory text).0 e
+  module _ (written : List ℕ)
+      (other : (n : ℕ) (theory base : List ℕ) → Declares d space n → IsTheoryText texts Q theory → (¬ IsIn 46 base) → HasText texts n (full_text theory base) → (written ≢ full_text theory base) × (written ≢ base)) where
+    old-in_full : (t b : List ℕ) → (¬ IsIn 46 b) → written ≡ full_text t b → IsTheoryText texts Q t → IsOld (full_text t b)
+    old-in_full t b clean e theory n new text = (other n t b new theory clean text).0 e
 
-    old-by_base : (t : List ℕ) → IsTheoryText texts Q t → IsOld (full_text t written)
-    old-by_base t theory n new text = (other n t written new theory text).1 refl
+    old-by_base : (¬ IsIn 46 written) → (t : List ℕ) → IsTheoryText texts Q t → IsOld (full_text t written)
+    old-by_base clean t theory n new text = (other n t written new theory clean text).1 refl
 
     meant-more : (m : Meaning) → IsMeant texts Q space written m → IsMeant texts (with_decl Q d) space written m
     meant-more m (inl (dot, h)) = inl (dot, record { place = h.place; theory = h.theory; base = h.base; full = h.full; clean = h.clean; visible = visible-more h.place h.theory h.base m h.visible })
@@ -219,24 +220,51 @@ module _ (texts : List (List ℕ)) (Q : Content) (d : Decl) (space : Space) wher
         place = h.place;
         theory = h.theory;
         visible = visible-more h.place h.theory written m h.visible;
-        last = λ q t n v. h.last q t n (visible-back q t written n (old-by_base t) v);
+        last = λ q t n v. h.last q t n (visible-back q t written n (old-by_base dot t) v);
       },
     )
 
     meant-back : (m : Meaning) → IsMeant texts (with_decl Q d) space written m → IsMeant texts Q space written m
-    meant-back m (inl (dot, h)) = inl (dot, record { place = h.place; theory = h.theory; base = h.base; full = h.full; clean = h.clean; visible = visible-back h.place h.theory h.base m (old-in_full h.theory h.base h.full) h.visible })
+    meant-back m (inl (dot, h)) = inl (dot, record { place = h.place; theory = h.theory; base = h.base; full = h.full; clean = h.clean; visible = visible-back h.place h.theory h.base m (old-in_full h.theory h.base h.clean h.full) h.visible })
     meant-back m (inr (dot, h)) = inr (
       dot,
       record {
         place = h.place;
         theory = h.theory;
-        visible = visible-back h.place h.theory written m (old-by_base h.theory) h.visible;
+        visible = visible-back h.place h.theory written m (old-by_base dot h.theory) h.visible;
         last = λ q t n v. h.last q t n (visible-more q t written n v);
       },
     )
 
     pub meaning_is_kept : (m : Meaning) → IsMeant texts Q space written m ↔ IsMeant texts (with_decl Q d) space written m
     meaning_is_kept m = (meant-more m, meant-back m)
+
+-- A promise has one name.
+promise-names : (n : ℕ) (l : Label) (A : Term) (space : Space) (m : ℕ) → Declares (PromiseDecl n l A) space m → m ≡ n
+promise-names n l A classes m (k, inl e, is) = absurd (cc)
+promise-names n l A classes m (k, inr i, is) = absurd i
+promise-names n l A constructors m (k, inl e) = absurd (cc)
+promise-names n l A constructors m (k, inr i) = absurd i
+promise-names n l A constants m (T, inl e) = absurd (cc)
+promise-names n l A constants m (T, inr i) = absurd i
+promise-names n l A facts m (inl (B, inl e)) = absurd (cc)
+promise-names n l A facts m (inl (B, inr i)) = absurd i
+promise-names n l A facts m (inr (k, B, inl e)) = cc
+promise-names n l A facts m (inr (k, B, inr i)) = absurd i
+
+-- The texts of a content's theories have no dot.
+theory-plain : (texts : List (List ℕ)) (Q : Content) → IsInSession texts Q → (theory : List ℕ) → IsTheoryText texts Q theory → ¬ IsIn 46 theory
+theory-plain texts Q s theory (inl e) m = pure-has_no_dot (rw (← e) m)
+theory-plain texts Q s theory (inr (t, i, text)) m = (s.theories t theory i text).0 m
+
+pub local_changes_none : (texts : List (List ℕ)) (Q : Content) → IsInSession texts Q → (theory lemma base : List ℕ) → (¬ IsIn 46 theory) → (n : ℕ) (l : Label) (A : Term)
+    → HasText texts n (full_text theory (full_text lemma base)) → (space : Space) (written : List ℕ) (m : Meaning) → IsMeant texts Q space written m ↔ IsMeant texts (with_decl Q (PromiseDecl n l A)) space written m
+local_changes_none texts Q s theory lemma base clean n l A full space written m = meaning_is_kept texts Q (PromiseDecl n l A) space written never m
+  where
+    never : (k : ℕ) (other part : List ℕ) → Declares (PromiseDecl n l A) space k → IsTheoryText texts Q other → (¬ IsIn 46 part) → HasText texts k (full_text other part) → (written ≢ full_text other part) × (written ≢ part)
+    never k other part new of plain text =
+        let same : k ≡ n = promise-names n l A space k new in
+        absurd (three_parts theory lemma base other part clean (theory-plain texts Q s other of) plain (Some-inj (sym full ∙ subst (λ (j : ℕ). HasText texts j (full_text other part)) same text)))
 
 -- No theory of a content comes after its own.
 not-after : (Q : Content) (s : (texts : List (List ℕ)) × IsInSession texts Q) (t u : TheoryId) → Q.own ≡ Some t → IsIn u (theories_of Q) → u.index ≤ t.index

@@ -1,8 +1,9 @@
 -- Laws of the look-ups: one answer, what is found, and what one declaration more changes.
 use Rattle.std.specs.Prelude.{◌≡◌, ◌≢◌, ◌⊎◌, ◌≤◌, ◌↔◌, ℕ, List, [], ◌∷◌, ◌++◌, Option, Some}
 use Rattle.pure_text.specs.Lists.{IsIn}
-use Rattle.pure_definitions.specs.Names.{builtin_count, protect_name}
-use Rattle.pure_definitions.specs.Declarations.Decl.{Decl}
+use Rattle.pure_definitions.specs.Names.{Label, builtin_count, protect_name}
+use Rattle.pure_definitions.specs.Terms.Term.{Term}
+use Rattle.pure_definitions.specs.Declarations.Decl.{Decl, PromiseDecl}
 use Rattle.pure_typ.specs.NameTexts.{AreSessionTexts, HasText}
 use Rattle.pure_logic.specs.Content.{TheoryId, Content, IsContent}
 use Rattle.pure_logic.specs.Beginning.{theories_of, HasTheoriesApart}
@@ -54,11 +55,16 @@ Declares d space n = IsDeclaredIn space (d ∷ []) n
 abbrev pub IsTheoryText : (texts : List (List ℕ)) → Content → (theory : List ℕ) → Type 0
 IsTheoryText texts Q theory = (theory ≡ pure_text) ⊎ ((t : TheoryId) × IsIn t (theories_of Q) × HasText texts t.name theory)
 
--- What is declared beside it changes no meaning of a written name, unless a name that is new in its name space, and is the full name of something in a theory of the content, has the written text, or one with that base.
+-- What is declared beside it changes no meaning of a written name, unless a name that is new in its name space, and is the full name of something with a base in a theory of the content, has the written text, or one with that base.
 abbrev pub MeaningIsKept : Type 0
 MeaningIsKept = (texts : List (List ℕ)) (Q : Content) (d : Decl) (space : Space) (written : List ℕ)
-    → ((n : ℕ) (theory base : List ℕ) → Declares d space n → IsTheoryText texts Q theory → HasText texts n (full_text theory base) → (written ≢ full_text theory base) × (written ≢ base))
+    → ((n : ℕ) (theory base : List ℕ) → Declares d space n → IsTheoryText texts Q theory → (¬ IsIn 46 base) → HasText texts n (full_text theory base) → (written ≢ full_text theory base) × (written ≢ base))
     → (m : Meaning) → IsMeant texts Q space written m ↔ IsMeant texts (with_decl Q d) space written m
+
+-- A promise under the full name of a lemma with one part more changes none.
+abbrev pub LocalChangesNone : Type 0
+LocalChangesNone = (texts : List (List ℕ)) (Q : Content) → IsInSession texts Q → (theory lemma base : List ℕ) → (¬ IsIn 46 theory) → (n : ℕ) (l : Label) (A : Term)
+    → HasText texts n (full_text theory (full_text lemma base)) → (space : Space) (written : List ℕ) (m : Meaning) → IsMeant texts Q space written m ↔ IsMeant texts (with_decl Q (PromiseDecl n l A)) space written m
 
 -- A name that is declared in the content's own theory is found by its full name and by its base, whatever stood there before.
 abbrev pub NewIsMeant : Type 0

@@ -1,5 +1,5 @@
 //! What the definitions mean: laws, each carried by the contract of a function that does nothing.
-ghost use Rattle.pure_lookup.specs.Laws.{OneMeaning, OneName, OneFact, OneLocalFact, LocalIsNeverMeant, FoundIsDeclared, ProtectIsNeverFound, MeaningIsKept, NewIsMeant};
+ghost use Rattle.pure_lookup.specs.Laws.{OneMeaning, OneName, OneFact, OneLocalFact, LocalIsNeverMeant, FoundIsDeclared, ProtectIsNeverFound, MeaningIsKept, LocalChangesNone, NewIsMeant};
 
 /// A written name means one thing at most, so each look-up has one answer at most.
 pub fn one_meaning()
@@ -20,8 +20,9 @@ pub fn found_is_declared()
     ensures other { ProtectIsNeverFound }
 {}
 
-/// What a further declaration changes: what is written otherwise keeps its meaning, and its own name is found.
+/// What a further declaration changes: what is written otherwise keeps its meaning, which is all where it is local to a lemma, and its own name is found.
 pub fn further_declaration()
     ensures kept { MeaningIsKept }
+    ensures local { LocalChangesNone }
     ensures new { NewIsMeant }
 {}

@@ -1,5 +1,5 @@
 -- The texts of a session are no texts of names of Pure.
-use Rattle.std.proofs.Common.{◌≡◌, ◌≢◌, ◌==◌, ◌⊎◌, inl, inr, ℕ, zero, suc, ◌+◌, ◌-◌, Bool, true, false, not, List, [], ◌∷◌, ◌++◌, length, refl, sym, ◌∙◌, ap, subst, arith, Some}
+use Rattle.std.proofs.Common.{◌≡◌, ◌≢◌, ◌==◌, ◌⊎◌, inl, inr, ℕ, zero, suc, ◌+◌, ◌-◌, Bool, true, false, not, List, [], ◌∷◌, ◌++◌, length, append_assoc, refl, sym, ◌∙◌, ap, subst, arith, Some}
 use Rattle.std.specs.Prelude.{codes, slice_range}
 use Rattle.std.specs.List.{slice_get}
 use Rattle.std.proofs.lemmas.Bool.{and_parts, both_ways}
@@ -11,13 +11,13 @@ use Rattle.pure_grammar.specs.declared.token.TokenKind.TheVariants.{Word, Ident,
 use Rattle.pure_grammar.specs.Tokens.Bytes.{is_name_byte, is_letter, is_empty, behind, head_is}
 use Rattle.pure_grammar.specs.Tokens.Token.{is_spelling, is_token, is_keyword}
 use Rattle.pure_grammar.specs.Tokens.Spelling.{IsSlice, Spells}
-use Rattle.pure_grammar.specs.Theories.TheoryText.{Command, Class, TypeDecl, Arity, Const, Axiom, Definition, Lemma}
+use Rattle.pure_grammar.specs.Theories.TheoryText.{Have, Command, Class, TypeDecl, Arity, Const, Axiom, Definition, Lemma}
 use Rattle.pure_grammar.proofs.Slices.{tokens_are_slices, quote_has_marks}
 use Rattle.pure_lex.proofs.Firsts.{dot-stops}
 use Rattle.pure_typ.specs.NameTexts.{builtin_texts}
 use Rattle.pure_graph.specs.Order.{Loaded}
 use Rattle.pure_graph.specs.Outcome.{pure_theory}
-use Rattle.pure_graph.specs.SessionNames.{spelling_of, Gives, GivesInside, IsSpelled, full_name, full_names, IsGiven}
+use Rattle.pure_graph.specs.SessionNames.{spelling_of, Gives, GivesInside, IsSpelled, full_name, have_names, full_names, IsGiven}
 use Rattle.pure_graph.proofs.SourceLemmas.{whole-range}
 use Rattle.pure_session.specs.Plain.{ArePlain}
 use Rattle.pure_session.proofs.SetLemmas.{each-slice}
@@ -103,7 +103,12 @@ full-names theory (Arity con doms class) t m = absurd m
 full-names theory (Const name typ) t m = elim m [ inl e ↦ (name, e) | inr n ↦ absurd n ]
 full-names theory (Axiom name prop) t m = elim m [ inl e ↦ (name, e) | inr n ↦ absurd n ]
 full-names theory (Definition name typ prop) t m = elim m [ inl e ↦ (name, e) | inr n ↦ elim n [ inl e ↦ (name ++ codes "_def", e) | inr k ↦ absurd k ] ]
-full-names theory (Lemma name prop haves script) t m = elim m [ inl e ↦ (name, e) | inr n ↦ absurd n ]
+full-names theory (Lemma name prop haves script) t m = elim m [ inl e ↦ (name, e) | inr n ↦ behind haves n ]
+  where
+    behind : (hs : List Have) → IsIn t (have_names (full_name theory name) hs) → (x : List ℕ) × (t ≡ full_name theory x)
+    behind [] n = absurd n
+    behind (h ∷ hs) (inl e) = (full_name name h.name, e ∙ append_assoc theory (46 ∷ name) (46 ∷ h.name))
+    behind (h ∷ hs) (inr n) = behind hs n
 
 -- the texts of names of Pure have its name in front of their dot
 abbrev IsOfPure : List ℕ → Type 0

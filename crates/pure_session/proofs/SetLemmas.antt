@@ -123,6 +123,17 @@ gains-two old now new a b first second =
       λ m. elim m [ inl e ↦ inl (inl e) | inr n ↦ inr n ],
     ))
 
+-- the texts of a list, each put in by itself
+any-text : {A B : Type 0} (f : B → List ℕ) (g : A → B) (t : List ℕ) (xs : List A) → AnyOf (λ x. IsIn t (f (g x) ∷ [])) xs ↔ IsIn t (map f (map g xs))
+any-text f g t [] = (λ m. m, λ m. m)
+any-text f g t (x ∷ xs) = let more = any-text f g t xs in (
+  λ a. elim a [ inl one ↦ elim one [ inl e ↦ inl e | inr n ↦ absurd n ] | inr m ↦ inr (more.0 m) ],
+  λ m. elim m [ inl e ↦ inl (inl e) | inr n ↦ inr (more.1 n) ],
+)
+
+pub gains-texts : {A B : Type 0} (old new : BTreeSet (Vec ℕ Global)) (f : B → List ℕ) (g : A → B) (xs : List A) → Gains old new (λ t. AnyOf (λ x. IsIn t (f (g x) ∷ [])) xs) → Gains old new (λ t. IsIn t (map f (map g xs)))
+gains-texts old new f g xs gains = gains-as old new (λ t. AnyOf (λ x. IsIn t (f (g x) ∷ [])) xs) (λ t. IsIn t (map f (map g xs))) gains (λ t. any-text f g t xs)
+
 -- what is read at a place, whatever is read behind the end
 pub read-any : {A : Type 0} (xs : List A) (i : ℕ) (a b : A) → i < length xs → get_or xs i a ≡ get_or xs i b
 read-any [] i a b h = absurd (omega arith)

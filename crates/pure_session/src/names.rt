@@ -1,14 +1,14 @@
 //! The names of a session.
-ghost use Rattle.std.specs.Prelude.{◌≡◌, ◌≢◌, ◌↔◌, ◌≤◌, ◌∷◌, ◌++◌, ℕ, List, [], codes, slice_get, IfOk, OnOk, Some};
+ghost use Rattle.std.specs.Prelude.{◌≡◌, ◌≢◌, ◌↔◌, ◌≤◌, ◌∷◌, ◌++◌, ℕ, List, [], map, codes, slice_get, IfOk, OnOk, Some};
 ghost use Rattle.std.specs.Thread.{IsSync};
 ghost use Rattle.std.specs.List.Sorted.{IsStrictlySortedBy};
 ghost use Rattle.std.specs.Ordering.{nat_cmp};
 ghost use Rattle.std.specs.Cmp.Lexicographic.{slice_cmp};
 ghost use Rattle.pure_text.specs.Lists.{IsIn, AnyOf};
-ghost use Rattle.pure_script.specs.Seen.{seen_command, seen_commands};
+ghost use Rattle.pure_script.specs.Seen.{seen_have, seen_command, seen_commands};
 ghost use Rattle.pure_typ.specs.NameTexts.{builtin_texts};
 ghost use Rattle.pure_graph.specs.Order as graph;
-ghost use Rattle.pure_graph.specs.SessionNames.{full_name, full_names, IsGiven, AreNames};
+ghost use Rattle.pure_graph.specs.SessionNames.{full_name, have_names, full_names, IsGiven, AreNames};
 ghost use Rattle.pure_session.specs.NameSets.{texts_in, Gains};
 ghost use Rattle.pure_session.specs.Plain.{ArePlain};
 ghost use Rattle.pure_session.specs.Waiting.{seen_loaded, all_loaded};
@@ -17,7 +17,7 @@ use crate::near::Texts;
 use crate::order::Loaded;
 use crate::reason::joined;
 use crate::texts::put_source;
-use pure_script::Command;
+use pure_script::{Command, Have};
 use pure_text::{Text, TextList};
 use pure_typ::Names;
 use std::alloc::{AllocError, Global};
@@ -27,12 +27,20 @@ use std::thread::{Threads, join};
 /// Names are fewer than these.
 const MOST_TEXTS: usize = 2_147_483_648;
 
+/// The full name of what a theory declares, or of what a lemma with a full name states inside.
+fn full_text(alloc: Global, outer: &Text, name: &[u8]) -> Result<Text, AllocError>
+    ensures { IfOk result (λ text. text ≡ full_name outer.now name.now) }
+{
+    let front = joined(alloc, outer.bytes(), b".")?;
+    let text = joined(alloc, front.bytes(), name)?;
+    Ok(text)
+}
+
 /// Puts the full name of what a theory declares into the set.
 fn put_full(alloc: Global, texts: &mut Texts, theory: &Text, name: &[u8]) -> Result<(), AllocError>
     ensures { OnOk result (Gains texts.old texts.new (λ t. IsIn t (full_name theory.now name.now ∷ []))) }
 {
-    let front = joined(alloc, theory.bytes(), b".")?;
-    let text = joined(alloc, front.bytes(), name)?;
+    let text = full_text(alloc, theory, name)?;
     texts.put(alloc, text.bytes())?;
     Ok(())
 }
@@ -52,6 +60,37 @@ fn put_definition(
     Ok(())
 }
 
+/// Puts the full names of a lemma's haves into the set, behind the lemma's own.
+fn put_haves(
+    alloc: Global,
+    texts: &mut Texts,
+    lemma: &Text,
+    haves: &[Have],
+) -> Result<(), AllocError>
+    ensures { OnOk result (Gains texts.old texts.new (λ t. IsIn t (have_names lemma.now (map seen_have haves.now)))) }
+{
+    for inner in haves {
+        put_full(alloc, texts, lemma, inner.name.bytes())?;
+    }
+    Ok(())
+}
+
+/// Puts the full names of a lemma and of its haves into the set.
+fn put_lemma(
+    alloc: Global,
+    texts: &mut Texts,
+    theory: &Text,
+    name: &Text,
+    haves: &[Have],
+) -> Result<(), AllocError>
+    ensures { OnOk result (Gains texts.old texts.new (λ t. IsIn t (full_name theory.now name.now ∷ have_names (full_name theory.now name.now) (map seen_have haves.now)))) }
+{
+    let lemma = full_text(alloc, theory, name.bytes())?;
+    texts.put(alloc, lemma.bytes())?;
+    put_haves(alloc, texts, &lemma, haves)?;
+    Ok(())
+}
+
 /// Puts the full names that a command declares into the set.
 fn put_command(
     alloc: Global,
@@ -68,7 +107,9 @@ fn put_command(
         Command::Const { name, .. } => put_full(alloc, texts, theory, name.bytes()),
         Command::Axiom { name, .. } => put_full(alloc, texts, theory, name.bytes()),
         Command::Definition { name, .. } => put_definition(alloc, texts, theory, name),
-        Command::Lemma { name, .. } => put_full(alloc, texts, theory, name.bytes()),
+        Command::Lemma { name, haves, .. } => {
+            put_lemma(alloc, texts, theory, name, haves.as_slice())
+        }
     }
 }
 

@@ -1,11 +1,11 @@
 -- The names that a theory declares are names of its session.
-use Rattle.std.proofs.Common.{◌≡◌, ℕ, zero, suc, List, [], ◌∷◌, ◌++◌, inl, inr, refl, sym, ap, Some}
+use Rattle.std.proofs.Common.{◌≡◌, ℕ, zero, suc, List, [], ◌∷◌, ◌++◌, map, inl, inr, refl, sym, ap, Some}
 use Rattle.std.specs.Prelude.{slice_get}
 use Rattle.pure_text.specs.Lists.{IsIn}
-use Rattle.pure_text.proofs.ListLaws.{in-append_right}
-use Rattle.pure_grammar.specs.Theories.TheoryText.{Command, Class, TypeDecl, Arity, Const, Axiom, Definition, Lemma}
+use Rattle.pure_text.proofs.ListLaws.{in-append_right, in-map, each_of}
+use Rattle.pure_grammar.specs.Theories.TheoryText.{Have, Command, Class, TypeDecl, Arity, Const, Axiom, Definition, Lemma}
 use Rattle.pure_typ.specs.NameTexts.{builtin_texts}
-use Rattle.pure_graph.specs.SessionNames.{full_names}
+use Rattle.pure_graph.specs.SessionNames.{full_name, full_names}
 use Rattle.pure_method.specs.Declare.Commands.{definition_end}
 use Rattle.pure_method.specs.Declare.Premises.{IsNamed, HasFullNames}
 
@@ -27,4 +27,7 @@ full-named texts theory (Arity con doms class) has = tt
 full-named texts theory (Const name typ) has = (has _ (inl refl), tt)
 full-named texts theory (Axiom name prop) has = (has _ (inl refl), tt)
 full-named texts theory (Definition name typ prop) has = (has _ (inl refl), (has _ (inr (inl refl)), tt))
-full-named texts theory (Lemma name prop haves script) has = (has _ (inl refl), tt)
+full-named texts theory (Lemma name prop haves script) has = (
+  has _ (inl refl),
+  each_of (λ (h : Have). IsNamed texts (full_name (full_name theory name) h.name)) haves (λ h m. has _ (inr (in-map (λ (h : Have). full_name (full_name theory name) h.name) h haves m))),
+)

@@ -27,8 +27,7 @@ returns-in-Axiom c =
 
 pub returns-in-Lemma : goal.returns-in-Lemma
 returns-in-Lemma c =
-    subst (λ x. OnOk c.put_full-in-Lemma.result (Gains c.args.texts.now c.put_full-in-Lemma.new.texts (λ t. IsIn t (full_names c.args.theory.now (seen_command x))))) (sym c.in-Lemma.is)
-    (subst (λ n. OnOk c.put_full-in-Lemma.result (Gains c.args.texts.now c.put_full-in-Lemma.new.texts (λ t. IsIn t (full_name c.args.theory.now n ∷ [])))) c.bytes-in-Lemma.ensures c.put_full-in-Lemma.ensures)
+    subst (λ x. OnOk c.put_lemma.result (Gains c.args.texts.now c.put_lemma.new.texts (λ t. IsIn t (full_names c.args.theory.now (seen_command x))))) (sym c.in-Lemma.is) (rw c.as_slice.ensures.value at c.put_lemma.ensures)
 
 pub returns-in-Definition : goal.returns-in-Definition
 returns-in-Definition c =

@@ -1,4 +1,4 @@
-use Rattle.std.proofs.Common.{ap, ◌∙◌, ◌≡◌, ◌++◌, ◌∷◌, [], append_assoc, subst}
+use Rattle.std.proofs.Common.{◌∙◌, ◌≡◌, subst}
 use Rattle.pure_graph.specs.SessionNames.{full_name}
 use Rattle.pure_session.specs.NameSets.{Gains}
 use Rattle.pure_session.proofs.SetLemmas.{gains-one}
@@ -6,7 +6,5 @@ use Rattle.pure_session.proofs.names.put_full.Goals as goal
 
 pub returns : goal.returns
 returns c =
-    let text : c.bytes-3.result.now ≡ full_name c.args.theory.now c.args.name.now =
-    c.bytes-3.ensures ∙ c.in_ok-text.ensures ∙ ap (λ f. f ++ c.args.name.now) (c.bytes-2.ensures ∙ c.in_ok-front.ensures ∙ ap (λ t. t ++ 46 ∷ []) c.bytes.ensures)
-    ∙ append_assoc c.args.theory.now (46 ∷ []) c.args.name.now in
+    let text : c.bytes.result.now ≡ full_name c.args.theory.now c.args.name.now = c.bytes.ensures ∙ c.in_ok-text.ensures in
     gains-one c.args.texts.now c.put.new.self (full_name c.args.theory.now c.args.name.now) (subst (λ x. Gains c.args.texts.now c.put.new.self (λ t. t ≡ x)) text c.in_ok-put.ensures)
