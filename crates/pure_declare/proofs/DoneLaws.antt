@@ -26,7 +26,7 @@ use Rattle.pure_statements.specs.Rows.{declared_row, refused_row}
 use Rattle.pure_declare.specs.Notes.{Said, Outcome, Change}
 use Rattle.pure_declare.specs.Lookups.{AreWritten, IsWrittenSort}
 use Rattle.pure_declare.specs.Commands.{Place, vocabulary, IsTaken, IsOutcome, IsSaid, IsMiscounted, IsNewClassChange, IsClassChange, IsTypeChange, IsFoundArityChange, IsClassArityChange, IsDomainsArityChange, IsArityChange, IsNewConstChange, IsConstChange, IsAxiomChange, IsBodyChange, IsTermChange, IsTypedChange, IsTreeChange, IsTextChange, IsNewDefinitionChange, IsDefinitionChange, IsLemmaOutcome, declaring, declaring_const, declaring_definition, declaring_axiom, saying, forking}
-use Rattle.pure_declare.specs.Fold.{IsDeclaredAs, outcome_of}
+use Rattle.pure_declare.specs.First.{IsDeclaredAs, outcome_of}
 
 -- An arity whose names are found, and which fits.
 pub record IsFoundArity (P : Place) (a : Arity) : Type 0 where

@@ -3,7 +3,9 @@ use Rattle.std.specs.Prelude.{◌≡◌, ℕ, List, [], ◌∷◌, ◌++◌, len
 use Rattle.pure_text.specs.Lists.{IsIn}
 use Rattle.pure_definitions.specs.Names.{Label}
 use Rattle.pure_grammar.specs.Theories.TheoryText.{Span, Step, Have, Command, Lemma}
+use Rattle.pure_typ.specs.NameTexts.{AreSessionTexts}
 use Rattle.pure_logic.specs.Content.{Content}
+use Rattle.pure_lookup.specs.Laws.{IsInSession}
 use Rattle.pure_declare.specs.Notes.{Note, Fork, Forked}
 use Rattle.pure_declare.specs.First as first
 use Rattle.pure_declare.specs.Fold.{part_label, Declares, AreDeclared}
@@ -25,11 +27,11 @@ pub record IsOwnEnd (label : Label) (haves : List Have) (notes : List Note) (f :
 -- A lemma that is bound where its haves are passed over is bound behind them so.
 abbrev pub LemmasEnd : Type 0
 LemmasEnd = (texts : List (List ℕ)) (source : List ℕ) (label : Label) (Q : Content) (x : List ℕ) (span : Span) (haves : List Have) (script : List Step) (f : Fork) (bound : Content)
-    → IsGood Q → first.Declares texts source label Q (Lemma x span haves script) (Forked f) bound
+    → IsInSession texts Q → IsGood Q → first.Declares texts source (part_label label 0) Q (Lemma x span haves script) (Forked f) bound
     → (notes : List Note) (next : Content) → Declares texts source label Q (Lemma x span haves script) notes next → IsOwnEnd label haves notes f
 
--- Two forks of a theory with the same lemma are of one command.
+-- Where names are those of a session, two forks of a theory with the same lemma are of one command.
 abbrev pub OneCommandOfLemma : Type 0
 OneCommandOfLemma = (texts : List (List ℕ)) (source : List ℕ) (index place : ℕ) (Q : Content) (commands : List Command) (notes : List Note) (last : Content)
-    → AreDeclared texts source index place Q commands notes last
+    → AreSessionTexts texts → AreDeclared texts source index place Q commands notes last
     → (f g : Fork) → IsIn (Forked f) notes → IsIn (Forked g) notes → f.lemma ≡ g.lemma → (f.label.theory ≡ g.label.theory) × (f.label.command ≡ g.label.command)

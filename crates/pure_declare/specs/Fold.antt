@@ -36,7 +36,7 @@ pub record Declares (texts : List (List ℕ)) (source : List ℕ) (label : Label
   pub theory : List ℕ
   pub own : IsOwnText texts Q theory
   pub parts : List Part
-  pub has : HasParts (record { texts = texts; source = source; label = label; theory = theory; content = Q }) command parts
+  pub has : HasParts (record { texts = texts; source = source; label = part_label label 0; theory = theory; content = Q }) command parts
   pub are : AreParts texts source label 0 Q parts notes next
 
 -- The commands of the theory with this index, from the one at this place on, leave these notes, and the last content.
