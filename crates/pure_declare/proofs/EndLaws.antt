@@ -1,5 +1,5 @@
 -- A lemma's own end, and the lemmas of forks.
-use Rattle.std.proofs.Common.{◌≡◌, ◌⊎◌, ℕ, ◌+◌, suc, List, [], ◌∷◌, ◌++◌, map, length, refl, sym, ◌∙◌, ap, subst, inl, inr, arith}
+use Rattle.std.proofs.Common.{◌≡◌, ◌⊎◌, ℕ, ◌+◌, suc, List, [], ◌∷◌, ◌++◌, map, length, append-nil, append_assoc, refl, sym, ◌∙◌, ap, subst, inl, inr, arith}
 use Rattle.std.specs.Prelude.{Result, Ok, Err}
 use Rattle.pure_text.specs.Lists.{IsIn}
 use Rattle.pure_text.proofs.ListLaws.{in_split, in-append_left, in-append_right}
@@ -14,6 +14,7 @@ use Rattle.pure_lookup.specs.Meaning.{facts, IsDeclaredIn, full_text}
 use Rattle.pure_lookup.specs.Laws.{IsInSession}
 use Rattle.pure_lookup.proofs.TextLemmas.{one_name}
 use Rattle.pure_theory.specs.Stage.{with_declarations, with_decl}
+use Rattle.pure_print.specs.declared.row.Row.{Row}
 use Rattle.pure_elab.specs.Vocabulary.{Vocabulary}
 use Rattle.pure_statements.specs.declared.reason.Reason.{Reason}
 use Rattle.pure_statements.specs.declared.stated.Stated.{Stated}
@@ -25,10 +26,10 @@ use Rattle.pure_declare.specs.First.{outcome_of}
 use Rattle.pure_declare.specs.Parts.{Part, Whole, Within, End, binding, IsBoundOutcome, IsHaveOutcome, have_outcome, DeclaresPart}
 use Rattle.pure_declare.specs.Fold.{Stands, HasParts, part_label, AreParts, Declares, AreDeclared}
 use Rattle.pure_declare.specs.Good.{IsGood}
-use Rattle.pure_declare.specs.Ends.{IsOwnEnd, LemmasEnd, OneCommandOfLemma}
+use Rattle.pure_declare.specs.Ends.{promises_of, IsOwnEnd, LemmasEnd, LemmasRefused, OneCommandOfLemma}
 use Rattle.pure_declare.proofs.DoneLaws.{IsChanged, a_class, a_typ, an_arity, a_const, an_axiom, a_definition, IsDone, changes, binds, is_refused, declared-done}
 use Rattle.pure_declare.proofs.OnceSteps.{stated-once}
-use Rattle.pure_declare.proofs.OnceLaws.{own-once}
+use Rattle.pure_declare.proofs.OnceLaws.{own-once, outcome-once, declares_once}
 use Rattle.pure_declare.proofs.PlainLaws.{lemma-bound, one-part, whole-first}
 use Rattle.pure_declare.proofs.PartLaws.{IsBinding, bound-binding, bound-number, bound-lemma_name, bound-span, bound-script, IsPartDone, by_command, by_binding, by_refusal, part-done, fork_of, fork-same, no-fork, next-bound}
 use Rattle.pure_declare.proofs.PartOnceLaws.{no-whole}
@@ -36,6 +37,22 @@ use Rattle.pure_declare.proofs.HaveLaws.{IsBehind, behind-none, behind-next}
 
 ok-stated : (s t : Stated) → ◌≡◌ {A = Result Stated Reason} (Ok s) (Ok t) → s ≡ t
 ok-stated s t e = cc
+
+-- A have adds its promise, or nothing.
+module _ (texts : List (List ℕ)) (source : List ℕ) (label : Label) (R : Content) (x : List ℕ) (have : Have) (note : Note) (next : Content) where
+  answer-adds : (theory : List ℕ) (answer : Result Outcome Reason) → IsHaveOutcome (record { texts = texts; source = source; label = label; theory = theory; content = R }) x have answer
+      → record { note = note; next = next } ≡ have_outcome (record { texts = texts; source = source; label = label; theory = theory; content = R }) x have answer → next ≡ with_declarations R (R.declarations ++ promises_of (note ∷ []))
+  answer-adds theory (Ok p) (n, m, is, its, h) e =
+      let P : Place = record { texts = texts; source = source; label = label; theory = theory; content = R } in
+      let b = bound-binding P n m have.prop have.script p h in
+      let is_bound = e ∙ b.is in
+      ap (λ (q : Outcome). q.next) is_bound ∙ sym (ap (λ (q : Note). with_declarations R (R.declarations ++ promises_of (q ∷ []))) (ap (λ (q : Outcome). q.note) is_bound))
+  answer-adds theory (Err reason) h e =
+      ap (λ (q : Outcome). q.next) e ∙ ap (λ (ds : List Decl). with_declarations R ds) (sym (append-nil R.declarations))
+      ∙ sym (ap (λ (q : Note). with_declarations R (R.declarations ++ promises_of (q ∷ []))) (ap (λ (q : Outcome). q.note) e))
+
+  have-adds : DeclaresPart texts source label R (Within x have) note next → next ≡ with_declarations R (R.declarations ++ promises_of (note ∷ []))
+  have-adds d = answer-adds d.theory d.declares.answer d.declares.is d.declares.comes
 
 -- The fork that the lemma has where its haves are passed over: it is of this name, states this and has this proof.
 record IsForkOf (n : ℕ) (s : Stated) (script : List Step) (f : Fork) : Type 0 where
@@ -53,15 +70,17 @@ module _ (texts : List (List ℕ)) (names : AreSessionTexts texts) (source : Lis
   abbrev left_of : List Have → List Part
   left_of haves = map (Within x) haves ++ End x span script ∷ []
 
-  -- What a lemma's own end leaves.
-  record IsLast (place : ℕ) (note : Note) : Type 0 where
+  -- What a lemma's own end leaves over the content R.
+  record IsLast (place : ℕ) (R : Content) (note : Note) (next : Content) : Type 0 where
     own : Fork
     note_is : note ≡ Forked own
     label_is : own.label ≡ part_label label place
+    content_is : own.content ≡ R
+    next_is : next ≡ with_decl R (PromiseDecl own.name own.label own.prop)
     fork : IsForkOf number s script own
 
   module _ (states : IsStated (vocabulary (at 0 Q theory)) source span (Ok s)) where
-    end-last : (place : ℕ) (R : Content) → IsBehind texts theory number label Q place R → (note : Note) (next : Content) → DeclaresPart texts source (part_label label place) R (End x span script) note next → IsLast place note
+    end-last : (place : ℕ) (R : Content) → IsBehind texts theory number label Q place R → (note : Note) (next : Content) → DeclaresPart texts source (part_label label place) R (End x span script) note next → IsLast place R note next
     end-last place R b note next d =
         let same_text : d.theory ≡ theory = own-once texts R d.theory theory d.own b.own in
         let h = subst (λ (t : List ℕ). (n : ℕ) × HasText texts n (full_text t x) × IsBoundOutcome (at place R t) n n span script (Ok (record { note = note; next = next }))) same_text d.declares in
@@ -77,6 +96,8 @@ module _ (texts : List (List ℕ)) (names : AreSessionTexts texts) (source : Lis
           own = fork_of texts source (part_label label place) R note next theory c;
           note_is = ap (λ (q : Outcome). q.note) c.is;
           label_is = refl;
+          content_is = refl;
+          next_is = next-bound texts source (part_label label place) R note next theory c;
           fork = record {
             name = name_is;
             lemma = lemma_is;
@@ -86,48 +107,64 @@ module _ (texts : List (List ℕ)) (names : AreSessionTexts texts) (source : Lis
           };
         }
 
-    -- A chain of haves and an own end: the last note is that of the end, and there is one for each have before it.
-    record IsEnded (haves : List Have) (place : ℕ) (notes : List Note) : Type 0 where
+    -- A chain of haves and an own end: the last note is that of the end, over the content with the promises of those before it, and there is one for each have.
+    record IsEnded (haves : List Have) (place : ℕ) (R : Content) (notes : List Note) (next : Content) : Type 0 where
       front : List Note
       last : Note
       notes_are : notes ≡ front ++ last ∷ []
       count : length front ≡ length haves
-      is_last : IsLast (place + length haves) last
+      is_last : IsLast (place + length haves) (with_declarations R (R.declarations ++ promises_of front)) last next
 
-    chain-ends : (haves : List Have) (place : ℕ) (R : Content) → IsBehind texts theory number label Q place R → (notes : List Note) (next : Content) → AreParts texts source label place R (left_of haves) notes next → IsEnded haves place notes
+    -- the content with the promises of one note, and then of more
+    promised-on : (R then : Content) (note : Note) (front : List Note) → then ≡ with_declarations R (R.declarations ++ promises_of (note ∷ []))
+        → with_declarations then (then.declarations ++ promises_of front) ≡ with_declarations R (R.declarations ++ promises_of (note ∷ front))
+    promised-on R then (Said row) front e =
+        ap (λ (S : Content). with_declarations S (S.declarations ++ promises_of front)) e ∙ ap (λ (ds : List Decl). with_declarations R (ds ++ promises_of front)) (append-nil R.declarations)
+    promised-on R then (Forked f) front e =
+        ap (λ (S : Content). with_declarations S (S.declarations ++ promises_of front)) e
+        ∙ ap (λ (ds : List Decl). with_declarations R ds) (append_assoc R.declarations (PromiseDecl f.name f.label f.prop ∷ []) (promises_of front))
+
+    chain-ends : (haves : List Have) (place : ℕ) (R : Content) → IsBehind texts theory number label Q place R → (notes : List Note) (next : Content) → AreParts texts source label place R (left_of haves) notes next → IsEnded haves place R notes next
     chain-ends [] place R b notes next (note, then, rest, d, (none, last), all) =
         let same : place ≡ place + 0 = omega arith in
+        let same_content : R ≡ with_declarations R (R.declarations ++ []) = ap (λ (ds : List Decl). with_declarations R ds) (sym (append-nil R.declarations)) in
+        let ends : IsLast place R note next = subst (λ (S : Content). IsLast place R note S) (sym last) (end-last place R b note then d) in
         record {
           front = [];
           last = note;
           notes_are = all ∙ ap (λ (l : List Note). note ∷ l) none;
           count = refl;
-          is_last = subst (λ (p : ℕ). IsLast p note) same (end-last place R b note then d);
+          is_last = subst (λ (p : ℕ). IsLast p (with_declarations R (R.declarations ++ [])) note next) same (subst (λ (S : Content). IsLast place S note next) same_content ends);
         }
     chain-ends (have ∷ haves) place R b notes next (note, then, rest, d, h, all) =
         let on = chain-ends haves (place + 1) then (behind-next texts theory label Q x number named source place R have note then b d) rest next h in
         let same : place + 1 + length haves ≡ place + suc (length haves) = omega arith in
+        let content_is = promised-on R then note on.front (have-adds texts source (part_label label place) R x have note then d) in
         record {
           front = note ∷ on.front;
           last = on.last;
           notes_are = all ∙ ap (λ (l : List Note). note ∷ l) on.notes_are;
           count = ap suc on.count;
-          is_last = subst (λ (p : ℕ). IsLast p on.last) same on.is_last;
+          is_last = subst (λ (p : ℕ). IsLast p (with_declarations R (R.declarations ++ promises_of (note ∷ on.front))) on.last next) same (subst (λ (S : Content). IsLast (place + 1 + length haves) S on.last next) content_is on.is_last);
         }
 
-    own-end : (haves : List Have) (notes : List Note) (f : Fork) → IsForkOf number s script f → IsEnded haves 0 notes → IsOwnEnd label haves notes f
-    own-end haves notes f is e = record {
-      front = e.front;
-      own = e.is_last.own;
-      notes_are = e.notes_are ∙ ap (λ (n : Note). e.front ++ n ∷ []) e.is_last.note_is;
-      count = e.count;
-      label_is = e.is_last.label_is;
-      name = e.is_last.fork.name ∙ sym is.name;
-      lemma = e.is_last.fork.lemma ∙ sym is.lemma;
-      fixed = e.is_last.fork.fixed ∙ sym is.fixed;
-      prop = e.is_last.fork.prop ∙ sym is.prop;
-      script = e.is_last.fork.proof ∙ sym is.proof;
-    }
+    own-end : (haves : List Have) (notes : List Note) (next : Content) (f : Fork) → IsForkOf number s script f → ((g : Fork) → IsIn (Forked g) notes → g.lemma ≡ number) → IsEnded haves 0 Q notes next → IsOwnEnd label Q haves f notes next
+    own-end haves notes next f is each e =
+        let l = e.is_last in
+        record {
+          front = e.front;
+          own = l.own;
+          notes_are = e.notes_are ∙ ap (λ (n : Note). e.front ++ n ∷ []) l.note_is;
+          count = e.count;
+          label_is = l.label_is;
+          name = l.fork.name ∙ sym is.name;
+          fixed = l.fork.fixed ∙ sym is.fixed;
+          prop = l.fork.prop ∙ sym is.prop;
+          script = l.fork.proof ∙ sym is.proof;
+          content = l.content_is;
+          next_is = l.next_is ∙ ap (λ (S : Content). with_decl S (PromiseDecl l.own.name l.own.label l.own.prop)) (sym l.content_is);
+          lemma = λ g m. each g m ∙ sym l.fork.name;
+        }
 
 -- What is bound where haves are passed over.
 record IsFirstBound (P : Place) (x : List ℕ) (span : Span) (haves : List Have) (script : List Step) (f : Fork) : Type 0 where
@@ -164,26 +201,6 @@ module _ (P : Place) (x : List ℕ) (span : Span) (haves : List Have) (script : 
       that-fork f g e = cc
   first-bound (Err reason) h e = absurd (cc)
 
-module _ (texts : List (List ℕ)) (source : List ℕ) (label : Label) (Q : Content) (session : IsInSession texts Q) (g : IsGood Q) (theory : List ℕ) (own : IsOwnText texts Q theory)
-    (x : List ℕ) (span : Span) (haves : List Have) (script : List Step) (f : Fork)
-    (w : IsFirstBound (record { texts = texts; source = source; label = part_label label 0; theory = theory; content = Q }) x span haves script f) where
-  parted-end : (parts : List Part) → HasParts (record { texts = texts; source = source; label = part_label label 0; theory = theory; content = Q }) (Lemma x span haves script) parts
-      → (notes : List Note) (next : Content) → AreParts texts source label 0 Q parts notes next → IsOwnEnd label haves notes f
-  parted-end parts (inl (stands, e)) notes next are =
-      own-end texts session.names source theory label Q g.antisymmetric x w.number w.named span script w.stated w.states haves notes f w.fork
-      (chain-ends texts session.names source theory label Q g.antisymmetric x w.number w.named span script w.stated w.states haves 0 Q (behind-none texts theory label Q x w.number w.named own) notes next
-      (subst (λ (ps : List Part). AreParts texts source label 0 Q ps notes next) e are))
-  parted-end parts (inr e) notes next are =
-      absurd (no-whole texts source label Q session g theory own x span haves script w.stands notes next (subst (λ (ps : List Part). AreParts texts source label 0 Q ps notes next) e are))
-
-pub lemmas_end : LemmasEnd
-lemmas_end texts source label Q x span haves script f bound session g h notes next d =
-    let P : Place = record { texts = texts; source = source; label = part_label label 0; theory = h.theory; content = Q } in
-    let w = first-bound P x span haves script f bound h.declares.answer h.declares.is h.declares.comes in
-    let same : d.theory ≡ h.theory = own-once texts Q d.theory h.theory d.own h.own in
-    parted-end texts source label Q session g h.theory h.own x span haves script f w d.parts
-    (subst (λ (t : List ℕ). HasParts (record { texts = texts; source = source; label = part_label label 0; theory = t; content = Q }) (Lemma x span haves script) d.parts) same d.has) notes next d.are
-
 -- What is declared stays so in a content with more.
 declared-kept : (Q R : Content) → IsBelow Q R → (n : ℕ) → IsDeclaredIn facts Q.declarations n → IsDeclaredIn facts R.declarations n
 declared-kept Q R below n (inl (A, m)) = inl (A, below (AxiomDecl n A) m)
@@ -213,7 +230,7 @@ module _ (texts : List (List ℕ)) (source : List ℕ) where
       by (by_command command d row e) =
           done-below (record { texts = texts; source = source; label = label; theory = d.theory; content = Q }) command (record { note = note; next = next })
           (declared-done (record { texts = texts; source = source; label = label; theory = d.theory; content = Q }) command (record { note = note; next = next }) d.declares)
-      by (by_binding theory b p) = more-below Q next (PromiseDecl b.number label b.stated.prop ∷ []) (next-bound texts source label Q note next theory b)
+      by (by_binding theory own b p named) = more-below Q next (PromiseDecl b.number label b.stated.prop ∷ []) (next-bound texts source label Q note next theory b)
       by (by_refusal row e same) = subst (λ (R : Content). IsBelow Q R) (sym same) (λ d m. m)
 
   parts-below : (label : Label) (parts : List Part) (place : ℕ) (Q : Content) (notes : List Note) (last : Content) → AreParts texts source label place Q parts notes last → IsBelow Q last
@@ -358,6 +375,63 @@ module _ (texts : List (List ℕ)) (source : List ℕ) where
             | inr later ↦ fold-one (place + 1) next cs more last h f g second later same
           ]
         ]
+
+module _ (texts : List (List ℕ)) (source : List ℕ) (label : Label) (Q : Content) (session : IsInSession texts Q) (g : IsGood Q) (theory : List ℕ) (own : IsOwnText texts Q theory)
+    (x : List ℕ) (span : Span) (haves : List Have) (script : List Step) (f : Fork)
+    (w : IsFirstBound (record { texts = texts; source = source; label = part_label label 0; theory = theory; content = Q }) x span haves script f) where
+  parted-end : (parts : List Part) → HasParts (record { texts = texts; source = source; label = part_label label 0; theory = theory; content = Q }) (Lemma x span haves script) parts
+      → (notes : List Note) (next : Content) → AreParts texts source label 0 Q parts notes next → IsOwnEnd label Q haves f notes next
+  parted-end parts (inl (stands, e)) notes next are =
+      let chain = subst (λ (ps : List Part). AreParts texts source label 0 Q ps notes next) e are in
+      let behind = behind-none texts theory label Q x w.number w.named own in
+      let each = (chain-here texts source session.names theory label Q x w.number w.named span script haves 0 Q behind notes next chain).0 in
+      own-end texts session.names source theory label Q g.antisymmetric x w.number w.named span script w.stated w.states haves notes next f w.fork (λ h m. (each h m).0)
+      (chain-ends texts session.names source theory label Q g.antisymmetric x w.number w.named span script w.stated w.states haves 0 Q behind notes next chain)
+  parted-end parts (inr e) notes next are =
+      absurd (no-whole texts source label Q session g theory own x span haves script w.stands notes next (subst (λ (ps : List Part). AreParts texts source label 0 Q ps notes next) e are))
+
+pub lemmas_end : LemmasEnd
+lemmas_end texts source label Q x span haves script f bound session g h notes next d =
+    let P : Place = record { texts = texts; source = source; label = part_label label 0; theory = h.theory; content = Q } in
+    let w = first-bound P x span haves script f bound h.declares.answer h.declares.is h.declares.comes in
+    let same : d.theory ≡ h.theory = own-once texts Q d.theory h.theory d.own h.own in
+    parted-end texts source label Q session g h.theory h.own x span haves script f w d.parts
+    (subst (λ (t : List ℕ). HasParts (record { texts = texts; source = source; label = part_label label 0; theory = t; content = Q }) (Lemma x span haves script) d.parts) same d.has) notes next d.are
+
+-- A lemma that is refused where its haves are passed over.
+module _ (texts : List (List ℕ)) (source : List ℕ) (label : Label) (Q : Content) (session : IsInSession texts Q) (g : IsGood Q) (theory : List ℕ) (own : IsOwnText texts Q theory)
+    (x : List ℕ) (span : Span) (haves : List Have) (script : List Step) (row : Row) (after : Content) where
+  abbrev start : Place
+  start = record { texts = texts; source = source; label = part_label label 0; theory = theory; content = Q }
+
+  abbrev lemma : Command
+  lemma = Lemma x span haves script
+
+  first-refused : (answer : Result Outcome Reason) → IsOutcome start lemma answer → record { note = Said row; next = after } ≡ outcome_of start lemma answer → (reason : Reason) × IsOutcome start lemma (Err reason) × (record { note = Said row; next = after } ≡ outcome_of start lemma (Err reason))
+  first-refused (Ok p) (n, is, h) e =
+      let bound = lemma-bound start n span script (Ok p) h in
+      let b = bound-binding start n n span script p bound in
+      let none : Said row ≡ (binding start b.number b.lemma b.script b.stated).note = ap (λ (q : Outcome). q.note) (e ∙ b.is) in
+      absurd (cc)
+  first-refused (Err reason) h e = (reason, h, e)
+
+  parted-refused : (first.Declares texts source (part_label label 0) Q lemma (Said row) after) → (reason : Reason) → IsOutcome start lemma (Err reason) → record { note = Said row; next = after } ≡ outcome_of start lemma (Err reason)
+      → (parts : List Part) → HasParts start lemma parts → (notes : List Note) (next : Content) → AreParts texts source label 0 Q parts notes next → (notes ≡ Said row ∷ []) × (next ≡ Q)
+  parted-refused d reason h e parts (inl ((p, k), same)) notes next are = absurd (ok-refused p reason (outcome-once start g.antisymmetric session lemma (Ok p) (Err reason) k h))
+    where
+      ok-refused : (p : Outcome) (r : Reason) → ◌≡◌ {A = Result Outcome Reason} (Ok p) (Err r) → ⊥
+      ok-refused p r same = absurd (cc)
+  parted-refused d reason h e parts (inr same) notes next are =
+      let one = one-part texts source label Q (Whole lemma) notes next (subst (λ (ps : List Part). AreParts texts source label 0 Q ps notes next) same are) in
+      let both = declares_once texts source (part_label label 0) Q lemma one.0 (Said row) next after session g (whole-first texts source (part_label label 0) Q lemma one.0 next one.1) d in
+      (one.2 ∙ ap (λ (n : Note). n ∷ []) both.0, both.1 ∙ ap (λ (q : Outcome). q.next) e)
+
+pub lemmas_refused : LemmasRefused
+lemmas_refused texts source label Q x span haves script row after session g h notes next d =
+    let w = first-refused texts source label Q session g h.theory h.own x span haves script row after h.declares.answer h.declares.is h.declares.comes in
+    let same : d.theory ≡ h.theory = own-once texts Q d.theory h.theory d.own h.own in
+    parted-refused texts source label Q session g h.theory h.own x span haves script row after h w.0 w.1 w.2 d.parts
+    (subst (λ (t : List ℕ). HasParts (record { texts = texts; source = source; label = part_label label 0; theory = t; content = Q }) (Lemma x span haves script) d.parts) same d.has) notes next d.are
 
 pub one_command_of_lemma : OneCommandOfLemma
 one_command_of_lemma texts source index place Q commands notes last names h f g m n same = fold-one texts source names index place Q commands notes last h f g m n same

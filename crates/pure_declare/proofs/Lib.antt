@@ -32,3 +32,5 @@ pub mod PlainLaws
 pub mod PartOnceLaws
 pub mod PartSomeLaws
 pub mod EndLaws
+pub mod HaveSteps
+pub mod DeclareSteps

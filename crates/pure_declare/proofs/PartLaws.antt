@@ -7,8 +7,9 @@ use Rattle.pure_definitions.specs.Names.{Label}
 use Rattle.pure_definitions.specs.Terms.Term.{Term}
 use Rattle.pure_definitions.specs.Declarations.Decl.{Decl, PromiseDecl}
 use Rattle.pure_grammar.specs.Theories.TheoryText.{Span, Step, Have, Command}
+use Rattle.pure_typ.specs.NameTexts.{HasText}
 use Rattle.pure_logic.specs.Content.{Content}
-use Rattle.pure_lookup.specs.Meaning.{facts}
+use Rattle.pure_lookup.specs.Meaning.{facts, full_text}
 use Rattle.pure_lookup.specs.Laws.{IsInSession}
 use Rattle.pure_theory.specs.Stage.{with_declarations, with_decl}
 use Rattle.pure_print.specs.declared.row.Row.{Row}
@@ -16,12 +17,12 @@ use Rattle.pure_statements.specs.declared.reason.Reason.{Reason}
 use Rattle.pure_statements.specs.declared.stated.Stated.{Stated}
 use Rattle.pure_statements.specs.Chain.{Gives, refuses, goes_on, holds, passes}
 use Rattle.pure_statements.specs.Statement.{IsStated}
-use Rattle.pure_statements.specs.Rows.{refused_have}
+use Rattle.pure_statements.specs.Rows.{have_text, refused_have}
 use Rattle.pure_declare.specs.Notes.{Note, Said, Forked, Fork, Outcome}
-use Rattle.pure_declare.specs.Commands.{Place, IsNameOf, IsTaken, vocabulary}
+use Rattle.pure_declare.specs.Commands.{Place, IsOwnText, IsNameOf, IsTaken, vocabulary}
 use Rattle.pure_declare.specs.First as first
 use Rattle.pure_declare.specs.Parts.{Part, Whole, Within, End, binding, IsBoundOutcome, IsNameOfHave, IsHaveOutcome, have_outcome, IsPartDeclaredAs, DeclaresPart}
-use Rattle.pure_declare.specs.Bound.{IsProvedBy, IsBoundIn, PartForksBound}
+use Rattle.pure_declare.specs.Bound.{IsProvedBy, IsNamedBy, IsBoundIn, PartForksBound}
 use Rattle.pure_declare.specs.Grown.{IsGrown, PartsGrow}
 use Rattle.pure_declare.specs.Good.{IsGood, PartsGood}
 use Rattle.pure_declare.specs.Promised.{PartsPromise, PartForksPromised}
@@ -79,11 +80,24 @@ module _ (P : Place) where
   bound-lemma_name n m span script o (passes new (refuses reason h e)) = absurd (cc)
   bound-lemma_name n m span script o (passes new (goes_on s h e)) = refl
 
+  -- What is told of the names is told of those of the binding.
+  pub bound-names : (Is : ℕ → ℕ → Type 0) (n m : ℕ) (span : Span) (script : List Step) (o : Outcome) (h : IsBoundOutcome P n m span script (Ok o)) → Is n m → Is (bound-binding n m span script o h).number (bound-binding n m span script o h).lemma
+  unfolding IsBoundOutcome
+  bound-names Is n m span script o (holds h e) is = absurd (cc)
+  bound-names Is n m span script o (passes new (refuses reason h e)) is = absurd (cc)
+  bound-names Is n m span script o (passes new (goes_on s h e)) is = is
+
+-- The numbers are those of the names that the part binds: its own and its lemma's.
+abbrev pub AreNames : (texts : List (List ℕ)) → (theory : List ℕ) → Part → (number lemma : ℕ) → Type 0
+AreNames texts theory (Whole command) n m = ⊥
+AreNames texts theory (Within lemma have) n m = HasText texts n (have_text theory lemma have.name) × HasText texts m (full_text theory lemma)
+AreNames texts theory (End lemma prop script) n m = HasText texts n (full_text theory lemma) × (m ≡ n)
+
 -- A part leaves what its command does, or binds, or is refused.
 pub data IsPartDone (texts : List (List ℕ)) (source : List ℕ) (label : Label) (Q : Content) (part : Part) (note : Note) (next : Content) : Type 0 where
   by_command : (command : Command) → first.Declares texts source label Q command note next → (row : Row) → note ≡ Said row → IsPartDone texts source label Q part note next
-  by_binding : (theory : List ℕ) → (b : IsBinding (record { texts = texts; source = source; label = label; theory = theory; content = Q }) (record { note = note; next = next })) → IsProvedBy part b.script
-      → IsPartDone texts source label Q part note next
+  by_binding : (theory : List ℕ) → IsOwnText texts Q theory → (b : IsBinding (record { texts = texts; source = source; label = label; theory = theory; content = Q }) (record { note = note; next = next })) → IsProvedBy part b.script
+      → AreNames texts theory part b.number b.lemma → IsPartDone texts source label Q part note next
   by_refusal : (row : Row) → note ≡ Said row → next ≡ Q → IsPartDone texts source label Q part note next
 
 module _ (texts : List (List ℕ)) (source : List ℕ) (label : Label) (Q : Content) (note : Note) (next : Content) where
@@ -93,20 +107,23 @@ module _ (texts : List (List ℕ)) (source : List ℕ) (label : Label) (Q : Cont
   abbrev outcome : Outcome
   outcome = record { note = note; next = next }
 
-  have-done : (theory lemma : List ℕ) (have : Have) (answer : Result Outcome Reason) → IsHaveOutcome (place theory) lemma have answer → outcome ≡ have_outcome (place theory) lemma have answer
+  have-done : (theory lemma : List ℕ) → IsOwnText texts Q theory → (have : Have) (answer : Result Outcome Reason) → IsHaveOutcome (place theory) lemma have answer → outcome ≡ have_outcome (place theory) lemma have answer
       → IsPartDone texts source label Q (Within lemma have) note next
-  have-done theory lemma have (Ok p) (n, m, is, its, h) e =
+  have-done theory lemma own have (Ok p) (n, m, is, its, h) e =
       let here : IsBoundOutcome (place theory) n m have.prop have.script (Ok outcome) = subst (λ (q : Outcome). IsBoundOutcome (place theory) n m have.prop have.script (Ok q)) (sym e) h in
-      by_binding theory (bound-binding (place theory) n m have.prop have.script outcome here) (bound-script (place theory) n m have.prop have.script outcome here)
-  have-done theory lemma have (Err reason) h e =
+      by_binding theory own (bound-binding (place theory) n m have.prop have.script outcome here) (bound-script (place theory) n m have.prop have.script outcome here)
+      (bound-names (place theory) (AreNames texts theory (Within lemma have)) n m have.prop have.script outcome here (is, its))
+  have-done theory lemma own have (Err reason) h e =
       by_refusal (refused_have texts source theory lemma have.name reason) (ap (λ (q : Outcome). q.note) e) (ap (λ (q : Outcome). q.next) e)
 
   pub part-done : (part : Part) → DeclaresPart texts source label Q part note next → IsPartDone texts source label Q part note next
   part-done (Whole command) h = by_command command (record { theory = h.theory; own = h.own; declares = h.declares.0 }) h.declares.1.0 h.declares.1.1
-  part-done (Within lemma have) h = have-done h.theory lemma have h.declares.answer h.declares.is h.declares.comes
+  part-done (Within lemma have) h = have-done h.theory lemma h.own have h.declares.answer h.declares.is h.declares.comes
   part-done (End lemma prop script) h =
+      let n = h.declares.0 in
       let bound = h.declares.2 in
-      by_binding h.theory (bound-binding (place h.theory) h.declares.0 h.declares.0 prop script outcome bound) (bound-script (place h.theory) h.declares.0 h.declares.0 prop script outcome bound)
+      by_binding h.theory h.own (bound-binding (place h.theory) n n prop script outcome bound) (bound-script (place h.theory) n n prop script outcome bound)
+      (bound-names (place h.theory) (AreNames texts h.theory (End lemma prop script)) n n prop script outcome bound (h.declares.1, refl))
 
   -- the fork of what is bound
   abbrev pub fork_of : (theory : List ℕ) → IsBinding (place theory) outcome → Fork
@@ -126,7 +143,7 @@ parts_grow texts source label Q part note next s content above labels h = grows 
   where
     grows : IsPartDone texts source label Q part note next → IsGrown label Q next
     grows (by_command command d row e) = declares_grown texts source label Q command note next s content above labels d
-    grows (by_binding theory b p) =
+    grows (by_binding theory own b p names) =
         let d : Decl = PromiseDecl b.number label b.stated.prop in
         grown-by label Q above labels (d ∷ []) (one-may Q.declarations label d refl) next (next-bound texts source label Q note next theory b)
     grows (by_refusal row e same) = subst (λ (R : Content). IsGrown label Q R) (sym same) (same-grown label Q above labels)
@@ -136,7 +153,7 @@ parts_in_session texts source label Q part note next s h = stays (part-done text
   where
     stays : IsPartDone texts source label Q part note next → IsInSession texts next
     stays (by_command command d row e) = declares_in_session texts source label Q command note next s d
-    stays (by_binding theory b p) = subst (IsInSession texts) (sym (next-bound texts source label Q note next theory b)) (session-kept texts Q (Q.declarations ++ PromiseDecl b.number label b.stated.prop ∷ []) s)
+    stays (by_binding theory own b p names) = subst (IsInSession texts) (sym (next-bound texts source label Q note next theory b)) (session-kept texts Q (Q.declarations ++ PromiseDecl b.number label b.stated.prop ∷ []) s)
     stays (by_refusal row e same) = subst (IsInSession texts) (sym same) s
 
 pub parts_good : PartsGood
@@ -144,7 +161,7 @@ parts_good texts source label Q part note next s g labels h = stays (part-done t
   where
     stays : IsPartDone texts source label Q part note next → IsGood next
     stays (by_command command d row e) = declares_good texts source label Q command note next s g labels d
-    stays (by_binding theory b p) = subst IsGood (sym (next-bound texts source label Q note next theory b)) (promise-good (place texts source label Q note next theory) s g labels b.number b.span b.stated b.new b.states)
+    stays (by_binding theory own b p names) = subst IsGood (sym (next-bound texts source label Q note next theory b)) (promise-good (place texts source label Q note next theory) s g labels b.number b.span b.stated b.new b.states)
     stays (by_refusal row e same) = subst IsGood (sym same) g
 
 pub parts_tidy : PartsTidy
@@ -152,7 +169,7 @@ parts_tidy texts source label Q part note next tidy h = stays (part-done texts s
   where
     stays : IsPartDone texts source label Q part note next → IsTidy next
     stays (by_command command d row e) = declares_tidy texts source label Q command note next tidy d
-    stays (by_binding theory b p) =
+    stays (by_binding theory own b p names) =
         let fact = tidy-fact b.stated (stated-tidy (vocabulary (place texts source label Q note next theory)) source b.span b.stated b.states) in
         subst IsTidy (sym (next-bound texts source label Q note next theory b)) (each-append IsTidyDecl Q.declarations (PromiseDecl b.number label b.stated.prop ∷ []) tidy (fact, tt))
     stays (by_refusal row e same) = subst IsTidy (sym same) tidy
@@ -162,7 +179,7 @@ part_forks_tidy texts source label Q part f next h = tidy (part-done texts sourc
   where
     tidy : IsPartDone texts source label Q part (Forked f) next → IsTidyFork f
     tidy (by_command command d row e) = absurd (no-fork texts source label Q (Forked f) next row f e refl)
-    tidy (by_binding theory b p) =
+    tidy (by_binding theory own b p names) =
         let s = stated-tidy (vocabulary (place texts source label Q (Forked f) next theory)) source b.span b.stated b.states in
         subst IsTidyFork (fork-same texts source label Q (Forked f) next theory b f refl) (record { normal = s.term.normal; closed = s.term.closed; fixed = s.term.fixed; prop = s.prop })
     tidy (by_refusal row e same) = absurd (no-fork texts source label Q (Forked f) next row f e refl)
@@ -172,7 +189,7 @@ part_forks_promised texts source label Q part f next h = promised (part-done tex
   where
     promised : IsPartDone texts source label Q part (Forked f) next → next ≡ with_decl Q (PromiseDecl f.name f.label f.prop)
     promised (by_command command d row e) = absurd (no-fork texts source label Q (Forked f) next row f e refl)
-    promised (by_binding theory b p) =
+    promised (by_binding theory own b p names) =
         next-bound texts source label Q (Forked f) next theory b
         ∙ ap (λ (g : Fork). with_decl Q (PromiseDecl g.name g.label g.prop)) (fork-same texts source label Q (Forked f) next theory b f refl)
     promised (by_refusal row e same) = absurd (no-fork texts source label Q (Forked f) next row f e refl)
@@ -180,9 +197,17 @@ part_forks_promised texts source label Q part f next h = promised (part-done tex
 pub part_forks_bound : PartForksBound
 part_forks_bound texts source label Q part f next session sound h = bound (part-done texts source label Q (Forked f) next part h)
   where
-    bound : IsPartDone texts source label Q part (Forked f) next → IsBoundIn label Q part f
+    named : (theory : List ℕ) (p : Part) (g : Fork) → AreNames texts theory p g.name g.lemma → IsNamedBy texts theory p g
+    named theory (Whole command) g is = is
+    named theory (Within lemma have) g is = is
+    named theory (End lemma prop script) g is = is
+
+    bound : IsPartDone texts source label Q part (Forked f) next → IsBoundIn texts label Q part f
     bound (by_command command d row e) = absurd (no-fork texts source label Q (Forked f) next row f e refl)
-    bound (by_binding theory b p) = subst (IsBoundIn label Q part) (fork-same texts source label Q (Forked f) next theory b f refl) (record {
+    bound (by_binding theory own b p names) = subst (IsBoundIn texts label Q part) (fork-same texts source label Q (Forked f) next theory b f refl) (record {
+      theory = theory;
+      own = own;
+      named = named theory part (fork_of texts source label Q (Forked f) next theory b) names;
       label_is = refl;
       content_is = refl;
       proposition = (stated-of (place texts source label Q (Forked f) next theory) session sound source b.span b.stated b.states).proposition;
@@ -220,7 +245,7 @@ module _ (texts : List (List ℕ)) (source : List ℕ) (label : Label) (Q : Cont
 
   promise-comes : (part : Part) → IsPartDone texts source label Q part note next → IsIn (PromiseDecl x l A) next.declarations → ComesFrom
   promise-comes part (by_command command d row e) m = forked-none row e (declares_promises texts source label Q command note next d x l A m)
-  promise-comes part (by_binding theory b p) m =
+  promise-comes part (by_binding theory own b p names) m =
       let here : IsIn (PromiseDecl x l A) (Q.declarations ++ PromiseDecl b.number label b.stated.prop ∷ []) =
       subst (λ (R : Content). IsIn (PromiseDecl x l A) R.declarations) (next-bound texts source label Q note next theory b) m in
       elim (in_split (PromiseDecl x l A) Q.declarations (PromiseDecl b.number label b.stated.prop ∷ []) here) [ inl old ↦ inl old | inr new ↦ new-one theory b new ]

@@ -1,4 +1,4 @@
--- What commands leave where none has haves: each one note.
+-- What commands leave where haves are passed over: each one note.
 use Rattle.std.specs.Prelude.{◌≡◌, ℕ, ◌+◌, List, [], ◌∷◌, Result, Ok, Err}
 use Rattle.pure_definitions.specs.Names.{Label}
 use Rattle.pure_grammar.specs.Theories.TheoryText.{Command}

@@ -42,14 +42,18 @@ IsBoundOutcome P n m span script =
 abbrev pub IsNameOfHave : Place → (lemma name : List ℕ) → ℕ → Type 0
 IsNameOfHave P lemma name n = HasText P.texts n (have_text P.theory lemma name)
 
--- What a have does, or why it is refused. Its full name is taken where an earlier have of the same lemma stands under its name.
+-- What a have does, or why it is refused: its duplicate is a fact with its full name. In a session that is an earlier have of the same lemma, since no base of a command has a dot.
 abbrev pub IsHaveOutcome : Place → (lemma : List ℕ) → Have → Result Outcome Reason → Type 0
 IsHaveOutcome P lemma have answer = (n : ℕ) × (m : ℕ) × IsNameOfHave P lemma have.name n × IsNameOf P lemma m × IsBoundOutcome P n m have.prop have.script answer
 
--- what comes of a have: a refused one leaves its row, and the content as it is
+-- what a have leaves that is refused: its row, and the content as it is
+abbrev pub have_refused : Place → (lemma : List ℕ) → Have → Reason → Outcome
+have_refused P lemma have reason = record { note = Said (refused_have P.texts P.source P.theory lemma have.name reason); next = P.content }
+
+-- what comes of a have
 abbrev pub have_outcome : Place → (lemma : List ℕ) → Have → Result Outcome Reason → Outcome
 have_outcome P lemma have (Ok outcome) = outcome
-have_outcome P lemma have (Err reason) = record { note = Said (refused_have P.texts P.source P.theory lemma have.name reason); next = P.content }
+have_outcome P lemma have (Err reason) = have_refused P lemma have reason
 
 -- The have does or is refused so.
 pub record IsHaveDeclaredAs (P : Place) (lemma : List ℕ) (have : Have) (outcome : Outcome) : Type 0 where

@@ -1,6 +1,6 @@
 //! What the definitions mean: laws, each carried by the contract of a function that does nothing.
 ghost use Rattle.pure_declare.specs.Bound.{ForksBound, PartForksBound};
-ghost use Rattle.pure_declare.specs.Ends.{LemmasEnd, OneCommandOfLemma};
+ghost use Rattle.pure_declare.specs.Ends.{LemmasEnd, LemmasRefused, OneCommandOfLemma};
 ghost use Rattle.pure_declare.specs.Good.{PureIsGood, DeclaresGood, PartsGood, GoodIsCertified};
 ghost use Rattle.pure_declare.specs.Grown.{DeclaresGrown, PartsGrow};
 ghost use Rattle.pure_declare.specs.Once.{DeclaresOnce, PartsOnce, CommandsOnce};
@@ -140,9 +140,14 @@ pub fn are_declared_plain()
     ensures { AreDeclaredPlain }
 {}
 
-/// A lemma's own fork, behind its haves, is that which it has where they are passed over.
+/// A lemma's own fork, behind its haves, is that which it has where they are passed over, over the content that they leave; and theirs are of this lemma.
 pub fn lemmas_end()
     ensures { LemmasEnd }
+{}
+
+/// A lemma whose own statement is refused leaves its row alone.
+pub fn lemmas_refused()
+    ensures { LemmasRefused }
 {}
 
 /// Two forks of a theory with the same lemma are of one command.
