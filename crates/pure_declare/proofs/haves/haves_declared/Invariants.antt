@@ -6,4 +6,4 @@ use Rattle.pure_declare.proofs.haves.haves_declared.Given as goal
 
 -- what the haves so far left
 abbrev pub invariant-loop-have : goal.invariant-loop-have
-invariant-loop-have l = AreHaves l.fn.place.now l.fn.base.now (map seen_have (take l.have-index l.haves)) (seen_notes l.declared.notes.items) l.declared.stage.value
+invariant-loop-have l = AreHaves l.place l.base (map seen_have (take l.have-index l.haves)) (seen_notes l.declared.notes.items) l.declared.stage.value
