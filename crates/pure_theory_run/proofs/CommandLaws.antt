@@ -4,12 +4,12 @@ use Rattle.std.specs.Prelude.{Option, Some, None, Result, Ok, Err, IfOk, OnErr, 
 use Rattle.std.specs.declared.alloc.AllocError.{AllocError}
 use Rattle.std.proofs.lemmas.List.{length-map, map-append}
 use Rattle.std.proofs.lemmas.Option.{same_Some}
+use Rattle.pure_definitions.specs.Names.{Label}
 use Rattle.pure_grammar.specs.Theories.TheoryText.{Command}
 use Rattle.pure_logic.specs.Content.{Content}
 use Rattle.pure_print.specs.declared.row.Row.{Row}
 use Rattle.pure_graph.specs.Order.{Loaded}
 use Rattle.pure_session_meaning.specs.Declare.Notes.{Note, Said, Forked}
-use Rattle.pure_definitions.specs.Names.{Label}
 use Rattle.pure_session_meaning.specs.Declare.First.{Declares}
 use Rattle.pure_session_meaning.specs.Declare.Fold as fold
 use Rattle.pure_session_meaning.specs.Declare.Plain.{IsPlain}
