@@ -27,7 +27,7 @@ use Rattle.pure_declare.specs.Parts.{Part, Whole, Within, End, binding, IsBoundO
 use Rattle.pure_declare.specs.Fold.{Stands, HasParts, part_label, AreParts, Declares, AreDeclared}
 use Rattle.pure_declare.specs.Good.{IsGood}
 use Rattle.pure_declare.specs.Ends.{promises_of, IsOwnEnd, LemmasEnd, LemmasRefused, OneCommandOfLemma}
-use Rattle.pure_declare.proofs.DoneLaws.{IsChanged, a_class, a_typ, an_arity, a_const, an_axiom, a_definition, IsDone, changes, binds, is_refused, declared-done}
+use Rattle.pure_declare.proofs.DoneLaws.{outcome_with, IsChanged, a_class, a_typ, an_arity, a_const, an_axiom, a_definition, IsDone, changes, binds, is_refused, declared-done}
 use Rattle.pure_declare.proofs.OnceSteps.{stated-once}
 use Rattle.pure_declare.proofs.OnceLaws.{own-once, outcome-once, declares_once}
 use Rattle.pure_declare.proofs.PlainLaws.{lemma-bound, one-part, whole-first}
@@ -41,7 +41,7 @@ ok-stated s t e = cc
 -- A have adds its promise, or nothing.
 module _ (texts : List (List ℕ)) (source : List ℕ) (label : Label) (R : Content) (x : List ℕ) (have : Have) (note : Note) (next : Content) where
   answer-adds : (theory : List ℕ) (answer : Result Outcome Reason) → IsHaveOutcome (record { texts = texts; source = source; label = label; theory = theory; content = R }) x have answer
-      → record { note = note; next = next } ≡ have_outcome (record { texts = texts; source = source; label = label; theory = theory; content = R }) x have answer → next ≡ with_declarations R (R.declarations ++ promises_of (note ∷ []))
+      → outcome_with note next ≡ have_outcome (record { texts = texts; source = source; label = label; theory = theory; content = R }) x have answer → next ≡ with_declarations R (R.declarations ++ promises_of (note ∷ []))
   answer-adds theory (Ok p) (n, m, is, its, h) e =
       let P : Place = record { texts = texts; source = source; label = label; theory = theory; content = R } in
       let b = bound-binding P n m have.prop have.script p h in
@@ -176,7 +176,7 @@ record IsFirstBound (P : Place) (x : List ℕ) (span : Span) (haves : List Have)
   stands : Stands P (Lemma x span haves script)
 
 module _ (P : Place) (x : List ℕ) (span : Span) (haves : List Have) (script : List Step) (f : Fork) (next : Content) where
-  first-bound : (answer : Result Outcome Reason) → IsOutcome P (Lemma x span haves script) answer → record { note = Forked f; next = next } ≡ outcome_of P (Lemma x span haves script) answer → IsFirstBound P x span haves script f
+  first-bound : (answer : Result Outcome Reason) → IsOutcome P (Lemma x span haves script) answer → outcome_with (Forked f) next ≡ outcome_of P (Lemma x span haves script) answer → IsFirstBound P x span haves script f
   first-bound (Ok p) (n, is, h) e =
       let bound = lemma-bound P n span script (Ok p) h in
       let b = bound-binding P n n span script p bound in
@@ -366,9 +366,9 @@ module _ (texts : List (List ℕ)) (source : List ℕ) where
     fold-one place Q [] notes last h f g m n same = absurd (subst (λ (ns : List Note). IsIn (Forked f) ns) h.0 m)
     fold-one place Q (c ∷ cs) notes last (ns, next, more, d, h, e) f g m n same =
         elim (in_split (Forked f) ns more (subst (λ (l : List Note). IsIn (Forked f) l) e m)) [
-          | inl first ↦ elim (in_split (Forked g) ns more (subst (λ (l : List Note). IsIn (Forked g) l) e n)) [
-            | inl also ↦ (let a = of-command place Q c ns next d f first in let b = of-command place Q c ns next d g also in (a.theory ∙ sym b.theory, a.command ∙ sym b.command))
-            | inr later ↦ absurd (fold-new (place + 1) next cs more last h g later (subst (λ (k : ℕ). IsDeclaredIn facts next.declarations k) same (of-command place Q c ns next d f first).there))
+          | inl here ↦ elim (in_split (Forked g) ns more (subst (λ (l : List Note). IsIn (Forked g) l) e n)) [
+            | inl also ↦ (let a = of-command place Q c ns next d f here in let b = of-command place Q c ns next d g also in (a.theory ∙ sym b.theory, a.command ∙ sym b.command))
+            | inr later ↦ absurd (fold-new (place + 1) next cs more last h g later (subst (λ (k : ℕ). IsDeclaredIn facts next.declarations k) same (of-command place Q c ns next d f here).there))
           ]
           | inr second ↦ elim (in_split (Forked g) ns more (subst (λ (l : List Note). IsIn (Forked g) l) e n)) [
             | inl also ↦ absurd (fold-new (place + 1) next cs more last h f second (subst (λ (k : ℕ). IsDeclaredIn facts next.declarations k) (sym same) (of-command place Q c ns next d g also).there))
@@ -407,7 +407,7 @@ module _ (texts : List (List ℕ)) (source : List ℕ) (label : Label) (Q : Cont
   abbrev lemma : Command
   lemma = Lemma x span haves script
 
-  first-refused : (answer : Result Outcome Reason) → IsOutcome start lemma answer → record { note = Said row; next = after } ≡ outcome_of start lemma answer → (reason : Reason) × IsOutcome start lemma (Err reason) × (record { note = Said row; next = after } ≡ outcome_of start lemma (Err reason))
+  first-refused : (answer : Result Outcome Reason) → IsOutcome start lemma answer → outcome_with (Said row) after ≡ outcome_of start lemma answer → (reason : Reason) × IsOutcome start lemma (Err reason) × (outcome_with (Said row) after ≡ outcome_of start lemma (Err reason))
   first-refused (Ok p) (n, is, h) e =
       let bound = lemma-bound start n span script (Ok p) h in
       let b = bound-binding start n n span script p bound in
@@ -415,7 +415,7 @@ module _ (texts : List (List ℕ)) (source : List ℕ) (label : Label) (Q : Cont
       absurd (cc)
   first-refused (Err reason) h e = (reason, h, e)
 
-  parted-refused : (first.Declares texts source (part_label label 0) Q lemma (Said row) after) → (reason : Reason) → IsOutcome start lemma (Err reason) → record { note = Said row; next = after } ≡ outcome_of start lemma (Err reason)
+  parted-refused : (first.Declares texts source (part_label label 0) Q lemma (Said row) after) → (reason : Reason) → IsOutcome start lemma (Err reason) → outcome_with (Said row) after ≡ outcome_of start lemma (Err reason)
       → (parts : List Part) → HasParts start lemma parts → (notes : List Note) (next : Content) → AreParts texts source label 0 Q parts notes next → (notes ≡ Said row ∷ []) × (next ≡ Q)
   parted-refused d reason h e parts (inl ((p, k), same)) notes next are = absurd (ok-refused p reason (outcome-once start g.antisymmetric session lemma (Ok p) (Err reason) k h))
     where

@@ -21,6 +21,7 @@ use Rattle.pure_declare.specs.Notes.{Note, Outcome}
 use Rattle.pure_declare.specs.Commands.{Place, IsOwnText}
 use Rattle.pure_declare.specs.Parts.{Within, IsHaveOutcome, have_outcome, DeclaresPart}
 use Rattle.pure_declare.specs.Fold.{part_label, AreParts}
+use Rattle.pure_declare.proofs.DoneLaws.{outcome_with}
 use Rattle.pure_declare.proofs.GrownLaws.{before-through}
 use Rattle.pure_declare.proofs.OnceLaws.{own-once}
 use Rattle.pure_declare.proofs.PartLaws.{bound-binding, bound-number}
@@ -122,7 +123,7 @@ module _ (texts : List (List ℕ)) (theory : List ℕ) (label : Label) (Q : Cont
         let same : h.theory ≡ theory = own-once texts R h.theory theory h.own b.own in
         let there = subst (λ (t : List ℕ). (answer : Result Outcome Reason)
             × IsHaveOutcome (record { texts = texts; source = source; label = part_label label place; theory = t; content = R }) x have answer
-            × (record { note = note; next = next } ≡ have_outcome (record { texts = texts; source = source; label = part_label label place; theory = t; content = R }) x have answer)) same (h.declares.answer, h.declares.is, h.declares.comes) in
+            × (outcome_with note next ≡ have_outcome (record { texts = texts; source = source; label = part_label label place; theory = t; content = R }) x have answer)) same (h.declares.answer, h.declares.is, h.declares.comes) in
         answer-behind place R have (record { note = note; next = next }) there.0 b there.1 there.2
 
     -- All haves of a list.

@@ -19,7 +19,6 @@ use Rattle.pure_statements.specs.Chain.{Then, Unless, Gives, goes_on, passes}
 use Rattle.pure_statements.specs.Statement.{IsStated}
 use Rattle.pure_declare.specs.Notes.{Note, Outcome}
 use Rattle.pure_declare.specs.Commands.{Place, IsOwnText, IsTaken, vocabulary, IsOutcome}
-use Rattle.pure_declare.specs.First as first
 use Rattle.pure_declare.specs.First.{outcome_of}
 use Rattle.pure_declare.specs.Parts.{Part, Whole, Within, End, binding, IsBoundOutcome, IsHaveOutcome, have_outcome, DeclaresPart}
 use Rattle.pure_declare.specs.Changes.{IsNoLemma}

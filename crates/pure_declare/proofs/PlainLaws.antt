@@ -17,6 +17,7 @@ use Rattle.pure_declare.specs.First.{IsDeclaredAs, outcome_of}
 use Rattle.pure_declare.specs.Parts.{Part, Whole, Within, End, IsBoundOutcome, LeavesRow, DeclaresPart}
 use Rattle.pure_declare.specs.Fold.{HasParts, part_label, AreParts, Declares, AreDeclared}
 use Rattle.pure_declare.specs.Plain.{IsPlain, DeclaresPlain, AreDeclaredPlain}
+use Rattle.pure_declare.proofs.DoneLaws.{outcome_with}
 
 -- A command that isn't a lemma leaves a row.
 module _ (P : Place) where
@@ -127,7 +128,7 @@ module _ (texts : List (List ℕ)) (source : List ℕ) (i c : ℕ) (Q : Content)
         let one = one-part texts source label Q (Whole lemma) notes next (subst (λ (ps : List Part). AreParts texts source label 0 Q ps notes next) e are) in
         (one.0, whole-first texts source label Q lemma one.0 next one.1, one.2)
 
-    answered : (note : Note) (theory : List ℕ) → IsOwnText texts Q theory → (answer : Result Outcome Reason) → IsOutcome (place theory) lemma answer → record { note = note; next = next } ≡ outcome_of (place theory) lemma answer
+    answered : (note : Note) (theory : List ℕ) → IsOwnText texts Q theory → (answer : Result Outcome Reason) → IsOutcome (place theory) lemma answer → outcome_with note next ≡ outcome_of (place theory) lemma answer
         → Declares texts source label Q lemma (note ∷ []) next
     answered note theory own (Ok p) (n, is, h) e = record {
       theory = theory;
