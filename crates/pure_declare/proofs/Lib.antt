@@ -34,3 +34,4 @@ pub mod PartSomeLaws
 pub mod EndLaws
 pub mod HaveSteps
 pub mod DeclareSteps
+pub mod ChainLaws

@@ -21,3 +21,4 @@ pub mod Good
 pub mod Once
 pub mod Somehow
 pub mod Ends
+pub mod Chains

@@ -1,5 +1,6 @@
 //! What the definitions mean: laws, each carried by the contract of a function that does nothing.
 ghost use Rattle.pure_declare.specs.Bound.{ForksBound, PartForksBound};
+ghost use Rattle.pure_declare.specs.Chains.{CommandsKeep};
 ghost use Rattle.pure_declare.specs.Ends.{LemmasEnd, LemmasRefused, OneCommandOfLemma};
 ghost use Rattle.pure_declare.specs.Good.{PureIsGood, DeclaresGood, PartsGood, GoodIsCertified};
 ghost use Rattle.pure_declare.specs.Grown.{DeclaresGrown, PartsGrow};
@@ -153,4 +154,9 @@ pub fn lemmas_refused()
 /// Two forks of a theory with the same lemma are of one command.
 pub fn one_command_of_lemma()
     ensures { OneCommandOfLemma }
+{}
+
+/// A command's next content keeps what each of its parts keeps.
+pub fn commands_keep()
+    ensures { CommandsKeep }
 {}
