@@ -113,11 +113,11 @@ well texts l has own =
     record {
       small = small-enough (length l.source) own.size;
       ranges = ranges-of l.source own.spelled.0 l.text own.spelled.1 is;
+      alone = plain-of is.file.commands l.text.commands (ap (λ (t : TheoryText). t.commands) is.means);
       named = has l.name (inl name.spelled);
       full = full-of texts l has;
       plain = (name.plain, head.other);
       scripts = scripts-of is.file.commands l.text.commands (ap (λ (t : TheoryText). t.commands) is.means) sizes.1;
-      alone = plain-of is.file.commands l.text.commands (ap (λ (t : TheoryText). t.commands) is.means);
       few = ltb-false most_commands (length l.text.commands) sizes.0;
     }
 

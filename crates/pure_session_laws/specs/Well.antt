@@ -13,6 +13,10 @@ use Rattle.pure_method.specs.Outcomes.{IsScript}
 use Rattle.pure_method.specs.Declare.Plain.{IsPlain}
 use Rattle.pure_method.specs.Declare.Premises.{IsNamed, HasFullNames, HasRanges}
 
+-- No command of the theory has haves, since the grammar has none.
+abbrev pub HasNoHaves : Loaded → Type 0
+HasNoHaves l = Each IsPlain l.text.commands
+
 -- The steps of a proof: the last one is the end, and no other is; and those that have numbers aren't too many.
 pub record IsProofScript (script : List Step) : Type 0 where
   pub ends : IsScript script
@@ -23,15 +27,15 @@ abbrev pub HasProofScript : Command → Type 0
 HasProofScript (Lemma name prop haves script) = IsProofScript script
 HasProofScript _ = Unit {0}
 
--- A loaded theory among the names of its session: the source isn't too long, the ranges of each command lie in it, the theory and all that its commands declare have names, its own name has no dot (46) and isn't Pure's, the scripts are those of proofs, the commands have no haves, as the grammar has none, and they aren't too many.
+-- A loaded theory among the names of its session: the source isn't too long, the ranges of each command lie in it, the theory and all that its commands declare have names, its own name has no dot (46) and isn't Pure's, the scripts are those of proofs, and the commands aren't too many.
 pub record IsWellLoaded (texts : List (List ℕ)) (l : Loaded) : Type 0 where
   pub small : length l.source < 4294967295
   pub ranges : Each (HasRanges l.source) l.text.commands
+  pub alone : HasNoHaves l
   pub named : IsNamed texts l.name
   pub full : Each (λ (c : Command). HasFullNames texts l.name c) l.text.commands
   pub plain : (¬ IsIn 46 l.name) × (l.name ≢ pure_text)
   pub scripts : Each HasProofScript l.text.commands
-  pub alone : Each IsPlain l.text.commands
   pub few : length l.text.commands ≤ most_commands
 
 -- Among the names of their session the theories that are loaded are as those who check them ask.
