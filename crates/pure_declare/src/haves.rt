@@ -201,8 +201,8 @@ fn own_end(
 {
     place.is_given();
     let mut declared = haves;
-    let part = declared.notes.len() as u32;
-    let outcome = own_part(alloc, place, lemma, stated, script, &declared.stage, part)?;
+    let count = declared.notes.len() as u32;
+    let outcome = own_part(alloc, place, lemma, stated, script, &declared.stage, count)?;
     declared.put(outcome)?;
     Ok(declared)
 }
