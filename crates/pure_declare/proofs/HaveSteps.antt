@@ -1,5 +1,5 @@
 -- Haves and the lemma's own end, step by step.
-use Rattle.std.proofs.Common.{◌≡◌, ◌<◌, ℕ, zero, suc, ◌+◌, List, [], ◌∷◌, ◌++◌, take, get_or, map, length, refl, sym, ◌∙◌, ap, subst, arith}
+use Rattle.std.proofs.Common.{◌≡◌, ◌<◌, ◌≤◌, ℕ, zero, suc, ◌+◌, List, [], ◌∷◌, ◌++◌, take, get_or, map, length, refl, sym, ◌∙◌, ap, subst, arith}
 use Rattle.std.specs.Prelude.{Option, Some, None, Result, Ok, Err, OnOk, IfOk, slice_get}
 use Rattle.std.specs.declared.alloc.AllocError.{AllocError}
 use Rattle.std.proofs.lemmas.List.{length-map, map-append}
@@ -7,11 +7,13 @@ use Rattle.std.proofs.lemmas.Option.{same_Some, none-some}
 use Rattle.pure_text.specs.Lists.{Each}
 use Rattle.pure_text.proofs.LoopLaws.{longer_by}
 use Rattle.pure_definitions.specs.Names.{Label}
+use Rattle.pure_definitions.specs.Types.Typ.{prop}
 use Rattle.pure_definitions.specs.Terms.Term.{Term}
 use Rattle.pure_grammar.specs.Theories.TheoryText.{Span, Step, Have}
 use Rattle.pure_grammar.specs.Theories.Spans.{OfProp, cited_span}
 use Rattle.pure_typ.specs.NameTexts.{HasText, IsFound, name_texts}
 use Rattle.pure_logic.specs.Content.{Content, IsStatement}
+use Rattle.pure_logic.proofs.AboveLaws.{certified_of-above}
 use Rattle.pure_lookup.specs.Meaning.{facts, full_text, IsDeclaredIn}
 use Rattle.pure_script.specs.declared.theory.Have as code
 use Rattle.pure_script.specs.Seen.{span, seen_have}
@@ -21,6 +23,8 @@ use Rattle.pure_statements.specs.Rows.{have_text}
 use Rattle.pure_statements.specs.declared.stated.Stated.{Stated}
 use Rattle.pure_statements.specs.Chain.{goes_on, passes}
 use Rattle.pure_statements.specs.Statement.{IsStated}
+use Rattle.pure_declare.specs.declared.notes.Note as held
+use Rattle.pure_declare.specs.declared.notes.Declared.{Declared}
 use Rattle.pure_declare.specs.declared.notes.PartOutcome.{PartOutcome}
 use Rattle.pure_declare.specs.Seen.{seen_note, seen_notes, seen_outcome}
 use Rattle.pure_declare.specs.Notes.{Note, Outcome}
@@ -46,6 +50,14 @@ module _ (P : Place) (lemma : ℕ) (name : List ℕ) (text : List ℕ) (has : Ha
 pub parts-count : (texts : List (List ℕ)) (source : List ℕ) (label : Label) (place : ℕ) (Q : Content) (parts : List Part) (notes : List Note) (last : Content) → AreParts texts source label place Q parts notes last → length notes ≡ length parts
 parts-count texts source label place Q [] notes last h = ap length h.0
 parts-count texts source label place Q (p ∷ ps) notes last (note, next, more, d, h, e) = ap length e ∙ ap suc (parts-count texts source label (place + 1) next ps more last h)
+
+pub few-notes : (P : Place) (x : List ℕ) (done : List Have) (notes : List Note) (last : Content) → AreHaves P x done notes last → length notes ≡ length done
+few-notes P x done notes last h = parts-count P.texts P.source P.label 0 P.content (map (Within x) done) notes last h ∙ length-map done (Within x)
+
+take-length : {A : Type 0} (i : ℕ) (xs : List A) → length (take i xs) ≤ length xs
+take-length zero xs = omega arith
+take-length (suc i) [] = omega arith
+take-length (suc i) (x ∷ xs) = let rest = take-length i xs in omega (arith, rest)
 
 -- One part more.
 parts-more : (texts : List (List ℕ)) (source : List ℕ) (label : Label) (place k : ℕ) (Q R : Content) (parts : List Part) (notes : List Note) (part : Part) (note : Note) (next : Content) → k ≡ place + length parts
@@ -126,3 +138,94 @@ module _ (haves : List code.Have) (i : ℕ) (have : code.Have) (within : i < len
 
   pub haves-longer : map seen_have (take (i + 1) haves) ≡ map seen_have (take i haves) ++ seen_have have ∷ []
   haves-longer = ap (λ (hs : List code.Have). map seen_have hs) (longer_by haves i have within read) ∙ map-append seen_have (take i haves) (have ∷ [])
+
+-- The place of a later part.
+module _ (P later : Place) (R : Content) (k : ℕ) (same : later ≡ record { texts = P.texts; source = P.source; label = part_label P.label k; theory = P.theory; content = R }) where
+  pub name-later : (x : List ℕ) (n : ℕ) → IsNameOf P x n → IsNameOf later x n
+  name-later x n is = subst (λ (S : Place). IsNameOf S x n) (sym same) is
+
+  pub named-later : (x name : List ℕ) → IsNamed P.texts (have_text P.theory x name) → IsNamed later.texts (have_text later.theory x name)
+  named-later x name is = subst (λ (S : Place). IsNamed S.texts (have_text S.theory x name)) (sym same) is
+
+  pub lies-later : (span : Span) → LiesIn P.source span → LiesIn later.source span
+  lies-later span h = subst (λ (S : Place). LiesIn S.source span) (sym same) h
+
+  pub new-later : (n : ℕ) → (IsDeclaredIn facts R.declarations n → ⊥) → IsTaken later facts n → ⊥
+  new-later n new taken = new (subst (λ (S : Place). IsTaken S facts n) same taken)
+
+  pub statement-later : (A : Term) → IsStatement R A → IsStatement later.content A
+  statement-later A h = subst (λ (S : Place). IsStatement S.content A) (sym same) h
+
+  pub part-of : IsOwnText P.texts R P.theory → (x : List ℕ) (have : Have) (d : PartOutcome) → IsHaveDeclaredAs later x have (seen_outcome d)
+      → DeclaresPart P.texts P.source (part_label P.label k) R (Within x have) (seen_note d.note) d.stage.value
+  part-of own x have d h = record { theory = P.theory; own = own; declares = subst (λ (S : Place). IsHaveDeclaredAs S x have (seen_outcome d)) same h }
+
+  pub binding-of : (n : ℕ) (script : List Step) (s : Stated) (d : PartOutcome) → seen_outcome d ≡ binding later n n script s
+      → seen_outcome d ≡ binding (record { texts = P.texts; source = P.source; label = part_label P.label k; theory = P.theory; content = R }) n n script s
+  binding-of n script s d h = subst (λ (S : Place). seen_outcome d ≡ binding S n n script s) same h
+
+-- The content behind some haves is of the theory, and given as a call that declares asks.
+module _ (P : Place) (own : IsOwnText P.texts P.content P.theory) (x : List ℕ) (number : ℕ) (named : IsNameOf P x number) where
+  pub own-behind : (done : List Have) (notes : List Note) (last : Content) → AreHaves P x done notes last → IsOwnText P.texts last P.theory
+  own-behind done notes last h = (behind-haves P own x number named done notes last h).own
+
+  pub given-next : IsGiven P.texts P.source P.content P.label → P.label.part ≡ 0 → (done : List Have) (d : Declared) → AreHaves P x done (seen_notes d.notes.items) d.stage.value → (k : ℕ) → k ≡ length d.notes.items
+      → IsGiven P.texts P.source d.stage.value (part_label P.label k)
+  given-next g first done d h k count =
+      let same : k ≡ length (seen_notes d.notes.items) = count ∙ sym (length-map d.notes.items seen_note) in
+      subst (λ (n : ℕ). IsGiven P.texts P.source d.stage.value (part_label P.label n)) (sym same)
+      (given-behind P own x number named g first (length (seen_notes d.notes.items)) d.stage.value (behind-haves P own x number named done (seen_notes d.notes.items) d.stage.value h))
+
+-- The same of some haves.
+module _ (P : Place) (own : IsOwnText P.texts P.content P.theory) (number : ℕ) (d : Declared) (h : IsBehindHaves P number (seen_notes d.notes.items) d.stage.value) where
+  pub given-end : IsGiven P.texts P.source P.content P.label → P.label.part ≡ 0 → (k : ℕ) → k ≡ length d.notes.items → IsGiven P.texts P.source d.stage.value (part_label P.label k)
+  given-end g first k count = given-next P own h.lemma number h.named g first h.haves d h.are k count
+
+  pub new-end : (IsTaken P facts number → ⊥) → IsDeclaredIn facts d.stage.value.declarations number → ⊥
+  new-end new = (behind-haves P own h.lemma number h.named h.haves (seen_notes d.notes.items) d.stage.value h.are).free new
+
+  pub statement-end : (A : Term) → IsStatement P.content A → IsStatement d.stage.value A
+  statement-end A is =
+      let b = behind-haves P own h.lemma number h.named h.haves (seen_notes d.notes.items) d.stage.value h.are in
+      record { proposition = certified_of-above P.content d.stage.value b.below A prop is.proposition; schematic = is.schematic }
+
+-- The own end behind haves, as the call answers.
+pub end-made : (P : Place) → IsOwnText P.texts P.content P.theory → (number : ℕ) (old new : Declared) (d : PartOutcome) (k : ℕ) → k ≡ length old.notes.items → (s : Stated) (script : List Step) → (IsTaken P facts number → ⊥)
+    → seen_outcome d ≡ binding (record { texts = P.texts; source = P.source; label = part_label P.label k; theory = P.theory; content = old.stage.value }) number number script s
+    → seen_notes new.notes.items ≡ seen_notes old.notes.items ++ seen_note d.note ∷ [] → new.stage.value ≡ d.stage.value
+    → (base : List ℕ) (done : List Have) (at : Span) → IsNameOf P base number → AreHaves P base done (seen_notes old.notes.items) old.stage.value → IsStated (vocabulary P) P.source at (Ok s)
+    → AreParts P.texts P.source P.label 0 P.content (map (Within base) done ++ End base at script ∷ []) (seen_notes new.notes.items) new.stage.value
+end-made P own number old new d k count s script fresh bound notes stage base done at named are states =
+    let same : k ≡ length (seen_notes old.notes.items) = count ∙ sym (length-map old.notes.items seen_note) in
+    let here = subst (λ (n : ℕ). seen_outcome d ≡ binding (record { texts = P.texts; source = P.source; label = part_label P.label n; theory = P.theory; content = old.stage.value }) number number script s) same bound in
+    ends-with P own base number named done at script (seen_notes old.notes.items) (seen_notes new.notes.items) old.stage.value new.stage.value (seen_outcome d) s are fresh states here notes stage
+
+-- What a loop over haves goes on with.
+module _ (P : Place) (own : IsOwnText P.texts P.content P.theory) (x : List ℕ) (number : ℕ) (named : IsNameOf P x number) (old new : Declared) (d : PartOutcome) where
+  old-count : length old.notes.items ≡ length (seen_notes old.notes.items)
+  old-count = sym (length-map old.notes.items seen_note)
+
+  pub next-haves : {A : Type 0} (have : Have) (k : ℕ) → k ≡ length old.notes.items → DeclaresPart P.texts P.source (part_label P.label k) old.stage.value (Within x have) (seen_note d.note) d.stage.value
+      → (r : Result A AllocError) → OnOk r (seen_notes new.notes.items ≡ seen_notes old.notes.items ++ seen_note d.note ∷ []) → OnOk r (new.stage.value ≡ d.stage.value)
+      → OnOk r ((done : List Have) → AreHaves P x done (seen_notes old.notes.items) old.stage.value → AreHaves P x (done ++ have ∷ []) (seen_notes new.notes.items) new.stage.value)
+  next-haves have k count h (Ok a) notes stage = λ done are.
+      let here = subst (λ (n : ℕ). DeclaresPart P.texts P.source (part_label P.label n) old.stage.value (Within x have) (seen_note d.note) d.stage.value) (count ∙ old-count) h in
+      subst (λ (R : Content). AreHaves P x (done ++ have ∷ []) (seen_notes new.notes.items) R) (sym stage)
+      (haves-more P own x number named done have (seen_notes old.notes.items) (seen_notes new.notes.items) old.stage.value d.stage.value (seen_note d.note) are here notes)
+  next-haves have k count h (Err e) notes stage = tt
+
+-- There are fewer notes than haves in the midst of the loop, and as many behind it.
+pub loop-few : (P : Place) (x : List ℕ) (haves : List code.Have) (i : ℕ) → i < length haves → length haves < 4294967296 → (notes : List held.Note) (last : Content) → AreHaves P x (map seen_have (take i haves)) (seen_notes notes) last → length notes < 4294967296
+loop-few P x haves i within few notes last h =
+    let count = few-notes P x (map seen_have (take i haves)) (seen_notes notes) last h in
+    let own : length (seen_notes notes) ≡ length notes = length-map notes seen_note in
+    let done : length (map seen_have (take i haves)) ≡ length (take i haves) = length-map (take i haves) seen_have in
+    let taken : length (take i haves) ≤ length haves = take-length i haves in
+    omega (arith, count, own, done, taken, few)
+
+pub haves-few : (P : Place) (x : List ℕ) (haves : List code.Have) → length haves < 4294967296 → (notes : List held.Note) (last : Content) → AreHaves P x (map seen_have haves) (seen_notes notes) last → length notes < 4294967296
+haves-few P x haves few notes last h =
+    let count = few-notes P x (map seen_have haves) (seen_notes notes) last h in
+    let own : length (seen_notes notes) ≡ length notes = length-map notes seen_note in
+    let all : length (map seen_have haves) ≡ length haves = length-map haves seen_have in
+    omega (arith, count, own, all, few)
