@@ -1,6 +1,7 @@
 -- What a command declares, from its parts.
 use Rattle.std.proofs.Common.{◌≡◌, ℕ, List, [], ◌∷◌, ◌++◌, map, refl, sym, ap, subst, inl, inr}
-use Rattle.std.specs.Prelude.{Result, Ok, Err}
+use Rattle.std.specs.Prelude.{Result, Ok, Err, IfOk}
+use Rattle.std.specs.declared.alloc.AllocError.{AllocError}
 use Rattle.pure_definitions.specs.Names.{Label}
 use Rattle.pure_grammar.specs.Theories.TheoryText.{Span, Step, Have, Command, Class as ClassOf, TypeDecl, Arity as ArityOf, Const, Axiom, Definition, Lemma}
 use Rattle.pure_logic.specs.Content.{Content}
@@ -10,6 +11,8 @@ use Rattle.pure_statements.specs.declared.reason.Reason.TheVariants.{Duplicate}
 use Rattle.pure_statements.specs.declared.stated.Stated.{Stated}
 use Rattle.pure_statements.specs.Chain.{refuses, goes_on, holds, passes}
 use Rattle.pure_statements.specs.Statement.{IsStated}
+use Rattle.pure_declare.specs.declared.notes.Declared.{Declared}
+use Rattle.pure_declare.specs.Seen.{seen_notes}
 use Rattle.pure_declare.specs.Notes.{Note, Outcome}
 use Rattle.pure_declare.specs.Commands.{Place, IsOwnText, IsNameOf, IsTaken, vocabulary, IsLemmaOutcome, IsOutcome, forking}
 use Rattle.pure_declare.specs.Changes.{IsNoLemma, IsNewStatement}
@@ -98,3 +101,12 @@ refused P n span script reason (passes new k) = passes new (refuses reason k ref
 -- A refusal of the statement is one of the lemma.
 pub refusal-outcome : (P : Place) (command : Command) (x : List ℕ) (span : Span) (haves : List Have) (script : List Step) → command ≡ Lemma x span haves script → (n : ℕ) → IsNameOf P x n → (reason : Reason) → IsNewStatement P n span (Err reason) → IsOutcome P command (Err reason)
 refusal-outcome P command x span haves script same n is reason h = subst (λ (c : Command). IsOutcome P c (Err reason)) (sym same) (n, is, refused P n span script reason h)
+
+-- What the call answers of the parts of a lemma that stands.
+pub parts-made : (P : Place) → IsOwnText P.texts P.content P.theory → P.label.part ≡ 0 → (command : Command) (x : List ℕ) (span : Span) (haves : List Have) (script : List Step) → command ≡ Lemma x span haves script
+    → (n : ℕ) → IsNameOf P x n → (s : Stated) → IsNewStatement P n span (Ok s) → (r : Result Declared AllocError)
+    → IfOk r (λ d. (at : Span) → IsStated (vocabulary P) P.source at (Ok s) → AreParts P.texts P.source P.label 0 P.content (map (Within x) haves ++ End x at script ∷ []) (seen_notes d.notes.items) d.stage.value)
+    → IfOk r (λ d. Declares P.texts P.source P.label P.content command (seen_notes d.notes.items) d.stage.value)
+parts-made P own first command x span haves script same n is s h (Ok d) are =
+    parts-declare P own first command x span haves script same n is s h (seen_notes d.notes.items) d.stage.value (are span (new-states P n span s h))
+parts-made P own first command x span haves script same n is s h (Err e) are = tt
