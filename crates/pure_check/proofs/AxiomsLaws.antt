@@ -25,7 +25,7 @@ use Rattle.pure_graph.specs.Session.{Session, Shown, shown}
 use Rattle.pure_io.specs.declared.library.File as library
 use Rattle.pure_check_work.specs.Declare.Notes.{Fork, Note, Said, Forked, Outcome, Change}
 use Rattle.pure_check_work.specs.Declare.Commands.{Place, IsOutcome, IsSaid, IsClassChange, IsTypeChange, IsArityChange, IsConstChange, IsAxiomChange, IsDefinitionChange, IsLemmaOutcome, saying, forking}
-use Rattle.pure_check_work.specs.Declare.Fold.{Declares as DeclaresSo, AreDeclared, outcome_of}
+use Rattle.pure_check_work.specs.Declare.First.{Declares as DeclaresSo, AreDeclared, outcome_of}
 use Rattle.pure_check_work.specs.Promise.Entries.{LemmaEntry}
 use Rattle.pure_check_work.specs.Promise.Rows.{IsRowOf}
 use Rattle.pure_check_work.specs.Promise.RowText.{fate_row, status_of}

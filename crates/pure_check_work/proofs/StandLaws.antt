@@ -12,7 +12,7 @@ use Rattle.pure_logic.specs.PureContent.{pure_content}
 use Rattle.pure_logic.proofs.MergeLaws.{merge_has_declarations}
 use Rattle.pure_graph.specs.Order.{Loaded}
 use Rattle.pure_table.specs.Declare.Notes.{Note, Fork, Said, Forked}
-use Rattle.pure_table.specs.Declare.Fold.{AreDeclared}
+use Rattle.pure_table.specs.Declare.First.{AreDeclared}
 use Rattle.pure_table.proofs.Declare.PromisedLaws.{declares_promises}
 use Rattle.pure_table.specs.SessionLaws.Loaded.{IsLoadedSession}
 use Rattle.pure_table.specs.SessionMeaning.Verdicts.{Verdict, Barred, Ran, IsTheoryAt, AreLast, Begins, beginning_over, Closes, barred, ran, AllClose, nothing, also}

@@ -20,7 +20,7 @@ use Rattle.pure_statements.specs.Chain.{Gives, refuses, goes_on, holds, passes}
 use Rattle.pure_statements.specs.Rows.{declared_row}
 use Rattle.pure_table.specs.Declare.Notes.{Note, Said, Forked, Outcome, Change}
 use Rattle.pure_table.specs.Declare.Commands.{Place, IsOutcome, IsSaid, IsNewClassChange, IsClassChange, IsTypeChange, IsFoundArityChange, IsClassArityChange, IsDomainsArityChange, IsArityChange, IsNewConstChange, IsConstChange, IsAxiomChange, IsBodyChange, IsTermChange, IsTypedChange, IsTreeChange, IsTextChange, IsNewDefinitionChange, IsDefinitionChange, IsLemmaOutcome, declaring, declaring_const, declaring_definition, declaring_axiom, saying, forking, fact_base, definition_end}
-use Rattle.pure_table.specs.Declare.Fold.{Declares as DeclaresSo, IsDeclaredAs, outcome_of}
+use Rattle.pure_table.specs.Declare.First.{Declares as DeclaresSo, IsDeclaredAs, outcome_of}
 use Rattle.pure_citations.specs.Heads as heads
 use Rattle.pure_citations.specs.Rowed.{Declares}
 

@@ -19,7 +19,7 @@ use Rattle.pure_graph.specs.Order.{Loaded}
 use Rattle.pure_graph.specs.Session.{shown}
 use Rattle.pure_print.specs.declared.row.Row.{Row}
 use Rattle.pure_table.specs.Declare.Notes.{Note, Said, Forked}
-use Rattle.pure_table.specs.Declare.Fold.{Declares as DeclaresSo}
+use Rattle.pure_table.specs.Declare.First.{Declares as DeclaresSo}
 use Rattle.pure_table.specs.Method.Facts.{named_facts}
 use Rattle.pure_table.specs.SessionLaws.Loaded.{IsLoadedSession}
 use Rattle.pure_table.specs.SessionMeaning.Verdicts.{Verdict, Barred, Ran, Begins, Closes, beginning_over}

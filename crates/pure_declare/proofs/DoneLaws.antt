@@ -23,10 +23,10 @@ use Rattle.pure_statements.specs.Chain.{Gives, Found, refuses, goes_on, holds, p
 use Rattle.pure_statements.specs.Statement.{IsNormalised, IsStated, IsStatedTyp}
 use Rattle.pure_statements.specs.Elaborated.{IsTypedTerm}
 use Rattle.pure_statements.specs.Rows.{declared_row, refused_row}
-use Rattle.pure_declare.specs.Notes.{Said, Outcome, Change}
+use Rattle.pure_declare.specs.Notes.{Note, Said, Outcome, Change}
 use Rattle.pure_declare.specs.Lookups.{AreWritten, IsWrittenSort}
 use Rattle.pure_declare.specs.Commands.{Place, vocabulary, IsTaken, IsOutcome, IsSaid, IsMiscounted, IsNewClassChange, IsClassChange, IsTypeChange, IsFoundArityChange, IsClassArityChange, IsDomainsArityChange, IsArityChange, IsNewConstChange, IsConstChange, IsAxiomChange, IsBodyChange, IsTermChange, IsTypedChange, IsTreeChange, IsTextChange, IsNewDefinitionChange, IsDefinitionChange, IsLemmaOutcome, declaring, declaring_const, declaring_definition, declaring_axiom, saying, forking}
-use Rattle.pure_declare.specs.Fold.{IsDeclaredAs, outcome_of}
+use Rattle.pure_declare.specs.First.{IsDeclaredAs, outcome_of}
 
 -- An arity whose names are found, and which fits.
 pub record IsFoundArity (P : Place) (a : Arity) : Type 0 where
@@ -72,6 +72,10 @@ pub data IsDone (P : Place) (command : Command) (o : Outcome) : Type 0 where
   changes : (row : Row) → o.note ≡ Said row → IsChanged P o.next → IsDone P command o
   binds : IsBinding P command o → IsDone P command o
   is_refused : (row : Row) → o ≡ record { note = Said row; next = P.content } → IsDone P command o
+
+-- the outcome of this note and content
+abbrev pub outcome_with : Note → Content → Outcome
+outcome_with note next = record { note = note; next = next }
 
 next-of : (c D : Change) → Gives D (Ok c) → c.next ≡ D.next
 next-of c D e = let same : c ≡ D = cc in ap (λ (x : Change). x.next) same

@@ -128,7 +128,7 @@ module _ (P : Place) (session : IsInSession P.texts P.content) (g : IsGood P.con
       stage-good (with_decl P.content (AxiomDecl n s.prop))
       (axiom_stage P.content (algebra_of P.content.declarations) stage n s.prop (none-stated n new) (stated-of P session g.sound P.source span s h).statement)
 
-  promise-good : (n : ℕ) (span : Span) (s : Stated) → (IsTaken P facts n → ⊥) → IsStated (vocabulary P) P.source span (Ok s) → IsGood (with_decl P.content (PromiseDecl n P.label s.prop))
+  pub promise-good : (n : ℕ) (span : Span) (s : Stated) → (IsTaken P facts n → ⊥) → IsStated (vocabulary P) P.source span (Ok s) → IsGood (with_decl P.content (PromiseDecl n P.label s.prop))
   promise-good n span s new h =
       stage-good (with_decl P.content (PromiseDecl n P.label s.prop))
       (promise_stage P.content (algebra_of P.content.declarations) stage n P.label s.prop (none-stated n new) labels (stated-of P session g.sound P.source span s h).statement)

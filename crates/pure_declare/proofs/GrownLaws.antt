@@ -18,7 +18,7 @@ use Rattle.pure_statements.specs.declared.reason.Reason.{Reason}
 use Rattle.pure_statements.specs.Chain.{refuses, goes_on, holds, passes}
 use Rattle.pure_declare.specs.Notes.{Outcome, Change}
 use Rattle.pure_declare.specs.Commands.{Place, IsOutcome, IsSaid, IsNewClassChange, IsClassChange, IsTypeChange, IsFoundArityChange, IsClassArityChange, IsDomainsArityChange, IsArityChange, IsNewConstChange, IsConstChange, IsAxiomChange, IsBodyChange, IsTermChange, IsTypedChange, IsTreeChange, IsTextChange, IsNewDefinitionChange, IsDefinitionChange, IsLemmaOutcome, declaring, declaring_const, declaring_definition, declaring_axiom, forking}
-use Rattle.pure_declare.specs.Fold.{IsDeclaredAs, outcome_of}
+use Rattle.pure_declare.specs.First.{IsDeclaredAs, outcome_of}
 use Rattle.pure_declare.specs.Premises.{HasClassesAbove}
 use Rattle.pure_declare.specs.Grown.{IsGrown, DeclaresGrown}
 use Rattle.pure_declare.proofs.KnownLaws.{classes-known}
@@ -42,7 +42,7 @@ class-later : (ds es : List Decl) (c : ℕ) → IsDeclaredClass ds c → IsDecla
 class-later ds es c (k, m, same) = (k, in-append_left (ClassDecl k) ds es m, same)
 
 module _ (label : Label) (Q : Content) (above : HasClassesAbove Q) (labels : IsLabelAbove Q.declarations label) where
-  same-grown : IsGrown label Q Q
+  pub same-grown : IsGrown label Q Q
   same-grown = record {
     own = refl;
     ancestors = refl;
@@ -73,7 +73,7 @@ module _ (label : Label) (Q : Content) (above : HasClassesAbove Q) (labels : IsL
     pub grown-by : (R : Content) → R ≡ with_declarations Q (Q.declarations ++ added) → IsGrown label Q R
     grown-by R e = subst (λ (S : Content). IsGrown label Q S) (sym e) more-grown
 
-one-may : (ds : List Decl) (label : Label) (d : Decl) → MayFollow ds label d → (e : Decl) → IsIn e (d ∷ []) → MayFollow ds label e
+pub one-may : (ds : List Decl) (label : Label) (d : Decl) → MayFollow ds label d → (e : Decl) → IsIn e (d ∷ []) → MayFollow ds label e
 one-may ds label d h e (inl same) = subst (λ (x : Decl). MayFollow ds label x) (sym same) h
 one-may ds label d h e (inr none) = absurd none
 

@@ -25,3 +25,13 @@ pub mod SomeTexts
 pub mod SomeSteps
 pub mod SomeTests
 pub mod SomeLaws
+pub mod VocabularyLaws
+pub mod PartLaws
+pub mod HaveLaws
+pub mod PlainLaws
+pub mod PartOnceLaws
+pub mod PartSomeLaws
+pub mod EndLaws
+pub mod HaveSteps
+pub mod DeclareSteps
+pub mod ChainLaws

@@ -27,8 +27,8 @@ use Rattle.pure_statements.specs.Statement.{IsNormalised, IsLarge, IsStated, IsS
 use Rattle.pure_statements.specs.Body.{body_of}
 use Rattle.pure_declare.specs.Notes.{Outcome, Change}
 use Rattle.pure_declare.specs.Lookups.{AreWrittenClasses, AreWrittenSorts}
-use Rattle.pure_declare.specs.Commands.{Place, vocabulary, IsNameOf, IsTaken, IsOutcome, IsSaid, IsMiscounted, IsFitting, IsNewClassChange, IsClassChange, IsTypeChange, IsFoundArityChange, IsClassArityChange, IsDomainsArityChange, IsArityChange, IsNewConstChange, IsConstChange, IsAxiomChange, IsBodyChange, IsTermChange, IsTypedChange, IsTreeChange, IsTextChange, IsNewDefinitionChange, IsDefinitionChange, IsLemmaOutcome, declaring, declaring_const, declaring_definition, declaring_axiom, defining, saying, forking, fact_base}
-use Rattle.pure_declare.specs.Fold.{IsOwnText, IsDeclaredAs, outcome_of}
+use Rattle.pure_declare.specs.Commands.{Place, IsOwnText, vocabulary, IsNameOf, IsTaken, IsOutcome, IsSaid, IsMiscounted, IsFitting, IsNewClassChange, IsClassChange, IsTypeChange, IsFoundArityChange, IsClassArityChange, IsDomainsArityChange, IsArityChange, IsNewConstChange, IsConstChange, IsAxiomChange, IsBodyChange, IsTermChange, IsTypedChange, IsTreeChange, IsTextChange, IsNewDefinitionChange, IsDefinitionChange, IsLemmaOutcome, declaring, declaring_const, declaring_definition, declaring_axiom, defining, saying, forking, fact_base}
+use Rattle.pure_declare.specs.First.{IsDeclaredAs, outcome_of}
 use Rattle.pure_declare.specs.Once.{DeclaresOnce}
 use Rattle.pure_declare.proofs.OnceSteps.{Once, once-by, gives-once, found-once, then-once, unless-once, read_term-once, typed-once, normalised-once, stated_typ-once, stated-once, classes-once, sorts-once}
 
@@ -120,7 +120,7 @@ module _ (P : Place) (anti : IsAntisymmetric (algebra_of P.content.declarations)
       (then-once (IsStated (vocabulary P) P.source span) (λ s. Gives (forking P n script s)) (stated-once (vocabulary P) anti P.source span) (λ s. gives-once (forking P n script s)))
 
   module _ (session : IsInSession P.texts P.content) where
-    name-once : (base : List ℕ) (m n : ℕ) → IsNameOf P base m → IsNameOf P base n → m ≡ n
+    pub name-once : (base : List ℕ) (m n : ℕ) → IsNameOf P base m → IsNameOf P base n → m ≡ n
     name-once base m n h k = one_name P.texts session.names (full_text P.theory base) m n h k
 
     -- What is told of a name is told of the one name of the base.
@@ -135,7 +135,7 @@ module _ (P : Place) (anti : IsAntisymmetric (algebra_of P.content.declarations)
         let there = subst (λ o. IsSaid P (Definition x typ text) (IsDefinitionChange P x o e typ text) r) first f in
         said-once (Definition x typ text) (IsDefinitionChange P x n d typ text) (definition-once x n d typ text) r s (subst (λ o. IsSaid P (Definition x typ text) (IsDefinitionChange P x n o typ text) r) second there) g
 
-    outcome-once : (command : Command) → Once (IsOutcome P command)
+    pub outcome-once : (command : Command) → Once (IsOutcome P command)
     outcome-once (ClassOf x names) = named-once x (λ n. IsSaid P (ClassOf x names) (IsClassChange P n names)) (λ n. said-once (ClassOf x names) (IsClassChange P n names) (class-once n names))
     outcome-once (TypeDecl x params) = named-once x (λ n. IsSaid P (TypeDecl x params) (IsTypeChange P n params)) (λ n. said-once (TypeDecl x params) (IsTypeChange P n params) (typ-once n params))
     outcome-once (ArityOf con domains class) = said-once (ArityOf con domains class) (IsArityChange P con domains class) (arity-once con domains class)
@@ -148,7 +148,7 @@ module _ (P : Place) (anti : IsAntisymmetric (algebra_of P.content.declarations)
     declared-once command o p h k = h.comes ∙ ap (outcome_of P command) (outcome-once command h.answer k.answer h.is k.is) ∙ sym k.comes
 
 -- The own theory of a content has one text.
-own-once : (texts : List (List ℕ)) (Q : Content) (a b : List ℕ) → IsOwnText texts Q a → IsOwnText texts Q b → a ≡ b
+pub own-once : (texts : List (List ℕ)) (Q : Content) (a b : List ℕ) → IsOwnText texts Q a → IsOwnText texts Q b → a ≡ b
 own-once texts Q a b h k =
     let same = same_Some h.own k.own (sym h.is_own ∙ k.is_own) in
     same_Some a b (sym (subst (λ (t : TheoryId). HasText texts t.name a) same h.text) ∙ k.text)

@@ -9,13 +9,14 @@ use Rattle.pure_statements.specs.declared.reason.Reason.{Reason}
 use Rattle.pure_statements.specs.declared.reason.Failed.{Failed}
 use Rattle.pure_statements.specs.declared.reason.Failed.TheVariants.{Refused, Memory}
 use Rattle.pure_statements.specs.Chain.{Answers, FailsAs, refuses, goes_on}
-use Rattle.pure_declare.specs.declared.notes.Declared.{Declared}
-use Rattle.pure_declare.specs.Notes.{Change, Outcome}
-use Rattle.pure_declare.specs.Seen.{seen_outcome, seen_note}
+use Rattle.pure_declare.specs.declared.notes.PartOutcome.{PartOutcome}
+use Rattle.pure_declare.specs.Notes.{Note, Change, Outcome}
+use Rattle.pure_declare.specs.Seen.{seen_outcome}
 use Rattle.pure_declare.specs.Changes.{IsCommandChange, IsNoLemma}
-use Rattle.pure_declare.specs.Commands.{Place, IsNameOf, IsSaid, IsOutcome, IsLemmaOutcome, IsClassChange, IsTypeChange, IsConstChange, IsAxiomChange, IsDefinitionChange, fact_base, saying}
-use Rattle.pure_declare.specs.Fold.{IsDeclaredAs, IsOwnText, Declares, outcome_of}
-use Rattle.pure_declare.specs.Premises.{IsNamed, HasFullNames, HasNames, HasRanges}
+use Rattle.pure_declare.specs.Commands.{Place, IsNameOf, IsOwnText, IsSaid, IsOutcome, IsClassChange, IsTypeChange, IsConstChange, IsAxiomChange, IsDefinitionChange, fact_base, saying}
+use Rattle.pure_declare.specs.First.{IsDeclaredAs, outcome_of}
+use Rattle.pure_declare.specs.Fold.{Declares}
+use Rattle.pure_declare.specs.Premises.{IsNamed, HasFullNames, HasNames, HasRanges, HasPartLabels}
 use Rattle.pure_declare.proofs.LookupSteps.{passed-on, passed-on_memory}
 
 -- A name that is found, where some name has the text.
@@ -32,7 +33,7 @@ answers-so F G (Err (Refused reason)) f h = f (Err reason) h
 answers-so F G (Err Memory) f h = tt
 
 module _ (P : Place) (command : Command) where
-  pub said-made : (c : Change) (d : Declared) → IsCommandChange P command (Ok c) → seen_outcome d ≡ saying P command c → IsSaid P command (IsCommandChange P command) (Ok (seen_outcome d))
+  pub said-made : (c : Change) (d : PartOutcome) → IsCommandChange P command (Ok c) → seen_outcome d ≡ saying P command c → IsSaid P command (IsCommandChange P command) (Ok (seen_outcome d))
   unfolding IsSaid
   said-made c d h e = goes_on c h (ap (λ (o : Outcome). Ok o) e)
 
@@ -41,10 +42,10 @@ module _ (P : Place) (command : Command) where
   said-fails (Refused reason) h = refuses reason h refl
   said-fails Memory h = tt
 
-  pub said-failed : (e : Failed) (r : Result Declared Failed) → Answers {A = Change} (IsCommandChange P command) (Err e) → IsErrAnd r (λ x. x ≡ e) → IfErr r (FailsAs (IsSaid P command (IsCommandChange P command)))
+  pub said-failed : (e : Failed) (r : Result PartOutcome Failed) → Answers {A = Change} (IsCommandChange P command) (Err e) → IsErrAnd r (λ x. x ≡ e) → IfErr r (FailsAs (IsSaid P command (IsCommandChange P command)))
   said-failed e r h is = passed-on (IsSaid P command (IsCommandChange P command)) e r is (said-fails e h)
 
-  pub said-memory : (r : Result Declared Failed) → IsErrAnd r (λ x. x ≡ Memory) → IfErr r (FailsAs (IsSaid P command (IsCommandChange P command)))
+  pub said-memory : (r : Result PartOutcome Failed) → IsErrAnd r (λ x. x ≡ Memory) → IfErr r (FailsAs (IsSaid P command (IsCommandChange P command)))
   said-memory r is = passed-on_memory (IsSaid P command (IsCommandChange P command)) r is
 
 module _ (P : Place) where
@@ -69,32 +70,20 @@ module _ (P : Place) where
   said-outcome (Definition x typ text) answer kind h = by-names (Definition x typ text) x (λ n f a. IsDefinitionChange P x n f typ text a) answer h
   said-outcome (Lemma x span haves script) answer kind h = absurd kind
 
-  pub outcome-said : (command : Command) (r : Result Declared Failed) → IsNoLemma command → IfOk r (λ d. IsSaid P command (IsCommandChange P command) (Ok (seen_outcome d))) → IfOk r (λ d. IsOutcome P command (Ok (seen_outcome d)))
+  pub outcome-said : (command : Command) (r : Result PartOutcome Failed) → IsNoLemma command → IfOk r (λ d. IsSaid P command (IsCommandChange P command) (Ok (seen_outcome d))) → IfOk r (λ d. IsOutcome P command (Ok (seen_outcome d)))
   outcome-said command (Ok d) kind h = said-outcome command (Ok (seen_outcome d)) kind h
   outcome-said command (Err e) kind h = tt
 
-  pub outcome-fails : (command : Command) (r : Result Declared Failed) → IsNoLemma command → IfErr r (FailsAs (IsSaid P command (IsCommandChange P command))) → IfErr r (FailsAs (IsOutcome P command))
+  pub outcome-fails : (command : Command) (r : Result PartOutcome Failed) → IsNoLemma command → IfErr r (FailsAs (IsSaid P command (IsCommandChange P command))) → IfErr r (FailsAs (IsOutcome P command))
   outcome-fails command (Ok d) kind h = tt
   outcome-fails command (Err (Refused reason)) kind h = said-outcome command (Err reason) kind h
   outcome-fails command (Err Memory) kind h = tt
 
-  -- A lemma of the name.
-  pub lemma-by_name : (x : List ℕ) (n : ℕ) (span : Span) (script : List Step) (r : Result Declared Failed) → IsNameOf P x n → IfOk r (λ d. IsLemmaOutcome P n span script (Ok (seen_outcome d)))
-      → IfOk r (λ d. (m : ℕ) × IsNameOf P x m × IsLemmaOutcome P m span script (Ok (seen_outcome d)))
-  lemma-by_name x n span script (Ok d) is h = (n, is, h)
-  lemma-by_name x n span script (Err e) is h = tt
-
-  pub lemma-by_name_fails : (x : List ℕ) (n : ℕ) (span : Span) (script : List Step) (r : Result Declared Failed) → IsNameOf P x n → IfErr r (FailsAs (IsLemmaOutcome P n span script))
-      → IfErr r (FailsAs (λ answer. (m : ℕ) × IsNameOf P x m × IsLemmaOutcome P m span script answer))
-  lemma-by_name_fails x n span script (Ok d) is h = tt
-  lemma-by_name_fails x n span script (Err (Refused reason)) is h = (n, is, h)
-  lemma-by_name_fails x n span script (Err Memory) is h = tt
-
   -- What comes of a command that does something, and of one that is refused.
-  pub does : (command : Command) (d : Declared) → IsOutcome P command (Ok (seen_outcome d)) → IsDeclaredAs P command (seen_outcome d)
+  pub does : (command : Command) (d : PartOutcome) → IsOutcome P command (Ok (seen_outcome d)) → IsDeclaredAs P command (seen_outcome d)
   does command d h = record { answer = Ok (seen_outcome d); is = h; comes = refl }
 
-  pub is-refused : (command : Command) (reason : Reason) (d : Declared) → IsOutcome P command (Err reason) → seen_outcome d ≡ outcome_of P command (Err reason) → IsDeclaredAs P command (seen_outcome d)
+  pub is-refused : (command : Command) (reason : Reason) (d : PartOutcome) → IsOutcome P command (Err reason) → seen_outcome d ≡ outcome_of P command (Err reason) → IsDeclaredAs P command (seen_outcome d)
   is-refused command reason d h e = record { answer = Err reason; is = h; comes = e }
 
 -- The text of the theory is that of the premise.
@@ -117,14 +106,18 @@ own-some texts Q theory n text h e has =
     same : (t : TheoryId) → Q.own ≡ Some t → n ≡ t.name
     same t is = let mapped : option_map (λ (u : TheoryId). u.name) Q.own ≡ Some t.name = rw is refl in cc
 
-pub declares-at : (texts : List (List ℕ)) (source : List ℕ) (label : Label) (theory : List ℕ) (Q : Content) (command : Command) (d : Declared) (P : Place) → P ≡ record { texts = texts; source = source; label = label; theory = theory; content = Q }
-    → IsOwnText texts Q theory → IsDeclaredAs P command (seen_outcome d) → Declares texts source label Q command (seen_note d.note) d.stage.value
-declares-at texts source label theory Q command d P same own h = record { theory = theory; own = own; declares = subst (λ (R : Place). IsDeclaredAs R command (seen_outcome d)) same h }
+module _ (texts : List (List ℕ)) (source : List ℕ) (label : Label) (theory : List ℕ) (Q : Content) (P : Place) (same : P ≡ record { texts = texts; source = source; label = label; theory = theory; content = Q }) where
+  pub declares-at : (command : Command) (notes : List Note) (next : Content) → Declares P.texts P.source P.label P.content command notes next → Declares texts source label Q command notes next
+  declares-at command notes next h = subst (λ (R : Place). Declares R.texts R.source R.label R.content command notes next) same h
 
-pub names-at : (texts : List (List ℕ)) (source : List ℕ) (label : Label) (theory : List ℕ) (Q : Content) (command : Command) (P : Place) → P ≡ record { texts = texts; source = source; label = label; theory = theory; content = Q }
-    → HasNames texts Q command → IsOwnText texts Q theory → HasFullNames P.texts P.theory command
-names-at texts source label theory Q command P same h own = subst (λ (R : Place). HasFullNames R.texts R.theory command) (sym same) (full-names texts Q command theory h own)
+  pub own-at : IsOwnText texts Q theory → IsOwnText P.texts P.content P.theory
+  own-at own = subst (λ (R : Place). IsOwnText R.texts R.content R.theory) (sym same) own
 
-pub ranges-at : (texts : List (List ℕ)) (source : List ℕ) (label : Label) (theory : List ℕ) (Q : Content) (command : Command) (P : Place) → P ≡ record { texts = texts; source = source; label = label; theory = theory; content = Q }
-    → HasRanges source command → HasRanges P.source command
-ranges-at texts source label theory Q command P same h = subst (λ (R : Place). HasRanges R.source command) (sym same) h
+  pub names-at : (command : Command) → HasNames texts Q command → IsOwnText texts Q theory → HasFullNames P.texts P.theory command
+  names-at command h own = subst (λ (R : Place). HasFullNames R.texts R.theory command) (sym same) (full-names texts Q command theory h own)
+
+  pub ranges-at : (command : Command) → HasRanges source command → HasRanges P.source command
+  ranges-at command h = subst (λ (R : Place). HasRanges R.source command) (sym same) h
+
+  pub labels-at : (command : Command) → HasPartLabels label command → HasPartLabels P.label command
+  labels-at command h = subst (λ (R : Place). HasPartLabels R.label command) (sym same) h

@@ -78,7 +78,7 @@ declares_promises texts source label Q command note next h x l A m =
     done-promise x l A P command o (declared-done P command o h.declares) m
 
 -- The theories of a content stay, whatever is declared.
-session-kept : (texts : List (List ℕ)) (Q : Content) (ds : List Decl) → IsInSession texts Q → IsInSession texts (with_declarations Q ds)
+pub session-kept : (texts : List (List ℕ)) (Q : Content) (ds : List Decl) → IsInSession texts Q → IsInSession texts (with_declarations Q ds)
 session-kept texts Q ds s = record { names = s.names; apart = record { ancestors = s.apart.ancestors; own = s.apart.own }; theories = s.theories }
 
 changed-session : (P : Place) (R : Content) → IsInSession P.texts P.content → IsChanged P R → IsInSession P.texts R

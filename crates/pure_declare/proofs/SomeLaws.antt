@@ -20,7 +20,7 @@ use Rattle.pure_statements.specs.Body.{body_of}
 use Rattle.pure_declare.specs.Notes.{Change}
 use Rattle.pure_declare.specs.Lookups.{AreWrittenClasses, AreWrittenSorts}
 use Rattle.pure_declare.specs.Commands.{Place, vocabulary, IsTaken, IsOutcome, IsSaid, IsMiscounted, IsFitting, IsNewClassChange, IsClassChange, IsTypeChange, IsFoundArityChange, IsClassArityChange, IsDomainsArityChange, IsArityChange, IsNewConstChange, IsConstChange, IsAxiomChange, IsBodyChange, IsTermChange, IsTypedChange, IsTreeChange, IsTextChange, IsNewDefinitionChange, IsDefinitionChange, IsLemmaOutcome, declaring, declaring_const, declaring_definition, declaring_axiom, defining, saying, forking}
-use Rattle.pure_declare.specs.Fold.{outcome_of}
+use Rattle.pure_declare.specs.First.{outcome_of}
 use Rattle.pure_declare.specs.Premises.{HasFullNames, HasRanges, LiesIn}
 use Rattle.pure_declare.specs.Good.{IsGood}
 use Rattle.pure_declare.specs.Somehow.{DeclaresSomehow}
@@ -110,7 +110,7 @@ module _ (P : Place) (g : IsGood P.content) where
       (λ new. then-some (IsStatedTyp (vocabulary P) P.source typ) (IsTextChange P x n f text) (stated_typ-some (vocabulary P) g.antisymmetric P.source typ first)
       (λ T h. text-some x n f text second T (typ-fixed (vocabulary P) P.source typ T h)))
 
-  outcome-some : (command : Command) → HasFullNames P.texts P.theory command → HasRanges P.source command → Answered (IsOutcome P command)
+  pub outcome-some : (command : Command) → HasFullNames P.texts P.theory command → HasRanges P.source command → Answered (IsOutcome P command)
   outcome-some (ClassOf x names) full ranges = let n = full.0 in let r = said-some (ClassOf x names) (IsClassChange P n.0 names) (class-some n.0 names) in (r.0, (n.0, n.1, r.1))
   outcome-some (TypeDecl x params) full ranges = let n = full.0 in let r = said-some (TypeDecl x params) (IsTypeChange P n.0 params) (typ-some n.0 params) in (r.0, (n.0, n.1, r.1))
   outcome-some (ArityOf con domains class) full ranges = said-some (ArityOf con domains class) (IsArityChange P con domains class) (arity-some con domains class)

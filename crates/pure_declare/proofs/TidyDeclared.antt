@@ -31,17 +31,17 @@ use Rattle.pure_statements.proofs.SchematicLaws.{normal-generalised}
 use Rattle.pure_declare.specs.Notes.{Fork, Forked, Outcome, Change}
 use Rattle.pure_declare.specs.Commands.{Place, vocabulary, IsOutcome, IsSaid, IsNewClassChange, IsClassChange, IsTypeChange, IsFoundArityChange, IsClassArityChange, IsDomainsArityChange, IsArityChange, IsNewConstChange, IsConstChange, IsAxiomChange, IsBodyChange, IsTermChange, IsTypedChange, IsTreeChange, IsTextChange, IsNewDefinitionChange, IsDefinitionChange, IsLemmaOutcome, declaring, declaring_const, declaring_definition, declaring_axiom, defining, forking}
 use Rattle.pure_declare.specs.Fixing.{fixed_again}
-use Rattle.pure_declare.specs.Fold.{outcome_of}
+use Rattle.pure_declare.specs.First.{outcome_of}
 use Rattle.pure_declare.specs.Tidy.{HasTypIndexes, IsUnschematic, IsTidyFact, IsTidyDecl, IsTidy, IsTidyFork, PureIsTidy, DeclaresTidy, ForksTidy}
 use Rattle.pure_declare.proofs.FixedLaws.{normal-has}
 use Rattle.pure_declare.proofs.FixingLaws.{term-again}
 use Rattle.pure_declare.proofs.TidyLaws.{Never, Zero, fixed-typ, typ-zero, generalised-zero, inst-zero, elaborated-never, normal-inst}
 
 -- A normal form that is elaborated at a type.
-record IsTidyTerm (u : Term) : Type 0 where
-  normal : IsBetaNormal u
-  closed : IsClosed u
-  fixed : IsUnschematic u
+pub record IsTidyTerm (u : Term) : Type 0 where
+  pub normal : IsBetaNormal u
+  pub closed : IsClosed u
+  pub fixed : IsUnschematic u
 
 tidy-term : (V : Vocabulary) (T : Typ) (raw : RawTree) (t u : Term) → IsFixedTyp T → IsTypedTerm V T raw (Ok t) → IsNormalised t (Ok u) → IsTidyTerm u
 tidy-term V T raw t u fixed typed normal = record {
@@ -60,18 +60,18 @@ inst-closed : (t : Term) → IsClosed t → IsClosed (inst_typ schematic_typ_var
 inst-closed t h = instance_is_closed schematic_typ_variable (retyped_variable schematic_typ_variable) (record { fixed = λ x T. tt; schematic = λ x i T. tt }) 0 t h
 
 -- A statement is such a term, and generalised.
-record IsTidyStated (s : Stated) : Type 0 where
-  term : IsTidyTerm s.fixed
-  prop : s.prop ≡ generalised s.fixed
+pub record IsTidyStated (s : Stated) : Type 0 where
+  pub term : IsTidyTerm s.fixed
+  pub prop : s.prop ≡ generalised s.fixed
 
-tidy-fact : (s : Stated) → IsTidyStated s → IsTidyFact s.prop
+pub tidy-fact : (s : Stated) → IsTidyStated s → IsTidyFact s.prop
 tidy-fact s h = subst IsTidyFact (sym h.prop) (record {
   normal = normal-generalised s.fixed h.term.normal;
   closed = generalised-closed s.fixed h.term.closed;
   zeros = generalised-zero s.fixed h.term.fixed;
 })
 
-stated-tidy : (V : Vocabulary) (source : List ℕ) (span : Span) (s : Stated) → IsStated V source span (Ok s) → IsTidyStated s
+pub stated-tidy : (V : Vocabulary) (source : List ℕ) (span : Span) (s : Stated) → IsStated V source span (Ok s) → IsTidyStated s
 stated-tidy V source span s (refuses reason h e) = absurd (cc)
 stated-tidy V source span s (goes_on raw read (refuses reason h e)) = absurd (cc)
 stated-tidy V source span s (goes_on raw read (goes_on t typed (refuses reason h e))) = absurd (cc)

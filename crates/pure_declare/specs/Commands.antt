@@ -1,5 +1,5 @@
 -- What each command declares over a content, or why it is refused. Its tests are in the order in which they stand.
-use Rattle.std.specs.Prelude.{◌≡◌, ◌≢◌, ◌⊎◌, ℕ, List, [], ◌++◌, length, codes, Result, Ok, Err}
+use Rattle.std.specs.Prelude.{◌≡◌, ◌≢◌, ◌⊎◌, ℕ, List, [], ◌++◌, length, codes, Some, Result, Ok, Err}
 use Rattle.pure_text.specs.Lists.{IsIn}
 use Rattle.pure_definitions.specs.Names.{Label}
 use Rattle.pure_definitions.specs.Types.Typ.{Typ}
@@ -11,7 +11,7 @@ use Rattle.pure_grammar.specs.Theories.TheoryText.{Span, Step, Command, Class, T
 use Rattle.pure_grammar.specs.Terms.RawTree.{RawTree}
 use Rattle.pure_typ.specs.NameTexts.{HasText}
 use Rattle.pure_logic.specs.Connectives.{eq}
-use Rattle.pure_logic.specs.Content.{Content, schematic_typ_variable, definition}
+use Rattle.pure_logic.specs.Content.{TheoryId, Content, schematic_typ_variable, definition}
 use Rattle.pure_lookup.specs.Meaning.{Space, classes, constructors, constants, facts, IsDeclaredIn, full_text}
 use Rattle.pure_order.specs.OrderTables.Arities.{with_arity, IsKnown}
 use Rattle.pure_order.specs.OrderTables.Checks.{IsLeastInConflict}
@@ -41,6 +41,12 @@ pub record Place : Type 0 where
   pub label : Label
   pub theory : List ℕ
   pub content : Content
+
+-- The text is that of the content's own theory.
+pub record IsOwnText (texts : List (List ℕ)) (Q : Content) (theory : List ℕ) : Type 0 where
+  pub own : TheoryId
+  pub is_own : Q.own ≡ Some own
+  pub text : HasText texts own.name theory
 
 -- The name of what has this base in the theory.
 abbrev pub IsNameOf : Place → (base : List ℕ) → ℕ → Type 0

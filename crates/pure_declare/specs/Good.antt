@@ -11,7 +11,8 @@ use Rattle.pure_theory.specs.Stage.{IsSound}
 use Rattle.pure_theory.specs.Refusals.{IsLabelAbove}
 use Rattle.pure_elab.specs.Sound.{AreCertifiedDeclarations}
 use Rattle.pure_declare.specs.Notes.{Note}
-use Rattle.pure_declare.specs.Fold.{Declares}
+use Rattle.pure_declare.specs.First.{Declares}
+use Rattle.pure_declare.specs.Parts.{Part, DeclaresPart}
 
 -- What every content of a session is: sound, with each class declared once and after those above it, so that no two classes are below each other.
 pub record IsGood (Q : Content) : Type 0 where
@@ -26,6 +27,11 @@ PureIsGood = IsGood pure_content
 abbrev pub DeclaresGood : Type 0
 DeclaresGood = (texts : List (List ℕ)) (source : List ℕ) (label : Label) (Q : Content) (command : Command) (note : Note) (next : Content)
     → IsInSession texts Q → IsGood Q → IsLabelAbove Q.declarations label → Declares texts source label Q command note next → IsGood next
+
+-- So does each part.
+abbrev pub PartsGood : Type 0
+PartsGood = (texts : List (List ℕ)) (source : List ℕ) (label : Label) (Q : Content) (part : Part) (note : Note) (next : Content)
+    → IsInSession texts Q → IsGood Q → IsLabelAbove Q.declarations label → DeclaresPart texts source label Q part note next → IsGood next
 
 -- A content above Pure's, whose declarations are certified, and so over declared classes alone: what is asked of a content over which terms are unified.
 pub record IsCertifiedContent (Q : Content) : Type 0 where

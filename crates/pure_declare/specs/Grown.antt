@@ -6,7 +6,8 @@ use Rattle.pure_logic.specs.Content.{Content, IsBelow, IsContent}
 use Rattle.pure_lookup.specs.Laws.{IsInSession}
 use Rattle.pure_theory.specs.Refusals.{IsBefore, IsLabelAbove}
 use Rattle.pure_declare.specs.Notes.{Note}
-use Rattle.pure_declare.specs.Fold.{Declares}
+use Rattle.pure_declare.specs.First.{Declares}
+use Rattle.pure_declare.specs.Parts.{Part, DeclaresPart}
 use Rattle.pure_declare.specs.Premises.{HasClassesAbove}
 
 -- The second content is the first with more declarations, in the same theory; the classes above a class are declared; and each label behind this one is above all its labels.
@@ -21,3 +22,8 @@ pub record IsGrown (label : Label) (Q R : Content) : Type 0 where
 abbrev pub DeclaresGrown : Type 0
 DeclaresGrown = (texts : List (List ℕ)) (source : List ℕ) (label : Label) (Q : Content) (command : Command) (note : Note) (next : Content)
     → IsInSession texts Q → IsContent Q → HasClassesAbove Q → IsLabelAbove Q.declarations label → Declares texts source label Q command note next → IsGrown label Q next
+
+-- So has a part's.
+abbrev pub PartsGrow : Type 0
+PartsGrow = (texts : List (List ℕ)) (source : List ℕ) (label : Label) (Q : Content) (part : Part) (note : Note) (next : Content)
+    → IsInSession texts Q → IsContent Q → HasClassesAbove Q → IsLabelAbove Q.declarations label → DeclaresPart texts source label Q part note next → IsGrown label Q next

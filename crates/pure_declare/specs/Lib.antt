@@ -5,7 +5,10 @@ pub mod Fixing
 pub mod Lookups
 pub mod Commands
 pub mod Codes
+pub mod First
+pub mod Parts
 pub mod Fold
+pub mod Plain
 pub mod Premises
 pub mod Changes
 pub mod Seen
@@ -17,3 +20,5 @@ pub mod Sessions
 pub mod Good
 pub mod Once
 pub mod Somehow
+pub mod Ends
+pub mod Chains

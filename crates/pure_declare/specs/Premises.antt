@@ -1,5 +1,5 @@
 -- What a call that declares is given: names for what the command declares, ranges that lie in the source, and a stage that such calls made.
-use Rattle.std.specs.Prelude.{◌<◌, ◌≤◌, ℕ, List, [], ◌∷◌, length}
+use Rattle.std.specs.Prelude.{◌≡◌, ◌<◌, ◌≤◌, ℕ, List, [], ◌∷◌, length}
 use Rattle.pure_text.specs.Lists.{IsIn, Each}
 use Rattle.pure_definitions.specs.Names.{Label}
 use Rattle.pure_definitions.specs.Types.Order.{Class}
@@ -11,8 +11,7 @@ use Rattle.pure_logic.specs.Content.{Content}
 use Rattle.pure_lookup.specs.Meaning.{full_text}
 use Rattle.pure_lookup.specs.Laws.{IsInSession}
 use Rattle.pure_theory.specs.Refusals.{IsLabelAbove}
-use Rattle.pure_declare.specs.Commands.{fact_base}
-use Rattle.pure_declare.specs.Fold.{IsOwnText}
+use Rattle.pure_declare.specs.Commands.{IsOwnText, fact_base}
 
 -- the bases of what a command declares; a have has none
 abbrev pub bases_of : Command → List (List ℕ)
@@ -51,6 +50,16 @@ pub record LiesIn (source : List ℕ) (span : Span) : Type 0 where
 -- The ranges of the command lie in the source.
 abbrev pub HasRanges : (source : List ℕ) → Command → Type 0
 HasRanges source command = Each (λ c. LiesIn source (cited_span c)) (command_spans command)
+
+-- the haves of a command
+abbrev pub haves_of : Command → List Have
+haves_of (Lemma x prop haves script) = haves
+haves_of _ = []
+
+-- The label is that of the command's part 0, and its parts, the haves and then the command's own, have numbers below 2^32.
+pub record HasPartLabels (label : Label) (command : Command) : Type 0 where
+  pub first : label.part ≡ 0
+  pub few : length (haves_of command) < 4294967296
 
 -- The classes that a class is declared to be below are declared.
 abbrev pub HasClassesAbove : Content → Type 0

@@ -12,7 +12,8 @@ use Rattle.pure_logic.specs.Content.{Content}
 use Rattle.pure_logic.specs.PureContent.{pure_content}
 use Rattle.pure_statements.specs.Schematic.{generalised}
 use Rattle.pure_declare.specs.Notes.{Note, Fork, Forked}
-use Rattle.pure_declare.specs.Fold.{Declares}
+use Rattle.pure_declare.specs.First.{Declares}
+use Rattle.pure_declare.specs.Parts.{Part, DeclaresPart}
 
 -- Each schematic type variable in the type has an index with the property.
 abbrev mutual
@@ -71,3 +72,10 @@ DeclaresTidy = (texts : List (List ℕ)) (source : List ℕ) (label : Label) (Q 
 -- So are the statements of the lemmas that commands bind.
 abbrev pub ForksTidy : Type 0
 ForksTidy = (texts : List (List ℕ)) (source : List ℕ) (label : Label) (Q : Content) (command : Command) (fork : Fork) (next : Content) → Declares texts source label Q command (Forked fork) next → IsTidyFork fork
+
+-- Each part keeps a content's facts so, and what it binds is so, too.
+abbrev pub PartsTidy : Type 0
+PartsTidy = (texts : List (List ℕ)) (source : List ℕ) (label : Label) (Q : Content) (part : Part) (note : Note) (next : Content) → IsTidy Q → DeclaresPart texts source label Q part note next → IsTidy next
+
+abbrev pub PartForksTidy : Type 0
+PartForksTidy = (texts : List (List ℕ)) (source : List ℕ) (label : Label) (Q : Content) (part : Part) (fork : Fork) (next : Content) → DeclaresPart texts source label Q part (Forked fork) next → IsTidyFork fork

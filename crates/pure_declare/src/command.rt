@@ -1,24 +1,29 @@
 //! The call that declares.
-ghost use Rattle.std.specs.Prelude.{◌≡◌, ◌++◌, ℕ, List, IfOk, IfErr, Ok, Err};
+ghost use Rattle.std.specs.Prelude.{◌≡◌, ◌<◌, ◌++◌, ℕ, List, map, length, IfOk, IfErr, Ok, Err};
+ghost use Rattle.pure_text.specs.Lists.{Each};
+ghost use Rattle.pure_grammar.specs.Theories.TheoryText as tree;
+ghost use Rattle.pure_grammar.specs.Theories.Spans.{OfProp, cited_span};
 ghost use Rattle.pure_lookup.specs.Meaning.{full_text};
-ghost use Rattle.pure_script.specs.Seen.{span, seen_command, seen_steps};
+ghost use Rattle.pure_script.specs.Seen.{span, seen_have, seen_command, seen_steps};
 ghost use Rattle.pure_statements.specs.Chain.{Answers, FailsAs};
 ghost use Rattle.pure_declare.specs.Changes.{IsCommandChange, IsNoLemma};
 ghost use Rattle.pure_declare.specs.Commands as spec;
-ghost use Rattle.pure_declare.specs.Commands.{IsNameOf, IsSaid, IsOutcome};
-ghost use Rattle.pure_declare.specs.Fold as fold;
-ghost use Rattle.pure_declare.specs.Fold.{IsDeclaredAs, IsOwnText, Declares};
-ghost use Rattle.pure_declare.specs.Premises.{IsNamed, HasFullNames, HasNames, HasRanges, LiesIn, IsGiven};
-ghost use Rattle.pure_declare.specs.Seen.{seen_note, seen_outcome};
+ghost use Rattle.pure_declare.specs.Commands.{IsNameOf, IsOwnText, IsSaid, IsOutcome};
+ghost use Rattle.pure_declare.specs.First as first;
+ghost use Rattle.pure_declare.specs.First.{IsDeclaredAs};
+ghost use Rattle.pure_declare.specs.Fold.{Declares};
+ghost use Rattle.pure_declare.specs.Premises.{IsNamed, AreHavesNamed, HasFullNames, HasNames, HasRanges, HasPartLabels, LiesIn, IsGiven};
+ghost use Rattle.pure_declare.specs.Seen.{seen_notes, seen_outcome};
 
 use crate::arity::arity_change;
 use crate::change::Change;
 use crate::definition::{Pair, definition_change};
-use crate::lemma::lemma_outcome;
-use crate::notes::{Declared, Note};
+use crate::haves::parts_declared;
+use crate::lemma::new_statement;
+use crate::notes::{Declared, Note, PartOutcome};
 use crate::place::Place;
 use crate::simple::{axiom_change, class_change, const_change, typ_change};
-use pure_script::{Command, Span, Step};
+use pure_script::{Command, Have, Span, Step};
 use pure_statements::{Failed, Reason, declared_row, refused_row};
 use pure_text::Text;
 use pure_theory::Stage;
@@ -119,20 +124,20 @@ fn saying(
     place: &Place<'_>,
     command: &Command,
     change: Change,
-) -> Result<Declared, AllocError>
+) -> Result<PartOutcome, AllocError>
     ensures { IfOk result (λ d. seen_outcome d ≡ spec.saying place.now (seen_command command.now) change) }
 {
     let (tail, next) = change.into_parts();
     let stage = shared(alloc, next)?;
     let row = declared_row(alloc, place.text(), command, tail)?;
-    Ok(Declared {
+    Ok(PartOutcome {
         stage,
         note: Note::Row { row },
     })
 }
 
 /// What comes of a command that isn't a lemma, where it isn't refused.
-fn said(alloc: Global, place: &Place<'_>, command: &Command) -> Result<Declared, Failed>
+fn said(alloc: Global, place: &Place<'_>, command: &Command) -> Result<PartOutcome, Failed>
     requires kind { IsNoLemma (seen_command command.now) }
     requires names { HasFullNames place.now.texts place.now.theory (seen_command command.now) }
     requires ranges { HasRanges place.now.source (seen_command command.now) }
@@ -145,38 +150,15 @@ fn said(alloc: Global, place: &Place<'_>, command: &Command) -> Result<Declared,
     Ok(declared)
 }
 
-/// What comes of a lemma, by its base, where it isn't refused.
-fn based_lemma(
-    alloc: Global,
-    place: &Place<'_>,
-    base: &[u8],
-    at: Span,
-    script: &[Step],
-) -> Result<Declared, Failed>
-    requires name { IsNamed place.now.texts (full_text place.now.theory base.now) }
-    requires within { LiesIn place.now.source (span at) }
-    ensures ok { IfOk result (λ d. (n : ℕ) × IsNameOf place.now base.now n × spec.IsLemmaOutcome place.now n (span at) (seen_steps script.now) (Ok (seen_outcome d))) }
-    ensures failed { IfErr result (FailsAs (λ answer. (n : ℕ) × IsNameOf place.now base.now n × spec.IsLemmaOutcome place.now n (span at) (seen_steps script.now) answer)) }
-{
-    let number = name_of(place, base);
-    lemma_outcome(alloc, place, number, at, script)
-}
-
-/// What comes of a command that isn't refused.
-fn outcome_of(alloc: Global, place: &Place<'_>, command: &Command) -> Result<Declared, Failed>
+/// The same, as what the command does.
+fn outcome_of(alloc: Global, place: &Place<'_>, command: &Command) -> Result<PartOutcome, Failed>
+    requires kind { IsNoLemma (seen_command command.now) }
     requires names { HasFullNames place.now.texts place.now.theory (seen_command command.now) }
     requires ranges { HasRanges place.now.source (seen_command command.now) }
     ensures ok { IfOk result (λ d. IsOutcome place.now (seen_command command.now) (Ok (seen_outcome d))) }
     ensures failed { IfErr result (FailsAs (IsOutcome place.now (seen_command command.now))) }
 {
-    match command {
-        Command::Lemma {
-            name, prop, script, ..
-        } => {
-            based_lemma(alloc, place, name.bytes(), *prop, script)
-        }
-        _ => said(alloc, place, command),
-    }
+    said(alloc, place, command)
 }
 
 /// The row of a command that is refused, and the same stage.
@@ -185,8 +167,8 @@ fn refused(
     place: &Place<'_>,
     command: &Command,
     reason: Reason,
-) -> Result<Declared, AllocError>
-    ensures { IfOk result (λ d. seen_outcome d ≡ fold.outcome_of place.now (seen_command command.now) (Err reason)) }
+) -> Result<PartOutcome, AllocError>
+    ensures { IfOk result (λ d. seen_outcome d ≡ first.outcome_of place.now (seen_command command.now) (Err reason)) }
 {
     let row = refused_row(
         alloc,
@@ -197,22 +179,114 @@ fn refused(
         reason,
     )?;
     let stage = Arc::try_clone(place.stage())?;
-    Ok(Declared {
+    Ok(PartOutcome {
         stage,
         note: Note::Row { row },
     })
 }
 
-/// What comes of a command.
-fn declared(alloc: Global, place: &Place<'_>, command: &Command) -> Result<Declared, AllocError>
+/// What comes of a command that isn't a lemma.
+fn whole(alloc: Global, place: &Place<'_>, command: &Command) -> Result<PartOutcome, AllocError>
+    requires kind { IsNoLemma (seen_command command.now) }
     requires names { HasFullNames place.now.texts place.now.theory (seen_command command.now) }
     requires ranges { HasRanges place.now.source (seen_command command.now) }
     ensures { IfOk result (λ d. IsDeclaredAs place.now (seen_command command.now) (seen_outcome d)) }
 {
     match outcome_of(alloc, place, command) {
-        Ok(declared) => Ok(declared),
+        Ok(outcome) => Ok(outcome),
         Err(Failed::Refused { reason }) => refused(alloc, place, command, reason),
         Err(Failed::Memory) => Err(AllocError),
+    }
+}
+
+/// The same, as a command of one part.
+fn whole_declared(
+    alloc: Global,
+    place: &Place<'_>,
+    command: &Command,
+) -> Result<Declared, AllocError>
+    requires own { IsOwnText place.now.texts place.now.content place.now.theory }
+    requires first { place.now.label.part ≡ 0 }
+    requires kind { IsNoLemma (seen_command command.now) }
+    requires names { HasFullNames place.now.texts place.now.theory (seen_command command.now) }
+    requires ranges { HasRanges place.now.source (seen_command command.now) }
+    ensures { IfOk result (λ d. Declares place.now.texts place.now.source place.now.label place.now.content (seen_command command.now) (seen_notes d.notes.items) d.stage.value) }
+{
+    let outcome = whole(alloc, place, command)?;
+    let declared = outcome.alone(alloc)?;
+    Ok(declared)
+}
+
+/// The row of a lemma that is refused, alone.
+fn lemma_refused(
+    alloc: Global,
+    place: &Place<'_>,
+    command: &Command,
+    reason: Reason,
+) -> Result<Declared, AllocError>
+    requires own { IsOwnText place.now.texts place.now.content place.now.theory }
+    requires first { place.now.label.part ≡ 0 }
+    requires lemma { (base : List ℕ) × (at : tree.Span) × (haves : List tree.Have) × (script : List tree.Step) × (seen_command command.now ≡ tree.Lemma base at haves script) }
+    requires refused { IsOutcome place.now (seen_command command.now) (Err reason) }
+    ensures { IfOk result (λ d. Declares place.now.texts place.now.source place.now.label place.now.content (seen_command command.now) (seen_notes d.notes.items) d.stage.value) }
+{
+    let outcome = refused(alloc, place, command, reason)?;
+    let declared = outcome.alone(alloc)?;
+    Ok(declared)
+}
+
+/// What comes of a lemma, by its parts. Its own statement is tested first.
+fn lemma_declared(
+    alloc: Global,
+    place: &Place<'_>,
+    command: &Command,
+    base: &[u8],
+    at: Span,
+    haves: &[Have],
+    script: &[Step],
+) -> Result<Declared, AllocError>
+    requires own { IsOwnText place.now.texts place.now.content place.now.theory }
+    requires first { place.now.label.part ≡ 0 }
+    requires lemma { seen_command command.now ≡ tree.Lemma base.now (span at) (map seen_have haves.now) (seen_steps script.now) }
+    requires name { IsNamed place.now.texts (full_text place.now.theory base.now) }
+    requires within { LiesIn place.now.source (span at) }
+    requires names { AreHavesNamed place.now.texts (full_text place.now.theory base.now) (map seen_have haves.now) }
+    requires ranges { Each (λ c. LiesIn place.now.source (cited_span c)) (map (λ (h : tree.Have). OfProp h.prop) (map seen_have haves.now)) }
+    requires few { length haves.now < 4294967296 }
+    ensures { IfOk result (λ d. Declares place.now.texts place.now.source place.now.label place.now.content (seen_command command.now) (seen_notes d.notes.items) d.stage.value) }
+{
+    let number = name_of(place, base);
+    match new_statement(alloc, place, number, at) {
+        Ok(stated) => parts_declared(alloc, place, number, base, haves, stated, script),
+        Err(Failed::Refused { reason }) => lemma_refused(alloc, place, command, reason),
+        Err(Failed::Memory) => Err(AllocError),
+    }
+}
+
+/// What comes of a command.
+fn declared(alloc: Global, place: &Place<'_>, command: &Command) -> Result<Declared, AllocError>
+    requires own { IsOwnText place.now.texts place.now.content place.now.theory }
+    requires names { HasFullNames place.now.texts place.now.theory (seen_command command.now) }
+    requires ranges { HasRanges place.now.source (seen_command command.now) }
+    requires labels { HasPartLabels place.now.label (seen_command command.now) }
+    ensures { IfOk result (λ d. Declares place.now.texts place.now.source place.now.label place.now.content (seen_command command.now) (seen_notes d.notes.items) d.stage.value) }
+{
+    match command {
+        Command::Lemma {
+            name,
+            prop,
+            haves,
+            script,
+        } => lemma_declared(
+            alloc,
+            place,
+            command,
+            name.bytes(),
+            *prop,
+            haves,
+            script,
+        ),
+        _ => whole_declared(alloc, place, command),
     }
 }
 
@@ -230,12 +304,12 @@ fn own_text<'n>(stage: &Stage, names: &'n NamesByBase) -> &'n [u8]
     text
 }
 
-/// What comes of a command over the stage before it: its row, or the duty to prove it, and the next stage. A command that is refused leaves the stage as it is
-/// (Isabelle/Isar Implementation manual, chapter 2; the order of each command's tests is that of its definition).
+/// What comes of a command over the stage before it, part by part: for each its row, or the duty to prove it, in the order of the rows; and the next stage. A lemma's own statement is tested first, in the stage before it; where that is refused the lemma's row is all, and else its haves come before it, each over the stage that those before it leave. What is refused leaves the stage as it is
+/// (Isabelle/Isar Implementation manual, chapter 2; the order of each command's tests is that of its definition). The label is that of the command's part 0.
 ///
 /// # Errors
 ///
-/// Want of memory alone: why a command is refused stands in its row.
+/// Want of memory alone: why something is refused stands in its row.
 pub fn declare(
     alloc: Global,
     stage: &Stage,
@@ -247,7 +321,8 @@ pub fn declare(
     requires names { HasNames names.now stage.now.value (seen_command command.now) }
     requires ranges { HasRanges source.now (seen_command command.now) }
     requires given { IsGiven names.now source.now stage.now.value label }
-    ensures { IfOk result (λ d. Declares names.now source.now label stage.now.value (seen_command command.now) (seen_note d.note) d.stage.value) }
+    requires labels { HasPartLabels label (seen_command command.now) }
+    ensures { IfOk result (λ d. Declares names.now source.now label stage.now.value (seen_command command.now) (seen_notes d.notes.items) d.stage.value) }
 {
     let text = own_text(stage, names);
     let place = Place::make(stage, names, source, text, label);

@@ -1,12 +1,15 @@
 //! What the definitions mean: laws, each carried by the contract of a function that does nothing.
-ghost use Rattle.pure_declare.specs.Bound.{ForksBound};
-ghost use Rattle.pure_declare.specs.Good.{PureIsGood, DeclaresGood, GoodIsCertified};
-ghost use Rattle.pure_declare.specs.Grown.{DeclaresGrown};
-ghost use Rattle.pure_declare.specs.Once.{DeclaresOnce};
-ghost use Rattle.pure_declare.specs.Promised.{DeclaresPromises, ForksPromised};
-ghost use Rattle.pure_declare.specs.Sessions.{DeclaresInSession};
-ghost use Rattle.pure_declare.specs.Somehow.{DeclaresSomehow};
-ghost use Rattle.pure_declare.specs.Tidy.{PureIsTidy, DeclaresTidy, ForksTidy};
+ghost use Rattle.pure_declare.specs.Bound.{ForksBound, PartForksBound};
+ghost use Rattle.pure_declare.specs.Chains.{CommandsKeep};
+ghost use Rattle.pure_declare.specs.Ends.{LemmasEnd, LemmasRefused, OneCommandOfLemma};
+ghost use Rattle.pure_declare.specs.Good.{PureIsGood, DeclaresGood, PartsGood, GoodIsCertified};
+ghost use Rattle.pure_declare.specs.Grown.{DeclaresGrown, PartsGrow};
+ghost use Rattle.pure_declare.specs.Once.{DeclaresOnce, PartsOnce, CommandsOnce};
+ghost use Rattle.pure_declare.specs.Plain.{DeclaresPlain, AreDeclaredPlain};
+ghost use Rattle.pure_declare.specs.Promised.{DeclaresPromises, ForksPromised, PartsPromise, PartForksPromised};
+ghost use Rattle.pure_declare.specs.Sessions.{DeclaresInSession, PartsInSession};
+ghost use Rattle.pure_declare.specs.Somehow.{DeclaresSomehow, CommandsSomehow};
+ghost use Rattle.pure_declare.specs.Tidy.{PureIsTidy, DeclaresTidy, ForksTidy, PartsTidy, PartForksTidy};
 
 /// A command's next content is of the same theory, has the declarations of the one before, and keeps what the next command asks.
 pub fn declares_grown()
@@ -71,4 +74,89 @@ pub fn declares_once()
 /// Over such a content of a session, with names for what it declares and ranges that lie in the source, a command leaves some note and some next content.
 pub fn declares_somehow()
     ensures { DeclaresSomehow }
+{}
+
+/// A part's next content is of the same theory, has the declarations of the one before, and keeps what the next part asks.
+pub fn parts_grow()
+    ensures { PartsGrow }
+{}
+
+/// Where a content's facts are tidy, those of a part's next content are.
+pub fn parts_tidy()
+    ensures { PartsTidy }
+{}
+
+/// The statement of a fork that a part leaves is in beta normal form, closed and without schematic variables, and its promise states it generalised.
+pub fn part_forks_tidy()
+    ensures { PartForksTidy }
+{}
+
+/// A promise of a part's next content stood before, or is that of the fork which the part leaves.
+pub fn parts_promise()
+    ensures { PartsPromise }
+{}
+
+/// Where a part leaves a fork, the next content is the one before with the fork's promise.
+pub fn part_forks_promised()
+    ensures { PartForksPromised }
+{}
+
+/// A fork that a part leaves has the part's label, content and proof, and states a proposition of the content.
+pub fn part_forks_bound()
+    ensures { PartForksBound }
+{}
+
+/// A part's next content is one of the session too.
+pub fn parts_in_session()
+    ensures { PartsInSession }
+{}
+
+/// Where a content is good, a part's next content is.
+pub fn parts_good()
+    ensures { PartsGood }
+{}
+
+/// Over a good content of a session a part leaves one note and one next content at most.
+pub fn parts_once()
+    ensures { PartsOnce }
+{}
+
+/// Over such a content a command leaves one list of notes and one next content at most.
+pub fn commands_once()
+    ensures { CommandsOnce }
+{}
+
+/// Over such a content, with names for what it declares and ranges that lie in the source, a command leaves some notes and some next content.
+pub fn commands_somehow()
+    ensures { CommandsSomehow }
+{}
+
+/// What a command without haves leaves is one part, as it was before there were haves.
+pub fn declares_plain()
+    ensures { DeclaresPlain }
+{}
+
+/// So it is with commands of which none has haves.
+pub fn are_declared_plain()
+    ensures { AreDeclaredPlain }
+{}
+
+/// A lemma's own fork, behind its haves, is that which it has where they are passed over, over the content that they leave; and theirs are of this lemma.
+pub fn lemmas_end()
+    ensures { LemmasEnd }
+{}
+
+/// A lemma whose own statement is refused leaves its row alone.
+pub fn lemmas_refused()
+    ensures { LemmasRefused }
+{}
+
+/// Two forks of a theory with the same lemma are of one command.
+pub fn one_command_of_lemma()
+    ensures { OneCommandOfLemma }
+{}
+
+/// A command's next content keeps what each of its parts keeps.
+pub fn commands_keep()
+    ensures { CommandsKeep }
 {}

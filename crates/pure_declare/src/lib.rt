@@ -8,6 +8,7 @@ mod definition;
 mod fault;
 mod fixing;
 mod grown;
+mod haves;
 mod language;
 pub mod laws;
 mod lemma;

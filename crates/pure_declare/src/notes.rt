@@ -1,5 +1,6 @@
 //! What commands leave: a row, or a lemma whose proof is still to be given.
-ghost use Rattle.std.specs.Prelude.{◌≡◌, IfOk};
+ghost use Rattle.std.specs.Prelude.{◌≡◌, [], ◌∷◌, ◌++◌, IfOk, OnOk};
+ghost use Rattle.pure_declare.specs.Seen.{seen_note, seen_notes};
 
 use crate::fixing::fixed_again;
 use pure_print::Row;
@@ -55,9 +56,52 @@ pub enum Note {
     Forked { duty: Duty },
 }
 
-/// What comes of a command: what it leaves in the table, and the next stage.
+/// What comes of one part of a command: what it leaves in the table, and the next stage.
+#[derive(Drop)]
+pub(crate) struct PartOutcome {
+    pub(crate) stage: Stage,
+    pub(crate) note: Note,
+}
+
+/// What comes of a command: what its parts leave in the table, in the order of the rows, and the next stage.
 #[derive(Drop)]
 pub struct Declared {
     pub stage: Stage,
-    pub note: Note,
+    pub notes: Vec<Note>,
+}
+
+impl PartOutcome {
+    /// The outcome of a command that is this part alone.
+    pub(crate) fn alone(self, alloc: Global) -> Result<Declared, AllocError>
+        ensures notes { IfOk result (λ d. seen_notes d.notes.items ≡ seen_note self.note ∷ []) }
+        ensures next { IfOk result (λ d. d.stage.value ≡ self.stage.value) }
+    {
+        let PartOutcome { stage, note } = self;
+        let mut notes = Vec::with_capacity(alloc, 1)?;
+        notes.push(note)?;
+        Ok(Declared { stage, notes })
+    }
+}
+
+impl Declared {
+    /// Nothing so far, at this stage.
+    pub(crate) fn nothing(alloc: Global, stage: &Stage) -> Result<Declared, AllocError>
+        ensures notes { IfOk result (λ d. seen_notes d.notes.items ≡ []) }
+        ensures next { IfOk result (λ d. d.stage.value ≡ stage.now.value) }
+    {
+        let stage = Arc::try_clone(stage)?;
+        let notes = Vec::new(alloc);
+        Ok(Declared { stage, notes })
+    }
+
+    /// Goes on by what comes of one part more.
+    pub(crate) fn put(&mut self, outcome: PartOutcome) -> Result<(), AllocError>
+        ensures notes { OnOk result (seen_notes self.new.notes.items ≡ seen_notes self.old.notes.items ++ seen_note outcome.note ∷ []) }
+        ensures next { OnOk result (self.new.stage.value ≡ outcome.stage.value) }
+    {
+        let PartOutcome { stage, note } = outcome;
+        self.notes.push(note)?;
+        self.stage = stage;
+        Ok(())
+    }
 }

@@ -3,6 +3,7 @@ ghost use Rattle.std.specs.Prelude.{◌≡◌, ◌<◌, length};
 ghost use Rattle.pure_lookup.specs.Laws.{IsInSession};
 ghost use Rattle.pure_theory.specs.Refusals.{IsLabelAbove};
 ghost use Rattle.pure_theory.specs.Stage.{IsSound};
+ghost use Rattle.pure_declare.specs.Fold.{part_label};
 ghost use Rattle.pure_declare.specs.Premises.{IsGiven};
 
 use crate::language::NamedTheory;
@@ -51,6 +52,31 @@ impl<'t> Place<'t> {
             names,
             source,
             text,
+            label,
+        }
+    }
+
+    /// The label of the command's part at this place.
+    pub(crate) fn part_label(&self, part: u32) -> Label
+        ensures { result ≡ part_label self.now.label part }
+    {
+        Label {
+            theory: self.label.theory,
+            command: self.label.command,
+            part,
+        }
+    }
+
+    /// The place of a later part of the command, with this label and over this stage.
+    pub(crate) fn later<'s>(&'s self, stage: &'s Stage, label: Label) -> Place<'s>
+        requires { IsGiven self.now.texts self.now.source stage.now.value label }
+        ensures { result ≡ record { texts = self.now.texts; source = self.now.source; label = label; theory = self.now.theory; content = stage.now.value } }
+    {
+        Place {
+            stage,
+            names: self.names,
+            source: self.source,
+            text: self.text,
             label,
         }
     }
@@ -112,6 +138,13 @@ impl<'t> Place<'t> {
     /// The names and the stage are those of a session.
     pub(crate) fn is_in_session(&self)
         ensures { IsInSession self.now.texts self.now.content }
+    {
+        let _ = &self.names;
+    }
+
+    /// What stands around the command is given as a call that declares asks.
+    pub(crate) fn is_given(&self)
+        ensures { IsGiven self.now.texts self.now.source self.now.content self.now.label }
     {
         let _ = &self.names;
     }

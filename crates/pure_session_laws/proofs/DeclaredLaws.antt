@@ -18,7 +18,7 @@ use Rattle.pure_statements.specs.declared.reason.Reason.{Reason}
 use Rattle.pure_statements.specs.Chain.{refuses, goes_on, holds, passes}
 use Rattle.pure_method.specs.Declare.Notes.{Note, Outcome, Change}
 use Rattle.pure_method.specs.Declare.Commands.{Place, IsNameOf, fact_base, IsOutcome, IsSaid, IsNewClassChange, IsClassChange, IsTypeChange, IsFoundArityChange, IsClassArityChange, IsDomainsArityChange, IsArityChange, IsNewConstChange, IsConstChange, IsAxiomChange, IsBodyChange, IsTermChange, IsTypedChange, IsTreeChange, IsTextChange, IsNewDefinitionChange, IsDefinitionChange, IsLemmaOutcome, declaring, declaring_const, declaring_definition, declaring_axiom, forking}
-use Rattle.pure_method.specs.Declare.Fold.{outcome_of, Declares}
+use Rattle.pure_method.specs.Declare.First.{outcome_of, Declares}
 use Rattle.pure_session_laws.specs.Owned.{IsNameIn, IsOf}
 
 -- The second content is of the same theory, and each of its declarations is the first's, or one of the theory t.

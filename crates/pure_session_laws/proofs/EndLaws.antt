@@ -9,7 +9,7 @@ use Rattle.pure_grammar.specs.Theories.TheoryText.{Command}
 use Rattle.pure_logic.specs.Content.{TheoryId, Content}
 use Rattle.pure_logic.specs.Beginning.{AreToldApart, IsNewOver, ancestors_of, theories_of, HasTheoriesApart}
 use Rattle.pure_method.specs.Declare.Notes.{Note}
-use Rattle.pure_method.specs.Declare.Fold.{AreDeclared}
+use Rattle.pure_method.specs.Declare.First.{AreDeclared}
 use Rattle.pure_session_laws.specs.Owned.{IsLast, IsOwned}
 use Rattle.pure_session_laws.specs.Ended.{HasPlainName, AreEnded, IsNext, IsGivenParents}
 use Rattle.pure_session_laws.specs.Kept.{CommandKeepsOwned, CommandKeepsSession, NothingHasEnded, TheoryEnds}

@@ -12,5 +12,6 @@ pub mod LimitLaws
 pub mod HeaderLaws
 pub mod NamedLaws
 pub mod ScriptLaws
+pub mod AloneLaws
 pub mod WellLaws
 pub mod FollowingLaws

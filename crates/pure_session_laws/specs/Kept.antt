@@ -6,7 +6,7 @@ use Rattle.pure_logic.specs.Content.{TheoryId, Content, IsContent}
 use Rattle.pure_logic.specs.Beginning.{IsBeginning}
 use Rattle.pure_lookup.specs.Laws.{IsInSession}
 use Rattle.pure_method.specs.Declare.Notes.{Note}
-use Rattle.pure_method.specs.Declare.Fold.{Declares, AreDeclared}
+use Rattle.pure_method.specs.Declare.First.{Declares, AreDeclared}
 use Rattle.pure_session_laws.specs.Owned.{IsLast, IsOwned}
 use Rattle.pure_session_laws.specs.Ended.{AreEnded, IsGivenParents}
 

@@ -3,7 +3,7 @@ use Rattle.std.proofs.Common.{◌≡◌, ℕ, ◌+◌, List, [], ◌∷◌, ◌+
 use Rattle.pure_grammar.specs.Theories.TheoryText.{Command}
 use Rattle.pure_logic.specs.Content.{Content}
 use Rattle.pure_session_laws.specs.Declare.Notes.{Note}
-use Rattle.pure_session_laws.specs.Declare.Fold.{Declares, AreDeclared}
+use Rattle.pure_session_laws.specs.Declare.First.{Declares, AreDeclared}
 use Rattle.pure_session_meaning.specs.Steps.{command_label}
 
 -- First some commands, and then others.

@@ -6,7 +6,7 @@ use Rattle.pure_grammar.specs.Theories.TheoryText.{Command}
 use Rattle.pure_logic.specs.Content.{Content}
 use Rattle.pure_graph.specs.Order.{Loaded}
 use Rattle.pure_session_laws.specs.Declare.Notes.{Note, Fork, Forked}
-use Rattle.pure_session_laws.specs.Declare.Fold.{Declares, AreDeclared}
+use Rattle.pure_session_laws.specs.Declare.First.{Declares, AreDeclared}
 use Rattle.pure_session_laws.specs.Declare.Bound.{IsBoundAs}
 use Rattle.pure_session_laws.proofs.Declare.BoundLaws.{forks_bound}
 use Rattle.pure_session_laws.specs.Loaded.{IsLoadedSession}

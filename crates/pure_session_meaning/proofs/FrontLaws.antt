@@ -4,7 +4,7 @@ use Rattle.pure_grammar.specs.Theories.TheoryText.{Command}
 use Rattle.pure_logic.specs.Content.{Content}
 use Rattle.pure_graph.specs.Order.{Loaded}
 use Rattle.pure_session_laws.specs.Declare.Notes.{Note}
-use Rattle.pure_session_laws.specs.Declare.Fold.{AreDeclared}
+use Rattle.pure_session_laws.specs.Declare.First.{AreDeclared}
 use Rattle.pure_session_laws.specs.Loaded.{IsLoadedSession}
 use Rattle.pure_session_meaning.specs.Verdicts.{Verdict, Ran, IsTheoryAt, Begins, Closes, barred, ran, AllClose}
 use Rattle.pure_session_meaning.specs.Statements.{IsRun}

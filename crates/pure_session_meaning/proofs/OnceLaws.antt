@@ -12,7 +12,7 @@ use Rattle.pure_statements.specs.declared.reason.Reason.TheVariants.{NotCoregula
 use Rattle.pure_graph.specs.Order.{Loaded}
 use Rattle.pure_graph.specs.Session.{parent_refused_text}
 use Rattle.pure_session_laws.specs.Declare.Notes.{Note}
-use Rattle.pure_session_laws.specs.Declare.Fold.{AreDeclared}
+use Rattle.pure_session_laws.specs.Declare.First.{AreDeclared}
 use Rattle.pure_session_laws.proofs.Declare.OnceLaws.{declares_once}
 use Rattle.pure_session_laws.specs.Loaded.{IsLoadedSession}
 use Rattle.pure_session_meaning.specs.Verdicts.{Verdict, Barred, Ran, IsTheoryAt, refused_theory, IsFirstBarred, AreLast, beginning_over, Begins, IsBarred, by_parent, not_coregular, Closes, barred, ran, AllClose, nothing, also}

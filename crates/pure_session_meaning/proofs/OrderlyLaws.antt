@@ -20,7 +20,7 @@ use Rattle.pure_session_laws.specs.Theory.Refusals.{IsBefore, IsLabelAbove}
 use Rattle.pure_session_laws.proofs.Theory.MergeLaws.{sound_beginning}
 use Rattle.pure_graph.specs.Order.{Loaded}
 use Rattle.pure_session_laws.specs.Declare.Notes.{Note}
-use Rattle.pure_session_laws.specs.Declare.Fold.{Declares}
+use Rattle.pure_session_laws.specs.Declare.First.{Declares}
 use Rattle.pure_session_laws.specs.Declare.Premises.{HasClassesAbove}
 use Rattle.pure_session_laws.specs.Declare.Grown.{IsGrown}
 use Rattle.pure_session_laws.specs.Declare.Tidy.{IsTidyDecl}

@@ -1,15 +1,16 @@
 -- Whose the contents of a run are, and what its next command is given.
-use Rattle.std.proofs.Common.{◌≡◌, ℕ, List, [], ◌∷◌, ◌++◌, length, refl, sym, ap, ◌∙◌, subst, inl}
+use Rattle.std.proofs.Common.{◌≡◌, ◌<◌, ℕ, List, [], ◌∷◌, ◌++◌, length, refl, sym, ap, ◌∙◌, subst, inl, arith}
 use Rattle.std.specs.Prelude.{Some}
 use Rattle.pure_text.specs.Lists.{IsIn}
 use Rattle.pure_text.proofs.ListLaws.{each_at, in-append_right}
 use Rattle.pure_typ.specs.NameTexts.{HasText}
-use Rattle.pure_grammar.specs.Theories.TheoryText.{Command}
+use Rattle.pure_grammar.specs.Theories.TheoryText.{Command, Class, TypeDecl, Arity, Const, Axiom, Definition, Lemma}
 use Rattle.pure_logic.specs.Content.{Content}
 use Rattle.pure_graph.specs.Order.{Loaded}
 use Rattle.pure_session_laws.specs.Declare.Notes.{Note}
-use Rattle.pure_session_laws.specs.Declare.Fold.{Declares, AreDeclared}
-use Rattle.pure_session_laws.specs.Declare.Premises.{HasFullNames, HasRanges}
+use Rattle.pure_session_laws.specs.Declare.First.{Declares, AreDeclared}
+use Rattle.pure_session_laws.specs.Declare.Premises.{HasFullNames, HasRanges, haves_of}
+use Rattle.pure_session_laws.specs.Declare.Plain.{IsPlain}
 use Rattle.pure_session_laws.specs.Loaded.{IsLoadedSession}
 use Rattle.pure_session_meaning.specs.Verdicts.{IsTheoryAt}
 use Rattle.pure_session_meaning.specs.Statements.{IsRun}
@@ -55,6 +56,16 @@ module _ (texts : List (List ℕ)) (theories : List Loaded) (session : IsLoadedS
         own = own-kept index run.theory run.is_at run.done left [] run.first begun notes now run.declared ∙ run.begins.begins.own;
       }
 
+-- A command without haves has few.
+few-haves : (c : Command) → IsPlain c → length (haves_of c) < 4294967296
+few-haves (Lemma x span haves script) none = let count : length haves ≡ 0 = ap length none in omega (arith, count)
+few-haves (Class x above) none = omega arith
+few-haves (TypeDecl x params) none = omega arith
+few-haves (Arity con domains class) none = omega arith
+few-haves (Const x span) none = omega arith
+few-haves (Axiom x span) none = omega arith
+few-haves (Definition x typ text) none = omega arith
+
 pub runs_give : RunsGive
 runs_give texts theories session index theory is_at notes now command left run =
     let same : run.theory ≡ theory = theory-once theories index run.theory theory run.is_at is_at in
@@ -72,4 +83,6 @@ runs_give texts theories session index theory is_at notes now command left run =
       };
       ranges = each_at (HasRanges theory.source) theory.text.commands well.ranges command there;
       given = record { in_session = order.orderly.in_session; small = well.small; label_above = order.labels };
+      labels = record { first = refl; few = few-haves command (each_at IsPlain theory.text.commands well.alone command there) };
+      alone = each_at IsPlain theory.text.commands well.alone command there;
     }

@@ -8,7 +8,7 @@ use Rattle.pure_logic.specs.Content.{TheoryId, Content, IsContent}
 use Rattle.pure_lookup.specs.Meaning.{pure_text}
 use Rattle.pure_graph.specs.Order.{Loaded}
 use Rattle.pure_session_laws.specs.Declare.Notes.{Note}
-use Rattle.pure_session_laws.specs.Declare.Fold.{AreDeclared}
+use Rattle.pure_session_laws.specs.Declare.First.{AreDeclared}
 use Rattle.pure_session_laws.specs.Owned.{IsLast, IsOwned}
 use Rattle.pure_session_laws.specs.Ended.{HasPlainName, AreEnded, IsNext, IsParent, IsGivenParents}
 use Rattle.pure_session_laws.specs.Kept.{NothingHasEnded, TheoryEnds}

@@ -10,7 +10,7 @@ use Rattle.pure_logic.specs.Content.{TheoryId, Content, IsBelow}
 use Rattle.pure_logic.proofs.MergeLaws.{merge_has_declarations, parents_are_below}
 use Rattle.pure_graph.specs.Order.{Loaded}
 use Rattle.pure_session_laws.specs.Declare.Notes.{Note, Fork, Forked}
-use Rattle.pure_session_laws.specs.Declare.Fold.{Declares}
+use Rattle.pure_session_laws.specs.Declare.First.{Declares}
 use Rattle.pure_session_laws.proofs.Declare.BoundLaws.{forks_bound}
 use Rattle.pure_session_laws.proofs.Declare.PromisedLaws.{declares_promises}
 use Rattle.pure_session_laws.specs.Loaded.{IsLoadedSession}

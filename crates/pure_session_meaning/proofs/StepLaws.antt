@@ -4,7 +4,7 @@ use Rattle.std.specs.Prelude.{slice_get}
 use Rattle.std.proofs.lemmas.Option.{same_Some}
 use Rattle.pure_grammar.specs.Theories.TheoryText.{Command}
 use Rattle.pure_graph.specs.Order.{Loaded}
-use Rattle.pure_session_laws.specs.Declare.Fold.{Declares, AreDeclared}
+use Rattle.pure_session_laws.specs.Declare.First.{Declares, AreDeclared}
 use Rattle.pure_session_meaning.specs.Verdicts.{IsTheoryAt, ran}
 use Rattle.pure_session_meaning.specs.Steps.{command_label, RunBegins, RunGoesOn, RunCloses}
 use Rattle.pure_session_meaning.proofs.FoldLaws.{declared-append, declared-one}

@@ -8,7 +8,7 @@ use Rattle.pure_logic.specs.PureContent.{pure_content}
 use Rattle.pure_session_laws.specs.Theory.Refusals.{IsBefore}
 use Rattle.pure_graph.specs.Order.{Loaded}
 use Rattle.pure_session_laws.specs.Declare.Notes.{Note}
-use Rattle.pure_session_laws.specs.Declare.Fold.{Declares}
+use Rattle.pure_session_laws.specs.Declare.First.{Declares}
 use Rattle.pure_session_meaning.specs.Verdicts.{Verdict, IsTheoryAt, Begins, AllClose, beginning_over}
 use Rattle.pure_session_meaning.specs.Statements.{IsRun}
 use Rattle.pure_session_meaning.specs.Steps.{command_label}

@@ -5,7 +5,7 @@ use Rattle.pure_grammar.specs.Theories.TheoryText.{Command}
 use Rattle.pure_logic.specs.Content.{Content}
 use Rattle.pure_graph.specs.Order.{Loaded}
 use Rattle.pure_session_laws.specs.Declare.Notes.{Fork, Note, Said, Forked}
-use Rattle.pure_session_laws.specs.Declare.Fold.{AreDeclared}
+use Rattle.pure_session_laws.specs.Declare.First.{AreDeclared}
 use Rattle.pure_session_meaning.specs.Verdicts.{Verdict, Barred, Ran, IsTheoryAt, Begins, Closes, AllClose}
 
 -- what a theory leaves in the table; one that is refused leaves its row

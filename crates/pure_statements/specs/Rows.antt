@@ -28,6 +28,9 @@ definition_word = codes "definition "
 unfoldable pub lemma_word : List ℕ
 lemma_word = codes "lemma "
 
+unfoldable pub have_word : List ℕ
+have_word = codes "have "
+
 -- behind the name of a constant, and of a fact or before a reason
 unfoldable pub of_type : List ℕ
 of_type = codes " :: "
@@ -52,3 +55,11 @@ declared_row theory command tail = record { status = Declared; head = head_text 
 -- the row of a command that is refused
 abbrev pub refused_row : (texts : List (List ℕ)) → (source theory : List ℕ) → Command → Reason → Row
 refused_row texts source theory command reason = record { status = Refused; head = head_text theory command; tail = colon ++ reason_text texts source reason }
+
+-- the full name of a have with this name, in the lemma with this base: a dot stands between the lemma's full name and its own
+abbrev pub have_text : (theory lemma name : List ℕ) → List ℕ
+have_text theory lemma name = full_text (full_text theory lemma) name
+
+-- the row of a have that is refused
+abbrev pub refused_have : (texts : List (List ℕ)) → (source theory lemma name : List ℕ) → Reason → Row
+refused_have texts source theory lemma name reason = record { status = Refused; head = have_word ++ have_text theory lemma name; tail = colon ++ reason_text texts source reason }

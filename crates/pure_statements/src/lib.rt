@@ -18,6 +18,6 @@ pub use normal::{MAX_STATEMENT, is_large, normalised};
 pub use quoted::{read_term, read_typ};
 pub use reason::{Failed, Reason};
 pub use reason_text::push_reason;
-pub use row::{declared_row, head_of, refused_row};
+pub use row::{declared_row, head_of, refused_have, refused_row};
 pub use schematic::{generalised, schematic_typ};
 pub use stated::{Stated, statement_of, written_typ};

@@ -107,3 +107,44 @@ pub fn refused_row(
         tail,
     })
 }
+
+/// What a have is about: its full name, in the lemma with this base.
+#[tactic(auto, unfolding(crate::specs::Rows::have_word))]
+fn have_head(
+    alloc: Global,
+    theory: &[u8],
+    lemma: &[u8],
+    name: &[u8],
+) -> Result<Text, AllocError>
+    ensures { IfOk result (λ t. t ≡ spec.have_word ++ spec.have_text theory.now lemma.now name.now) }
+{
+    let mut text = Vec::from_slice(alloc, b"have ")?;
+    text.extend_from_slice(theory)?;
+    text.push(b'.')?;
+    text.extend_from_slice(lemma)?;
+    text.push(b'.')?;
+    text.extend_from_slice(name)?;
+    Ok(Text::from(text))
+}
+
+/// The row of a have that is refused, in the lemma with this base.
+pub fn refused_have(
+    alloc: Global,
+    names: &Names,
+    source: &[u8],
+    theory: &[u8],
+    lemma: &[u8],
+    name: &[u8],
+    reason: Reason,
+) -> Result<Row, AllocError>
+    requires { length source.now < 2 ^ 32 - 1 }
+    ensures { IfOk result (λ row. row ≡ spec.refused_have names.now source.now theory.now lemma.now name.now reason) }
+{
+    let tail = reason_tail(alloc, names, source, reason)?;
+    let head = have_head(alloc, theory, lemma, name)?;
+    Ok(Row {
+        status: RowStatus::Refused,
+        head,
+        tail,
+    })
+}

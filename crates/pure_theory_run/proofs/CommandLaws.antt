@@ -4,12 +4,18 @@ use Rattle.std.specs.Prelude.{Option, Some, None, Result, Ok, Err, IfOk, OnErr, 
 use Rattle.std.specs.declared.alloc.AllocError.{AllocError}
 use Rattle.std.proofs.lemmas.List.{length-map, map-append}
 use Rattle.std.proofs.lemmas.Option.{same_Some}
+use Rattle.pure_definitions.specs.Names.{Label}
 use Rattle.pure_grammar.specs.Theories.TheoryText.{Command}
 use Rattle.pure_logic.specs.Content.{Content}
 use Rattle.pure_print.specs.declared.row.Row.{Row}
 use Rattle.pure_graph.specs.Order.{Loaded}
 use Rattle.pure_session_meaning.specs.Declare.Notes.{Note, Said, Forked}
-use Rattle.pure_session_meaning.specs.Declare.Fold.{Declares}
+use Rattle.pure_session_meaning.specs.Declare.First.{Declares}
+use Rattle.pure_session_meaning.specs.Declare.Fold as fold
+use Rattle.pure_session_meaning.specs.Declare.Plain.{IsPlain}
+use Rattle.pure_session_meaning.specs.Declare.Seen.{seen_note, seen_notes}
+use Rattle.pure_session_meaning.specs.Declare.declared.notes.Note as code_note
+use Rattle.pure_session_meaning.proofs.Declare.PlainLaws.{declares_plain}
 use Rattle.pure_session_meaning.specs.SessionLaws.Loaded.{IsLoadedSession}
 use Rattle.pure_session_meaning.specs.Given.{IsNextGiven}
 use Rattle.pure_session_meaning.specs.Verdicts.{IsTheoryAt, barred}
@@ -116,6 +122,23 @@ module _ (texts : List (List ℕ)) (theories : List Loaded) (index : ℕ) (T : L
           forks = refl;
         },
       )
+
+-- A command without haves leaves one note.
+module _ (texts : List (List ℕ)) (source : List ℕ) (label : Label) (Q : Content) (command : Command) (notes : List code_note.Note) where
+  pub one-left : (next : Content) → IsPlain command → label.part ≡ 0 → fold.Declares texts source label Q command (seen_notes notes) next → length notes ≡ 1
+  one-left next plain first d =
+      let one = (declares_plain texts source label Q command (seen_notes notes) next plain first).0 d in
+      sym (length-map notes seen_note) ∙ ap length one.2
+
+  head-same : (m n : Note) (ms : List Note) → ms ≡ m ∷ [] → ms ≡ n ∷ [] → m ≡ n
+  head-same m n ms e f = cc
+
+  pub left-plain : (note : code_note.Note) (next now : Content) → IsPlain command → label.part ≡ 0 → fold.Declares texts source label Q command (seen_notes notes) next → seen_notes notes ≡ seen_note note ∷ [] → now ≡ next
+      → Declares texts source label Q command (seen_note note) now
+  left-plain note next now plain first d is same =
+      let one = (declares_plain texts source label Q command (seen_notes notes) next plain first).0 d in
+      subst (λ (R : Content). Declares texts source label Q command (seen_note note) R) (sym same)
+      (subst (λ (n : Note). Declares texts source label Q command n next) (head-same one.0 (seen_note note) (seen_notes notes) one.2 is) one.1)
 
 -- A theory that was refused when it began closes.
 closes-barred : (texts : List (List ℕ)) (theories : List Loaded) (index : ℕ) (notes : List Note) (row : Row) → notes ≡ [] → IsBarredBy texts theories index row → ClosesWith texts theories index notes (Barred row)

@@ -3,8 +3,8 @@ ghost use Rattle.std.specs.Prelude.{◌≡◌, ◌<◌, ◌+◌, ◌++◌, ◌�
 ghost use Rattle.pure_script.specs.Seen.{seen_command, seen_commands};
 ghost use Rattle.pure_session.specs.Waiting.{seen_loaded};
 ghost use Rattle.pure_session_meaning.specs.Declare.Notes as notes;
-ghost use Rattle.pure_session_meaning.specs.Declare.Seen.{seen_note};
-ghost use Rattle.pure_session_meaning.specs.Declare.Fold.{Declares};
+ghost use Rattle.pure_session_meaning.specs.Declare.Seen.{seen_note, seen_notes};
+ghost use Rattle.pure_session_meaning.specs.Declare.First.{Declares};
 ghost use Rattle.pure_session_meaning.specs.Verdicts.{IsTheoryAt};
 ghost use Rattle.pure_session_meaning.specs.Given.{IsNextGiven};
 ghost use Rattle.pure_theory_run.specs.Outline as outline;
@@ -66,16 +66,36 @@ fn put_note(rows: &mut Vec<Option<Row>>, note: Note) -> Result<Turn, AllocError>
     }
 }
 
+/// What a command without haves left: its one note, and the next stage.
+#[derive(Drop)]
+struct Left {
+    stage: Stage,
+    note: Note,
+}
+
+/// The one note of a command without haves.
+fn only_note(declared: Declared) -> Left
+    requires { length declared.notes.items ≡ 1 }
+    ensures note { seen_notes declared.notes.items ≡ seen_note result.note ∷ [] }
+    ensures stage { result.stage.value ≡ declared.stage.value }
+{
+    let Declared { stage, mut notes } = declared;
+    let Some(note) = notes.pop() else {
+        unreachable!()
+    };
+    Left { stage, note }
+}
+
 /// Goes on by what a command left.
-fn go_on(going: &mut Going, declared: Declared) -> Result<Turn, AllocError>
+fn go_on(going: &mut Going, left: Left) -> Result<Turn, AllocError>
     requires { 0 < going.old.left }
-    ensures now { IfOk result (λ _. going.new.now.value ≡ declared.stage.value) }
+    ensures now { IfOk result (λ _. going.new.now.value ≡ left.stage.value) }
     ensures left { IfOk result (λ _. going.new.left + 1 ≡ going.old.left) }
-    ensures rows { IfOk result (λ _. going.new.rows.items ≡ going.old.rows.items ++ row_of (seen_note declared.note) ∷ []) }
-    ensures turn { IfOk result (λ turn. turn ≡ turn_of (seen_note declared.note)) }
+    ensures rows { IfOk result (λ _. going.new.rows.items ≡ going.old.rows.items ++ row_of (seen_note left.note) ∷ []) }
+    ensures turn { IfOk result (λ turn. turn ≡ turn_of (seen_note left.note)) }
     ensures keeps { OnErr result (IsSameGoing going.old going.new) }
 {
-    let Declared { stage, note } = declared;
+    let Left { stage, note } = left;
     let turn = put_note(&mut going.rows, note)?;
     going.now = stage;
     going.left -= 1;
@@ -83,20 +103,21 @@ fn go_on(going: &mut Going, declared: Declared) -> Result<Turn, AllocError>
 }
 
 impl Checker {
-    /// What a command of the theory declares over this stage.
+    /// What a command of the theory declares over this stage. It has no haves, and so leaves one note.
     fn declared(
         &self,
         theory: &Loaded,
         command: &Command,
         stage: &Stage,
         label: Label,
-    ) -> Result<Declared, AllocError>
+    ) -> Result<Left, AllocError>
         requires { IsNextGiven self.now.texts theory.now.source stage.now.value label (seen_command command.now) }
         ensures { IfOk result (λ d. Declares self.now.texts theory.now.source label stage.now.value (seen_command command.now) (seen_note d.note) d.stage.value) }
     {
         let names = self.names();
         let source = theory.source.bytes();
-        declare(self.alloc, stage, names, source, command, label)
+        let declared = declare(self.alloc, stage, names, source, command, label)?;
+        Ok(only_note(declared))
     }
 
     /// A turn by the theory's command at this place.

@@ -1,0 +1,9 @@
+use Rattle.pure_script.specs.Seen.{seen_command}
+use Rattle.pure_declare.specs.Seen.{seen_notes, seen_outcome}
+use Rattle.pure_declare.proofs.DeclareSteps.{refused-declares}
+use Rattle.pure_declare.proofs.command.lemma_refused.Goals as goal
+
+pub returns : goal.returns
+returns c =
+    refused-declares c.args.place.now c.requires.own c.requires.first (seen_command c.args.command.now) c.requires.lemma c.args.reason c.requires.refused (seen_outcome c.in_ok-outcome.outcome) c.in_ok-outcome.ensures
+    (seen_notes c.in_ok-declared.declared.notes.items) c.in_ok-declared.declared.stage.value c.in_ok-declared.ensures.notes c.in_ok-declared.ensures.next

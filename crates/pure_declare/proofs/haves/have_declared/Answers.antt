@@ -1,0 +1,1 @@
+use Rattle.pure_declare.proofs.haves.have_declared.Goals as goal
