@@ -31,8 +31,11 @@ const DIGITS: &[u8] = b"0123456789";
 /// Adds how the promise stands, behind the digit of its command, where that isn't the first.
 fn push_commanded(text: &mut Vec<u8>, promise: &Promise<bool, bool>) -> Result<(), AllocError> {
     if promise.command != 0 {
-        let digit = DIGITS.get(promise.command as usize);
-        text.push(*digit.unwrap_or(&b'?'))?;
+        let digit = match DIGITS.get(promise.command as usize) {
+            None => b'?',
+            Some(digit) => *digit,
+        };
+        text.push(digit)?;
     }
     text.push(letter(&promise.standing))?;
     Ok(())

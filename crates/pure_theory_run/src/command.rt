@@ -50,7 +50,7 @@ fn last_turn(alloc: Global, going: &mut Going) -> Result<Turn, AllocError>
 
 /// The command of the duty's label.
 fn command_of(duty: &Duty) -> u32
-    ensures { result ≡ (duty.now).label.command }
+    ensures { result ≡ duty.now.label.command }
 {
     duty.label.command
 }
