@@ -40,7 +40,7 @@ impl Work for Trivial {
 
     ghost shape = { λ s. s.shape.items };
 
-    ghost forks = { λ s i n g. Unit {0} };
+    ghost forks = { λ s i n c g. Unit {0} };
 
     ghost closes = { λ s i n c. Unit {0} };
 
@@ -65,7 +65,7 @@ impl Work for Trivial {
             return Ok(Turn::Closed { closed: 7 });
         }
         run.lemmas -= 1;
-        Ok(Turn::Forked { goal: run.lemmas })
+        Ok(Turn::Forked { command: run.lemmas, goal: run.lemmas })
     }
 
     fn start(&self, _goal: &u32) -> Result<Step, AllocError> {

@@ -50,7 +50,7 @@ emptied (x ∷ xs) new (Some y) n none-some items count variant = absurd (none-s
 
 module _ {W G C O : Type 0} where
   -- a seat's token has that seat
-  pub has-itself : (shape : W → List (List ℕ)) (forks : W → ℕ → ℕ → G → Type 0) (closes : W → ℕ → ℕ → C → Type 0) (may : W → G → O → Type 0) (is_fault : W → O → Bool) (name : TableId) (v : (View W Opening (Event G C O))) (e : is_some v.session ≡ true) (f : is_some v.opening ≡ true) (s : (Sight W G C O))
+  pub has-itself : (shape : W → List (List ℕ)) (forks : W → ℕ → ℕ → ℕ → G → Type 0) (closes : W → ℕ → ℕ → C → Type 0) (may : W → G → O → Type 0) (is_fault : W → O → Bool) (name : TableId) (v : (View W Opening (Event G C O))) (e : is_some v.session ≡ true) (f : is_some v.opening ≡ true) (s : (Sight W G C O))
       → IsSeated shape forks closes may is_fault v → sight name (value_there v.session e) (value_there v.opening f) v ≡ s → HasTaken s.plan.session s.opening v (s ∷ [])
   has-itself shape forks closes may is_fault name v e f s seated is = subst (λ (x : (Sight W G C O)). HasTaken x.plan.session x.opening v (x ∷ [])) is (record {
     session_is = some-there v.session e;
@@ -110,7 +110,7 @@ module _ {W G C O : Type 0} where
       in-any n m own' (x ∷ xs) is (inr there) = inr (in-any n m own' xs is there)
 
   -- what the closed board was
-  pub whole-seats : (shape : W → List (List ℕ)) (forks : W → ℕ → ℕ → G → Type 0) (closes : W → ℕ → ℕ → C → Type 0) (may : W → G → O → Type 0) (is_fault : W → O → Bool) (k : W) (o : Opening) (v : (View W Opening (Event G C O))) (c : State G C O) (seats : List (Sight W G C O))
+  pub whole-seats : (shape : W → List (List ℕ)) (forks : W → ℕ → ℕ → ℕ → G → Type 0) (closes : W → ℕ → ℕ → C → Type 0) (may : W → G → O → Type 0) (is_fault : W → O → Bool) (k : W) (o : Opening) (v : (View W Opening (Event G C O))) (c : State G C O) (seats : List (Sight W G C O))
       → HasTaken k o v seats → AreAll o.workers seats → 0 < o.workers → IsWhole state_of (IsLawful shape forks closes may is_fault) v c
       → IsEnded shape forks closes may is_fault (record { session = k; opening = o; history = v.seen; core = c }) × IsOfSeats seats (record { session = k; opening = o; history = v.seen; core = c })
   whole-seats shape forks closes may is_fault k o v c seats h all some' whole =
@@ -170,7 +170,7 @@ module _ {W G C O : Type 0} where
   ended-session v n e k k' is k-is same = some-same (value_there n.session e) k n.session (some-there n.session e) (ap (λ (x : View W Opening (Event G C O)). x.session) is ∙ k-is) ∙ same
 
   -- and its seats
-  pub ended-seats : (shape : W → List (List ℕ)) (forks : W → ℕ → ℕ → G → Type 0) (closes : W → ℕ → ℕ → C → Type 0) (may : W → G → O → Type 0) (is_fault : W → O → Bool) (k : W) (o : Opening) (v n : View W Opening (Event G C O)) (c : State G C O) (e : is_some n.session ≡ true) (f : is_some n.opening ≡ true) (seats : List (Sight W G C O))
+  pub ended-seats : (shape : W → List (List ℕ)) (forks : W → ℕ → ℕ → ℕ → G → Type 0) (closes : W → ℕ → ℕ → C → Type 0) (may : W → G → O → Type 0) (is_fault : W → O → Bool) (k : W) (o : Opening) (v n : View W Opening (Event G C O)) (c : State G C O) (e : is_some n.session ≡ true) (f : is_some n.opening ≡ true) (seats : List (Sight W G C O))
       → HasTaken k o v seats → AreAll o.workers seats → 0 < o.workers → IsWhole state_of (IsLawful shape forks closes may is_fault) v c → n ≡ noted v
       → IsOfSeats seats (record { session = value_there n.session e; opening = value_there n.opening f; history = n.seen; core = c })
   ended-seats shape forks closes may is_fault k o v n c e f seats h all some' whole is = subst (IsOfSeats seats) (ending-value v n c e f k o is h.session_is h.opening_is) (whole-seats shape forks closes may is_fault k o v c seats h all some' whole).1

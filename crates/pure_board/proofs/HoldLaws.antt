@@ -46,7 +46,7 @@ still-turn {C} {K} {O} {E} t t' h e = record {
   has_turn = ap (λ (m : Me (Option C) (View K O E)). m.0.holds) e ∙ h.has_turn;
 }
 
-module _ {W G C O : Type 0} (shape : W → List (List ℕ)) (forks : W → ℕ → ℕ → G → Type 0) (closes : W → ℕ → ℕ → C → Type 0) (may : W → G → O → Type 0) (is_fault : W → O → Bool) where
+module _ {W G C O : Type 0} (shape : W → List (List ℕ)) (forks : W → ℕ → ℕ → ℕ → G → Type 0) (closes : W → ℕ → ℕ → C → Type 0) (may : W → G → O → Type 0) (is_fault : W → O → Bool) where
   abbrev V : Type 0
   V = View W Opening (Event G C O)
 
@@ -216,8 +216,8 @@ module _ {W G C O : Type 0} (shape : W → List (List ℕ)) (forks : W → ℕ �
           (running-known (forks h.session) (closes h.session) (may h.session) (is_fault h.session) h.opening h.log v.number i h.lawful.run (subst (λ es. HasTheory es i) own-held has)),
     )
 
-    pub may-fork : (i : ℕ) (g : G) → HasTheory v.own i → ((k : W) → v.session ≡ Some k → forks k i (forks_in i v.own) g) → May h.session h.opening h.log v.number (Fork i g)
-    may-fork i g has ok = enter-fork (forks h.session) (closes h.session) (may h.session) (is_fault h.session) h.opening h.log v.number i g h.lawful.run is-few (subst (λ es. HasTheory es i) own-held has) (subst (λ es. forks h.session i (forks_in i es) g) own-held (ok h.session h.session_is))
+    pub may-fork : (i m : ℕ) (g : G) → HasTheory v.own i → ((k : W) → v.session ≡ Some k → forks k i (forks_in i v.own) m g) → May h.session h.opening h.log v.number (Fork i m g)
+    may-fork i m g has ok = enter-fork (forks h.session) (closes h.session) (may h.session) (is_fault h.session) h.opening h.log v.number i m g h.lawful.run is-few (subst (λ es. HasTheory es i) own-held has) (subst (λ es. forks h.session i (forks_in i es) m g) own-held (ok h.session h.session_is))
 
     pub may-close : (i : ℕ) (x : C) → HasTheory v.own i → ((k : W) → v.session ≡ Some k → closes k i (forks_in i v.own) x) → May h.session h.opening h.log v.number (CloseTheory i x)
     may-close i x has ok = enter-close (forks h.session) (closes h.session) (may h.session) (is_fault h.session) h.opening h.log v.number i x h.lawful.run is-few (subst (λ es. HasTheory es i) own-held has) (subst (λ es. closes h.session i (forks_in i es) x) own-held (ok h.session h.session_is))

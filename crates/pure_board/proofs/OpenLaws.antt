@@ -88,7 +88,7 @@ module _ {W G C O : Type 0} where
   pub first-makes : (m m' : Me (Option (State G C O)) (View W Opening (Event G C O))) (k : W) (o : Opening) (n : ℕ) → m ≡ (counting k o n, []) → m' ≡ (newcomer m.0, []) → m' ≡ (newcomer (counting k o n), [])
   first-makes m m' k o n e told = told ∙ ap (λ (x : Me (Option (State G C O)) (View W Opening (Event G C O))). (newcomer x.0, [])) e
 
-  module _ (shape : W → List (List ℕ)) (forks : W → ℕ → ℕ → G → Type 0) (closes : W → ℕ → ℕ → C → Type 0) (may : W → G → O → Type 0) (is_fault : W → O → Bool) where
+  module _ (shape : W → List (List ℕ)) (forks : W → ℕ → ℕ → ℕ → G → Type 0) (closes : W → ℕ → ℕ → C → Type 0) (may : W → G → O → Type 0) (is_fault : W → O → Bool) where
     pub opened-lawful : (k : W) (o : Opening) (s : State G C O) → s ≡ opened o → o.shape ≡ shape k → IsLawful shape forks closes may is_fault k s.opening []
     opened-lawful k o s is same = subst (λ (x : Opening). IsLawful shape forks closes may is_fault k x []) (sym (opening-of o s is)) (record { shaped = same; run = run-nothing (forks k) (closes k) (may k) (is_fault k) o })
 

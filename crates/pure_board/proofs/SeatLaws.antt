@@ -31,7 +31,7 @@ may-tokens {W} {G} {C} {O} P name v e f old is has k k-is o o-is =
     let here : P (value_there v.session e) (value_there v.opening f) v.seen = subst (λ (x : Sight W G C O). P x.plan.session x.opening x.seen) (sym is) has in
     subst (λ (x : W × Opening). P x.0 x.1 v.seen) (λ i. (some-same (value_there v.session e) k v.session (some-there v.session e) k-is i, some-same (value_there v.opening f) o v.opening (some-there v.opening f) o-is i)) here
 
-module _ {W G C O : Type 0} (shape : W → List (List ℕ)) (forks : W → ℕ → ℕ → G → Type 0) (closes : W → ℕ → ℕ → C → Type 0) (may : W → G → O → Type 0) (is_fault : W → O → Bool) where
+module _ {W G C O : Type 0} (shape : W → List (List ℕ)) (forks : W → ℕ → ℕ → ℕ → G → Type 0) (closes : W → ℕ → ℕ → C → Type 0) (may : W → G → O → Type 0) (is_fault : W → O → Bool) where
   abbrev V : Type 0
   V = View W Opening (Event G C O)
 

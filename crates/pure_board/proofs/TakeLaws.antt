@@ -17,7 +17,7 @@ use Rattle.pure_board.specs.Taken.{state_seen, IsGoalOf, IsTaken, IsForked, IsEn
 use Rattle.pure_board.specs.Tokens.{IsSeated, IsDone}
 use Rattle.pure_board.proofs.HoldLaws.{done-entering, done-looking, done-missing, may-take-theory, may-take-proof}
 
-module _ {W G C O : Type 0} (shape : W → List (List ℕ)) (forks : W → ℕ → ℕ → G → Type 0) (closes : W → ℕ → ℕ → C → Type 0) (may : W → G → O → Type 0) (is_fault : W → O → Bool) where
+module _ {W G C O : Type 0} (shape : W → List (List ℕ)) (forks : W → ℕ → ℕ → ℕ → G → Type 0) (closes : W → ℕ → ℕ → C → Type 0) (may : W → G → O → Type 0) (is_fault : W → O → Bool) where
   abbrev V : Type 0
   V = View W Opening (Event G C O)
 
@@ -55,9 +55,9 @@ module _ {W G C O : Type 0} (shape : W → List (List ℕ)) (forks : W → ℕ �
       pub done-read : {X : Type 0} (read : St → X) (x : X) → x ≡ read c → Done (λ old new. Sees old new × (x ≡ read (state_seen new))) v m
       done-read read x is = done-looking shape forks closes may is_fault v u c s h (λ old new. Sees old new × (x ≡ read (state_seen new))) m1 m looked told (λ name k o new sees there. (sees, is ∙ ap read (sym there)))
 
-    pub done-fork : (i : ℕ) (g : G) (n : ℕ) → MayEnter (forks h.session) (closes h.session) (may h.session) (is_fault h.session) h.opening h.log v.number (Fork i g) → c' ≡ after c (Fork i g) → n ≡ length c.promises → Enter u c' m
-        → Done (λ old new. IsForked old new i g n) v m
-    done-fork i g n ok is number told = done-entering shape forks closes may is_fault v u c s h (λ old new. IsForked old new i g n) c' (Fork i g) m ok is told
+    pub done-fork : (i k : ℕ) (g : G) (n : ℕ) → MayEnter (forks h.session) (closes h.session) (may h.session) (is_fault h.session) h.opening h.log v.number (Fork i k g) → c' ≡ after c (Fork i k g) → n ≡ length c.promises → Enter u c' m
+        → Done (λ old new. IsForked old new i k g n) v m
+    done-fork i k g n ok is number told = done-entering shape forks closes may is_fault v u c s h (λ old new. IsForked old new i k g n) c' (Fork i k g) m ok is told
         (λ name k o new k-is there entered. (h.log, entered, number ∙ ap (λ (x : St). length x.promises) (sym there)))
 
     pub done-event : (e : Event G C O) → MayEnter (forks h.session) (closes h.session) (may h.session) (is_fault h.session) h.opening h.log v.number e → c' ≡ after c e → Enter u c' m → Done (λ old new. IsEntered old new e) v m

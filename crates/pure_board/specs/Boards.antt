@@ -39,7 +39,7 @@ pub record Ending (W G C O : Type 0) : Type 0 where
   pub core : State G C O
 
 -- The closed board's history is a numbered legal run of its session, opened as it was, and its core is in the state of that history.
-pub record IsEnded {W G C O : Type 0} (shape : W → List (List ℕ)) (forks : W → ℕ → ℕ → G → Type 0) (closes : W → ℕ → ℕ → C → Type 0) (may : W → G → O → Type 0) (is_fault : W → O → Bool) (end : Ending W G C O) : Type 0 where
+pub record IsEnded {W G C O : Type 0} (shape : W → List (List ℕ)) (forks : W → ℕ → ℕ → ℕ → G → Type 0) (closes : W → ℕ → ℕ → C → Type 0) (may : W → G → O → Type 0) (is_fault : W → O → Bool) (end : Ending W G C O) : Type 0 where
   pub shaped : end.opening.shape ≡ shape end.session
   pub run : IsNumberedRun (forks end.session) (closes end.session) (may end.session) (is_fault end.session) end.opening end.history
   pub state : end.core ≡ state_of end.opening end.history

@@ -19,7 +19,7 @@ pub record Sight (W G C O : Type 0) : Type 0 where
   pub own : List (Event G C O)
 
 -- The board was opened with the session's shape, the seat is one of the workers', and saw a numbered legal run, in which its own entries are these.
-pub record IsTrueSight {W G C O : Type 0} (shape : W → List (List ℕ)) (forks : W → ℕ → ℕ → G → Type 0) (closes : W → ℕ → ℕ → C → Type 0) (may : W → G → O → Type 0) (is_fault : W → O → Bool) (v : Sight W G C O) : Type 0 where
+pub record IsTrueSight {W G C O : Type 0} (shape : W → List (List ℕ)) (forks : W → ℕ → ℕ → ℕ → G → Type 0) (closes : W → ℕ → ℕ → C → Type 0) (may : W → G → O → Type 0) (is_fault : W → O → Bool) (v : Sight W G C O) : Type 0 where
   pub shaped : v.opening.shape ≡ shape v.plan.session
   pub few : v.number < v.opening.workers
   pub lawful : IsNumberedRun (forks v.plan.session) (closes v.plan.session) (may v.plan.session) (is_fault v.plan.session) v.opening v.seen

@@ -26,8 +26,8 @@ IsTaken old new task_code.Finished = Sees old new × IsFinished (state_seen new)
 IsTaken old new task_code.Stopped = Sees old new × ((state_seen new).stopped ≡ true)
 
 -- A fork was entered, and its promise has the number.
-abbrev pub IsForked : {W G C O : Type 0} → (old new : Sight W G C O) → (theory : ℕ) → (goal : G) → (number : ℕ) → Type 0
-IsForked {W} {G} {C} {O} old new i g n = (log : List (ℕ × Event G C O)) × Enters old new log (Fork i g) × (n ≡ length (state_of old.opening log).promises)
+abbrev pub IsForked : {W G C O : Type 0} → (old new : Sight W G C O) → (theory command : ℕ) → (goal : G) → (number : ℕ) → Type 0
+IsForked {W} {G} {C} {O} old new i c g n = (log : List (ℕ × Event G C O)) × Enters old new log (Fork i c g) × (n ≡ length (state_of old.opening log).promises)
 
 -- The event was entered behind some history.
 abbrev pub IsEntered : {W G C O : Type 0} → (old new : Sight W G C O) → Event G C O → Type 0

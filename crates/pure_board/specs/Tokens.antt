@@ -23,7 +23,7 @@ abbrev pub counting : {W G C O : Type 0} → W → Opening → (made : ℕ) → 
 counting k o made = record (opened_seat (first_seat k) o) { made = made }
 
 -- The token lives, doesn't hold the core, and has taken in no other; it saw a numbered legal run of the session, in which its own entries are these; and the first one counts the seats, as many as there are workers.
-pub record IsSeated {W G C O : Type 0} (shape : W → List (List ℕ)) (forks : W → ℕ → ℕ → G → Type 0) (closes : W → ℕ → ℕ → C → Type 0) (may : W → G → O → Type 0) (is_fault : W → O → Bool) (v : View W Opening (Event G C O)) : Type 0 where
+pub record IsSeated {W G C O : Type 0} (shape : W → List (List ℕ)) (forks : W → ℕ → ℕ → ℕ → G → Type 0) (closes : W → ℕ → ℕ → C → Type 0) (may : W → G → O → Type 0) (is_fault : W → O → Bool) (v : View W Opening (Event G C O)) : Type 0 where
   pub session : W
   pub opening : Opening
   pub session_is : v.session ≡ Some session
@@ -43,7 +43,7 @@ abbrev pub Tells : {W G C O : Type 0} → (Sight W G C O → Sight W G C O → T
 Tells {W} P old new = (name : TableId) (session : W) (opening : Opening) → old.session ≡ Some session → old.opening ≡ Some opening → P (sight name session opening old) (sight name session opening new)
 
 -- The call is done: the token has no place and is as good as before, of the same session, opened in the same way, and the call tells this.
-pub record IsDone {W G C O : Type 0} (shape : W → List (List ℕ)) (forks : W → ℕ → ℕ → G → Type 0) (closes : W → ℕ → ℕ → C → Type 0) (may : W → G → O → Type 0) (is_fault : W → O → Bool) (P : Sight W G C O → Sight W G C O → Type 0) (old : View W Opening (Event G C O)) (new : Me (Option (State G C O)) (View W Opening (Event G C O))) : Type 0 where
+pub record IsDone {W G C O : Type 0} (shape : W → List (List ℕ)) (forks : W → ℕ → ℕ → ℕ → G → Type 0) (closes : W → ℕ → ℕ → C → Type 0) (may : W → G → O → Type 0) (is_fault : W → O → Bool) (P : Sight W G C O → Sight W G C O → Type 0) (old : View W Opening (Event G C O)) (new : Me (Option (State G C O)) (View W Opening (Event G C O))) : Type 0 where
   pub place : new.1 ≡ []
   pub seated : IsSeated shape forks closes may is_fault new.0
   pub session_same : new.0.session ≡ old.session

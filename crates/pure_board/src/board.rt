@@ -81,7 +81,7 @@ impl<W: Work> Board<W> {
         take_by(&self.desk, rt, &mut seat.token)
     }
 
-    /// A promise more, of a theory that the seat took and didn't close; its number. It may wait for the core.
+    /// A promise more, of a command of a theory that the seat took and didn't close; its number. It may wait for the core.
     ///
     /// # Errors
     ///
@@ -91,15 +91,16 @@ impl<W: Work> Board<W> {
         rt: &R,
         seat: &mut Seat<W>,
         theory: u32,
+        command: u32,
         goal: W::Goal,
     ) -> Result<u32, AllocError>
         requires board { seat.old.plan ≡ self.now }
         requires theory { HasTheory seat.old.own theory }
-        requires goal { W.forks seat.old.plan.session theory (forks_in theory seat.old.own) goal }
+        requires goal { W.forks seat.old.plan.session theory (forks_in theory seat.old.own) command goal }
         ensures known { IsTrueSight W.shape W.forks W.closes W.may W.faults seat.new }
-        ensures forked { MatchResult result (λ number. IsForked seat.old seat.new theory goal number) (λ _. Sees seat.old seat.new) }
+        ensures forked { MatchResult result (λ number. IsForked seat.old seat.new theory command goal number) (λ _. Sees seat.old seat.new) }
     {
-        fork_by(&self.desk, rt, &mut seat.token, theory, goal)
+        fork_by(&self.desk, rt, &mut seat.token, theory, command, goal)
     }
 
     /// Closes a theory that the seat took and didn't close. It may wait for the core.

@@ -15,24 +15,25 @@ use pure_core::{Core, Delivered, Work};
 use std::alloc::AllocError;
 use std::sync::Wait;
 
-/// A promise more, of a theory that the token took and didn't close.
+/// A promise more, of a command of a theory that the token took and didn't close.
 pub(crate) fn fork_by<R: Wait, W: Work>(
     desk: &CoreDesk<W>,
     rt: &R,
     token: &mut Token<W>,
     theory: u32,
+    command: u32,
     goal: W::Goal,
 ) -> Result<u32, AllocError>
     requires desk { token.old.table_id ≡ desk_id desk.now }
     requires place { token.old.me.1 ≡ [] }
     requires seated { IsSeated W.shape W.forks W.closes W.may W.faults (view_of token.old) }
     requires theory { HasTheory (view_of token.old).own theory }
-    requires goal { (k : W) → (view_of token.old).session ≡ Some k → W.forks k theory (forks_in theory (view_of token.old).own) goal }
+    requires goal { (k : W) → (view_of token.old).session ≡ Some k → W.forks k theory (forks_in theory (view_of token.old).own) command goal }
     ensures desk { token.new.table_id ≡ token.old.table_id }
-    ensures done { IsDone W.shape W.forks W.closes W.may W.faults (λ old new. MatchResult result (λ n. IsForked old new theory goal n) (λ _. Sees old new)) (view_of token.old) token.new.me }
+    ensures done { IsDone W.shape W.forks W.closes W.may W.faults (λ old new. MatchResult result (λ n. IsForked old new theory command goal n) (λ _. Sees old new)) (view_of token.old) token.new.me }
 {
     let mut core: Core<W> = desk.hold(rt, token);
-    match core.fork(theory, goal) {
+    match core.fork(theory, command, goal) {
         Err(error) => {
             desk.give_back(token, core);
             Err(error)

@@ -25,6 +25,39 @@ fn letters(alloc: Global, core: &Core<Session>) -> Result<Vec<u8>, AllocError> {
     Ok(text)
 }
 
+/// The digits, by what they stand for.
+const DIGITS: &[u8] = b"0123456789";
+
+/// Adds how the promise stands, behind the digit of its command, where that isn't the first.
+fn push_commanded(text: &mut Vec<u8>, promise: &Promise<bool, bool>) -> Result<(), AllocError> {
+    if promise.command != 0 {
+        let digit = match DIGITS.get(promise.command as usize) {
+            None => b'?',
+            Some(digit) => *digit,
+        };
+        text.push(digit)?;
+    }
+    text.push(letter(&promise.standing))?;
+    Ok(())
+}
+
+/// How all promises stand, in order of their numbers, each behind its command.
+fn commanded_letters(alloc: Global, core: &Core<Session>) -> Result<Vec<u8>, AllocError> {
+    let mut text = Vec::new(alloc);
+    for number in 0..core.count() {
+        push_commanded(&mut text, core.promise(number))?;
+    }
+    Ok(text)
+}
+
+/// Whether it is the text that was wanted, with a mark where there is none.
+fn is_wanted(text: &[u8], wanted: &[u8]) -> bool {
+    if text.is_empty() {
+        return wanted == NONE;
+    }
+    text == wanted
+}
+
 /// Whether the promises stand so, in order of their numbers.
 pub(crate) fn stand(
     alloc: Global,
@@ -32,10 +65,17 @@ pub(crate) fn stand(
     wanted: &[u8],
 ) -> Result<bool, AllocError> {
     let text = letters(alloc, core)?;
-    if text.is_empty() {
-        return Ok(wanted == NONE);
-    }
-    Ok(text.as_slice() == wanted)
+    Ok(is_wanted(text.as_slice(), wanted))
+}
+
+/// Whether the promises stand so, in order of their numbers, each behind its command.
+pub(crate) fn stand_commanded(
+    alloc: Global,
+    core: &Core<Session>,
+    wanted: &[u8],
+) -> Result<bool, AllocError> {
+    let text = commanded_letters(alloc, core)?;
+    Ok(is_wanted(text.as_slice(), wanted))
 }
 
 /// How many of the promises stand so.
@@ -57,12 +97,16 @@ fn is_as_wanted(promise: &Promise<bool, bool>) -> bool {
     }
 }
 
-/// The outcomes of a theory's promises, in order of their numbers, as far as they are settled as their goals want it.
+/// The outcomes of a theory's promises, in order of their numbers, as far as they are settled as their goals want it and the n-th is of
+/// the n-th command.
 fn outcomes(alloc: Global, core: &Core<Session>, theory: u32) -> Result<Vec<bool>, AllocError> {
     let mut found = Vec::new(alloc);
     for number in 0..core.count() {
         let promise = core.promise(number);
-        if promise.theory == theory && is_as_wanted(promise) {
+        if promise.theory == theory
+            && promise.command as usize == found.len()
+            && is_as_wanted(promise)
+        {
             found.push(*promise.goal)?;
         }
     }

@@ -1,6 +1,6 @@
 //! Calls at the seats of a board, each made when its turn comes.
 use crate::fields::{number, policy_of, session_of};
-use crate::letters::stand;
+use crate::letters::stand_commanded;
 use crate::turns::turns_of;
 use pure_core::Policy;
 use pure_plays::{Turn, play_closed};
@@ -31,7 +31,7 @@ fn leaves<R: Threads + Wait + Sync>(
     let seats = play.seats.max(1);
     let played = play_closed(rt, alloc, session, policy, seats, turns)?;
     let is_right = played.right;
-    let stands = stand(alloc, played.closed.core(), play.wanted);
+    let stands = stand_commanded(alloc, played.closed.core(), play.wanted);
     mem::forget(played);
     Ok(is_right && stands?)
 }

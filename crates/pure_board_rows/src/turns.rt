@@ -31,10 +31,19 @@ const CALLS_WITH: [(&[u8], With); 3] = [
     (b"deliver", With::Deliver),
 ];
 
+/// The fork that is written so: the digit of its command, where that isn't the first, and its goal.
+fn fork_of(given: &[u8]) -> Result<Call, Fault> {
+    if given.len() < 2 {
+        return Ok(Call::Fork(0, is_fault(given)?));
+    }
+    let command = number(&given[..1])?;
+    Ok(Call::Fork(command, is_fault(&given[1..])?))
+}
+
 /// The call with this behind it.
 fn call_with(word: &[u8], given: &[u8]) -> Result<Call, Fault> {
     match named(&CALLS_WITH, word) {
-        Some(With::Fork) => Ok(Call::Fork(is_fault(given)?)),
+        Some(With::Fork) => fork_of(given),
         Some(With::Close) => Ok(Call::Close(number(given)?)),
         Some(With::Deliver) => Ok(Call::Deliver(is_fault(given)?)),
         None => Err(Fault::Unreadable),

@@ -14,7 +14,7 @@ use Rattle.pure_check_work.specs.Method.declared.outcome.Outcome.{Outcome}
 use Rattle.pure_check_work.specs.SessionLaws.Loaded.{IsLoadedSession}
 use Rattle.pure_check_work.proofs.SessionLaws.OrderLaws.{loaded-in-order}
 use Rattle.pure_check_work.proofs.SessionLaws.WellLaws.{loaded-well}
-use Rattle.pure_check_work.specs.SessionMeaning.Statements.{forks_of, IsFork, AreStatements}
+use Rattle.pure_check_work.specs.SessionMeaning.Statements.{forks_of, AreStatements}
 use Rattle.pure_check_work.proofs.SessionMeaning.StatementLaws.{statements_once}
 use Rattle.pure_check_work.specs.TheoryRun.Checked.{Checked}
 use Rattle.pure_check_work.specs.TheoryRun.Outline.{Outline}
@@ -31,7 +31,7 @@ use Rattle.pure_policy_laws.specs.Heeded as heed
 use Rattle.pure_policy.specs.Asked.{Asked}
 use Rattle.pure_policy.specs.Policy.{policy_of}
 use Rattle.pure_policy.proofs.PolicyLaws.{words_heeded}
-use Rattle.pure_check_work.specs.Relations.{shape_of, ClosesAfter, is_fault}
+use Rattle.pure_check_work.specs.Relations.{shape_of, ForksAfter, ClosesAfter, is_fault}
 use Rattle.pure_check_work.specs.Boards.{IsBoardOf}
 use Rattle.pure_check_work.specs.Cancelled.{lemmas_of}
 use Rattle.pure_check_work.proofs.LeftLaws.{said-joined}
@@ -48,7 +48,7 @@ board-goals : (S : Session) → IsLoadedSession S.names S.theories → (policy :
 board-goals S loaded policy workers board is ordered in_order notes statements =
     let values = filter_map value_of board.core.theories in
     let legal = board-legal S.names S.theories loaded policy workers board is in
-    let joined = core-joined (shape_of S.theories) (IsFork S.names S.theories) (ClosesAfter S.names S.theories) (IsOutcomeOf S.names) is_fault board.core legal is.executed.finished values ordered refl in_order in
+    let joined = core-joined (shape_of S.theories) (ForksAfter S.names S.theories) (ClosesAfter S.names S.theories) (IsOutcomeOf S.names) is_fault board.core legal is.executed.finished values ordered refl in_order in
     let said = said_are_statements S.names S.theories values (lemmas_of ordered) (said-joined S.names S.theories loaded values ordered joined) in
     said.2 ∙ ap forks_of (statements_once S.names S.theories loaded said.0 notes said.1 statements)
 

@@ -21,7 +21,7 @@ use Rattle.pure_core.specs.Legal.{IsLegal}
 use Rattle.pure_core_end.specs.Promises.{promises_of}
 use Rattle.pure_core_end.specs.Places.{IsPlaced, IsAncestor, ComesBefore}
 use Rattle.pure_core_end.proofs.BeforeLaws.{smaller-numbers, goals-forked, count-within, placed-there, ancestor-whole}
-use Rattle.pure_check_work.specs.Relations.{shape_of, ClosesAfter, is_fault}
+use Rattle.pure_check_work.specs.Relations.{shape_of, ForksAfter, ClosesAfter, is_fault}
 use Rattle.pure_check_work.specs.Earlier.{StandsBefore, PromisesComeBefore}
 use Rattle.pure_check_work.proofs.StandLaws.{IsBefore, fork-before}
 
@@ -34,11 +34,11 @@ more-forks texts theories loaded j k count f value is closes =
     let inner = ap length (forks-append is.notes (Forked f ∷ [])) ∙ length-append (forks_of is.notes) (f ∷ []) in
     omega (arith, long, outer, inner, is.count)
 
-module _ (texts : List (List ℕ)) (theories : List Loaded) (loaded : IsLoadedSession texts theories) (s : State Fork Outline Outcome) (legal : IsLegal (shape_of theories) (IsFork texts theories) (ClosesAfter texts theories) (IsOutcomeOf texts) is_fault s) where
+module _ (texts : List (List ℕ)) (theories : List Loaded) (loaded : IsLoadedSession texts theories) (s : State Fork Outline Outcome) (legal : IsLegal (shape_of theories) (ForksAfter texts theories) (ClosesAfter texts theories) (IsOutcomeOf texts) is_fault s) where
   -- the earlier lemma has a promise
   within : (number : ℕ) (goal : Promise Fork Outcome) → Stands s number goal → (l : Label) (A : Term) (b : IsBefore texts theories goal.theory (length (promises_of goal.theory (take number s.promises))) l A) → b.others < length (promises_of b.theory s.promises)
   within number goal stands l A b = elim b.comes [
-    | inl older ↦ (let whole = ancestor-whole (shape_of theories) (IsFork texts theories) (ClosesAfter texts theories) (IsOutcomeOf texts) is_fault s legal number goal stands b.theory older in
+    | inl older ↦ (let whole = ancestor-whole (shape_of theories) (ForksAfter texts theories) (ClosesAfter texts theories) (IsOutcomeOf texts) is_fault s legal number goal stands b.theory older in
         subst (λ n. b.others < n) (sym whole.3) (more-forks texts theories loaded b.theory b.others whole.0 b.fork whole.1 b.is whole.2))
     | inr same ↦ subst (λ j. b.others < length (promises_of j s.promises)) (sym same.0) (omega (arith, same.1, count-within goal.theory s.promises number))
   ]
@@ -47,18 +47,18 @@ module _ (texts : List (List ℕ)) (theories : List Loaded) (loaded : IsLoadedSe
   before number goal stands l A b =
       let there = placed-there b.theory s.promises b.others (within number goal stands l A b) in
       let placed : IsPlaced s.promises number goal.theory (length (promises_of goal.theory (take number s.promises))) = record { promise = goal; stands = stands; theory_is = refl; count = refl } in
-      let is = goals-forked (shape_of theories) (IsFork texts theories) (ClosesAfter texts theories) (IsOutcomeOf texts) is_fault s legal there.0 b.theory b.others there.1 in
-      let same = fork_once texts theories loaded b.theory b.others (there.1.promise).goal b.fork is b.is in (
+      let is = goals-forked (shape_of theories) (ForksAfter texts theories) (ClosesAfter texts theories) (IsOutcomeOf texts) is_fault s legal there.0 b.theory b.others there.1 in
+      let same = fork_once texts theories loaded b.theory b.others (there.1.promise).goal b.fork is.lemma b.is in (
         there.0,
         there.1.promise,
         there.1.stands,
         ap Fork.label same ∙ b.label,
         ap Fork.prop same ∙ b.prop,
-        smaller-numbers (shape_of theories) (IsFork texts theories) (ClosesAfter texts theories) (IsOutcomeOf texts) is_fault s legal there.0 number b.theory b.others goal.theory (length (promises_of goal.theory (take number s.promises))) there.1 placed b.comes,
+        smaller-numbers (shape_of theories) (ForksAfter texts theories) (ClosesAfter texts theories) (IsOutcomeOf texts) is_fault s legal there.0 number b.theory b.others goal.theory (length (promises_of goal.theory (take number s.promises))) there.1 placed b.comes,
       )
 
 pub promises_come_before : PromisesComeBefore
 promises_come_before texts theories loaded s legal number goal stands name l A m =
     let placed : IsPlaced s.promises number goal.theory (length (promises_of goal.theory (take number s.promises))) = record { promise = goal; stands = stands; theory_is = refl; count = refl } in
-    let is = goals-forked (shape_of theories) (IsFork texts theories) (ClosesAfter texts theories) (IsOutcomeOf texts) is_fault s legal number goal.theory (length (promises_of goal.theory (take number s.promises))) placed in
-    before texts theories loaded s legal number goal stands l A (fork-before texts theories loaded goal.theory (length (promises_of goal.theory (take number s.promises))) goal.goal is name l A m)
+    let is = goals-forked (shape_of theories) (ForksAfter texts theories) (ClosesAfter texts theories) (IsOutcomeOf texts) is_fault s legal number goal.theory (length (promises_of goal.theory (take number s.promises))) placed in
+    before texts theories loaded s legal number goal stands l A (fork-before texts theories loaded goal.theory (length (promises_of goal.theory (take number s.promises))) goal.goal is.lemma name l A m)

@@ -31,14 +31,14 @@ use Rattle.pure_policy_laws.specs.Heeded as heed
 use Rattle.pure_policy_laws.proofs.HeedLaws.{heeded}
 use Rattle.pure_policy_laws.proofs.FinishLaws.{in-at}
 use Rattle.pure_board.specs.Boards.{Ending}
-use Rattle.pure_check_work.specs.Relations.{shape_of, ClosesAfter, is_fault}
+use Rattle.pure_check_work.specs.Relations.{shape_of, ForksAfter, ClosesAfter, is_fault}
 use Rattle.pure_check_work.specs.Boards.{IsBoardOf}
 use Rattle.pure_check_work.specs.Cancelled.{cancelled_labels, entry_of, entries_of}
 use Rattle.pure_check_work.specs.Heeded.{lot_of, gone_labels, SessionIsHeeded}
 use Rattle.pure_check_work.proofs.RunLaws.{shape-formed}
 
 -- the label of a lemma has the index of its theory
-fork-theory : (texts : List (List ℕ)) (theories : List Loaded) → IsLoadedSession texts theories → (index others : ℕ) (f : Fork) → IsFork texts theories index others f → f.label.theory ≡ index
+pub fork-theory : (texts : List (List ℕ)) (theories : List Loaded) → IsLoadedSession texts theories → (index others : ℕ) (f : Fork) → IsFork texts theories index others f → f.label.theory ≡ index
 fork-theory texts theories loaded index others f is =
     let r = is.run in
     let begun = run_begins texts theories index r.theory r.is_at r.parents r.closed r.first r.begins in
@@ -54,7 +54,7 @@ record IsPlain (p : Promise Fork Outcome) : Type 0 where
 same-lot : (p : Promise Fork Outcome) → IsPlain p → lot_of (entry_of p) ≡ heed.lot_of is_fault p
 same-lot p plain = by_standing p.standing plain.over
   where
-    by_standing : (s : Standing Outcome) → IsOver s → lot_of (entry_of (record { theory = p.theory; goal = p.goal; standing = s })) ≡ heed.lot_of is_fault (record { theory = p.theory; goal = p.goal; standing = s })
+    by_standing : (s : Standing Outcome) → IsOver s → lot_of (entry_of (record { theory = p.theory; command = p.command; goal = p.goal; standing = s })) ≡ heed.lot_of is_fault (record { theory = p.theory; command = p.command; goal = p.goal; standing = s })
     by_standing Ready over = absurd over
     by_standing Taken over = absurd over
     by_standing (Settled (shown.Proved c)) over = ap (λ i. record { theory = i; gone = false; fault = false }) plain.theory
@@ -70,7 +70,7 @@ same-gone [] plain = refl
 same-gone (p ∷ ps) plain = by_standing p.standing plain.0.over (same-gone ps plain.1)
   where
     with : Standing Outcome → Promise Fork Outcome
-    with s = record { theory = p.theory; goal = p.goal; standing = s }
+    with s = record { theory = p.theory; command = p.command; goal = p.goal; standing = s }
 
     by_standing : (s : Standing Outcome) → IsOver s → gone_labels (entries_of ps) ≡ cancelled_labels ps → gone_labels (entries_of (with s ∷ ps)) ≡ cancelled_labels (with s ∷ ps)
     by_standing Ready over rest = absurd over
@@ -80,17 +80,17 @@ same-gone (p ∷ ps) plain = by_standing p.standing plain.0.over (same-gone ps p
 
 module _ (texts : List (List ℕ)) (theories : List Loaded) (loaded : IsLoadedSession texts theories) (policy : Policy) (workers : ℕ) (board : Ending Checked Fork Outline Outcome) (of : IsBoardOf texts theories policy workers board) where
   -- the closed board's core is in a state of a legal run
-  pub board-legal : IsLegal (shape_of theories) (IsFork texts theories) (ClosesAfter texts theories) (IsOutcomeOf texts) is_fault board.core
-  board-legal = subst (λ (s : State Fork Outline Outcome). IsLegal (shape_of theories) (IsFork texts theories) (ClosesAfter texts theories) (IsOutcomeOf texts) is_fault s) (sym of.state)
-      (subst (λ shape. IsLegal shape (IsFork texts theories) (ClosesAfter texts theories) (IsOutcomeOf texts) is_fault (state_of board.opening board.history)) (ap (λ (o : Opening). o.shape) of.opening)
-      (run-legal (IsFork texts theories) (ClosesAfter texts theories) (IsOutcomeOf texts) is_fault board.opening board.history of.run))
+  pub board-legal : IsLegal (shape_of theories) (ForksAfter texts theories) (ClosesAfter texts theories) (IsOutcomeOf texts) is_fault board.core
+  board-legal = subst (λ (s : State Fork Outline Outcome). IsLegal (shape_of theories) (ForksAfter texts theories) (ClosesAfter texts theories) (IsOutcomeOf texts) is_fault s) (sym of.state)
+      (subst (λ shape. IsLegal shape (ForksAfter texts theories) (ClosesAfter texts theories) (IsOutcomeOf texts) is_fault (state_of board.opening board.history)) (ap (λ (o : Opening). o.shape) of.opening)
+      (run-legal (ForksAfter texts theories) (ClosesAfter texts theories) (IsOutcomeOf texts) is_fault board.opening board.history of.run))
 
   -- each promise is over, and of the theory that its lemma's label has
   plain-promise : (n : ℕ) (p : Promise Fork Outcome) → slice_get (board.core).promises n ≡ Some p → (p.goal).label.theory ≡ p.theory
   plain-promise n p stands =
       let placed : IsPlaced (board.core).promises n p.theory (length (promises_of p.theory (take n (board.core).promises))) = record { promise = p; stands = stands; theory_is = refl; count = refl } in
       fork-theory texts theories loaded p.theory (length (promises_of p.theory (take n (board.core).promises))) p.goal
-      (goals-forked (shape_of theories) (IsFork texts theories) (ClosesAfter texts theories) (IsOutcomeOf texts) is_fault board.core board-legal n p.theory (length (promises_of p.theory (take n (board.core).promises))) placed)
+      (goals-forked (shape_of theories) (ForksAfter texts theories) (ClosesAfter texts theories) (IsOutcomeOf texts) is_fault board.core board-legal n p.theory (length (promises_of p.theory (take n (board.core).promises))) placed).lemma
 
   plain-ordered : (ordered : List (Promise Fork Outcome)) → AreInOrder (board.core).promises ordered → Each IsPlain ordered
   plain-ordered ordered in_order = each_of IsPlain ordered (λ p m. (
@@ -101,7 +101,7 @@ module _ (texts : List (List ℕ)) (theories : List Loaded) (loaded : IsLoadedSe
   board-heeded : (ordered : List (Promise Fork Outcome)) → AreInOrder (board.core).promises ordered → IsHeeded policy workers (map (heed.lot_of is_fault) ordered)
   board-heeded ordered in_order =
       subst (λ (o : Opening). IsHeeded o.policy o.workers (map (heed.lot_of is_fault) ordered)) of.opening
-      (heeded (IsFork texts theories) (ClosesAfter texts theories) (IsOutcomeOf texts) is_fault board.opening board.history
+      (heeded (ForksAfter texts theories) (ClosesAfter texts theories) (IsOutcomeOf texts) is_fault board.opening board.history
       (subst (λ (o : Opening). IsShape o.shape) (sym of.opening) (shape-formed texts theories loaded)) of.run of.executed.orderly ordered
       (subst IsFinished of.state of.executed.finished) (subst (λ (s : State Fork Outline Outcome). AreInOrder s.promises ordered) of.state in_order))
 

@@ -18,7 +18,7 @@ use Rattle.pure_table.specs.TheoryRun.Outline.{Outline, outline}
 use Rattle.pure_table.specs.TheoryRun.Sessions.{HaveClosed, AreSaid}
 use Rattle.pure_machine.specs.State.{Promise}
 use Rattle.pure_core_end.specs.Joined.{IsJoined, AreJoinedFrom, AreJoined}
-use Rattle.pure_check_work.specs.Relations.{shape_of, ClosesAfter}
+use Rattle.pure_check_work.specs.Relations.{shape_of, ForksAfter, ClosesAfter}
 use Rattle.pure_check_work.specs.Cancelled.{lemmas_of}
 
 -- where the lemma after so many others stands among notes
@@ -55,9 +55,9 @@ module _ (texts : List (List ℕ)) (theories : List Loaded) where
     goal-at (p ∷ ps) (suc n) f e = goal-at ps n f e
 
     -- the lemmas that a theory left are those that it binds
-    own-lemmas : (i : ℕ) (value : Outline) (own : List (Promise Fork Outcome)) → (j : IsJoined (IsFork texts theories) (ClosesAfter texts theories) (IsOutcomeOf texts) i value own) → lemmas_of own ≡ forks_of (notes_of (j.closed).0)
+    own-lemmas : (i : ℕ) (value : Outline) (own : List (Promise Fork Outcome)) → (j : IsJoined (ForksAfter texts theories) (ClosesAfter texts theories) (IsOutcomeOf texts) i value own) → lemmas_of own ≡ forks_of (notes_of (j.closed).0)
     own-lemmas i value own j = forks-same i 0 (lemmas_of own) (forks_of (notes_of (j.closed).0)) (length-map own (λ (p : Promise Fork Outcome). p.goal) ∙ sym (j.closed).3)
-        (λ n m f e at. let there = goal-at own n f at in subst (λ k. IsFork texts theories i k f) (same n m e) (subst (IsFork texts theories i n) there.2 (j.forked n there.0 there.1)))
+        (λ n m f e at. let there = goal-at own n f at in subst (λ k. IsFork texts theories i k f) (same n m e) (subst (IsFork texts theories i n) there.2 (j.forked n there.0 there.1).lemma))
         (λ n m f e at. subst (λ k. IsFork texts theories i k f) (same n m e) (verdict-forks i (j.closed).0 (j.closed).1 n f at))
       where
         same : (n m : ℕ) → m ≡ 0 + n → n ≡ m
@@ -70,7 +70,7 @@ module _ (texts : List (List ℕ)) (theories : List Loaded) where
       values_are : values ≡ map outline verdicts
       lemmas_are : lemmas_of promises ≡ forks_of (flat_map notes_of verdicts)
 
-    have-left : (i : ℕ) (values : List Outline) (promises : List (Promise Fork Outcome)) → AreJoinedFrom (IsFork texts theories) (ClosesAfter texts theories) (IsOutcomeOf texts) i values promises → HaveLeft i values promises
+    have-left : (i : ℕ) (values : List Outline) (promises : List (Promise Fork Outcome)) → AreJoinedFrom (ForksAfter texts theories) (ClosesAfter texts theories) (IsOutcomeOf texts) i values promises → HaveLeft i values promises
     have-left i [] promises h = record { verdicts = []; are = λ place index v e at. absurd (none-some v at); values_are = refl; lemmas_are = ap lemmas_of h }
     have-left i (value ∷ values) promises h =
         let rest = have-left (suc i) values h.1 h.4 in
@@ -93,7 +93,7 @@ module _ (texts : List (List ℕ)) (theories : List Loaded) where
         are-so i v vs first later (suc place) index w e at = later place index w (omega (arith, e)) at
 
     -- what all theories left
-    pub said-joined : (values : List Outline) (promises : List (Promise Fork Outcome)) → AreJoined (shape_of theories) (IsFork texts theories) (ClosesAfter texts theories) (IsOutcomeOf texts) values promises → AreSaid texts theories values (lemmas_of promises)
+    pub said-joined : (values : List Outline) (promises : List (Promise Fork Outcome)) → AreJoined (shape_of theories) (ForksAfter texts theories) (ClosesAfter texts theories) (IsOutcomeOf texts) values promises → AreSaid texts theories values (lemmas_of promises)
     said-joined values promises h =
         let all = have-left 1 values promises h.left in
         record {

@@ -16,4 +16,5 @@ pub mod EarlierLaws
 pub mod SendLaws
 pub mod HeldLaws
 pub mod HeedLaws
+pub mod OwnedLaws
 pub mod BoardLaws

@@ -9,7 +9,7 @@ use Rattle.pure_grammar.specs.Theories.TheoryText.{Command}
 use Rattle.pure_logic.specs.Content.{Content}
 use Rattle.pure_table.specs.Declare.Notes.{Fork, Note, Said, Forked}
 use Rattle.pure_table.specs.SessionMeaning.Verdicts.{Verdict, IsTheoryAt, Closes, AllClose, nothing, also}
-use Rattle.pure_table.specs.SessionMeaning.Statements.{notes_of, forks_of, IsRun, IsFork}
+use Rattle.pure_table.specs.SessionMeaning.Statements.{notes_of, forks_of, IsRun}
 use Rattle.pure_table.specs.SessionLaws.Loaded.{IsLoadedSession}
 use Rattle.pure_table.proofs.SessionMeaning.NoteLaws.{forks-append}
 use Rattle.pure_table.specs.TheoryRun.Outline.{Outline, outline}
@@ -27,7 +27,7 @@ use Rattle.pure_machine.specs.Step.{IsShape}
 use Rattle.pure_machine.proofs.PromiseLaws.{slice_get-mapped}
 use Rattle.pure_core.specs.declared.work.Turn as core
 use Rattle.pure_core.specs.Turns.{IsTurn, IsRunKept}
-use Rattle.pure_check_work.specs.Relations.{shape_of, ClosesAfter, RunsAfter}
+use Rattle.pure_check_work.specs.Relations.{shape_of, ForksAfter, ClosesAfter, RunsAfter}
 use Rattle.pure_check_work.specs.Turns.{core_turn}
 
 -- the theory whose parents the shape has
@@ -92,11 +92,11 @@ no-more notes row n count = ap length (forks-append notes (Said row ∷ [])) ∙
 
 -- a turn of the session is one of the work
 pub turn-of : (texts : List (List ℕ)) (theories : List Loaded) (i n : ℕ) (notes : List Note) (old new : Run) (t : Turn) → length (forks_of notes) ≡ n → turns.IsTurn texts theories i notes old new t
-    → IsTurn (IsFork texts theories) (ClosesAfter texts theories) (RunsAfter texts theories) turns_left i n old new (core_turn t)
+    → IsTurn (ForksAfter texts theories) (ClosesAfter texts theories) (RunsAfter texts theories) turns_left i n old new (core_turn t)
 turn-of texts theories i n notes old new turn.Declared count h = ((notes ++ Said h.0 ∷ [], h.1, no-more notes h.0 n count), h.2)
-turn-of texts theories i n notes old new (turn.Forked goal) count h =
+turn-of texts theories i n notes old new (turn.Forked command goal) count h =
     let run = runs-under texts theories i notes (Forked goal) new.standing h.0.standing in
-    (record { notes = notes; now = run.0; left = run.1; run = run.2; count = count }, (notes ++ Forked goal ∷ [], h.0, one-more notes goal n count), h.1)
+    (record { lemma = record { notes = notes; now = run.0; left = run.1; run = run.2; count = count }; command_is = h.2 }, (notes ++ Forked goal ∷ [], h.0, one-more notes goal n count), h.1)
 turn-of texts theories i n notes old new (turn.Closed value) count h = (h.1.verdict, h.1.closes, h.1.value_is, ap length h.1.forks ∙ count)
 
 -- at the beginning
@@ -109,9 +109,9 @@ some-run texts theories run h = (h.0, h.2.0, h.2.1)
 
 -- what the call answers, of the checker that the session holds
 pub command-of : (session held : Checked) → held ≡ session → (i n : ℕ) (old new : Run) (t : Turn) (u : core.Turn Fork Outline) → u ≡ core_turn t → ((index : ℕ) (past : List Note) → IsRunOf held.texts held.theories index past old → turns.IsTurn held.texts held.theories index past old new t)
-    → RunsAfter session.texts session.theories i n old → IsTurn (IsFork session.texts session.theories) (ClosesAfter session.texts session.theories) (RunsAfter session.texts session.theories) turns_left i n old new u
+    → RunsAfter session.texts session.theories i n old → IsTurn (ForksAfter session.texts session.theories) (ClosesAfter session.texts session.theories) (RunsAfter session.texts session.theories) turns_left i n old new u
 command-of session held same i n old new t u is answered h =
-    subst (IsTurn (IsFork session.texts session.theories) (ClosesAfter session.texts session.theories) (RunsAfter session.texts session.theories) turns_left i n old new) (sym is)
+    subst (IsTurn (ForksAfter session.texts session.theories) (ClosesAfter session.texts session.theories) (RunsAfter session.texts session.theories) turns_left i n old new) (sym is)
     (turn-of session.texts session.theories i n h.0 old new t h.2 (subst (λ (c : Checked). turns.IsTurn c.texts c.theories i h.0 old new t) same (answered i h.0 (subst (λ (c : Checked). IsRunOf c.texts c.theories i h.0 old) (sym same) h.1))))
 
 -- a run that stands where it stood

@@ -9,7 +9,6 @@ use Rattle.pure_table.specs.Method.Outcome.{IsOutcomeOf}
 use Rattle.pure_table.specs.Method.declared.outcome.Outcome.{Outcome}
 use Rattle.pure_table.specs.Promise.declared.entry.Entry.{Entry as Held}
 use Rattle.pure_table.specs.SessionLaws.Loaded.{IsLoadedSession}
-use Rattle.pure_table.specs.SessionMeaning.Statements.{IsFork}
 use Rattle.pure_table.proofs.SessionMeaning.LabelLaws.{labels_ascend}
 use Rattle.pure_table.specs.TheoryRun.Outline.{Outline}
 use Rattle.pure_table.specs.TheoryRun.Sessions.{AreSaid}
@@ -19,7 +18,7 @@ use Rattle.pure_table.proofs.DerivedLaws.{table_has_fates}
 use Rattle.pure_machine.specs.State.{Promise}
 use Rattle.pure_core_end.specs.Promises.{AreInOrder}
 use Rattle.pure_core_end.specs.Joined.{EndsSo, AreJoinedFrom, AreJoined}
-use Rattle.pure_check_work.specs.Relations.{shape_of, ClosesAfter}
+use Rattle.pure_check_work.specs.Relations.{shape_of, ForksAfter, ClosesAfter}
 use Rattle.pure_check_work.specs.Cancelled.{lemmas_of, cancelled_labels, IsHeldOf}
 use Rattle.pure_check_work.specs.Said.{AreLeft, AreSaidBy}
 use Rattle.pure_check_work.specs.Laws.{JoinedAreLeft, TableHasPremises}
@@ -28,7 +27,7 @@ use Rattle.pure_check_work.proofs.EntryLaws.{entries-so, labels-of}
 use Rattle.pure_check_work.proofs.HeldLaws.{held-seen, held-for}
 
 -- each promise ended as its goal may
-ended-from : (texts : List (List ℕ)) (theories : List Loaded) (i : ℕ) (values : List Outline) (promises : List (Promise Fork Outcome)) → AreJoinedFrom (IsFork texts theories) (ClosesAfter texts theories) (IsOutcomeOf texts) i values promises
+ended-from : (texts : List (List ℕ)) (theories : List Loaded) (i : ℕ) (values : List Outline) (promises : List (Promise Fork Outcome)) → AreJoinedFrom (ForksAfter texts theories) (ClosesAfter texts theories) (IsOutcomeOf texts) i values promises
     → Each (λ (p : Promise Fork Outcome). EndsSo (IsOutcomeOf texts) p.goal p.standing) promises
 ended-from texts theories i [] promises h = subst (Each (λ (p : Promise Fork Outcome). EndsSo (IsOutcomeOf texts) p.goal p.standing)) (sym h) tt
 ended-from texts theories i (value ∷ values) promises h =
@@ -51,7 +50,7 @@ table_has_premises S loaded cancelled p texts left refused =
 
 -- what a core left, with the entries that the program holds
 pub said-by : (texts : List (List ℕ)) (theories : List Loaded) → IsLoadedSession texts theories → (numbered lent promises : List (Promise Fork Outcome)) (values : List Outline) (entries : List Held) → lent ≡ numbered → AreInOrder lent promises
-    → AreJoined (shape_of theories) (IsFork texts theories) (ClosesAfter texts theories) (IsOutcomeOf texts) values promises → EachTwo IsHeldOf promises entries → (duties : List Fork) → duties ≡ lemmas_of promises → AreSaidBy texts theories numbered values entries duties
+    → AreJoined (shape_of theories) (ForksAfter texts theories) (ClosesAfter texts theories) (IsOutcomeOf texts) values promises → EachTwo IsHeldOf promises entries → (duties : List Fork) → duties ≡ lemmas_of promises → AreSaidBy texts theories numbered values entries duties
 unfolding joined_are_left
 said-by texts theories loaded numbered lent promises values entries same in_order joined held duties are =
     let seen_is = held-seen promises entries held in

@@ -14,8 +14,7 @@ use Rattle.pure_table.specs.TheoryRun.Outline.{Outline}
 use Rattle.pure_machine.specs.State.{State, Promise}
 use Rattle.pure_machine.specs.Step.{Stands}
 use Rattle.pure_core.specs.Legal.{IsLegal}
-use Rattle.pure_table.specs.SessionMeaning.Statements.{IsFork}
-use Rattle.pure_check_work.specs.Relations.{shape_of, ClosesAfter, is_fault}
+use Rattle.pure_check_work.specs.Relations.{shape_of, ForksAfter, ClosesAfter, is_fault}
 
 -- The promise declared with this label and statement is that of a lemma whose number is smaller.
 abbrev pub StandsBefore : State Fork Outline Outcome → (number : ℕ) → Label → Term → Type 0
@@ -24,5 +23,5 @@ StandsBefore s number l A = (earlier : ℕ) × (p : Promise Fork Outcome) × Sta
 -- In every state of every legal run of the session each promise of a goal's content is that of a lemma with a smaller number; so no lemma rests on itself by any path.
 abbrev pub PromisesComeBefore : Type 0
 PromisesComeBefore = (texts : List (List ℕ)) (theories : List Loaded) → IsLoadedSession texts theories → (s : State Fork Outline Outcome)
-    → IsLegal (shape_of theories) (IsFork texts theories) (ClosesAfter texts theories) (IsOutcomeOf texts) is_fault s
+    → IsLegal (shape_of theories) (ForksAfter texts theories) (ClosesAfter texts theories) (IsOutcomeOf texts) is_fault s
     → (number : ℕ) (goal : Promise Fork Outcome) → Stands s number goal → (name : ℕ) (l : Label) (A : Term) → IsIn (PromiseDecl name l A) (goal.goal).content.declarations → StandsBefore s number l A

@@ -13,5 +13,6 @@ pub mod Cancelled
 pub mod Said
 pub mod Laws
 pub mod Earlier
+pub mod Owned
 pub mod Boards
 pub mod Heeded

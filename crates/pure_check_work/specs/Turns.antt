@@ -9,5 +9,5 @@ use Rattle.pure_core.specs.declared.work.Turn.TheVariants.{Declared, Forked, Clo
 -- the turn as the core sees it
 abbrev pub core_turn : run.Turn → Turn Fork Outline
 core_turn run_code.Declared = Declared
-core_turn (run_code.Forked goal) = Forked goal
+core_turn (run_code.Forked command goal) = Forked command goal
 core_turn (run_code.Closed closed) = Closed closed

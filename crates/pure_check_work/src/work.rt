@@ -19,7 +19,7 @@ fn turn_of(turn: pure_table::theory_run::Turn) -> Turn<Duty, Closed>
 {
     match turn {
         pure_table::theory_run::Turn::Declared => Turn::Declared,
-        pure_table::theory_run::Turn::Forked { goal } => Turn::Forked { goal },
+        pure_table::theory_run::Turn::Forked { command, goal } => Turn::Forked { command, goal },
         pure_table::theory_run::Turn::Closed { closed } => Turn::Closed { closed },
     }
 }
@@ -35,10 +35,9 @@ fn is_fault(outcome: &Outcome) -> bool
 }
 
 impl Work for Checking {
-    ghost use Rattle.pure_table.specs.SessionMeaning.Statements.{IsFork};
     ghost use Rattle.pure_table.specs.TheoryRun.Runs.{turns_left};
     ghost use Rattle.pure_table.specs.Method.Outcome.{IsOutcomeOf};
-    ghost use Rattle.pure_check_work.specs.Relations.{shape_of, ClosesAfter, RunsAfter, is_fault};
+    ghost use Rattle.pure_check_work.specs.Relations.{shape_of, ForksAfter, ClosesAfter, RunsAfter, is_fault};
     ghost use Rattle.pure_check_work.specs.Attempts.{Attempts};
 
     type Goal = Duty;
@@ -53,7 +52,7 @@ impl Work for Checking {
 
     ghost shape = { λ c. shape_of c.theories };
 
-    ghost forks = { λ c i n f. IsFork c.texts c.theories i n f };
+    ghost forks = { λ c i n m f. ForksAfter c.texts c.theories i n m f };
 
     ghost closes = { λ c i n o. ClosesAfter c.texts c.theories i n o };
 

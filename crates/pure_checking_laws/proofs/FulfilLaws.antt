@@ -12,7 +12,6 @@ use Rattle.pure_check_work.specs.Method.declared.outcome.Outcome.{Outcome}
 use Rattle.pure_check_work.specs.Method.declared.outcome.Outcome.TheVariants.{Proved}
 use Rattle.pure_check_work.proofs.Method.FaultLaws.{rests_in-promised}
 use Rattle.pure_check_work.specs.Promise.Accepting.{IsForkedBefore}
-use Rattle.pure_check_work.specs.SessionMeaning.Statements.{IsFork}
 use Rattle.pure_check_work.specs.TheoryRun.Outline.{Outline}
 use Rattle.pure_check_work.specs.Table.Fulfilled.{IsResultOf}
 use Rattle.pure_check_work.proofs.Table.ClaimLaws.{IsPromised}
@@ -20,7 +19,7 @@ use Rattle.pure_check_work.proofs.Table.FulfilledLaws.{same-below}
 use Rattle.pure_machine.specs.State.{State, Promise, Settled}
 use Rattle.pure_machine.specs.Step.{Stands}
 use Rattle.pure_core_end.proofs.ToldLaws.{told-legal}
-use Rattle.pure_check_work.specs.Relations.{shape_of, ClosesAfter, is_fault}
+use Rattle.pure_check_work.specs.Relations.{shape_of, ForksAfter, ClosesAfter, is_fault}
 use Rattle.pure_check_work.specs.Cancelled.{lemmas_of}
 use Rattle.pure_check_work.proofs.EarlierLaws.{promises_come_before}
 use Rattle.pure_checking_laws.specs.Settled.{IsReached, forked_labels}
@@ -37,7 +36,7 @@ module _ (texts : List (List ℕ)) (theories : List Loaded) (s : State Fork Outl
   -- the theorem is the result of the promise's lemma
   pub settled-result : (number : ℕ) (p : Promise Fork Outcome) → Stands s number p → (c : Certified) → p.standing ≡ Settled (Proved c) → IsResultOf texts p.goal c
   settled-result number p stands c settled =
-      let told = told-legal (shape_of theories) (IsFork texts theories) (ClosesAfter texts theories) (IsOutcomeOf texts) is_fault s legal in
+      let told = told-legal (shape_of theories) (ForksAfter texts theories) (ClosesAfter texts theories) (IsOutcomeOf texts) is_fault s legal in
       let h = told.outcomes number p (Proved c) stands settled in
       record { labels = c.theorem.rests; content = ap (λ (r : Certified). r.content) h.1; states = ap (λ (r : Certified). r.theorem) h.1; proof = h.0 }
 

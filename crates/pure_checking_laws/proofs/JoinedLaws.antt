@@ -35,7 +35,7 @@ use Rattle.pure_core_end.specs.Promises.{promises_of}
 use Rattle.pure_core_end.specs.Places.{IsPlaced}
 use Rattle.pure_core_end.proofs.BeforeLaws.{smaller-numbers, goals-forked}
 use Rattle.pure_policy_laws.proofs.FinishLaws.{in-at}
-use Rattle.pure_check_work.specs.Relations.{shape_of, ClosesAfter, is_fault}
+use Rattle.pure_check_work.specs.Relations.{shape_of, ForksAfter, ClosesAfter, is_fault}
 use Rattle.pure_check_work.specs.Cancelled.{own_of, entry_of, entries_of}
 use Rattle.pure_check_work.proofs.StandLaws.{fork-before}
 use Rattle.pure_checking_laws.specs.Settled.{IsReached}
@@ -66,7 +66,7 @@ module _ (texts : List (List ℕ)) (theories : List Loaded) (loaded : IsLoadedSe
   placed number p stands = record { promise = p; stands = stands; theory_is = refl; count = refl }
 
   forked : (number : ℕ) (p : Promise Fork Outcome) → Stands s number p → IsFork texts theories p.theory (others_of number p) p.goal
-  forked number p stands = goals-forked (shape_of theories) (IsFork texts theories) (ClosesAfter texts theories) (IsOutcomeOf texts) is_fault s legal number p.theory (others_of number p) (placed number p stands)
+  forked number p stands = (goals-forked (shape_of theories) (ForksAfter texts theories) (ClosesAfter texts theories) (IsOutcomeOf texts) is_fault s legal number p.theory (others_of number p) (placed number p stands)).lemma
 
   -- The label's promise is settled by a theorem that rests on these.
   record IsProvedBy (l : Label) (rests : List Label) : Type 0 where
@@ -117,7 +117,7 @@ module _ (texts : List (List ℕ)) (theories : List Loaded) (loaded : IsLoadedSe
       let fork = promises_are_forks texts theories loaded stand.index stand.notes (b.goal).content stand.left stand.run name (c.goal).label A declared in
       let same = one_lemma texts theories loaded c.theory (others_of m c) fork.1.0 fork.1.1 c.goal fork.0 other fork.1.2 (sym fork.2.label) in
       record {
-        smaller = smaller-numbers (shape_of theories) (IsFork texts theories) (ClosesAfter texts theories) (IsOutcomeOf texts) is_fault s legal m n before.theory before.others b.theory (others_of n b)
+        smaller = smaller-numbers (shape_of theories) (ForksAfter texts theories) (ClosesAfter texts theories) (IsOutcomeOf texts) is_fault s legal m n before.theory before.others b.theory (others_of n b)
             (record { promise = c; stands = there; theory_is = one.theory; count = ap (λ i. length (promises_of i (take m s.promises))) (sym one.theory) ∙ one.others })
             (placed n b at) before.comes;
         states = ap Fork.prop one.lemma ∙ before.prop;

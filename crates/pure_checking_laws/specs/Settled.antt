@@ -7,16 +7,15 @@ use Rattle.pure_check_work.specs.Method.Outcome.{IsOutcomeOf}
 use Rattle.pure_check_work.specs.Method.declared.outcome.Outcome.{Outcome}
 use Rattle.pure_check_work.specs.Promise.Entries.{plain}
 use Rattle.pure_check_work.specs.Promise.Joining.{IsJoined}
-use Rattle.pure_check_work.specs.SessionMeaning.Statements.{IsFork}
 use Rattle.pure_check_work.specs.TheoryRun.Outline.{Outline}
 use Rattle.pure_machine.specs.State.{State}
 use Rattle.pure_core.specs.Legal.{IsLegal}
-use Rattle.pure_check_work.specs.Relations.{shape_of, ClosesAfter, is_fault}
+use Rattle.pure_check_work.specs.Relations.{shape_of, ForksAfter, ClosesAfter, is_fault}
 use Rattle.pure_check_work.specs.Cancelled.{lemmas_of, entries_of}
 
 -- The state is that of a legal run of the session.
 abbrev pub IsReached : (texts : List (List ℕ)) → (theories : List Loaded) → State Fork Outline Outcome → Type 0
-IsReached texts theories s = IsLegal (shape_of theories) (IsFork texts theories) (ClosesAfter texts theories) (IsOutcomeOf texts) is_fault s
+IsReached texts theories s = IsLegal (shape_of theories) (ForksAfter texts theories) (ClosesAfter texts theories) (IsOutcomeOf texts) is_fault s
 
 -- the labels of the lemmas that were forked, in the order of their promises' numbers
 abbrev pub forked_labels : State Fork Outline Outcome → List Label

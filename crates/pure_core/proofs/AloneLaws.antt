@@ -38,12 +38,12 @@ not_taken_new true e = not_taken Cancelled e (λ x. x)
 not_taken_new false e = not_taken Ready e (λ x. x)
 
 -- the theory forks
-pub theory-forks : {G C O : Type 0} (s : State G C O) (i k : ℕ) (g : G) → IsTheoryAlone s i k → IsTheoryAlone (after s (Fork i g)) i (k + 1)
-theory-forks {G} {C} {O} s i k g alone = record {
+pub theory-forks : {G C O : Type 0} (s : State G C O) (i k c : ℕ) (g : G) → IsTheoryAlone s i k → IsTheoryAlone (after s (Fork i c g)) i (k + 1)
+theory-forks {G} {C} {O} s i k c g alone = record {
   goes_on = alone.goes_on;
   runs = theory-there s.theories i (forked_once (theory_at s.theories i)) (Running k) alone.runs ∙ ap Some (ap forked_once alone.runs);
   theories = λ j l e. elim (theory-changed s.theories i (forked_once (theory_at s.theories i)) j (Running l) e) [ inl here ↦ here.0 | inr there ↦ alone.theories j l there.1 ];
-  promises = λ n p at taken. elim (pushed-at s.promises (new_promise s i g) n p at) [
+  promises = λ n p at taken. elim (pushed-at s.promises (new_promise s i c g) n p at) [
     | inl here ↦ not_taken_new (is_theory_cancelled s.cancelled i) (ap (λ x. x.standing) here.1 ∙ taken)
     | inr there ↦ alone.promises n p there taken
   ];
@@ -65,7 +65,7 @@ IsDelivery (Deliver n o fault) = Unit {0}
 IsDelivery _ = ⊥
 
 -- a proof is taken where nothing ran
-pub proof-taken : {G C O : Type 0} (forks : ℕ → ℕ → G → Type 0) (closes : ℕ → ℕ → C → Type 0) (s : State G C O) (n : ℕ) (p : Promise G O) → IsKept forks closes s → IsAtRest s → IsNextPromise s n p → IsProofAlone (after s (TakeProof n)) n p.goal
+pub proof-taken : {G C O : Type 0} (forks : ℕ → ℕ → ℕ → G → Type 0) (closes : ℕ → ℕ → C → Type 0) (s : State G C O) (n : ℕ) (p : Promise G O) → IsKept forks closes s → IsAtRest s → IsNextPromise s n p → IsProofAlone (after s (TakeProof n)) n p.goal
 proof-taken {G} {C} {O} forks closes s n p kept rest next = record {
   goes_on = rest.goes_on;
   promise = standing_so p Taken;
@@ -132,7 +132,7 @@ each_two-mapped R f [] (b ∷ ys) h = absurd h
 each_two-mapped R f (a ∷ xs) [] h = absurd h
 each_two-mapped R f (a ∷ xs) (b ∷ ys) h = (h.0, each_two-mapped R f xs ys h.1)
 
-pub parents-may : {G C O A : Type 0} (forks : ℕ → ℕ → G → Type 0) (closes : ℕ → ℕ → C → Type 0) (s : State G C O) (i : ℕ) (shape : List (List ℕ)) (f : A → C) (parents : List A) → IsKept forks closes s → s.opening.shape ≡ shape → IsReady s i (map f parents)
+pub parents-may : {G C O A : Type 0} (forks : ℕ → ℕ → ℕ → G → Type 0) (closes : ℕ → ℕ → C → Type 0) (s : State G C O) (i : ℕ) (shape : List (List ℕ)) (f : A → C) (parents : List A) → IsKept forks closes s → s.opening.shape ≡ shape → IsReady s i (map f parents)
     → (numbers : List ℕ) × (parents_at shape i ≡ Some numbers) × EachTwo (λ i c. (n : ℕ) × closes i n (f c)) numbers parents
 parents-may forks closes s i shape f parents kept shaped ready =
     (ready.numbers, subst (λ x. parents_at x i ≡ Some ready.numbers) shaped ready.parents_are, each_two-mapped (λ i c. (n : ℕ) × closes i n c) f ready.numbers parents (values-may closes s.theories kept.closed ready.numbers (map f parents) ready.closed))

@@ -15,9 +15,9 @@ use Rattle.pure_core.proofs.PlaceLaws.{theory-changed, promise-changed, pushed-a
 abbrev pub Delivered : {G C O : Type 0} → List (Event G C O) → ℕ → Type 0
 Delivered {G} {C} {O} es n = (o : O) × (fault : Bool) × IsIn (Deliver n o fault) es
 
-pub record IsKept {G C O : Type 0} (forks : ℕ → ℕ → G → Type 0) (closes : ℕ → ℕ → C → Type 0) (s : State G C O) : Type 0 where
+pub record IsKept {G C O : Type 0} (forks : ℕ → ℕ → ℕ → G → Type 0) (closes : ℕ → ℕ → C → Type 0) (s : State G C O) : Type 0 where
   pub closed : (i k : ℕ) (c : C) → theory_at s.theories i ≡ Some (Closed k c) → closes i k c
-  pub goals : (n : ℕ) (p : Promise G O) → Stands s n p → (i : ℕ) × (k : ℕ) × forks i k p.goal
+  pub goals : (n : ℕ) (p : Promise G O) → Stands s n p → (i : ℕ) × (k : ℕ) × (c : ℕ) × forks i k c p.goal
   pub fresh : (n : ℕ) (p : Promise G O) → Stands s n p → p.standing ≡ Ready → ¬ Delivered s.history n
   pub known : (n : ℕ) → Delivered s.history n → n < length s.promises
 
@@ -67,14 +67,14 @@ cancelled-at {G} {O} m ps n q e =
     let old = slice_get-mapped (cancelled_promise m) ps n q e in
     (old.0, old.1, goal_is (is_theory_cancelled m old.0.theory && not (is_settled old.0.standing)) old.0 old.2, ready-cancelled (is_theory_cancelled m old.0.theory && not (is_settled old.0.standing)) old.0 q old.2, taken_is (is_theory_cancelled m old.0.theory && not (is_settled old.0.standing)) old.0 old.2)
   where
-    goal_is : (b : Bool) (p : Promise G O) → (if b then (record { theory = p.theory; goal = p.goal; standing = Cancelled }) else p) ≡ q → q.goal ≡ p.goal
+    goal_is : (b : Bool) (p : Promise G O) → (if b then (record { theory = p.theory; command = p.command; goal = p.goal; standing = Cancelled }) else p) ≡ q → q.goal ≡ p.goal
     goal_is true p e = sym (ap (λ x. x.goal) e)
     goal_is false p e = sym (ap (λ x. x.goal) e)
 
     never : {O : Type 0} → ◌≡◌ {A = Standing O} Cancelled Taken → ⊥
     never e = subst IsOver e tt
 
-    taken_is : (b : Bool) (p : Promise G O) → (if b then (record { theory = p.theory; goal = p.goal; standing = Cancelled }) else p) ≡ q → q.standing ≡ Taken → p.standing ≡ Taken
+    taken_is : (b : Bool) (p : Promise G O) → (if b then (record { theory = p.theory; command = p.command; goal = p.goal; standing = Cancelled }) else p) ≡ q → q.standing ≡ Taken → p.standing ≡ Taken
     taken_is true p e taken = absurd (never (ap (λ x. x.standing) e ∙ taken))
     taken_is false p e taken = ap (λ x. x.standing) e ∙ taken
 
@@ -98,7 +98,7 @@ waiting-at shape (suc i) q e = mapped shape i e
     mapped (x ∷ xs) (suc k) e = mapped xs k e
 
 -- at the opening
-pub kept-opened : {G C O : Type 0} (forks : ℕ → ℕ → G → Type 0) (closes : ℕ → ℕ → C → Type 0) (o : Opening) → IsKept {G = G} {C = C} {O = O} forks closes (opened o)
+pub kept-opened : {G C O : Type 0} (forks : ℕ → ℕ → ℕ → G → Type 0) (closes : ℕ → ℕ → C → Type 0) (o : Opening) → IsKept {G = G} {C = C} {O = O} forks closes (opened o)
 kept-opened {G} {C} {O} forks closes o = record { closed = closed_so; goals = goals_so; fresh = fresh_so; known = known_so }
   where
     s : State G C O
@@ -110,7 +110,7 @@ kept-opened {G} {C} {O} forks closes o = record { closed = closed_so; goals = go
     closed_so : (i k : ℕ) (c : C) → theory_at (opened {G = G} {C = C} {O = O} o).theories i ≡ Some (Closed k c) → closes i k c
     closed_so i k c e = absurd (not_closed Waiting k c (sym (waiting-at o.shape i (Closed k c) (subst (λ ts. theory_at ts i ≡ Some (Closed k c)) (cancel-keeps s (due o.policy.cancels 0)).0 e))) (λ x. x))
 
-    goals_so : (n : ℕ) (p : Promise G O) → Stands (opened {G = G} {C = C} {O = O} o) n p → (i : ℕ) × (k : ℕ) × forks i k p.goal
+    goals_so : (n : ℕ) (p : Promise G O) → Stands (opened {G = G} {C = C} {O = O} o) n p → (i : ℕ) × (k : ℕ) × (c : ℕ) × forks i k c p.goal
     goals_so n p e = absurd (none n p e)
 
     fresh_so : (n : ℕ) (p : Promise G O) → Stands (opened {G = G} {C = C} {O = O} o) n p → p.standing ≡ Ready → ¬ Delivered (opened {G = G} {C = C} {O = O} o).history n
@@ -120,7 +120,7 @@ kept-opened {G} {C} {O} forks closes o = record { closed = closed_so; goals = go
     known_so n d = absurd (subst (λ es. IsIn (Deliver n d.0 d.1) es) (cancel-keeps s (due o.policy.cancels 0)).1 d.2)
 
 -- after a theory is taken
-kept-take_theory : {G C O : Type 0} (forks : ℕ → ℕ → G → Type 0) (closes : ℕ → ℕ → C → Type 0) (s : State G C O) (i : ℕ) → IsKept forks closes s → IsKept forks closes (after s (TakeTheory i))
+kept-take_theory : {G C O : Type 0} (forks : ℕ → ℕ → ℕ → G → Type 0) (closes : ℕ → ℕ → C → Type 0) (s : State G C O) (i : ℕ) → IsKept forks closes s → IsKept forks closes (after s (TakeTheory i))
 kept-take_theory {G} {C} {O} forks closes s i h = record {
   closed = λ j k c e. elim (theory-changed s.theories i (Running 0) j (Closed k c) e) [
     | inl here ↦ absurd (not_closed (Running 0) k c here.1 (λ x. x))
@@ -132,11 +132,11 @@ kept-take_theory {G} {C} {O} forks closes s i h = record {
 }
 
 -- after a proof is taken
-kept-take_proof : {G C O : Type 0} (forks : ℕ → ℕ → G → Type 0) (closes : ℕ → ℕ → C → Type 0) (s : State G C O) (n : ℕ) → IsKept forks closes s → IsKept forks closes (after s (TakeProof n))
+kept-take_proof : {G C O : Type 0} (forks : ℕ → ℕ → ℕ → G → Type 0) (closes : ℕ → ℕ → C → Type 0) (s : State G C O) (n : ℕ) → IsKept forks closes s → IsKept forks closes (after s (TakeProof n))
 kept-take_proof {G} {C} {O} forks closes s n h = record {
   closed = h.closed;
   goals = λ m q e. elim (promise-changed s.promises n Taken m q e) [
-    | inl here ↦ (let old = h.goals n here.0 here.1 in (old.0, old.1, subst (λ x. forks old.0 old.1 x.goal) here.3 old.2))
+    | inl here ↦ (let old = h.goals n here.0 here.1 in (old.0, old.1, old.2, subst (λ x. forks old.0 old.1 old.2 x.goal) here.3 old.3))
     | inr there ↦ h.goals m q there.0
   ];
   fresh = λ m q e ready d. elim (promise-changed s.promises n Taken m q e) [
@@ -147,30 +147,30 @@ kept-take_proof {G} {C} {O} forks closes s n h = record {
 }
 
 -- after a fork
-kept-fork : {G C O : Type 0} (forks : ℕ → ℕ → G → Type 0) (closes : ℕ → ℕ → C → Type 0) (s : State G C O) (i k : ℕ) (g : G) → theory_at s.theories i ≡ Some (Running k) → forks i k g → IsKept forks closes s → IsKept forks closes (after s (Fork i g))
-kept-fork {G} {C} {O} forks closes s i k g runs may h = record {
-  closed = λ j l c e. elim (theory-changed s.theories i (forked_once (theory_at s.theories i)) j (Closed l c) e) [
-    | inl here ↦ absurd (not_closed (Running (k + 1)) l c (sym (ap forked_once runs) ∙ here.1) (λ x. x))
-    | inr there ↦ h.closed j l c there.1
+kept-fork : {G C O : Type 0} (forks : ℕ → ℕ → ℕ → G → Type 0) (closes : ℕ → ℕ → C → Type 0) (s : State G C O) (i k c : ℕ) (g : G) → theory_at s.theories i ≡ Some (Running k) → forks i k c g → IsKept forks closes s → IsKept forks closes (after s (Fork i c g))
+kept-fork {G} {C} {O} forks closes s i k c g runs may h = record {
+  closed = λ j l d e. elim (theory-changed s.theories i (forked_once (theory_at s.theories i)) j (Closed l d) e) [
+    | inl here ↦ absurd (not_closed (Running (k + 1)) l d (sym (ap forked_once runs) ∙ here.1) (λ x. x))
+    | inr there ↦ h.closed j l d there.1
   ];
-  goals = λ m q e. elim (pushed-at s.promises (new_promise s i g) m q e) [
-    | inl here ↦ (i, k, subst (λ x. forks i k x.goal) here.1 may)
+  goals = λ m q e. elim (pushed-at s.promises (new_promise s i c g) m q e) [
+    | inl here ↦ (i, k, c, subst (λ x. forks i k c x.goal) here.1 may)
     | inr there ↦ h.goals m q there
   ];
-  fresh = λ m q e ready d. elim (pushed-at s.promises (new_promise s i g) m q e) [
-    | inl here ↦ absurd (omega (arith, here.0, h.known m (delivered-before s.history (Fork i g) m (λ x. x) d)))
-    | inr there ↦ h.fresh m q there ready (delivered-before s.history (Fork i g) m (λ x. x) d)
+  fresh = λ m q e ready d. elim (pushed-at s.promises (new_promise s i c g) m q e) [
+    | inl here ↦ absurd (omega (arith, here.0, h.known m (delivered-before s.history (Fork i c g) m (λ x. x) d)))
+    | inr there ↦ h.fresh m q there ready (delivered-before s.history (Fork i c g) m (λ x. x) d)
   ];
-  known = λ m d. longer s.promises m (h.known m (delivered-before s.history (Fork i g) m (λ x. x) d));
+  known = λ m d. longer s.promises m (h.known m (delivered-before s.history (Fork i c g) m (λ x. x) d));
 }
   where
-    longer : (ps : List (Promise G O)) (m : ℕ) → m < length ps → m < length (ps ++ new_promise s i g ∷ [])
+    longer : (ps : List (Promise G O)) (m : ℕ) → m < length ps → m < length (ps ++ new_promise s i c g ∷ [])
     longer [] m within = absurd (omega (arith, within))
     longer (p ∷ ps) zero within = omega arith
     longer (p ∷ ps) (suc m) within = omega (arith, longer ps m (omega (arith, within)))
 
 -- after a theory is closed
-kept-close : {G C O : Type 0} (forks : ℕ → ℕ → G → Type 0) (closes : ℕ → ℕ → C → Type 0) (s : State G C O) (i k : ℕ) (c : C) → theory_at s.theories i ≡ Some (Running k) → closes i k c → IsKept forks closes s → IsKept forks closes (after s (CloseTheory i c))
+kept-close : {G C O : Type 0} (forks : ℕ → ℕ → ℕ → G → Type 0) (closes : ℕ → ℕ → C → Type 0) (s : State G C O) (i k : ℕ) (c : C) → theory_at s.theories i ≡ Some (Running k) → closes i k c → IsKept forks closes s → IsKept forks closes (after s (CloseTheory i c))
 kept-close {G} {C} {O} forks closes s i k c runs may h = record {
   closed = λ j l d e. elim (theory-changed s.theories i (closed_by (theory_at s.theories i) c) j (Closed l d) e) [
     | inl here ↦ from_closed (closes j) (Closed k c) l d (sym (ap (λ o. closed_by o c) runs) ∙ here.1) (subst (λ x. closes x k c) (sym here.0) may)
@@ -185,7 +185,7 @@ kept-close {G} {C} {O} forks closes s i k c runs may h = record {
 abbrev pub delivered_state : {G C O : Type 0} → State G C O → (n : ℕ) → O → (fault cancelled : Bool) → State G C O
 delivered_state s n o fault b = record (if b then s else settled s n o fault) { history = s.history ++ Deliver n o fault ∷ [] }
 
-kept-dropped : {G C O : Type 0} (forks : ℕ → ℕ → G → Type 0) (closes : ℕ → ℕ → C → Type 0) (s : State G C O) (n : ℕ) (o : O) (fault : Bool) (p : Promise G O) → Stands s n p → p.standing ≢ Ready → IsKept forks closes s → IsKept forks closes (delivered_state s n o fault true)
+kept-dropped : {G C O : Type 0} (forks : ℕ → ℕ → ℕ → G → Type 0) (closes : ℕ → ℕ → C → Type 0) (s : State G C O) (n : ℕ) (o : O) (fault : Bool) (p : Promise G O) → Stands s n p → p.standing ≢ Ready → IsKept forks closes s → IsKept forks closes (delivered_state s n o fault true)
 kept-dropped {G} {C} {O} forks closes s n o fault p at other h = record {
   closed = h.closed;
   goals = h.goals;
@@ -199,13 +199,13 @@ kept-dropped {G} {C} {O} forks closes s n o fault p at other h = record {
   ];
 }
 
-kept-settled : {G C O : Type 0} (forks : ℕ → ℕ → G → Type 0) (closes : ℕ → ℕ → C → Type 0) (s : State G C O) (n : ℕ) (o : O) (fault : Bool) (p : Promise G O) → Stands s n p → IsKept forks closes s → IsKept forks closes (delivered_state s n o fault false)
+kept-settled : {G C O : Type 0} (forks : ℕ → ℕ → ℕ → G → Type 0) (closes : ℕ → ℕ → C → Type 0) (s : State G C O) (n : ℕ) (o : O) (fault : Bool) (p : Promise G O) → Stands s n p → IsKept forks closes s → IsKept forks closes (delivered_state s n o fault false)
 kept-settled {G} {C} {O} forks closes s n o fault p at h = record {
   closed = λ i k c e. h.closed i k c (subst (λ ts. theory_at ts i ≡ Some (Closed k c)) keeps.0 e);
   goals = λ m q e. (let mid = before-cancel between groups m q e in
       elim (promise-changed s.promises n (Settled o) m mid.0 mid.1) [
-        | inl here ↦ (let old = h.goals n here.0 here.1 in (old.0, old.1, subst (forks old.0 old.1) (ap (λ x. x.goal) here.3 ∙ sym mid.2) old.2))
-        | inr there ↦ (let old = h.goals m mid.0 there.0 in (old.0, old.1, subst (forks old.0 old.1) (sym mid.2) old.2))
+        | inl here ↦ (let old = h.goals n here.0 here.1 in (old.0, old.1, old.2, subst (forks old.0 old.1 old.2) (ap (λ x. x.goal) here.3 ∙ sym mid.2) old.3))
+        | inr there ↦ (let old = h.goals m mid.0 there.0 in (old.0, old.1, old.2, subst (forks old.0 old.1 old.2) (sym mid.2) old.3))
       ]);
   fresh = λ m q e ready d. (let mid = before-cancel between groups m q e in
       elim (promise-changed s.promises n (Settled o) m mid.0 mid.1) [
@@ -235,7 +235,7 @@ IsFalse false = Unit {0}
 IsFalse true = ⊥
 
 -- after a delivery
-kept-deliver : {G C O : Type 0} (forks : ℕ → ℕ → G → Type 0) (closes : ℕ → ℕ → C → Type 0) (s : State G C O) (n : ℕ) (o : O) (fault : Bool) (p : Promise G O) → Stands s n p → IsKept forks closes s → IsKept forks closes (after s (Deliver n o fault))
+kept-deliver : {G C O : Type 0} (forks : ℕ → ℕ → ℕ → G → Type 0) (closes : ℕ → ℕ → C → Type 0) (s : State G C O) (n : ℕ) (o : O) (fault : Bool) (p : Promise G O) → Stands s n p → IsKept forks closes s → IsKept forks closes (after s (Deliver n o fault))
 kept-deliver {G} {C} {O} forks closes s n o fault p at h = by_flag (is_cancelled_promise (slice_get s.promises n)) refl
   where
     not_ready_now : is_cancelled_promise (slice_get s.promises n) ≡ true → p.standing ≢ Ready
@@ -249,7 +249,7 @@ kept-deliver {G} {C} {O} forks closes s n o fault p at h = by_flag (is_cancelled
     by_flag false e = kept-settled forks closes s n o fault p at h
 
 -- after the work is stopped
-kept-stop : {G C O : Type 0} (forks : ℕ → ℕ → G → Type 0) (closes : ℕ → ℕ → C → Type 0) (s : State G C O) → IsKept forks closes s → IsKept forks closes (after s Stop)
+kept-stop : {G C O : Type 0} (forks : ℕ → ℕ → ℕ → G → Type 0) (closes : ℕ → ℕ → C → Type 0) (s : State G C O) → IsKept forks closes s → IsKept forks closes (after s Stop)
 kept-stop {G} {C} {O} forks closes s h = record {
   closed = h.closed;
   goals = h.goals;
@@ -258,15 +258,15 @@ kept-stop {G} {C} {O} forks closes s h = record {
 }
 
 -- after an event that may happen
-pub kept-after : {G C O : Type 0} (forks : ℕ → ℕ → G → Type 0) (closes : ℕ → ℕ → C → Type 0) (may : G → O → Type 0) (is_fault : O → Bool) (s : State G C O) (e : Event G C O) → Allows forks closes may is_fault s e → IsKept forks closes s → IsKept forks closes (after s e)
+pub kept-after : {G C O : Type 0} (forks : ℕ → ℕ → ℕ → G → Type 0) (closes : ℕ → ℕ → C → Type 0) (may : G → O → Type 0) (is_fault : O → Bool) (s : State G C O) (e : Event G C O) → Allows forks closes may is_fault s e → IsKept forks closes s → IsKept forks closes (after s e)
 kept-after forks closes may is_fault s (TakeTheory i) a h = kept-take_theory forks closes s i h
 kept-after forks closes may is_fault s (TakeProof n) a h = kept-take_proof forks closes s n h
-kept-after forks closes may is_fault s (Fork i g) a h = kept-fork forks closes s i a.0 g a.1 a.2 h
+kept-after forks closes may is_fault s (Fork i c g) a h = kept-fork forks closes s i a.0 c g a.1 a.2 h
 kept-after forks closes may is_fault s (CloseTheory i c) a h = kept-close forks closes s i a.0 c a.1 a.2 h
 kept-after forks closes may is_fault s (Deliver n o fault) a h = kept-deliver forks closes s n o fault a.0 a.1 h
 kept-after forks closes may is_fault s Stop a h = kept-stop forks closes s h
 
 -- after a legal run
-pub kept-after_all : {G C O : Type 0} (forks : ℕ → ℕ → G → Type 0) (closes : ℕ → ℕ → C → Type 0) (may : G → O → Type 0) (is_fault : O → Bool) (s : State G C O) (es : List (Event G C O)) → IsRunFrom forks closes may is_fault s es → IsKept forks closes s → IsKept forks closes (after_all s es)
+pub kept-after_all : {G C O : Type 0} (forks : ℕ → ℕ → ℕ → G → Type 0) (closes : ℕ → ℕ → C → Type 0) (may : G → O → Type 0) (is_fault : O → Bool) (s : State G C O) (es : List (Event G C O)) → IsRunFrom forks closes may is_fault s es → IsKept forks closes s → IsKept forks closes (after_all s es)
 kept-after_all forks closes may is_fault s [] run h = h
 kept-after_all forks closes may is_fault s (e ∷ es) run h = kept-after_all forks closes may is_fault (after s e) es run.1 (kept-after forks closes may is_fault s e run.0 h)

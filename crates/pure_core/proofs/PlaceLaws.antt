@@ -46,7 +46,7 @@ theory-there ts (suc i) p q e = set-there ts i p q e
 
 -- a promise that stands otherwise now
 abbrev pub standing_so : {G O : Type 0} → Promise G O → Standing O → Promise G O
-standing_so p s = record { theory = p.theory; goal = p.goal; standing = s }
+standing_so p s = record { theory = p.theory; command = p.command; goal = p.goal; standing = s }
 
 restood-at : {G O : Type 0} (ps : List (Promise G O)) (n : ℕ) (o : Option (Promise G O)) (s : Standing O) (m : ℕ) (q : Promise G O) → slice_get (restood ps n o s) m ≡ Some q
     → ((p : Promise G O) × (o ≡ Some p) × (m ≡ n) × (standing_so p s ≡ q)) ⊎ ((slice_get ps m ≡ Some q) × ((m ≢ n) ⊎ (o ≡ None)))

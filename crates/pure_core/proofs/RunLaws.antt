@@ -16,7 +16,7 @@ pub after_all-append : {G C O : Type 0} (s : State G C O) (es fs : List (Event G
 after_all-append s [] fs = refl
 after_all-append s (e ∷ es) fs = after_all-append (after s e) es fs
 
-pub run-append : {G C O : Type 0} (forks : ℕ → ℕ → G → Type 0) (closes : ℕ → ℕ → C → Type 0) (may : G → O → Type 0) (is_fault : O → Bool) (s : State G C O) (es fs : List (Event G C O))
+pub run-append : {G C O : Type 0} (forks : ℕ → ℕ → ℕ → G → Type 0) (closes : ℕ → ℕ → C → Type 0) (may : G → O → Type 0) (is_fault : O → Bool) (s : State G C O) (es fs : List (Event G C O))
     → IsRunFrom forks closes may is_fault s es → IsRunFrom forks closes may is_fault (after_all s es) fs → IsRunFrom forks closes may is_fault s (es ++ fs)
 run-append forks closes may is_fault s [] fs one two = two
 run-append forks closes may is_fault s (e ∷ es) fs one two = (one.0, run-append forks closes may is_fault (after s e) es fs one.1 two)
@@ -25,18 +25,18 @@ stops-append : {G C O : Type 0} (es fs : List (Event G C O)) → stops es ≡ 0 
 stops-append [] fs a b = b
 stops-append (TakeTheory i ∷ es) fs a b = stops-append es fs a b
 stops-append (TakeProof n ∷ es) fs a b = stops-append es fs a b
-stops-append (Fork i g ∷ es) fs a b = stops-append es fs a b
+stops-append (Fork i c g ∷ es) fs a b = stops-append es fs a b
 stops-append (CloseTheory i c ∷ es) fs a b = stops-append es fs a b
 stops-append (Deliver n o f ∷ es) fs a b = stops-append es fs a b
 stops-append (Stop ∷ es) fs a b = absurd (omega (arith, a))
 
-pub goes_on-not : {G C O : Type 0} (forks : ℕ → ℕ → G → Type 0) (closes : ℕ → ℕ → C → Type 0) (may : G → O → Type 0) (is_fault : O → Bool) (old new : State G C O) → new ≡ old → GoesOn forks closes may is_fault old new
+pub goes_on-not : {G C O : Type 0} (forks : ℕ → ℕ → ℕ → G → Type 0) (closes : ℕ → ℕ → C → Type 0) (may : G → O → Type 0) (is_fault : O → Bool) (old new : State G C O) → new ≡ old → GoesOn forks closes may is_fault old new
 goes_on-not forks closes may is_fault old new same = record { events = []; run = tt; state = same; none_stops = refl }
 
-pub goes_on-by : {G C O : Type 0} (forks : ℕ → ℕ → G → Type 0) (closes : ℕ → ℕ → C → Type 0) (may : G → O → Type 0) (is_fault : O → Bool) (old new : State G C O) (e : Event G C O) → Allows forks closes may is_fault old e → stops (e ∷ []) ≡ 0 → new ≡ after old e → GoesOn forks closes may is_fault old new
+pub goes_on-by : {G C O : Type 0} (forks : ℕ → ℕ → ℕ → G → Type 0) (closes : ℕ → ℕ → C → Type 0) (may : G → O → Type 0) (is_fault : O → Bool) (old new : State G C O) (e : Event G C O) → Allows forks closes may is_fault old e → stops (e ∷ []) ≡ 0 → new ≡ after old e → GoesOn forks closes may is_fault old new
 goes_on-by forks closes may is_fault old new e allowed none same = record { events = e ∷ []; run = (allowed, tt); state = same; none_stops = none }
 
-pub goes_on-then : {G C O : Type 0} (forks : ℕ → ℕ → G → Type 0) (closes : ℕ → ℕ → C → Type 0) (may : G → O → Type 0) (is_fault : O → Bool) (old mid new : State G C O) → GoesOn forks closes may is_fault old mid → GoesOn forks closes may is_fault mid new → GoesOn forks closes may is_fault old new
+pub goes_on-then : {G C O : Type 0} (forks : ℕ → ℕ → ℕ → G → Type 0) (closes : ℕ → ℕ → C → Type 0) (may : G → O → Type 0) (is_fault : O → Bool) (old mid new : State G C O) → GoesOn forks closes may is_fault old mid → GoesOn forks closes may is_fault mid new → GoesOn forks closes may is_fault old new
 goes_on-then forks closes may is_fault old mid new one two = record {
   events = one.events ++ two.events;
   run = run-append forks closes may is_fault old one.events two.events one.run (subst (λ s. IsRunFrom forks closes may is_fault s two.events) one.state two.run);
@@ -47,7 +47,7 @@ goes_on-then forks closes may is_fault old mid new one two = record {
 opening-after : {G C O : Type 0} (s : State G C O) (e : Event G C O) → (after s e).opening ≡ s.opening
 opening-after s (TakeTheory i) = refl
 opening-after s (TakeProof n) = refl
-opening-after s (Fork i g) = refl
+opening-after s (Fork i c g) = refl
 opening-after s (CloseTheory i c) = refl
 opening-after {G} {C} {O} s (Deliver n o f) = by_flag (is_cancelled_promise _)
   where
@@ -65,7 +65,7 @@ history-after_all s [] = sym (append-nil s.history)
 history-after_all s (e ∷ es) = history-after_all (after s e) es ∙ append_assoc s.history (e ∷ []) es
 
 -- what goes on from a legal run is one
-pub legal-goes_on : {G C O : Type 0} (shape : List (List ℕ)) (forks : ℕ → ℕ → G → Type 0) (closes : ℕ → ℕ → C → Type 0) (may : G → O → Type 0) (is_fault : O → Bool) (old new : State G C O) → IsLegal shape forks closes may is_fault old → GoesOn forks closes may is_fault old new → IsLegal shape forks closes may is_fault new
+pub legal-goes_on : {G C O : Type 0} (shape : List (List ℕ)) (forks : ℕ → ℕ → ℕ → G → Type 0) (closes : ℕ → ℕ → C → Type 0) (may : G → O → Type 0) (is_fault : O → Bool) (old new : State G C O) → IsLegal shape forks closes may is_fault old → GoesOn forks closes may is_fault old new → IsLegal shape forks closes may is_fault new
 legal-goes_on {G} {C} {O} shape forks closes may is_fault old new legal more = record {
   shaped = ap (λ o. o.shape) opening ∙ legal.shaped;
   run = subst (λ o. IsRunFrom forks closes may is_fault (opened o) new.history) (sym opening) (subst (IsRunFrom forks closes may is_fault (opened old.opening)) (sym history) whole);
@@ -82,11 +82,11 @@ legal-goes_on {G} {C} {O} shape forks closes may is_fault old new legal more = r
     whole = run-append forks closes may is_fault (opened old.opening) old.history more.events legal.run (subst (λ s. IsRunFrom forks closes may is_fault s more.events) legal.state more.run)
 
 -- what holds in each state of a legal run
-pub kept-legal : {G C O : Type 0} (shape : List (List ℕ)) (forks : ℕ → ℕ → G → Type 0) (closes : ℕ → ℕ → C → Type 0) (may : G → O → Type 0) (is_fault : O → Bool) (s : State G C O) → IsLegal shape forks closes may is_fault s → IsKept forks closes s
+pub kept-legal : {G C O : Type 0} (shape : List (List ℕ)) (forks : ℕ → ℕ → ℕ → G → Type 0) (closes : ℕ → ℕ → C → Type 0) (may : G → O → Type 0) (is_fault : O → Bool) (s : State G C O) → IsLegal shape forks closes may is_fault s → IsKept forks closes s
 kept-legal shape forks closes may is_fault s legal = subst (IsKept forks closes) (sym legal.state) (kept-after_all forks closes may is_fault (opened s.opening) s.history legal.run (kept-opened forks closes s.opening))
 
 -- the opening is a legal run of no event
-pub legal-opened : {G C O : Type 0} (shape : List (List ℕ)) (forks : ℕ → ℕ → G → Type 0) (closes : ℕ → ℕ → C → Type 0) (may : G → O → Type 0) (is_fault : O → Bool) (o : Opening) → o.shape ≡ shape → IsLegal {G = G} {C = C} {O = O} shape forks closes may is_fault (opened o)
+pub legal-opened : {G C O : Type 0} (shape : List (List ℕ)) (forks : ℕ → ℕ → ℕ → G → Type 0) (closes : ℕ → ℕ → C → Type 0) (may : G → O → Type 0) (is_fault : O → Bool) (o : Opening) → o.shape ≡ shape → IsLegal {G = G} {C = C} {O = O} shape forks closes may is_fault (opened o)
 legal-opened {G} {C} {O} shape forks closes may is_fault o same = record {
   shaped = ap (λ x. x.shape) opening ∙ same;
   run = subst (IsRunFrom forks closes may is_fault (opened (opened {G = G} {C = C} {O = O} o).opening)) (sym history) tt;
@@ -117,7 +117,7 @@ rest-opened {G} {C} {O} o = record {
     waits k e = subst IsWaiting e tt
 
 -- one event behind a legal run
-pub legal-grows : {G C O : Type 0} (shape : List (List ℕ)) (forks : ℕ → ℕ → G → Type 0) (closes : ℕ → ℕ → C → Type 0) (may : G → O → Type 0) (is_fault : O → Bool) (s : State G C O) (e : Event G C O) → IsLegal shape forks closes may is_fault s → Allows forks closes may is_fault s e → IsLegal shape forks closes may is_fault (after s e)
+pub legal-grows : {G C O : Type 0} (shape : List (List ℕ)) (forks : ℕ → ℕ → ℕ → G → Type 0) (closes : ℕ → ℕ → C → Type 0) (may : G → O → Type 0) (is_fault : O → Bool) (s : State G C O) (e : Event G C O) → IsLegal shape forks closes may is_fault s → Allows forks closes may is_fault s e → IsLegal shape forks closes may is_fault (after s e)
 legal-grows {G} {C} {O} shape forks closes may is_fault s e legal allowed = record {
   shaped = ap (λ o. o.shape) opening ∙ legal.shaped;
   run = subst (λ o. IsRunFrom forks closes may is_fault (opened o) (s.history ++ e ∷ [])) (sym opening) (run-append forks closes may is_fault (opened s.opening) s.history (e ∷ []) legal.run (subst (λ x. IsRunFrom forks closes may is_fault x (e ∷ [])) legal.state (allowed, tt)));

@@ -4,13 +4,13 @@ use Rattle.pure_machine.specs.State.{State, Promise, Event, Running, Taken, theo
 use Rattle.pure_machine.specs.Step.{after_all, stops, Stands, IsOut, IsRunFrom}
 
 -- The state is that of a legal run of the work: its opening has the work's shape, its history is a legal run from the state at the opening, and it is the state after that.
-pub record IsLegal {G C O : Type 0} (shape : List (List ℕ)) (forks : ℕ → ℕ → G → Type 0) (closes : ℕ → ℕ → C → Type 0) (may : G → O → Type 0) (is_fault : O → Bool) (s : State G C O) : Type 0 where
+pub record IsLegal {G C O : Type 0} (shape : List (List ℕ)) (forks : ℕ → ℕ → ℕ → G → Type 0) (closes : ℕ → ℕ → C → Type 0) (may : G → O → Type 0) (is_fault : O → Bool) (s : State G C O) : Type 0 where
   pub shaped : s.opening.shape ≡ shape
   pub run : IsRunFrom forks closes may is_fault (opened s.opening) s.history
   pub state : s ≡ after_all (opened s.opening) s.history
 
 -- The later state comes of the earlier one by events of which each may happen where it stands, and of which none stops the work.
-pub record GoesOn {G C O : Type 0} (forks : ℕ → ℕ → G → Type 0) (closes : ℕ → ℕ → C → Type 0) (may : G → O → Type 0) (is_fault : O → Bool) (old new : State G C O) : Type 0 where
+pub record GoesOn {G C O : Type 0} (forks : ℕ → ℕ → ℕ → G → Type 0) (closes : ℕ → ℕ → C → Type 0) (may : G → O → Type 0) (is_fault : O → Bool) (old new : State G C O) : Type 0 where
   pub events : List (Event G C O)
   pub run : IsRunFrom forks closes may is_fault old events
   pub state : new ≡ after_all old events

@@ -8,7 +8,7 @@ use Rattle.pure_machine.specs.declared.answers.Delivered as delivered
 use Rattle.pure_machine.specs.declared.answers.Delivered.TheVariants as delivered_code
 
 -- What is taken is a step, by which a theory or a proof begins to run; or a reading of the state, which stays.
-abbrev pub IsTaking : {G C O : Type 0} → (forks : ℕ → ℕ → G → Type 0) → (closes : ℕ → ℕ → C → Type 0) → (may : G → O → Type 0) → (is_fault : O → Bool) → (old new : State G C O) → task.Task G C → Type 0
+abbrev pub IsTaking : {G C O : Type 0} → (forks : ℕ → ℕ → ℕ → G → Type 0) → (closes : ℕ → ℕ → C → Type 0) → (may : G → O → Type 0) → (is_fault : O → Bool) → (old new : State G C O) → task.Task G C → Type 0
 IsTaking forks closes may is_fault old new (task_code.Theory index parents) = IsStep forks closes may is_fault old (TakeTheory index) (GivesTheory index (map (λ p. p.value) parents.items)) new
 IsTaking forks closes may is_fault old new (task_code.Proof number goal) = IsStep forks closes may is_fault old (TakeProof number) (GivesProof number goal.value) new
 IsTaking forks closes may is_fault old new _ = new ≡ old

@@ -3,10 +3,10 @@ use Rattle.std.specs.Prelude.{◌≡◌, ◌<◌, ℕ, ◌+◌, Option, Some, No
 use Rattle.pure_core.specs.declared.work.Turn.{Turn}
 use Rattle.pure_core.specs.declared.work.Turn.TheVariants.{Declared, Forked, Closed}
 
--- Of a theory whose run has made n forks: a turn that declares leaves their number, one that forks a goal makes the next fork, and one that closes gives a value that closes the theory after n forks. The first two leave fewer turns.
-abbrev pub IsTurn : {G C R : Type 0} → (forks : ℕ → ℕ → G → Type 0) → (closes : ℕ → ℕ → C → Type 0) → (runs : ℕ → ℕ → R → Type 0) → (left : R → ℕ) → (i n : ℕ) → (old new : R) → Turn G C → Type 0
+-- Of a theory whose run has made n forks: a turn that declares leaves their number, one that forks a goal under a command makes the next fork, and one that closes gives a value that closes the theory after n forks. The first two leave fewer turns.
+abbrev pub IsTurn : {G C R : Type 0} → (forks : ℕ → ℕ → ℕ → G → Type 0) → (closes : ℕ → ℕ → C → Type 0) → (runs : ℕ → ℕ → R → Type 0) → (left : R → ℕ) → (i n : ℕ) → (old new : R) → Turn G C → Type 0
 IsTurn forks closes runs left i n old new Declared = runs i n new × (left new < left old)
-IsTurn forks closes runs left i n old new (Forked g) = forks i n g × runs i (n + 1) new × (left new < left old)
+IsTurn forks closes runs left i n old new (Forked c g) = forks i n c g × runs i (n + 1) new × (left new < left old)
 IsTurn forks closes runs left i n old new (Closed c) = closes i n c
 
 -- Of a theory whose run is as it was: what the old run has made the new one has, and as many turns are left.

@@ -52,8 +52,8 @@ fn take_turn<W: Work>(
 {
     match work.command(run)? {
         Turn::Declared => Ok(false),
-        Turn::Forked { goal } => {
-            core.fork(theory, goal)?;
+        Turn::Forked { command, goal } => {
+            core.fork(theory, command, goal)?;
             Ok(false)
         }
         Turn::Closed { closed } => {
@@ -92,7 +92,7 @@ fn run_proof<W: Work>(
     goal: &W::Goal,
 ) -> Result<(), AllocError>
     requires alone { IsProofAlone core.old number goal.now }
-    requires forked { (i : ℕ) × (k : ℕ) × W.forks work.now i k goal.now }
+    requires forked { (i : ℕ) × (k : ℕ) × (command : ℕ) × W.forks work.now i k command goal.now }
     ensures goes_on { GoesOn (W.forks work.now) (W.closes work.now) (W.may work.now) (W.faults work.now) core.old core.new }
     ensures rests { OnOk result (IsAtRest core.new) }
 {

@@ -3,11 +3,12 @@ use pure_watch::Watch;
 use std::alloc::AllocError;
 use std::sync::Arc;
 
-/// What a turn of a theory's commands gives.
+/// What a turn of a theory's commands gives: nothing to prove; a goal, under the command at this place, from 0; or what closes
+/// the theory.
 #[derive(Drop)]
 pub enum Turn<G, C> {
     Declared,
-    Forked { goal: G },
+    Forked { command: u32, goal: G },
     Closed { closed: C },
 }
 
@@ -32,8 +33,8 @@ pub trait Work: Send + Sync {
     // The numbers of the parents of each theory, of which the first has number 1.
     ghost shape: { Self → List (List ℕ) };
 
-    // The goal that a theory may fork after so many others.
-    ghost forks: { Self → ℕ → ℕ → Self.Goal → Type 0 };
+    // The goal that a theory may fork after so many others, and under which command: its place, from 0.
+    ghost forks: { Self → ℕ → ℕ → ℕ → Self.Goal → Type 0 };
 
     // The value that closes a theory after so many forks.
     ghost closes: { Self → ℕ → ℕ → Self.Closed → Type 0 };
@@ -69,7 +70,7 @@ pub trait Work: Send + Sync {
 
     /// The proof of a goal that a theory may fork, before its first step.
     fn start(&self, goal: &Self::Goal) -> Result<Self::Proving, AllocError>
-        requires { (i : ℕ) × (n : ℕ) × forks self.now i n goal.now }
+        requires { (i : ℕ) × (n : ℕ) × (command : ℕ) × forks self.now i n command goal.now }
         ensures { IfOk result (λ proving. proves self.now goal.now proving) };
 
     /// One step of a proof that has given no outcome yet; none where steps are left and none failed.

@@ -12,7 +12,7 @@ use Rattle.pure_core.proofs.KeptLaws.{cancel-keeps, waiting-at, delivered_state}
 use Rattle.pure_core.proofs.RunLaws.{opening-after_all, kept-legal}
 use Rattle.pure_core_end.specs.Promises.{promises_of}
 use Rattle.pure_core_end.specs.Places.{IsPlaced, IsAncestor, parent, above, HaveSmallerNumbers, AreForked}
-use Rattle.pure_core_end.proofs.OriginLaws.{origins, same_or_not, length-goals_at, goal-at, origin-at, origins-push, origins-standing, origins-cancel}
+use Rattle.pure_core_end.proofs.OriginLaws.{origin, origins, same_or_not, length-goals_at, goal-at, origin-at, origins-push, origins-standing, origins-cancel}
 use Rattle.pure_core_end.proofs.TheoryLaws.{theory-elsewhere}
 use Rattle.pure_core_end.proofs.ToldLaws.{told-legal}
 
@@ -30,8 +30,8 @@ HasBegunThere {C} ts j = (q : Progress C) × (theory_at ts j ≡ Some q) × HasB
 -- the parents of theories that have begun are closed; promises are of such theories; and those of ancestors have smaller numbers
 record IsGoverned {G C O : Type 0} (shape : List (List ℕ)) (s : State G C O) : Type 0 where
   begun : (i : ℕ) (parents : List ℕ) → HasBegunThere s.theories i → parents_at shape i ≡ Some parents → (j : ℕ) → IsIn j parents → IsClosedThere s.theories j
-  theirs : (n : ℕ) (x : ℕ × G) → slice_get (origins s.promises) n ≡ Some x → HasBegunThere s.theories x.0
-  before : (m n : ℕ) (x y : ℕ × G) → slice_get (origins s.promises) m ≡ Some x → slice_get (origins s.promises) n ≡ Some y → IsAncestor shape x.0 y.0 → m < n
+  theirs : (n : ℕ) (x : ℕ × (ℕ × G)) → slice_get (origins s.promises) n ≡ Some x → HasBegunThere s.theories x.0
+  before : (m n : ℕ) (x y : ℕ × (ℕ × G)) → slice_get (origins s.promises) m ≡ Some x → slice_get (origins s.promises) n ≡ Some y → IsAncestor shape x.0 y.0 → m < n
 
 begun-so : {C : Type 0} (p q : Progress C) → p ≡ q → HasBegun p → HasBegun q
 begun-so p q e h = subst HasBegun e h
@@ -94,7 +94,7 @@ governed-opened {G} {C} {O} shape o = record {
     started : State G C O
     started = record { opening = o; theories = waiting o.shape; promises = []; cancelled = unmarked o.shape; kept = 0; stopped = false; history = [] }
 
-    none : (n : ℕ) (x : ℕ × G) → slice_get (origins (opened {G = G} {C = C} {O = O} o).promises) n ≡ Some x → ⊥
+    none : (n : ℕ) (x : ℕ × (ℕ × G)) → slice_get (origins (opened {G = G} {C = C} {O = O} o).promises) n ≡ Some x → ⊥
     none n x e = none-some x (subst (λ xs. slice_get xs n ≡ Some x) (origins-cancel started (due o.policy.cancels 0)) e)
 
 -- after a theory is taken
@@ -125,8 +125,8 @@ begun-forked o k e = subst (λ x. HasBegun (forked_once x)) (sym e) tt
 begun-closing : {C : Type 0} (o : Option (Progress C)) (k : ℕ) (c : C) → o ≡ Some (Running k) → HasBegun (closed_by o c)
 begun-closing o k c e = subst (λ x. HasBegun (closed_by x c)) (sym e) tt
 
-governed-fork : {G C O : Type 0} (shape : List (List ℕ)) (s : State G C O) (i k : ℕ) (g : G) → theory_at s.theories i ≡ Some (Running k) → IsGoverned shape s → IsGoverned shape (after s (Fork i g))
-governed-fork {G} {C} {O} shape s i k g runs h = record {
+governed-fork : {G C O : Type 0} (shape : List (List ℕ)) (s : State G C O) (i k c : ℕ) (g : G) → theory_at s.theories i ≡ Some (Running k) → IsGoverned shape s → IsGoverned shape (after s (Fork i c g))
+governed-fork {G} {C} {O} shape s i k c g runs h = record {
   begun = governed-on shape s i k (forked_once (theory_at s.theories i)) runs (begun-forked (theory_at s.theories i) k runs) h;
   theirs = λ n x e. begun-stays s.theories i (forked_once (theory_at s.theories i)) (Running k) runs (begun-forked (theory_at s.theories i) k runs) x.0 (elim (at-place n x e) [
     | inl here ↦ subst (λ j. HasBegunThere s.theories j) (ap (λ y. y.0) here.1) runs-there
@@ -144,13 +144,13 @@ governed-fork {G} {C} {O} shape s i k g runs h = record {
     runs-there : HasBegunThere s.theories i
     runs-there = (Running k, runs, tt)
 
-    at-place : (n : ℕ) (x : ℕ × G) → slice_get (origins (s.promises ++ new_promise s i g ∷ [])) n ≡ Some x → ((n ≡ length (origins s.promises)) × ((i, g) ≡ x)) ⊎ (slice_get (origins s.promises) n ≡ Some x)
-    at-place n x e = pushed-at (origins s.promises) (i, g) n x (subst (λ xs. slice_get xs n ≡ Some x) (origins-push s.promises (new_promise s i g)) e)
+    at-place : (n : ℕ) (x : ℕ × (ℕ × G)) → slice_get (origins (s.promises ++ new_promise s i c g ∷ [])) n ≡ Some x → ((n ≡ length (origins s.promises)) × ((i, (c, g)) ≡ x)) ⊎ (slice_get (origins s.promises) n ≡ Some x)
+    at-place n x e = pushed-at (origins s.promises) (i, (c, g)) n x (subst (λ xs. slice_get xs n ≡ Some x) (origins-push s.promises (new_promise s i c g)) e)
 
     not-ancestor : (j : ℕ) → IsAncestor shape i j → HasBegunThere s.theories j → ⊥
     not-ancestor j older b = let closed = ancestor-closed shape s.theories h.begun i j older b in not-closed (Running k) (theory_at s.theories i) runs (λ x. x) closed.0 closed.1 closed.2
 
-    no-descendant : (n : ℕ) (y : ℕ × G) → slice_get (origins (s.promises ++ new_promise s i g ∷ [])) n ≡ Some y → IsAncestor shape i y.0 → ⊥
+    no-descendant : (n : ℕ) (y : ℕ × (ℕ × G)) → slice_get (origins (s.promises ++ new_promise s i c g ∷ [])) n ≡ Some y → IsAncestor shape i y.0 → ⊥
     no-descendant n y f older = elim (at-place n y f) [
       | inl here ↦ not-ancestor y.0 older (subst (λ j. HasBegunThere s.theories j) (ap (λ z. z.0) here.1) runs-there)
       | inr there ↦ not-ancestor y.0 older (h.theirs n y there)
@@ -182,19 +182,19 @@ governed-deliver {G} {C} {O} shape s n o fault h = by_flag (is_cancelled_promise
     by_flag false = governed-same shape s (delivered_state s n o fault false) (cancel-keeps between (cancelled_by s.opening.policy (s.kept + 1) fault)).0 (origins-cancel between (cancelled_by s.opening.policy (s.kept + 1) fault) ∙ origins-standing s.promises n (Settled o)) h
 
 -- after an event that may happen
-governed-after : {G C O : Type 0} (shape : List (List ℕ)) (forks : ℕ → ℕ → G → Type 0) (closes : ℕ → ℕ → C → Type 0) (may : G → O → Type 0) (is_fault : O → Bool) (s : State G C O) (e : Event G C O) → s.opening.shape ≡ shape → Allows forks closes may is_fault s e → IsGoverned shape s → IsGoverned shape (after s e)
+governed-after : {G C O : Type 0} (shape : List (List ℕ)) (forks : ℕ → ℕ → ℕ → G → Type 0) (closes : ℕ → ℕ → C → Type 0) (may : G → O → Type 0) (is_fault : O → Bool) (s : State G C O) (e : Event G C O) → s.opening.shape ≡ shape → Allows forks closes may is_fault s e → IsGoverned shape s → IsGoverned shape (after s e)
 governed-after shape forks closes may is_fault s (TakeTheory i) shaped a h = governed-take shape s i a.1.0 shaped a.1.1.0 h
 governed-after shape forks closes may is_fault s (TakeProof n) shaped a h = governed-same shape s (after s (TakeProof n)) refl (origins-standing s.promises n Taken) h
-governed-after shape forks closes may is_fault s (Fork i g) shaped a h = governed-fork shape s i a.0 g a.1 h
+governed-after shape forks closes may is_fault s (Fork i c g) shaped a h = governed-fork shape s i a.0 c g a.1 h
 governed-after shape forks closes may is_fault s (CloseTheory i c) shaped a h = governed-close shape s i a.0 c a.1 h
 governed-after shape forks closes may is_fault s (Deliver n o fault) shaped a h = governed-deliver shape s n o fault h
 governed-after shape forks closes may is_fault s Stop shaped a h = governed-same shape s (after s Stop) refl refl h
 
-governed-after_all : {G C O : Type 0} (shape : List (List ℕ)) (forks : ℕ → ℕ → G → Type 0) (closes : ℕ → ℕ → C → Type 0) (may : G → O → Type 0) (is_fault : O → Bool) (s : State G C O) (es : List (Event G C O)) → s.opening.shape ≡ shape → IsRunFrom forks closes may is_fault s es → IsGoverned shape s → IsGoverned shape (after_all s es)
+governed-after_all : {G C O : Type 0} (shape : List (List ℕ)) (forks : ℕ → ℕ → ℕ → G → Type 0) (closes : ℕ → ℕ → C → Type 0) (may : G → O → Type 0) (is_fault : O → Bool) (s : State G C O) (es : List (Event G C O)) → s.opening.shape ≡ shape → IsRunFrom forks closes may is_fault s es → IsGoverned shape s → IsGoverned shape (after_all s es)
 governed-after_all shape forks closes may is_fault s [] shaped run h = h
 governed-after_all shape forks closes may is_fault s (e ∷ es) shaped run h = governed-after_all shape forks closes may is_fault (after s e) es (ap (λ o. o.shape) (opening-after_all s (e ∷ [])) ∙ shaped) run.1 (governed-after shape forks closes may is_fault s e shaped run.0 h)
 
-governed-legal : {G C O : Type 0} (shape : List (List ℕ)) (forks : ℕ → ℕ → G → Type 0) (closes : ℕ → ℕ → C → Type 0) (may : G → O → Type 0) (is_fault : O → Bool) (s : State G C O) → IsLegal shape forks closes may is_fault s → IsGoverned shape s
+governed-legal : {G C O : Type 0} (shape : List (List ℕ)) (forks : ℕ → ℕ → ℕ → G → Type 0) (closes : ℕ → ℕ → C → Type 0) (may : G → O → Type 0) (is_fault : O → Bool) (s : State G C O) → IsLegal shape forks closes may is_fault s → IsGoverned shape s
 governed-legal {G} {C} {O} shape forks closes may is_fault s legal = subst (IsGoverned shape) (sym legal.state) (governed-after_all shape forks closes may is_fault (opened s.opening) s.history (ap (λ o. o.shape) same_opening ∙ legal.shaped) legal.run (governed-opened shape s.opening))
   where
     same_opening : (opened {G = G} {C = C} {O = O} s.opening).opening ≡ s.opening
@@ -213,9 +213,9 @@ fewer-before {G} {O} i (p ∷ ps) (suc m) (suc n) le = by_test (nat_eq p.theory 
     by_test true rest = omega (arith, rest)
     by_test false rest = rest
 
-pub smaller-numbers : {G C O : Type 0} (shape : List (List ℕ)) (forks : ℕ → ℕ → G → Type 0) (closes : ℕ → ℕ → C → Type 0) (may : G → O → Type 0) (is_fault : O → Bool) (s : State G C O) → IsLegal shape forks closes may is_fault s → HaveSmallerNumbers shape s
+pub smaller-numbers : {G C O : Type 0} (shape : List (List ℕ)) (forks : ℕ → ℕ → ℕ → G → Type 0) (closes : ℕ → ℕ → C → Type 0) (may : G → O → Type 0) (is_fault : O → Bool) (s : State G C O) → IsLegal shape forks closes may is_fault s → HaveSmallerNumbers shape s
 smaller-numbers shape forks closes may is_fault s legal m n first early second late one two (inl older) =
-    (governed-legal shape forks closes may is_fault s legal).before m n ((one.promise).theory, (one.promise).goal) ((two.promise).theory, (two.promise).goal) (origin-at s.promises m one.promise one.stands) (origin-at s.promises n two.promise two.stands)
+    (governed-legal shape forks closes may is_fault s legal).before m n (origin one.promise) (origin two.promise) (origin-at s.promises m one.promise one.stands) (origin-at s.promises n two.promise two.stands)
     (subst (λ j. IsAncestor shape j (two.promise).theory) (sym one.theory_is) (subst (IsAncestor shape first) (sym two.theory_is) older))
 smaller-numbers shape forks closes may is_fault s legal m n first early second late one two (inr same) = elim (cases_lt m n) [
   | inl less ↦ less
@@ -235,9 +235,9 @@ placed-at {G} {O} i (q ∷ qs) (suc n) p e at = by_test (nat_eq q.theory i) (pla
     by_test true rest = rest
     by_test false rest = rest
 
-pub goals-forked : {G C O : Type 0} (shape : List (List ℕ)) (forks : ℕ → ℕ → G → Type 0) (closes : ℕ → ℕ → C → Type 0) (may : G → O → Type 0) (is_fault : O → Bool) (s : State G C O) → IsLegal shape forks closes may is_fault s → AreForked forks s
+pub goals-forked : {G C O : Type 0} (shape : List (List ℕ)) (forks : ℕ → ℕ → ℕ → G → Type 0) (closes : ℕ → ℕ → C → Type 0) (may : G → O → Type 0) (is_fault : O → Bool) (s : State G C O) → IsLegal shape forks closes may is_fault s → AreForked forks s
 goals-forked shape forks closes may is_fault s legal n i k placed =
-    (told-legal shape forks closes may is_fault s legal).goals i k (placed.promise).goal (goal-at i s.promises k placed.promise (subst (λ m. slice_get (promises_of i s.promises) m ≡ Some placed.promise) placed.count (placed-at i s.promises n placed.promise placed.stands placed.theory_is)))
+    (told-legal shape forks closes may is_fault s legal).goals i k (placed.promise).command (placed.promise).goal (goal-at i s.promises k placed.promise (subst (λ m. slice_get (promises_of i s.promises) m ≡ Some placed.promise) placed.count (placed-at i s.promises n placed.promise placed.stands placed.theory_is)))
 
 -- at most as many stand before a place as there are
 pub count-within : {G O : Type 0} (i : ℕ) (ps : List (Promise G O)) (n : ℕ) → length (promises_of i (take n ps)) ≤ length (promises_of i ps)
@@ -269,11 +269,11 @@ placed-there {G} {O} i (p ∷ ps) k within = elim (same_or_not p.theory i) [
     )
 
 -- an ancestor of a promise's theory is closed, after as many forks as it has promises
-pub ancestor-whole : {G C O : Type 0} (shape : List (List ℕ)) (forks : ℕ → ℕ → G → Type 0) (closes : ℕ → ℕ → C → Type 0) (may : G → O → Type 0) (is_fault : O → Bool) (s : State G C O) → IsLegal shape forks closes may is_fault s
+pub ancestor-whole : {G C O : Type 0} (shape : List (List ℕ)) (forks : ℕ → ℕ → ℕ → G → Type 0) (closes : ℕ → ℕ → C → Type 0) (may : G → O → Type 0) (is_fault : O → Bool) (s : State G C O) → IsLegal shape forks closes may is_fault s
     → (n : ℕ) (p : Promise G O) → slice_get s.promises n ≡ Some p → (j : ℕ) → IsAncestor shape j p.theory → (k : ℕ) × (c : C) × closes j k c × (length (promises_of j s.promises) ≡ k)
 ancestor-whole {G} {C} {O} shape forks closes may is_fault s legal n p at j older =
     let governed = governed-legal shape forks closes may is_fault s legal in
-    let closed = ancestor-closed shape s.theories governed.begun j p.theory older (governed.theirs n (p.theory, p.goal) (origin-at s.promises n p at)) in (
+    let closed = ancestor-closed shape s.theories governed.begun j p.theory older (governed.theirs n (origin p) (origin-at s.promises n p at)) in (
       closed.0,
       closed.1,
       (kept-legal shape forks closes may is_fault s legal).closed j closed.0 closed.1 closed.2,

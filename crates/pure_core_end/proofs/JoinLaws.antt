@@ -12,7 +12,7 @@ use Rattle.pure_core.proofs.RunLaws.{kept-legal}
 use Rattle.pure_core.proofs.PlaceLaws.{closed_there, each_there}
 use Rattle.pure_core_end.specs.Promises.{promises_of, AreInOrder}
 use Rattle.pure_core_end.specs.Joined.{EndsSo, IsJoined, AreJoinedFrom, AreJoined}
-use Rattle.pure_core_end.proofs.OriginLaws.{length-goals_at, goal-at, origin-at}
+use Rattle.pure_core_end.proofs.OriginLaws.{origin, length-goals_at, goal-at, origin-at}
 use Rattle.pure_core_end.proofs.ToldLaws.{IsTold, told-legal}
 use Rattle.pure_core_end.proofs.OrderLaws.{Rises, rises, cut}
 
@@ -69,14 +69,14 @@ value-so closes (Closed k c) n over h = let so = h k c refl in (c, refl, subst (
 count-of : {C : Type 0} (q : Progress C) (k : ℕ) (c : C) → q ≡ Closed k c → forks_of q ≡ k
 count-of q k c e = ap forks_of e
 
-pub theory-joined : {G C O : Type 0} (shape : List (List ℕ)) (forks : ℕ → ℕ → G → Type 0) (closes : ℕ → ℕ → C → Type 0) (may : G → O → Type 0) (is_fault : O → Bool) (s : State G C O) → IsLegal shape forks closes may is_fault s → IsFinished s
+pub theory-joined : {G C O : Type 0} (shape : List (List ℕ)) (forks : ℕ → ℕ → ℕ → G → Type 0) (closes : ℕ → ℕ → C → Type 0) (may : G → O → Type 0) (is_fault : O → Bool) (s : State G C O) → IsLegal shape forks closes may is_fault s → IsFinished s
     → (i : ℕ) (t : Progress C) → theory_at s.theories i ≡ Some t → (value : C) × (value_of t ≡ Some value) × IsJoined forks closes may i value (promises_of i s.promises)
 theory-joined {G} {C} {O} shape forks closes may is_fault s legal finished i t at = (
   closed.0,
   closed.1,
   record {
     closed = closed.2;
-    forked = λ n p e. told.goals i n p.goal (goal-at i s.promises n p e);
+    forked = λ n p e. told.goals i n p.command p.goal (goal-at i s.promises n p e);
     ended = each-filter (λ p. EndsSo may p.goal p.standing) (λ p. nat_eq p.theory i) s.promises ended-all;
   },
 )
@@ -94,7 +94,7 @@ theory-joined {G} {C} {O} shape forks closes may is_fault s legal finished i t a
     ))
 
 -- all from one number on
-joined-from : {G C O : Type 0} (forks : ℕ → ℕ → G → Type 0) (closes : ℕ → ℕ → C → Type 0) (may : G → O → Type 0) (ts : List (Progress C)) (i : ℕ) (ps : List (Promise G O)) → Rises i ps → Each (λ p. p.theory < i + length ts) ps
+joined-from : {G C O : Type 0} (forks : ℕ → ℕ → ℕ → G → Type 0) (closes : ℕ → ℕ → C → Type 0) (may : G → O → Type 0) (ts : List (Progress C)) (i : ℕ) (ps : List (Promise G O)) → Rises i ps → Each (λ p. p.theory < i + length ts) ps
     → ((k j : ℕ) (t : Progress C) → j ≡ i + k → slice_get ts k ≡ Some t → (c : C) × (value_of t ≡ Some c) × IsJoined forks closes may j c (promises_of j ps)) → AreJoinedFrom forks closes may i (filter_map value_of ts) ps
 joined-from forks closes may [] i [] r below h = refl
 joined-from forks closes may [] i (p ∷ ps) r below h = absurd (omega (arith, r.0, below.0))
@@ -122,7 +122,7 @@ raised : {G O : Type 0} (a b : ℕ) (ps : List (Promise G O)) → Each (λ p. b 
 raised a b [] low r = tt
 raised a b (p ∷ ps) low r = (low.0, r.1)
 
-pub core-joined : {G C O : Type 0} (shape : List (List ℕ)) (forks : ℕ → ℕ → G → Type 0) (closes : ℕ → ℕ → C → Type 0) (may : G → O → Type 0) (is_fault : O → Bool) (s : State G C O) → IsLegal shape forks closes may is_fault s → IsFinished s
+pub core-joined : {G C O : Type 0} (shape : List (List ℕ)) (forks : ℕ → ℕ → ℕ → G → Type 0) (closes : ℕ → ℕ → C → Type 0) (may : G → O → Type 0) (is_fault : O → Bool) (s : State G C O) → IsLegal shape forks closes may is_fault s → IsFinished s
     → (values : List C) (ordered : List (Promise G O)) → values ≡ filter_map value_of s.theories → AreInOrder s.promises ordered → AreJoined shape forks closes may values ordered
 core-joined {G} {C} {O} shape forks closes may is_fault s legal finished values ordered values_are in_order = record {
   all = ap length values_are ∙ length-values s.theories finished.theories ∙ told.long ∙ ap length legal.shaped;
@@ -141,7 +141,7 @@ core-joined {G} {C} {O} shape forks closes may is_fault s legal finished values 
     bound : (p : Promise G O) → IsIn p ordered → (0 < p.theory) × (p.theory ≤ length s.theories)
     bound p at =
         let old = place-of p s.promises (in-ordered s.promises ordered in_order p at) in
-        let there = told.theirs old.0 (p.theory, p.goal) (origin-at s.promises old.0 p old.1) in
+        let there = told.theirs old.0 (origin p) (origin-at s.promises old.0 p old.1) in
         theory_at-number s.theories p.theory there.0 there.1
 
     bounds : Each (λ p. (0 < p.theory) × (p.theory ≤ length s.theories)) ordered

@@ -1,4 +1,4 @@
--- The theories and goals of promises, which stay as they are while promises stand otherwise.
+-- The theories, commands and goals of promises, which stay as they are while promises stand otherwise.
 use Rattle.std.proofs.Common.{◌≡◌, ◌≢◌, ◌∙◌, ◌⊎◌, ℕ, zero, suc, ◌+◌, List, [], ◌∷◌, ◌++◌, map, length, set, take, filter, cond, nat_eq, refl, sym, ap, Bool, true, false, not, ◌&&◌, if◌then◌else◌, Option, Some, None, slice_get, inl, inr, eqb-true, eq-eqb}
 use Rattle.std.proofs.lemmas.Option.{same_Some, none-some, slice_get_within, get_or_from_slice_get}
 use Rattle.pure_text.proofs.LoopLaws.{longer_by}
@@ -9,18 +9,22 @@ use Rattle.pure_machine.specs.State.{Promise, Standing, Cancelled, Marks, State,
 use Rattle.pure_core.proofs.PlaceLaws.{standing_so}
 use Rattle.pure_core_end.specs.Promises.{promises_of}
 
--- a promise's theory and its goal
-abbrev pub origin : {G O : Type 0} → Promise G O → ℕ × G
-origin p = (p.theory, p.goal)
+-- a promise's goal, behind the command that forked it
+abbrev pub commanded : {G O : Type 0} → Promise G O → ℕ × G
+commanded p = (p.command, p.goal)
 
-abbrev pub origins : {G O : Type 0} → List (Promise G O) → List (ℕ × G)
+-- a promise's theory, and its command with its goal
+abbrev pub origin : {G O : Type 0} → Promise G O → ℕ × (ℕ × G)
+origin p = (p.theory, commanded p)
+
+abbrev pub origins : {G O : Type 0} → List (Promise G O) → List (ℕ × (ℕ × G))
 origins = map origin
 
-abbrev pub is_at : {G : Type 0} → (i : ℕ) → ℕ × G → Bool
+abbrev pub is_at : {A : Type 0} → (i : ℕ) → ℕ × A → Bool
 is_at i x = nat_eq x.0 i
 
--- the goals of a theory among them
-abbrev pub goals_at : {G : Type 0} → (i : ℕ) → List (ℕ × G) → List G
+-- what a theory has among them
+abbrev pub goals_at : {A : Type 0} → (i : ℕ) → List (ℕ × A) → List A
 goals_at i xs = map (λ x. x.1) (filter (is_at i) xs)
 
 pub same_or_not : (m n : ℕ) → ((nat_eq m n ≡ true) × (m ≡ n)) ⊎ ((nat_eq m n ≡ false) × (m ≢ n))
@@ -38,42 +42,42 @@ filter-origins {G} {O} i (p ∷ ps) = by_test (nat_eq p.theory i) (filter-origin
     by_test true rest = ap (λ xs. origin p ∷ xs) rest
     by_test false rest = rest
 
-goals-of : {G O : Type 0} (qs : List (Promise G O)) → map (λ x. x.1) (origins qs) ≡ map (λ p. p.goal) qs
+goals-of : {G O : Type 0} (qs : List (Promise G O)) → map (λ x. x.1) (origins qs) ≡ map commanded qs
 goals-of [] = refl
-goals-of (q ∷ qs) = ap (λ xs. q.goal ∷ xs) (goals-of qs)
+goals-of (q ∷ qs) = ap (λ xs. commanded q ∷ xs) (goals-of qs)
 
--- the goals of a theory's promises
-pub goals_at-origins : {G O : Type 0} (i : ℕ) (ps : List (Promise G O)) → goals_at i (origins ps) ≡ map (λ p. p.goal) (promises_of i ps)
+-- the commands and goals of a theory's promises
+pub goals_at-origins : {G O : Type 0} (i : ℕ) (ps : List (Promise G O)) → goals_at i (origins ps) ≡ map commanded (promises_of i ps)
 goals_at-origins i ps = ap (map (λ x. x.1)) (filter-origins i ps) ∙ goals-of (promises_of i ps)
 
 pub length-goals_at : {G O : Type 0} (i : ℕ) (ps : List (Promise G O)) → length (goals_at i (origins ps)) ≡ length (promises_of i ps)
-length-goals_at i ps = ap length (goals_at-origins i ps) ∙ length-map (promises_of i ps) (λ p. p.goal)
+length-goals_at i ps = ap length (goals_at-origins i ps) ∙ length-map (promises_of i ps) commanded
 
 mapped-at : {A B : Type 0} (f : A → B) (xs : List A) (n : ℕ) (x : A) → slice_get xs n ≡ Some x → slice_get (map f xs) n ≡ Some (f x)
 mapped-at f [] n x e = absurd (none-some x e)
 mapped-at f (y ∷ ys) zero x e = ap (λ z. Some (f z)) (same_Some y x e)
 mapped-at f (y ∷ ys) (suc n) x e = mapped-at f ys n x e
 
-pub goal-at : {G O : Type 0} (i : ℕ) (ps : List (Promise G O)) (n : ℕ) (p : Promise G O) → slice_get (promises_of i ps) n ≡ Some p → slice_get (goals_at i (origins ps)) n ≡ Some p.goal
-goal-at i ps n p e = ap (λ xs. slice_get xs n) (goals_at-origins i ps) ∙ mapped-at (λ q. q.goal) (promises_of i ps) n p e
+pub goal-at : {G O : Type 0} (i : ℕ) (ps : List (Promise G O)) (n : ℕ) (p : Promise G O) → slice_get (promises_of i ps) n ≡ Some p → slice_get (goals_at i (origins ps)) n ≡ Some (commanded p)
+goal-at i ps n p e = ap (λ xs. slice_get xs n) (goals_at-origins i ps) ∙ mapped-at commanded (promises_of i ps) n p e
 
 pub origin-at : {G O : Type 0} (ps : List (Promise G O)) (n : ℕ) (p : Promise G O) → slice_get ps n ≡ Some p → slice_get (origins ps) n ≡ Some (origin p)
 origin-at ps n p e = mapped-at origin ps n p e
 
 -- one fork more
-pub goals_at-more : {G : Type 0} (xs : List (ℕ × G)) (i : ℕ) (g : G) → goals_at i (xs ++ (i, g) ∷ []) ≡ goals_at i xs ++ g ∷ []
-goals_at-more {G} xs i g =
-    ap (map (λ (x : ℕ × G). x.1)) (filter-append (is_at i) xs ((i, g) ∷ [])) ∙ map-append (λ (x : ℕ × G). x.1) (filter (is_at i) xs) (filter (is_at i) ((i, g) ∷ []))
-    ∙ ap (λ b. goals_at i xs ++ map (λ (x : ℕ × G). x.1) (cond b ((i, g) ∷ []) [])) (eq-eqb i i refl)
+pub goals_at-more : {A : Type 0} (xs : List (ℕ × A)) (i : ℕ) (g : A) → goals_at i (xs ++ (i, g) ∷ []) ≡ goals_at i xs ++ g ∷ []
+goals_at-more {A} xs i g =
+    ap (map (λ (x : ℕ × A). x.1)) (filter-append (is_at i) xs ((i, g) ∷ [])) ∙ map-append (λ (x : ℕ × A). x.1) (filter (is_at i) xs) (filter (is_at i) ((i, g) ∷ []))
+    ∙ ap (λ b. goals_at i xs ++ map (λ (x : ℕ × A). x.1) (cond b ((i, g) ∷ []) [])) (eq-eqb i i refl)
 
-pub goals_at-other : {G : Type 0} (xs : List (ℕ × G)) (i j : ℕ) (g : G) → j ≢ i → goals_at j (xs ++ (i, g) ∷ []) ≡ goals_at j xs
-goals_at-other {G} xs i j g other =
-    ap (map (λ (x : ℕ × G). x.1)) (filter-append (is_at j) xs ((i, g) ∷ [])) ∙ map-append (λ (x : ℕ × G). x.1) (filter (is_at j) xs) (filter (is_at j) ((i, g) ∷ [])) ∙ elim (same_or_not i j) [
+pub goals_at-other : {A : Type 0} (xs : List (ℕ × A)) (i j : ℕ) (g : A) → j ≢ i → goals_at j (xs ++ (i, g) ∷ []) ≡ goals_at j xs
+goals_at-other {A} xs i j g other =
+    ap (map (λ (x : ℕ × A). x.1)) (filter-append (is_at j) xs ((i, g) ∷ [])) ∙ map-append (λ (x : ℕ × A). x.1) (filter (is_at j) xs) (filter (is_at j) ((i, g) ∷ [])) ∙ elim (same_or_not i j) [
       | inl same ↦ absurd (other (sym same.1))
-      | inr apart ↦ ap (λ b. goals_at j xs ++ map (λ (x : ℕ × G). x.1) (cond b ((i, g) ∷ []) [])) apart.0 ∙ end (goals_at j xs)
+      | inr apart ↦ ap (λ b. goals_at j xs ++ map (λ (x : ℕ × A). x.1) (cond b ((i, g) ∷ []) [])) apart.0 ∙ end (goals_at j xs)
     ]
   where
-    end : (gs : List G) → gs ++ [] ≡ gs
+    end : (gs : List A) → gs ++ [] ≡ gs
     end [] = refl
     end (x ∷ gs) = ap (λ ys. x ∷ ys) (end gs)
 
@@ -96,7 +100,7 @@ origins-standing {G} {O} ps n s = by_option (slice_get ps n) refl
     by_option (Some p) e = origins-set ps n p s e
 
 -- some groups cancelled
-origin-cancelled : {G O : Type 0} (b : Bool) (p : Promise G O) → origin (if b then (record { theory = p.theory; goal = p.goal; standing = Cancelled }) else p) ≡ origin p
+origin-cancelled : {G O : Type 0} (b : Bool) (p : Promise G O) → origin (if b then (record { theory = p.theory; command = p.command; goal = p.goal; standing = Cancelled }) else p) ≡ origin p
 origin-cancelled true p = refl
 origin-cancelled false p = refl
 

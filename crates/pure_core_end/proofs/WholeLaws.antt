@@ -65,10 +65,10 @@ whole-after s (TakeProof n) h = record {
     | inr there ↦ h.promises m q there.0
   ];
 }
-whole-after {G} {C} {O} s (Fork i g) h = record {
+whole-after {G} {C} {O} s (Fork i c g) h = record {
   policy = h.policy;
   marks = h.marks;
-  promises = λ m q e. elim (pushed-at s.promises (new_promise s i g) m q e) [
+  promises = λ m q e. elim (pushed-at s.promises (new_promise s i c g) m q e) [
     | inl here ↦ sym (ap (λ x. is_cancelled_standing x.standing) here.1) ∙ ready-new O (is_theory_cancelled s.cancelled i) (h.marks i)
     | inr there ↦ h.promises m q there
   ];
@@ -85,7 +85,7 @@ whole-after_all : {G C O : Type 0} (s : State G C O) (es : List (Event G C O)) �
 whole-after_all s [] h = h
 whole-after_all s (e ∷ es) h = whole-after_all (after s e) es (whole-after s e h)
 
-pub nothing-cancelled : {G C O : Type 0} (shape : List (List ℕ)) (forks : ℕ → ℕ → G → Type 0) (closes : ℕ → ℕ → C → Type 0) (may : G → O → Type 0) (is_fault : O → Bool) (s : State G C O) → IsLegal shape forks closes may is_fault s → s.opening.policy ≡ no_policy → NoneCancelled s.promises
+pub nothing-cancelled : {G C O : Type 0} (shape : List (List ℕ)) (forks : ℕ → ℕ → ℕ → G → Type 0) (closes : ℕ → ℕ → C → Type 0) (may : G → O → Type 0) (is_fault : O → Bool) (s : State G C O) → IsLegal shape forks closes may is_fault s → s.opening.policy ≡ no_policy → NoneCancelled s.promises
 nothing-cancelled {G} {C} {O} shape forks closes may is_fault s legal none =
     let whole : IsWhole s = subst IsWhole (sym legal.state) (whole-after_all (opened s.opening) s.history (whole-opened s.opening none)) in
     each_element (λ p. is_cancelled_standing p.standing ≡ false) s.promises whole.promises

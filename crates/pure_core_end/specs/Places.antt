@@ -24,6 +24,6 @@ ComesBefore shape first early second late = IsAncestor shape first second ⊎ ((
 abbrev pub HaveSmallerNumbers : {G C O : Type 0} → (shape : List (List ℕ)) → State G C O → Type 0
 HaveSmallerNumbers shape s = (m n first early second late : ℕ) → IsPlaced s.promises m first early → IsPlaced s.promises n second late → ComesBefore shape first early second late → m < n
 
--- Each promise is of a goal that its theory may fork after so many others.
-abbrev pub AreForked : {G C O : Type 0} → (forks : ℕ → ℕ → G → Type 0) → State G C O → Type 0
-AreForked forks s = (n i k : ℕ) → (placed : IsPlaced s.promises n i k) → forks i k (placed.promise).goal
+-- Each promise is of a goal that its theory may fork after so many others under its command.
+abbrev pub AreForked : {G C O : Type 0} → (forks : ℕ → ℕ → ℕ → G → Type 0) → State G C O → Type 0
+AreForked forks s = (n i k : ℕ) → (placed : IsPlaced s.promises n i k) → forks i k (placed.promise).command (placed.promise).goal

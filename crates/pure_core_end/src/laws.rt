@@ -15,7 +15,7 @@ pub fn theories_are_joined<W: Work>(work: &W)
     let _ = work;
 }
 
-/// In every state of a legal run each promise is of a goal that its theory may fork after so many others.
+/// In every state of a legal run each promise is of a goal that its theory may fork after so many others under its command.
 pub fn goals_are_forked<W: Work>(work: &W)
     ensures { (s : State W.Goal W.Closed W.Outcome)
         → IsLegal (W.shape work.now) (W.forks work.now) (W.closes work.now) (W.may work.now) (W.faults work.now) s

@@ -41,6 +41,7 @@ fn again<G: Drop, O: Drop>(promise: &Promise<G, O>) -> Result<Promise<G, O>, All
     let standing = standing_again(&promise.standing)?;
     Ok(Promise {
         theory: promise.theory,
+        command: promise.command,
         goal,
         standing,
     })

@@ -15,10 +15,10 @@ abbrev pub IsThere : {G C O : Type 0} → State G C O → Event G C O → Type 0
 IsThere {G} {C} {O} s (Deliver n o fault) = (p : Promise G O) × Stands s n p
 IsThere s _ = Unit {0}
 
-pub allowed_there : {G C O : Type 0} (forks : ℕ → ℕ → G → Type 0) (closes : ℕ → ℕ → C → Type 0) (may : G → O → Type 0) (is_fault : O → Bool) (s : State G C O) (e : Event G C O) → Allows forks closes may is_fault s e → IsThere s e
+pub allowed_there : {G C O : Type 0} (forks : ℕ → ℕ → ℕ → G → Type 0) (closes : ℕ → ℕ → C → Type 0) (may : G → O → Type 0) (is_fault : O → Bool) (s : State G C O) (e : Event G C O) → Allows forks closes may is_fault s e → IsThere s e
 allowed_there forks closes may is_fault s (TakeTheory i) a = tt
 allowed_there forks closes may is_fault s (TakeProof n) a = tt
-allowed_there forks closes may is_fault s (Fork i g) a = tt
+allowed_there forks closes may is_fault s (Fork i c g) a = tt
 allowed_there forks closes may is_fault s (CloseTheory i c) a = tt
 allowed_there forks closes may is_fault s (Deliver n o fault) a = (a.0, a.1)
 allowed_there forks closes may is_fault s Stop a = tt
@@ -32,7 +32,7 @@ LeavesPromise n s _ = Unit {0}
 -- what a promise of the state after the event was before: it stood so; or it was forked; or taken; or settled; or it wasn't settled, and is cancelled by a delivery
 pub data Became {G C O : Type 0} (s : State G C O) (e : Event G C O) (n : ℕ) (q : Promise G O) : Type 0 where
   stayed : Stands s n q → LeavesPromise n q.standing e → Became s e n q
-  was_forked : (i : ℕ) (g : G) → e ≡ Fork i g → n ≡ length s.promises → new_promise s i g ≡ q → Became s e n q
+  was_forked : (i c : ℕ) (g : G) → e ≡ Fork i c g → n ≡ length s.promises → new_promise s i c g ≡ q → Became s e n q
   was_taken : (p : Promise G O) → e ≡ TakeProof n → Stands s n p → standing_so p Taken ≡ q → Became s e n q
   was_settled : (p : Promise G O) (o : O) (fault : Bool) → e ≡ Deliver n o fault → Stands s n p → is_cancelled_standing p.standing ≡ false → standing_so p (Settled o) ≡ q → Became s e n q
   was_cancelled : (p other : Promise G O) (m : ℕ) (o : O) (fault : Bool) → e ≡ Deliver m o fault → n ≢ m → Stands s m other → is_cancelled_standing other.standing ≡ false → Stands s n p → is_settled p.standing ≡ false → is_theory_cancelled (after s e).cancelled p.theory ≡ true → standing_so p Cancelled ≡ q → Became s e n q
@@ -53,7 +53,7 @@ cancel-stood {G} {C} {O} s (g ∷ gs) n q at =
     let old = slice_get-mapped (cancelled_promise _) s.promises n q at in
     by_flag old.0 old.1 (is_theory_cancelled (with_cancelled s (g ∷ gs)).cancelled old.0.theory && not (is_settled old.0.standing)) refl old.2
   where
-    by_flag : (p : Promise G O) → Stands s n p → (b : Bool) → (is_theory_cancelled (with_cancelled s (g ∷ gs)).cancelled p.theory && not (is_settled p.standing)) ≡ b → (if b then (record { theory = p.theory; goal = p.goal; standing = Cancelled }) else p) ≡ q → Stood s (with_cancelled s (g ∷ gs)).cancelled n q
+    by_flag : (p : Promise G O) → Stands s n p → (b : Bool) → (is_theory_cancelled (with_cancelled s (g ∷ gs)).cancelled p.theory && not (is_settled p.standing)) ≡ b → (if b then (record { theory = p.theory; command = p.command; goal = p.goal; standing = Cancelled }) else p) ≡ q → Stood s (with_cancelled s (g ∷ gs)).cancelled n q
     by_flag p here true e is = let both : (is_theory_cancelled (with_cancelled s (g ∷ gs)).cancelled p.theory ≡ true) × (is_settled p.standing ≡ false) = both-true (is_theory_cancelled (with_cancelled s (g ∷ gs)).cancelled p.theory) (is_settled p.standing) e in went p here both.1 both.0 is
     by_flag p here false e is = stood_so (here ∙ ap Some is)
 
@@ -68,8 +68,8 @@ became s (TakeProof m) n q there at = elim (promise-changed s.promises m Taken n
   | inl here ↦ was_taken here.0 (ap TakeProof (sym here.2)) (ap (slice_get s.promises) here.2 ∙ here.1) here.3
   | inr other ↦ stayed other.0 other.1
 ]
-became s (Fork i g) n q there at = elim (pushed-at s.promises (new_promise s i g) n q at) [
-  | inl here ↦ was_forked i g refl here.0 here.1
+became s (Fork i c g) n q there at = elim (pushed-at s.promises (new_promise s i c g) n q at) [
+  | inl here ↦ was_forked i c g refl here.0 here.1
   | inr other ↦ stayed other tt
 ]
 became s (CloseTheory i c) n q there at = stayed at tt
@@ -105,7 +105,7 @@ became s Stop n q there at = stayed at tt
 -- the event is of another theory, or of none
 abbrev pub LeavesTheory : {G C O : Type 0} → (number : ℕ) → Event G C O → Type 0
 LeavesTheory i (TakeTheory j) = i ≢ j
-LeavesTheory i (Fork j g) = i ≢ j
+LeavesTheory i (Fork j c g) = i ≢ j
 LeavesTheory i (CloseTheory j c) = i ≢ j
 LeavesTheory i _ = Unit {0}
 
@@ -113,7 +113,7 @@ LeavesTheory i _ = Unit {0}
 pub data Came {G C O : Type 0} (s : State G C O) (e : Event G C O) (i : ℕ) (q : Progress C) : Type 0 where
   left_so : theory_at s.theories i ≡ Some q → LeavesTheory i e → Came s e i q
   began : e ≡ TakeTheory i → Running 0 ≡ q → Came s e i q
-  went_on : (g : G) → e ≡ Fork i g → forked_once (theory_at s.theories i) ≡ q → Came s e i q
+  went_on : (c : ℕ) (g : G) → e ≡ Fork i c g → forked_once (theory_at s.theories i) ≡ q → Came s e i q
   ended : (c : C) → e ≡ CloseTheory i c → closed_by (theory_at s.theories i) c ≡ q → Came s e i q
 
 -- a delivery leaves the theories, the opening and whether the work was stopped, and loses no promise
@@ -135,7 +135,7 @@ length-one_more (y ∷ xs) x = omega (arith, length-one_more xs x)
 pub promises-grow : {G C O : Type 0} (s : State G C O) (e : Event G C O) → length s.promises ≤ length (after s e).promises
 promises-grow s (TakeTheory i) = omega arith
 promises-grow s (TakeProof n) = let same = length-standing s.promises n Taken in omega arith
-promises-grow s (Fork i g) = length-one_more s.promises (new_promise s i g)
+promises-grow s (Fork i c g) = length-one_more s.promises (new_promise s i c g)
 promises-grow s (CloseTheory i c) = omega arith
 promises-grow s (Deliver n o fault) = let same = (delivered-keeps s n o fault).2 in omega arith
 promises-grow s Stop = omega arith
@@ -151,8 +151,8 @@ came s (TakeTheory j) i q at = elim (theory-changed s.theories j (Running 0) i q
   | inr other ↦ left_so other.1 other.0
 ]
 came s (TakeProof n) i q at = left_so at tt
-came s (Fork j g) i q at = elim (theory-changed s.theories j (forked_once (theory_at s.theories j)) i q at) [
-  | inl here ↦ went_on g (ap (λ k. Fork k g) (sym here.0)) (ap (λ k. forked_once (theory_at s.theories k)) here.0 ∙ here.1)
+came s (Fork j c g) i q at = elim (theory-changed s.theories j (forked_once (theory_at s.theories j)) i q at) [
+  | inl here ↦ went_on c g (ap (λ k. Fork k c g) (sym here.0)) (ap (λ k. forked_once (theory_at s.theories k)) here.0 ∙ here.1)
   | inr other ↦ left_so other.1 other.0
 ]
 came s (CloseTheory j c) i q at = elim (theory-changed s.theories j (closed_by (theory_at s.theories j) c) i q at) [
@@ -166,7 +166,7 @@ came s Stop i q at = left_so at tt
 pub theories-as_many : {G C O : Type 0} (s : State G C O) (e : Event G C O) → length (after s e).theories ≡ length s.theories
 theories-as_many s (TakeTheory j) = length-progress s.theories j (Running 0)
 theories-as_many s (TakeProof n) = refl
-theories-as_many s (Fork j g) = length-progress s.theories j (forked_once (theory_at s.theories j))
+theories-as_many s (Fork j c g) = length-progress s.theories j (forked_once (theory_at s.theories j))
 theories-as_many s (CloseTheory j c) = length-progress s.theories j (closed_by (theory_at s.theories j) c)
 theories-as_many s (Deliver n o fault) = ap length (delivered-keeps s n o fault).0
 theories-as_many s Stop = refl
@@ -180,7 +180,7 @@ theory-there_set ts (suc j) p (suc i) q at = element_there (set ts j p) i (let w
 pub theory-there_after : {G C O : Type 0} (s : State G C O) (e : Event G C O) (i : ℕ) (q : Progress C) → theory_at s.theories i ≡ Some q → (r : Progress C) × (theory_at (after s e).theories i ≡ Some r)
 theory-there_after s (TakeTheory j) i q at = theory-there_set s.theories j (Running 0) i q at
 theory-there_after s (TakeProof n) i q at = (q, at)
-theory-there_after s (Fork j g) i q at = theory-there_set s.theories j (forked_once (theory_at s.theories j)) i q at
+theory-there_after s (Fork j c g) i q at = theory-there_set s.theories j (forked_once (theory_at s.theories j)) i q at
 theory-there_after s (CloseTheory j c) i q at = theory-there_set s.theories j (closed_by (theory_at s.theories j) c) i q at
 theory-there_after s (Deliver n o fault) i q at = (q, subst (λ ts. theory_at ts i ≡ Some q) (sym (delivered-keeps s n o fault).0) at)
 theory-there_after s Stop i q at = (q, at)

@@ -71,8 +71,8 @@ module _ {G C O : Type 0} where
   one_stop (TakeTheory i) false is = refl
   one_stop (TakeProof n) true is = absurd (cc)
   one_stop (TakeProof n) false is = refl
-  one_stop (Fork i g) true is = absurd (cc)
-  one_stop (Fork i g) false is = refl
+  one_stop (Fork i c g) true is = absurd (cc)
+  one_stop (Fork i c g) false is = refl
   one_stop (CloseTheory i c) true is = absurd (cc)
   one_stop (CloseTheory i c) false is = refl
   one_stop (Deliver n o f) true is = absurd (cc)

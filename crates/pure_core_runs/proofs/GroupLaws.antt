@@ -27,7 +27,7 @@ true-false e = subst IsYes e tt
 
 -- a promise whose group is cancelled, once that was done
 abbrev put_by : {G O : Type 0} → (b : Bool) → Promise G O → Promise G O
-put_by b p = if b then record { theory = p.theory; goal = p.goal; standing = Cancelled } else p
+put_by b p = if b then record { theory = p.theory; command = p.command; goal = p.goal; standing = Cancelled } else p
 
 theory-put : {G O : Type 0} (b : Bool) (p : Promise G O) → (put_by b p).theory ≡ p.theory
 theory-put true p = refl
@@ -37,16 +37,16 @@ over-put : {G O : Type 0} (b : Bool) (p : Promise G O) → IsOver p.standing →
 over-put true p h = tt
 over-put false p h = h
 
-over-marked : {G O : Type 0} (s : Standing O) (i : ℕ) (g : G) → IsOver (put_by (true && not (is_settled s)) (record { theory = i; goal = g; standing = s })).standing
-over-marked Ready i g = tt
-over-marked Taken i g = tt
-over-marked (Settled o) i g = tt
-over-marked Cancelled i g = tt
+over-marked : {G O : Type 0} (s : Standing O) (i c : ℕ) (g : G) → IsOver (put_by (true && not (is_settled s)) (record { theory = i; command = c; goal = g; standing = s })).standing
+over-marked Ready i c g = tt
+over-marked Taken i c g = tt
+over-marked (Settled o) i c g = tt
+over-marked Cancelled i c g = tt
 
 over-cancelled : {G O : Type 0} (m : Marks) (p : Promise G O) → is_theory_cancelled m (cancelled_promise m p).theory ≡ true → IsOver (cancelled_promise m p).standing
 over-cancelled m p e =
     let marked : is_theory_cancelled m p.theory ≡ true = ap (is_theory_cancelled m) (sym (theory-put (is_theory_cancelled m p.theory && not (is_settled p.standing)) p)) ∙ e in
-    subst (λ b. IsOver (put_by (b && not (is_settled p.standing)) p).standing) (sym marked) (over-marked p.standing p.theory p.goal)
+    subst (λ b. IsOver (put_by (b && not (is_settled p.standing)) p).standing) (sym marked) (over-marked p.standing p.theory p.command p.goal)
 
 gone-marked : {G C O : Type 0} (s : State G C O) (m : Marks) (n : ℕ) (q : Promise G O) → slice_get (map (cancelled_promise m) s.promises) n ≡ Some q → is_theory_cancelled m q.theory ≡ true → IsOver q.standing
 gone-marked s m n q at e =
@@ -73,9 +73,9 @@ over-new : (O : Type 0) (b : Bool) → b ≡ true → IsOver {O = O} (if b then 
 over-new O true e = tt
 over-new O false e = absurd (true-false (sym e))
 
-gone-fork : {G C O : Type 0} (s : State G C O) (i : ℕ) (g : G) → AreGone s → AreGone (after s (Fork i g))
-gone-fork {G} {C} {O} s i g h = record {
-  gone = λ m q there e. elim (pushed-at s.promises (new_promise s i g) m q there) [
+gone-fork : {G C O : Type 0} (s : State G C O) (i c : ℕ) (g : G) → AreGone s → AreGone (after s (Fork i c g))
+gone-fork {G} {C} {O} s i c g h = record {
+  gone = λ m q there e. elim (pushed-at s.promises (new_promise s i c g) m q there) [
     | inl here ↦ subst (λ x. IsOver x.standing) here.1 (over-new O (is_theory_cancelled s.cancelled i) (ap (λ x. is_theory_cancelled s.cancelled x.theory) here.1 ∙ e))
     | inr old ↦ h.gone m q old e
   ];
@@ -99,15 +99,15 @@ gone-deliver {G} {C} {O} s n o fault h = by_flag (is_cancelled_promise (slice_ge
     by_flag true = record { gone = h.gone }
     by_flag false = record { gone = settled_too.gone }
 
-pub gone-after : {G C O : Type 0} (forks : ℕ → ℕ → G → Type 0) (closes : ℕ → ℕ → C → Type 0) (may : G → O → Type 0) (is_fault : O → Bool) (s : State G C O) (e : Event G C O) → Allows forks closes may is_fault s e → AreGone s → AreGone (after s e)
+pub gone-after : {G C O : Type 0} (forks : ℕ → ℕ → ℕ → G → Type 0) (closes : ℕ → ℕ → C → Type 0) (may : G → O → Type 0) (is_fault : O → Bool) (s : State G C O) (e : Event G C O) → Allows forks closes may is_fault s e → AreGone s → AreGone (after s e)
 gone-after forks closes may is_fault s (TakeTheory i) a h = record { gone = h.gone }
 gone-after forks closes may is_fault s (TakeProof n) a h = gone-take s n a.2.0 a.2.1.0 a.2.1.1 h
-gone-after forks closes may is_fault s (Fork i g) a h = gone-fork s i g h
+gone-after forks closes may is_fault s (Fork i c g) a h = gone-fork s i c g h
 gone-after forks closes may is_fault s (CloseTheory i c) a h = record { gone = h.gone }
 gone-after forks closes may is_fault s (Deliver n o fault) a h = gone-deliver s n o fault h
 gone-after forks closes may is_fault s Stop a h = record { gone = h.gone }
 
-pub gone-after_all : {G C O : Type 0} (forks : ℕ → ℕ → G → Type 0) (closes : ℕ → ℕ → C → Type 0) (may : G → O → Type 0) (is_fault : O → Bool) (s : State G C O) (es : List (Event G C O)) → IsRunFrom forks closes may is_fault s es → AreGone s → AreGone (after_all s es)
+pub gone-after_all : {G C O : Type 0} (forks : ℕ → ℕ → ℕ → G → Type 0) (closes : ℕ → ℕ → C → Type 0) (may : G → O → Type 0) (is_fault : O → Bool) (s : State G C O) (es : List (Event G C O)) → IsRunFrom forks closes may is_fault s es → AreGone s → AreGone (after_all s es)
 gone-after_all forks closes may is_fault s [] run h = h
 gone-after_all forks closes may is_fault s (e ∷ es) run h = gone-after_all forks closes may is_fault (after s e) es run.1 (gone-after forks closes may is_fault s e run.0 h)
 

@@ -59,7 +59,7 @@ orderly-own {G} {C} {O} o acts seat e orderly free before after f cut take = eli
   | inr old ↦ orderly before old.0 f old.1 take
 ]
 
-module _ {G C O : Type 0} (forks : ℕ → ℕ → G → Type 0) (closes : ℕ → ℕ → C → Type 0) (may : G → O → Type 0) (is_fault : O → Bool) where
+module _ {G C O : Type 0} (forks : ℕ → ℕ → ℕ → G → Type 0) (closes : ℕ → ℕ → C → Type 0) (may : G → O → Type 0) (is_fault : O → Bool) where
   abbrev Run : Opening → List (ℕ × Event G C O) → Type 0
   Run o acts = IsNumberedRun forks closes may is_fault o acts
 
@@ -168,7 +168,7 @@ module _ {G C O : Type 0} (forks : ℕ → ℕ → G → Type 0) (closes : ℕ �
       by_event : (f : Event G C O) → IsTake f → Allows forks closes may is_fault (state_of o before) f → IsIn f (state_of o before).history → ⊥
       by_event (TakeTheory i) t a n = (told.waits i a.1.1.0.waits).0 n
       by_event (TakeProof k) t a n = told.ready k a.2.0 a.2.1.0 a.2.1.1 n
-      by_event (Fork i g) t a n = absurd t
+      by_event (Fork i c g) t a n = absurd t
       by_event (CloseTheory i c) t a n = absurd t
       by_event (Deliver k p f) t a n = absurd t
       by_event Stop t a n = absurd t
@@ -228,13 +228,13 @@ module _ {G C O : Type 0} (forks : ℕ → ℕ → G → Type 0) (closes : ℕ �
       by_standing p at Cancelled is = inr is
 
   -- a seat's own forks of a theory are all of it, where no other seat forked one
-  one_fork : (i : ℕ) (e : Event G C O) → ((g : G) → e ≢ Fork i g) → forks_in i (e ∷ []) ≡ 0
+  one_fork : (i : ℕ) (e : Event G C O) → ((c : ℕ) (g : G) → e ≢ Fork i c g) → forks_in i (e ∷ []) ≡ 0
   one_fork i (TakeTheory j) other = refl
   one_fork i (TakeProof n) other = refl
-  one_fork i (Fork j g) other = by_flag (nat_eq j i) refl
+  one_fork i (Fork j c g) other = by_flag (nat_eq j i) refl
     where
       by_flag : (b : Bool) → nat_eq j i ≡ b → (if b then (0 + 1) else 0) ≡ 0
-      by_flag true is = absurd (other g (ap (λ k. Fork k g) (eqb-true j i is)))
+      by_flag true is = absurd (other c g (ap (λ k. Fork k c g) (eqb-true j i is)))
       by_flag false is = refl
   one_fork i (CloseTheory j c) other = refl
   one_fork i (Deliver n p f) other = refl
@@ -243,13 +243,13 @@ module _ {G C O : Type 0} (forks : ℕ → ℕ → G → Type 0) (closes : ℕ �
   entry-shown : (a : ℕ × Event G C O) (e : Event G C O) → a.1 ≡ e → (a.0, e) ≡ a
   entry-shown a e is = λ i. (a.0, sym is i)
 
-  own-forks : (seat i : ℕ) (acts : List (ℕ × Event G C O)) → ((x : ℕ) (g : G) → IsIn (x, Fork i g) acts → x ≡ seat) → forks_in i (events_of acts) ≡ forks_in i (own seat acts)
+  own-forks : (seat i : ℕ) (acts : List (ℕ × Event G C O)) → ((x c : ℕ) (g : G) → IsIn (x, Fork i c g) acts → x ≡ seat) → forks_in i (events_of acts) ≡ forks_in i (own seat acts)
   own-forks seat i [] alone = refl
-  own-forks seat i (a ∷ acts) alone = by_flag (nat_eq a.0 seat) refl (own-forks seat i acts (λ x g m. alone x g (inr m)))
+  own-forks seat i (a ∷ acts) alone = by_flag (nat_eq a.0 seat) refl (own-forks seat i acts (λ x c g m. alone x c g (inr m)))
     where
       by_flag : (b : Bool) → nat_eq a.0 seat ≡ b → forks_in i (events_of acts) ≡ forks_in i (own seat acts) → forks_in i (a.1 ∷ events_of acts) ≡ forks_in i (if b then a.1 ∷ own seat acts else own seat acts)
       by_flag true is rest = let one = forks-append i (a.1 ∷ []) (events_of acts) in let two = forks-append i (a.1 ∷ []) (own seat acts) in omega arith
-      by_flag false is rest = let one = forks-append i (a.1 ∷ []) (events_of acts) in let none = one_fork i a.1 (λ g what. absurd (let found = eq-eqb a.0 seat (alone a.0 g (inl (entry-shown a (Fork i g) what))) in cc)) in omega arith
+      by_flag false is rest = let one = forks-append i (a.1 ∷ []) (events_of acts) in let none = one_fork i a.1 (λ c g what. absurd (let found = eq-eqb a.0 seat (alone a.0 c g (inl (entry-shown a (Fork i c g) what))) in cc)) in omega arith
 
   -- a theory that a seat took and didn't close
   pub running-known : (o : Opening) (acts : List (ℕ × Event G C O)) (seat i : ℕ) → Run o acts → HasTheory (own seat acts) i → theory_at (state_of o acts).theories i ≡ Some (Running (forks_in i (own seat acts)))
@@ -262,7 +262,7 @@ module _ {G C O : Type 0} (forks : ℕ → ℕ → G → Type 0) (closes : ℕ �
       there = (taken-there o acts seat r).0 i has.taken
 
       count : forks_in i (events_of acts) ≡ forks_in i (own seat acts)
-      count = own-forks seat i acts (λ x g m. by_taker o acts seat x (Fork i g) (TakeTheory i) r tt (λ events h. h) has.taken m)
+      count = own-forks seat i acts (λ x c g m. by_taker o acts seat x (Fork i c g) (TakeTheory i) r tt (λ events h. h) has.taken m)
 
       by_progress : (q : Progress C) → theory_at (state_of o acts).theories i ≡ Some q → theory_at (state_of o acts).theories i ≡ Some (Running (forks_in i (own seat acts)))
       by_progress Waiting at = absurd ((told.waits i at).0 (subst (IsIn (TakeTheory i)) (sym (state-history o acts)) (events-in seat (TakeTheory i) acts (own-in seat (TakeTheory i) acts has.taken))))
@@ -275,12 +275,12 @@ module _ {G C O : Type 0} (forks : ℕ → ℕ → G → Type 0) (closes : ℕ �
   no_stop-more o acts seat e r none = let sum = stops-append (own seat acts) (e ∷ []) in let once = r.stops_once seat in omega arith
 
   -- what a seat may enter
-  pub enter-fork : (o : Opening) (acts : List (ℕ × Event G C O)) (seat i : ℕ) (g : G) → Run o acts → seat < o.workers → HasTheory (own seat acts) i → forks i (forks_in i (own seat acts)) g → MayEnter forks closes may is_fault o acts seat (Fork i g)
-  enter-fork o acts seat i g r within has fork = record {
+  pub enter-fork : (o : Opening) (acts : List (ℕ × Event G C O)) (seat i c : ℕ) (g : G) → Run o acts → seat < o.workers → HasTheory (own seat acts) i → forks i (forks_in i (own seat acts)) c g → MayEnter forks closes may is_fault o acts seat (Fork i c g)
+  enter-fork o acts seat i c g r within has fork = record {
     allowed = (forks_in i (own seat acts), running-known o acts seat i r has, fork);
     few = within;
     taker = has.taken;
-    stops_once = no_stop-more o acts seat (Fork i g) r refl;
+    stops_once = no_stop-more o acts seat (Fork i c g) r refl;
   }
 
   pub enter-close : (o : Opening) (acts : List (ℕ × Event G C O)) (seat i : ℕ) (c : C) → Run o acts → seat < o.workers → HasTheory (own seat acts) i → closes i (forks_in i (own seat acts)) c → MayEnter forks closes may is_fault o acts seat (CloseTheory i c)

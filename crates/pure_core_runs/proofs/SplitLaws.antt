@@ -36,7 +36,7 @@ cut_last (z ∷ xs) y (b ∷ bs) after x e = elim (cut_last xs y bs after x (cc)
 pub either_first : {A : Type 0} (x y : A) (before after : List A) → IsIn y (before ++ x ∷ after) → IsIn y before ⊎ ((y ≡ x) ⊎ IsIn y after)
 either_first x y before after m = elim (in_split y before (x ∷ after) m) [ inl old ↦ inl old | inr new ↦ inr new ]
 
-module _ {G C O : Type 0} (forks : ℕ → ℕ → G → Type 0) (closes : ℕ → ℕ → C → Type 0) (may : G → O → Type 0) (is_fault : O → Bool) where
+module _ {G C O : Type 0} (forks : ℕ → ℕ → ℕ → G → Type 0) (closes : ℕ → ℕ → C → Type 0) (may : G → O → Type 0) (is_fault : O → Bool) where
   pub run-front : (s : State G C O) (es fs : List (Event G C O)) → IsRunFrom forks closes may is_fault s (es ++ fs) → IsRunFrom forks closes may is_fault s es
   run-front s [] fs run = tt
   run-front s (e ∷ es) fs run = (run.0, run-front (after s e) es fs run.1)
@@ -107,7 +107,7 @@ pub stops-append : {G C O : Type 0} (es fs : List (Event G C O)) → stops (es +
 stops-append [] fs = omega arith
 stops-append (TakeTheory i ∷ es) fs = stops-append es fs
 stops-append (TakeProof n ∷ es) fs = stops-append es fs
-stops-append (Fork i g ∷ es) fs = stops-append es fs
+stops-append (Fork i c g ∷ es) fs = stops-append es fs
 stops-append (CloseTheory i c ∷ es) fs = stops-append es fs
 stops-append (Deliver n o f ∷ es) fs = stops-append es fs
 stops-append (Stop ∷ es) fs = let h = stops-append es fs in omega arith
@@ -120,7 +120,7 @@ pub forks-append : {G C O : Type 0} (i : ℕ) (es fs : List (Event G C O)) → f
 forks-append i [] fs = omega arith
 forks-append i (TakeTheory j ∷ es) fs = forks-append i es fs
 forks-append i (TakeProof n ∷ es) fs = forks-append i es fs
-forks-append i (Fork j g ∷ es) fs = forks-if (nat_eq j i) (forks_in i (es ++ fs)) (forks_in i es) (forks_in i fs) (forks-append i es fs)
+forks-append i (Fork j c g ∷ es) fs = forks-if (nat_eq j i) (forks_in i (es ++ fs)) (forks_in i es) (forks_in i fs) (forks-append i es fs)
 forks-append i (CloseTheory j c ∷ es) fs = forks-append i es fs
 forks-append i (Deliver n o f ∷ es) fs = forks-append i es fs
 forks-append i (Stop ∷ es) fs = forks-append i es fs

@@ -20,15 +20,17 @@ over-cases Cancelled over = inr refl
 -- what became of a promise in a later state
 pub record IsLater {G O : Type 0} (p q : Promise G O) : Type 0 where
   pub theory_is : q.theory ≡ p.theory
+  pub command_is : q.command ≡ p.command
   pub goal_is : q.goal ≡ p.goal
   pub stays : IsOver p.standing → q.standing ≡ p.standing
 
 pub later-same : {G O : Type 0} (p q : Promise G O) → q ≡ p → IsLater p q
-later-same p q same = record { theory_is = ap (λ x. x.theory) same; goal_is = ap (λ x. x.goal) same; stays = λ over. ap (λ x. x.standing) same }
+later-same p q same = record { theory_is = ap (λ x. x.theory) same; command_is = ap (λ x. x.command) same; goal_is = ap (λ x. x.goal) same; stays = λ over. ap (λ x. x.standing) same }
 
 pub later-then : {G O : Type 0} (p q r : Promise G O) → IsLater p q → IsLater q r → IsLater p r
 later-then p q r one two = record {
   theory_is = two.theory_is ∙ one.theory_is;
+  command_is = two.command_is ∙ one.command_is;
   goal_is = two.goal_is ∙ one.goal_is;
   stays = λ over. two.stays (subst IsOver (sym (one.stays over)) over) ∙ one.stays over;
 }
@@ -41,24 +43,26 @@ pub record IsDone {G C O : Type 0} (s : State G C O) : Type 0 where
 pub done-after : {G C O : Type 0} (s : State G C O) (e : Event G C O) → IsVain s e → IsDone s → IsDone (after s e)
 done-after s (TakeTheory i) vain d = absurd vain
 done-after s (TakeProof n) vain d = absurd vain
-done-after s (Fork i g) vain d = absurd vain
+done-after s (Fork i c g) vain d = absurd vain
 done-after s (CloseTheory i c) vain d = absurd vain
 done-after s (Deliver n o fault) vain d = subst (λ b. IsDone (delivered_state s n o fault b)) (sym vain) (record { theories = d.theories; promises = d.promises })
 done-after s Stop vain d = record { theories = d.theories; promises = d.promises }
 
-module _ {G C O : Type 0} (forks : ℕ → ℕ → G → Type 0) (closes : ℕ → ℕ → C → Type 0) (may : G → O → Type 0) (is_fault : O → Bool) where
+module _ {G C O : Type 0} (forks : ℕ → ℕ → ℕ → G → Type 0) (closes : ℕ → ℕ → C → Type 0) (may : G → O → Type 0) (is_fault : O → Bool) where
   module _ (s : State G C O) (e : Event G C O) (a : Allows forks closes may is_fault s e) (kept : IsKept forks closes s) (h : IsTold s) where
     -- what an event makes of a promise
     later_so : (n : ℕ) (p q : Promise G O) → Stands s n p → Became s e n q → IsLater p q
     later_so n p q at (stayed old leaves) = later-same p q (same_Some q p (sym old ∙ at))
-    later_so n p q at (was_forked i g what last new) = absurd (let within = slice_get_within s.promises n p at in omega arith)
+    later_so n p q at (was_forked i c g what last new) = absurd (let within = slice_get_within s.promises n p at in omega arith)
     later_so n p q at (was_taken p' what there new) = let same = same_Some p' p (sym there ∙ at) in record {
       theory_is = sym (ap (λ x. x.theory) new) ∙ ap (λ x. x.theory) same;
+      command_is = sym (ap (λ x. x.command) new) ∙ ap (λ x. x.command) same;
       goal_is = sym (ap (λ x. x.goal) new) ∙ ap (λ x. x.goal) same;
       stays = λ over. absurd (let next = take-ready forks closes may is_fault s e a kept h n what in subst IsOver (ap (λ x. x.standing) (same_Some p next.0 (sym at ∙ next.1.0)) ∙ next.1.1) over);
     }
     later_so n p q at (was_settled p' o fault what there lives new) = let same = same_Some p' p (sym there ∙ at) in record {
       theory_is = sym (ap (λ x. x.theory) new) ∙ ap (λ x. x.theory) same;
+      command_is = sym (ap (λ x. x.command) new) ∙ ap (λ x. x.command) same;
       goal_is = sym (ap (λ x. x.goal) new) ∙ ap (λ x. x.goal) same;
       stays = λ over. absurd (elim (over-cases p.standing over) [
         | inl settled ↦ (let old = h.settled n p at settled in (deliver-out forks closes may is_fault s e a kept h n o fault what).open_still old.0 old.1 old.2)
@@ -67,6 +71,7 @@ module _ {G C O : Type 0} (forks : ℕ → ℕ → G → Type 0) (closes : ℕ �
     }
     later_so n p q at (was_cancelled p' other m o fault what apart at_m lives there unsettled marked new) = let same = same_Some p' p (sym there ∙ at) in record {
       theory_is = sym (ap (λ x. x.theory) new) ∙ ap (λ x. x.theory) same;
+      command_is = sym (ap (λ x. x.command) new) ∙ ap (λ x. x.command) same;
       goal_is = sym (ap (λ x. x.goal) new) ∙ ap (λ x. x.goal) same;
       stays = λ over. elim (over-cases p.standing over) [
         | inl settled ↦ absurd (let not_so : is_settled p.standing ≡ false = ap (λ x. is_settled x.standing) (sym same) ∙ unsettled in cc)
@@ -80,7 +85,7 @@ module _ {G C O : Type 0} (forks : ℕ → ℕ → G → Type 0) (closes : ℕ �
     closed_so : (i : ℕ) (p q : Progress C) → theory_at s.theories i ≡ Some p → IsClosed p → Came s e i q → q ≡ p
     closed_so i p q at closed (left_so old leaves) = same_Some q p (sym old ∙ at)
     closed_so i p q at closed (began what new) = absurd (subst IsClosed (same_Some p Waiting (sym at ∙ take-waits forks closes may is_fault s e a kept h i what)) closed)
-    closed_so i p q at closed (went_on g what new) = absurd (let run = fork-runs forks closes may is_fault s e a kept h i g what in subst IsClosed (same_Some p (Running run.0) (sym at ∙ run.1)) closed)
+    closed_so i p q at closed (went_on c g what new) = absurd (let run = fork-runs forks closes may is_fault s e a kept h i c g what in subst IsClosed (same_Some p (Running run.0) (sym at ∙ run.1)) closed)
     closed_so i p q at closed (ended c what new) = absurd (let run = close-runs forks closes may is_fault s e a kept h i c what in subst IsClosed (same_Some p (Running run.0) (sym at ∙ run.1)) closed)
 
     pub closed-later : (i : ℕ) (p : Progress C) → theory_at s.theories i ≡ Some p → IsClosed p → theory_at (after s e).theories i ≡ Some p
@@ -90,7 +95,7 @@ module _ {G C O : Type 0} (forks : ℕ → ℕ → G → Type 0) (closes : ℕ �
   pub vain-done : (s : State G C O) (e : Event G C O) → Allows forks closes may is_fault s e → IsTold s → IsDone s → IsVain s e
   vain-done s (TakeTheory i) a h d = closed_there s.theories i Waiting d.theories a.1.1.0.waits
   vain-done s (TakeProof n) a h d = let next = a.2.1 in subst IsOver next.1 (each_there (λ p. IsOver p.standing) s.promises n a.2.0 d.promises next.0)
-  vain-done s (Fork i g) a h d = closed_there s.theories i (Running a.0) d.theories a.1
+  vain-done s (Fork i c g) a h d = closed_there s.theories i (Running a.0) d.theories a.1
   vain-done s (CloseTheory i c) a h d = closed_there s.theories i (Running a.0) d.theories a.1
   vain-done s (Deliver n o fault) a h d = elim (over-cases a.0.standing (each_there (λ p. IsOver p.standing) s.promises n a.0 d.promises a.1)) [
     | inl settled ↦ absurd (let old = h.settled n a.0 a.1 settled in a.2.open_still old.0 old.1 old.2)
@@ -118,7 +123,7 @@ module _ {G C O : Type 0} (forks : ℕ → ℕ → G → Type 0) (closes : ℕ �
 pub stopped-after : {G C O : Type 0} (s : State G C O) (e : Event G C O) → s.stopped ≡ true → (after s e).stopped ≡ true
 stopped-after s (TakeTheory i) is = is
 stopped-after s (TakeProof n) is = is
-stopped-after s (Fork i g) is = is
+stopped-after s (Fork i c g) is = is
 stopped-after s (CloseTheory i c) is = is
 stopped-after s (Deliver n o fault) is = (delivered-keeps s n o fault).1 ∙ is
 stopped-after s Stop is = refl
@@ -131,7 +136,7 @@ pub never-stopped : {G C O : Type 0} (s : State G C O) (es : List (Event G C O))
 never-stopped s [] is = refl
 never-stopped s (TakeTheory i ∷ es) is = never-stopped (after s (TakeTheory i)) es is
 never-stopped s (TakeProof n ∷ es) is = never-stopped (after s (TakeProof n)) es is
-never-stopped s (Fork i g ∷ es) is = never-stopped (after s (Fork i g)) es is
+never-stopped s (Fork i c g ∷ es) is = never-stopped (after s (Fork i c g)) es is
 never-stopped s (CloseTheory i c ∷ es) is = never-stopped (after s (CloseTheory i c)) es is
 never-stopped s (Deliver n o f ∷ es) is = never-stopped (after s (Deliver n o f)) es is
 never-stopped s (Stop ∷ es) is = absurd (let stays = stopped-stays (after s Stop) es refl in cc)
@@ -140,7 +145,7 @@ pub goes_on-stays : {G C O : Type 0} (s : State G C O) (es : List (Event G C O))
 goes_on-stays s [] is none = is
 goes_on-stays s (TakeTheory i ∷ es) is none = goes_on-stays (after s (TakeTheory i)) es is none
 goes_on-stays s (TakeProof n ∷ es) is none = goes_on-stays (after s (TakeProof n)) es is none
-goes_on-stays s (Fork i g ∷ es) is none = goes_on-stays (after s (Fork i g)) es is none
+goes_on-stays s (Fork i c g ∷ es) is none = goes_on-stays (after s (Fork i c g)) es is none
 goes_on-stays s (CloseTheory i c ∷ es) is none = goes_on-stays (after s (CloseTheory i c)) es is none
 goes_on-stays s (Deliver n o f ∷ es) is none = goes_on-stays (after s (Deliver n o f)) es ((delivered-keeps s n o f).1 ∙ is) none
 goes_on-stays s (Stop ∷ es) is none = absurd (omega arith)

@@ -36,7 +36,7 @@ new-not_settled O false e = cc
 pub left-forks : {G C O : Type 0} (i : ℕ) (e : Event G C O) → LeavesTheory i e → forks_in i (e ∷ []) ≡ 0
 left-forks i (TakeTheory j) leaves = refl
 left-forks i (TakeProof n) leaves = refl
-left-forks i (Fork j g) leaves = by_flag (nat_eq j i) refl
+left-forks i (Fork j c g) leaves = by_flag (nat_eq j i) refl
   where
     by_flag : (b : Bool) → nat_eq j i ≡ b → (if b then (0 + 1) else 0) ≡ 0
     by_flag true e = absurd (leaves (sym (eqb-true j i e)))
@@ -45,14 +45,14 @@ left-forks i (CloseTheory j c) leaves = refl
 left-forks i (Deliver n o f) leaves = refl
 left-forks i Stop leaves = refl
 
-fork-counts : (G C O : Type 0) (i : ℕ) (g : G) → forks_in {G = G} {C = C} {O = O} i (Fork i g ∷ []) ≡ 1
-fork-counts G C O i g = by_flag (nat_eq i i) (eq-eqb i i refl)
+fork-counts : (G C O : Type 0) (i c : ℕ) (g : G) → forks_in {G = G} {C = C} {O = O} i (Fork i c g ∷ []) ≡ 1
+fork-counts G C O i c g = by_flag (nat_eq i i) (eq-eqb i i refl)
   where
     by_flag : (b : Bool) → b ≡ true → (if b then (0 + 1) else 0) ≡ 1
     by_flag true e = refl
     by_flag false e = absurd (cc)
 
-module _ {G C O : Type 0} (forks : ℕ → ℕ → G → Type 0) (closes : ℕ → ℕ → C → Type 0) (may : G → O → Type 0) (is_fault : O → Bool) where
+module _ {G C O : Type 0} (forks : ℕ → ℕ → ℕ → G → Type 0) (closes : ℕ → ℕ → C → Type 0) (may : G → O → Type 0) (is_fault : O → Bool) where
   abbrev May : State G C O → Event G C O → Type 0
   May s e = Allows forks closes may is_fault s e
 
@@ -64,8 +64,8 @@ module _ {G C O : Type 0} (forks : ℕ → ℕ → G → Type 0) (closes : ℕ �
     pub take-waits : (i : ℕ) → e ≡ TakeTheory i → theory_at s.theories i ≡ Some Waiting
     take-waits i is = let at : (s.stopped ≡ false) × ((cs : List C) × IsNextTheory s i cs) = subst (May s) is a in at.1.1.0.waits
 
-    pub fork-runs : (i : ℕ) (g : G) → e ≡ Fork i g → (k : ℕ) × (theory_at s.theories i ≡ Some (Running k))
-    fork-runs i g is = let at : (k : ℕ) × (theory_at s.theories i ≡ Some (Running k)) × forks i k g = subst (May s) is a in (at.0, at.1)
+    pub fork-runs : (i c : ℕ) (g : G) → e ≡ Fork i c g → (k : ℕ) × (theory_at s.theories i ≡ Some (Running k))
+    fork-runs i c g is = let at : (k : ℕ) × (theory_at s.theories i ≡ Some (Running k)) × forks i k c g = subst (May s) is a in (at.0, at.1)
 
     pub close-runs : (i : ℕ) (c : C) → e ≡ CloseTheory i c → (k : ℕ) × (theory_at s.theories i ≡ Some (Running k))
     close-runs i c is = let at : (k : ℕ) × (theory_at s.theories i ≡ Some (Running k)) × closes i k c = subst (May s) is a in (at.0, at.1)
@@ -78,9 +78,9 @@ module _ {G C O : Type 0} (forks : ℕ → ℕ → G → Type 0) (closes : ℕ �
       | inl old ↦ h.ready n q at is old
       | inr here ↦ subst (LeavesPromise n q.standing) (sym here) leaves refl
     ]
-    ready_so n q (was_forked i g what last new) is m = elim (in_last (TakeProof n) e s.history m) [
+    ready_so n q (was_forked i c g what last new) is m = elim (in_last (TakeProof n) e s.history m) [
       | inl old ↦ (let within = h.promised n old in omega arith)
-      | inr here ↦ (let two : ◌≡◌ {A = Event G C O} (TakeProof n) (Fork i g) = here ∙ what in cc)
+      | inr here ↦ (let two : ◌≡◌ {A = Event G C O} (TakeProof n) (Fork i c g) = here ∙ what in cc)
     ]
     ready_so n q (was_taken p what at new) is m = let two : ◌≡◌ {A = Standing O} Taken Ready = ap (λ x. x.standing) new ∙ is in cc
     ready_so n q (was_settled p o fault what at lives new) is m = let two : ◌≡◌ {A = Standing O} (Settled o) Ready = ap (λ x. x.standing) new ∙ is in cc
@@ -94,7 +94,7 @@ module _ {G C O : Type 0} (forks : ℕ → ℕ → G → Type 0) (closes : ℕ �
         | inr here ↦ (let dropped : is_cancelled_standing q.standing ≡ true = subst (LeavesPromise n q.standing) (sym here) leaves refl in let alive : is_cancelled_standing q.standing ≡ false = ap is_cancelled_standing is in cc)
       ];
     }
-    taken_so n q (was_forked i g what last new) is = absurd (new-not_taken _ (ap (λ x. x.standing) new ∙ is))
+    taken_so n q (was_forked i c g what last new) is = absurd (new-not_taken _ (ap (λ x. x.standing) new ∙ is))
     taken_so n q (was_taken p what at new) is = record {
       taken = in-append_right (TakeProof n) s.history (e ∷ []) (inl (sym what));
       open_still = λ o fault m. elim (in_last (Deliver n o fault) e s.history m) [
@@ -107,7 +107,7 @@ module _ {G C O : Type 0} (forks : ℕ → ℕ → G → Type 0) (closes : ℕ �
 
     settled_so : (n : ℕ) (q : Promise G O) → Became s e n q → is_settled q.standing ≡ true → Delivered (s.history ++ e ∷ []) n
     settled_so n q (stayed at leaves) is = let old = h.settled n q at is in (old.0, old.1, in-append_left (Deliver n old.0 old.1) s.history (e ∷ []) old.2)
-    settled_so n q (was_forked i g what last new) is = absurd (new-not_settled O _ (ap (λ x. is_settled x.standing) new ∙ is))
+    settled_so n q (was_forked i c g what last new) is = absurd (new-not_settled O _ (ap (λ x. is_settled x.standing) new ∙ is))
     settled_so n q (was_taken p what at new) is = absurd (let two : ◌≡◌ {A = Bool} false true = ap (λ x. is_settled x.standing) new ∙ is in cc)
     settled_so n q (was_settled p o fault what at lives new) is = (o, fault, in-append_right (Deliver n o fault) s.history (e ∷ []) (inl (sym what)))
     settled_so n q (was_cancelled p other k o fault what apart there lives at unsettled marked new) is = absurd (let two : ◌≡◌ {A = Bool} false true = ap (λ x. is_settled x.standing) new ∙ is in cc)
@@ -121,26 +121,26 @@ module _ {G C O : Type 0} (forks : ℕ → ℕ → G → Type 0) (closes : ℕ �
       (let none = (h.waits i at).1 in let more = forks-append i s.history (e ∷ []) in let no_fork = left-forks i e leaves in omega arith),
     )
     waits_so i (began what new) = absurd (cc)
-    waits_so i (went_on g what new) = absurd (let run = fork-runs i g what in let two : ◌≡◌ {A = Progress C} (Running (run.0 + 1)) Waiting = sym (ap forked_once run.1) ∙ new in cc)
+    waits_so i (went_on m g what new) = absurd (let run = fork-runs i m g what in let two : ◌≡◌ {A = Progress C} (Running (run.0 + 1)) Waiting = sym (ap forked_once run.1) ∙ new in cc)
     waits_so i (ended c what new) = absurd (let run = close-runs i c what in let two : ◌≡◌ {A = Progress C} (Closed run.0 c) Waiting = sym (ap (λ x. closed_by x c) run.1) ∙ new in cc)
 
     runs_so : (i k : ℕ) → Came s e i (Running k) → k ≡ forks_in i (s.history ++ e ∷ [])
     runs_so i k (left_so at leaves) = let old = h.runs i k at in let more = forks-append i s.history (e ∷ []) in let no_fork = left-forks i e leaves in omega arith
     runs_so i k (began what new) = let none = (h.waits i (take-waits i what)).1 in let more = forks-append i s.history (e ∷ []) in let no_fork : forks_in i (e ∷ []) ≡ 0 = ap (λ x. forks_in i (x ∷ [])) what in let zero_is : 0 ≡ k = cc in omega arith
-    runs_so i k (went_on g what new) =
-        let run = fork-runs i g what in
+    runs_so i k (went_on m g what new) =
+        let run = fork-runs i m g what in
         let two : ◌≡◌ {A = Progress C} (Running (run.0 + 1)) (Running k) = sym (ap forked_once run.1) ∙ new in
         let next : run.0 + 1 ≡ k = cc in
         let old = h.runs i run.0 run.1 in
         let more = forks-append i s.history (e ∷ []) in
-        let one : forks_in i (e ∷ []) ≡ 1 = ap (λ x. forks_in i (x ∷ [])) what ∙ fork-counts G C O i g in
+        let one : forks_in i (e ∷ []) ≡ 1 = ap (λ x. forks_in i (x ∷ [])) what ∙ fork-counts G C O i m g in
         omega arith
     runs_so i k (ended c what new) = absurd (let run = close-runs i c what in let two : ◌≡◌ {A = Progress C} (Closed run.0 c) (Running k) = sym (ap (λ x. closed_by x c) run.1) ∙ new in cc)
 
     closed_so : (i k : ℕ) (c : C) → Came s e i (Closed k c) → IsIn (CloseTheory i c) (s.history ++ e ∷ [])
     closed_so i k c (left_so at leaves) = in-append_left (CloseTheory i c) s.history (e ∷ []) (h.closed i k c at)
     closed_so i k c (began what new) = absurd (cc)
-    closed_so i k c (went_on g what new) = absurd (let run = fork-runs i g what in let two : ◌≡◌ {A = Progress C} (Running (run.0 + 1)) (Closed k c) = sym (ap forked_once run.1) ∙ new in cc)
+    closed_so i k c (went_on m g what new) = absurd (let run = fork-runs i m g what in let two : ◌≡◌ {A = Progress C} (Running (run.0 + 1)) (Closed k c) = sym (ap forked_once run.1) ∙ new in cc)
     closed_so i k c (ended d what new) =
         let run = close-runs i d what in
         let two : ◌≡◌ {A = Progress C} (Closed run.0 d) (Closed k c) = sym (ap (λ x. closed_by x d) run.1) ∙ new in
@@ -150,7 +150,7 @@ module _ {G C O : Type 0} (forks : ℕ → ℕ → G → Type 0) (closes : ℕ �
     moved_so : (i : ℕ) (q : Progress C) → Came s e i q → q ≢ Waiting → IsIn (TakeTheory i) (s.history ++ e ∷ [])
     moved_so i q (left_so at leaves) other = in-append_left (TakeTheory i) s.history (e ∷ []) (h.moved i q at other)
     moved_so i q (began what new) other = in-append_right (TakeTheory i) s.history (e ∷ []) (inl (sym what))
-    moved_so i q (went_on g what new) other = let run = fork-runs i g what in in-append_left (TakeTheory i) s.history (e ∷ []) (h.moved i (Running run.0) run.1 (λ two. cc))
+    moved_so i q (went_on m g what new) other = let run = fork-runs i m g what in in-append_left (TakeTheory i) s.history (e ∷ []) (h.moved i (Running run.0) run.1 (λ two. cc))
     moved_so i q (ended c what new) other = let run = close-runs i c what in in-append_left (TakeTheory i) s.history (e ∷ []) (h.moved i (Running run.0) run.1 (λ two. cc))
 
     pub told-after : IsTold (after s e)
@@ -210,5 +210,5 @@ told-opened {G} {C} {O} o = record {
     nothing e m = subst (IsIn e) (opened-history {G = G} {C = C} {O = O} o) m
 
 -- in each state of a legal run
-pub told-legal : {G C O : Type 0} (forks : ℕ → ℕ → G → Type 0) (closes : ℕ → ℕ → C → Type 0) (may : G → O → Type 0) (is_fault : O → Bool) (o : Opening) (es : List (Event G C O)) → IsRunFrom forks closes may is_fault (opened o) es → IsTold (after_all (opened o) es)
+pub told-legal : {G C O : Type 0} (forks : ℕ → ℕ → ℕ → G → Type 0) (closes : ℕ → ℕ → C → Type 0) (may : G → O → Type 0) (is_fault : O → Bool) (o : Opening) (es : List (Event G C O)) → IsRunFrom forks closes may is_fault (opened o) es → IsTold (after_all (opened o) es)
 told-legal {G} {C} {O} forks closes may is_fault o es run = told-after_all forks closes may is_fault (opened o) es run (kept-opened forks closes o) (told-opened {G = G} {C = C} {O = O} o)

@@ -20,20 +20,20 @@ state_of o acts = after_all (opened o) (events_of acts)
 
 -- If the event is of a theory or a promise that has to be taken before, it was taken among these events.
 abbrev pub IsOfTaken : {G C O : Type 0} → List (Event G C O) → Event G C O → Type 0
-IsOfTaken events (Fork i g) = IsIn (TakeTheory i) events
+IsOfTaken events (Fork i c g) = IsIn (TakeTheory i) events
 IsOfTaken events (CloseTheory i c) = IsIn (TakeTheory i) events
 IsOfTaken events (Deliver n o fault) = IsIn (TakeProof n) events
 IsOfTaken events _ = Unit {0}
 
 -- The events with the numbers of their seats are a numbered legal run from the opening: the events are a legal run, each seat's number is below the number of workers, each fork, close and delivery is of a theory or a promise that its own seat took before, and no seat stops the work twice.
-pub record IsNumberedRun {G C O : Type 0} (forks : ℕ → ℕ → G → Type 0) (closes : ℕ → ℕ → C → Type 0) (may : G → O → Type 0) (is_fault : O → Bool) (o : Opening) (acts : List (ℕ × Event G C O)) : Type 0 where
+pub record IsNumberedRun {G C O : Type 0} (forks : ℕ → ℕ → ℕ → G → Type 0) (closes : ℕ → ℕ → C → Type 0) (may : G → O → Type 0) (is_fault : O → Bool) (o : Opening) (acts : List (ℕ × Event G C O)) : Type 0 where
   pub run : IsRunFrom forks closes may is_fault (opened o) (events_of acts)
   pub few : Each (λ a. a.0 < o.workers) acts
   pub takers : (before after : List (ℕ × Event G C O)) (seat : ℕ) (e : Event G C O) → acts ≡ before ++ (seat, e) ∷ after → IsOfTaken (own seat before) e
   pub stops_once : (seat : ℕ) → stops (own seat acts) ≤ 1
 
 -- The seat may enter the event behind a numbered run: the event may happen there, the seat's number is below the number of workers, the seat took what the event is of, and by the event it doesn't stop the work twice.
-pub record MayEnter {G C O : Type 0} (forks : ℕ → ℕ → G → Type 0) (closes : ℕ → ℕ → C → Type 0) (may : G → O → Type 0) (is_fault : O → Bool) (o : Opening) (acts : List (ℕ × Event G C O)) (seat : ℕ) (e : Event G C O) : Type 0 where
+pub record MayEnter {G C O : Type 0} (forks : ℕ → ℕ → ℕ → G → Type 0) (closes : ℕ → ℕ → C → Type 0) (may : G → O → Type 0) (is_fault : O → Bool) (o : Opening) (acts : List (ℕ × Event G C O)) (seat : ℕ) (e : Event G C O) : Type 0 where
   pub allowed : Allows forks closes may is_fault (state_of o acts) e
   pub few : seat < o.workers
   pub taker : IsOfTaken (own seat acts) e
@@ -61,7 +61,7 @@ IsOrderly o acts = (seat : ℕ) → IsOrderlySeat o acts seat
 -- how many forks of the theory are among the events
 abbrev pub forks_in : {G C O : Type 0} → (theory : ℕ) → List (Event G C O) → ℕ
 forks_in i [] = 0
-forks_in i (Fork j g ∷ es) = if nat_eq j i then (forks_in i es + 1) else forks_in i es
+forks_in i (Fork j c g ∷ es) = if nat_eq j i then (forks_in i es + 1) else forks_in i es
 forks_in i (_ ∷ es) = forks_in i es
 
 -- By these events the theory was taken and not closed.

@@ -59,7 +59,7 @@ pub fn stopped_stays<W: Work>(work: &W)
     let _ = work;
 }
 
-/// A promise keeps its theory and goal, and one that is settled or cancelled stays so.
+/// A promise keeps its theory, command and goal, and one that is settled or cancelled stays so.
 pub fn promise_stays<W: Work>(work: &W)
     ensures { PromiseStays (W.forks work.now) (W.closes work.now) (W.may work.now) (W.faults work.now) }
 {

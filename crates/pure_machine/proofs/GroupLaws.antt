@@ -109,7 +109,7 @@ cancelled-kept m bs ps ps' is listed = rw is (fixed-cancelled m ps, listed-cance
 
 -- the promise, standing otherwise
 abbrev stood : {G O : Type 0} → Standing O → Promise G O → Promise G O
-stood s p = record { theory = p.theory; goal = p.goal; standing = s }
+stood s p = record { theory = p.theory; command = p.command; goal = p.goal; standing = s }
 
 restood-further : {G O : Type 0} (p : Promise G O) (ps : List (Promise G O)) (n : ℕ) (o : Option (Promise G O)) (s : Standing O) → restood (p ∷ ps) (suc n) o s ≡ p ∷ restood ps n o s
 restood-further p ps n None s = refl

@@ -78,7 +78,7 @@ marked-stays m g k bs here same e = sym (marked-again m g (subst (λ x. is_new m
 pub cancelled-again : {G O : Type 0} (m n : Marks) (p : Promise G O) → Within m n → cancelled_promise n (cancelled_promise m p) ≡ cancelled_promise n p
 cancelled-again {G} {O} m n p within = again (is_theory_cancelled m p.theory) (is_settled p.standing) refl (within p.theory)
   where
-    again : (a s : Bool) → is_settled p.standing ≡ s → (a ≡ true → is_theory_cancelled n p.theory ≡ true) → cancelled_promise n (if a && not s then (record { theory = p.theory; goal = p.goal; standing = Cancelled }) else p) ≡ cancelled_promise n p
+    again : (a s : Bool) → is_settled p.standing ≡ s → (a ≡ true → is_theory_cancelled n p.theory ≡ true) → cancelled_promise n (if a && not s then (record { theory = p.theory; command = p.command; goal = p.goal; standing = Cancelled }) else p) ≡ cancelled_promise n p
     again false s e h = refl
     again true true e h = refl
     again true false e h = rw (h refl, e) refl
@@ -99,7 +99,7 @@ free-stays m p e = rw e refl
 pub settled-stays : {G O : Type 0} (m : Marks) (p : Promise G O) → is_settled p.standing ≡ true → cancelled_promise m p ≡ p
 settled-stays {G} {O} m p e = by_group (is_theory_cancelled m p.theory) (is_settled p.standing) e
   where
-    by_group : (a s : Bool) → s ≡ true → (if a && not s then (record { theory = p.theory; goal = p.goal; standing = Cancelled }) else p) ≡ p
+    by_group : (a s : Bool) → s ≡ true → (if a && not s then (record { theory = p.theory; command = p.command; goal = p.goal; standing = Cancelled }) else p) ≡ p
     by_group false s e = refl
     by_group true true e = refl
     by_group true false e = search
@@ -111,7 +111,7 @@ ready-free {G} {O} m p stays ready = by_group (is_theory_cancelled m p.theory) (
     never : ◌≡◌ {A = Standing O} Cancelled Ready → ⊥
     never e = subst IsOver e tt
 
-    by_group : (a s : Bool) → s ≡ false → (if a && not s then (record { theory = p.theory; goal = p.goal; standing = Cancelled }) else p) ≡ p → a ≡ false
+    by_group : (a s : Bool) → s ≡ false → (if a && not s then (record { theory = p.theory; command = p.command; goal = p.goal; standing = Cancelled }) else p) ≡ p → a ≡ false
     by_group false s e h = refl
     by_group true false e h = absurd (never (ap (λ q. q.standing) h ∙ ready))
     by_group true true e h = search
@@ -130,6 +130,6 @@ new-stays {G} {O} m p stands = by_group (is_theory_cancelled m p.theory) refl
 pub cancelled-theory : {G O : Type 0} (m : Marks) (p : Promise G O) → (cancelled_promise m p).theory ≡ p.theory
 cancelled-theory {G} {O} m p = by_both (is_theory_cancelled m p.theory && not (is_settled p.standing))
   where
-    by_both : (b : Bool) → (if b then (record { theory = p.theory; goal = p.goal; standing = Cancelled }) else p).theory ≡ p.theory
+    by_both : (b : Bool) → (if b then (record { theory = p.theory; command = p.command; goal = p.goal; standing = Cancelled }) else p).theory ≡ p.theory
     by_both true = refl
     by_both false = refl

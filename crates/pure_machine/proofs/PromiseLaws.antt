@@ -32,7 +32,7 @@ pub next_same : {G O : Type 0} (r : Option ℕ) (xs ys : List (Promise G O)) →
 next_same {G} {O} r xs ys same h = subst (λ zs. MatchOption r (NoPromiseReadyBelow zs (length zs)) (λ n. (p : Promise G O) × (slice_get zs n ≡ Some p) × (p.standing ≡ Ready) × NoPromiseReadyBelow zs n)) same h
 
 -- the promises with one of them standing otherwise, as the code writes them
-pub restood-is : {G O : Type 0} (ps : List (Promise G O)) (k : ℕ) (p : Promise G O) (s : Standing O) → k < length ps → p ≡ get_or ps k p → set ps k (record { theory = p.theory; goal = p.goal; standing = s }) ≡ with_standing ps k s
+pub restood-is : {G O : Type 0} (ps : List (Promise G O)) (k : ℕ) (p : Promise G O) (s : Standing O) → k < length ps → p ≡ get_or ps k p → set ps k (record { theory = p.theory; command = p.command; goal = p.goal; standing = s }) ≡ with_standing ps k s
 restood-is ps k p s within read = sym (ap (λ o. restood ps k o s) (slice_get_read ps (length ps) k p refl within read))
 
 -- what stands in a list with one element changed: that element, or what stood there
@@ -62,7 +62,7 @@ pub none_ready-push : {G O : Type 0} (ps : List (Promise G O)) (p : Promise G O)
 none_ready-push ps p bound le before m within q at ready = before m within q (slice_get-front ps p m q (omega (arith, within, le)) at) ready
 
 -- what is ready after a cancellation was ready before
-pub ready-cancelled : {G O : Type 0} (b : Bool) (p : Promise G O) (q : Promise G O) → (if b then (record { theory = p.theory; goal = p.goal; standing = Cancelled }) else p) ≡ q → q.standing ≡ Ready → p.standing ≡ Ready
+pub ready-cancelled : {G O : Type 0} (b : Bool) (p : Promise G O) (q : Promise G O) → (if b then (record { theory = p.theory; command = p.command; goal = p.goal; standing = Cancelled }) else p) ≡ q → q.standing ≡ Ready → p.standing ≡ Ready
 ready-cancelled true p q e ready = absurd (never (ap (λ x. x.standing) e ∙ ready))
   where
     never : {O : Type 0} → ◌≡◌ {A = Standing O} Cancelled Ready → ⊥

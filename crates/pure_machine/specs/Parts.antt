@@ -1,12 +1,12 @@
 -- What the parts of a machine hold.
-use Rattle.std.specs.Prelude.{◌≡◌, ◌⊎◌, ℕ, zero, suc, Some, None, Option, slice_get, List, [], ◌∷◌, ◌++◌, map, Bool, true, false, not}
+use Rattle.std.specs.Prelude.{◌≡◌, ◌⊎◌, ℕ, zero, suc, Some, None, Option, slice_get, List, [], ◌∷◌, ◌++◌, map, Bool, true, false, not, if◌then◌else◌}
 use Rattle.pure_text.specs.Lists.{IsIn}
 use Rattle.pure_machine.specs.declared.policy.Group.{Group}
 use Rattle.pure_machine.specs.declared.policy.Group.TheVariants.{Session, Theory}
 use Rattle.pure_machine.specs.declared.policy.Cancel.{Cancel}
 use Rattle.pure_machine.specs.Policy.{Policy, due}
 use Rattle.pure_machine.specs.Buckets.{bucket}
-use Rattle.pure_machine.specs.State.{Progress, Promise, Standing, Ready, Taken, Event, Stop, Marks, State, cancelled_promise, is_settled, marked}
+use Rattle.pure_machine.specs.State.{Progress, Promise, Standing, Ready, Taken, Cancelled, Event, Stop, Marks, State, cancelled_promise, is_settled, marked}
 
 -- how many workers may stop the work, and what happened
 pub record Logged (G C O : Type 0) : Type 0 where
@@ -26,6 +26,10 @@ is_stop _ = false
 pub record Stages (C : Type 0) : Type 0 where
   pub shape : List (List ℕ)
   pub progress : List (Progress C)
+
+-- the promise that a fork makes, by whether it is cancelled at once
+abbrev pub made_promise : {G O : Type 0} → (theory command : ℕ) → G → (cancelled : Bool) → Promise G O
+made_promise i c g b = record { theory = i; command = c; goal = g; standing = if b then Cancelled else Ready }
 
 -- No proof runs.
 abbrev pub NoneTaken : {G O : Type 0} → List (Promise G O) → Type 0

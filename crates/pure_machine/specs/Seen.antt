@@ -24,7 +24,7 @@ seen_standing standing_code.Cancelled = Cancelled
 abbrev pub seen_event : {G C O : Type 0} → event.Event G C O → Event G C O
 seen_event (event_code.TakeTheory n) = TakeTheory n
 seen_event (event_code.TakeProof n) = TakeProof n
-seen_event (event_code.Fork i goal) = Fork i goal.value
+seen_event (event_code.Fork i c goal) = Fork i c goal.value
 seen_event (event_code.CloseTheory i value) = CloseTheory i value.value
 seen_event (event_code.Deliver n outcome fault) = Deliver n outcome.value fault
 seen_event event_code.Stop = Stop

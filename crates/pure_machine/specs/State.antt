@@ -17,17 +17,18 @@ pub data Standing (O : Type 0) : Type 0 where
   Settled : (outcome : O) → Standing O
   Cancelled : Standing O
 
--- a promise: the theory whose command forked it, its goal, and what became of it
+-- a promise: the theory whose command forked it, the place of this command from 0, its goal, and what became of it
 pub record Promise (G O : Type 0) : Type 0 where
   pub theory : ℕ
+  pub command : ℕ
   pub goal : G
   pub standing : Standing O
 
--- what happens to a machine: a theory or a proof is taken; a running theory forks a promise with a goal, or is closed by a value; a proof's outcome is delivered, which is a fault or none; a worker stops the work
+-- what happens to a machine: a theory or a proof is taken; a running theory forks a promise under a command, with a goal, or is closed by a value; a proof's outcome is delivered, which is a fault or none; a worker stops the work
 pub data Event (G C O : Type 0) : Type 0 where
   TakeTheory : (number : ℕ) → Event G C O
   TakeProof : (number : ℕ) → Event G C O
-  Fork : (theory : ℕ) → (goal : G) → Event G C O
+  Fork : (theory command : ℕ) → (goal : G) → Event G C O
   CloseTheory : (number : ℕ) → (value : C) → Event G C O
   Deliver : (number : ℕ) → (outcome : O) → (fault : Bool) → Event G C O
   Stop : Event G C O
@@ -65,7 +66,7 @@ with_progress ts (suc i) p = slice_set ts i p
 -- the promises with this one in the place of what stood there
 abbrev pub restood : {G O : Type 0} → List (Promise G O) → (number : ℕ) → Option (Promise G O) → Standing O → List (Promise G O)
 restood ps n None s = ps
-restood ps n (Some p) s = slice_set ps n (record { theory = p.theory; goal = p.goal; standing = s })
+restood ps n (Some p) s = slice_set ps n (record { theory = p.theory; command = p.command; goal = p.goal; standing = s })
 
 -- the promises, of which this one stands so
 abbrev pub with_standing : {G O : Type 0} → List (Promise G O) → (number : ℕ) → Standing O → List (Promise G O)
@@ -107,7 +108,7 @@ is_settled _ = false
 
 -- the promise, cancelled where its group or the one above is, unless it is settled
 abbrev pub cancelled_promise : {G O : Type 0} → Marks → Promise G O → Promise G O
-cancelled_promise m p = if is_theory_cancelled m p.theory && not (is_settled p.standing) then record { theory = p.theory; goal = p.goal; standing = Cancelled } else p
+cancelled_promise m p = if is_theory_cancelled m p.theory && not (is_settled p.standing) then record { theory = p.theory; command = p.command; goal = p.goal; standing = Cancelled } else p
 
 -- the state in which these groups are cancelled, and so are their promises that aren't settled
 abbrev pub recancelled : {G C O : Type 0} → State G C O → Marks → State G C O

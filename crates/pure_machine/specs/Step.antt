@@ -102,8 +102,8 @@ closed_by None c = Waiting
 closed_by (Some t) c = Closed (forks_of t) c
 
 -- the promise that a fork makes: cancelled where its group or the one above is, and else ready
-abbrev pub new_promise : {G C O : Type 0} → State G C O → (theory : ℕ) → G → Promise G O
-new_promise s i g = record { theory = i; goal = g; standing = if is_theory_cancelled s.cancelled i then Cancelled else Ready }
+abbrev pub new_promise : {G C O : Type 0} → State G C O → (theory command : ℕ) → G → Promise G O
+new_promise s i c g = record { theory = i; command = c; goal = g; standing = if is_theory_cancelled s.cancelled i then Cancelled else Ready }
 
 -- whether a promise that stands so is cancelled
 abbrev pub is_cancelled_standing : {O : Type 0} → Standing O → Bool
@@ -127,7 +127,7 @@ settled s n o fault = with_cancelled (record s { promises = with_standing s.prom
 abbrev pub changed : {G C O : Type 0} → State G C O → Event G C O → State G C O
 changed s (TakeTheory i) = record s { theories = with_progress s.theories i (Running 0) }
 changed s (TakeProof n) = record s { promises = with_standing s.promises n Taken }
-changed s (Fork i g) = record s { theories = with_progress s.theories i (forked_once (theory_at s.theories i)); promises = s.promises ++ new_promise s i g ∷ [] }
+changed s (Fork i c g) = record s { theories = with_progress s.theories i (forked_once (theory_at s.theories i)); promises = s.promises ++ new_promise s i c g ∷ [] }
 changed s (CloseTheory i c) = record s { theories = with_progress s.theories i (closed_by (theory_at s.theories i) c) }
 changed s (Deliver n o fault) = if is_cancelled_promise (slice_get s.promises n) then s else settled s n o fault
 changed s Stop = record s { stopped = true }
@@ -141,11 +141,11 @@ abbrev pub after_all : {G C O : Type 0} → State G C O → List (Event G C O) �
 after_all s [] = s
 after_all s (e ∷ es) = after_all (after s e) es
 
--- The event may happen in the state: `forks` says which goal a theory may fork after so many others, `closes` which value may close it after so many forks, `may` which outcome a goal may have, and `is_fault` which outcomes are faults.
-abbrev pub Allows : {G C O : Type 0} → (forks : ℕ → ℕ → G → Type 0) → (closes : ℕ → ℕ → C → Type 0) → (may : G → O → Type 0) → (is_fault : O → Bool) → State G C O → Event G C O → Type 0
+-- The event may happen in the state: `forks` says which goal a theory may fork after so many others under which command, `closes` which value may close it after so many forks, `may` which outcome a goal may have, and `is_fault` which outcomes are faults.
+abbrev pub Allows : {G C O : Type 0} → (forks : ℕ → ℕ → ℕ → G → Type 0) → (closes : ℕ → ℕ → C → Type 0) → (may : G → O → Type 0) → (is_fault : O → Bool) → State G C O → Event G C O → Type 0
 Allows forks closes may is_fault s (TakeTheory i) = (s.stopped ≡ false) × ((cs : _) × IsNextTheory s i cs)
 Allows forks closes may is_fault s (TakeProof n) = (s.stopped ≡ false) × NoTheoryReady s × ((p : _) × IsNextPromise s n p)
-Allows forks closes may is_fault s (Fork i g) = (k : ℕ) × (theory_at s.theories i ≡ Some (Running k)) × forks i k g
+Allows forks closes may is_fault s (Fork i c g) = (k : ℕ) × (theory_at s.theories i ≡ Some (Running k)) × forks i k c g
 Allows forks closes may is_fault s (CloseTheory i c) = (k : ℕ) × (theory_at s.theories i ≡ Some (Running k)) × closes i k c
 Allows forks closes may is_fault s (Deliver n o fault) = (p : _) × Stands s n p × IsOut s.history n × may p.goal o × (fault ≡ is_fault o)
 Allows forks closes may is_fault s Stop = stops s.history < s.opening.workers
@@ -154,19 +154,19 @@ Allows forks closes may is_fault s Stop = stops s.history < s.opening.workers
 abbrev pub IsReply : {G C O : Type 0} → State G C O → Event G C O → Reply G C → Type 0
 IsReply s (TakeTheory i) reply = (cs : _) × IsReady s i cs × (reply ≡ GivesTheory i cs)
 IsReply s (TakeProof n) reply = (p : _) × Stands s n p × (reply ≡ GivesProof n p.goal)
-IsReply s (Fork i g) reply = reply ≡ Numbered (length s.promises)
+IsReply s (Fork i c g) reply = reply ≡ Numbered (length s.promises)
 IsReply s (CloseTheory i c) reply = reply ≡ Done
 IsReply s (Deliver n o fault) reply = reply ≡ (if is_cancelled_promise (slice_get s.promises n) then Dropped else Kept)
 IsReply s Stop reply = reply ≡ Done
 
 -- One step: the event may happen, this is its answer, and this is the state after it.
-pub record IsStep {G C O : Type 0} (forks : ℕ → ℕ → G → Type 0) (closes : ℕ → ℕ → C → Type 0) (may : G → O → Type 0) (is_fault : O → Bool) (old : State G C O) (e : Event G C O) (reply : Reply G C) (new : State G C O) : Type 0 where
+pub record IsStep {G C O : Type 0} (forks : ℕ → ℕ → ℕ → G → Type 0) (closes : ℕ → ℕ → C → Type 0) (may : G → O → Type 0) (is_fault : O → Bool) (old : State G C O) (e : Event G C O) (reply : Reply G C) (new : State G C O) : Type 0 where
   pub allowed : Allows forks closes may is_fault old e
   pub answered : IsReply old e reply
   pub state : new ≡ after old e
 
 -- The events are a legal run from the state: each may happen in the state that those before it leave.
-abbrev pub IsRunFrom : {G C O : Type 0} → (forks : ℕ → ℕ → G → Type 0) → (closes : ℕ → ℕ → C → Type 0) → (may : G → O → Type 0) → (is_fault : O → Bool) → State G C O → List (Event G C O) → Type 0
+abbrev pub IsRunFrom : {G C O : Type 0} → (forks : ℕ → ℕ → ℕ → G → Type 0) → (closes : ℕ → ℕ → C → Type 0) → (may : G → O → Type 0) → (is_fault : O → Bool) → State G C O → List (Event G C O) → Type 0
 IsRunFrom forks closes may is_fault s [] = Unit {0}
 IsRunFrom forks closes may is_fault s (e ∷ es) = Allows forks closes may is_fault s e × IsRunFrom forks closes may is_fault (after s e) es
 

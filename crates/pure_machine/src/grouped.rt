@@ -1,10 +1,10 @@
 //! Promises with their groups.
-ghost use Rattle.std.specs.Prelude.{◌≡◌, ◌≢◌, ◌<◌, ◌++◌, [], ◌∷◌, ℕ, length, false, Some, IfOk, MatchBool, MatchOption, MatchResult, slice_get, count_by, if◌then◌else◌};
+ghost use Rattle.std.specs.Prelude.{◌≡◌, ◌≢◌, ◌<◌, ◌++◌, [], ◌∷◌, ℕ, length, false, Some, IfOk, MatchBool, MatchOption, MatchResult, slice_get, count_by};
 ghost use Rattle.pure_machine.specs.Calls.{count_cancelled};
-ghost use Rattle.pure_machine.specs.State.{Fork, Ready, Taken, Cancelled, with_standing, is_theory_cancelled, marked};
+ghost use Rattle.pure_machine.specs.State.{Fork, Ready, Taken, with_standing, is_theory_cancelled, marked};
 ghost use Rattle.pure_machine.specs.Step.{NoPromiseReadyBelow, is_cancelled_promise};
 ghost use Rattle.pure_machine.specs.Seen.{seen_standing};
-ghost use Rattle.pure_machine.specs.Parts.{entered, NoneTaken, MayStand, regrouped, all_regrouped};
+ghost use Rattle.pure_machine.specs.Parts.{entered, made_promise, NoneTaken, MayStand, regrouped, all_regrouped};
 
 use crate::buckets::Buckets;
 use crate::groups::Groups;
@@ -117,19 +117,22 @@ impl<G: Drop, O: Drop> Grouped<G, O> {
         &mut self,
         log: &mut Log<G, C, O>,
         theory: u32,
+        command: u32,
         goal: Arc<G>,
         told: Arc<G>,
         cancelled: bool,
     ) -> Result<u32, AllocError>
         requires { cancelled ≡ is_theory_cancelled self.old.marks theory }
         ensures { MatchResult result (λ n. (n ≡ length self.old.list)
-            × (self.new ≡ record { list = self.old.list ++ record { theory = theory; goal = goal.value; standing = if cancelled then Cancelled else Ready } ∷ []; marks = self.old.marks })
-            × (log.new ≡ entered log.old (Fork theory told.value)))
+            × (self.new ≡ record { list = self.old.list ++ made_promise theory command goal.value cancelled ∷ []; marks = self.old.marks })
+            × (log.new ≡ entered log.old (Fork theory command told.value)))
             (λ _. (self.new ≡ self.old) × (log.new ≡ log.old)) }
     {
         let next = self.promises.count();
         self.members.put(theory as usize, next)?;
-        let number = self.promises.fork(log, theory, goal, told, cancelled)?;
+        let number = self
+            .promises
+            .fork(log, theory, command, goal, told, cancelled)?;
         Ok(number)
     }
 

@@ -217,10 +217,10 @@ impl<G: Drop, C: Drop, O: Drop> Machine<G, C, O> {
         self.stopped = true;
     }
 
-    /// A promise more, of a theory that runs.
-    pub fn fork(&mut self, theory: u32, goal: G) -> Result<u32, AllocError>
+    /// A promise more, of a command of a theory that runs.
+    pub fn fork(&mut self, theory: u32, command: u32, goal: G) -> Result<u32, AllocError>
         requires { (k : ℕ) × (theory_at self.old.theories theory ≡ Some (Running k)) }
-        ensures { MatchResult result (λ n. (n ≡ length self.old.promises) × (self.new ≡ after self.old (Fork theory goal))) (λ _. self.new ≡ self.old) }
+        ensures { MatchResult result (λ n. (n ≡ length self.old.promises) × (self.new ≡ after self.old (Fork theory command goal))) (λ _. self.new ≡ self.old) }
     {
         let forks = self.forks(theory);
         if forks == u32::MAX {
@@ -231,7 +231,7 @@ impl<G: Drop, C: Drop, O: Drop> Machine<G, C, O> {
         let cancelled = self.promises.is_theory_cancelled(theory);
         let number = self
             .promises
-            .fork(&mut self.log, theory, goal, told, cancelled)?;
+            .fork(&mut self.log, theory, command, goal, told, cancelled)?;
         self.theories.run(theory, forks + 1);
         Ok(number)
     }

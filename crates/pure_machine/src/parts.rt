@@ -35,10 +35,11 @@ pub enum Standing<O> {
     Cancelled,
 }
 
-/// A promise: the theory whose command forked it, its goal, and what became of it.
+/// A promise: the theory whose command forked it, the place of this command from 0, its goal, and what became of it.
 #[derive(Drop)]
 pub struct Promise<G, O> {
     pub theory: u32,
+    pub command: u32,
     pub goal: Arc<G>,
     pub standing: Standing<O>,
 }
@@ -50,7 +51,7 @@ impl<G, O> Model for Promise<G, O> {
 
     ghost use Rattle.pure_machine.specs.Seen.{seen_standing};
 
-    ghost view = { λ p. record { theory = p.theory; goal = p.goal.value; standing = seen_standing p.standing } };
+    ghost view = { λ p. record { theory = p.theory; command = p.command; goal = p.goal.value; standing = seen_standing p.standing } };
 }
 
 /// What happens to a machine.
@@ -64,6 +65,7 @@ pub enum Event<G, C, O> {
     },
     Fork {
         theory: u32,
+        command: u32,
         goal: Arc<G>,
     },
     CloseTheory {

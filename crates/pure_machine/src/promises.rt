@@ -3,7 +3,7 @@ ghost use Rattle.std.specs.Prelude.{◌≡◌, ◌≢◌, ◌<◌, ◌≤◌, �
 ghost use Rattle.pure_machine.specs.State.{Fork, Ready, Taken, Cancelled, with_standing, cancelled_promise};
 ghost use Rattle.pure_machine.specs.Step.{NoPromiseReadyBelow, is_cancelled_promise};
 ghost use Rattle.pure_machine.specs.Seen.{seen_standing};
-ghost use Rattle.pure_machine.specs.Parts.{entered, NoneTaken, changed_at, all_changed};
+ghost use Rattle.pure_machine.specs.Parts.{entered, made_promise, NoneTaken, changed_at, all_changed};
 
 use crate::groups::Groups;
 use crate::log::Log;
@@ -95,7 +95,7 @@ fn some_taken<G, O>(promises: &[Promise<G, O>]) -> bool
 
 /// Lets the promise stand otherwise.
 fn stand_otherwise<G, O: Drop>(promise: &mut Promise<G, O>, standing: Standing<O>)
-    ensures { promise.new ≡ record { theory = promise.old.theory; goal = promise.old.goal; standing = seen_standing standing } }
+    ensures { promise.new ≡ record { theory = promise.old.theory; command = promise.old.command; goal = promise.old.goal; standing = seen_standing standing } }
 {
     promise.standing = standing;
 }
@@ -219,13 +219,14 @@ impl<G: Drop, O: Drop> Promises<G, O> {
         &mut self,
         log: &mut Log<G, C, O>,
         theory: u32,
+        command: u32,
         goal: Arc<G>,
         told: Arc<G>,
         cancelled: bool,
     ) -> Result<u32, AllocError>
         ensures { MatchResult result
-            (λ n. (n ≡ length self.old) × (self.new ≡ self.old ++ record { theory = theory; goal = goal.value; standing = if cancelled then Cancelled else Ready } ∷ [])
-            × (log.new ≡ entered log.old (Fork theory told.value)))
+            (λ n. (n ≡ length self.old) × (self.new ≡ self.old ++ made_promise theory command goal.value cancelled ∷ [])
+            × (log.new ≡ entered log.old (Fork theory command told.value)))
             (λ _. (self.new ≡ self.old) × (log.new ≡ log.old)) }
     {
         let number = self.list.len();
@@ -233,9 +234,14 @@ impl<G: Drop, O: Drop> Promises<G, O> {
             return Err(AllocError);
         }
         self.list.reserve(1)?;
-        log.enter(Event::Fork { theory, goal: told })?;
+        log.enter(Event::Fork {
+            theory,
+            command,
+            goal: told,
+        })?;
         self.list.push_reserved(Promise {
             theory,
+            command,
             goal,
             standing: standing_of(cancelled),
         });

@@ -12,8 +12,8 @@ use Rattle.pure_pool.proofs.SeatedLaws.{sees-hand, takes-theory, takes-proof, fo
 use Rattle.pure_plays.specs.Hands.{HasInHand}
 
 -- the work leaves all to its worker
-abbrev Forks : {W : Type 0} → W → ℕ → ℕ → Bool → Type 0
-Forks s i n g = Unit {0}
+abbrev Forks : {W : Type 0} → W → ℕ → ℕ → ℕ → Bool → Type 0
+Forks s i n c g = Unit {0}
 
 abbrev Closes : {W : Type 0} → W → ℕ → ℕ → ℕ → Type 0
 Closes s i n c = Unit {0}
@@ -59,8 +59,8 @@ module _ {W : Type 0} (shape : W → List (List ℕ)) (v w : Sight W Bool ℕ Bo
   idle-taken h t = still-in_hand Nothing h t.0
 
   -- something was entered
-  pub forked-in_hand : (i : ℕ) (g : Bool) (n : ℕ) → HasInHand v (Theory i) → IsForked v w i g n → HasInHand w (Theory i)
-  forked-in_hand i g n h t = (forks-theory shape Forks Closes May faults v w t.0 i g h true_w t.1).0
+  pub forked-in_hand : (i c : ℕ) (g : Bool) (n : ℕ) → HasInHand v (Theory i) → IsForked v w i c g n → HasInHand w (Theory i)
+  forked-in_hand i c g n h t = (forks-theory shape Forks Closes May faults v w t.0 i c g h true_w t.1).0
 
   pub closed-in_hand : (i c : ℕ) → HasInHand v (Theory i) → IsEntered v w (CloseTheory i c) → HasInHand w Nothing
   closed-in_hand i c h t = closes-theory shape Forks Closes May faults v w t.0 i c h true_w t.1

@@ -8,7 +8,7 @@ use Rattle.pure_plays.specs.declared.hands.Hand.TheVariants as hand_code
 
 -- The seat has this in hand, at a work of which each goal may be forked, each value closes, each outcome may come, and those are faults that are true.
 abbrev pub HasInHand : {W : Type 0} → Sight W Bool ℕ Bool → Held → Type 0
-HasInHand v held = Has (λ s i n g. Unit {0}) (λ s i n c. Unit {0}) (λ s g o. Unit {0}) (λ s o. o) v held
+HasInHand v held = Has (λ s i n c g. Unit {0}) (λ s i n c. Unit {0}) (λ s g o. Unit {0}) (λ s o. o) v held
 
 -- It has in hand what is remembered; nothing is claimed of a worker that is over.
 abbrev pub IsInHand : {W : Type 0} → Sight W Bool ℕ Bool → hand.Hand → Type 0

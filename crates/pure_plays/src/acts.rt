@@ -41,10 +41,11 @@ pub enum Command {
     Forks(Act),
 }
 
-/// The commands of a theory that are left, the last first.
+/// The commands of a theory that are left, the last first, and how many were run.
 #[derive(Drop)]
 pub struct Commands {
     pub left: Vec<Command>,
+    pub count: u32,
 }
 
 /// Theories with such commands. Who waits gives up after so many looks; a gate at which each proof that was delivered waits, too.
@@ -174,7 +175,7 @@ impl Work for Acts {
 
     ghost shape = { λ s. s.session.shape.items };
 
-    ghost forks = { λ s i n g. Unit {0} };
+    ghost forks = { λ s i n c g. Unit {0} };
 
     ghost closes = { λ s i n c. Unit {0} };
 
@@ -196,14 +197,17 @@ impl Work for Acts {
             None => Err(AllocError),
             Some(commands) => Ok(Commands {
                 left: commands.clone()?,
+                count: 0,
             }),
         }
     }
 
     fn command(&self, run: &mut Commands) -> Result<Turn<Act, u32>, AllocError> {
+        let command = run.count;
+        run.count = command.wrapping_add(1);
         match run.left.pop() {
             None => Ok(Turn::Closed { closed: 7 }),
-            Some(Command::Forks(goal)) => Ok(Turn::Forked { goal }),
+            Some(Command::Forks(goal)) => Ok(Turn::Forked { command, goal }),
             Some(Command::Acts(act)) => {
                 self.act(act);
                 Ok(Turn::Declared)

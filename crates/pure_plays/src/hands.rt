@@ -19,11 +19,11 @@ pub enum Hand {
     Over,
 }
 
-/// A call of a board, of what is in hand: a fork has its goal, a close its value, and a delivery its outcome.
+/// A call of a board, of what is in hand: a fork has its command and its goal, a close its value, and a delivery its outcome.
 #[derive(Clone, Copy)]
 pub enum Call {
     Take,
-    Fork(bool),
+    Fork(u32, bool),
     Close(u32),
     Poll,
     Deliver(bool),
@@ -117,12 +117,13 @@ fn take_over<R: Wait>(rt: &R, board: &Board<Session>, seat: &mut Seat<Session>) 
     }
 }
 
-/// A promise more, of the theory in hand.
+/// A promise more, of a command of the theory in hand.
 fn fork<R: Wait>(
     rt: &R,
     board: &Board<Session>,
     seat: &mut Seat<Session>,
     theory: u32,
+    command: u32,
     goal: bool,
 ) -> Reply
     requires board { seat.old.plan ≡ board.now }
@@ -130,7 +131,7 @@ fn fork<R: Wait>(
     ensures seat { IsSameSeat seat.old seat.new }
     ensures hand { HasInHand seat.new (Theory theory) }
 {
-    match board.fork(rt, seat, theory, goal) {
+    match board.fork(rt, seat, theory, command, goal) {
         Err(_) => Reply::NoMemory,
         Ok(number) => Reply::Forked(number),
     }
@@ -234,8 +235,8 @@ pub fn make<R: Wait>(
     match (call, hand) {
         (Call::Take, Hand::Nothing) => take(rt, board, seat),
         (Call::Take, Hand::Over) => take_over(rt, board, seat),
-        (Call::Fork(goal), Hand::Theory { index }) => Answer {
-            reply: fork(rt, board, seat, index, goal),
+        (Call::Fork(command, goal), Hand::Theory { index }) => Answer {
+            reply: fork(rt, board, seat, index, command, goal),
             hand,
         },
         (Call::Close(value), Hand::Theory { index }) => close(rt, board, seat, index, value),

@@ -113,7 +113,7 @@ impl Work for Searches {
 
     ghost shape = { λ s. s.session.shape.items };
 
-    ghost forks = { λ s i n g. Unit {0} };
+    ghost forks = { λ s i n c g. Unit {0} };
 
     ghost closes = { λ s i n c. Unit {0} };
 

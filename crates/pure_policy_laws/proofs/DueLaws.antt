@@ -202,7 +202,7 @@ module _ {G C O : Type 0} (is_fault : O → Bool) where
       none_yet [] = tt
       none_yet (c ∷ cs) = ((let none = tally-with (λ i x. has_theory c.group i) begun groups in omega arith), none_yet cs)
 
-  module _ (forks : ℕ → ℕ → G → Type 0) (closes : ℕ → ℕ → C → Type 0) (may : G → O → Type 0) (o : Opening) (s : State G C O) (e : Event G C O) (a : Allows forks closes may is_fault s e) (kept : IsKept forks closes s) (told : IsTold s) (dead : AreGone s) (h : IsPolicied o s) where
+  module _ (forks : ℕ → ℕ → ℕ → G → Type 0) (closes : ℕ → ℕ → C → Type 0) (may : G → O → Type 0) (o : Opening) (s : State G C O) (e : Event G C O) (a : Allows forks closes may is_fault s e) (kept : IsKept forks closes s) (told : IsTold s) (dead : AreGone s) (h : IsPolicied o s) where
     place-of : (i : ℕ) → IsAmong (length o.shape) i → HasPlace s.cancelled.theories i
     place-of i among = (among.0, (let same = h.places in let high = among.1 in omega arith))
 
@@ -232,7 +232,7 @@ module _ {G C O : Type 0} (is_fault : O → Bool) where
 
     among-so : (n : ℕ) (q : Promise G O) → Became s e n q → IsAmong (length o.shape) q.theory
     among-so n q (stayed at leaves) = h.among n q at
-    among-so n q (was_forked i g what last new) = subst (IsAmong (length o.shape)) (ap (λ x. x.theory) new) (stage_of i (fork-runs forks closes may is_fault s e a kept told i g what))
+    among-so n q (was_forked i m g what last new) = subst (IsAmong (length o.shape)) (ap (λ x. x.theory) new) (stage_of i (fork-runs forks closes may is_fault s e a kept told i m g what))
       where
         stage_of : (j : ℕ) → ((k : ℕ) × (theory_at s.theories j ≡ Some (Running k))) → IsAmong (length o.shape) j
         stage_of zero run = absurd (none-some (Running run.0) run.1)
@@ -243,7 +243,7 @@ module _ {G C O : Type 0} (is_fault : O → Bool) where
 
     gone-so : Scores is_fault s e → (n : ℕ) (q : Promise G O) → Became s e n q → q.standing ≡ Cancelled → is_theory_cancelled (after s e).cancelled q.theory ≡ true
     gone-so score n q (stayed at leaves) is = marks-stay score q.theory (h.among n q at) (h.gone n q at is)
-    gone-so score n q (was_forked i g what last new) is = ap (λ x. is_theory_cancelled (after s x).cancelled q.theory) what ∙ ap (is_theory_cancelled s.cancelled) (sym (ap (λ x. x.theory) new)) ∙ by_flag (is_theory_cancelled s.cancelled i) refl (ap (λ x. x.standing) new ∙ is)
+    gone-so score n q (was_forked i m g what last new) is = ap (λ x. is_theory_cancelled (after s x).cancelled q.theory) what ∙ ap (is_theory_cancelled s.cancelled) (sym (ap (λ x. x.theory) new)) ∙ by_flag (is_theory_cancelled s.cancelled i) refl (ap (λ x. x.standing) new ∙ is)
       where
         by_flag : (b : Bool) → is_theory_cancelled s.cancelled i ≡ b → ◌≡◌ {A = Standing O} (if b then Cancelled else Ready) Cancelled → is_theory_cancelled s.cancelled i ≡ true
         by_flag true e two = e
@@ -301,10 +301,10 @@ module _ {G C O : Type 0} (is_fault : O → Bool) where
         score = scores forks closes may is_fault s e a told
 
   -- after a legal run
-  pub policied-after_all : (forks : ℕ → ℕ → G → Type 0) (closes : ℕ → ℕ → C → Type 0) (may : G → O → Type 0) (o : Opening) (s : State G C O) (es : List (Event G C O)) → IsRunFrom forks closes may is_fault s es → IsKept forks closes s → IsTold s → AreGone s → IsPolicied o s → IsPolicied o (after_all s es)
+  pub policied-after_all : (forks : ℕ → ℕ → ℕ → G → Type 0) (closes : ℕ → ℕ → C → Type 0) (may : G → O → Type 0) (o : Opening) (s : State G C O) (es : List (Event G C O)) → IsRunFrom forks closes may is_fault s es → IsKept forks closes s → IsTold s → AreGone s → IsPolicied o s → IsPolicied o (after_all s es)
   policied-after_all forks closes may o s [] run kept told dead h = h
   policied-after_all forks closes may o s (e ∷ es) run kept told dead h =
       policied-after_all forks closes may o (after s e) es run.1 (kept-after forks closes may is_fault s e run.0 kept) (told-after forks closes may is_fault s e run.0 kept told) (gone-after forks closes may is_fault s e run.0 dead) (policied-after forks closes may o s e run.0 kept told dead h)
 
-  pub policied-legal : (forks : ℕ → ℕ → G → Type 0) (closes : ℕ → ℕ → C → Type 0) (may : G → O → Type 0) (o : Opening) (es : List (Event G C O)) → IsRunFrom forks closes may is_fault (opened o) es → IsPolicied o (after_all (opened o) es)
+  pub policied-legal : (forks : ℕ → ℕ → ℕ → G → Type 0) (closes : ℕ → ℕ → C → Type 0) (may : G → O → Type 0) (o : Opening) (es : List (Event G C O)) → IsRunFrom forks closes may is_fault (opened o) es → IsPolicied o (after_all (opened o) es)
   policied-legal forks closes may o es run = policied-after_all forks closes may o (opened o) es run (kept-opened forks closes o) (told-opened {G = G} {C = C} {O = O} o) (gone-opened {G = G} {C = C} {O = O} o) (policied-opened o)

@@ -74,7 +74,7 @@ settled-kept Taken over is = absurd over
 settled-kept (Settled x) over is = refl
 settled-kept Cancelled over is = absurd (cc)
 
-module _ {G C O : Type 0} (forks : ℕ → ℕ → G → Type 0) (closes : ℕ → ℕ → C → Type 0) (may : G → O → Type 0) (is_fault : O → Bool) (o : Opening) (acts : List (ℕ × Event G C O)) (shaped : IsShape o.shape) (r : IsNumberedRun forks closes may is_fault o acts) (orderly : IsOrderly o acts) where
+module _ {G C O : Type 0} (forks : ℕ → ℕ → ℕ → G → Type 0) (closes : ℕ → ℕ → C → Type 0) (may : G → O → Type 0) (is_fault : O → Bool) (o : Opening) (acts : List (ℕ × Event G C O)) (shaped : IsShape o.shape) (r : IsNumberedRun forks closes may is_fault o acts) (orderly : IsOrderly o acts) where
   -- with one worker nothing runs where something is taken
   same-seat : (x y : ℕ) → o.workers ≡ 1 → x < o.workers → y < o.workers → x ≡ y
   same-seat x y one low_x low_y = omega arith

@@ -29,7 +29,7 @@ both false b e = absurd (cc)
 abbrev pub gone_of : {G O : Type 0} → (theory : ℕ) → Promise G O → Bool
 gone_of i q = is_cancelled_standing q.standing && nat_eq q.theory i
 
-module _ {G C O : Type 0} (forks : ℕ → ℕ → G → Type 0) (closes : ℕ → ℕ → C → Type 0) (may : G → O → Type 0) (is_fault : O → Bool) (o : Opening) (acts : List (ℕ × Event G C O)) (r : IsNumberedRun forks closes may is_fault o acts) (orderly : IsOrderly o acts) where
+module _ {G C O : Type 0} (forks : ℕ → ℕ → ℕ → G → Type 0) (closes : ℕ → ℕ → C → Type 0) (may : G → O → Type 0) (is_fault : O → Bool) (o : Opening) (acts : List (ℕ × Event G C O)) (r : IsNumberedRun forks closes may is_fault o acts) (orderly : IsOrderly o acts) where
   module _ (before after : List (ℕ × Event G C O)) (c m : ℕ) (cut : acts ≡ before ++ (c, TakeProof m) ∷ after) where
     whole : IsNumberedRun forks closes may is_fault o (before ++ (c, TakeProof m) ∷ after)
     whole = subst (IsNumberedRun forks closes may is_fault o) cut r

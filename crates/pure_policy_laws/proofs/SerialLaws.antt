@@ -84,7 +84,7 @@ module _ {G O : Type 0} where
   fronted-all h (suc n) [] f = refl
   fronted-all h (suc n) (x ∷ xs) f = ap (λ k. one_if (passes h x.theory x.standing) + k) (fronted-all h n xs (λ k z low at. f (suc k) z (omega arith) at))
 
-module _ {G C O : Type 0} (forks : ℕ → ℕ → G → Type 0) (closes : ℕ → ℕ → C → Type 0) (may : G → O → Type 0) (is_fault : O → Bool) (o : Opening) (shaped : IsShape o.shape) where
+module _ {G C O : Type 0} (forks : ℕ → ℕ → ℕ → G → Type 0) (closes : ℕ → ℕ → C → Type 0) (may : G → O → Type 0) (is_fault : O → Bool) (o : Opening) (shaped : IsShape o.shape) where
   module _ (s : State G C O) (e : Event G C O) (a : Allows forks closes may is_fault s e) (kept : IsKept forks closes s) (told : IsTold s) (dead : AreGone s) (due : IsPolicied {G = G} {C = C} is_fault o s) (rest : IsTake e → IsResting s) (h : IsSerial is_fault o s) where
     due-after : IsPolicied {G = G} {C = C} is_fault o (after s e)
     due-after = policied-after {G = G} {C = C} is_fault forks closes may o s e a kept told dead due
@@ -100,9 +100,9 @@ module _ {G C O : Type 0} (forks : ℕ → ℕ → G → Type 0) (closes : ℕ �
         (there.0, there.1, subst (IsLater there.0) (same_Some later.0 q (sym later.1 ∙ at)) later.2)
 
     -- it is new, or was there
-    old-or-new : (n : ℕ) (q : Promise G O) → Became s e n q → (n < length s.promises) ⊎ ((i : ℕ) × (g : G) × (e ≡ Fork i g) × (n ≡ length s.promises) × (q.theory ≡ i))
+    old-or-new : (n : ℕ) (q : Promise G O) → Became s e n q → (n < length s.promises) ⊎ ((i : ℕ) × (m : ℕ) × (g : G) × (e ≡ Fork i m g) × (n ≡ length s.promises) × (q.theory ≡ i))
     old-or-new n q (stayed at leaves) = inl (slice_get_within s.promises n q at)
-    old-or-new n q (was_forked i g what last new) = inr (i, g, what, last, sym (ap (λ x. x.theory) new))
+    old-or-new n q (was_forked i m g what last new) = inr (i, m, g, what, last, sym (ap (λ x. x.theory) new))
     old-or-new n q (was_taken p what at new) = inl (slice_get_within s.promises n p at)
     old-or-new n q (was_settled p x f what at lives new) = inl (slice_get_within s.promises n p at)
     old-or-new n q (was_cancelled p other m x f what apart there lives at unsettled marked new) = inl (slice_get_within s.promises n p at)
@@ -113,7 +113,7 @@ module _ {G C O : Type 0} (forks : ℕ → ℕ → G → Type 0) (closes : ℕ �
     -- what is begun after the event was begun before it, or is taken
     order-so : (n m : ℕ) (p q : Promise G O) → n < m → Stands (after s e) n p → Became s e m q → HasBegun q.standing → IsOver p.standing
     order-so n m p q low at_p (stayed old leaves) begun = let before = was n p at_p (let within = slice_get_within s.promises m q old in omega arith) in still-over before.0 p before.2 (h.order n m before.0 q low before.1 old begun)
-    order-so n m p q low at_p (was_forked i g what last new) begun = absurd (new-not_begun O (is_theory_cancelled s.cancelled i) (subst HasBegun (sym (ap (λ x. x.standing) new)) begun))
+    order-so n m p q low at_p (was_forked i k g what last new) begun = absurd (new-not_begun O (is_theory_cancelled s.cancelled i) (subst HasBegun (sym (ap (λ x. x.standing) new)) begun))
     order-so n m p q low at_p (was_taken q0 what old new) begun =
         let before = was n p at_p (let within = slice_get_within s.promises m q0 old in omega arith) in
         still-over before.0 p before.2 (by_standing before.0 before.1 before.0.standing refl)
@@ -134,10 +134,10 @@ module _ {G C O : Type 0} (forks : ℕ → ℕ → G → Type 0) (closes : ℕ �
     theory-there (suc i) among = element_there s.theories i (let same = due.stages in let high = among.1 in omega arith)
 
     -- a promise that was there is of no later theory than one that runs
-    not-later : (n i : ℕ) (g : G) (p : Promise G O) → e ≡ Fork i g → Stands s n p → p.theory ≤ i
-    not-later n i g p what at = elim (cases_lt i p.theory) [
+    not-later : (n i m : ℕ) (g : G) (p : Promise G O) → e ≡ Fork i m g → Stands s n p → p.theory ≤ i
+    not-later n i m g p what at = elim (cases_lt i p.theory) [
       | inl late ↦ absurd (
-          let run = fork-runs forks closes may is_fault s e a kept told i g what in
+          let run = fork-runs forks closes may is_fault s e a kept told i m g what in
           let there = theory-there p.theory (due.among n p at) in
           h.moved n p at (there.1 ∙ ap Some (h.alone i p.theory run.0 there.0 late run.1 there.1)))
       | inr early ↦ early
@@ -154,11 +154,11 @@ module _ {G C O : Type 0} (forks : ℕ → ℕ → G → Type 0) (closes : ℕ �
           omega arith)
       | inr new ↦ elim (cases_lt n m) [
         | inl below ↦ (
-            let last = new.3 in
+            let last = new.4 in
             let one = was n p at_p (omega arith) in
-            let before = not-later n new.0 new.1 one.0 new.2 one.1 in
+            let before = not-later n new.0 new.1 new.2 one.0 new.3 one.1 in
             let same_p = one.2.theory_is in
-            let same_q = new.4 in
+            let same_q = new.5 in
             omega arith)
         | inr above ↦ (
             let place : n ≡ m = omega arith in
@@ -170,7 +170,7 @@ module _ {G C O : Type 0} (forks : ℕ → ℕ → G → Type 0) (closes : ℕ �
     waits-before : (i : ℕ) → Came s e i Waiting → theory_at s.theories i ≡ Some Waiting
     waits-before i (left_so at leaves) = at
     waits-before i (began what new) = absurd (cc)
-    waits-before i (went_on g what new) = absurd (let run = fork-runs forks closes may is_fault s e a kept told i g what in let two : ◌≡◌ {A = Progress C} (Running (run.0 + 1)) Waiting = sym (ap forked_once run.1) ∙ new in cc)
+    waits-before i (went_on m g what new) = absurd (let run = fork-runs forks closes may is_fault s e a kept told i m g what in let two : ◌≡◌ {A = Progress C} (Running (run.0 + 1)) Waiting = sym (ap forked_once run.1) ∙ new in cc)
     waits-before i (ended c what new) = absurd (let run = close-runs forks closes may is_fault s e a kept told i c what in let two : ◌≡◌ {A = Progress C} (Closed run.0 c) Waiting = sym (ap (λ x. closed_by x c) run.1) ∙ new in cc)
 
     moved-so : (n : ℕ) (q : Promise G O) → Stands (after s e) n q → theory_at (after s e).theories q.theory ≢ Some Waiting
@@ -178,7 +178,7 @@ module _ {G C O : Type 0} (forks : ℕ → ℕ → G → Type 0) (closes : ℕ �
         let before : theory_at s.theories q.theory ≡ Some Waiting = waits-before q.theory (came s e q.theory Waiting waits) in
         elim (old-or-new n q (became-by n q at)) [
           | inl within ↦ (let one = was n q at within in h.moved n one.0 one.1 (ap (theory_at s.theories) (sym one.2.theory_is) ∙ before))
-          | inr new ↦ (let run = fork-runs forks closes may is_fault s e a kept told new.0 new.1 new.2 in no_wait run.0 (same_Some (Running run.0) Waiting (sym run.1 ∙ ap (theory_at s.theories) (sym new.4) ∙ before)))
+          | inr new ↦ (let run = fork-runs forks closes may is_fault s e a kept told new.0 new.1 new.2 new.3 in no_wait run.0 (same_Some (Running run.0) Waiting (sym run.1 ∙ ap (theory_at s.theories) (sym new.5) ∙ before)))
         ]
 
     -- below the theory that is taken none waits
@@ -218,25 +218,25 @@ module _ {G C O : Type 0} (forks : ℕ → ℕ → G → Type 0) (closes : ℕ �
     fronts-so i j q low waits (began what new) = absurd (
         let next : (s.stopped ≡ false) × ((cs : List C) × IsNextTheory s j cs) = subst (Allows forks closes may is_fault s) what a in
         none-waits j (subst (λ x. NoneReadyBelow x.shape s.theories j) due.opening_is next.1.1.1) (rest (subst IsTake (sym what) tt)) j i low low (waits-before i (came s e i Waiting waits)))
-    fronts-so i j q low waits (went_on g what new) = absurd (let run = fork-runs forks closes may is_fault s e a kept told j g what in no_wait run.0 (h.fronts i j (Running run.0) low (waits-before i (came s e i Waiting waits)) run.1))
+    fronts-so i j q low waits (went_on m g what new) = absurd (let run = fork-runs forks closes may is_fault s e a kept told j m g what in no_wait run.0 (h.fronts i j (Running run.0) low (waits-before i (came s e i Waiting waits)) run.1))
     fronts-so i j q low waits (ended c what new) = absurd (let run = close-runs forks closes may is_fault s e a kept told j c what in no_wait run.0 (h.fronts i j (Running run.0) low (waits-before i (came s e i Waiting waits)) run.1))
 
     alone-by : (i j k : ℕ) (q : Progress C) → i < j → theory_at s.theories i ≡ Some (Running k) → Came s e j q → q ≡ Waiting
     alone-by i j k q low run_i (left_so at leaves) = h.alone i j k q low run_i at
     alone-by i j k q low run_i (began what new) = absurd ((rest (subst IsTake (sym what) tt)).theories i k run_i)
-    alone-by i j k q low run_i (went_on g what new) = absurd (let run = fork-runs forks closes may is_fault s e a kept told j g what in no_wait run.0 (h.alone i j k (Running run.0) low run_i run.1))
+    alone-by i j k q low run_i (went_on m g what new) = absurd (let run = fork-runs forks closes may is_fault s e a kept told j m g what in no_wait run.0 (h.alone i j k (Running run.0) low run_i run.1))
     alone-by i j k q low run_i (ended c what new) = absurd (let run = close-runs forks closes may is_fault s e a kept told j c what in no_wait run.0 (h.alone i j k (Running run.0) low run_i run.1))
 
     alone-begun : (i j : ℕ) (q : Progress C) → i < j → e ≡ TakeTheory i → Came s e j q → q ≡ Waiting
     alone-begun i j q low what (left_so at leaves) = h.fronts i j q low (take-waits forks closes may is_fault s e a kept told i what) at
     alone-begun i j q low what (began also new) = absurd (let two : ◌≡◌ {A = Event G C O} (TakeTheory i) (TakeTheory j) = sym what ∙ also in let same : i ≡ j = cc in omega arith)
-    alone-begun i j q low what (went_on g also new) = absurd (let two : ◌≡◌ {A = Event G C O} (TakeTheory i) (Fork j g) = sym what ∙ also in cc)
+    alone-begun i j q low what (went_on m g also new) = absurd (let two : ◌≡◌ {A = Event G C O} (TakeTheory i) (Fork j m g) = sym what ∙ also in cc)
     alone-begun i j q low what (ended c also new) = absurd (let two : ◌≡◌ {A = Event G C O} (TakeTheory i) (CloseTheory j c) = sym what ∙ also in cc)
 
     alone-so : (i j k : ℕ) (q : Progress C) → i < j → Came s e i (Running k) → Came s e j q → q ≡ Waiting
     alone-so i j k q low (left_so at leaves) there = alone-by i j k q low at there
     alone-so i j k q low (began what new) there = alone-begun i j q low what there
-    alone-so i j k q low (went_on g what new) there = let run = fork-runs forks closes may is_fault s e a kept told i g what in alone-by i j run.0 q low run.1 there
+    alone-so i j k q low (went_on m g what new) there = let run = fork-runs forks closes may is_fault s e a kept told i m g what in alone-by i j run.0 q low run.1 there
     alone-so i j k q low (ended c what new) there = absurd (let run = close-runs forks closes may is_fault s e a kept told i c what in let two : ◌≡◌ {A = Progress C} (Closed run.0 c) (Running k) = sym (ap (λ x. closed_by x c) run.1) ∙ new in cc)
 
     -- counts of fronts never fall, and stay where all in front is over
@@ -269,7 +269,7 @@ module _ {G C O : Type 0} (forks : ℕ → ℕ → G → Type 0) (closes : ℕ �
     -- what is settled after the event was begun before it
     settled-before : (k : ℕ) (x : Promise G O) → Became s e k x → is_settled x.standing ≡ true → (p : Promise G O) × Stands s k p × HasBegun p.standing
     settled-before k x (stayed at leaves) is = (x, at, settled-begun x.standing is)
-    settled-before k x (was_forked i g what last new) is = absurd (new-not_begun O (is_theory_cancelled s.cancelled i) (subst HasBegun (sym (ap (λ y. y.standing) new)) (settled-begun x.standing is)))
+    settled-before k x (was_forked i m g what last new) is = absurd (new-not_begun O (is_theory_cancelled s.cancelled i) (subst HasBegun (sym (ap (λ y. y.standing) new)) (settled-begun x.standing is)))
     settled-before k x (was_taken p what at new) is = absurd (let two : ◌≡◌ {A = Bool} false true = ap (λ y. is_settled y.standing) new ∙ is in cc)
     settled-before k x (was_settled p y f what at lives new) is = (p, at, subst HasBegun (sym (taken-now forks closes may is_fault s k p told at (deliver-out forks closes may is_fault s e a kept told k y f what) lives)) tt)
     settled-before k x (was_cancelled p other m y f what apart there lives at unsettled marked new) is = absurd (let two : ◌≡◌ {A = Bool} false true = ap (λ z. is_settled z.standing) new ∙ is in cc)
@@ -308,7 +308,7 @@ module _ {G C O : Type 0} (forks : ℕ → ℕ → G → Type 0) (closes : ℕ �
       | inl settled ↦ h.exact n q old over ∙ due-stays n q.theory (let within = slice_get_within s.promises n q old in omega arith) (λ k x low at_k. h.order k n x q low at_k old (settled-begun q.standing settled))
       | inr gone ↦ ap is_cancelled_standing gone ∙ still-due n q q.theory old gone refl
     ]
-    exact-so n q at over (was_forked i g what last new) = newly n q at (sym (ap (λ x. x.standing) new) ∙ new-over O (is_theory_cancelled s.cancelled i) (subst IsOver (sym (ap (λ x. x.standing) new)) over)) (λ k p behind at_k begun. absurd (let within = slice_get_within s.promises k p at_k in omega arith))
+    exact-so n q at over (was_forked i m g what last new) = newly n q at (sym (ap (λ x. x.standing) new) ∙ new-over O (is_theory_cancelled s.cancelled i) (subst IsOver (sym (ap (λ x. x.standing) new)) over)) (λ k p behind at_k begun. absurd (let within = slice_get_within s.promises k p at_k in omega arith))
     exact-so n q at over (was_taken p what old new) = absurd (subst IsOver (sym (ap (λ x. x.standing) new)) over)
     exact-so n q at over (was_settled p x f what old lives new) =
         ap (λ y. is_cancelled_standing y.standing) (sym new)

@@ -23,27 +23,27 @@ module _ {G O : Type 0} where
   abbrev pub tally : (h : ℕ → O → Bool) → List (Promise G O) → ℕ
   tally h ps = counted (λ (p : Promise G O). passes h p.theory p.standing) ps
 
-  passes-cancelled : (h : ℕ → O → Bool) (m : Marks) (i : ℕ) (g : G) (t : Standing O) (b : Bool) → passes h i (Promise.standing (if b && not (is_settled t) then (record { theory = i; goal = g; standing = Cancelled }) else (record { theory = i; goal = g; standing = t }))) ≡ passes h i t
-  passes-cancelled h m i g Ready true = refl
-  passes-cancelled h m i g Ready false = refl
-  passes-cancelled h m i g Taken true = refl
-  passes-cancelled h m i g Taken false = refl
-  passes-cancelled h m i g (Settled o) true = refl
-  passes-cancelled h m i g (Settled o) false = refl
-  passes-cancelled h m i g Cancelled true = refl
-  passes-cancelled h m i g Cancelled false = refl
+  passes-cancelled : (h : ℕ → O → Bool) (m : Marks) (i c : ℕ) (g : G) (t : Standing O) (b : Bool) → passes h i (Promise.standing (if b && not (is_settled t) then (record { theory = i; command = c; goal = g; standing = Cancelled }) else (record { theory = i; command = c; goal = g; standing = t }))) ≡ passes h i t
+  passes-cancelled h m i c g Ready true = refl
+  passes-cancelled h m i c g Ready false = refl
+  passes-cancelled h m i c g Taken true = refl
+  passes-cancelled h m i c g Taken false = refl
+  passes-cancelled h m i c g (Settled o) true = refl
+  passes-cancelled h m i c g (Settled o) false = refl
+  passes-cancelled h m i c g Cancelled true = refl
+  passes-cancelled h m i c g Cancelled false = refl
 
   theory-cancelled : (m : Marks) (p : Promise G O) → (cancelled_promise m p).theory ≡ p.theory
   theory-cancelled m p = by_flag (is_theory_cancelled m p.theory && not (is_settled p.standing))
     where
-      by_flag : (b : Bool) → Promise.theory (if b then (record { theory = p.theory; goal = p.goal; standing = Cancelled }) else p) ≡ p.theory
+      by_flag : (b : Bool) → Promise.theory (if b then (record { theory = p.theory; command = p.command; goal = p.goal; standing = Cancelled }) else p) ≡ p.theory
       by_flag true = refl
       by_flag false = refl
 
   tally-recancelled : (h : ℕ → O → Bool) (m : Marks) (ps : List (Promise G O)) → tally h (map (cancelled_promise m) ps) ≡ tally h ps
   tally-recancelled h m [] = refl
   tally-recancelled h m (p ∷ ps) =
-      let one : passes h (cancelled_promise m p).theory (cancelled_promise m p).standing ≡ passes h p.theory p.standing = ap (λ i. passes h i (cancelled_promise m p).standing) (theory-cancelled m p) ∙ passes-cancelled h m p.theory p.goal p.standing (is_theory_cancelled m p.theory) in
+      let one : passes h (cancelled_promise m p).theory (cancelled_promise m p).standing ≡ passes h p.theory p.standing = ap (λ i. passes h i (cancelled_promise m p).standing) (theory-cancelled m p) ∙ passes-cancelled h m p.theory p.command p.goal p.standing (is_theory_cancelled m p.theory) in
       ap (λ b. one_if b + tally h (map (cancelled_promise m) ps)) one ∙ ap (λ k. one_if (passes h p.theory p.standing) + k) (tally-recancelled h m ps)
 
   pub tally-with : {C : Type 0} (h : ℕ → O → Bool) (s : State G C O) (gs : List Group) → tally h (with_cancelled s gs).promises ≡ tally h s.promises
@@ -165,7 +165,7 @@ passes-new : {O : Type 0} (h : ℕ → O → Bool) (i : ℕ) (b : Bool) → pass
 passes-new h i true = refl
 passes-new h i false = refl
 
-module _ {G C O : Type 0} (forks : ℕ → ℕ → G → Type 0) (closes : ℕ → ℕ → C → Type 0) (may : G → O → Type 0) (is_fault : O → Bool) where
+module _ {G C O : Type 0} (forks : ℕ → ℕ → ℕ → G → Type 0) (closes : ℕ → ℕ → C → Type 0) (may : G → O → Type 0) (is_fault : O → Bool) where
   pub taken-now : (s : State G C O) (n : ℕ) (p : Promise G O) → IsTold s → Stands s n p → IsOut s.history n → is_cancelled_standing p.standing ≡ false → p.standing ≡ Taken
   taken-now s n p told at out lives = by_standing p.standing refl
     where
@@ -187,11 +187,11 @@ module _ {G C O : Type 0} (forks : ℕ → ℕ → G → Type 0) (closes : ℕ �
         let both = tally-restood h s.promises n p Taken a.2.1.0 in
         omega arith);
   })
-  scores s (Fork i g) a told = quiet (record {
+  scores s (Fork i c g) a told = quiet (record {
     kept_is = refl;
     marks_are = refl;
     tally_is = λ h. (
-        let sum = counted-append (λ (p : Promise G O). passes h p.theory p.standing) s.promises (new_promise s i g ∷ []) in
+        let sum = counted-append (λ (p : Promise G O). passes h p.theory p.standing) s.promises (new_promise s i c g ∷ []) in
         let none = ap one_if (passes-new h i (is_theory_cancelled s.cancelled i)) in
         omega arith);
   })

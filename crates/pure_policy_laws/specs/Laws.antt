@@ -8,5 +8,5 @@ use Rattle.pure_core_runs.specs.Seats.{state_of, IsNumberedRun, IsOrderly}
 use Rattle.pure_policy_laws.specs.Heeded.{IsHeeded, lot_of}
 
 -- Of a numbered legal run that is orderly and has come to Finished, the promises, in load order, are cancelled as its policy asks for.
-abbrev pub PolicyIsHeeded : {G C O : Type 0} → (ℕ → ℕ → G → Type 0) → (ℕ → ℕ → C → Type 0) → (G → O → Type 0) → (O → Bool) → Type 0
+abbrev pub PolicyIsHeeded : {G C O : Type 0} → (ℕ → ℕ → ℕ → G → Type 0) → (ℕ → ℕ → C → Type 0) → (G → O → Type 0) → (O → Bool) → Type 0
 PolicyIsHeeded {G} {C} {O} forks closes may is_fault = (o : Opening) (acts : List (ℕ × Event G C O)) (ordered : List (Promise G O)) → IsShape o.shape → IsNumberedRun forks closes may is_fault o acts → IsOrderly o acts → IsFinished (state_of o acts) → AreInOrder (state_of o acts).promises ordered → IsHeeded o.policy o.workers (map (lot_of is_fault) ordered)

@@ -102,7 +102,7 @@ module _ {W G C O : Type 0} where
   back-any items (Ok v) board fresh o some' opened' two = (o, record { some = some'; fresh = fresh; opened = opened'; served = two })
   back-any items (Err e) board fresh o some' opened' two = tt
 
-  module _ (shape : W → List (List ℕ)) (forks : W → ℕ → ℕ → G → Type 0) (closes : W → ℕ → ℕ → C → Type 0) (may : W → G → O → Type 0) (is_fault : W → O → Bool) where
+  module _ (shape : W → List (List ℕ)) (forks : W → ℕ → ℕ → ℕ → G → Type 0) (closes : W → ℕ → ℕ → C → Type 0) (may : W → G → O → Type 0) (is_fault : W → O → Bool) where
     all-orderly : (board : Plan W) (seats : List (Sight W G C O)) (end : Ending W G C O) → Each (IsDoneSeat board end.opening) seats → IsOfSeats seats end → IsOrderly end.opening end.history
     all-orderly board seats end done of seat = elim (seat_or_none seat seats) [
       | inl there ↦ (let s = any_some (λ s. s.number ≡ seat) seats there in

@@ -47,7 +47,7 @@ no_proof_theory n i e = subst IsTheory (sym e) tt
 abbrev kind : {G C O : Type 0} → Event G C O → ℕ
 kind (TakeTheory i) = 0
 kind (TakeProof n) = 1
-kind (Fork i g) = 2
+kind (Fork i c g) = 2
 kind (CloseTheory i c) = 3
 kind (Deliver n o f) = 4
 kind Stop = 5
@@ -59,7 +59,7 @@ place (CloseTheory i c) = i
 place (Deliver n o f) = n
 place _ = 0
 
-module _ {G C O : Type 0} (forks : ℕ → ℕ → G → Type 0) (closes : ℕ → ℕ → C → Type 0) (may : G → O → Type 0) (is_fault : O → Bool) (o : Opening) (seat : ℕ) where
+module _ {G C O : Type 0} (forks : ℕ → ℕ → ℕ → G → Type 0) (closes : ℕ → ℕ → C → Type 0) (may : G → O → Type 0) (is_fault : O → Bool) (o : Opening) (seat : ℕ) where
   abbrev Run : List (ℕ × Event G C O) → Type 0
   Run acts = IsNumberedRun forks closes may is_fault o acts
 
@@ -188,30 +188,30 @@ module _ {G C O : Type 0} (forks : ℕ → ℕ → G → Type 0) (closes : ℕ �
       same_running (forks_in i (own seat (acts ++ (seat, TakeTheory i) ∷ []))) 0 (same_Some (Running (forks_in i (own seat (acts ++ (seat, TakeTheory i) ∷ [])))) (Running 0) (sym known ∙ now ∙ there))
 
   -- it forks
-  pub holds-fork : (acts : List (ℕ × Event G C O)) (i : ℕ) (g : G) → Has acts (Theory i) → Run (acts ++ (seat, Fork i g) ∷ []) → Has (acts ++ (seat, Fork i g) ∷ []) (Theory i)
-  holds-fork acts i g h run = record {
+  pub holds-fork : (acts : List (ℕ × Event G C O)) (i m : ℕ) (g : G) → Has acts (Theory i) → Run (acts ++ (seat, Fork i m g) ∷ []) → Has (acts ++ (seat, Fork i m g) ∷ []) (Theory i)
+  holds-fork acts i m g h run = record {
     run = run;
-    goes_on = goes_on-entered acts (Fork i g) h.goes_on refl;
-    orderly = orderly-entered acts (Fork i g) h.orderly (λ t. absurd t);
+    goes_on = goes_on-entered acts (Fork i m g) h.goes_on refl;
+    orderly = orderly-entered acts (Fork i m g) h.orderly (λ t. absurd t);
     in_hand = record {
-      taken = entered-earlier acts (Fork i g) (TakeTheory i) h.in_hand.taken;
-      open_still = λ c closed. h.in_hand.open_still c (entered-other acts (Fork i g) (CloseTheory i c) (λ e. absurd (omega (arith, e))) closed);
+      taken = entered-earlier acts (Fork i m g) (TakeTheory i) h.in_hand.taken;
+      open_still = λ c closed. h.in_hand.open_still c (entered-other acts (Fork i m g) (CloseTheory i c) (λ e. absurd (omega (arith, e))) closed);
     };
-    theories = λ j t other. done-stays acts ((seat, Fork i g) ∷ []) j run (h.theories j (entered-other acts (Fork i g) (TakeTheory j) (λ e. absurd (omega (arith, e))) t) other);
-    promises = λ n t other. settled-stays acts ((seat, Fork i g) ∷ []) n run (h.promises n (entered-other acts (Fork i g) (TakeProof n) (λ e. absurd (omega (arith, e))) t) other);
+    theories = λ j t other. done-stays acts ((seat, Fork i m g) ∷ []) j run (h.theories j (entered-other acts (Fork i m g) (TakeTheory j) (λ e. absurd (omega (arith, e))) t) other);
+    promises = λ n t other. settled-stays acts ((seat, Fork i m g) ∷ []) n run (h.promises n (entered-other acts (Fork i m g) (TakeProof n) (λ e. absurd (omega (arith, e))) t) other);
   }
 
   -- and has made one fork more
-  pub theory-forked : (acts : List (ℕ × Event G C O)) (i : ℕ) (g : G) → Has acts (Theory i) → Has (acts ++ (seat, Fork i g) ∷ []) (Theory i) → forks_in i (own seat (acts ++ (seat, Fork i g) ∷ [])) ≡ forks_in i (own seat acts) + 1
-  theory-forked acts i g h more =
+  pub theory-forked : (acts : List (ℕ × Event G C O)) (i m : ℕ) (g : G) → Has acts (Theory i) → Has (acts ++ (seat, Fork i m g) ∷ []) (Theory i) → forks_in i (own seat (acts ++ (seat, Fork i m g) ∷ [])) ≡ forks_in i (own seat acts) + 1
+  theory-forked acts i m g h more =
       let s = state_of o acts in
       let k = forks_in i (own seat acts) in
-      let m = forks_in i (own seat (acts ++ (seat, Fork i g) ∷ [])) in
+      let l = forks_in i (own seat (acts ++ (seat, Fork i m g) ∷ [])) in
       let before : theory_at s.theories i ≡ Some (Running k) = running-known forks closes may is_fault o acts seat i h.run h.in_hand in
-      let known : theory_at (state_of o (acts ++ (seat, Fork i g) ∷ [])).theories i ≡ Some (Running m) = running-known forks closes may is_fault o (acts ++ (seat, Fork i g) ∷ []) seat i more.run more.in_hand in
+      let known : theory_at (state_of o (acts ++ (seat, Fork i m g) ∷ [])).theories i ≡ Some (Running l) = running-known forks closes may is_fault o (acts ++ (seat, Fork i m g) ∷ []) seat i more.run more.in_hand in
       let there = theory-there s.theories i (forked_once (theory_at s.theories i)) (Running k) before in
-      let now = ap (λ x. theory_at x.theories i) (state-entered o acts seat (Fork i g)) in
-      same_running m (k + 1) (same_Some (Running m) (Running (k + 1)) (sym known ∙ now ∙ there ∙ ap Some (ap forked_once before)))
+      let now = ap (λ x. theory_at x.theories i) (state-entered o acts seat (Fork i m g)) in
+      same_running l (k + 1) (same_Some (Running l) (Running (k + 1)) (sym known ∙ now ∙ there ∙ ap Some (ap forked_once before)))
 
   -- it is closed
   closed-now : (acts : List (ℕ × Event G C O)) (i : ℕ) (c : C) → Has acts (Theory i) → (p : Progress C) × (theory_at (state_of o (acts ++ (seat, CloseTheory i c) ∷ [])).theories i ≡ Some p) × IsClosed p

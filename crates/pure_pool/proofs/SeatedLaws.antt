@@ -55,7 +55,7 @@ same-front xs ys x e = sym (front-snoc xs x) ∙ ap front-of e ∙ front-snoc ys
 unstopped : {G C O : Type 0} (o : Opening) (acts : List (ℕ × Event G C O)) → stops (events_of acts) ≡ 0 → (state_of o acts).stopped ≡ false
 unstopped {G} {C} {O} o acts none = goes_on-stays (opened o) (events_of acts) (cancel-keeps {G = G} {C = C} {O = O} (record { opening = o; theories = waiting o.shape; promises = []; cancelled = unmarked o.shape; kept = 0; stopped = false; history = [] }) (due o.policy.cancels 0)).3 none
 
-module _ {W G C O : Type 0} (shape : W → List (List ℕ)) (forks : W → ℕ → ℕ → G → Type 0) (closes : W → ℕ → ℕ → C → Type 0) (may : W → G → O → Type 0) (is_fault : W → O → Bool) where
+module _ {W G C O : Type 0} (shape : W → List (List ℕ)) (forks : W → ℕ → ℕ → ℕ → G → Type 0) (closes : W → ℕ → ℕ → C → Type 0) (may : W → G → O → Type 0) (is_fault : W → O → Bool) where
   abbrev RunAt : Plan W → Opening → List (ℕ × Event G C O) → Type 0
   RunAt p o acts = IsNumberedRun (forks p.session) (closes p.session) (may p.session) (is_fault p.session) o acts
 
@@ -138,15 +138,15 @@ module _ {W G C O : Type 0} (shape : W → List (List ℕ)) (forks : W → ℕ �
       parents-may (forks p.session) (closes p.session) (state_of v.opening log) i (shape p.session) f parents (run-kept (forks p.session) (closes p.session) (may p.session) (is_fault p.session) v.opening log run) (ap (λ x. x.shape) (state-opening v.opening log ∙ sym enters.opening) ∙ true_w.shaped ∙ ap (λ x. shape x.session) enters.plan) ready
 
   -- it forks, and is closed
-  pub forks-theory : (v w : Sight W G C O) (log : List (ℕ × Event G C O)) (i : ℕ) (g : G) → Hand v (Theory i) → True w → Enters v w log (Fork i g) → Hand w (Theory i) × (forks_in i w.own ≡ forks_in i v.own + 1)
-  forks-theory v w log i g h true_w enters =
+  pub forks-theory : (v w : Sight W G C O) (log : List (ℕ × Event G C O)) (i m : ℕ) (g : G) → Hand v (Theory i) → True w → Enters v w log (Fork i m g) → Hand w (Theory i) × (forks_in i w.own ≡ forks_in i v.own + 1)
+  forks-theory v w log i m g h true_w enters =
       let p = v.plan in
-      let before = log-hand v w log (Fork i g) (Theory i) h true_w enters in
-      let now = holds-fork (forks p.session) (closes p.session) (may p.session) (is_fault p.session) v.opening v.number log i g before (run-entered v w log (Fork i g) true_w enters) in
-      let count = theory-forked (forks p.session) (closes p.session) (may p.session) (is_fault p.session) v.opening v.number log i g before now in
-      let own_log : own v.number log ≡ v.own = same-front (own v.number log) v.own (Fork i g) (sym (own-entered v.number log (Fork i g)) ∙ own-entry v w log (Fork i g) true_w enters ∙ enters.own) in (
-        enters-hand v w log (Fork i g) (Theory i) true_w enters now,
-        ap (forks_in i) (sym (own-entry v w log (Fork i g) true_w enters)) ∙ count ∙ ap (λ es. forks_in i es + 1) own_log,
+      let before = log-hand v w log (Fork i m g) (Theory i) h true_w enters in
+      let now = holds-fork (forks p.session) (closes p.session) (may p.session) (is_fault p.session) v.opening v.number log i m g before (run-entered v w log (Fork i m g) true_w enters) in
+      let count = theory-forked (forks p.session) (closes p.session) (may p.session) (is_fault p.session) v.opening v.number log i m g before now in
+      let own_log : own v.number log ≡ v.own = same-front (own v.number log) v.own (Fork i m g) (sym (own-entered v.number log (Fork i m g)) ∙ own-entry v w log (Fork i m g) true_w enters ∙ enters.own) in (
+        enters-hand v w log (Fork i m g) (Theory i) true_w enters now,
+        ap (forks_in i) (sym (own-entry v w log (Fork i m g) true_w enters)) ∙ count ∙ ap (λ es. forks_in i es + 1) own_log,
       )
 
   pub closes-theory : (v w : Sight W G C O) (log : List (ℕ × Event G C O)) (i : ℕ) (c : C) → Hand v (Theory i) → True w → Enters v w log (CloseTheory i c) → Hand w Nothing
@@ -156,7 +156,7 @@ module _ {W G C O : Type 0} (shape : W → List (List ℕ)) (forks : W → ℕ �
       enters-hand v w log (CloseTheory i c) Nothing true_w enters (holds-close (forks p.session) (closes p.session) (may p.session) (is_fault p.session) v.opening v.number log i c before (run-entered v w log (CloseTheory i c) true_w enters))
 
   -- a proof is taken
-  pub takes-proof : (v w : Sight W G C O) (log : List (ℕ × Event G C O)) (n : ℕ) (g : G) → Hand v Nothing → True w → Enters v w log (TakeProof n) → IsGoalOf (state_of v.opening log) n g → Hand w (Proof n) × IsGoalOf (state_seen w) n g × ((i : ℕ) × (k : ℕ) × forks v.plan.session i k g)
+  pub takes-proof : (v w : Sight W G C O) (log : List (ℕ × Event G C O)) (n : ℕ) (g : G) → Hand v Nothing → True w → Enters v w log (TakeProof n) → IsGoalOf (state_of v.opening log) n g → Hand w (Proof n) × IsGoalOf (state_seen w) n g × ((i : ℕ) × (k : ℕ) × (m : ℕ) × forks v.plan.session i k m g)
   takes-proof v w log n g h true_w enters goal =
       let p = v.plan in
       let run = run-entered v w log (TakeProof n) true_w enters in
@@ -165,7 +165,7 @@ module _ {W G C O : Type 0} (shape : W → List (List ℕ)) (forks : W → ℕ �
       let kept = (run-kept (forks p.session) (closes p.session) (may p.session) (is_fault p.session) v.opening log before.run).goals n goal.0 goal.1 in (
         enters-hand v w log (TakeProof n) (Proof n) true_w enters (holds-proof (forks p.session) (closes p.session) (may p.session) (is_fault p.session) v.opening v.number log n next.0 before run next.1.0 next.1.1),
         goal-seen w v.opening (log ++ (v.number, TakeProof n) ∷ []) n g enters.opening enters.seen (goal-stays p v.opening log ((v.number, TakeProof n) ∷ []) n g run goal),
-        (kept.0, kept.1, subst (forks p.session kept.0 kept.1) goal.2 kept.2),
+        (kept.0, kept.1, kept.2, subst (forks p.session kept.0 kept.1 kept.2) goal.2 kept.3),
       )
 
   -- its outcome is delivered

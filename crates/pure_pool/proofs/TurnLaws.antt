@@ -8,7 +8,7 @@ use Rattle.pure_pool.specs.Held.{Held}
 use Rattle.pure_pool.specs.Seated.{Has, HasSome, IsSameSeat}
 
 -- what a seat has in hand it has after an error too
-pub err-with : {A E W G C O : Type 0} (forks : W → ℕ → ℕ → G → Type 0) (closes : W → ℕ → ℕ → C → Type 0) (may : W → G → O → Type 0) (is_fault : W → O → Bool) (r : Result A E) (v : Sight W G C O) (held : Held) → Has forks closes may is_fault v held → IfErr r (λ _. HasSome forks closes may is_fault v)
+pub err-with : {A E W G C O : Type 0} (forks : W → ℕ → ℕ → ℕ → G → Type 0) (closes : W → ℕ → ℕ → C → Type 0) (may : W → G → O → Type 0) (is_fault : W → O → Bool) (r : Result A E) (v : Sight W G C O) (held : Held) → Has forks closes may is_fault v held → IfErr r (λ _. HasSome forks closes may is_fault v)
 err-with forks closes may is_fault (Ok x) v held h = tt
 err-with forks closes may is_fault (Err e) v held h = (held, h)
 

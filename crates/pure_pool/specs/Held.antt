@@ -39,7 +39,7 @@ abbrev pub IsSettled : {G C O : Type 0} → State G C O → List (Event G C O) �
 IsSettled {G} {C} {O} s events n = ((p : Promise G O) × Stands s n p × IsOver p.standing) × (WasDelivered events n ⊎ WasCancelled s n)
 
 -- The acts are a numbered legal run, in which the seat hasn't stopped the work, is orderly, and has done with all that it took but what it has in hand.
-pub record Holds {G C O : Type 0} (forks : ℕ → ℕ → G → Type 0) (closes : ℕ → ℕ → C → Type 0) (may : G → O → Type 0) (is_fault : O → Bool) (o : Opening) (seat : ℕ) (acts : List (ℕ × Event G C O)) (held : Held) : Type 0 where
+pub record Holds {G C O : Type 0} (forks : ℕ → ℕ → ℕ → G → Type 0) (closes : ℕ → ℕ → C → Type 0) (may : G → O → Type 0) (is_fault : O → Bool) (o : Opening) (seat : ℕ) (acts : List (ℕ × Event G C O)) (held : Held) : Type 0 where
   pub run : IsNumberedRun forks closes may is_fault o acts
   pub goes_on : stops (own seat acts) ≡ 0
   pub orderly : IsOrderlySeat o acts seat

@@ -9,12 +9,12 @@ use Rattle.pure_pool.specs.Held.{Held, Holds}
 use Rattle.pure_pool.specs.Served.{IsServed}
 
 -- The seat has this in hand, and its own entries in what it saw are what it entered.
-pub record Has {W G C O : Type 0} (forks : W → ℕ → ℕ → G → Type 0) (closes : W → ℕ → ℕ → C → Type 0) (may : W → G → O → Type 0) (is_fault : W → O → Bool) (v : Sight W G C O) (held : Held) : Type 0 where
+pub record Has {W G C O : Type 0} (forks : W → ℕ → ℕ → ℕ → G → Type 0) (closes : W → ℕ → ℕ → C → Type 0) (may : W → G → O → Type 0) (is_fault : W → O → Bool) (v : Sight W G C O) (held : Held) : Type 0 where
   pub holds : Holds (forks v.plan.session) (closes v.plan.session) (may v.plan.session) (is_fault v.plan.session) v.opening v.number v.seen held
   pub entries : v.own ≡ own v.number v.seen
 
 -- The seat has something or nothing in hand.
-abbrev pub HasSome : {W G C O : Type 0} → (W → ℕ → ℕ → G → Type 0) → (W → ℕ → ℕ → C → Type 0) → (W → G → O → Type 0) → (W → O → Bool) → Sight W G C O → Type 0
+abbrev pub HasSome : {W G C O : Type 0} → (W → ℕ → ℕ → ℕ → G → Type 0) → (W → ℕ → ℕ → C → Type 0) → (W → G → O → Type 0) → (W → O → Bool) → Sight W G C O → Type 0
 HasSome forks closes may is_fault v = (held : Held) × Has forks closes may is_fault v held
 
 -- It is the same seat of the same board.

@@ -28,7 +28,7 @@ fn step<W: Work>(
     goal: &W::Goal,
     proving: &mut W::Proving,
 ) -> Result<Option<W::Outcome>, AllocError>
-    requires forked { (i : ℕ) × (k : ℕ) × W.forks work.now i k goal.now }
+    requires forked { (i : ℕ) × (k : ℕ) × (command : ℕ) × W.forks work.now i k command goal.now }
     requires proves { W.proves work.now goal.now proving.old }
     ensures { IfOk result (λ outcome. MatchOption outcome (W.proves work.now goal.now proving.new) (λ o. W.may work.now goal.now o)) }
 {
@@ -59,7 +59,7 @@ fn advance<R: Wait, W: Work>(
     requires session { board.now.session ≡ work.now }
     requires holds { Has W.forks W.closes W.may W.faults seat.old (Proof number) }
     requires goal { IsGoalOf (state_seen seat.old) number goal.now }
-    requires forked { (i : ℕ) × (k : ℕ) × W.forks work.now i k goal.now }
+    requires forked { (i : ℕ) × (k : ℕ) × (command : ℕ) × W.forks work.now i k command goal.now }
     requires proves { W.proves work.now goal.now proving.old }
     ensures seat { IsSameSeat seat.old seat.new }
     ensures ended { IfOk result (λ end. MatchOption end
@@ -96,7 +96,7 @@ pub(crate) fn run_proof<R: Wait, W: Work>(
     requires session { board.now.session ≡ work.now }
     requires holds { Has W.forks W.closes W.may W.faults seat.old (Proof number) }
     requires goal { IsGoalOf (state_seen seat.old) number goal.now }
-    requires forked { (i : ℕ) × (k : ℕ) × W.forks work.now i k goal.now }
+    requires forked { (i : ℕ) × (k : ℕ) × (command : ℕ) × W.forks work.now i k command goal.now }
     ensures seat { IsSameSeat seat.old seat.new }
     ensures ended { IfOk result (λ end. IsEnd W.forks W.closes W.may W.faults seat.new end) }
     ensures err { IfErr result (λ _. HasSome W.forks W.closes W.may W.faults seat.new) }

@@ -33,8 +33,8 @@ fn take_turn<R: Wait, W: Work>(
 {
     match work.command(run)? {
         Turn::Declared => Ok(false),
-        Turn::Forked { goal } => {
-            board.fork(rt, seat, theory, goal)?;
+        Turn::Forked { command, goal } => {
+            board.fork(rt, seat, theory, command, goal)?;
             rest.wake_one();
             Ok(false)
         }

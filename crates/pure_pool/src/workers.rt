@@ -42,7 +42,7 @@ fn pass_gate<R: Threads + Wait, W: Work, G: Gate>(
     requires session { board.now.session ≡ work.now }
     requires holds { Has W.forks W.closes W.may W.faults seat.old (Proof number) }
     requires goal { IsGoalOf (state_seen seat.old) number goal.now }
-    requires forked { (i : ℕ) × (k : ℕ) × W.forks work.now i k goal.now }
+    requires forked { (i : ℕ) × (k : ℕ) × (command : ℕ) × W.forks work.now i k command goal.now }
     ensures seat { IsSameSeat seat.old seat.new }
     ensures course { IfOk result (λ course. IsCourse W.forks W.closes W.may W.faults seat.new course) }
     ensures err { IfErr result (λ _. HasSome W.forks W.closes W.may W.faults seat.new) }

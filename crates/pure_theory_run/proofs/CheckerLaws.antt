@@ -34,9 +34,9 @@ module _ (texts : List (List ℕ)) (theories : List Loaded) (index : ℕ) (notes
       let t : IsTurn texts theories index notes old new turns.Declared = subst (λ (x : Turn). IsTurn texts theories index notes old new x) e h in
       (Said t.0, record { run = t.1; fewer = t.2 }, same ∙ sym (append-nil before))
 
-  pub taken-forked : (turn : Turn) (goal : Fork) → turn ≡ turns.Forked goal → after ≡ before ++ goal ∷ [] → IsTurn texts theories index notes old new turn → IsTaken texts theories index notes old new before after None
-  taken-forked turn goal e more h =
-      let t : IsTurn texts theories index notes old new (turns.Forked goal) = subst (λ (x : Turn). IsTurn texts theories index notes old new x) e h in
+  pub taken-forked : (turn : Turn) (command : ℕ) (goal : Fork) → turn ≡ turns.Forked command goal → after ≡ before ++ goal ∷ [] → IsTurn texts theories index notes old new turn → IsTaken texts theories index notes old new before after None
+  taken-forked turn command goal e more h =
+      let t : IsTurn texts theories index notes old new (turns.Forked command goal) = subst (λ (x : Turn). IsTurn texts theories index notes old new x) e h in
       (Forked goal, record { run = t.0; fewer = t.1 }, more)
 
   pub taken-closed : (turn : Turn) (value : Outline) → turn ≡ turns.Closed value → after ≡ before → IsTurn texts theories index notes old new turn → IsTaken texts theories index notes old new before after (Some value)

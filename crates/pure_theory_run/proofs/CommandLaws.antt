@@ -106,7 +106,7 @@ module _ (texts : List (List ℕ)) (theories : List Loaded) (index : ℕ) (T : L
   turn-next notes old new command (Said row) next going held d now_is fewer rows turn e =
       rw e (row, going-next notes old new command (Said row) next going held d now_is fewer rows, omega (arith, fewer))
   turn-next notes old new command (Forked goal) next going held d now_is fewer rows turn e =
-      rw e (going-next notes old new command (Forked goal) next going held d now_is fewer rows, omega (arith, fewer))
+      rw e (going-next notes old new command (Forked goal) next going held d now_is fewer rows, omega (arith, fewer), refl)
 
   -- The turn where no command is left.
   pub turn-last : (notes : List Note) (old new : Going) → IsGoing texts theories index notes old → slice_get T.text.commands (length old.rows.items) ≡ None → (turn : Turn) → turn ≡ turns.Closed (Ran old.rows.items old.now.value)

@@ -19,19 +19,19 @@ pub record ClosesWith (texts : List (List ℕ)) (theories : List Loaded) (index 
   pub value_is : value ≡ outline verdict
   pub forks : forks_of (notes_of verdict) ≡ forks_of notes
 
--- A turn that declares leaves a row more, one that forks a lemma leaves this, and both leave fewer commands; one that closes comes where no command is left, and gives what is left of what became of the theory.
+-- A turn that declares leaves a row more, one that forks a lemma, under the command of its label, leaves this, and both leave fewer commands; one that closes comes where no command is left, and gives what is left of what became of the theory.
 abbrev pub IsTurn : (texts : List (List ℕ)) → (theories : List Loaded) → (index : ℕ) → (notes : List Note) → (old new : Run) → Turn → Type 0
 IsTurn texts theories index notes old new Declared = (row : Row) × IsRunOf texts theories index (notes ++ Said row ∷ []) new × (turns_left new < turns_left old)
-IsTurn texts theories index notes old new (Forks goal) = IsRunOf texts theories index (notes ++ Forked goal ∷ []) new × (turns_left new < turns_left old)
+IsTurn texts theories index notes old new (Forks command goal) = IsRunOf texts theories index (notes ++ Forked goal ∷ []) new × (turns_left new < turns_left old) × (command ≡ goal.label.command)
 IsTurn texts theories index notes old new (Closed value) = (turns_left old ≡ 0) × ClosesWith texts theories index notes value
 
 -- the same of a theory that wasn't refused when it began
 abbrev pub IsGoingTurn : (texts : List (List ℕ)) → (theories : List Loaded) → (index : ℕ) → (notes : List Note) → (old new : Going) → Turn → Type 0
 IsGoingTurn texts theories index notes old new Declared = (row : Row) × IsGoing texts theories index (notes ++ Said row ∷ []) new × (new.left < old.left)
-IsGoingTurn texts theories index notes old new (Forks goal) = IsGoing texts theories index (notes ++ Forked goal ∷ []) new × (new.left < old.left)
+IsGoingTurn texts theories index notes old new (Forks command goal) = IsGoing texts theories index (notes ++ Forked goal ∷ []) new × (new.left < old.left) × (command ≡ goal.label.command)
 IsGoingTurn texts theories index notes old new (Closed value) = (old.left ≡ 0) × ClosesWith texts theories index notes value
 
 -- the turn of a command that leaves this note
 abbrev pub turn_of : Note → Turn
 turn_of (Said row) = Declared
-turn_of (Forked goal) = Forks goal
+turn_of (Forked goal) = Forks goal.label.command goal

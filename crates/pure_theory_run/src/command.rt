@@ -19,7 +19,7 @@ use crate::run::{Going, Run, Standing, Turn};
 use pure_print::Row;
 use pure_script::Command;
 use pure_session::Loaded;
-use pure_session_meaning::declare::{Declared, Note, declare};
+use pure_session_meaning::declare::{Declared, Duty, Note, declare};
 use pure_session_meaning::theory::Stage;
 use pure_typ::Label;
 use std::alloc::{AllocError, Global};
@@ -48,6 +48,13 @@ fn last_turn(alloc: Global, going: &mut Going) -> Result<Turn, AllocError>
     })
 }
 
+/// The command of the duty's label.
+fn command_of(duty: &Duty) -> u32
+    ensures { result ≡ duty.now.label.command }
+{
+    duty.label.command
+}
+
 /// Puts the row that a note is, or a hole for a lemma's.
 fn put_note(rows: &mut Vec<Option<Row>>, note: Note) -> Result<Turn, AllocError>
     ensures rows { IfOk result (λ _. rows.new.items ≡ rows.old.items ++ row_of (seen_note note) ∷ []) }
@@ -61,7 +68,11 @@ fn put_note(rows: &mut Vec<Option<Row>>, note: Note) -> Result<Turn, AllocError>
         }
         Note::Forked { duty } => {
             rows.push(None)?;
-            Ok(Turn::Forked { goal: duty })
+            let command = command_of(&duty);
+            Ok(Turn::Forked {
+                command,
+                goal: duty,
+            })
         }
     }
 }

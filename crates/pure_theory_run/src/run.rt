@@ -27,10 +27,10 @@ pub struct Run {
     pub(crate) standing: Standing,
 }
 
-/// What a turn of a theory's run gives: its command declared something or was refused, it bound a lemma whose proof is still to be given, or no command was left.
+/// What a turn of a theory's run gives: its command declared something or was refused, it is at this place, from 0, and bound a lemma whose proof is still to be given, or no command was left.
 #[derive(Drop)]
 pub enum Turn {
     Declared,
-    Forked { goal: Duty },
+    Forked { command: u32, goal: Duty },
     Closed { closed: Closed },
 }

@@ -31,7 +31,7 @@ impl Checker {
     {
         match self.command(run)? {
             Turn::Declared => Ok(None),
-            Turn::Forked { goal } => {
+            Turn::Forked { goal, .. } => {
                 duties.push(goal)?;
                 Ok(None)
             }

@@ -13,10 +13,11 @@ pub struct Session {
     pub lemmas: Vec<Vec<bool>>,
 }
 
-/// The lemmas of a theory that are still to be forked, the last first.
+/// The lemmas of a theory that are still to be forked, the last first, and how many were forked.
 #[derive(Drop)]
 pub struct Lemmas {
     pub left: Vec<bool>,
+    pub forked: u32,
 }
 
 /// A proof with so many steps before its last.
@@ -40,7 +41,7 @@ impl Work for Session {
 
     ghost shape = { λ s. s.shape.items };
 
-    ghost forks = { λ s i n g. Unit {0} };
+    ghost forks = { λ s i n c g. Unit {0} };
 
     ghost closes = { λ s i n c. Unit {0} };
 
@@ -62,14 +63,17 @@ impl Work for Session {
             None => Err(AllocError),
             Some(lemmas) => Ok(Lemmas {
                 left: lemmas.clone()?,
+                forked: 0,
             }),
         }
     }
 
     fn command(&self, run: &mut Lemmas) -> Result<Turn<bool, u32>, AllocError> {
+        let command = run.forked;
+        run.forked = command.wrapping_add(1);
         match run.left.pop() {
             None => Ok(Turn::Closed { closed: 7 }),
-            Some(goal) => Ok(Turn::Forked { goal }),
+            Some(goal) => Ok(Turn::Forked { command, goal }),
         }
     }
 

@@ -16,10 +16,10 @@ pub enter-requires-clause-alone : goal.enter-requires-clause-alone
 enter-requires-clause-alone g c = is-alone _ _ _ _ _ _ _ _ c.requires.seated c.hold-core.ensures.held
 
 pub enter-requires-clause-next : goal.enter-requires-clause-next
-enter-requires-clause-next g c = let s = c.requires.seated in let h = c.hold-core.ensures.held in (Fork c.args.theory c.args.goal, next-of _ _ _ _ _ _ _ _ s h _ (Fork c.args.theory c.args.goal) (may-fork _ _ _ _ _ _ _ _ s h _ _ c.requires.theory c.requires.goal) c.in-Ok.ensures.1)
+enter-requires-clause-next g c = let s = c.requires.seated in let h = c.hold-core.ensures.held in (Fork c.args.theory c.args.command c.args.goal, next-of _ _ _ _ _ _ _ _ s h _ (Fork c.args.theory c.args.command c.args.goal) (may-fork _ _ _ _ _ _ _ _ s h _ _ _ c.requires.theory c.requires.goal) c.in-Ok.ensures.1)
 
 pub returns-in-Err-clause-done : goal.returns-in-Err-clause-done
 returns-in-Err-clause-done g c = done-missed _ _ _ _ _ _ _ c.hold-core.result c.hold-core.result _ c.requires.seated c.hold-core.ensures.held c.give_back.ensures.released
 
 pub returns-in-Ok-clause-done : goal.returns-in-Ok-clause-done
-returns-in-Ok-clause-done g c = let s = c.requires.seated in let h = c.hold-core.ensures.held in done-fork _ _ _ _ _ _ _ _ _ _ s h _ _ _ (may-fork _ _ _ _ _ _ _ _ s h _ _ c.requires.theory c.requires.goal) c.in-Ok.ensures.1 c.in-Ok.ensures.0 c.enter.ensures.entered
+returns-in-Ok-clause-done g c = let s = c.requires.seated in let h = c.hold-core.ensures.held in done-fork _ _ _ _ _ _ _ _ _ _ s h _ _ _ _ (may-fork _ _ _ _ _ _ _ _ s h _ _ _ c.requires.theory c.requires.goal) c.in-Ok.ensures.1 c.in-Ok.ensures.0 c.enter.ensures.entered

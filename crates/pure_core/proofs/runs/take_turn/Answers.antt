@@ -9,15 +9,15 @@ pub returns-in_ok-fork-in-Forked-clause-goes_on :
     goal.returns-in_ok-fork-in-Forked-clause-goes_on
 returns-in_ok-fork-in-Forked-clause-goes_on g c =
     let run = c.requires.runs in
-    let turn = turn-forked {R = g.row.W-Run.Denot} (g.W.Work.forks c.args.work.now) (g.W.Work.closes c.args.work.now) (g.W.Work.runs c.args.work.now) g.W.Work.turns_left c.args.theory run.0 c.args.run.now c.command.new.run c.in_ok-command.field-0 c.in-Forked.goal c.in-Forked.is (c.in_ok-command.ensures.turn c.args.theory run.0 run.2) in
-    goes_on-by (g.W.Work.forks c.args.work.now) (g.W.Work.closes c.args.work.now) (g.W.Work.may c.args.work.now) (g.W.Work.faults c.args.work.now) c.args.core.now c.fork.new.self (Fork c.args.theory c.in-Forked.goal) (run.0, run.1.runs, turn.0) refl c.in_ok-fork-in-Forked.ensures.1
+    let turn = turn-forked {R = g.row.W-Run.Denot} (g.W.Work.forks c.args.work.now) (g.W.Work.closes c.args.work.now) (g.W.Work.runs c.args.work.now) g.W.Work.turns_left c.args.theory run.0 c.args.run.now c.command.new.run c.in_ok-command.field-0 c.in-Forked.command c.in-Forked.goal c.in-Forked.is (c.in_ok-command.ensures.turn c.args.theory run.0 run.2) in
+    goes_on-by (g.W.Work.forks c.args.work.now) (g.W.Work.closes c.args.work.now) (g.W.Work.may c.args.work.now) (g.W.Work.faults c.args.work.now) c.args.core.now c.fork.new.self (Fork c.args.theory c.in-Forked.command c.in-Forked.goal) (run.0, run.1.runs, turn.0) refl c.in_ok-fork-in-Forked.ensures.1
 
 pub returns-in_ok-fork-in-Forked-clause-rests :
     goal.returns-in_ok-fork-in-Forked-clause-rests
 returns-in_ok-fork-in-Forked-clause-rests g c =
     let run = c.requires.runs in
-    let turn = turn-forked {R = g.row.W-Run.Denot} (g.W.Work.forks c.args.work.now) (g.W.Work.closes c.args.work.now) (g.W.Work.runs c.args.work.now) g.W.Work.turns_left c.args.theory run.0 c.args.run.now c.command.new.run c.in_ok-command.field-0 c.in-Forked.goal c.in-Forked.is (c.in_ok-command.ensures.turn c.args.theory run.0 run.2) in
-    (run.0 + 1, rw (c.in_ok-fork-in-Forked.ensures.1) (theory-forks c.args.core.now c.args.theory run.0 c.in-Forked.goal run.1), turn.1)
+    let turn = turn-forked {R = g.row.W-Run.Denot} (g.W.Work.forks c.args.work.now) (g.W.Work.closes c.args.work.now) (g.W.Work.runs c.args.work.now) g.W.Work.turns_left c.args.theory run.0 c.args.run.now c.command.new.run c.in_ok-command.field-0 c.in-Forked.command c.in-Forked.goal c.in-Forked.is (c.in_ok-command.ensures.turn c.args.theory run.0 run.2) in
+    (run.0 + 1, rw (c.in_ok-fork-in-Forked.ensures.1) (theory-forks c.args.core.now c.args.theory run.0 c.in-Forked.command c.in-Forked.goal run.1), turn.1)
 
 pub returns-in_ok-close_theory-in-Closed-clause-goes_on :
     goal.returns-in_ok-close_theory-in-Closed-clause-goes_on

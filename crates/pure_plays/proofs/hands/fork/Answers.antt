@@ -8,4 +8,4 @@ pub returns-in-Err-clause-hand : goal.returns-in-Err-clause-hand
 returns-in-Err-clause-hand g c = still-in_hand _ _ _ c.in-Err.ensures.known _ c.requires.hand c.in-Err.ensures.forked
 
 pub returns-in-Ok-clause-hand : goal.returns-in-Ok-clause-hand
-returns-in-Ok-clause-hand g c = forked-in_hand _ _ _ c.in-Ok.ensures.known _ _ _ c.requires.hand c.in-Ok.ensures.forked
+returns-in-Ok-clause-hand g c = forked-in_hand _ _ _ c.in-Ok.ensures.known _ _ _ _ c.requires.hand c.in-Ok.ensures.forked

@@ -17,8 +17,8 @@ returns-in_err-close_theory-in-Closed-clause-err g c =
 pub returns-in_ok-fork-in-Forked-clause-holds : goal.returns-in_ok-fork-in-Forked-clause-holds
 returns-in_ok-fork-in-Forked-clause-holds g c =
     let entered = c.in_ok-fork-in-Forked.ensures.forked in
-    let turn = turn-forked {R = g.row.W-Run.Denot} (g.W.Work.forks c.args.work.now) (g.W.Work.closes c.args.work.now) (g.W.Work.runs c.args.work.now) g.W.Work.turns_left c.args.theory (forks_in c.args.theory c.args.seat.now.own) c.args.run.now c.command.new.run c.in_ok-command.field-0 c.in-Forked.goal c.in-Forked.is (c.in_ok-command.ensures.turn c.args.theory (forks_in c.args.theory c.args.seat.now.own) c.requires.runs) in
-    let forked = forks-theory g.W.Work.shape g.W.Work.forks g.W.Work.closes g.W.Work.may g.W.Work.faults c.args.seat.now c.fork.new.seat entered.0 c.args.theory c.in-Forked.goal c.requires.holds c.in_ok-fork-in-Forked.ensures.known entered.1 in
+    let turn = turn-forked {R = g.row.W-Run.Denot} (g.W.Work.forks c.args.work.now) (g.W.Work.closes c.args.work.now) (g.W.Work.runs c.args.work.now) g.W.Work.turns_left c.args.theory (forks_in c.args.theory c.args.seat.now.own) c.args.run.now c.command.new.run c.in_ok-command.field-0 c.in-Forked.command c.in-Forked.goal c.in-Forked.is (c.in_ok-command.ensures.turn c.args.theory (forks_in c.args.theory c.args.seat.now.own) c.requires.runs) in
+    let forked = forks-theory g.W.Work.shape g.W.Work.forks g.W.Work.closes g.W.Work.may g.W.Work.faults c.args.seat.now c.fork.new.seat entered.0 c.args.theory c.in-Forked.command c.in-Forked.goal c.requires.holds c.in_ok-fork-in-Forked.ensures.known entered.1 in
     (forked.0, subst (λ k. g.W.Work.runs c.args.work.now c.args.theory k c.command.new.run) (sym forked.1) turn.1)
 
 pub returns-in_ok-close_theory-in-Closed-clause-holds : goal.returns-in_ok-close_theory-in-Closed-clause-holds

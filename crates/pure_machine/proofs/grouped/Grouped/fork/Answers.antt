@@ -9,5 +9,5 @@ invariant_of-self-in_err-number g c = put-kept c.self.inside.groups c.self.insid
 pub invariant_of-self-2 : goal.invariant_of-self-2
 invariant_of-self-2 g c =
     forked-kept c.args.self.now c.self.inside.groups c.self.inside.members c.put.new.self c.self.inside.promises c.fork.new.self
-    (record { theory = c.args.theory; goal = c.args.goal.value; standing = if c.args.cancelled then Cancelled else Ready })
+    (record { theory = c.args.theory; command = c.args.command; goal = c.args.goal.value; standing = if c.args.cancelled then Cancelled else Ready })
     _ _ c.self.view_is (rw c.requires refl) refl c.count-next.ensures c.in_ok-put.ensures c.in_ok-number.ensures.1 c.self.invariant
