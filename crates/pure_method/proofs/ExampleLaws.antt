@@ -16,6 +16,7 @@ use Rattle.pure_logic.specs.Connectives.{imp_typ, imp, protect}
 use Rattle.pure_logic.specs.Content.{IsProposition}
 use Rattle.pure_logic.specs.PureContent.{pure_content}
 use Rattle.pure_logic.proofs.ConnectiveLaws.{pure-below_itself, certified_of, prop-certified, imp-parts}
+use Rattle.pure_lookup.specs.LookUps.{IsFoundFact}
 use Rattle.pure_theorem.proofs.SetLaws.{no_labels}
 use Rattle.pure_unify_definitions.specs.Fronts.{pair}
 use Rattle.pure_unify_definitions.specs.Node.{root}
