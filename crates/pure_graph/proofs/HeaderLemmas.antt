@@ -1,5 +1,5 @@
 -- Commands of a theory, as contracts see them.
-use Rattle.std.proofs.Common.{◌≡◌, ◌+◌, ◌-◌, ◌<◌, ◌≤◌, ℕ, Bool, true, false, ◌||◌, List, [], ◌∷◌, length, map, get_or, take, take_all, refl, sym, ◌∙◌, ap, subst, nat_lt, arith, Option, Some, None, is_none, MatchOption}
+use Rattle.std.proofs.Common.{◌≡◌, ◌+◌, ◌-◌, ◌<◌, ◌≤◌, ℕ, Bool, true, false, not, ◌||◌, List, [], ◌∷◌, length, map, get_or, take, take_all, refl, sym, ◌∙◌, ap, subst, nat_lt, arith, Option, Some, None, is_some, MatchOption}
 use Rattle.std.proofs.lemmas.Bool.Decides.{nat_tests}
 use Rattle.std.proofs.lemmas.List.Sums.{sum_by-cons, sum_by_more, sum_by-take-le}
 use Rattle.std.specs.List.{list_any, sum_by}
@@ -54,9 +54,11 @@ count-turn cs c i count parts within read so_far own =
 pub count-end : (cs : List Command) (i count : ℕ) → length cs ≤ i → count ≡ sum_by parts_of (take i cs) → count ≡ part_count (map seen_command cs)
 count-end cs i count past so_far = so_far ∙ ap (sum_by parts_of) (take_all i cs past) ∙ sym (sum_by-map command_parts seen_command cs)
 
-pub is-many : (found : Option ℕ) (m n : ℕ) → MatchOption found (m < n) (λ k. (k ≡ n) × (k ≤ m)) → is_none found ≡ nat_lt m n
-is-many None m n h = sym (some_more m n h)
-is-many (Some k) m n (is, few) = sym (no_more m n (omega (arith, is, few)))
+pub is-many : (found : Option ℕ) (missed : Bool) (m n : ℕ) → is_some found ≡ not missed → MatchOption found (m < n) (λ k. (k ≡ n) × (k ≤ m)) → missed ≡ nat_lt m n
+is-many None true m n e h = sym (some_more m n h)
+is-many None false m n e h = absurd (cc)
+is-many (Some k) true m n e h = absurd (cc)
+is-many (Some k) false m n e (is, few) = sym (no_more m n (omega (arith, is, few)))
 
 -- a command is a part itself
 pub commands-counted : (cs : List tree.Command) → length cs ≤ part_count cs

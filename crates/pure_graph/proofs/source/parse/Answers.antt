@@ -1,4 +1,3 @@
-use Rattle.pure_script.specs.Faults.{IsFaultOf}
 use Rattle.pure_graph.proofs.SourceLemmas.{grammar-fault}
 use Rattle.pure_graph.proofs.source.parse.Goals as goal
 
