@@ -83,6 +83,7 @@ module _ (P : Place) (own : IsOwnText P.texts P.content P.theory) (first : P.lab
     has = inl ((forking start n script s, (n, is, stands P (part_label P.label 0) n span script s h)), refl);
     are = are;
   })
+
 module _ (P : Place) (n : ℕ) (span : Span) (s : Stated) where
   -- A new statement is stated, and its name is new.
   pub new-states : IsNewStatement P n span (Ok s) → IsStated (vocabulary P) P.source span (Ok s)

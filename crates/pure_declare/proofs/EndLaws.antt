@@ -19,6 +19,7 @@ use Rattle.pure_elab.specs.Vocabulary.{Vocabulary}
 use Rattle.pure_statements.specs.declared.reason.Reason.{Reason}
 use Rattle.pure_statements.specs.declared.stated.Stated.{Stated}
 use Rattle.pure_statements.specs.Statement.{IsStated}
+use Rattle.pure_statements.specs.Rows.{refused_row}
 use Rattle.pure_declare.specs.Notes.{Note, Said, Forked, Fork, Outcome}
 use Rattle.pure_declare.specs.Commands.{Place, IsOwnText, IsTaken, vocabulary, IsOutcome, IsLemmaOutcome}
 use Rattle.pure_declare.specs.First as first
@@ -151,12 +152,13 @@ module _ (texts : List (List ℕ)) (names : AreSessionTexts texts) (source : Lis
     own-end : (haves : List Have) (notes : List Note) (next : Content) (f : Fork) → IsForkOf number s script f → ((g : Fork) → IsIn (Forked g) notes → g.lemma ≡ number) → IsEnded haves 0 Q notes next → IsOwnEnd label Q haves f notes next
     own-end haves notes next f is each e =
         let l = e.is_last in
+        let count : 0 + length haves ≡ length haves = omega arith in
         record {
           front = e.front;
           own = l.own;
           notes_are = e.notes_are ∙ ap (λ (n : Note). e.front ++ n ∷ []) l.note_is;
           count = e.count;
-          label_is = l.label_is;
+          label_is = l.label_is ∙ ap (λ (n : ℕ). part_label label n) count;
           name = l.fork.name ∙ sym is.name;
           fixed = l.fork.fixed ∙ sym is.fixed;
           prop = l.fork.prop ∙ sym is.prop;
@@ -165,6 +167,9 @@ module _ (texts : List (List ℕ)) (names : AreSessionTexts texts) (source : Lis
           next_is = l.next_is ∙ ap (λ (S : Content). with_decl S (PromiseDecl l.own.name l.own.label l.own.prop)) (sym l.content_is);
           lemma = λ g m. each g m ∙ sym l.fork.name;
         }
+
+forked-said : (f : Fork) (row : Row) → Forked f ≡ Said row → ⊥
+forked-said f row e = absurd (cc)
 
 -- What is bound where haves are passed over.
 record IsFirstBound (P : Place) (x : List ℕ) (span : Span) (haves : List Have) (script : List Step) (f : Fork) : Type 0 where
@@ -199,7 +204,7 @@ module _ (P : Place) (x : List ℕ) (span : Span) (haves : List Have) (script : 
     where
       that-fork : (f g : Fork) → Forked f ≡ Forked g → f ≡ g
       that-fork f g e = cc
-  first-bound (Err reason) h e = absurd (cc)
+  first-bound (Err reason) h e = absurd (forked-said f (refused_row P.texts P.source P.theory (Lemma x span haves script) reason) (ap (λ (q : Outcome). q.note) e))
 
 -- What is declared stays so in a content with more.
 declared-kept : (Q R : Content) → IsBelow Q R → (n : ℕ) → IsDeclaredIn facts Q.declarations n → IsDeclaredIn facts R.declarations n
@@ -254,57 +259,54 @@ module _ (texts : List (List ℕ)) (source : List ℕ) where
       by note row (inr none) = none
 
   module _ (names : AreSessionTexts texts) (theory : List ℕ) (label : Label) (Q : Content) (x : List ℕ) (number : ℕ) (named : HasText texts number (full_text theory x)) (span : Span) (script : List Step) where
-    abbrev left_of : List Have → List Part
-    left_of haves = map (Within x) haves ++ End x span script ∷ []
+    abbrev chain_of : List Have → List Part
+    chain_of haves = map (Within x) haves ++ End x span script ∷ []
 
-    abbrev at : ℕ → Content → List ℕ → Place
-    at place R t = record { texts = texts; source = source; label = part_label label place; theory = t; content = R }
+    abbrev over : ℕ → Content → List ℕ → Place
+    over place R t = record { texts = texts; source = source; label = part_label label place; theory = t; content = R }
 
     -- The fork is of this lemma and of this command.
     abbrev IsHere : Fork → Type 0
     IsHere f = (f.lemma ≡ number) × (f.label.theory ≡ label.theory) × (f.label.command ≡ label.command)
 
-    bound-here : (place : ℕ) (R : Content) (n m : ℕ) (prop : Span) (proof : List Step) (o : Outcome) (f : Fork) → HasText texts m (full_text theory x) → IsBoundOutcome (at place R theory) n m prop proof (Ok o) → o.note ≡ Forked f → IsHere f
+    bound-here : (place : ℕ) (R : Content) (n m : ℕ) (prop : Span) (proof : List Step) (o : Outcome) (f : Fork) → HasText texts m (full_text theory x) → IsBoundOutcome (over place R theory) n m prop proof (Ok o) → o.note ≡ Forked f → IsHere f
     bound-here place R n m prop proof o f is h e =
-        let P = at place R theory in
+        let P = over place R theory in
         let b = bound-binding P n m prop proof o h in
-        let same = fork-same texts source (part_label label place) R o.note o.next theory b f e in
-        (
+        let same = fork-same texts source (part_label label place) R o.note o.next theory b f e in (
           ap (λ (g : Fork). g.lemma) (sym same) ∙ bound-lemma_name P n m prop proof o h ∙ one_name texts names (full_text theory x) m number is named,
           ap (λ (g : Fork). g.label.theory) (sym same),
           ap (λ (g : Fork). g.label.command) (sym same),
         )
 
-    have-here : (place : ℕ) (R : Content) (have : Have) (o : Outcome) (f : Fork) (answer : Result Outcome Reason) → IsHaveOutcome (at place R theory) x have answer → o ≡ have_outcome (at place R theory) x have answer → o.note ≡ Forked f → IsHere f
+    have-here : (place : ℕ) (R : Content) (have : Have) (o : Outcome) (f : Fork) (answer : Result Outcome Reason) → IsHaveOutcome (over place R theory) x have answer → o ≡ have_outcome (over place R theory) x have answer → o.note ≡ Forked f → IsHere f
     have-here place R have o f (Ok p) (n, m, is, its, h) e same = bound-here place R n m have.prop have.script p f its h (ap (λ (q : Outcome). q.note) (sym e) ∙ same)
     have-here place R have o f (Err reason) h e same = let none : Said _ ≡ Forked f = ap (λ (q : Outcome). q.note) (sym e) ∙ same in absurd (cc)
 
     first-here : (place : ℕ) (R : Content) → IsOwnText texts R theory → (have : Have) (note : Note) (next : Content) (f : Fork) → DeclaresPart texts source (part_label label place) R (Within x have) note next → note ≡ Forked f → IsHere f
     first-here place R own have note next f d e =
         let o : Outcome = record { note = note; next = next } in
-        let w = subst (λ (t : List ℕ). (answer : Result Outcome Reason) × IsHaveOutcome (at place R t) x have answer × (o ≡ have_outcome (at place R t) x have answer)) (own-once texts R d.theory theory d.own own) (d.declares.answer, d.declares.is, d.declares.comes) in
+        let w = subst (λ (t : List ℕ). (answer : Result Outcome Reason) × IsHaveOutcome (over place R t) x have answer × (o ≡ have_outcome (over place R t) x have answer)) (own-once texts R d.theory theory d.own own) (d.declares.answer, d.declares.is, d.declares.comes) in
         have-here place R have o f w.0 w.1 w.2 e
 
     last-here : (place : ℕ) (R : Content) → IsOwnText texts R theory → (note : Note) (next : Content) → DeclaresPart texts source (part_label label place) R (End x span script) note next
         → ((f : Fork) → note ≡ Forked f → IsHere f) × IsDeclaredIn facts next.declarations number
     last-here place R own note next d =
         let o : Outcome = record { note = note; next = next } in
-        let h = subst (λ (t : List ℕ). (n : ℕ) × HasText texts n (full_text t x) × IsBoundOutcome (at place R t) n n span script (Ok o)) (own-once texts R d.theory theory d.own own) d.declares in
-        let b = bound-binding (at place R theory) h.0 h.0 span script o h.2 in
-        let name_is : b.number ≡ number = bound-number (at place R theory) h.0 h.0 span script o h.2 ∙ one_name texts names (full_text theory x) h.0 number h.1 named in
+        let h = subst (λ (t : List ℕ). (n : ℕ) × HasText texts n (full_text t x) × IsBoundOutcome (over place R t) n n span script (Ok o)) (own-once texts R d.theory theory d.own own) d.declares in
+        let b = bound-binding (over place R theory) h.0 h.0 span script o h.2 in
+        let name_is : b.number ≡ number = bound-number (over place R theory) h.0 h.0 span script o h.2 ∙ one_name texts names (full_text theory x) h.0 number h.1 named in
         let ends : IsIn (PromiseDecl b.number (part_label label place) b.stated.prop) next.declarations =
         subst (λ (S : Content). IsIn (PromiseDecl b.number (part_label label place) b.stated.prop) S.declarations) (sym (next-bound texts source (part_label label place) R note next theory b))
-        (in-append_right (PromiseDecl b.number (part_label label place) b.stated.prop) R.declarations (PromiseDecl b.number (part_label label place) b.stated.prop ∷ []) (inl refl)) in
-        (
+        (in-append_right (PromiseDecl b.number (part_label label place) b.stated.prop) R.declarations (PromiseDecl b.number (part_label label place) b.stated.prop ∷ []) (inl refl)) in (
           λ f e. bound-here place R h.0 h.0 span script o f h.1 h.2 e,
           inr (part_label label place, b.stated.prop, subst (λ (k : ℕ). IsIn (PromiseDecl k (part_label label place) b.stated.prop) next.declarations) name_is ends),
         )
 
-    chain-here : (haves : List Have) (place : ℕ) (R : Content) → IsBehind texts theory number label Q place R → (notes : List Note) (next : Content) → AreParts texts source label place R (left_of haves) notes next
+    chain-here : (haves : List Have) (place : ℕ) (R : Content) → IsBehind texts theory number label Q place R → (notes : List Note) (next : Content) → AreParts texts source label place R (chain_of haves) notes next
         → ((f : Fork) → IsIn (Forked f) notes → IsHere f) × IsDeclaredIn facts next.declarations number
     chain-here [] place R b notes next (note, then, rest, d, (none, last), all) =
-        let w = last-here place R b.own note then d in
-        (
+        let w = last-here place R b.own note then d in (
           λ f m. one-here f note (w.0 f) (subst (λ (ns : List Note). IsIn (Forked f) ns) (all ∙ ap (λ (l : List Note). note ∷ l) none) m),
           subst (λ (S : Content). IsDeclaredIn facts S.declarations number) (sym last) w.1,
         )

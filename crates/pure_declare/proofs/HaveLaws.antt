@@ -122,8 +122,8 @@ module _ (texts : List (List ℕ)) (theory : List ℕ) (label : Label) (Q : Cont
     behind-next place R have note next b h =
         let same : h.theory ≡ theory = own-once texts R h.theory theory h.own b.own in
         let there = subst (λ (t : List ℕ). (answer : Result Outcome Reason)
-            × IsHaveOutcome (record { texts = texts; source = source; label = part_label label place; theory = t; content = R }) x have answer
-            × (outcome_with note next ≡ have_outcome (record { texts = texts; source = source; label = part_label label place; theory = t; content = R }) x have answer)) same (h.declares.answer, h.declares.is, h.declares.comes) in
+        × IsHaveOutcome (record { texts = texts; source = source; label = part_label label place; theory = t; content = R }) x have answer
+        × (outcome_with note next ≡ have_outcome (record { texts = texts; source = source; label = part_label label place; theory = t; content = R }) x have answer)) same (h.declares.answer, h.declares.is, h.declares.comes) in
         answer-behind place R have (record { note = note; next = next }) there.0 b there.1 there.2
 
     -- All haves of a list.

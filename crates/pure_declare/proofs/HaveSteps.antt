@@ -118,6 +118,7 @@ module _ (P : Place) (own : IsOwnText P.texts P.content P.theory) (x : List ℕ)
       let on = parts-more P.texts P.source P.label 0 (length notes) P.content R (map (Within x) done) notes (End x span script) o.note o.next count h d in
       subst (λ (S : Content). AreParts P.texts P.source P.label 0 P.content (map (Within x) done ++ End x span script ∷ []) more S) (sym last)
       (subst (λ (ns : List Note). AreParts P.texts P.source P.label 0 P.content (map (Within x) done ++ End x span script ∷ []) ns o.next) (sym e) on)
+
 -- What each have of a list has, and the haves so far.
 each_read-maps : {A B C : Type 0} (P : C → Type 0) (g : B → C) (f : A → B) (xs : List A) (i : ℕ) (r : A) → i < length xs → r ≡ get_or xs i r → Each P (map g (map f xs)) → P (g (f r))
 each_read-maps P g f [] i r within read h = absurd (omega arith)

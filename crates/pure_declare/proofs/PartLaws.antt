@@ -57,32 +57,32 @@ module _ (P : Place) where
       record { number = n; lemma = m; span = span; script = script; stated = s; new = new; states = h; is = given-outcome o (binding P n m script s) e }
 
   pub bound-script : (n m : ℕ) (span : Span) (script : List Step) (o : Outcome) (h : IsBoundOutcome P n m span script (Ok o)) → (bound-binding n m span script o h).script ≡ script
-  unfolding IsBoundOutcome
+  unfolding IsBoundOutcome bound-binding
   bound-script n m span script o (holds h e) = absurd (cc)
   bound-script n m span script o (passes new (refuses reason h e)) = absurd (cc)
   bound-script n m span script o (passes new (goes_on s h e)) = refl
 
   pub bound-number : (n m : ℕ) (span : Span) (script : List Step) (o : Outcome) (h : IsBoundOutcome P n m span script (Ok o)) → (bound-binding n m span script o h).number ≡ n
-  unfolding IsBoundOutcome
+  unfolding IsBoundOutcome bound-binding
   bound-number n m span script o (holds h e) = absurd (cc)
   bound-number n m span script o (passes new (refuses reason h e)) = absurd (cc)
   bound-number n m span script o (passes new (goes_on s h e)) = refl
 
   pub bound-span : (n m : ℕ) (span : Span) (script : List Step) (o : Outcome) (h : IsBoundOutcome P n m span script (Ok o)) → (bound-binding n m span script o h).span ≡ span
-  unfolding IsBoundOutcome
+  unfolding IsBoundOutcome bound-binding
   bound-span n m span script o (holds h e) = absurd (cc)
   bound-span n m span script o (passes new (refuses reason h e)) = absurd (cc)
   bound-span n m span script o (passes new (goes_on s h e)) = refl
 
   pub bound-lemma_name : (n m : ℕ) (span : Span) (script : List Step) (o : Outcome) (h : IsBoundOutcome P n m span script (Ok o)) → (bound-binding n m span script o h).lemma ≡ m
-  unfolding IsBoundOutcome
+  unfolding IsBoundOutcome bound-binding
   bound-lemma_name n m span script o (holds h e) = absurd (cc)
   bound-lemma_name n m span script o (passes new (refuses reason h e)) = absurd (cc)
   bound-lemma_name n m span script o (passes new (goes_on s h e)) = refl
 
   -- What is told of the names is told of those of the binding.
   pub bound-names : (Is : ℕ → ℕ → Type 0) (n m : ℕ) (span : Span) (script : List Step) (o : Outcome) (h : IsBoundOutcome P n m span script (Ok o)) → Is n m → Is (bound-binding n m span script o h).number (bound-binding n m span script o h).lemma
-  unfolding IsBoundOutcome
+  unfolding IsBoundOutcome bound-binding
   bound-names Is n m span script o (holds h e) is = absurd (cc)
   bound-names Is n m span script o (passes new (refuses reason h e)) is = absurd (cc)
   bound-names Is n m span script o (passes new (goes_on s h e)) is = is
@@ -241,7 +241,7 @@ module _ (texts : List (List ℕ)) (source : List ℕ) (label : Label) (Q : Cont
 
   forked-none : (row : Row) → note ≡ Said row → IsIn (PromiseDecl x l A) Q.declarations ⊎ ((f : Fork) × (note ≡ Forked f) × (f.label ≡ l) × (f.prop ≡ A)) → ComesFrom
   forked-none row e (inl old) = inl old
-  forked-none row e (inr (f, is, rest)) = absurd (no-fork texts source label Q note next row f e is)
+  forked-none row e (inr (f, is, at, prop)) = absurd (no-fork texts source label Q note next row f e is)
 
   promise-comes : (part : Part) → IsPartDone texts source label Q part note next → IsIn (PromiseDecl x l A) next.declarations → ComesFrom
   promise-comes part (by_command command d row e) m = forked-none row e (declares_promises texts source label Q command note next d x l A m)

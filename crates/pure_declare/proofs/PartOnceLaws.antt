@@ -92,8 +92,7 @@ module _ (texts : List (List ℕ)) (names : AreSessionTexts texts) (source : Lis
     parts-same : (haves : List Have) (place : ℕ) (R : Content) → IsBehind texts theory number label Q place R → (notes others : List Note) (next more : Content)
         → AreParts texts source label place R (left_of haves) notes next → AreParts texts source label place R (left_of haves) others more → (notes ≡ others) × (next ≡ more)
     parts-same [] place R b notes others next more (note, then, rest, d, (none, last), all) (other, those, remain, e, (empty, end), whole) =
-        let same = inner-once (part_label label place) R (End x span script) tt (anti-behind place R b) note other then those d e in
-        (
+        let same = inner-once (part_label label place) R (End x span script) tt (anti-behind place R b) note other then those d e in (
           all ∙ ap (λ (l : List Note). note ∷ l) none ∙ ap (λ (n : Note). n ∷ []) same.0 ∙ sym (ap (λ (l : List Note). other ∷ l) empty) ∙ sym whole,
           last ∙ same.1 ∙ sym end,
         )

@@ -19,7 +19,7 @@ use Rattle.pure_statements.specs.Chain.{Then, Unless, Gives, goes_on, passes}
 use Rattle.pure_statements.specs.Statement.{IsStated}
 use Rattle.pure_declare.specs.Notes.{Note, Outcome}
 use Rattle.pure_declare.specs.Commands.{Place, IsOwnText, IsTaken, vocabulary, IsOutcome}
-use Rattle.pure_declare.specs.First.{outcome_of}
+use Rattle.pure_declare.specs.First.{IsDeclaredAs, outcome_of}
 use Rattle.pure_declare.specs.Parts.{Part, Whole, Within, End, binding, IsBoundOutcome, IsHaveOutcome, have_outcome, DeclaresPart}
 use Rattle.pure_declare.specs.Changes.{IsNoLemma}
 use Rattle.pure_declare.specs.Fold.{HasParts, part_label, AreParts, Declares}
@@ -81,7 +81,7 @@ module _ (texts : List (List ℕ)) (source : List ℕ) (label : Label) (Q : Cont
   whole-some : (command : Command) → IsNoLemma command → Answered (IsOutcome here command) → HasParts here command (Whole command ∷ []) → (notes : List Note) × (next : Content) × Declares texts source label Q command notes next
   whole-some command kind a has =
       let o = outcome_of here command a.0 in
-      let is = record { answer = a.0; is = a.1; comes = refl } in
+      let is : IsDeclaredAs here command o = record { answer = a.0; is = a.1; comes = refl } in
       let d : DeclaresPart texts source (part_label label 0) Q (Whole command) o.note o.next = record { theory = theory; own = own; declares = (is, command-row here command kind o is) } in
       (o.note ∷ [], o.next, record { theory = theory; own = own; parts = Whole command ∷ []; has = has; are = part-alone texts source label Q (Whole command) o.note o.next d })
 

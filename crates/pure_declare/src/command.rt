@@ -277,15 +277,7 @@ fn declared(alloc: Global, place: &Place<'_>, command: &Command) -> Result<Decla
             prop,
             haves,
             script,
-        } => lemma_declared(
-            alloc,
-            place,
-            command,
-            name.bytes(),
-            *prop,
-            haves,
-            script,
-        ),
+        } => lemma_declared(alloc, place, command, name.bytes(), *prop, haves, script),
         _ => whole_declared(alloc, place, command),
     }
 }
