@@ -1,5 +1,5 @@
 -- Commands of a theory, as contracts see them.
-use Rattle.std.proofs.Common.{◌≡◌, ◌+◌, ◌-◌, ◌<◌, ◌≤◌, ℕ, Bool, true, false, not, ◌||◌, List, [], ◌∷◌, length, map, get_or, take, take_all, refl, sym, ◌∙◌, ap, subst, nat_lt, arith, Option, Some, None, is_some, MatchOption}
+use Rattle.std.proofs.Common.{◌≡◌, ◌+◌, ◌-◌, ◌<◌, ◌≤◌, ℕ, Bool, true, false, not, ◌||◌, List, [], ◌∷◌, length, map, get_or, take, take_all, refl, sym, ◌∙◌, ap, nat_lt, arith, Option, Some, None, is_some, MatchOption}
 use Rattle.std.proofs.lemmas.Bool.Decides.{nat_tests}
 use Rattle.std.proofs.lemmas.List.Sums.{sum_by-cons, sum_by_more, sum_by-take-le}
 use Rattle.std.specs.List.{list_any, sum_by}

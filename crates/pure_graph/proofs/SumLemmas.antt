@@ -1,5 +1,5 @@
 -- The parts of the files before a file, and its own.
-use Rattle.std.proofs.Common.{◌≡◌, ◌+◌, ◌<◌, ◌≤◌, ℕ, true, false, refl, arith, nat_le, Option, Some, None, MatchOption}
+use Rattle.std.proofs.Common.{◌≡◌, ◌<◌, ◌≤◌, ℕ, true, false, refl, arith, nat_le, Option, Some, None, MatchOption}
 use Rattle.std.proofs.lemmas.Bool.Decides.{nat_tests}
 use Rattle.pure_graph.specs.Outcome.{Outcome, Refused}
 use Rattle.pure_graph.specs.Reading.{fits, counted}

@@ -1,7 +1,6 @@
 -- Labels under their numbers.
 use Rattle.std.proofs.Common.{◌≡◌, arith}
-use Rattle.pure_definitions.specs.Names.{Label}
-use Rattle.pure_theory_tables.specs.Keys.{label_key, IsOrdinary, OrdinaryLabelsApart}
+use Rattle.pure_theory_tables.specs.Keys.{label_key, OrdinaryLabelsApart}
 
 pub ordinary_labels_apart : OrdinaryLabelsApart
 unfolding label_key
