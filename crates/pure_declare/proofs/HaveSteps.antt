@@ -44,7 +44,7 @@ module _ (P : Place) (lemma : ℕ) (name : List ℕ) (text : List ℕ) (has : Ha
   have-found n h base is = subst (λ (t : List ℕ). HasText P.texts n (full_text t name)) (sym (base-text base is)) h
 
   pub have-there : (base : List ℕ) × IsNameOf P base lemma × IsNamed P.texts (have_text P.theory base name) → IsFound (name_texts P.texts) (full_text text name) None → ⊥
-  have-there (base, is, n, there) none = none n (subst (λ (t : List ℕ). HasText P.texts n (full_text t name)) (base-text base is) there)
+  have-there (base, is, there) none = none there.0 (subst (λ (t : List ℕ). HasText P.texts there.0 (full_text t name)) (base-text base is) there.1)
 
 -- There are as many notes as parts.
 pub parts-count : (texts : List (List ℕ)) (source : List ℕ) (label : Label) (place : ℕ) (Q : Content) (parts : List Part) (notes : List Note) (last : Content) → AreParts texts source label place Q parts notes last → length notes ≡ length parts
@@ -97,7 +97,8 @@ module _ (P : Place) (own : IsOwnText P.texts P.content P.theory) (x : List ℕ)
   pub haves-more : (done : List Have) (have : Have) (notes more : List Note) (R next : Content) (note : Note) → AreHaves P x done notes R → DeclaresPart P.texts P.source (part_label P.label (length notes)) R (Within x have) note next
       → more ≡ notes ++ note ∷ [] → AreHaves P x (done ++ have ∷ []) more next
   haves-more done have notes more R next note h d e =
-      let count : length notes ≡ 0 + length (map (Within x) done) = parts-count P.texts P.source P.label 0 P.content (map (Within x) done) notes R h in
+      let many = parts-count P.texts P.source P.label 0 P.content (map (Within x) done) notes R h in
+      let count : length notes ≡ 0 + length (map (Within x) done) = omega (arith, many) in
       let on = parts-more P.texts P.source P.label 0 (length notes) P.content R (map (Within x) done) notes (Within x have) note next count h d in
       subst (λ (ns : List Note). AreHaves P x (done ++ have ∷ []) ns next) (sym e)
       (subst (λ (ps : List Part). AreParts P.texts P.source P.label 0 P.content ps (notes ++ note ∷ []) next) (sym (map-append (Within x) done (have ∷ []))) on)
@@ -108,7 +109,8 @@ module _ (P : Place) (own : IsOwnText P.texts P.content P.theory) (x : List ℕ)
       → AreParts P.texts P.source P.label 0 P.content (map (Within x) done ++ End x span script ∷ []) more next
   ends-with done span script notes more R next o s h new states is e last =
       let b = behind-haves done notes R h in
-      let count : length notes ≡ 0 + length (map (Within x) done) = parts-count P.texts P.source P.label 0 P.content (map (Within x) done) notes R h in
+      let many = parts-count P.texts P.source P.label 0 P.content (map (Within x) done) notes R h in
+      let count : length notes ≡ 0 + length (map (Within x) done) = omega (arith, many) in
       let here : IsStated (vocabulary (record { texts = P.texts; source = P.source; label = part_label P.label (length notes); theory = P.theory; content = R })) P.source span (Ok s) = subst (λ (V : Vocabulary). IsStated V P.source span (Ok s)) (sym b.words) states in
       let d : DeclaresPart P.texts P.source (part_label P.label (length notes)) R (End x span script) o.note o.next = record {
         theory = P.theory;

@@ -1,7 +1,5 @@
-use Rattle.std.proofs.Common.{take_all, map, length, arith}
-use Rattle.pure_script.specs.Seen.{seen_have}
+use Rattle.std.proofs.Common.{take_all}
 use Rattle.pure_lookup.specs.Meaning.{full_text}
-use Rattle.pure_declare.specs.Seen.{seen_notes}
 use Rattle.pure_declare.proofs.HaveSteps.{have-lies, have-named, haves-longer, loop-few}
 use Rattle.pure_declare.proofs.haves.haves_declared.Goals as goal
 

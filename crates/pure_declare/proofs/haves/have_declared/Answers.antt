@@ -1,1 +1,0 @@
-use Rattle.pure_declare.proofs.haves.have_declared.Goals as goal
