@@ -13,5 +13,6 @@ lemma_refused-requires-clause-lemma c = (c.args.base.now, span c.args.at, map se
 
 pub lemma_refused-requires-clause-refused : goal.lemma_refused-requires-clause-refused
 lemma_refused-requires-clause-refused c =
-    refusal-outcome c.args.place.now (seen_command c.args.command.now) c.args.base.now (span c.args.at) (map seen_have c.args.haves.now) (seen_steps c.args.script.now) c.requires.lemma c.name_of-number.result c.name_of-number.ensures c.in-Err-Refused.reason
-    (rw c.in-Err-Refused.field-0-is at c.in-Err-Refused.ensures.answer)
+    rw c.in-Err-Refused.field-0-is
+    (refusal-outcome c.args.place.now (seen_command c.args.command.now) c.args.base.now (span c.args.at) (map seen_have c.args.haves.now) (seen_steps c.args.script.now) c.requires.lemma c.name_of-number.result c.name_of-number.ensures
+    c.in-Err-Refused.reason (rw c.in-Err-Refused.field-0-is at c.in-Err-Refused.ensures.answer))
