@@ -13,5 +13,5 @@ promises_are_owned texts theories loaded s legal number p stands =
     let others : ℕ = length (promises_of p.theory (take number s.promises)) in
     let placed : IsPlaced s.promises number p.theory others = record { promise = p; stands = stands; theory_is = refl; count = refl } in
     let fork : ForksAfter texts theories p.theory others p.command p.goal =
-        goals-forked (shape_of theories) (ForksAfter texts theories) (ClosesAfter texts theories) (IsOutcomeOf texts) is_fault s legal number p.theory others placed in
+    goals-forked (shape_of theories) (ForksAfter texts theories) (ClosesAfter texts theories) (IsOutcomeOf texts) is_fault s legal number p.theory others placed in
     record { theory_is = sym (fork-theory texts theories loaded p.theory others p.goal fork.lemma); command_is = fork.command_is }

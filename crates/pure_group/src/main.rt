@@ -32,6 +32,39 @@ fn decide_in_pure<R: Print>(
     done
 }
 
+/// Prints the theorem on inverses, and decides it once more in Pure.
+fn show_inverse<R: Print>(
+    rt: &R,
+    alloc: Global,
+    names: &NamesByBase,
+    th: &Thm,
+) -> Result<(), Stop> {
+    print_line(rt, alloc, names, "right_inverse", &th.prop)?;
+    decide_in_pure(rt, alloc, names, th)
+}
+
+/// Proves the theorem on inverses, and prints it.
+fn prove_inverse<R: Print>(
+    rt: &R,
+    alloc: Global,
+    thy: &Theory,
+    names: &NamesByBase,
+) -> Result<(), Stop> {
+    let th = right_inverse(alloc, thy, names)?;
+    show_inverse(rt, alloc, names, &th)
+}
+
+/// Simplifies a function, and prints the equation.
+fn simplify<R: Print>(
+    rt: &R,
+    alloc: Global,
+    thy: &Theory,
+    names: &NamesByBase,
+) -> Result<(), Stop> {
+    let th = simplified(alloc, thy, names)?;
+    print_line(rt, alloc, names, "simplified", &th.prop)
+}
+
 /// Proves and prints in the theory of groups.
 fn run_over<R: Print>(
     rt: &R,
@@ -39,11 +72,8 @@ fn run_over<R: Print>(
     thy: &Theory,
     names: &NamesByBase,
 ) -> Result<(), Stop> {
-    let th = right_inverse(alloc, thy, names)?;
-    print_line(rt, alloc, names, "right_inverse", &th.prop)?;
-    decide_in_pure(rt, alloc, names, &th)?;
-    let simple = simplified(alloc, thy, names)?;
-    print_line(rt, alloc, names, "simplified", &simple.prop)?;
+    prove_inverse(rt, alloc, thy, names)?;
+    simplify(rt, alloc, thy, names)?;
     decide_all(rt, alloc, thy, names)
 }
 

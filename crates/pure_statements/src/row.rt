@@ -110,12 +110,7 @@ pub fn refused_row(
 
 /// What a have is about: its full name, in the lemma with this base.
 #[tactic(auto, unfolding(crate::specs::Rows::have_word))]
-fn have_head(
-    alloc: Global,
-    theory: &[u8],
-    lemma: &[u8],
-    name: &[u8],
-) -> Result<Text, AllocError>
+fn have_head(alloc: Global, theory: &[u8], lemma: &[u8], name: &[u8]) -> Result<Text, AllocError>
     ensures { IfOk result (λ t. t ≡ spec.have_word ++ spec.have_text theory.now lemma.now name.now) }
 {
     let mut text = Vec::from_slice(alloc, b"have ")?;

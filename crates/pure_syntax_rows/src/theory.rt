@@ -143,7 +143,10 @@ fn say_parts(
             say_span(shown, source, *prop)
         }
         Command::Lemma {
-            name, prop, script, ..
+            name,
+            prop,
+            script,
+            ..
         } => {
             say_text(shown, name)?;
             say_span(shown, source, *prop)?;
