@@ -16,10 +16,11 @@ use pure_text::Text;
 use pure_try::{is_found, line, try_lemma};
 use std::alloc::{AllocError, Global};
 use std::rt::Files;
+use std::sync::Wait;
 use std::thread::Threads;
 
 /// What is said of the session's lemma with this full name.
-fn line_answer<R: Threads + Sync>(
+fn line_answer<R: Threads + Wait + Sync>(
     rt: &R,
     alloc: Global,
     session: Session,
@@ -48,7 +49,7 @@ fn line_answer<R: Threads + Sync>(
 }
 
 /// The same, with want of memory as the one fault.
-fn session_line<R: Threads + Sync>(
+fn session_line<R: Threads + Wait + Sync>(
     rt: &R,
     alloc: Global,
     session: Session,
@@ -68,7 +69,7 @@ fn session_line<R: Threads + Sync>(
 
 /// Loads the library's theories, and looks for a proof in one step of the lemma with this full name. The proofs of the lemmas
 /// aren't run. It waits for the threads that it starts.
-pub(crate) fn tried<R: Files + Print + AllocGlobal + Threads + Sync, L: Library>(
+pub(crate) fn tried<R: Files + Print + AllocGlobal + Threads + Wait + Sync, L: Library>(
     rt: &R,
     alloc: Global,
     workers: u32,

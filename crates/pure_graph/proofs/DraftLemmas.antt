@@ -1,6 +1,7 @@
 -- Drafts of files: as they are read, once they say what they say, and as they are counted.
-use Rattle.std.proofs.Common.{◌≡◌, ℕ, suc, ◌+◌, ◌<◌, ◌≤◌, List, [], ◌∷◌, ◌++◌, length, get_or, take, drop, take_all, refl, sym, ap, ◌∙◌, subst, arith, append_assoc, length-append, Option, nat_lt}
-use Rattle.std.proofs.lemmas.List.{length-map, map-append, append-nil}
+use Rattle.std.proofs.Common.{◌≡◌, ℕ, suc, ◌+◌, ◌-◌, ◌<◌, ◌≤◌, List, [], ◌∷◌, ◌++◌, length, get_or, take, drop, take_all, take-add, length-take-le, refl, sym, ap, ◌∙◌, subst, arith, append_assoc, length-append, Option, nat_lt}
+use Rattle.std.proofs.lemmas.List.{map-append, append-nil}
+use Rattle.std.specs.Prelude.{slice_range}
 use Rattle.pure_io.specs.declared.library.File as library
 use Rattle.pure_text.specs.Lists.{EachTwo}
 use Rattle.std.proofs.Math.Seq.{take-append_seam}
@@ -9,12 +10,13 @@ use Rattle.pure_text.proofs.LoopLaws.{longer_by}
 use Rattle.pure_graph.specs.Limits.{most_files}
 use Rattle.pure_graph.specs.Outcome.{Outcome}
 use Rattle.pure_graph.specs.Reading.{counted, file_parts}
-use Rattle.pure_graph.specs.Told.{IsTriedOf, AreReadOf}
+use Rattle.pure_graph.specs.Told.{IsTriedOf}
 use Rattle.pure_graph.specs.Seen.{seen_outcome, seen_file, seen_files}
-use Rattle.pure_graph.specs.Drafts.{IsKnownOf, AreDraftsFrom, IsSaidOf}
+use Rattle.pure_graph.specs.Drafts.{IsKnownOf, AreDraftsFrom, IsSaidOf, IsReadSoFar, IsReadTo, IsReadOn, AreReadBehind}
 use Rattle.pure_graph.specs.declared.drafts.Draft.{Draft}
+use Rattle.pure_graph.specs.declared.files.ReadFiles.{ReadFiles}
 use Rattle.pure_graph.specs.declared.outcome.TheoryFile.{TheoryFile}
-use Rattle.pure_graph.proofs.FilesLemmas.{IsReadSoFar, IsReadSoFar-none, IsReadSoFar-more, IsReadSoFar-all}
+use Rattle.pure_graph.proofs.FilesLemmas.{IsReadSoFar-none, IsReadSoFar-more, read-long}
 
 -- what holds at each place holds of two lists
 pub two_of : {A : Type 0} (R : A → A → Type 0) (xs ys : List A) → length ys ≡ length xs → ((i : ℕ) (d : A) → i < length xs → R (get_or xs i d) (get_or ys i d)) → EachTwo R xs ys
@@ -32,19 +34,22 @@ drafts-snoc told place (t ∷ theories) theory [] draft all is known = absurd al
 drafts-snoc told place (t ∷ theories) theory (d ∷ drafts) draft all is known =
     (all.0, all.1, drafts-snoc told (place + 1) theories theory drafts draft all.2 is (subst (λ n. IsKnownOf told n theory draft.known) (omega arith) known))
 
-zero-plus : (m n : ℕ) → m ≡ n → m ≡ 0 + n
-zero-plus m n e = omega (arith, e)
+pub long-none : (drafts : List Draft) → drafts ≡ [] → length drafts ≡ 0
+long-none drafts none = ap length none
+
+pub long-turn : (drafts : List Draft) (draft : Draft) (drafts' : List Draft) (i : ℕ) → length drafts ≡ i → drafts' ≡ drafts ++ draft ∷ [] → length drafts' ≡ i + 1
+long-turn drafts draft drafts' i long longer = ap length longer ∙ length-append drafts (draft ∷ []) ∙ ap (λ n. n + 1) long
 
 -- one turn of the loop
-pub drafts-turn : (told now : Option (List library.File)) (theories : List (List ℕ)) (i : ℕ) (theory : List ℕ) (drafts drafts' : List Draft) (draft : Draft) (place : ℕ)
-    → now ≡ told → i < length theories → theory ≡ get_or theories i theory → place ≡ length drafts → AreDraftsFrom told 0 (take i theories) drafts
-    → IsKnownOf now place theory draft.known → draft.theory ≡ theory → drafts' ≡ drafts ++ draft ∷ [] → AreDraftsFrom told 0 (take (i + 1) theories) drafts'
-drafts-turn told now theories i theory drafts drafts' draft place same within read place_is so_far known is longer =
+pub drafts-turn : (told now : Option (List library.File)) (start : ℕ) (theories : List (List ℕ)) (i : ℕ) (theory : List ℕ) (drafts drafts' : List Draft) (draft : Draft) (place : ℕ)
+    → now ≡ told → i < length theories → theory ≡ get_or theories i theory → place ≡ start + length drafts → AreDraftsFrom told start (take i theories) drafts
+    → IsKnownOf now place theory draft.known → draft.theory ≡ theory → drafts' ≡ drafts ++ draft ∷ [] → AreDraftsFrom told start (take (i + 1) theories) drafts'
+drafts-turn told now start theories i theory drafts drafts' draft place same within read place_is so_far known is longer =
     rw (longer_by theories i theory within read, longer)
-    (drafts-snoc told 0 (take i theories) theory drafts draft so_far is (subst (λ n. IsKnownOf told n theory draft.known) (zero-plus place (length drafts) place_is) (subst (λ o. IsKnownOf o place theory draft.known) same known)))
+    (drafts-snoc told start (take i theories) theory drafts draft so_far is (subst (λ n. IsKnownOf told n theory draft.known) place_is (subst (λ o. IsKnownOf o place theory draft.known) same known)))
 
-pub drafts-end : (told : Option (List library.File)) (theories : List (List ℕ)) (i : ℕ) (drafts : List Draft) → length theories ≤ i → AreDraftsFrom told 0 (take i theories) drafts → AreDraftsFrom told 0 theories drafts
-drafts-end told theories i drafts past so_far = rw (take_all i theories past) at so_far
+pub drafts-end : (told : Option (List library.File)) (start : ℕ) (theories : List (List ℕ)) (i : ℕ) (drafts : List Draft) → length theories ≤ i → AreDraftsFrom told start (take i theories) drafts → AreDraftsFrom told start theories drafts
+drafts-end told start theories i drafts past so_far = rw (take_all i theories past) at so_far
 
 -- ---- once they say what they say
 pub drafts-said : (told : Option (List library.File)) (place : ℕ) (theories : List (List ℕ)) (old new : List Draft) → EachTwo IsSaidOf old new → AreDraftsFrom told place theories old → AreDraftsFrom told place theories new
@@ -63,60 +68,87 @@ lent-back old lent new n same long two =
     subst (EachTwo IsSaidOf old) (sym back) (subst (λ (ds : List Draft). EachTwo IsSaidOf ds new) same two)
 
 -- ---- as they are counted
--- These files are of the drafts passed; what is left of the drafts is of the theories left.
-pub record AreCounted (drafts left : List Draft) (files : List TheoryFile) (before : ℕ) : Type 0 where
-  pub so_far : (told : Option (List library.File)) (theories : List (List ℕ)) → AreDraftsFrom told 0 theories drafts
-      → (done : List (List ℕ)) × (others : List (List ℕ)) × (theories ≡ done ++ others) × IsReadSoFar told done (seen_files files) before × AreDraftsFrom told (length files) others left
+-- Behind the first files stand those of the drafts passed; what is left of the drafts is of the theories left.
+pub record AreCounted (first : ReadFiles) (drafts left : List Draft) (files : List TheoryFile) (before : ℕ) : Type 0 where
+  pub so_far : (told : Option (List library.File)) (read theories : List (List ℕ)) → IsReadTo told read first → AreDraftsFrom told (length read) theories drafts
+      → (done : List (List ℕ)) × (others : List (List ℕ)) × (read ++ theories ≡ done ++ others) × IsReadSoFar told done (seen_files files) before × AreDraftsFrom told (length done) others left
 
-pub counted-none : (drafts left : List Draft) (files : List TheoryFile) → files ≡ [] → left ≡ drafts → AreCounted drafts left files 0
-counted-none drafts left files none same = record {
-  so_far = λ told theories all.
-      ([], theories, refl, IsReadSoFar-none told (seen_files files) (ap seen_files none), subst (λ n. AreDraftsFrom told n theories left) (ap length (sym none)) (subst (AreDraftsFrom told 0 theories) (sym same) all));
+pub counted-none : (first : ReadFiles) (drafts left : List Draft) (files : List TheoryFile) (before : ℕ) → files ≡ first.files.items → before ≡ first.parts → left ≡ drafts → AreCounted first drafts left files before
+counted-none first drafts left files before same_files same_count same = record {
+  so_far = λ told read theories begun all. (
+    read,
+    theories,
+    refl,
+    subst (λ n. IsReadSoFar told read (seen_files files) n) (sym same_count) (subst (λ fs. IsReadSoFar told read (seen_files fs) first.parts) (sym same_files) begun),
+    subst (AreDraftsFrom told (length read) theories) (sym same) all,
+  );
 }
 
-counted-one : (told : Option (List library.File)) (done others : List (List ℕ)) (drafts rest : List Draft) (draft : Draft) (files : List TheoryFile) (file : TheoryFile) (own : Outcome) (before : ℕ)
-    → IsReadSoFar told done (seen_files files) before → AreDraftsFrom told (length files) others (draft ∷ rest) → file.theory ≡ draft.theory
+counted-one : (told : Option (List library.File)) (done others : List (List ℕ)) (rest : List Draft) (draft : Draft) (files : List TheoryFile) (file : TheoryFile) (own : Outcome) (before : ℕ)
+    → IsReadSoFar told done (seen_files files) before → AreDraftsFrom told (length done) others (draft ∷ rest) → file.theory ≡ draft.theory
     → ((told : Option (List library.File)) (place : ℕ) → IsKnownOf told place draft.theory draft.known → IsTriedOf told (nat_lt place most_files) draft.theory own) → seen_outcome file.outcome ≡ counted before own
-    → (more : List (List ℕ)) × (rest_theories : List (List ℕ)) × (done ++ others ≡ more ++ rest_theories) × IsReadSoFar told more (seen_files (files ++ file ∷ [])) (before + file_parts (counted before own)) × AreDraftsFrom told (length (files ++ file ∷ [])) rest_theories rest
-counted-one told done [] drafts rest draft files file own before so_far all same tells said = absurd all
-counted-one told done (t ∷ others) drafts rest draft files file own before so_far all same tells said =
+    → (more : List (List ℕ)) × (rest_theories : List (List ℕ)) × (done ++ others ≡ more ++ rest_theories) × IsReadSoFar told more (seen_files (files ++ file ∷ [])) (before + file_parts (counted before own)) × AreDraftsFrom told (length more) rest_theories rest
+counted-one told done [] rest draft files file own before so_far all same tells said = absurd all
+counted-one told done (t ∷ others) rest draft files file own before so_far all same tells said =
     let theory : draft.theory ≡ t = all.0 in
-    let places : length files ≡ length (seen_files files) = sym (length-map files seen_file) in
+    let places : length done ≡ length (seen_files files) = read-long told done (seen_files files) before so_far in
     let tried : IsTriedOf told (nat_lt (length (seen_files files)) most_files) t own =
     subst (λ n. IsTriedOf told (nat_lt n most_files) t own) places
-    (subst (λ (th : List ℕ). IsTriedOf told (nat_lt (length files) most_files) th own) theory (tells told (length files) (subst (λ (th : List ℕ). IsKnownOf told (length files) th draft.known) (sym theory) all.1))) in
+    (subst (λ (th : List ℕ). IsTriedOf told (nat_lt (length done) most_files) th own) theory (tells told (length done) (subst (λ (th : List ℕ). IsKnownOf told (length done) th draft.known) (sym theory) all.1))) in
     let seen : seen_file file ≡ record { theory = t; outcome = counted before own } = λ j. record { theory = (same ∙ theory) j; outcome = said j } in
     let grown : seen_files (files ++ file ∷ []) ≡ seen_files files ++ seen_file file ∷ [] = map-append seen_file files (file ∷ []) in (
       done ++ t ∷ [],
       others,
       sym (append_assoc done (t ∷ []) others),
       subst (λ fs. IsReadSoFar told (done ++ t ∷ []) fs (before + file_parts (counted before own))) (sym grown) (IsReadSoFar-more told done t (seen_files files) (seen_file file) before own so_far tried seen),
-      subst (λ n. AreDraftsFrom told n others rest) (sym (length-append files (file ∷ []))) all.2,
+      subst (λ n. AreDraftsFrom told n others rest) (sym (length-append done (t ∷ []))) all.2,
     )
 
 -- one turn of the loop
-pub counted-turn : (drafts left rest : List Draft) (draft : Draft) (files files' : List TheoryFile) (file : TheoryFile) (own : Outcome) (before sum : ℕ)
+pub counted-turn : (first : ReadFiles) (drafts left rest : List Draft) (draft : Draft) (files files' : List TheoryFile) (file : TheoryFile) (own : Outcome) (before sum : ℕ)
     → left ≡ draft ∷ rest → file.theory ≡ draft.theory
     → ((told : Option (List library.File)) (place : ℕ) → IsKnownOf told place draft.theory draft.known → IsTriedOf told (nat_lt place most_files) draft.theory own) → seen_outcome file.outcome ≡ counted before own
-    → sum ≡ before + file_parts (seen_outcome file.outcome) → files' ≡ files ++ file ∷ [] → AreCounted drafts left files before → AreCounted drafts rest files' sum
-counted-turn drafts left rest draft files files' file own before sum first same tells said sum_is longer on = record {
-  so_far = λ told theories all.
-      (let was = on.so_far told theories all in
-      let one = counted-one told was.0 was.1 drafts rest draft files file own before was.3 (subst (AreDraftsFrom told (length files) was.1) first was.4) same tells said in
+    → sum ≡ before + file_parts (seen_outcome file.outcome) → files' ≡ files ++ file ∷ [] → AreCounted first drafts left files before → AreCounted first drafts rest files' sum
+counted-turn first drafts left rest draft files files' file own before sum cut same tells said sum_is longer on = record {
+  so_far = λ told read theories begun all.
+      (let was = on.so_far told read theories begun all in
+      let one = counted-one told was.0 was.1 rest draft files file own before was.3 (subst (AreDraftsFrom told (length was.0) was.1) cut was.4) same tells said in
       let counts : before + file_parts (counted before own) ≡ sum = sym (sum_is ∙ ap (λ o. before + file_parts o) said) in (
         one.0,
         one.1,
         was.2 ∙ one.2,
         subst (λ n. IsReadSoFar told one.0 (seen_files files') n) counts (subst (λ fs. IsReadSoFar told one.0 (seen_files fs) (before + file_parts (counted before own))) (sym longer) one.3),
-        subst (λ (fs : List TheoryFile). AreDraftsFrom told (length fs) one.1 rest) (sym longer) one.4,
+        one.4,
       ));
 }
 
-pub counted-end : (drafts left : List Draft) (files : List TheoryFile) (before : ℕ) → length left ≡ 0 → AreCounted drafts left files before
-    → (told : Option (List library.File)) (theories : List (List ℕ)) → AreDraftsFrom told 0 theories drafts → AreReadOf told theories (seen_files files)
-counted-end drafts [] files before none on told theories all = let was = on.so_far told theories all in counted-whole told theories was.0 was.1 files before was.2 was.3 was.4
+pub counted-end : (first : ReadFiles) (drafts left : List Draft) (files : List TheoryFile) (before : ℕ) → length left ≡ 0 → AreCounted first drafts left files before
+    → (told : Option (List library.File)) (read theories : List (List ℕ)) → IsReadTo told read first → AreDraftsFrom told (length read) theories drafts → IsReadSoFar told (read ++ theories) (seen_files files) before
+counted-end first drafts [] files before none on told read theories begun all = let was = on.so_far told read theories begun all in counted-whole told (read ++ theories) was.0 was.1 files before was.2 was.3 was.4
   where
-    counted-whole : (told : Option (List library.File)) (theories done others : List (List ℕ)) (files : List TheoryFile) (before : ℕ) → theories ≡ done ++ others → IsReadSoFar told done (seen_files files) before → AreDraftsFrom told (length files) others [] → AreReadOf told theories (seen_files files)
-    counted-whole told theories done [] files before cut so_far rest = subst (λ ts. AreReadOf told ts (seen_files files)) (sym (cut ∙ append-nil done)) (IsReadSoFar-all told done (seen_files files) before so_far)
+    counted-whole : (told : Option (List library.File)) (theories done others : List (List ℕ)) (files : List TheoryFile) (before : ℕ) → theories ≡ done ++ others → IsReadSoFar told done (seen_files files) before → AreDraftsFrom told (length done) others [] → IsReadSoFar told theories (seen_files files) before
+    counted-whole told theories done [] files before cut so_far rest = subst (λ ts. IsReadSoFar told ts (seen_files files) before) (sym (cut ∙ append-nil done)) so_far
     counted-whole told theories done (t ∷ others) files before cut so_far rest = absurd rest
-counted-end drafts (d ∷ left) files before none on told theories all = absurd (omega arith)
+counted-end first drafts (d ∷ left) files before none on told read theories begun all = absurd (omega arith)
+
+-- ---- some after others
+front-longer : (theories : List (List ℕ)) (from to : ℕ) → from ≤ to → take from theories ++ slice_range theories from to ≡ take to theories
+front-longer theories from to within =
+    let ends : from + (to - from) ≡ to = omega arith in
+    sym (take-add from (to - from) theories) ∙ ap (λ n. take n theories) ends
+
+pub read-none : (told : Option (List library.File)) (theories : List (List ℕ)) (files : List TheoryFile) → files ≡ [] → IsReadSoFar told (take 0 theories) (seen_files files) 0
+read-none told theories files none = IsReadSoFar-none told (seen_files files) (ap seen_files none)
+
+-- the drafts of theories from a place on, behind whatever files stand before that place
+pub read-behind : (told : Option (List library.File)) (place : ℕ) (theories : List (List ℕ)) (old new : ReadFiles) (drafts : List Draft)
+    → AreDraftsFrom told place theories drafts → AreReadBehind old drafts new → IsReadOn told place theories old new
+read-behind told place theories old new drafts all behind done long begun = behind told done theories begun (subst (λ n. AreDraftsFrom told n theories drafts) (sym long) all)
+
+-- one turn of the loop
+pub read-turn : (told now : Option (List library.File)) (theories some : List (List ℕ)) (place end : ℕ) (read more : ReadFiles)
+    → now ≡ told → place ≤ end → end ≤ length theories → some ≡ slice_range theories place end → IsReadOn now place some read more → IsReadTo told (take place theories) read → IsReadTo told (take end theories) more
+read-turn told now theories some place end read more same within inside some_is on so_far =
+    let long : length (take place theories) ≡ place = length-take-le place theories (omega arith) in
+    let all : IsReadTo told (take place theories ++ some) more = (subst (λ o. IsReadOn o place some read more) same on) (take place theories) long so_far in
+    subst (λ ts. IsReadTo told ts more) (ap (λ s. take place theories ++ s) some_is ∙ front-longer theories place end within) all

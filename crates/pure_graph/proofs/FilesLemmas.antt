@@ -1,6 +1,6 @@
 -- What was read of a library so far.
 use Rattle.std.proofs.Common.{◌≡◌, ℕ, ◌+◌, ◌<◌, ◌≤◌, true, false, List, [], ◌∷◌, ◌++◌, length, map, refl, sym, ◌∙◌, ap, subst, arith, append_assoc, length-append, Option, Some, None, IfSome, nat_lt}
-use Rattle.std.proofs.lemmas.List.{map-append, append-nil}
+use Rattle.std.proofs.lemmas.List.{map-append, append-nil, length-map}
 use Rattle.std.proofs.lemmas.Bool.Decides.{nat_tests}
 use Rattle.pure_io.specs.declared.library.File as library
 use Rattle.pure_io.specs.Outside.{text_named}
@@ -11,6 +11,7 @@ use Rattle.pure_graph.specs.Reading.{Answer, File, IsTried, AreReadFrom, AreRead
 use Rattle.pure_graph.specs.Session.{answer_in}
 use Rattle.pure_graph.specs.Told.{IsHeld, TellsBytes, IsTriedOf, AreReadOf, AreFilesOf}
 use Rattle.pure_graph.specs.declared.outcome.Reason.TheVariants.{TooManyFiles}
+use Rattle.pure_graph.specs.Drafts.{IsReadSoFar}
 use Rattle.pure_graph.proofs.SourceLemmas.{front-outcome}
 
 -- ---- one file
@@ -42,12 +43,6 @@ read-file told theory place held outcome before is own =
     subst (λ b. IsTriedOf told b theory outcome) (sym (before-limit most_files place before)) (held-file told theory held outcome is own)
 
 -- ---- the files so far
-pub record IsReadSoFar (told : Option (List library.File)) (theories : List (List ℕ)) (files : List File) (before : ℕ) : Type 0 where
-  pub answers : List Answer
-  pub of_theories : map (λ (a : Answer). a.theory) answers ≡ theories
-  pub tells : IfSome told (λ library_files. answers ≡ map (answer_in library_files) theories)
-  pub on : (more : List Answer) (others : List File) → AreReadFrom (length files) before more others → AreRead (answers ++ more) (files ++ others)
-
 tells-none : (told : Option (List library.File)) → IfSome told (λ library_files. [] ≡ map (answer_in library_files) [])
 tells-none None = tt
 tells-none (Some files) = refl
@@ -91,6 +86,19 @@ IsReadSoFar-all told theories files before so_far = record {
   tells = so_far.tells;
   are_read = subst (λ given. AreRead given files) (append-nil so_far.answers) (subst (λ fs. AreRead (so_far.answers ++ []) fs) (append-nil files) (so_far.on [] [] tt));
 }
+
+read_from-long : (place before : ℕ) (answers : List Answer) (files : List File) → AreReadFrom place before answers files → length answers ≡ length files
+read_from-long place before [] [] all = refl
+read_from-long place before [] (f ∷ files) all = absurd all
+read_from-long place before (a ∷ answers) [] all = absurd all
+read_from-long place before (a ∷ answers) (f ∷ files) all =
+    let rest = read_from-long (place + 1) (before + file_parts (counted before all.0)) answers files all.3 in
+    omega (arith, rest)
+
+pub read-long : (told : Option (List library.File)) (theories : List (List ℕ)) (files : List File) (before : ℕ) → IsReadSoFar told theories files before → length theories ≡ length files
+read-long told theories files before so_far =
+    let all : AreRead so_far.answers files = subst (λ given. AreRead given files) (append-nil so_far.answers) (subst (λ fs. AreRead (so_far.answers ++ []) fs) (append-nil files) (so_far.on [] [] tt)) in
+    ap length (sym so_far.of_theories) ∙ length-map so_far.answers (λ (a : Answer). a.theory) ∙ read_from-long 0 0 so_far.answers files all
 
 pub files-of : (told now : Option (List library.File)) (names theories : List (List ℕ)) (files : List File) → now ≡ told
     → IfSome told (λ library_files. names ≡ map (λ (f : library.File). f.name) library_files) → AreTheories names theories → AreReadOf now theories files → AreFilesOf told files

@@ -1,12 +1,12 @@
 //! The files of a library's theories.
-ghost use Rattle.std.specs.Prelude.{◌≡◌, ℕ, ◌+◌, ◌≤◌, List, Option, length, map, IfOk, IfSome};
+ghost use Rattle.std.specs.Prelude.{◌≡◌, ℕ, ◌+◌, ◌^◌, ◌<◌, ◌≤◌, List, Option, length, map, IfOk, IfSome};
 ghost use Rattle.pure_io.specs.declared.library.File as library;
 ghost use Rattle.pure_io.specs.Outside.{Rose, text_named};
-ghost use Rattle.pure_graph.specs.Limits.{most_files, most_bytes};
+ghost use Rattle.pure_graph.specs.Limits.{most_files, most_bytes, most_session_parts};
 ghost use Rattle.pure_graph.specs.Listing.{file_name};
-ghost use Rattle.pure_graph.specs.Drafts.{IsKnownOf, AreDraftsFrom};
+ghost use Rattle.pure_graph.specs.Drafts.{IsKnownOf, AreDraftsFrom, IsReadTo, IsReadOn, AreReadBehind};
 ghost use Rattle.pure_graph.specs.Seen.{seen_files};
-ghost use Rattle.pure_graph.specs.Told.{IsHeld, AreReadOf, AreFilesOf};
+ghost use Rattle.pure_graph.specs.Told.{IsHeld, AreFilesOf};
 
 use crate::drafts::{Draft, Known, own_file, say_all};
 use crate::fault::LoadFault;
@@ -90,44 +90,129 @@ fn known_at<R: Files + Print + AllocGlobal, L: Library>(
     Ok(Known::Read { bytes })
 }
 
-/// What is read of the files of these theories.
+/// What is read of the files of these theories, of which the first stands at this place.
 fn read_drafts<R: Files + Print + AllocGlobal, L: Library>(
     rt: &R,
     alloc: Global,
     library: &mut L,
+    place: usize,
     theories: &[Text],
 ) -> Result<Vec<Draft>, LoadFault>
-    ensures told { IfOk result (λ drafts. AreDraftsFrom (L.files library.old) 0 theories.now drafts.items) }
+    requires { place + length theories.now < 2 ^ 64 }
+    ensures told { IfOk result (λ drafts. AreDraftsFrom (L.files library.old) place theories.now drafts.items) }
     ensures fault { result ≡ Err LoadFault.ReadFault → Rose (L.faults library.old) (L.faults library.new) }
     ensures files { L.files library.new ≡ L.files library.old }
     ensures later { L.faults library.old ≤ L.faults library.new }
 {
     let mut drafts = Vec::new(alloc);
     for theory in theories {
-        let known = known_at(rt, alloc, library, drafts.len(), theory)?;
+        let known = known_at(rt, alloc, library, place + drafts.len(), theory)?;
         let theory = theory.copy(alloc)?;
         drafts.push(Draft { theory, known })?;
     }
     Ok(drafts)
 }
 
-/// The files, each with what it says by itself and by its place.
-fn counted_files(alloc: Global, drafts: Vec<Draft>) -> Result<Vec<TheoryFile>, AllocError>
-    ensures { IfOk result (λ files. (told : Option (List library.File)) (theories : List (List ℕ)) → AreDraftsFrom told 0 theories drafts.items → AreReadOf told theories (seen_files files.items)) }
+/// The files that were read so far, each with what it says by itself and by its place, and how many parts they have.
+#[derive(Drop)]
+struct ReadFiles {
+    files: Vec<TheoryFile>,
+    parts: usize,
+}
+
+/// The files with those of the drafts behind them.
+fn counted_files(
+    alloc: Global,
+    before: ReadFiles,
+    drafts: Vec<Draft>,
+) -> Result<ReadFiles, AllocError>
+    requires { before.parts ≤ most_session_parts }
+    ensures few { IfOk result (λ read. read.parts ≤ most_session_parts) }
+    ensures behind { IfOk result (λ read. AreReadBehind before drafts.items read) }
 {
-    let mut files = Vec::new(alloc);
-    let mut before = 0;
+    let ReadFiles {
+        mut files,
+        mut parts,
+    } = before;
     for draft in drafts {
         let TheoryFile { theory, outcome } = own_file(alloc, draft)?;
-        let outcome = counted(&mut before, outcome);
+        let outcome = counted(&mut parts, outcome);
         files.push(TheoryFile { theory, outcome })?;
     }
-    Ok(files)
+    Ok(ReadFiles { files, parts })
+}
+
+/// The files with those of these theories behind them, of which the first stands at this place. They are read one after the
+/// other, and then say what they say, in so many threads at most.
+fn read_on<R: Files + Print + AllocGlobal, T: Threads + Sync, L: Library>(
+    rt: &R,
+    alloc: Global,
+    library: &mut L,
+    threads: &T,
+    number: usize,
+    place: usize,
+    theories: &[Text],
+    before: ReadFiles,
+) -> Result<ReadFiles, LoadFault>
+    requires room { place + length theories.now < 2 ^ 64 }
+    requires few { before.parts ≤ most_session_parts }
+    ensures few { IfOk result (λ read. read.parts ≤ most_session_parts) }
+    ensures told { IfOk result (λ read. IsReadOn (L.files library.old) place theories.now before read) }
+    ensures fault { result ≡ Err LoadFault.ReadFault → Rose (L.faults library.old) (L.faults library.new) }
+    ensures files { L.files library.new ≡ L.files library.old }
+    ensures later { L.faults library.old ≤ L.faults library.new }
+{
+    let mut drafts = read_drafts(rt, alloc, library, place, theories)?;
+    say_all(threads, alloc, number, drafts.as_mut_slice());
+    let read = counted_files(alloc, before, drafts)?;
+    Ok(read)
+}
+
+/// How many files are read before the next say what they say: one where no thread is to work beside the caller's, so that the
+/// bytes of no other wait; else so many for each thread that none waits long for the others.
+fn at_once(number: usize) -> usize
+    ensures { 0 < result }
+{
+    if number < 2 {
+        1
+    } else {
+        number.saturating_mul(16)
+    }
+}
+
+/// The files of these theories, some read at once.
+fn read_theories<R: Files + Print + AllocGlobal, T: Threads + Sync, L: Library>(
+    rt: &R,
+    alloc: Global,
+    library: &mut L,
+    threads: &T,
+    number: usize,
+    theories: &[Text],
+) -> Result<ReadFiles, LoadFault>
+    ensures told { IfOk result (IsReadTo (L.files library.old) theories.now) }
+    ensures fault { result ≡ Err LoadFault.ReadFault → Rose (L.faults library.old) (L.faults library.new) }
+    ensures files { L.files library.new ≡ L.files library.old }
+    ensures later { L.faults library.old ≤ L.faults library.new }
+{
+    let most = at_once(number);
+    let mut read = ReadFiles {
+        files: Vec::new(alloc),
+        parts: 0,
+    };
+    let mut place = 0;
+    while place < theories.len() {
+        let end = place.saturating_add(most).min(theories.len());
+        let some = &theories[place..end];
+        let more = read_on(rt, alloc, library, threads, number, place, some, read)?;
+        read = more;
+        place = end;
+    }
+    Ok(read)
 }
 
 /// The files of a library's theories in byte order, each with what it says by itself and by its place. At most one byte
-/// more than a file may have is read of each, and nothing of those behind the first 256. They are read one after the other,
-/// and what they say is found in so many threads at most.
+/// more than a file may have is read of each, and nothing of those behind the first 256. Some are read at once, one after the
+/// other, and what they say is found in so many threads at most before the next are read.
 pub fn read_files<R: Files + Print + AllocGlobal, T: Threads + Sync, L: Library>(
     rt: &R,
     alloc: Global,
@@ -142,8 +227,6 @@ pub fn read_files<R: Files + Print + AllocGlobal, T: Threads + Sync, L: Library>
 {
     let names = list(rt, alloc, library)?;
     let theories = theories_of(alloc, &names)?;
-    let mut drafts = read_drafts(rt, alloc, library, &theories)?;
-    say_all(threads, alloc, number, drafts.as_mut_slice());
-    let files = counted_files(alloc, drafts)?;
+    let ReadFiles { files, .. } = read_theories(rt, alloc, library, threads, number, &theories)?;
     Ok(files)
 }

@@ -164,9 +164,10 @@ impl<W: Work> Becomes<Seat<W>> for Serving {
     ghost becomes = { λ _ old new. IsServedBy old new };
 }
 
-/// Runs one worker for each seat, in a thread of its own where one can be made. A worker takes what is there to do and does it,
-/// with the board's leave before each step of a proof, until all is finished or stopped; where memory is wanted it stops the
-/// work. The gate is entered before a proof is begun, and left after its outcome was delivered. It may wait for ever.
+/// Runs one worker for each seat: that of the first in the caller's thread, each other in a thread of its own where there is
+/// room for one. A worker takes what is there to do and does it, with the board's leave before each step of a proof, until all is
+/// finished or stopped; where memory is wanted it stops the work. The gate is entered before a proof is begun, and left after its
+/// outcome was delivered. It may wait for ever.
 ///
 /// # Errors
 ///
@@ -189,5 +190,5 @@ pub fn run<R: Threads + Wait + Sync, W: Work, G: Gate>(
         requires { (seat.now.plan ≡ board.now) × (board.now.session ≡ work.now) × (seat.now.own ≡ []) }
         ensures { IsServedBy seat.entry.now seat.exit.now }
     { serve_fresh(rt, board, work, gate, &rest, &cancellations, seat) };
-    work_on_each(rt, alloc, STACK, Serving, &worker, seats)
+    work_on_each(rt, alloc, STACK, &Serving, &worker, seats)
 }

@@ -1,10 +1,17 @@
 -- Laws of lanes and of bounds.
-use Rattle.std.proofs.Common.{◌≡◌, ◌<◌, ◌≤◌, ◌+◌, ◌*◌, ◌%◌, ◌/◌, ◌⊎◌, inl, inr, ℕ, suc, Bool, false, arith, sym, subst, refl, ap}
+use Rattle.std.proofs.Common.{◌≡◌, ◌<◌, ◌≤◌, ◌+◌, ◌*◌, ◌%◌, ◌/◌, ◌⊎◌, inl, inr, ℕ, zero, suc, Bool, false, arith, sym, subst, refl, ap}
 use Rattle.std.proofs.Math.Nat.{mul-le-mul_left, mod-lt, mod-add-div'}
 use Rattle.std.proofs.lemmas.Bool.{cases_order}
 use Rattle.std.specs.Prelude.{Option, None, Some, IfSome}
 use Rattle.pure_race.specs.Least.{AllLose, IsLeastWin, LeastWinOnce}
-use Rattle.pure_race.specs.Lanes.{LaneLoses, IsInLane, IsBound}
+use Rattle.std.proofs.Common.{List, [], ◌∷◌, ◌++◌, length, map, get_or, length-append, ◌∙◌}
+use Rattle.std.proofs.lemmas.List.{length-map}
+use Rattle.pure_text.specs.Lists.{EachTwo}
+use Rattle.pure_text.proofs.ListLaws.{two_long}
+use Rattle.pure_race.specs.Lanes.{LaneLoses, IsInLane, IsBound, IsEnd, AreEnds, AreLanesFrom, IsEnded}
+use Rattle.pure_race.specs.declared.lanes.End.{End}
+use Rattle.pure_race.specs.declared.lanes.End.TheVariants.{Lacking}
+use Rattle.pure_race.specs.declared.lanes.Lane.{Lane}
 
 -- the first attempt of a lane is in it, and none is below
 pub first-in_lane : (width lane : ℕ) → IsInLane width lane lane
@@ -75,3 +82,39 @@ least-once Wins apart count (Some n) (Some m) one other = elim (cases_order n m)
     | inr higher ↦ absurd (apart m other.1 (one.2 m higher))
   ]
 ]
+
+-- one lane more
+lanes-snoc : (n : ℕ) (lanes : List Lane) (lane : Lane) → AreLanesFrom n lanes → lane.first ≡ n + length lanes → AreLanesFrom n (lanes ++ lane ∷ [])
+lanes-snoc n [] lane all is = (omega (arith, is), tt)
+lanes-snoc n (l ∷ lanes) lane all is = (all.0, lanes-snoc (n + 1) lanes lane all.1 (omega (arith, is)))
+
+pub lanes-turn : (lanes lanes' : List Lane) (lane : Lane) (i : ℕ) → lane.first ≡ i → lanes' ≡ lanes ++ lane ∷ [] → (length lanes ≡ i) × AreLanesFrom 0 lanes → (length lanes' ≡ i + 1) × AreLanesFrom 0 lanes'
+lanes-turn lanes lanes' lane i first longer held = (
+  ap length longer ∙ length-append lanes (lane ∷ []) ∙ ap (λ n. n + 1) held.0,
+  subst (AreLanesFrom 0) (sym longer) (lanes-snoc 0 lanes lane held.1 (omega (arith, first, held.0))),
+)
+
+-- the ends of lanes that were tried, each at its place
+ended-at : (Wins : ℕ → Bool → Type 0) (count width n : ℕ) (old new : List Lane) (d : End) → AreLanesFrom n old → EachTwo (IsEnded Wins count width) old new
+    → (i : ℕ) → i < length new → IsEnd Wins count width (n + i) (get_or (map (λ (lane : Lane). lane.end) new) i d)
+ended-at Wins count width n [] [] d lanes two i within = absurd (omega (arith, within))
+ended-at Wins count width n [] (y ∷ new) d lanes two i within = absurd two
+ended-at Wins count width n (x ∷ old) [] d lanes two i within = absurd two
+ended-at Wins count width n (x ∷ old) (y ∷ new) d lanes two zero within =
+    let here : x.first ≡ n + 0 = omega (arith, lanes.0) in
+    subst (λ m. IsEnd Wins count width m y.end) here two.0.1
+ended-at Wins count width n (x ∷ old) (y ∷ new) d lanes two (suc i) within =
+    let further : (n + 1) + i ≡ n + suc i = omega arith in
+    subst (λ m. IsEnd Wins count width m (get_or (map (λ (lane : Lane). lane.end) new) i d)) further (ended-at Wins count width (n + 1) old new d lanes.1 two.1 i (omega (arith, within)))
+
+pub all-ended : (Wins : ℕ → Bool → Type 0) (count width : ℕ) (old new : List Lane) (ends : List End) → (length old ≡ width) × AreLanesFrom 0 old → EachTwo (IsEnded Wins count width) old new
+    → ends ≡ map (λ (lane : Lane). lane.end) new → (length ends ≡ width) × AreEnds Wins count width ends
+all-ended Wins count width old new ends lanes two is =
+    let long : length ends ≡ length new = ap length is ∙ length-map new (λ (lane : Lane). lane.end) in
+    let same : length old ≡ length new = two_long (IsEnded Wins count width) old new two in (
+      omega (arith, long, same, lanes.0),
+      λ i within.
+          (let found = ended-at Wins count width 0 old new Lacking lanes.1 two i (omega (arith, within, long)) in
+          let plain : 0 + i ≡ i = omega arith in
+          subst (λ (all : List End). IsEnd Wins count width i (get_or all i Lacking)) (sym is) (subst (λ m. IsEnd Wins count width m (get_or (map (λ (lane : Lane). lane.end) new) i Lacking)) plain found)),
+    )

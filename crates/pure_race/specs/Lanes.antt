@@ -1,7 +1,8 @@
 -- The attempts of one worker: those of its lane, lane, lane + width, lane + 2 * width and so on.
-use Rattle.std.specs.Prelude.{◌≡◌, ◌<◌, ◌≤◌, ◌+◌, ◌*◌, ◌⊎◌, ℕ, Bool, List, length, slice_index_or, true, false}
+use Rattle.std.specs.Prelude.{◌≡◌, ◌<◌, ◌≤◌, ◌+◌, ◌*◌, ◌⊎◌, ℕ, Bool, List, [], ◌∷◌, length, slice_index_or, true, false}
 use Rattle.pure_race.specs.declared.lanes.End.{End}
 use Rattle.pure_race.specs.declared.lanes.End.TheVariants.{Won, Lost, Left, Lacking}
+use Rattle.pure_race.specs.declared.lanes.Lane.{Lane}
 
 -- each attempt of the lane below the number loses
 abbrev pub LaneLoses : (Wins : ℕ → Bool → Type 0) → ℕ → ℕ → ℕ → Type 0
@@ -25,6 +26,15 @@ IsEnd Wins count width lane (Left n) = (n < count) × IsInLane width lane n × L
 -- what the ends of all lanes say, each at its place
 abbrev pub AreEnds : (Wins : ℕ → Bool → Type 0) → ℕ → ℕ → List End → Type 0
 AreEnds Wins count width ends = (i : ℕ) → i < length ends → IsEnd Wins count width i (slice_index_or ends i Lacking)
+
+-- these lanes begin at this number and the next ones, each at one more
+abbrev pub AreLanesFrom : ℕ → List Lane → Type 0
+AreLanesFrom n [] = Unit {0}
+AreLanesFrom n (lane ∷ lanes) = (lane.first ≡ n) × AreLanesFrom (n + 1) lanes
+
+-- the lane stays that lane, with its end
+abbrev pub IsEnded : (Wins : ℕ → Bool → Type 0) → ℕ → ℕ → Lane → Lane → Type 0
+IsEnded Wins count width old new = (new.first ≡ old.first) × IsEnd Wins count width old.first new.end
 
 -- the new bound is the lesser of the old one and of the first attempt of the lane that wins
 abbrev pub IsSettled : (Wins : ℕ → Bool → Type 0) → ℕ → ℕ → ℕ → ℕ → ℕ → Type 0

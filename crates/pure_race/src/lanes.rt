@@ -1,6 +1,6 @@
 //! The attempts of one worker, tried in their order.
-ghost use Rattle.std.specs.Prelude.{◌≡◌, ◌<◌, ◌≤◌, ◌⊎◌, IfOk, IfSome};
-ghost use Rattle.pure_race.specs.Lanes.{IsBound, IsEnd, IsInLane, IsSettled, LaneLoses};
+ghost use Rattle.std.specs.Prelude.{◌≡◌, ◌<◌, ◌≤◌, ◌⊎◌, length, map, IfOk, IfSome};
+ghost use Rattle.pure_race.specs.Lanes.{AreLanesFrom, IsBound, IsEnd, IsInLane, IsSettled, LaneLoses};
 
 use crate::attempts::Attempts;
 use crate::wins::Wins;
@@ -14,6 +14,39 @@ pub(crate) enum End {
     Lost,
     Left { number: u32 },
     Lacking,
+}
+
+/// The attempts of one worker, whose number is that of the first, and how they ended; before they are tried, as where memory was
+/// wanted.
+#[derive(Clone, Copy)]
+pub(crate) struct Lane {
+    pub(crate) first: usize,
+    pub(crate) end: End,
+}
+
+/// The lanes of so many workers.
+pub(crate) fn fresh_lanes(alloc: Global, width: u32) -> Result<Vec<Lane>, AllocError>
+    ensures { IfOk result (λ lanes. (length lanes.items ≡ width) × AreLanesFrom 0 lanes.items) }
+{
+    let mut lanes = Vec::new(alloc);
+    for first in 0..width as usize {
+        lanes.push(Lane {
+            first,
+            end: End::Lacking,
+        })?;
+    }
+    Ok(lanes)
+}
+
+/// How the lanes ended, in their order.
+pub(crate) fn ends_of(alloc: Global, lanes: &[Lane]) -> Result<Vec<End>, AllocError>
+    ensures { IfOk result (λ ends. ends.items ≡ map (λ lane. lane.end) lanes.now) }
+{
+    let mut ends = Vec::new(alloc);
+    for lane in lanes {
+        ends.push(lane.end)?;
+    }
+    Ok(ends)
 }
 
 /// Whether an attempt wins; none where it was left, since a lesser one is known to win.

@@ -1,13 +1,16 @@
 //! Races: workers that try the attempts of their lanes at once.
 ghost use Rattle.std.specs.Prelude.{◌≡◌, ◌<◌, ◌≤◌, IfOk, length};
+ghost use Rattle.pure_text.specs.Lists.{EachTwo};
 ghost use Rattle.pure_race.specs.Least.{IsLeastWin};
-ghost use Rattle.pure_race.specs.Lanes.{AreEnds, IsBound, IsEnd};
+ghost use Rattle.pure_race.specs.Lanes.{AreEnds, IsBound, IsEnd, IsEnded};
 
 use crate::attempts::Attempts;
-use crate::lanes::{End, lesser, settle_lane, try_lane};
+use crate::lanes::{End, Lane, ends_of, fresh_lanes, lesser, settle_lane, try_lane};
 use crate::wins::Wins;
+use pure_threads::{Becomes, work_on_each};
 use std::alloc::{AllocError, Global};
-use std::thread;
+use std::snapshot::Snapshot;
+use std::sync::Wait;
 use std::thread::Threads;
 
 /// Tries the attempts of a lane; how that ended.
@@ -21,26 +24,44 @@ fn serve<A: Attempts>(alloc: Global, attempts: &A, wins: &Wins, width: u32, lane
     }
 }
 
-/// Tries the attempts of all lanes, each in a thread of its own where one can be made.
-fn run<R: Threads + Sync, A: Attempts>(
+/// The bytes of a worker's stack: what the deepest legal terms need several times over, whatever the shell's limit says.
+const STACK: usize = 16 << 20;
+
+/// A lane comes back with its end.
+#[derive(Drop)]
+struct Ending<A: Attempts> {
+    attempts: Snapshot<A>,
+    width: u32,
+}
+
+impl<A: Attempts> Becomes<Lane> for Ending<A> {
+    ghost use Rattle.pure_race.specs.Lanes.{IsEnded};
+
+    ghost becomes = { λ how old new. IsEnded (A.wins how.attempts.value) (A.many how.attempts.value) how.width old new };
+}
+
+/// Tries the attempts of all lanes: of the first in the caller's thread, of each other in a thread of its own where there is room
+/// for one.
+fn run<R: Threads + Wait + Sync, A: Attempts>(
     rt: &R,
     alloc: Global,
     attempts: &A,
     wins: &Wins,
     width: u32,
-    ends: &mut [End],
-)
-    requires width { 0 < width }
-    requires length { length ends.old ≡ width }
-    ensures length { length ends.new ≡ width }
-    ensures ended { AreEnds (A.wins attempts.now) (A.many attempts.now) width ends.new }
+    lanes: Vec<Lane>,
+) -> Result<Vec<Lane>, AllocError>
+    requires { 0 < width }
+    ensures { IfOk result (λ ended. EachTwo (IsEnded (A.wins attempts.now) (A.many attempts.now) width) lanes.items ended.items) }
 {
-    let threads = ends.len();
-    let worker = |lane: usize, end: &mut End|
+    let ending = Ending {
+        attempts: Snapshot::of(attempts),
+        width,
+    };
+    let worker = |_place: usize, lane: &mut Lane|
         requires { 0 < width }
-        ensures { IsEnd (A.wins attempts.entry.now) (A.many attempts.entry.now) width lane end.exit.now }
-    { *end = serve(alloc, attempts, wins, width, lane) };
-    thread::for_each_mut(rt, ends, threads, &worker);
+        ensures { IsEnded (A.wins attempts.entry.now) (A.many attempts.entry.now) width lane.entry.now lane.exit.now }
+    { lane.end = serve(alloc, attempts, wins, width, lane.first) };
+    work_on_each(rt, alloc, STACK, &ending, &worker, lanes)
 }
 
 /// The least attempt that a lane found to win, or how many there are.
@@ -75,14 +96,32 @@ fn settle<A: Attempts>(attempts: &A, width: u32, ends: &[End]) -> Result<Option<
     }
 }
 
+/// The ends of all lanes.
+fn run_all<R: Threads + Wait + Sync, A: Attempts>(
+    rt: &R,
+    alloc: Global,
+    attempts: &A,
+    width: u32,
+) -> Result<Vec<End>, AllocError>
+    requires { 0 < width }
+    ensures { IfOk result (λ ends. (length ends.items ≡ width) × AreEnds (A.wins attempts.now) (A.many attempts.now) width ends.items) }
+{
+    let wins = Wins::none(alloc, width)?;
+    let lanes = fresh_lanes(alloc, width)?;
+    let ended = run(rt, alloc, attempts, &wins, width, lanes)?;
+    let ends = ends_of(alloc, ended.as_slice())?;
+    Ok(ends)
+}
+
 /// The least attempt that wins, none exactly where none does, whatever the schedule of the workers. Each worker tries the
-/// attempts of its lane in their order, in a thread of its own where one can be made; before each step it looks whether a lesser
-/// attempt is known to win, and then leaves the rest. It waits for the threads that it starts.
+/// attempts of its lane in their order, all but the first in a thread of its own where there is room for one; before each step it
+/// looks whether a lesser attempt is known to win, and then leaves the rest. It waits for the threads that it starts, and so may wait
+/// for ever.
 ///
 /// # Errors
 ///
 /// Want of memory alone.
-pub fn race<R: Threads + Sync, A: Attempts>(
+pub fn race<R: Threads + Wait + Sync, A: Attempts>(
     rt: &R,
     alloc: Global,
     attempts: &A,
@@ -97,8 +136,6 @@ pub fn race<R: Threads + Sync, A: Attempts>(
         return Ok(None);
     }
     let width = workers.min(count);
-    let wins = Wins::none(alloc, width)?;
-    let mut ends = Vec::from_elem(alloc, End::Lacking, width as usize)?;
-    run(rt, alloc, attempts, &wins, width, ends.as_mut_slice());
+    let ends = run_all(rt, alloc, attempts, width)?;
     settle(attempts, width, ends.as_slice())
 }

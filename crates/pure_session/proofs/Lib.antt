@@ -8,7 +8,7 @@ pub mod JudgeLemmas
 pub mod OrderLemmas
 pub mod LoadLemmas
 pub mod SetLemmas
-pub mod NearLemmas
+pub mod OrderedLemmas
 pub mod TokenLemmas
 pub mod PlainLemmas
 pub mod NamesLemmas

@@ -1,8 +1,5 @@
 -- The names of theories, united.
-use Rattle.std.proofs.Common.{◌≡◌, ◌⊎◌, ◌↔◌, inl, inr, ℕ, List, [], ◌∷◌, ◌++◌, length, get_or, map, refl, sym, ◌∙◌, ap, arith, Result, Ok, Err, IfOk}
-use Rattle.std.specs.Prelude.{Vec}
-use Rattle.std.specs.declared.alloc.Global.{Global}
-use Rattle.std.specs.BTreeSet.{BTreeSet}
+use Rattle.std.proofs.Common.{◌≡◌, ◌⊎◌, ◌↔◌, inl, inr, ℕ, List, [], ◌++◌, map, ◌∙◌, ap, Result, Ok, Err, IfOk}
 use Rattle.std.specs.List.Sorted.{IsStrictlySortedBy}
 use Rattle.std.proofs.lemmas.List.{map-append}
 use Rattle.pure_text.specs.Lists.{IsIn, AnyOf}
@@ -10,40 +7,24 @@ use Rattle.pure_text.proofs.ListLaws.{any_split, any-append_left, any-append_rig
 use Rattle.pure_text.proofs.AscendingTexts.{byte_order}
 use Rattle.pure_graph.specs.Order.{Loaded}
 use Rattle.pure_graph.specs.SessionNames.{IsGiven, AreNames}
-use Rattle.pure_session.specs.NameSets.{texts_in, Gains}
+use Rattle.pure_session.specs.NameSets.{Gains}
 use Rattle.pure_session.proofs.SetLemmas.{gains-all}
 
 -- ---- parts of a list, seen
-pub none-mapped : {A B : Type 0} (f : A → B) (xs : List A) → length xs ≡ 0 → map f xs ≡ []
-none-mapped f [] none_left = refl
-none-mapped f (x ∷ xs) none_left = absurd (omega (arith, none_left))
-
-pub one-mapped : {A B : Type 0} (f : A → B) (xs : List A) (x : A) → length xs ≡ 1 → x ≡ get_or xs 0 x → map f xs ≡ f x ∷ []
-one-mapped f [] x alone read = absurd (omega (arith, alone))
-one-mapped f (y ∷ []) x alone read = ap (λ z. f z ∷ []) (sym read)
-one-mapped f (y ∷ z ∷ xs) x alone read = absurd (omega (arith, alone))
-
 pub parts-mapped : {A B : Type 0} (f : A → B) (xs front back : List A) → xs ≡ front ++ back → map f xs ≡ map f front ++ map f back
 parts-mapped f xs front back parts = ap (map f) parts ∙ map-append f front back
 
 -- ---- names
-pub names-none : (theories : List Loaded) (texts : List (List ℕ)) → theories ≡ [] → texts ≡ [] → AreNames theories texts
-unfolding IsStrictlySortedBy
-names-none theories texts no_theories no_texts = rw (no_theories, no_texts) (record { ascend = tt; given = λ t. (λ m. m, λ m. m) })
-
 pub names-ascend : {E : Type 0} (found : Result (List (List ℕ)) E) (theories : List Loaded) → IfOk found (AreNames theories) → IfOk found (IsStrictlySortedBy byte_order)
 names-ascend (Ok texts) theories names = names.ascend
 names-ascend (Err error) theories names = tt
 
--- The texts of a theory's set are its names.
-pub names-one : (loaded : Loaded) (old new : BTreeSet (Vec ℕ Global)) (texts : List (List ℕ)) → old.keys ≡ [] → Gains old new (IsGiven loaded) → texts ≡ texts_in new → IsStrictlySortedBy byte_order texts
-    → AreNames (loaded ∷ []) texts
-names-one loaded old new texts empty gains same ascend = record {
+-- The texts that theories give, in order, are their names.
+pub names-given : (theories : List Loaded) (old new texts : List (List ℕ)) → old ≡ [] → Gains old new (λ t. AnyOf (λ l. IsGiven l t) theories) → ((t : List ℕ) → IsIn t texts ↔ IsIn t new) → IsStrictlySortedBy byte_order texts
+    → AreNames theories texts
+names-given theories old new texts empty gains same ascend = record {
   ascend = ascend;
-  given = λ t. rw same (
-      let all = gains-all old new (IsGiven loaded) empty gains t in
-      (λ m. inl (all.0 m), λ a. elim a [ inl g ↦ all.1 g | inr n ↦ absurd n ])
-      );
+  given = λ t. let all = gains-all old new (λ t. AnyOf (λ l. IsGiven l t) theories) empty gains t in (λ m. all.0 ((same t).0 m), λ a. (same t).1 (all.1 a));
 }
 
 -- The union of the names of the first theories and of those of the others has the names of all.

@@ -7,6 +7,7 @@ mod loading;
 mod names;
 mod near;
 mod order;
+mod ordered;
 mod place;
 mod reason;
 mod session;

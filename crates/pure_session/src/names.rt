@@ -9,43 +9,49 @@ ghost use Rattle.pure_script.specs.Seen.{seen_have, seen_command, seen_commands}
 ghost use Rattle.pure_typ.specs.NameTexts.{builtin_texts};
 ghost use Rattle.pure_graph.specs.Order as graph;
 ghost use Rattle.pure_graph.specs.SessionNames.{full_name, have_names, full_names, IsGiven, AreNames};
-ghost use Rattle.pure_session.specs.NameSets.{texts_in, Gains};
+ghost use Rattle.pure_session.specs.NameSets.{Gains};
 ghost use Rattle.pure_session.specs.Plain.{ArePlain};
 ghost use Rattle.pure_session.specs.Waiting.{seen_loaded, all_loaded};
 
 use crate::near::Texts;
 use crate::order::Loaded;
+use crate::ordered::in_order;
 use crate::reason::joined;
 use crate::texts::put_source;
 use pure_script::{Command, Have};
 use pure_text::{Text, TextList};
 use pure_typ::Names;
 use std::alloc::{AllocError, Global};
-use std::collections::BTreeSet;
 use std::thread::{Threads, join};
 
 /// Names are fewer than these.
 const MOST_TEXTS: usize = 2_147_483_648;
 
+/// The texts of theories whose sources have no more bytes than this together are put in order together.
+const FEW_BYTES: usize = 262_144;
+
 /// The full name of what a theory declares, or of what a lemma with a full name states inside.
-fn full_text(alloc: Global, outer: &Text, name: &[u8]) -> Result<Text, AllocError>
-    ensures { IfOk result (λ text. text ≡ full_name outer.now name.now) }
+fn full(alloc: Global, outer: &[u8], name: &[u8]) -> Result<Vec<u8>, AllocError>
+    ensures { IfOk result (λ t. t.items ≡ full_name outer.now name.now) }
 {
-    let front = joined(alloc, outer.bytes(), b".")?;
-    let text = joined(alloc, front.bytes(), name)?;
+    let size = outer.len().saturating_add(name.len()).saturating_add(1);
+    let mut text = Vec::with_capacity(alloc, size)?;
+    text.extend_from_slice(outer)?;
+    text.push(b'.')?;
+    text.extend_from_slice(name)?;
     Ok(text)
 }
 
-/// Puts the full name of what a theory declares into the set.
+/// Puts the full name of what a theory declares behind the others.
 fn put_full(alloc: Global, texts: &mut Texts, theory: &Text, name: &[u8]) -> Result<(), AllocError>
     ensures { OnOk result (Gains texts.old texts.new (λ t. IsIn t (full_name theory.now name.now ∷ []))) }
 {
-    let text = full_text(alloc, theory, name)?;
-    texts.put(alloc, text.bytes())?;
+    let text = full(alloc, theory.bytes(), name)?;
+    texts.append(text.as_slice())?;
     Ok(())
 }
 
-/// Puts the full name of a definition and that of its fact into the set.
+/// Puts the full name of a definition and that of its fact behind the others.
 fn put_definition(
     alloc: Global,
     texts: &mut Texts,
@@ -60,7 +66,7 @@ fn put_definition(
     Ok(())
 }
 
-/// Puts the full names of a lemma's haves into the set, behind the lemma's own.
+/// Puts the full names of a lemma's haves behind the lemma's own.
 fn put_haves(
     alloc: Global,
     texts: &mut Texts,
@@ -75,7 +81,7 @@ fn put_haves(
     Ok(())
 }
 
-/// Puts the full names of a lemma and of its haves into the set.
+/// Puts the full names of a lemma and of its haves behind the others.
 fn put_lemma(
     alloc: Global,
     texts: &mut Texts,
@@ -85,13 +91,13 @@ fn put_lemma(
 ) -> Result<(), AllocError>
     ensures { OnOk result (Gains texts.old texts.new (λ t. IsIn t (full_name theory.now name.now ∷ have_names (full_name theory.now name.now) (map seen_have haves.now)))) }
 {
-    let lemma = full_text(alloc, theory, name.bytes())?;
-    texts.put(alloc, lemma.bytes())?;
+    let lemma = Text::from(full(alloc, theory.bytes(), name.bytes())?);
+    texts.append(lemma.bytes())?;
     put_haves(alloc, texts, &lemma, haves)?;
     Ok(())
 }
 
-/// Puts the full names that a command declares into the set.
+/// Puts the full names that a command declares behind the others.
 fn put_command(
     alloc: Global,
     texts: &mut Texts,
@@ -113,7 +119,7 @@ fn put_command(
     }
 }
 
-/// Puts the full names that some commands declare into the set.
+/// Puts the full names that some commands declare behind the others.
 fn put_commands(
     alloc: Global,
     texts: &mut Texts,
@@ -128,7 +134,7 @@ fn put_commands(
     Ok(())
 }
 
-/// Puts the texts that a theory gives into the set.
+/// Puts the texts that a theory gives behind the others.
 fn put_theory(alloc: Global, texts: &mut Texts, loaded: &Loaded) -> Result<(), AllocError>
     ensures { OnOk result (Gains texts.old texts.new (IsGiven (seen_loaded loaded.now))) }
 {
@@ -137,39 +143,45 @@ fn put_theory(alloc: Global, texts: &mut Texts, loaded: &Loaded) -> Result<(), A
     Ok(())
 }
 
-/// The texts of the set, in byte order.
-fn listed(alloc: Global, texts: &BTreeSet<Vec<u8>>) -> Result<TextList, AllocError>
-    ensures texts { IfOk result (λ list. list ≡ texts_in texts.now) }
-    ensures ascend { IfOk result (λ list. IsStrictlySortedBy (slice_cmp nat_cmp) list) }
+/// Puts the texts that theories give behind the others.
+fn put_theories(alloc: Global, texts: &mut Texts, theories: &[Loaded]) -> Result<(), AllocError>
+    ensures { OnOk result (Gains texts.old texts.new (λ t. AnyOf (λ loaded. IsGiven loaded t) (all_loaded theories.now))) }
 {
-    let mut list = TextList::empty(alloc);
-    for text in texts.iter() {
-        list.push(text.as_slice())?;
+    for loaded in theories {
+        put_theory(alloc, texts, loaded)?;
     }
-    Ok(list)
+    Ok(())
 }
 
-/// The texts that a theory gives, in byte order.
-fn given(alloc: Global, loaded: &Loaded) -> Result<TextList, AllocError>
-    ensures { IfOk result (λ texts. AreNames (seen_loaded loaded.now ∷ []) texts) }
+/// The texts that theories give, in byte order.
+fn given(alloc: Global, theories: &[Loaded]) -> Result<TextList, AllocError>
+    ensures { IfOk result (λ texts. AreNames (all_loaded theories.now) texts) }
 {
     let mut texts = Texts::empty(alloc)?;
-    put_theory(alloc, &mut texts, loaded)?;
-    let list = listed(alloc, texts.set())?;
+    put_theories(alloc, &mut texts, theories)?;
+    let list = in_order(alloc, texts.list())?;
     Ok(list)
 }
 
-/// The texts that the theories give, in byte order. Lists are united by halves, since one set of all texts takes five times the memory.
+/// Whether the sources of the theories have few bytes together.
+fn are_short(theories: &[Loaded]) -> bool {
+    let mut size: usize = 0;
+    for loaded in theories {
+        size = size.saturating_add(loaded.source.bytes().len());
+    }
+    size <= FEW_BYTES
+}
+
+/// The texts that the theories give, in byte order. Lists are united by halves, since one list of all texts, with those that come again, takes more memory.
 fn texts_of(alloc: Global, theories: &[Loaded]) -> Result<TextList, AllocError>
     ensures { IfOk result (λ texts. AreNames (all_loaded theories.now) texts) }
 {
     let count = theories.len();
-    if count == 0 {
-        return Ok(TextList::empty(alloc));
+    if count < 2 {
+        return given(alloc, theories);
     }
-    if count == 1 {
-        let texts = given(alloc, &theories[0])?;
-        return Ok(texts);
+    if are_short(theories) {
+        return given(alloc, theories);
     }
     let (left, right) = theories.split_at(count / 2);
     let left = texts_of(alloc, left)?;

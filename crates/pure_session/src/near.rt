@@ -1,131 +1,104 @@
-//! Sets of texts that are often asked for the same ones.
-ghost use Rattle.std.specs.Prelude.{◌≡◌, ◌⊎◌, [], IfOk, OnOk, IsTrue};
-ghost use Rattle.pure_text.specs.Lists.{IsIn, Each};
-ghost use Rattle.pure_session.specs.NameSets.{texts_in, Gains};
+//! Texts that are gathered, and are often the same ones.
+ghost use Rattle.std.specs.Prelude.{◌≡◌, [], IfOk, OnOk, IsTrue};
+ghost use Rattle.pure_text.specs.Lists.{IsIn};
+ghost use Rattle.pure_session.specs.NameSets.{Gains};
 
-use crate::texts::put_far;
+use pure_text::TextList;
 use std::alloc::{AllocError, Global};
-use std::collections::BTreeSet;
 use std::marker::Model;
-use std::mem;
 
-/// At how many places texts are at hand.
-const PLACES: usize = 256;
+/// Of how many texts it is noted where they stand.
+const NOTES: usize = 512;
 
-/// A set of texts. Some of them are at hand besides, one at each place, so that a text that comes again is found without the set.
+/// Texts, one behind the other. Of some it is noted where they stand, so that one that comes again mostly stays away.
 #[derive(Drop)]
 pub(crate) struct Texts {
-    set: BTreeSet<Vec<u8>>,
-    near: Vec<Vec<u8>>,
+    list: TextList,
+    notes: Vec<usize>,
 }
 
 impl Model for Texts {
-    ghost use Rattle.std.specs.Prelude.{ℕ, Vec};
-    ghost use Rattle.std.specs.BTreeSet.{BTreeSet};
-    ghost use Rattle.std.specs.declared.alloc.Global.{Global};
+    ghost use Rattle.std.specs.Prelude.{List, ℕ};
 
-    ghost Value = { BTreeSet (Vec ℕ Global) };
+    ghost Value = { List (List ℕ) };
 
-    ghost use Rattle.pure_session.specs.NameSets.{AreHeld};
-
-    ghost view = { λ t. t.set };
-
-    ghost invariant = { λ t. AreHeld t.set t.near.items };
+    ghost view = { λ t. t.list };
 }
 
-/// The place at which the text may be at hand.
-fn place_for(text: &[u8]) -> usize {
+/// Which note the text has.
+fn note_for(text: &[u8]) -> usize {
     let mut sum: usize = 0;
     for byte in text {
         sum = sum.wrapping_mul(31).wrapping_add(usize::from(*byte));
     }
-    sum % PLACES
+    sum % NOTES
 }
 
-/// Places at which nothing is at hand.
-fn places(alloc: Global) -> Result<Vec<Vec<u8>>, AllocError>
-    ensures { IfOk result (λ near. Each (λ v. v.items ≡ []) near.items) }
-{
-    let mut near = Vec::with_capacity(alloc, PLACES)?;
-    for _ in 0..PLACES {
-        near.push(Vec::new(alloc))?;
+/// Notes the place.
+fn keep(notes: &mut Vec<usize>, note: usize, place: usize) {
+    if note < notes.len() {
+        notes[note] = place;
     }
-    Ok(near)
 }
 
-/// Has the text at hand at the place, if there is one.
-fn keep(alloc: Global, near: &mut Vec<Vec<u8>>, place: usize, text: &[u8]) -> Result<(), AllocError>
-    ensures { OnOk result (Each (λ v. IsIn v near.old.items ⊎ (v.items ≡ text.now)) near.new.items) }
+/// Whether the text stands at the place.
+fn is_at(list: &TextList, place: usize, text: &[u8]) -> bool
+    ensures { IsTrue result → IsIn text.now list.now }
 {
-    let copy = Vec::from_slice(alloc, text)?;
-    if place < near.len() {
-        near[place] = copy;
+    if place >= list.len() {
+        return false;
     }
-    Ok(())
+    let own = list.at(place);
+    own == text
 }
 
 impl Texts {
-    /// No texts, with no place for any at hand.
-    fn none(alloc: Global) -> Texts
-        ensures { result.keys ≡ [] }
-    {
-        Texts {
-            set: BTreeSet::new(alloc),
-            near: Vec::new(alloc),
-        }
-    }
-
     /// No texts.
     pub(crate) fn empty(alloc: Global) -> Result<Texts, AllocError>
-        ensures { IfOk result (λ texts. texts.keys ≡ []) }
+        ensures { IfOk result (λ texts. texts ≡ []) }
     {
-        let near = places(alloc)?;
+        let notes = Vec::from_elem(alloc, 0, NOTES)?;
         Ok(Texts {
-            set: BTreeSet::new(alloc),
-            near,
+            list: TextList::empty(alloc),
+            notes,
         })
     }
 
-    /// The set itself.
-    pub(crate) fn set(&self) -> &BTreeSet<Vec<u8>>
+    /// The list itself.
+    pub(crate) fn list(&self) -> &TextList
         ensures { result.now ≡ self.now }
     {
-        &self.set
+        &self.list
     }
 
-    /// Whether the text is at hand at the place.
-    fn is_near(&self, place: usize, text: &[u8]) -> bool
-        ensures { IsTrue result → IsIn text.now (texts_in self.now) }
+    /// Whether the text stands where it is noted.
+    fn is_near(&self, note: usize, text: &[u8]) -> bool
+        ensures { IsTrue result → IsIn text.now self.now }
     {
-        if text.is_empty() {
-            return false;
-        }
-        match self.near.get(place) {
-            Some(near) => near.as_slice() == text,
+        match self.notes.get(note) {
+            Some(place) => is_at(&self.list, *place, text),
             None => false,
         }
     }
 
-    /// The set with the text, which is at hand at the place then.
-    fn with(self, alloc: Global, place: usize, text: &[u8]) -> Result<Texts, AllocError>
-        ensures { IfOk result (λ texts. Gains self texts (λ t. t ≡ text.now)) }
-    {
-        let Texts { mut set, mut near } = self;
-        put_far(alloc, &mut set, text)?;
-        keep(alloc, &mut near, place, text)?;
-        Ok(Texts { set, near })
-    }
-
-    /// Puts the text into the set, where it isn't there.
-    pub(crate) fn put(&mut self, alloc: Global, text: &[u8]) -> Result<(), AllocError>
+    /// Puts the text behind the others.
+    pub(crate) fn append(&mut self, text: &[u8]) -> Result<(), AllocError>
         ensures { OnOk result (Gains self.old self.new (λ t. t ≡ text.now)) }
     {
-        let place = place_for(text);
-        if self.is_near(place, text) {
+        self.list.push(text)?;
+        Ok(())
+    }
+
+    /// Puts the text behind the others, unless it is found among them at once.
+    pub(crate) fn put(&mut self, text: &[u8]) -> Result<(), AllocError>
+        ensures { OnOk result (Gains self.old self.new (λ t. t ≡ text.now)) }
+    {
+        let note = note_for(text);
+        if self.is_near(note, text) {
             return Ok(());
         }
-        let texts = mem::replace(self, Texts::none(alloc));
-        *self = texts.with(alloc, place, text)?;
+        keep(&mut self.notes, note, self.list.len());
+        self.append(text)?;
         Ok(())
     }
 }

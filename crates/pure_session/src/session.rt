@@ -12,6 +12,7 @@ use crate::order::Loaded;
 use crate::reason::RefusedFile;
 use pure_graph::LoadFault;
 use pure_io::Library;
+use pure_threads::threads_in_room;
 use pure_typ::Names;
 use std::alloc::Global;
 use std::rt::Files;
@@ -27,8 +28,17 @@ pub struct Session {
     pub files: u32,
 }
 
+/// The bytes of the stack that a thread has as a rule where none is asked for, and those that a worker takes later.
+const ROOM: usize = 88 << 20;
+
+/// How many threads there is room for, the caller's among them, at most so many.
+fn in_room(alloc: Global, number: usize) -> usize {
+    threads_in_room(alloc, ROOM, number.saturating_sub(1)).saturating_add(1)
+}
+
 /// The session of a library. At most one byte more than a file may have is read of each, and nothing of those behind the
-/// first 256. What they say by themselves, and the names, are found in so many threads at most.
+/// first 256. What they say by themselves, and the names, are found in so many threads at most, and in no more than
+/// there is room for.
 pub fn load<R: Files + Print + AllocGlobal, T: Threads + Sync, L: Library>(
     rt: &R,
     alloc: Global,
@@ -43,6 +53,7 @@ pub fn load<R: Files + Print + AllocGlobal, T: Threads + Sync, L: Library>(
     ensures files { L.files library.new ≡ L.files library.old }
     ensures later { L.faults library.old ≤ L.faults library.new }
 {
+    let number = in_room(alloc, number);
     let Theories {
         loaded,
         refused,

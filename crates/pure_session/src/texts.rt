@@ -11,19 +11,6 @@ use crate::near::Texts;
 use pure_grammar::{Token, TokenKind};
 use pure_lex::{LexFault, tokens};
 use std::alloc::{AllocError, Global};
-use std::collections::BTreeSet;
-
-/// Puts the text into the set, where it isn't there.
-pub(crate) fn put_far(
-    alloc: Global,
-    texts: &mut BTreeSet<Vec<u8>>,
-    text: &[u8],
-) -> Result<(), AllocError>
-    ensures { OnOk result (Gains texts.old texts.new (λ t. t ≡ text.now)) }
-{
-    texts.insert(Vec::from_slice(alloc, text)?)?;
-    Ok(())
-}
 
 /// The bytes of the token.
 fn bytes_of<'s>(source: &'s [u8], token: &Token) -> &'s [u8]
@@ -63,9 +50,8 @@ fn spelling_of<'s>(source: &'s [u8], token: &Token, is_quoted: bool) -> Option<&
     }
 }
 
-/// Puts the spelling that a token gives into the set.
+/// Puts the spelling that a token gives behind the others.
 fn put_spelling(
-    alloc: Global,
     texts: &mut Texts,
     source: &[u8],
     token: &Token,
@@ -77,27 +63,22 @@ fn put_spelling(
     let Some(spelling) = spelling_of(source, token, is_quoted) else {
         return Ok(());
     };
-    texts.put(alloc, spelling)?;
+    texts.put(spelling)?;
     Ok(())
 }
 
-/// Puts the spellings that the tokens of a quoted text give into the set.
-fn put_spellings(
-    alloc: Global,
-    texts: &mut Texts,
-    source: &[u8],
-    tokens: &[Token],
-) -> Result<(), AllocError>
+/// Puts the spellings that the tokens of a quoted text give behind the others.
+fn put_spellings(texts: &mut Texts, source: &[u8], tokens: &[Token]) -> Result<(), AllocError>
     requires { Each (IsSlice source.now) tokens.now }
     ensures { OnOk result (Gains texts.old texts.new (λ t. AnyOf (λ token. Gives source.now true token t) tokens.now)) }
 {
     for token in tokens {
-        put_spelling(alloc, texts, source, token, true)?;
+        put_spelling(texts, source, token, true)?;
     }
     Ok(())
 }
 
-/// Puts the spellings in a quoted text into the set, if its tokens can be read.
+/// Puts the spellings in a quoted text behind the others, if its tokens can be read.
 fn put_quoted(
     alloc: Global,
     texts: &mut Texts,
@@ -110,7 +91,7 @@ fn put_quoted(
 {
     match tokens(alloc, source, quote.from + 1, quote.to - 1) {
         Ok(found) => {
-            put_spellings(alloc, texts, source, found.as_slice())?;
+            put_spellings(texts, source, found.as_slice())?;
             Ok(())
         }
         Err(LexFault::At { .. }) => Ok(()),
@@ -118,7 +99,7 @@ fn put_quoted(
     }
 }
 
-/// Puts the spellings in a token into the set, if it is a quoted text.
+/// Puts the spellings in a token behind the others, if it is a quoted text.
 fn put_inside(
     alloc: Global,
     texts: &mut Texts,
@@ -137,7 +118,7 @@ fn put_inside(
     }
 }
 
-/// Puts what a token of a theory gives into the set: its spelling, or those in it.
+/// Puts what a token of a theory gives behind the others: its spelling, or those in it.
 fn put_token(
     alloc: Global,
     texts: &mut Texts,
@@ -147,12 +128,12 @@ fn put_token(
     requires { IsSlice source.now token.now }
     ensures { OnOk result (Gains texts.old texts.new (λ t. Gives source.now false token.now t ⊎ GivesInside source.now token.now t)) }
 {
-    put_spelling(alloc, texts, source, token, false)?;
+    put_spelling(texts, source, token, false)?;
     put_inside(alloc, texts, source, token)?;
     Ok(())
 }
 
-/// Puts what the tokens of a theory give into the set.
+/// Puts what the tokens of a theory give behind the others.
 fn put_tokens(
     alloc: Global,
     texts: &mut Texts,
@@ -178,7 +159,7 @@ fn end_of(source: &[u8]) -> Result<u32, AllocError>
     }
 }
 
-/// Puts the spellings of a source into the set.
+/// Puts the spellings of a source behind the others.
 pub(crate) fn put_source(alloc: Global, texts: &mut Texts, source: &[u8]) -> Result<(), AllocError>
     ensures { OnOk result (Gains texts.old texts.new (IsSpelled source.now)) }
 {

@@ -1,11 +1,11 @@
 -- Merging two lists of pairs.
-use Rattle.std.proofs.Common.{◌≡◌, ℕ, ◌≤◌, ◌<◌, List, [], ◌∷◌, ◌++◌, length, length-append, append_assoc, drop, Some, refl, sym, ap, ◌∙◌, arith, cond, inl, inr, ◌⊎◌}
+use Rattle.std.proofs.Common.{◌≡◌, ℕ, ◌≤◌, ◌<◌, List, [], ◌∷◌, ◌++◌, length, length-append, append_assoc, drop, Some, refl, sym, ap, ◌∙◌, arith, cond, inl, inr, ◌⊎◌, false, ◌==◌}
 use Rattle.std.specs.Ordering.{nat_cmp, eq_by_cmp}
 use Rattle.std.specs.FinMap.{find}
 use Rattle.std.proofs.lemmas.Bool.Decides.{nat_tests}
-use Rattle.std.proofs.lemmas.List.{append-nil, drop-map}
+use Rattle.std.proofs.lemmas.List.{append-nil, drop-map, map-append}
 use Rattle.pure_text.specs.Lists.{Each}
-use Rattle.pure_text.proofs.ListLaws.{each_imply}
+use Rattle.pure_text.proofs.ListLaws.{each_imply, each-append}
 use Rattle.pure_shared_maps.specs.Pairs.{Ascends, HasSame}
 use Rattle.pure_shared_maps.specs.declared.entries.Entry.{Entry}
 use Rattle.pure_shared_maps.specs.View.{pair_of, pairs_of}
@@ -83,6 +83,25 @@ module _ {V : Type 0} where
 
   pub all_same : (all done left right next last : List (ℕ × V)) → IsMerging all done left right → next ≡ done ++ left → last ≡ next ++ right → HasSame last all
   all_same all done left right next last m en el = rw (el, en, append_assoc done left right) m.same
+
+  -- Pairs that ascend may stand behind those whose keys are less than their first.
+  follow : (first : List (ℕ × V)) (b : ℕ × V) (rest : List (ℕ × V)) → Ascends first → Ascends (b ∷ rest) → Each (λ p. p.0 < b.0) first → Ascends (first ++ b ∷ rest)
+  follow [] b rest up next less = next
+  follow (a ∷ first) b rest up next less = (
+    each-append (λ q. a.0 ≤ q.0) first (b ∷ rest) up.0 (omega (arith, less.0), each_least a.0 b.0 rest (omega (arith, less.0)) next.0),
+    follow first b rest up.1 next less.1,
+  )
+
+  pub may_follow : (first second : List (ℕ × V)) (b : ℕ × V) (rest : List (ℕ × V)) → second ≡ b ∷ rest → Ascends first → Ascends second → Each (λ p. p.0 < b.0) first → Ascends (first ++ second)
+  may_follow first second b rest is up next less = rw is (follow first b rest up (rw is at next) less)
+
+  pub some_left : (es : List (Entry V)) → (length es == 0) ≡ false → 0 < length es
+  some_left [] h = absurd (cc)
+  some_left (e ∷ es) h = omega arith
+
+  -- Entries that are moved behind those of a run.
+  pub appended : (none start more all first : List (Entry V)) → none ≡ [] → pairs_of start ≡ pairs_of none ++ pairs_of (drop 0 first) → all ≡ start ++ more → pairs_of all ≡ pairs_of first ++ pairs_of more
+  appended none start more all first empty is longer = ap pairs_of longer ∙ map-append pair_of start more ∙ ap (λ ps. ps ++ pairs_of more) (is ∙ ap (λ es. pairs_of es ++ pairs_of first) empty)
 
   pub pushed : (run next : List (ℕ × V)) (p : ℕ × V) (left rest all : List (ℕ × V)) → next ≡ run ++ p ∷ [] → left ≡ p ∷ rest → run ++ left ≡ all → next ++ rest ≡ all
   pushed run next p left rest all en el is = rw (en, append_assoc run (p ∷ []) rest) (rw el at is)

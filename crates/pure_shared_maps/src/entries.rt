@@ -51,7 +51,7 @@ fn push_rest<V: Drop>(
 }
 
 /// The entries of both runs, in the order of their keys.
-pub(crate) fn merged<V: Drop>(
+fn merged<V: Drop>(
     alloc: Global,
     first: &[Entry<V>],
     second: &[Entry<V>],
@@ -89,6 +89,52 @@ fn are_less<V>(entries: &[Entry<V>], key: u32) -> bool
         None => true,
         Some(last) => last.key < key,
     }
+}
+
+/// Whether the entries of the second run, which has some, may stand behind those of the first.
+fn may_follow<V>(first: &[Entry<V>], second: &[Entry<V>]) -> bool
+    requires first_ascends { Ascends (pairs_of first.now) }
+    requires second_ascends { Ascends (pairs_of second.now) }
+    ensures { IsTrue result → Ascends (pairs_of first.now ++ pairs_of second.now) }
+{
+    if second.is_empty() {
+        return false;
+    }
+    are_less(first, second[0].key)
+}
+
+/// The entries of the first run, and behind them those of the second, which are moved.
+fn appended<V: Drop>(
+    alloc: Global,
+    first: &[Entry<V>],
+    second: Vec<Entry<V>>,
+) -> Result<Vec<Entry<V>>, AllocError>
+    ensures { IfOk result (λ run. pairs_of run.items ≡ pairs_of first.now ++ pairs_of second.items) }
+{
+    let mut rest = second;
+    let mut run = Vec::with_capacity(alloc, first.len().saturating_add(rest.len()))?;
+    push_rest(&mut run, first, 0)?;
+    run.append(&mut rest)?;
+    Ok(run)
+}
+
+/// The entries of both runs, in the order of their keys. Where those of the second, which is let go of, may stand behind the first, they are moved there.
+pub(crate) fn united<V: Drop>(
+    alloc: Global,
+    first: &[Entry<V>],
+    second: Vec<Entry<V>>,
+) -> Result<Vec<Entry<V>>, AllocError>
+    requires first_ascends { Ascends (pairs_of first.now) }
+    requires second_ascends { Ascends (pairs_of second.items) }
+    ensures ascends { IfOk result (λ run. Ascends (pairs_of run.items)) }
+    ensures same { IfOk result (λ run. HasSame (pairs_of run.items) (pairs_of first.now ++ pairs_of second.items)) }
+{
+    if may_follow(first, second.as_slice()) {
+        let run = appended(alloc, first, second)?;
+        return Ok(run);
+    }
+    let run = merged(alloc, first, second.as_slice())?;
+    Ok(run)
 }
 
 /// The place of the first entry whose key isn't less. Keys mostly come in rising order, so that the last one often tells.

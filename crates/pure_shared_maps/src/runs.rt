@@ -7,7 +7,7 @@ ghost use Rattle.pure_shared_maps.specs.Pairs.{Ascends, joined};
 ghost use Rattle.pure_shared_maps.specs.Runs.{CanTake, HasTaken};
 ghost use Rattle.pure_shared_maps.specs.View.{pairs_of, runs_of};
 
-use crate::entries::{Entry, found, merged};
+use crate::entries::{Entry, found, united};
 use std::alloc::{AllocError, Global};
 use std::sync::Arc;
 
@@ -52,7 +52,7 @@ pub(crate) fn grown<V: Drop>(
     if last.len() != run.len() {
         return appended(alloc, runs, run);
     }
-    let run = merged(alloc, last.as_slice(), run.as_slice())?;
+    let run = united(alloc, last.as_slice(), run)?;
     grown(alloc, rest, run)
 }
 

@@ -1,6 +1,5 @@
 //! Two things done side by side.
 use core::thread::Stack;
-use std::alloc::Global;
 use std::marker::Send;
 use std::sync::Wait;
 use std::thread;
@@ -46,31 +45,22 @@ pub fn run_beside<
     )
 }
 
-/// The bytes that stay for other things beside a thread's stack.
-const SPARE: usize = 48 << 20;
-
-/// Whether so many bytes and some more are to be had now. They are given back at once, and untouched.
-fn is_room(alloc: Global, bytes: usize) -> bool {
-    Vec::<u8>::with_capacity(alloc, bytes.saturating_add(SPARE)).is_ok()
-}
-
-/// Does both side by side where there is room for the stack and for what the threads ask for besides, since a stack that takes the last room
-/// leaves none for their work; else one after the other.
-pub(crate) fn run_in_room<
+/// Does both: side by side where a thread is to be made, else one after the other.
+pub(crate) fn run_both<
     R: Threads + Wait + Sync,
     P: Promise<A> + Drop,
     A: Send + Drop,
     F: FnOnce() -> A + Send + Drop,
     G: FnOnce() -> B + Drop,
     B: Drop,
->(rt: &R, alloc: Global, stack: usize, promise: P, first: F, other: G) -> (A, B)
+>(rt: &R, is_beside: bool, stack: usize, promise: P, first: F, other: G) -> (A, B)
     requires first { F.pre first }
     requires keeps { (x : A) → F.post first x → P.kept_by promise x }
     requires other { G.pre other }
     ensures first { P.kept_by promise result.0 }
     ensures other { G.post other result.1 }
 {
-    if is_room(alloc, stack) {
+    if is_beside {
         run_beside(rt, stack, promise, first, other)
     } else {
         let answer = first();

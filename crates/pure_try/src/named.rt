@@ -18,10 +18,11 @@ use pure_check_work::theory_run::{Checker, lemma_named};
 use pure_race::race;
 use pure_typ::NamesByBase;
 use std::alloc::{AllocError, Global};
+use std::sync::Wait;
 use std::thread::Threads;
 
 /// The place of the first method that proves the lemma, by a race of so many workers.
-fn winner<R: Threads + Sync>(
+fn winner<R: Threads + Wait + Sync>(
     rt: &R,
     alloc: Global,
     names: &NamesByBase,
@@ -49,12 +50,12 @@ fn method_at(alloc: Global, methods: &[Method], place: u32) -> Result<Method, Al
 }
 
 /// The first method in order by which the lemma is proved; none where none does it. The methods are tried by so many workers
-/// at once.
+/// at once. It may wait for ever.
 ///
 /// # Errors
 ///
 /// Want of memory alone.
-pub fn first_method<R: Threads + Sync>(
+pub fn first_method<R: Threads + Wait + Sync>(
     rt: &R,
     alloc: Global,
     names: &NamesByBase,
@@ -77,12 +78,12 @@ pub fn first_method<R: Threads + Sync>(
 }
 
 /// What is said of the lemma with this full name among those that the session's theories bind: a lemma that is refused is
-/// none. Its own proof isn't looked at, nor whether a lemma that is a rule has one.
+/// none. Its own proof isn't looked at, nor whether a lemma that is a rule has one. It may wait for ever.
 ///
 /// # Errors
 ///
 /// Want of memory alone.
-pub fn try_lemma<R: Threads + Sync>(
+pub fn try_lemma<R: Threads + Wait + Sync>(
     rt: &R,
     alloc: Global,
     checker: &Checker,

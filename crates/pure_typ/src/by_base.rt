@@ -34,6 +34,15 @@ impl NamesByBase {
     pub fn make(alloc: Global, names: Names) -> Result<NamesByBase, AllocError>
         ensures { IfOk result (λ n. n ≡ names) }
     {
+        let noted = names.noted(alloc)?;
+        let named = NamesByBase::grouped(alloc, noted)?;
+        Ok(named)
+    }
+
+    /// The same, where the names are noted.
+    fn grouped(alloc: Global, names: Names) -> Result<NamesByBase, AllocError>
+        ensures { IfOk result (λ n. n ≡ names) }
+    {
         let mut by_base: BTreeMap<Vec<u8>, Vec<Name>> = BTreeMap::new(alloc);
         for number in 0..names.first_fresh() {
             put(alloc, &mut by_base, &names, Name(number))?;

@@ -1,5 +1,5 @@
 //! The texts of names.
-ghost use Rattle.std.specs.Prelude.{◌≡◌, ◌<◌, ◌∷◌, ◌++◌, ℕ, List, length, MatchOption, IfOk, option_map, slice_get, Some, None};
+ghost use Rattle.std.specs.Prelude.{◌≡◌, ◌<◌, ◌∷◌, ◌++◌, ℕ, List, length, MatchOption, IfOk, IfSome, option_map, slice_get, Some, None};
 ghost use Rattle.std.specs.Ordering.{nat_cmp};
 ghost use Rattle.std.specs.Cmp.Lexicographic.{slice_cmp};
 ghost use Rattle.pure_definitions.specs.Names.{builtin_count};
@@ -12,10 +12,14 @@ use std::alloc::{AllocError, Global};
 use std::cmp::Ordering;
 use std::marker::Model;
 
-/// The texts of a session's names, in byte order.
+/// How often the fewest notes, 64, are doubled at most.
+const MOST_DOUBLINGS: u32 = 12;
+
+/// The texts of a session's names, in byte order. Of most names it may be noted by what their texts come to which they are, so that they are found without a search.
 #[derive(Debug, Drop)]
 pub struct Names {
     texts: TextList,
+    notes: Option<Vec<u32>>,
 }
 
 impl Model for Names {
@@ -44,7 +48,7 @@ impl Names {
         requires { AreSessionTexts texts }
         ensures { result ≡ texts }
     {
-        Names { texts }
+        Names { texts, notes: None }
     }
 
     /// The name with this text.
@@ -108,11 +112,47 @@ impl Names {
         ensures { IfOk result (λ names. names ≡ self.now) }
     {
         let texts = self.texts.copy(alloc)?;
-        Ok(Names { texts })
+        Ok(Names { texts, notes: None })
+    }
+
+    /// The same names, with notes of where they stand.
+    pub(crate) fn noted(self, alloc: Global) -> Result<Names, AllocError>
+        ensures { IfOk result (λ names. names ≡ self) }
+    {
+        let notes = notes_of(alloc, &self)?;
+        let Names { texts, .. } = self;
+        Ok(Names {
+            texts,
+            notes: Some(notes),
+        })
     }
 
     /// The name with the three texts, one after another.
     fn find_joined(&self, a: &[u8], b: &[u8], c: &[u8]) -> Option<Name>
+        ensures { IsFound (name_texts self.now) (a.now ++ (b.now ++ c.now)) result }
+    {
+        if let Some(name) = self.find_noted(a, b, c) {
+            return Some(name);
+        }
+        self.search(a, b, c)
+    }
+
+    /// The name that is noted for the three texts, one after another, if it has them.
+    fn find_noted(&self, a: &[u8], b: &[u8], c: &[u8]) -> Option<Name>
+        ensures { IfSome result (λ name. HasText self.now name (a.now ++ (b.now ++ c.now))) }
+    {
+        let name = note_at(&self.notes, a, b, c);
+        let Some(text) = self.text(name) else {
+            return None;
+        };
+        if compare_joined(text, a, b, c).is_eq() {
+            return Some(name);
+        }
+        None
+    }
+
+    /// The name with the three texts, one after another, which is searched for.
+    fn search(&self, a: &[u8], b: &[u8], c: &[u8]) -> Option<Name>
         ensures { IsFound (name_texts self.now) (a.now ++ (b.now ++ c.now)) result }
     {
         if let Some(number) = find_builtin(a, b, c) {
@@ -123,6 +163,67 @@ impl Names {
             None => None,
         }
     }
+}
+
+/// What the bytes of a text come to behind others.
+fn mixed(sum: usize, text: &[u8]) -> usize {
+    let mut mixed = sum;
+    for byte in text {
+        mixed = mixed.wrapping_mul(31).wrapping_add(usize::from(*byte));
+    }
+    mixed
+}
+
+/// Which of so many notes the three texts have, one after another.
+fn note_for(count: usize, a: &[u8], b: &[u8], c: &[u8]) -> usize {
+    let sum = mixed(mixed(mixed(0, a), b), c);
+    sum & count.wrapping_sub(1)
+}
+
+/// The name that is noted for the three texts, one after another; where there are no notes, some name.
+fn note_at(notes: &Option<Vec<u32>>, a: &[u8], b: &[u8], c: &[u8]) -> Name {
+    match notes {
+        None => Name(u32::MAX),
+        Some(notes) => match notes.get(note_for(notes.len(), a, b, c)) {
+            None => Name(u32::MAX),
+            Some(number) => Name(*number),
+        },
+    }
+}
+
+/// How many notes there are for so many names: a power of two.
+fn note_count(names: usize) -> usize {
+    let mut count: usize = 64;
+    for _ in 0..MOST_DOUBLINGS {
+        if count < names {
+            count = count.saturating_mul(2);
+        }
+    }
+    count
+}
+
+/// Notes the name for its text.
+fn keep(notes: &mut Vec<u32>, names: &Names, number: u32) {
+    if let Some(text) = names.text(Name(number)) {
+        let note = note_for(notes.len(), text, b"", b"");
+        if note < notes.len() {
+            notes[note] = number;
+        }
+    }
+}
+
+/// Notes of where the names stand.
+fn notes_of(alloc: Global, names: &Names) -> Result<Vec<u32>, AllocError> {
+    let count = names.first_fresh();
+    let mut notes = Vec::from_elem(
+        alloc,
+        u32::MAX,
+        note_count((count as usize).saturating_mul(4)),
+    )?;
+    for number in 0..count {
+        keep(&mut notes, names, number);
+    }
+    Ok(notes)
 }
 
 /// These texts as one list.

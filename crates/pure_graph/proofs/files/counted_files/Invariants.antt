@@ -6,6 +6,6 @@ use Rattle.pure_graph.proofs.files.counted_files.Given as goal
 
 abbrev pub invariant-loop-draft : goal.invariant-loop-draft
 invariant-loop-draft l = record {
-  so_far : AreCounted l.fn.drafts.items (into_iter_items l.draft-iterator) l.files.items l.before;
-  few : l.before ≤ most_session_parts;
+  so_far : AreCounted l.fn.before l.fn.drafts.items (into_iter_items l.draft-iterator) l.files.items l.parts;
+  few : l.parts ≤ most_session_parts;
 }

@@ -1,10 +1,9 @@
 use Rattle.pure_graph.specs.Seen.{seen_files}
-use Rattle.pure_graph.proofs.FilesLemmas.{files-of}
-use Rattle.pure_graph.proofs.DraftLemmas.{drafts-said, lent-back}
+use Rattle.pure_graph.proofs.FilesLemmas.{files-of, IsReadSoFar-all}
 use Rattle.pure_graph.proofs.files.read_files.Goals as goal
 
 pub returns-clause-told : goal.returns-clause-told
 returns-clause-told g c =
-    files-of (g.L.Library.files c.args.library.now) (g.L.Library.files c.list.new.library) c.in_ok-names.names.items c.in_ok-theories.theories.items (seen_files c.in_ok-files.files.items)
+    files-of (g.L.Library.files c.args.library.now) (g.L.Library.files c.list.new.library) c.in_ok-names.names.items c.in_ok-theories.theories.items (seen_files c.in_ok-files.field-0.files.items)
     c.in_ok-names.ensures.files c.in_ok-names.ensures.told (rw c.deref.ensures.value at c.in_ok-theories.ensures)
-    (c.in_ok-files.ensures _ c.in_ok-theories.theories.items (drafts-said _ 0 _ c.in_ok-drafts.drafts.items _ (lent-back _ _ _ _ c.as_mut_slice.ensures.value c.as_mut_slice.ensures.len c.say_all.ensures) (rw c.deref-2.ensures.value at c.in_ok-drafts.ensures.told)))
+    (IsReadSoFar-all _ c.in_ok-theories.theories.items (seen_files c.in_ok-files.field-0.files.items) c.in_ok-files.field-0.parts (rw c.deref-2.ensures.value at c.in_ok-files.ensures.told))

@@ -1,17 +1,6 @@
-use Rattle.std.proofs.Common.{◌≡◌, ◌∷◌, [], subst, sym}
-use Rattle.pure_graph.specs.SessionNames.{AreNames}
 use Rattle.pure_session.specs.Waiting.{seen_loaded, all_loaded}
-use Rattle.pure_session.proofs.NamesLemmas.{names-none, names-united, none-mapped, one-mapped, parts-mapped}
+use Rattle.pure_session.proofs.NamesLemmas.{names-united, parts-mapped}
 use Rattle.pure_session.proofs.names.+texts_of.Goals as goal
-
-pub returns-then-count-eq0 : goal.returns-then-count-eq0
-returns-then-count-eq0 t c = names-none (all_loaded c.args.theories.now) c.empty.result (none-mapped seen_loaded c.args.theories.now c.if-count-eq0.true) c.empty.ensures
-
-pub returns-then-count-eq1 : goal.returns-then-count-eq1
-returns-then-count-eq1 t c =
-    let alone : all_loaded c.args.theories.now ≡ seen_loaded c.index-theories-0.result ∷ [] =
-    one-mapped seen_loaded c.args.theories.now c.index-theories-0.result c.if-count-eq1.true c.index-theories-0.is in
-    subst (λ theories. AreNames theories c.in_ok-texts.texts) (sym alone) c.in_ok-texts.ensures
 
 pub returns : goal.returns
 returns t c =

@@ -12,8 +12,8 @@ returns-then-len g t c =
     let alike = lens_alike c.deref-last.result.now c.args.run c.len.result c.len-2.result c.len.ensures c.len-2.ensures in
     if_ok_then _ _ c.appended-then-len.result c.appended-then-len.ensures (λ all is. put_last _ _ _ _ _ c.requires split (λ h. c.if-len.true (alike.1 h)) is)
 
-pub merged-requires-clause-first_ascends : goal.merged-requires-clause-first_ascends
-merged-requires-clause-first_ascends g t c =
+pub united-requires-clause-first_ascends : goal.united-requires-clause-first_ascends
+united-requires-clause-first_ascends g t c =
     let split = runs_split c.args.runs.now c.in-Some.rest.now c.in-Some.last.now c.deref-last.result.now c.deref-last.ensures c.in-Some.ensures.cases.0 in
     rw c.as_slice.ensures.value (last_ascends _ _ _ _ c.requires split)
 
@@ -21,12 +21,12 @@ pub grown-requires : goal.grown-requires
 grown-requires g t c κs within =
     let split = runs_split c.args.runs.now c.in-Some.rest.now c.in-Some.last.now c.deref-last.result.now c.deref-last.ensures c.in-Some.ensures.cases.0 in
     let alike = lens_alike c.deref-last.result.now c.args.run c.len.result c.len-2.result c.len.ensures c.len-2.ensures in
-    let same = rw (c.as_slice.ensures.value, c.as_slice-2.ensures.value) at c.in_ok-run.ensures.same in
+    let same = rw c.as_slice.ensures.value at c.in_ok-run.ensures.same in
     let shorter = c.in-Some.ensures.cases.1 in
     (omega (arith, shorter), (within, merges _ _ _ _ _ c.requires split (alike.0 c.if-len.false) c.in_ok-run.ensures.ascends same))
 
 pub returns : goal.returns
 returns g t c =
     let split = runs_split c.args.runs.now c.in-Some.rest.now c.in-Some.last.now c.deref-last.result.now c.deref-last.ensures c.in-Some.ensures.cases.0 in
-    let same = rw (c.as_slice.ensures.value, c.as_slice-2.ensures.value) at c.in_ok-run.ensures.same in
+    let same = rw c.as_slice.ensures.value at c.in_ok-run.ensures.same in
     if_ok_then _ _ c.grown.result c.grown.ensures (λ all has. taken _ _ _ _ _ _ split same has)
