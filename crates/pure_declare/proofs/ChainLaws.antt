@@ -20,12 +20,12 @@ use Rattle.pure_declare.proofs.PartLaws.{parts_grow, parts_good, parts_tidy, par
 
 module _ (texts : List (List ℕ)) (source : List ℕ) (label : Label) where
   -- What is kept from a place on: labels of parts at most at the last place.
-  pub record IsKeptFrom (place : ℕ) (Q : Content) (notes : List Note) (next : Content) : Type 0 where
-    pub good : IsGood next
-    pub session : IsInSession texts next
-    pub grown : IsGrown (part_label label (place + length notes)) Q next
-    pub tidy : IsTidy Q → IsTidy next
-    pub promises : (x : ℕ) (l : Label) (A : Term) → IsIn (PromiseDecl x l A) next.declarations
+  record IsKeptFrom (place : ℕ) (Q : Content) (notes : List Note) (next : Content) : Type 0 where
+    good : IsGood next
+    session : IsInSession texts next
+    grown : IsGrown (part_label label (place + length notes)) Q next
+    tidy : IsTidy Q → IsTidy next
+    promises : (x : ℕ) (l : Label) (A : Term) → IsIn (PromiseDecl x l A) next.declarations
         → IsIn (PromiseDecl x l A) Q.declarations ⊎ ((f : Fork) × IsIn (Forked f) notes × (f.name ≡ x) × (f.label ≡ l) × (f.prop ≡ A))
 
   nothing-kept : (place : ℕ) (Q : Content) → IsInSession texts Q → IsGood Q → HasClassesAbove Q → IsLabelAbove Q.declarations (part_label label place) → IsKeptFrom place Q [] Q
@@ -70,7 +70,7 @@ module _ (texts : List (List ℕ)) (source : List ℕ) (label : Label) where
       from x l A (inl there) = of-part x l A (parts_promise texts source (part_label label place) Q part note R d x l A there)
       from x l A (inr (f, m, name, at, prop)) = inr (f, inr m, name, at, prop)
 
-  pub chain-kept : (parts : List Part) (place : ℕ) (Q : Content) (notes : List Note) (last : Content) → IsInSession texts Q → IsGood Q → HasClassesAbove Q → IsLabelAbove Q.declarations (part_label label place)
+  chain-kept : (parts : List Part) (place : ℕ) (Q : Content) (notes : List Note) (last : Content) → IsInSession texts Q → IsGood Q → HasClassesAbove Q → IsLabelAbove Q.declarations (part_label label place)
       → AreParts texts source label place Q parts notes last → IsKeptFrom place Q notes last
   chain-kept [] place Q notes last s g above labels h =
       subst (λ (ns : List Note). IsKeptFrom place Q ns last) (sym h.0) (subst (λ (R : Content). IsKeptFrom place Q [] R) (sym h.1) (nothing-kept place Q s g above labels))
