@@ -2,6 +2,7 @@ pub use Rattle.pure_session_laws.proofs.Theory as Theory
 pub use Rattle.pure_session_laws.proofs.Declare as Declare
 pub use Rattle.pure_session_laws.proofs.Method as Method
 pub use Rattle.pure_session_laws.proofs as SessionLaws
+pub mod PartLaws
 pub mod FoldLaws
 pub mod StepLaws
 pub mod KeptLaws
