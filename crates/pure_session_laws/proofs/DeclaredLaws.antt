@@ -177,7 +177,7 @@ part-adds texts source label Q part note next theory own index h = by (part-done
 
 -- ---- a command with its parts
 
-parts-add : (texts : List (List ℕ)) (source : List ℕ) (label : Label) (theory : TheoryId) → label.theory ≡ theory.index → (parts : List Part) (place : ℕ) (Q : Content) (notes : List Note) (last : Content)
+pub parts-add : (texts : List (List ℕ)) (source : List ℕ) (label : Label) (theory : TheoryId) → label.theory ≡ theory.index → (parts : List Part) (place : ℕ) (Q : Content) (notes : List Note) (last : Content)
     → Q.own ≡ Some theory → AreParts texts source label place Q parts notes last → HasAdded texts theory Q last
 parts-add texts source label theory index [] place Q notes last own h = subst (HasAdded texts theory Q) (sym h.1) (nothing-added texts theory Q)
 parts-add texts source label theory index (part ∷ parts) place Q notes last own (note, next, more, declares, rest, e) =

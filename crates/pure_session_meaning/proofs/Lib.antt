@@ -9,10 +9,10 @@ pub mod KeptLaws
 pub mod TextLaws
 pub mod OrderedLaws
 pub mod OrderlyLaws
-pub mod PromiseLaws
-pub mod ForkLaws
-pub mod ProvableLaws
 pub mod NoteLaws
+pub mod ForkLaws
+pub mod PromiseLaws
+pub mod ProvableLaws
 pub mod ConflictLaws
 pub mod OnceLaws
 pub mod FrontLaws
@@ -23,3 +23,4 @@ pub mod OwnerLaws
 pub mod EndLaws
 pub mod ParentLaws
 pub mod CloseLaws
+pub mod OneLemmaLaws

@@ -142,7 +142,7 @@ module _ (texts : List (List ℕ)) (theories : List Loaded) (session : IsLoadedS
     }
 
   -- Behind a part the content is so before the next one, and behind some parts, too.
-  part-orderly : (source : List ℕ) (label : Label) (place : ℕ) (Q : Content) (part : Part) (note : Note) (next : Content) → HasOrder texts (part_label label place) Q → DeclaresPart texts source (part_label label place) Q part note next
+  pub part-orderly : (source : List ℕ) (label : Label) (place : ℕ) (Q : Content) (part : Part) (note : Note) (next : Content) → HasOrder texts (part_label label place) Q → DeclaresPart texts source (part_label label place) Q part note next
       → HasOrder texts (part_label label (place + 1)) next
   part-orderly source label place Q part note next h d =
       let grown : IsGrown (part_label label place) Q next =
