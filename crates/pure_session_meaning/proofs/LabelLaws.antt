@@ -19,7 +19,6 @@ use Rattle.pure_session_laws.specs.Declare.Notes.{Note, Fork, Said, Forked}
 use Rattle.pure_session_laws.specs.Declare.Parts.{Part}
 use Rattle.pure_session_laws.specs.Declare.Fold.{part_label, AreParts, AreDeclared}
 use Rattle.pure_session_laws.specs.Theory.Refusals.{IsBefore}
-use Rattle.pure_session_laws.specs.Loaded.{IsLoadedSession}
 use Rattle.pure_session_meaning.specs.Verdicts.{Verdict, Barred, Ran, Closes}
 use Rattle.pure_session_meaning.specs.Statements.{notes_of, forks_of, IsRun, IsFork}
 use Rattle.pure_session_meaning.specs.Steps.{command_label}
@@ -228,7 +227,7 @@ module _ (texts : List (List ℕ)) (theories : List Loaded) where
       let on = all-between (index + 1) vs (λ p w h. subst (λ (i : ℕ). Closes texts theories i w) (omega arith) (closes (suc p) w h)) in
       let count : index + 1 + length vs ≡ index + length (v ∷ vs) = omega arith in
       let both = both-between (command_label index 0) (command_label (index + 1) 0) (command_label (index + 1 + length vs) 0) (forks_of (notes_of v)) (forks_of (flat_map notes_of vs))
-          (theories-up index (index + 1) (omega arith)) (theories-up (index + 1) (index + 1 + length vs) (omega arith)) (verdict-between index v here) on in
+      (theories-up index (index + 1) (omega arith)) (theories-up (index + 1) (index + 1 + length vs) (omega arith)) (verdict-between index v here) on in
       subst (λ (n : ℕ). AreBetween (command_label index 0) (command_label n 0) (forks_of (flat_map notes_of (v ∷ vs)))) count
       (subst (λ (fs : List Fork). AreBetween (command_label index 0) (command_label (index + 1 + length vs) 0) fs) (sym (forks-append (notes_of v) (flat_map notes_of vs))) both)
 

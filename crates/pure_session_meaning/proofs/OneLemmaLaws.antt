@@ -4,7 +4,7 @@ use Rattle.std.proofs.lemmas.Option.{same_Some}
 use Rattle.pure_text.specs.Lists.{IsIn}
 use Rattle.pure_text.proofs.ListLaws.{in-append_left}
 use Rattle.pure_typ.specs.NameTexts.{HasText}
-use Rattle.pure_logic.specs.Content.{TheoryId, Content}
+use Rattle.pure_logic.specs.Content.{TheoryId}
 use Rattle.pure_lookup.specs.Meaning.{full_text}
 use Rattle.pure_graph.specs.Order.{Loaded}
 use Rattle.pure_session_laws.specs.Declare.Notes.{Note, Fork, Forked}

@@ -20,7 +20,6 @@ use Rattle.pure_session_laws.specs.Theory.Refusals.{IsBefore, IsLabelAbove}
 use Rattle.pure_session_laws.proofs.Theory.MergeLaws.{sound_beginning}
 use Rattle.pure_graph.specs.Order.{Loaded}
 use Rattle.pure_session_laws.specs.Declare.Notes.{Note}
-use Rattle.pure_session_laws.specs.Declare.Chains as chains
 use Rattle.pure_session_laws.specs.Declare.Parts.{Part, DeclaresPart}
 use Rattle.pure_session_laws.specs.Declare.Fold.{part_label, AreParts, Declares}
 use Rattle.pure_session_laws.specs.Declare.Premises.{HasClassesAbove}
@@ -30,7 +29,6 @@ use Rattle.pure_session_laws.specs.Declare.Good.{IsGood}
 use Rattle.pure_session_laws.proofs.Declare.TidyDeclared.{pure_is_tidy}
 use Rattle.pure_session_laws.proofs.Declare.GoodLaws.{pure_is_good}
 use Rattle.pure_session_laws.proofs.Declare.PartLaws.{parts_grow, parts_good, parts_tidy, parts_in_session}
-use Rattle.pure_session_laws.proofs.Declare.ChainLaws.{commands_keep}
 use Rattle.pure_session_laws.specs.Loaded.{IsLoadedSession}
 use Rattle.pure_session_meaning.specs.Verdicts.{Verdict, IsTheoryAt, Begins, AllClose, beginning_over}
 use Rattle.pure_session_meaning.specs.Statements.{IsRun}
@@ -186,16 +184,9 @@ module _ (texts : List (List ℕ)) (theories : List Loaded) (session : IsLoadedS
       → HasOrder texts (command_label index 0) first
   begun-ordered index theory is_at parents closed first begins = begun-has texts theories session (HasOrder texts) order-kept index theory is_at parents closed first begins
 
-  -- and so is each content of a run;
+  -- and so is each content of a run.
   pub run-ordered : (index : ℕ) (notes : List Note) (now : Content) (left : List Command) (run : IsRun texts theories index notes now left) → HasOrder texts (command_label index (length run.done)) now
   run-ordered index notes now left run = run-has texts theories session (HasOrder texts) order-kept index notes now left run
-
-  -- and its next command keeps it.
-  pub run-keeps : (index : ℕ) (notes : List Note) (now : Content) (command : Command) (left : List Command) (run : IsRun texts theories index notes now (command ∷ left)) (more : List Note) (next : Content)
-      → Declares texts run.theory.source (command_label index (length run.done)) now command more next → chains.IsKept texts (command_label index (length run.done)) now more next
-  run-keeps index notes now command left run more next d =
-      let h = run-ordered index notes now (command ∷ left) run in
-      commands_keep texts run.theory.source (command_label index (length run.done)) now command more next h.orderly.in_session h.orderly.good (classes-above now h.orderly.good.sound) h.labels d
 
 pub runs_orderly : RunsOrderly
 runs_orderly texts theories session index notes now left run = (run-ordered texts theories session index notes now left run).orderly

@@ -7,12 +7,12 @@ use Rattle.pure_text.proofs.ListLaws.{each_at, in-append_right}
 use Rattle.pure_typ.specs.NameTexts.{HasText}
 use Rattle.pure_grammar.specs.Theories.TheoryText.{Command, Class, TypeDecl, Arity, Const, Axiom, Definition, Lemma}
 use Rattle.pure_logic.specs.Content.{TheoryId, Content}
+use Rattle.pure_graph.specs.Limits.{most_parts}
 use Rattle.pure_graph.specs.Outcome.{command_parts, part_count}
 use Rattle.pure_graph.specs.Order.{Loaded}
 use Rattle.pure_session_laws.specs.Declare.Notes.{Note}
 use Rattle.pure_session_laws.specs.Declare.Fold.{AreDeclared}
 use Rattle.pure_session_laws.specs.Declare.Premises.{HasFullNames, HasRanges, haves_of}
-use Rattle.pure_session_laws.specs.Loaded.{IsLoadedSession}
 use Rattle.pure_session_laws.proofs.DeclaredLaws.{HasAdded, declared-adds}
 use Rattle.pure_session_meaning.specs.Verdicts.{IsTheoryAt}
 use Rattle.pure_session_meaning.specs.Statements.{IsRun}
@@ -68,7 +68,7 @@ parts-within (d ∷ cs) c (inr m) =
     let sum : part_count (d ∷ cs) ≡ command_parts d + part_count cs = sum_by-cons command_parts d cs in
     omega (arith, sum, parts-within cs c m)
 
-few-haves : (n m : ℕ) → n ≤ m → m ≤ 512 → n < 4294967296
+few-haves : (n m : ℕ) → n ≤ m → m ≤ most_parts → n < 4294967296
 few-haves n m h k = omega (arith, h, k)
 
 pub runs_give : RunsGive

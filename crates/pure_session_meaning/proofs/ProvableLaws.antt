@@ -1,6 +1,6 @@
 -- A proof can be run of each lemma that is bound in a session.
 use Rattle.std.proofs.Common.{◌≡◌, ℕ, List, [], ◌∷◌, ◌++◌, map, refl, sym, subst, inl, inr}
-use Rattle.std.specs.Prelude.{◌≤◌, Bool, length, count_by}
+use Rattle.std.specs.Prelude.{◌≤◌, Bool, count_by}
 use Rattle.pure_text.specs.Lists.{IsIn, Each}
 use Rattle.pure_text.proofs.ListLaws.{each_at, in_split, in-append_right}
 use Rattle.pure_grammar.specs.Theories.TheoryText.{Span, Step, Rule, Erule, Drule, Assumption, Unfold, Prefer, Defer, Close, Done, Have, Command, Class, TypeDecl, Arity, Const, Axiom, Definition, Lemma}
