@@ -31,7 +31,6 @@ use Rattle.pure_session_laws.proofs.StoodLaws.{IsOwn, loaded-own}
 use Rattle.pure_session_laws.proofs.HeaderLaws.{IsNameToken, name-token}
 use Rattle.pure_session_laws.proofs.NamedLaws.{is-named, full-named}
 use Rattle.pure_session_laws.proofs.ScriptLaws.{neither, scripts-of}
-use Rattle.pure_session_laws.proofs.AloneLaws.{plain-of}
 
 are-slices : (source : List ℕ) (tokens : List Token) → Spells (length source) tokens source → AreSlices source 0 (length source) tokens
 are-slices source tokens spells = tokens_are_slices 0 (length source) source tokens (omega arith) (omega arith) (subst (Spells (length source) tokens) (sym (whole-range source)) spells)
@@ -113,7 +112,6 @@ well texts l has own =
     record {
       small = small-enough (length l.source) own.size;
       ranges = ranges-of l.source own.spelled.0 l.text own.spelled.1 is;
-      alone = plain-of is.file.commands l.text.commands (ap (λ (t : TheoryText). t.commands) is.means);
       named = has l.name (inl name.spelled);
       full = full-of texts l has;
       plain = (name.plain, head.other);

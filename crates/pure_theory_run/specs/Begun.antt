@@ -10,11 +10,12 @@ use Rattle.pure_theory_run.specs.declared.run.Going.{Going}
 use Rattle.pure_theory_run.specs.declared.run.Standing.{Standing}
 use Rattle.pure_theory_run.specs.declared.run.Standing.TheVariants as code
 
--- No command was run yet: there is no row, and so many are left.
+-- No command was run yet: there is no row, no note waits, and so many commands are left.
 pub record IsFirst (left : ℕ) (first : Content) (going : Going) : Type 0 where
   pub rows : going.rows.items ≡ []
   pub now : going.now.value ≡ first
   pub left_is : going.left ≡ left
+  pub waiting : going.waiting.items ≡ []
 
 -- The theory has begun over these contents, and none of its commands was run yet.
 pub record IsFirstOver (texts : List (List ℕ)) (index : ℕ) (theory : Loaded) (contents : List Content) (going : Going) : Type 0 where

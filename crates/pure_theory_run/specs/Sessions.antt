@@ -10,7 +10,7 @@ use Rattle.pure_theory_run.specs.Runs.{IsRunOf, turns_left}
 use Rattle.pure_theory_run.specs.Turns.{ClosesWith}
 use Rattle.pure_theory_run.specs.declared.run.Run.{Run}
 
--- The run goes on with a note more, and fewer commands are left.
+-- The run goes on with a note more, and fewer turns are left.
 pub record GoesOnWith (texts : List (List ℕ)) (theories : List Loaded) (index : ℕ) (notes : List Note) (old new : Run) (note : Note) : Type 0 where
   pub run : IsRunOf texts theories index (notes ++ note ∷ []) new
   pub fewer : turns_left new < turns_left old

@@ -21,6 +21,7 @@ use pure_session_meaning::theory::{Stage, Theory};
 use pure_theory_tables::shared;
 use pure_typ::Name;
 use std::alloc::AllocError;
+use std::collections::VecDeque;
 use std::sync::Arc;
 
 /// The index at the place.
@@ -60,6 +61,7 @@ impl Checker {
             rows: Vec::new(self.alloc),
             now,
             left,
+            waiting: VecDeque::new(self.alloc),
         })
     }
 
