@@ -1,3 +1,4 @@
+pub mod LimitLemmas
 pub mod HeaderLemmas
 pub mod SumLemmas
 pub mod ListingLemmas
