@@ -6,4 +6,5 @@ pub mod SourceLemmas
 pub mod FilesLemmas
 pub mod Ascending
 pub mod LawsLemmas
+pub mod FirstLemmas
 pub mod DraftLemmas

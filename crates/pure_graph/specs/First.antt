@@ -7,7 +7,7 @@ use Rattle.std.specs.Cmp.Lexicographic.{slice_cmp}
 use Rattle.pure_text.specs.Lists.{IsIn, AnyOf}
 use Rattle.pure_grammar.specs.Theories.TheoryText.{Command, Class, TypeDecl, Arity, Const, Axiom, Definition, Lemma, TheoryText}
 use Rattle.pure_graph.specs.Limits.{most_files, most_bytes, most_steps}
-use Rattle.pure_graph.specs.Outcome.{Outcome, Refused, Stands, IsTheoryText, IsFaultPlace, syntax_at, is_numbered, is_headed}
+use Rattle.pure_graph.specs.Outcome.{Outcome, Refused, Stands, syntax_at, is_numbered, is_headed}
 use Rattle.pure_graph.specs.Reading.{Answer, File}
 use Rattle.pure_graph.specs.Graph.{linked, AreJudged}
 use Rattle.pure_graph.specs.Order.{Loaded, AreInLoadOrder}
@@ -37,28 +37,6 @@ abbrev pub tree_outcome : (theory source : List ℕ) → TheoryText → Outcome
 tree_outcome theory source text =
     if is_headed theory text then (if is_large text then Refused TooLarge else Stands source text) else Refused HeaderName
 
--- what the bytes of a theory's file say, where they aren't too many
-abbrev pub IsSourceOutcome : (theory source : List ℕ) → Outcome → Type 0
-IsSourceOutcome theory source outcome =
-    ((at : ℕ) × IsFaultPlace source at × (outcome ≡ Refused (syntax_at source at)))
-    ⊎ ((text : TheoryText) × IsTheoryText source text × (outcome ≡ tree_outcome theory source text))
-
--- what the bytes of a theory's file say
-abbrev pub IsBytesOutcome : (theory source : List ℕ) → Outcome → Type 0
-IsBytesOutcome theory source outcome =
-    ((most_bytes < length source) × (outcome ≡ Refused TooLarge))
-    ⊎ ((length source ≤ most_bytes) × IsSourceOutcome theory source outcome)
-
--- what the file of a theory says by itself: these are its bytes, or it is missing
-abbrev pub IsOwnOutcome : (theory : List ℕ) → Option (List ℕ) → Outcome → Type 0
-IsOwnOutcome theory None outcome = outcome ≡ Refused (NoFile theory)
-IsOwnOutcome theory (Some source) outcome = IsBytesOutcome theory source outcome
-
--- what a file says by itself, if it is read at all
-abbrev pub IsTried : (is_read : Bool) → Answer → Outcome → Type 0
-IsTried true answer outcome = IsOwnOutcome answer.theory answer.bytes outcome
-IsTried false answer outcome = outcome ≡ Refused TooManyFiles
-
 -- Behind files with so many commands there is room for those of the file.
 abbrev pub fits : (before : ℕ) → Outcome → Bool
 fits before (Refused reason) = true
@@ -72,19 +50,6 @@ counted before outcome = if fits before outcome then outcome else Refused TooLar
 abbrev pub command_count : Outcome → ℕ
 command_count (Refused reason) = 0
 command_count (Stands source text) = length text.commands
-
--- The files of theories in byte order, from the one at this place on, behind files with so many commands. The first 256
--- are read.
-abbrev pub AreReadFrom : (place before : ℕ) → List Answer → List File → Type 0
-AreReadFrom place before [] [] = Unit {0}
-AreReadFrom place before (a ∷ answers) (f ∷ files) =
-    (own : Outcome) × IsTried (nat_lt place most_files) a own × (f ≡ record { theory = a.theory; outcome = counted before own })
-    × AreReadFrom (place + 1) (before + command_count (counted before own)) answers files
-AreReadFrom place before _ _ = ⊥
-
--- the files of these theories
-abbrev pub AreRead : List Answer → List File → Type 0
-AreRead answers files = AreReadFrom 0 0 answers files
 
 -- the full names that a command declares: that of its name, and of a definition's fact
 abbrev pub full_names : (theory : List ℕ) → Command → List (List ℕ)
@@ -105,18 +70,55 @@ pub record AreNames (theories : List Loaded) (texts : List (List ℕ)) : Type 0 
   pub ascend : IsStrictlySortedBy (slice_cmp nat_cmp) texts
   pub given : (text : List ℕ) → IsIn text texts ↔ AnyOf (λ loaded. IsGiven loaded text) theories
 
--- The theories and the refused files of theories with these answers: each file goes through the tests in their order,
--- those that are left are taken in load order, and the others are refused, in byte order of their names.
-pub record IsLoadingOf (answers : List Answer) (theories : List Loaded) (refused : List Refusal) (files : ℕ) : Type 0 where
-  pub read : List File
-  pub judged : List File
-  pub are_read : AreRead answers read
-  pub are_judged : AreJudged (map (linked (map (λ (a : Answer). a.theory) answers)) read) judged
-  pub loaded : AreInLoadOrder judged theories
-  pub refused_are : refused ≡ filter_map refusal_of judged
-  pub counted : files ≡ length answers
+-- Where sources have these trees, and their first faults at these places:
+module _ (IsTheoryText : List ℕ → TheoryText → Type 0) (IsFaultPlace : List ℕ → ℕ → Type 0) where
+  -- what the bytes of a theory's file say, where they aren't too many
+  abbrev pub IsSourceOutcome : (theory source : List ℕ) → Outcome → Type 0
+  IsSourceOutcome theory source outcome =
+      ((at : ℕ) × IsFaultPlace source at × (outcome ≡ Refused (syntax_at source at)))
+      ⊎ ((text : TheoryText) × IsTheoryText source text × (outcome ≡ tree_outcome theory source text))
 
--- The session of theories with these answers.
-pub record IsSessionOf (answers : List Answer) (session : Session) : Type 0 where
-  pub loading : IsLoadingOf answers session.theories session.refused session.files
-  pub named : AreNames session.theories session.names
+  -- what the bytes of a theory's file say
+  abbrev pub IsBytesOutcome : (theory source : List ℕ) → Outcome → Type 0
+  IsBytesOutcome theory source outcome =
+      ((most_bytes < length source) × (outcome ≡ Refused TooLarge))
+      ⊎ ((length source ≤ most_bytes) × IsSourceOutcome theory source outcome)
+
+  -- what the file of a theory says by itself: these are its bytes, or it is missing
+  abbrev pub IsOwnOutcome : (theory : List ℕ) → Option (List ℕ) → Outcome → Type 0
+  IsOwnOutcome theory None outcome = outcome ≡ Refused (NoFile theory)
+  IsOwnOutcome theory (Some source) outcome = IsBytesOutcome theory source outcome
+
+  -- what a file says by itself, if it is read at all
+  abbrev pub IsTried : (is_read : Bool) → Answer → Outcome → Type 0
+  IsTried true answer outcome = IsOwnOutcome answer.theory answer.bytes outcome
+  IsTried false answer outcome = outcome ≡ Refused TooManyFiles
+
+  -- The files of theories in byte order, from the one at this place on, behind files with so many commands. The first 256
+  -- are read.
+  abbrev pub AreReadFrom : (place before : ℕ) → List Answer → List File → Type 0
+  AreReadFrom place before [] [] = Unit {0}
+  AreReadFrom place before (a ∷ answers) (f ∷ files) =
+      (own : Outcome) × IsTried (nat_lt place most_files) a own × (f ≡ record { theory = a.theory; outcome = counted before own })
+      × AreReadFrom (place + 1) (before + command_count (counted before own)) answers files
+  AreReadFrom place before _ _ = ⊥
+
+  -- the files of these theories
+  abbrev pub AreRead : List Answer → List File → Type 0
+  AreRead answers files = AreReadFrom 0 0 answers files
+
+  -- The theories and the refused files of theories with these answers: each file goes through the tests in their order,
+  -- those that are left are taken in load order, and the others are refused, in byte order of their names.
+  pub record IsLoadingOf (answers : List Answer) (theories : List Loaded) (refused : List Refusal) (files : ℕ) : Type 0 where
+    pub read : List File
+    pub judged : List File
+    pub are_read : AreRead answers read
+    pub are_judged : AreJudged (map (linked (map (λ (a : Answer). a.theory) answers)) read) judged
+    pub loaded : AreInLoadOrder judged theories
+    pub refused_are : refused ≡ filter_map refusal_of judged
+    pub counted : files ≡ length answers
+
+  -- The session of theories with these answers.
+  pub record IsSessionOf (answers : List Answer) (session : Session) : Type 0 where
+    pub loading : IsLoadingOf answers session.theories session.refused session.files
+    pub named : AreNames session.theories session.names

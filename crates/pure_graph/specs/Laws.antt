@@ -3,7 +3,7 @@ use Rattle.std.specs.Prelude.{◌≡◌, ◌≢◌, ◌↔◌, ℕ, List, [], If
 use Rattle.pure_io.specs.declared.library.File as library
 use Rattle.pure_text.specs.Lists.{Each}
 use Rattle.pure_grammar.specs.Theories.TheoryText.{Command, Lemma, TheoryText}
-use Rattle.pure_graph.specs.Outcome.{IsTheoryText}
+use Rattle.pure_graph.specs.Outcome.{IsTheoryText, IsFaultPlace}
 use Rattle.pure_graph.specs.Reading.{Answer}
 use Rattle.pure_graph.specs.Order.{Loaded}
 use Rattle.pure_graph.specs.Session.{Refusal, Session, IsLoadingOf, IsSessionOf, IsSession}
@@ -31,11 +31,12 @@ HasFirstText answer = IfSome answer.bytes (λ source. (text : TheoryText) → Is
 -- Over files with such trees loading is what it was.
 abbrev pub LoadingIsFirst : Type 0
 LoadingIsFirst = (answers : List Answer) (theories : List Loaded) (refused : List Refusal) (files : ℕ)
-    → Each HasFirstText answers → IsLoadingOf answers theories refused files ↔ first.IsLoadingOf answers theories refused files
+    → Each HasFirstText answers → IsLoadingOf answers theories refused files ↔ first.IsLoadingOf IsTheoryText IsFaultPlace answers theories refused files
 
 -- So is the session, with its names.
 abbrev pub SessionIsFirst : Type 0
-SessionIsFirst = (answers : List Answer) (session : Session) → Each HasFirstText answers → IsSessionOf answers session ↔ first.IsSessionOf answers session
+SessionIsFirst = (answers : List Answer) (session : Session)
+    → Each HasFirstText answers → IsSessionOf answers session ↔ first.IsSessionOf IsTheoryText IsFaultPlace answers session
 
 -- None of such files is refused for its version.
 abbrev pub NoUnknownVersion : Type 0
