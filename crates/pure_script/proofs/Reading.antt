@@ -18,9 +18,11 @@ use Rattle.pure_script.specs.declared.state.Front.TheVariants as front
 
 pub is_last-seen : (s : State) → is_last (seen_state s) ≡ false
 is_last-seen (state.InFront front.AtStart) = refl
-is_last-seen (state.InFront front.AtTheoryName) = refl
-is_last-seen (state.InFront (front.AfterTheoryName name)) = refl
-is_last-seen (state.InFront (front.AtImport name)) = refl
+is_last-seen (state.InFront front.AtVersion) = refl
+is_last-seen (state.InFront (front.AfterVersion version)) = refl
+is_last-seen (state.InFront (front.AtTheoryName version)) = refl
+is_last-seen (state.InFront (front.AfterTheoryName version name)) = refl
+is_last-seen (state.InFront (front.AtImport version name)) = refl
 is_last-seen (state.InFront (front.AfterImport header)) = refl
 is_last-seen (state.InBody header commands place) = refl
 
