@@ -7,7 +7,7 @@ use Rattle.pure_grammar.specs.Theories.TheoryText.{TheoryText}
 use Rattle.pure_grammar.specs.Theories.Lexeme.{Lexeme, Ends, lexeme, lexemes}
 use Rattle.pure_grammar.specs.Theories.Outer.{SpellsTheory, HasSyntaxFault, place_of}
 use Rattle.pure_grammar.specs.Theories.Reader as spec
-use Rattle.pure_grammar.specs.Theories.Reader.{AtStart, AtLast, Through, Stuck, goes_on, next, run, expected}
+use Rattle.pure_grammar.specs.Theories.Reader.{AtStart, AtLast, Stuck, goes_on, next, run, expected}
 use Rattle.pure_grammar.proofs.FaultLemmas.{Wrong, goes-wrong, Gets-IsTheory, is_last}
 use Rattle.pure_grammar.proofs.Places.{place_of-token, place_of-end}
 pub use Rattle.pure_grammar.proofs.Places.{slice-at}

@@ -65,6 +65,9 @@ seen_goal goal = seen_subject goal.subject (seen_lemma goal) goal.have
 abbrev pub in_proof : Goal → spec.ProofPlace → spec.Place
 in_proof goal place = spec.InProof (seen_goal goal) (seen_steps goal.script.items) place
 
+abbrev pub goal_turn : Goal → spec.ProofPlace → Lexeme → spec.Turn
+goal_turn goal place l = spec.proof_turn (seen_goal goal) (seen_steps goal.script.items) place l
+
 abbrev pub seen_proof : Goal → ProofPlace → spec.Place
 seen_proof goal AtProof = spec.AtProof (seen_lemma goal)
 seen_proof goal AtHave = spec.AtHave (seen_lemma goal)

@@ -3,7 +3,7 @@ ghost use Rattle.std.specs.Prelude.{◌≡◌, IfOk, [], ◌∷◌, ◌++◌};
 ghost use Rattle.pure_grammar.specs.Theories.Lexeme as spec_lexeme;
 ghost use Rattle.pure_grammar.specs.Theories.Reader as spec;
 ghost use Rattle.pure_script.specs.Seen.{span, seen_step, seen_steps};
-ghost use Rattle.pure_script.specs.Places.{seen_turn, seen_lemma, seen_goal, seen_proof, seen_proof_course, seen_method, any_turn};
+ghost use Rattle.pure_script.specs.Places.{seen_turn, seen_lemma, seen_goal, seen_proof, seen_proof_course, seen_method, goal_turn, any_turn};
 ghost use Rattle.pure_script.specs.Lexemes.{seen_lexeme};
 
 use crate::have::{add_have, after_have, at_have, at_have_text, begin_proof};
@@ -118,11 +118,7 @@ pub(crate) fn proved(goal: Goal) -> Turn
 }
 
 /// A proof is read: that of the lemma ends it, that of a have puts the have behind the others.
-fn after_proof(
-    alloc: Global,
-    goal: &mut Goal,
-    place: &mut ProofPlace,
-) -> Result<Course, AllocError>
+fn after_proof(alloc: Global, goal: &mut Goal, place: &mut ProofPlace) -> Result<Course, AllocError>
     ensures { IfOk result (λ course. (l : spec_lexeme.Lexeme) → seen_proof_course course goal.new place.new l ≡ spec.proved (seen_goal goal.old) (seen_steps goal.old.script.items)) }
 {
     match goal.subject {
@@ -161,7 +157,7 @@ fn at_method(
     last: bool,
     lexeme: Lexeme<'_>,
 ) -> Result<Course, AllocError>
-    ensures { IfOk result (λ course. seen_proof_course course goal.new place.new (seen_lexeme lexeme.entry) ≡ spec.proof_turn (seen_goal goal.old) (seen_steps goal.old.script.items) (spec.AtMethod last) (seen_lexeme lexeme.entry)) }
+    ensures { IfOk result (λ course. seen_proof_course course goal.new place.new (seen_lexeme lexeme.entry) ≡ goal_turn goal.old (spec.AtMethod last) (seen_lexeme lexeme.entry)) }
 {
     if is_ident(b"assumption", lexeme) {
         step(goal, Step::Assumption)?;
@@ -181,7 +177,7 @@ fn at_basic(
     last: bool,
     lexeme: Lexeme<'_>,
 ) -> Result<Course, AllocError>
-    ensures { IfOk result (λ course. seen_proof_course course goal.new place.new (seen_lexeme lexeme.entry) ≡ spec.proof_turn (seen_goal goal.old) (seen_steps goal.old.script.items) (spec.AtBasic last) (seen_lexeme lexeme.entry)) }
+    ensures { IfOk result (λ course. seen_proof_course course goal.new place.new (seen_lexeme lexeme.entry) ≡ goal_turn goal.old (spec.AtBasic last) (seen_lexeme lexeme.entry)) }
 {
     if is_ident(b"assumption", lexeme) {
         step(goal, Step::Assumption)?;
@@ -218,7 +214,7 @@ fn after_basic(
     last: bool,
     lexeme: Lexeme<'_>,
 ) -> Result<Course, AllocError>
-    ensures { IfOk result (λ course. seen_proof_course course goal.new place.new (seen_lexeme lexeme.entry) ≡ spec.basic_end (seen_goal goal.old) (seen_steps goal.old.script.items) last (seen_lexeme lexeme.entry)) }
+    ensures { IfOk result (λ course. seen_proof_course course goal.new place.new (seen_lexeme lexeme.entry) ≡ goal_turn goal.old (spec.AfterBasic last) (seen_lexeme lexeme.entry)) }
 {
     if is_sign(Sign::Comma, lexeme) {
         *place = ProofPlace::AtBasic { last };
@@ -239,7 +235,7 @@ fn at_fact(
     method: FactMethod,
     lexeme: Lexeme<'_>,
 ) -> Result<Course, AllocError>
-    ensures { IfOk result (λ course. seen_proof_course course goal.new place.new (seen_lexeme lexeme.entry) ≡ spec.proof_turn (seen_goal goal.old) (seen_steps goal.old.script.items) (spec.AtFact last (seen_method method)) (seen_lexeme lexeme.entry)) }
+    ensures { IfOk result (λ course. seen_proof_course course goal.new place.new (seen_lexeme lexeme.entry) ≡ goal_turn goal.old (spec.AtFact last (seen_method method)) (seen_lexeme lexeme.entry)) }
 {
     match name(alloc, lexeme)? {
         None => Ok(Course::Refuses),
@@ -259,7 +255,7 @@ fn at_unfolded(
     last: bool,
     lexeme: Lexeme<'_>,
 ) -> Result<Course, AllocError>
-    ensures { IfOk result (λ course. seen_proof_course course goal.new place.new (seen_lexeme lexeme.entry) ≡ spec.proof_turn (seen_goal goal.old) (seen_steps goal.old.script.items) (spec.AtUnfolded last) (seen_lexeme lexeme.entry)) }
+    ensures { IfOk result (λ course. seen_proof_course course goal.new place.new (seen_lexeme lexeme.entry) ≡ goal_turn goal.old (spec.AtUnfolded last) (seen_lexeme lexeme.entry)) }
 {
     match name(alloc, lexeme)? {
         None => Ok(Course::Refuses),
@@ -281,7 +277,7 @@ fn after_unfolded(
     last: bool,
     lexeme: Lexeme<'_>,
 ) -> Result<Course, AllocError>
-    ensures { IfOk result (λ course. seen_proof_course course goal.new place.new (seen_lexeme lexeme.entry) ≡ spec.proof_turn (seen_goal goal.old) (seen_steps goal.old.script.items) (spec.AfterUnfolded last goal.old.facts) (seen_lexeme lexeme.entry)) }
+    ensures { IfOk result (λ course. seen_proof_course course goal.new place.new (seen_lexeme lexeme.entry) ≡ goal_turn goal.old (spec.AfterUnfolded last goal.old.facts) (seen_lexeme lexeme.entry)) }
 {
     match name(alloc, lexeme)? {
         Some(fact) => {
@@ -304,7 +300,7 @@ fn at_step(
     place: &mut ProofPlace,
     lexeme: Lexeme<'_>,
 ) -> Result<Course, AllocError>
-    ensures { IfOk result (λ course. seen_proof_course course goal.new place.new (seen_lexeme lexeme.entry) ≡ spec.proof_turn (seen_goal goal.old) (seen_steps goal.old.script.items) spec.AtStep (seen_lexeme lexeme.entry)) }
+    ensures { IfOk result (λ course. seen_proof_course course goal.new place.new (seen_lexeme lexeme.entry) ≡ goal_turn goal.old spec.AtStep (seen_lexeme lexeme.entry)) }
 {
     if is_word(Keyword::Apply, lexeme) {
         *place = ProofPlace::AtMethod { last: false };
@@ -357,7 +353,7 @@ fn at_number(
     place: &mut ProofPlace,
     lexeme: Lexeme<'_>,
 ) -> Result<Course, AllocError>
-    ensures { IfOk result (λ course. seen_proof_course course goal.new place.new (seen_lexeme lexeme.entry) ≡ spec.proof_turn (seen_goal goal.old) (seen_steps goal.old.script.items) spec.AtNumber (seen_lexeme lexeme.entry)) }
+    ensures { IfOk result (λ course. seen_proof_course course goal.new place.new (seen_lexeme lexeme.entry) ≡ goal_turn goal.old spec.AtNumber (seen_lexeme lexeme.entry)) }
 {
     match number_in(lexeme) {
         None => Ok(Course::Refuses),

@@ -1,9 +1,9 @@
 //! The places of a whole theory's text, and where each token leads to.
-ghost use Rattle.std.specs.Prelude.{◌≡◌, IfOk, Some, [], ◌∷◌, ◌++◌};
+ghost use Rattle.std.specs.Prelude.{◌≡◌, IfOk, Some, [], ◌∷◌};
 ghost use Rattle.pure_grammar.specs.Theories.Lexeme.{Ends};
 ghost use Rattle.pure_grammar.specs.Theories.PhraseTree.{with_text};
 ghost use Rattle.pure_grammar.specs.Theories.Reader as spec;
-ghost use Rattle.pure_script.specs.Seen.{seen_command, seen_commands};
+ghost use Rattle.pure_script.specs.Seen.{seen_commands};
 ghost use Rattle.pure_script.specs.Places.{seen_place, seen_head, seen_rest, seen_type_place, seen_arity_place, seen_item_place, seen_lemma_place, seen_proof, seen_domains, seen_class, seen_named, seen_turn, seen_ended, any_turn};
 ghost use Rattle.pure_script.specs.Lexemes.{seen_lexeme};
 ghost use Rattle.pure_script.specs.States.{seen_state, seen_front, seen_next, seen_header, seen_end, IsNext, IsLed, IsImport};
