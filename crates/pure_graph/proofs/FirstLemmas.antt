@@ -1,6 +1,6 @@
 -- Files whose trees are as all were while there was one version, and what loading says of them.
-use Rattle.std.proofs.Common.{◌≡◌, ◌≢◌, ◌⊎◌, ◌↔◌, inl, inr, ℕ, ◌+◌, Bool, true, false, cond, ◌||◌, List, [], ◌∷◌, length, map, refl, sym, ◌∙◌, ap, subst, arith, Option, Some, None, IfSome, nat_lt, nat_le}
-use Rattle.std.specs.List.{list_any, sum_by, filter_map, cons_option}
+use Rattle.std.proofs.Common.{◌≡◌, ◌≢◌, ◌↔◌, inl, inr, ℕ, ◌+◌, Bool, true, false, cond, ◌||◌, List, [], ◌∷◌, length, map, refl, sym, ◌∙◌, ap, subst, arith, Option, Some, None, IfSome, nat_lt, nat_le}
+use Rattle.std.specs.List.{list_any, filter_map, cons_option}
 use Rattle.std.proofs.lemmas.List.Sums.{sum_by-cons}
 use Rattle.pure_text.specs.Lists.{IsIn, Each, EachTwo, AnyOf}
 use Rattle.pure_text.proofs.ListLaws.{each_at}

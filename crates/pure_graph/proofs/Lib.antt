@@ -7,4 +7,5 @@ pub mod FilesLemmas
 pub mod Ascending
 pub mod LawsLemmas
 pub mod FirstLemmas
+pub mod VersionLemmas
 pub mod DraftLemmas

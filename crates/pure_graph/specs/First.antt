@@ -5,6 +5,10 @@ use Rattle.std.specs.List.Sorted.{IsStrictlySortedBy}
 use Rattle.std.specs.Ordering.{nat_cmp}
 use Rattle.std.specs.Cmp.Lexicographic.{slice_cmp}
 use Rattle.pure_text.specs.Lists.{IsIn, AnyOf}
+use Rattle.pure_grammar.specs.declared.token.Token.{Token}
+use Rattle.pure_grammar.specs.declared.token.TokenKind.{TokenKind}
+use Rattle.pure_grammar.specs.Tokens.Spelling.{Spells, HasFault}
+use Rattle.pure_grammar.specs.Theories.First.{SpellsTheory, HasSyntaxFault}
 use Rattle.pure_grammar.specs.Theories.TheoryText.{Command, Class, TypeDecl, Arity, Const, Axiom, Definition, Lemma, TheoryText}
 use Rattle.pure_graph.specs.Limits.{most_files, most_bytes, most_steps}
 use Rattle.pure_graph.specs.Outcome.{Outcome, Refused, Stands, syntax_at, is_numbered, is_headed}
@@ -70,13 +74,24 @@ pub record AreNames (theories : List Loaded) (texts : List (List ℕ)) : Type 0 
   pub ascend : IsStrictlySortedBy (slice_cmp nat_cmp) texts
   pub given : (text : List ℕ) → IsIn text texts ↔ AnyOf (λ loaded. IsGiven loaded text) theories
 
+-- the source is a theory of the grammar of version 1 with this tree
+abbrev pub IsTheoryText : List ℕ → TheoryText → Type 0
+IsTheoryText source text = (tokens : List Token) × Spells (length source) tokens source × SpellsTheory source tokens text
+
+-- The source isn't in that grammar, and its first fault stands at this place: a fault of its tokens, or else one of the
+-- grammar.
+abbrev pub IsFaultPlace : List ℕ → ℕ → Type 0
+IsFaultPlace source at =
+    HasFault (length source) source at
+    ⊎ ((tokens : List Token) × (expected : TokenKind) × Spells (length source) tokens source × HasSyntaxFault source tokens at expected)
+
 -- Where sources have these trees, and their first faults at these places:
-module _ (IsTheoryText : List ℕ → TheoryText → Type 0) (IsFaultPlace : List ℕ → ℕ → Type 0) where
+module _ (IsText : List ℕ → TheoryText → Type 0) (IsFault : List ℕ → ℕ → Type 0) where
   -- what the bytes of a theory's file say, where they aren't too many
   abbrev pub IsSourceOutcome : (theory source : List ℕ) → Outcome → Type 0
   IsSourceOutcome theory source outcome =
-      ((at : ℕ) × IsFaultPlace source at × (outcome ≡ Refused (syntax_at source at)))
-      ⊎ ((text : TheoryText) × IsTheoryText source text × (outcome ≡ tree_outcome theory source text))
+      ((at : ℕ) × IsFault source at × (outcome ≡ Refused (syntax_at source at)))
+      ⊎ ((text : TheoryText) × IsText source text × (outcome ≡ tree_outcome theory source text))
 
   -- what the bytes of a theory's file say
   abbrev pub IsBytesOutcome : (theory source : List ℕ) → Outcome → Type 0

@@ -1,8 +1,12 @@
 -- The laws of these definitions.
-use Rattle.std.specs.Prelude.{◌≡◌, ◌≢◌, ◌↔◌, ℕ, List, [], IfSome}
+use Rattle.std.specs.Prelude.{◌≡◌, ◌≢◌, ◌↔◌, ℕ, List, [], length, IfSome}
 use Rattle.pure_io.specs.declared.library.File as library
 use Rattle.pure_text.specs.Lists.{Each}
+use Rattle.pure_grammar.specs.declared.token.Token.{Token}
+use Rattle.pure_grammar.specs.Tokens.Spelling.{Spells}
 use Rattle.pure_grammar.specs.Theories.TheoryText.{Command, Lemma, TheoryText}
+use Rattle.pure_grammar.specs.Theories.Lexeme.{lexemes}
+use Rattle.pure_grammar.specs.Theories.Versions.{HasNoVersion}
 use Rattle.pure_graph.specs.Outcome.{IsTheoryText, IsFaultPlace}
 use Rattle.pure_graph.specs.Reading.{Answer}
 use Rattle.pure_graph.specs.Order.{Loaded}
@@ -42,3 +46,17 @@ SessionIsFirst = (answers : List Answer) (session : Session)
 abbrev pub NoUnknownVersion : Type 0
 NoUnknownVersion = (answers : List Answer) (theories : List Loaded) (refused : List Refusal) (files : ℕ)
     → Each HasFirstText answers → IsLoadingOf answers theories refused files → Each (λ (r : Refusal). r.reason ≢ UnknownVersion) refused
+
+-- If the source has tokens, then none of them is the word `version`.
+abbrev pub HasNoVersionWord : List ℕ → Type 0
+HasNoVersionWord source = (tokens : List Token) → Spells (length source) tokens source → HasNoVersion (lexemes source tokens)
+
+-- Over files without that word loading is what it was, by the grammar of version 1.
+abbrev pub LoadingWithoutVersions : Type 0
+LoadingWithoutVersions = (answers : List Answer) (theories : List Loaded) (refused : List Refusal) (files : ℕ)
+    → Each (λ (a : Answer). IfSome a.bytes HasNoVersionWord) answers → IsLoadingOf answers theories refused files ↔ first.IsLoadingOf first.IsTheoryText first.IsFaultPlace answers theories refused files
+
+-- So is the session, with its names.
+abbrev pub SessionWithoutVersions : Type 0
+SessionWithoutVersions = (answers : List Answer) (session : Session)
+    → Each (λ (a : Answer). IfSome a.bytes HasNoVersionWord) answers → IsSessionOf answers session ↔ first.IsSessionOf first.IsTheoryText first.IsFaultPlace answers session
