@@ -84,11 +84,17 @@ pub symbol-no_ident : (source : List ℕ) (t : Token) → t.kind ≡ kind.Symbol
 symbol-no_ident source t e =
     subst (λ k. None ≡ ident_in (lexeme_of k (slice_range source t.from t.to) (record { from = t.from; to = t.to }))) (sym e) (sym (symbol-other (slice_range source t.from t.to)))
 
--- A source of one token or of none ends where a second one would stand.
-pub second-none : (ts : List Token) (len : ℕ) → length ts ≤ 1 → len ≡ place_of ts len 1
-second-none [] len few = refl
-second-none (t ∷ []) len few = refl
-second-none (t ∷ u ∷ ts) len few = absurd (omega (arith, few))
+-- the place of a token, and that behind the last one
+pub token-place : (ts : List Token) (k len : ℕ) (d : Token) → k < length ts → (get_or ts k d).from ≡ place_of ts len k
+token-place [] k len d within = absurd (omega (arith, within))
+token-place (t ∷ ts) zero len d within = refl
+token-place (t ∷ ts) (suc k) len d within = token-place ts k len d (omega (arith, within))
+
+pub end-place : (ts : List Token) (k len : ℕ) → length ts ≤ k → len ≡ place_of ts len k
+end-place [] zero len past = refl
+end-place [] (suc k) len past = refl
+end-place (t ∷ ts) zero len past = absurd (omega (arith, past))
+end-place (t ∷ ts) (suc k) len past = end-place ts k len (omega (arith, past))
 
 pub slices-each : (source : List ℕ) (from to : ℕ) (ts : List Token) → AreSlices source from to ts → Each (IsSlice source) ts
 slices-each source from to [] are = tt
