@@ -1,5 +1,5 @@
 -- Among tokens that spell a theory just its parts are found; there are as many commands as its tree has.
-use Rattle.std.proofs.Common.{◌≡◌, ℕ, zero, suc, ◌+◌, ◌-◌, List, [], ◌∷◌, ◌++◌, length, map, drop, refl, sym, ◌∙◌, ap, arith, ◌≤◌, if◌then◌else◌}
+use Rattle.std.proofs.Common.{◌≡◌, ℕ, suc, ◌+◌, ◌-◌, List, [], ◌∷◌, length, map, drop, refl, sym, ◌∙◌, ap, arith, ◌≤◌, if◌then◌else◌}
 use Rattle.std.proofs.lemmas.List.{length-append, drop-drop}
 use Rattle.pure_grammar.specs.declared.token.Token.{Token}
 use Rattle.pure_grammar.specs.declared.lexeme.Keyword.TheVariants as keyword
@@ -53,8 +53,8 @@ header-found source tokens NoVersion x l r e =
     record {
       name = ap (place_of tokens (length source)) count ∙ behind-front source tokens 1 (ident_text x (l ∷ r)) _ e (omega arith);
       imports =
-        ap (λ n. found_imports source (drop (n + 1) tokens)) count
-        ∙ behind-name source (place_in source tokens) tokens (each-at source tokens) (Reserved keyword.Theory) (Plain x.text x.at) l r e;
+          ap (λ n. found_imports source (drop (n + 1) tokens)) count
+          ∙ behind-name source (place_in source tokens) tokens (each-at source tokens) (Reserved keyword.Theory) (Plain x.text x.at) l r e;
     }
 header-found source tokens (WrittenVersion n) x l r e =
     let count : tokens_before source tokens ≡ 3 = ap (λ z. if is_version z then 3 else 1) (first-link source tokens ∙ ap (first_mark mark_of) (sym e)) in
@@ -62,9 +62,9 @@ header-found source tokens (WrittenVersion n) x l r e =
     record {
       name = ap (place_of tokens (length source)) count ∙ behind-front source tokens 3 (ident_text x (l ∷ r)) _ e (omega arith);
       imports =
-        ap (λ n. found_imports source (drop (n + 1) tokens)) count
-        ∙ ap (found_imports source) (sym (drop-drop 2 2 tokens))
-        ∙ behind-name source (place_in source tokens) (drop 2 tokens) more.0 (Reserved keyword.Theory) (Plain x.text x.at) l r more.1;
+          ap (λ n. found_imports source (drop (n + 1) tokens)) count
+          ∙ ap (found_imports source) (sym (drop-drop 2 2 tokens))
+          ∙ behind-name source (place_in source tokens) (drop 2 tokens) more.0 (Reserved keyword.Theory) (Plain x.text x.at) l r more.1;
     }
 
 -- something stands behind the name in a header

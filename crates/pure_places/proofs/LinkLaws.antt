@@ -1,9 +1,9 @@
 -- The search through tokens is that through what they are to the grammar, each at its place.
-use Rattle.std.proofs.Common.{◌≡◌, ℕ, suc, zero, ◌+◌, ◌-◌, Bool, true, false, List, [], ◌∷◌, ◌++◌, length, map, drop, refl, sym, ◌∙◌, ap, arith, Option, Some, None, if◌then◌else◌}
+use Rattle.std.proofs.Common.{◌≡◌, ℕ, suc, ◌+◌, ◌-◌, Bool, true, false, List, [], ◌∷◌, ◌++◌, length, map, refl, sym, ◌∙◌, ap, arith, Option, Some, None, if◌then◌else◌}
 use Rattle.std.proofs.lemmas.List.{map-append}
 use Rattle.std.specs.Prelude.{option_map}
 use Rattle.pure_grammar.specs.declared.token.Token.{Token}
-use Rattle.pure_grammar.specs.Theories.Lexeme.{Lexeme, Ends, lexeme, lexemes, ident_in}
+use Rattle.pure_grammar.specs.Theories.Lexeme.{Lexeme, lexeme, lexemes, ident_in}
 use Rattle.pure_grammar.specs.Theories.Outer.{place_of}
 use Rattle.pure_places.specs.Parts.{CommandParts, Import, placed_part, placed_parts, placed_import}
 use Rattle.pure_places.specs.Proofs.{is_have, is_behind_proof, is_ident, begins_step, Proofs, no_proofs, Stage, Within, Naming, Ended, own_proof, listed, with_step, closed, named_at, behind_done, Search, step_begun, begun, met_within, proofs_in}
@@ -106,8 +106,8 @@ met-map place have by called found m at =
     (if-same (placed_search place) (is_behind_proof m) _ _ _ _ (ap (λ z. record { stage = Ended; found = z }) (closed-map place have by found))
     (if-same (placed_search place) (begins_step m) _ _ _ _ (begun-map place have by found m at)
     (if-same (placed_search place) (is_ident m) _ _ _ _
-      (ap (λ z. record { stage = Within (option_map place have) (option_map place by) false; found = z }) (if-same (placed_proofs place) called _ _ _ _ (step-map place found at) refl))
-      refl)))
+    (ap (λ z. record { stage = Within (option_map place have) (option_map place by) false; found = z }) (if-same (placed_proofs place) called _ _ _ _ (step-map place found at) refl))
+    refl)))
 
 named-map : {A B : Type 0} (place : A → B) (b : Bool) (at : A) → named_at b (place at) ≡ placed_stage place (named_at b at)
 named-map place true at = refl
@@ -129,7 +129,7 @@ proofs-link source place (t ∷ ts) is (Within have by called) found =
     let m : Mark = token_mark source t in
     let next : Search (List Lexeme) = met_within have by called found m text in
     ap (λ (z : Search ℕ). found_proofs source z.stage z.found ts)
-      (ap (met_within (option_map place have) (option_map place by) called (placed_proofs place found) m) (sym is.0) ∙ met-map place have by called found m text)
+    (ap (met_within (option_map place have) (option_map place by) called (placed_proofs place found) m) (sym is.0) ∙ met-map place have by called found m text)
     ∙ proofs-link source place ts is.1 next.stage next.found
 
 behind-link : (source : List ℕ) (place : List Lexeme → ℕ) (ts : List Token) → EachAt source place ts → (b : Before) → proofs_of (token_mark source) token_place b ts ≡ placed_proofs place (proofs_of mark_of text_from b (lexemes source ts))

@@ -1,9 +1,7 @@
 -- The search as loops make it.
-use Rattle.std.proofs.Common.{◌≡◌, ◌<◌, ◌≤◌, ℕ, suc, zero, ◌+◌, Bool, true, false, List, [], ◌∷◌, ◌++◌, length, map, drop, get_or, refl, sym, ◌∙◌, ap, subst, arith, Option, Some, None, if◌then◌else◌, codes, drop-cons, slice_range}
-use Rattle.std.proofs.lemmas.List.{append_assoc}
+use Rattle.std.proofs.Common.{◌≡◌, ◌<◌, ◌≤◌, ℕ, suc, zero, Bool, true, false, List, [], ◌∷◌, ◌++◌, length, drop, get_or, refl, sym, ◌∙◌, ap, subst, arith, None, if◌then◌else◌, codes, drop-cons, slice_range}
 use Rattle.pure_text.specs.Lists.{Each}
 use Rattle.pure_grammar.specs.declared.token.Token.{Token}
-use Rattle.pure_grammar.specs.declared.token.TokenKind.{TokenKind}
 use Rattle.pure_grammar.specs.declared.token.TokenKind.TheVariants as kind
 use Rattle.pure_grammar.specs.declared.lexeme.Keyword.TheVariants as keyword
 use Rattle.pure_grammar.specs.declared.lexeme.Sign.TheVariants as sign
@@ -11,7 +9,6 @@ use Rattle.pure_grammar.specs.Tokens.Spelling.{IsSlice, AreSlices}
 use Rattle.pure_grammar.specs.Theories.Outer.{place_of}
 use Rattle.pure_grammar.specs.Theories.Lexeme.{Lexeme, Reserved, Signed, Other, proof_lexeme, command_lexeme, word_lexeme, symbol_lexeme, lexeme_of, ident_in}
 use Rattle.pure_grammar.proofs.Beside.{beside, beside-has}
-use Rattle.pure_places.specs.Parts.{Import}
 use Rattle.pure_places.specs.Marks.{is_begin}
 use Rattle.pure_places.specs.Found.{token_mark, token_ident, found_imports, import_of}
 

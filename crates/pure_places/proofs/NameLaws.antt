@@ -1,15 +1,13 @@
 -- In the text of a theory the names of its commands are found, and the imports in its header.
-use Rattle.std.proofs.Common.{◌≡◌, ℕ, suc, Bool, true, false, List, [], ◌∷◌, ◌++◌, length, map, refl, sym, ◌∙◌, ap, if◌then◌else◌}
-use Rattle.std.proofs.lemmas.List.{append_assoc, length-append}
+use Rattle.std.proofs.Common.{◌≡◌, false, List, [], ◌∷◌, ◌++◌, refl, ◌∙◌, ap, if◌then◌else◌}
 use Rattle.pure_grammar.specs.declared.lexeme.Keyword.TheVariants as keyword
 use Rattle.pure_grammar.specs.declared.lexeme.Sign.TheVariants as sign
 use Rattle.pure_grammar.specs.Theories.Lexeme.{Lexeme, Reserved, Signed, Plain, Dotted, Quoted, Ends}
-use Rattle.pure_grammar.specs.Theories.Phrase.{Ident, Name, Simple, Full, TypeVariable, TypePhrase, QuotedType, NamedType, VariableType, SortPhrase, OneClass, NoClass, Classes, BasicPhrase, ByAssumption, ByRule, ByErule, ByDrule, ByUnfold, MethodPhrase, Alone, Together, StepPhrase, ApplyStep, PreferStep, DeferStep, EndPhrase, DoneEnd, ByEnd, ProofPhrase, AbovePhrase, NoneAbove, Above, ParamsPhrase, NoParam, OneParam, Params, DomainsPhrase, NoDomain, Domains, ItemPhrase, AxiomPhrase, LemmaWord, LemmaWritten, TheoremWritten, CommandPhrase, ClassCommand, TypedeclCommand, AritiesCommand, ConstsCommand, AxiomsCommand, DefinitionCommand, LemmaCommand, HavePhrase, ImportsPhrase, NoImport, Imports, VersionPhrase, NoVersion, WrittenVersion, FilePhrase}
-use Rattle.pure_grammar.specs.Theories.PhraseText.{each, each_comma, ident_text, name_text, variable_text, type_text, sort_text, assumption_word, rule_word, erule_word, drule_word, unfold_word, basic_text, method_text, step_text, end_text, proof_text, above_text, params_text, domains_text, item_text, axiom_text, and_axiom_text, lemma_word_text, have_text, command_text, imports_text, version_text, file_text}
-use Rattle.pure_places.specs.Parts.{CommandParts, Import, from_each, named, item_part, axiom_part, have_part, command_parts, import_part, import_parts, body_text, header_text, proof_words}
+use Rattle.pure_grammar.specs.Theories.Phrase.{Ident, Name, Simple, Full, TypeVariable, TypePhrase, QuotedType, NamedType, VariableType, SortPhrase, OneClass, NoClass, Classes, BasicPhrase, ByAssumption, ByRule, ByErule, ByDrule, ByUnfold, MethodPhrase, Alone, Together, StepPhrase, ApplyStep, PreferStep, DeferStep, EndPhrase, DoneEnd, ByEnd, ProofPhrase, AbovePhrase, NoneAbove, Above, ParamsPhrase, NoParam, OneParam, Params, DomainsPhrase, NoDomain, Domains, ItemPhrase, AxiomPhrase, LemmaWritten, TheoremWritten, CommandPhrase, ClassCommand, TypedeclCommand, AritiesCommand, ConstsCommand, AxiomsCommand, DefinitionCommand, LemmaCommand, HavePhrase, ImportsPhrase, NoImport, Imports, VersionPhrase, NoVersion, WrittenVersion, FilePhrase}
+use Rattle.pure_grammar.specs.Theories.PhraseText.{each, each_comma, ident_text, name_text, variable_text, type_text, sort_text, assumption_word, rule_word, erule_word, drule_word, unfold_word, basic_text, method_text, step_text, end_text, proof_text, above_text, params_text, domains_text, item_text, axiom_text, and_axiom_text, have_text, command_text, imports_text, version_text, file_text}
+use Rattle.pure_places.specs.Parts.{CommandParts, from_each, named, item_part, axiom_part, have_part, command_parts, import_part, import_parts, body_text, header_text, proof_words}
 use Rattle.pure_places.specs.Proofs.{Proofs}
 use Rattle.pure_places.specs.Marks.{mark_of, first_mark, is_name, is_colon, behind, proofs_of, command_of}
-use Rattle.pure_places.specs.declared.mark.Mark.{Mark}
 use Rattle.pure_places.specs.declared.mark.Before.{Before}
 use Rattle.pure_places.specs.declared.mark.Before.TheVariants as before
 use Rattle.pure_places.proofs.LinkLaws.{text_commands, text_imports, text_from}

@@ -7,7 +7,7 @@ use Rattle.pure_grammar.specs.Theories.Lexeme.{Lexeme, Reserved, Signed, Ends}
 use Rattle.pure_grammar.specs.Theories.Phrase.{Name, Simple, Full, BasicPhrase, ByAssumption, ByRule, ByErule, ByDrule, ByUnfold, MethodPhrase, Alone, Together, StepPhrase, ApplyStep, PreferStep, DeferStep, EndPhrase, DoneEnd, ByEnd, ProofPhrase, HavePhrase, LemmaWritten, TheoremWritten, CommandPhrase, ClassCommand, TypedeclCommand, AritiesCommand, ConstsCommand, AxiomsCommand, DefinitionCommand, LemmaCommand}
 use Rattle.pure_grammar.specs.Theories.PhraseText.{each, each_comma, name_text, basic_text, method_text, step_text, end_text, proof_text, have_text, command_text}
 use Rattle.pure_places.specs.Parts.{Part, from_each, more_methods, method_words, step_words, end_words, proof_words, have_part}
-use Rattle.pure_places.specs.Proofs.{Proofs, no_proofs, Stage, Within, own_proof, with_step, closed}
+use Rattle.pure_places.specs.Proofs.{Proofs, no_proofs, Within, own_proof, with_step, closed}
 use Rattle.pure_places.proofs.LinkLaws.{text_proofs}
 
 -- what is found by texts, and a name that may stand open

@@ -88,7 +88,11 @@ fn meet(
 }
 
 /// The commands among the tokens.
-fn commands_in(alloc: Global, source: &[u8], tokens: &[Token]) -> Result<Vec<CommandParts>, AllocError>
+fn commands_in(
+    alloc: Global,
+    source: &[u8],
+    tokens: &[Token],
+) -> Result<Vec<CommandParts>, AllocError>
     requires { Each (IsSlice source.now) tokens.now }
     ensures { IfOk result (λ found. map seen_command found.items ≡ found_commands source.now Before.Other tokens.now) }
 {
