@@ -1,12 +1,19 @@
 //! Places of a theory's parts.
 use pure_text::Text;
 
-/// Where a command's name stands, and, of a lemma, the word of each numbered step of its proof: of a method its word, of
+/// Where the name of a command or a have stands, and the word of each numbered step of its proof: of a method its word, of
 /// `prefer`, `defer` and `done` the keyword, of the end that `by` makes the word `by`. Places count bytes from 0.
 #[derive(Drop)]
 pub struct Part {
     pub name: u32,
     pub steps: Vec<u32>,
+}
+
+/// Where a command stands, and, of a lemma, each of its haves, in their order.
+#[derive(Drop)]
+pub struct CommandParts {
+    pub haves: Vec<Part>,
+    pub own: Part,
 }
 
 /// An import in a header, and where it stands.
@@ -22,5 +29,5 @@ pub struct Import {
 pub struct Places {
     pub name: u32,
     pub imports: Vec<Import>,
-    pub commands: Vec<Part>,
+    pub commands: Vec<CommandParts>,
 }

@@ -107,7 +107,7 @@ well : (texts : List (List ℕ)) (l : Loaded) → AreItsNames texts l → IsOwn 
 well texts l has own =
     let head : IsHead l.name l.text = head-of l.name l.text own.headed in
     let name : IsPlainName l.source l.name = subst (IsPlainName l.source) head.same_name (plain-name l.source l.text own.spelled) in
-    let sizes = neither (nat_lt most_parts (part_count l.text.commands)) (list_any has_long_proof l.text.commands) own.fitting in
+    let sizes = neither (nat_lt (most_parts l.text.version) (part_count l.text.commands)) (list_any has_long_proof l.text.commands) own.fitting in
     let is = own.spelled.2 in
     record {
       small = small-enough (length l.source) own.size;
@@ -116,7 +116,7 @@ well texts l has own =
       full = full-of texts l has;
       plain = (name.plain, head.other);
       scripts = scripts-of is.file.commands l.text.commands (ap (λ (t : TheoryText). t.commands) is.means) sizes.1;
-      few = ltb-false most_parts (part_count l.text.commands) sizes.0;
+      few = ltb-false (most_parts l.text.version) (part_count l.text.commands) sizes.0;
     }
 
 pub loaded-well : LoadedWell
