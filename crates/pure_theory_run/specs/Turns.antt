@@ -44,4 +44,5 @@ pub record HandsOut (old new : Going) (turn : Turn) : Type 0 where
   pub rows : new.rows.items ≡ old.rows.items ++ row_of note ∷ []
   pub content : new.now.value ≡ old.now.value
   pub left : new.left ≡ old.left
+  pub parts : new.parts ≡ old.parts
   pub turn_is : turn ≡ turn_of note
