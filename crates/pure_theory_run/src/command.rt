@@ -58,7 +58,7 @@ fn command_of(duty: &Duty) -> u32
     duty.label.command
 }
 
-/// Puts the row that a note is, or a hole for a lemma's, where place was taken for it.
+/// Puts the row that a note is, or a hole for that of a lemma or have, where place was taken for it.
 fn put_note(rows: &mut Vec<Option<Row>>, note: Note) -> Turn
     requires { vec_len rows.old < vec_capacity rows.old }
     ensures rows { rows.new.items ≡ rows.old.items ++ row_of (seen_note note) ∷ [] }

@@ -12,8 +12,11 @@ loop-command-preserved c =
 
 pub overflow_add-count : goal.overflow_add-count
 overflow_add-count c =
-    omega (arith, count-within c.args.commands.now c.command-item.result c.loop-command.command-index c.loop-command.count c.command_parts-count.result c.loop-command-test.true c.command-item.is c.loop-command.invariant c.command_parts-count.ensures,
-    c.requires)
+    omega (
+      arith,
+      count-within c.args.commands.now c.command-item.result c.loop-command.command-index c.loop-command.count c.command_parts-count.result c.loop-command-test.true c.command-item.is c.loop-command.invariant c.command_parts-count.ensures,
+      c.requires,
+    )
 
 pub returns : goal.returns
 returns c = count-end c.args.commands.now c.loop-command.command-index c.loop-command.count c.loop-command-test.false c.loop-command.invariant

@@ -1,6 +1,6 @@
 use Rattle.std.proofs.Common.{arith, ap}
 use Rattle.std.proofs.lemmas.List.{length-map, nil_from_length}
-use Rattle.pure_script.specs.Seen.{seen_command, seen_commands}
+use Rattle.pure_script.specs.Seen.{seen_command}
 use Rattle.pure_session.specs.Waiting.{seen_loaded}
 use Rattle.pure_session_meaning.specs.Declare.Seen.{seen_note, seen_notes}
 use Rattle.pure_session_meaning.specs.Steps.{command_label}
