@@ -8,6 +8,7 @@ use Rattle.pure_typ.specs.NameTexts.{HasText}
 use Rattle.pure_grammar.specs.Theories.TheoryText.{Command, Class, TypeDecl, Arity, Const, Axiom, Definition, Lemma}
 use Rattle.pure_logic.specs.Content.{TheoryId, Content}
 use Rattle.pure_graph.specs.Limits.{most_parts}
+use Rattle.pure_graph.proofs.LimitLemmas.{parts-bounded}
 use Rattle.pure_graph.specs.Outcome.{command_parts, part_count}
 use Rattle.pure_graph.specs.Order.{Loaded}
 use Rattle.pure_session_laws.specs.Declare.Notes.{Note}
@@ -68,8 +69,8 @@ parts-within (d ∷ cs) c (inr m) =
     let sum : part_count (d ∷ cs) ≡ command_parts d + part_count cs = sum_by-cons command_parts d cs in
     omega (arith, sum, parts-within cs c m)
 
-few-haves : (n m : ℕ) → n ≤ m → m ≤ most_parts → n < 4294967296
-few-haves n m h k = omega (arith, h, k)
+few-haves : (n m version : ℕ) → n ≤ m → m ≤ most_parts version → n < 4294967296
+few-haves n m version h k = omega (arith, h, k, parts-bounded version)
 
 pub runs_give : RunsGive
 runs_give texts theories session index theory is_at notes now command left run =
@@ -88,5 +89,5 @@ runs_give texts theories session index theory is_at notes now command left run =
       };
       ranges = each_at (HasRanges theory.source) theory.text.commands well.ranges command there;
       given = record { in_session = order.orderly.in_session; small = well.small; label_above = order.labels };
-      labels = record { first = refl; few = few-haves (length (haves_of command)) (part_count theory.text.commands) (parts-within theory.text.commands command there) well.few };
+      labels = record { first = refl; few = few-haves (length (haves_of command)) (part_count theory.text.commands) theory.text.version (parts-within theory.text.commands command there) well.few };
     }

@@ -29,12 +29,6 @@ done-count texts theories index theory is_at notes now left run =
     let all : length theory.text.commands ≡ length (run.done ++ left) = ap (λ (t : Loaded). length t.text.commands) (sym same) ∙ ap length run.commands in
     omega (arith, all, length-append run.done left)
 
--- A run that has one command fewer ahead has one more behind it.
-pub done-more : (texts : List (List ℕ)) (theories : List Loaded) (index : ℕ) (notes more : List Note) (now next : Content) (command : Command) (left : List Command)
-    (run : IsRun texts theories index notes now (command ∷ left)) (goes : IsRun texts theories index more next left) → length goes.done ≡ length run.done + 1
-done-more texts theories index notes more now next command left run goes =
-    omega (arith, done-count texts theories index run.theory run.is_at notes now (command ∷ left) run, done-count texts theories index run.theory run.is_at more next left goes)
-
 pub run_begins : RunBegins
 run_begins texts theories index theory is_at parents closed first begins = record {
   theory = theory;

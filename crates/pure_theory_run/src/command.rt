@@ -16,6 +16,7 @@ ghost use Rattle.pure_theory_run.specs.declared.run.Turn.TheVariants as turns;
 
 use crate::checker::Checker;
 use crate::closed::Closed;
+use crate::parts::command_parts;
 use crate::run::{Going, Run, Standing, Turn};
 use pure_print::Row;
 use pure_script::Command;
@@ -57,7 +58,7 @@ fn command_of(duty: &Duty) -> u32
     duty.label.command
 }
 
-/// Puts the row that a note is, or a hole for a lemma's, where place was taken for it.
+/// Puts the row that a note is, or a hole for that of a lemma or have, where place was taken for it.
 fn put_note(rows: &mut Vec<Option<Row>>, note: Note) -> Turn
     requires { vec_len rows.old < vec_capacity rows.old }
     ensures rows { rows.new.items ≡ rows.old.items ++ row_of (seen_note note) ∷ [] }
@@ -101,17 +102,21 @@ fn hand_out(going: &mut Going) -> Result<Turn, AllocError>
     Ok(next_note(going))
 }
 
-/// The notes of one command more wait, and the stage behind them is next.
-fn go_on(going: &mut Going, declared: Declared)
-    requires { 0 < going.old.left }
+/// The notes of one command more, which has so many parts, wait, and the stage behind them is next.
+fn go_on(going: &mut Going, parts: usize, declared: Declared)
+    requires left { 0 < going.old.left }
+    requires parts { parts ≤ going.old.parts }
     ensures rows { going.new.rows ≡ going.old.rows }
     ensures now { going.new.now.value ≡ declared.stage.value }
     ensures left { going.new.left + 1 ≡ going.old.left }
+    ensures parts { going.new.parts + parts ≡ going.old.parts }
     ensures waiting { going.new.waiting.items ≡ declared.notes.items }
+    ensures count { deque_len going.new.waiting ≡ vec_len declared.notes }
 {
     let Declared { stage, notes } = declared;
     going.now = stage;
     going.left -= 1;
+    going.parts -= parts;
     going.waiting = VecDeque::from(notes);
 }
 
@@ -150,9 +155,9 @@ impl Checker {
         going: &mut Going,
     ) -> Result<Turn, AllocError>
         requires runs { (past : List notes.Note) × IsGoing self.now.texts self.now.theories index past going.old }
-        requires none { going.old.waiting.items ≡ [] }
+        requires none { deque_len going.old.waiting ≡ 0 }
         requires theory { IsTheoryAt self.now.theories index (seen_loaded theory.now) }
-        requires command { slice_get (seen_commands theory.now.text.commands.items) (length theory.now.text.commands.items - going.old.left) ≡ Some (seen_command command.now) }
+        requires command { slice_get (seen_commands theory.now.text.commands.items) (length (seen_commands theory.now.text.commands.items) - going.old.left) ≡ Some (seen_command command.now) }
         ensures turn { IfOk result (λ turn. (past : List notes.Note) → IsGoing self.now.texts self.now.theories index past going.old → IsGoingTurn self.now.texts self.now.theories index past going.old going.new turn) }
         ensures keeps { OnErr result (IsSameGoing going.old going.new) }
     {
@@ -165,24 +170,34 @@ impl Checker {
         };
         going.rows.reserve(1)?;
         let declared = self.declared(theory, command, &going.now, label)?;
-        go_on(going, declared);
+        go_on(going, command_parts(command), declared);
         Ok(next_note(going))
     }
 
-    /// A turn of a theory that wasn't refused when it began: a note that waits, or else what its next command leaves.
-    fn going_turn(&self, index: u32, going: &mut Going) -> Result<Turn, AllocError>
-        requires { (past : List notes.Note) × IsGoing self.now.texts self.now.theories index past going.old }
+    /// A turn where no note waits: by the next command, or, where none is left, the last one.
+    fn next_turn(&self, index: u32, going: &mut Going) -> Result<Turn, AllocError>
+        requires runs { (past : List notes.Note) × IsGoing self.now.texts self.now.theories index past going.old }
+        requires none { deque_len going.old.waiting ≡ 0 }
         ensures turn { IfOk result (λ turn. (past : List notes.Note) → IsGoing self.now.texts self.now.theories index past going.old → IsGoingTurn self.now.texts self.now.theories index past going.old going.new turn) }
         ensures keeps { OnErr result (IsSameGoing going.old going.new) }
     {
-        if !going.waiting.is_empty() {
-            return hand_out(going);
-        }
         let theory = self.theory(index);
         match theory.text.commands.get(next_place(theory, going.left)) {
             None => last_turn(self.alloc, going),
             Some(command) => self.command_turn(index, theory, command, going),
         }
+    }
+
+    /// A turn of a theory that wasn't refused when it began: by a note that waits, or else by what comes next.
+    fn going_turn(&self, index: u32, going: &mut Going) -> Result<Turn, AllocError>
+        requires { (past : List notes.Note) × IsGoing self.now.texts self.now.theories index past going.old }
+        ensures turn { IfOk result (λ turn. (past : List notes.Note) → IsGoing self.now.texts self.now.theories index past going.old → IsGoingTurn self.now.texts self.now.theories index past going.old going.new turn) }
+        ensures keeps { OnErr result (IsSameGoing going.old going.new) }
+    {
+        if going.waiting.is_empty() {
+            return self.next_turn(index, going);
+        }
+        hand_out(going)
     }
 
     /// One turn of a run that hasn't closed: the next note of its theory's commands, or, where none is left, what the theory leaves.

@@ -8,6 +8,7 @@ mod command;
 mod named;
 mod numbers;
 mod parents;
+mod parts;
 mod refused;
 mod run;
 mod statements;

@@ -1,4 +1,4 @@
-//! The lemma that has some name.
+//! The lemma or have that has some name.
 ghost use Rattle.std.specs.Prelude.{◌≡◌, MatchOption, None, Some};
 ghost use Rattle.pure_grammar.specs.Theories.Lexeme.{same};
 ghost use Rattle.pure_print.specs.NameText.{text_of_name};
@@ -17,14 +17,14 @@ pub fn text_of<'a>(names: &'a NamesByBase, name: Name) -> &'a [u8]
     }
 }
 
-/// Whether the lemma has this full name.
+/// Whether the lemma or have has this full name.
 fn has_name(names: &NamesByBase, duty: &Duty, name: &[u8]) -> bool
     ensures { result ≡ same (text_of_name names.now duty.now.name) name.now }
 {
     text_of(names, duty.name) == name
 }
 
-/// The first lemma with this full name.
+/// The first lemma or have with this full name.
 pub fn lemma_named<'a>(names: &NamesByBase, duties: &'a [Duty], name: &[u8]) -> Option<&'a Duty>
     ensures { MatchOption result (spec.lemma_named names.now name.now duties.entry.now ≡ None) (λ d. spec.lemma_named names.now name.now duties.entry.now ≡ Some d.now) }
 {
