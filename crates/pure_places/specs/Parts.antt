@@ -1,5 +1,5 @@
 -- Where the parts of a theory stand: each by its text from there on, and by its place in the source.
-use Rattle.std.specs.Prelude.{ℕ, ◌-◌, List, [], ◌∷◌, ◌++◌, length, map}
+use Rattle.std.specs.Prelude.{ℕ, ◌-◌, ◌==◌, List, [], ◌∷◌, ◌++◌, length, map, get_or, if◌then◌else◌}
 use Rattle.pure_grammar.specs.declared.token.Token.{Token}
 use Rattle.pure_grammar.specs.declared.lexeme.Keyword.TheVariants as keyword
 use Rattle.pure_grammar.specs.declared.lexeme.Sign.TheVariants as sign
@@ -17,6 +17,14 @@ pub record Part (Place : Type 0) : Type 0 where
 pub record CommandParts (Place : Type 0) : Type 0 where
   pub haves : List (Part Place)
   pub own : Part Place
+
+-- the have with this number, counted from 0, or the command itself, whose number is that of its haves
+abbrev pub part_of : {P : Type 0} → CommandParts P → (number : ℕ) → (other : Part P) → Part P
+part_of c number other = if number == length c.haves then c.own else get_or c.haves number other
+
+-- the same of the command with this number
+abbrev pub part_at : {P : Type 0} → List (CommandParts P) → (command part : ℕ) → (none : CommandParts P) → Part P
+part_at commands command part none = part_of (get_or commands command none) part none.own
 
 -- an import, and where it stands
 pub record Import (Place : Type 0) : Type 0 where

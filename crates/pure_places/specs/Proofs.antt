@@ -34,7 +34,8 @@ pub record Proofs (P : Type 0) : Type 0 where
 abbrev pub no_proofs : {P : Type 0} → Proofs P
 no_proofs = record { haves = []; steps = [] }
 
--- A place in the search: in the proof of the have of this name, or in the lemma's own, where `by` stood, if it did, and whether a method's word may come next; in front of a have's name; or behind the lemma.
+-- A place in the search: in the proof of the have of this name, or in the lemma's own, with the place of `by`, if it stood,
+-- and whether a method's word may come next; in front of a have's name; or behind the lemma.
 pub data Stage (P : Type 0) : Type 0 where
   Within : (have : Option P) → (by : Option P) → (called : Bool) → Stage P
   Naming : Stage P
