@@ -15,7 +15,7 @@ mod statements;
 
 pub use checker::Checker;
 pub use closed::Closed;
-pub use named::{lemma_named, text_of};
+pub use named::{is_written, lemma_named, text_of};
 pub use pure_session_meaning as session_meaning;
 pub use pure_session_meaning::{declare, method, session_laws, theory};
 pub use refused::refused_theory;

@@ -79,7 +79,9 @@ fn is_outside(byte: &u8) -> bool {
 
 /// What stands behind the beginning of a theory.
 fn behind_head(text: &[u8]) -> Option<&[u8]> {
-    text.strip_prefix(VERSION).unwrap_or(text).strip_prefix(HEAD)
+    text.strip_prefix(VERSION)
+        .unwrap_or(text)
+        .strip_prefix(HEAD)
 }
 
 /// The name of the theory that begins so.
