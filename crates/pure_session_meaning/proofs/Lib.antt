@@ -24,3 +24,4 @@ pub mod EndLaws
 pub mod ParentLaws
 pub mod CloseLaws
 pub mod OneLemmaLaws
+pub mod FirstLaws

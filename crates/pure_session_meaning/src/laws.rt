@@ -1,5 +1,6 @@
 //! What the definitions mean: laws, each carried by the contract of a function that does nothing.
 ghost use Rattle.pure_session_meaning.specs.Laws.{ClosesOnce, ForkOnce, ForksOfOneCommand, ForksProvable, ForksStand, LabelsAscend, PromisesAreForks, PromisesBeforeForks, RunsOrderly, StatementsBindForks, StatementsOnce};
+ghost use Rattle.pure_session_meaning.specs.First.{ClosesAsFirst, ForksAsFirst, StatementsAsFirst};
 ghost use Rattle.pure_session_meaning.specs.Closing.{ContentsMergeOrNot, TheoryCloses};
 ghost use Rattle.pure_session_meaning.specs.Given.{RunsClose, RunsGive, TheoriesMayBegin};
 ghost use Rattle.pure_session_meaning.specs.Steps.{RunBegins, RunCloses, RunGoesOn};
@@ -98,4 +99,19 @@ pub fn contents_merge_or_not()
 /// A theory whose parents have closed closes too.
 pub fn theory_closes()
     ensures { TheoryCloses }
+{}
+
+/// Of theories without haves the same becomes as before there were any.
+pub fn closes_as_first()
+    ensures { ClosesAsFirst }
+{}
+
+/// So they leave the same notes.
+pub fn statements_as_first()
+    ensures { StatementsAsFirst }
+{}
+
+/// Each lemma that they bind is of part 0 of its command, and its proof is in no lemma but itself.
+pub fn forks_as_first()
+    ensures { ForksAsFirst }
 {}
