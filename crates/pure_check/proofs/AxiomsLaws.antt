@@ -116,7 +116,7 @@ parts-fit texts source label place Q (part ∷ parts) notes last (first, next, m
 declared-fit : (texts : List (List ℕ)) (source : List ℕ) (index place : ℕ) (Q : Content) (commands : List Command) (notes : List Note) (last : Content) → AreDeclared texts source index place Q commands notes last → (note : Note) → IsIn note notes → Fits texts note
 declared-fit texts source index place Q [] notes last h note m = absurd (subst (λ ns. IsIn note ns) h.0 m)
 declared-fit texts source index place Q (command ∷ commands) notes last (first, next, more, d, rest, is) note m = elim (in_split note first more (subst (λ ns. IsIn note ns) is m)) [
-  | inl here ↦ parts-fit texts source _ 0 Q d.parts first next d.are note here
+  | inl here ↦ parts-fit texts source (record { theory = index; command = place; part = 0 }) 0 Q d.parts first next d.are note here
   | inr later ↦ declared-fit texts source index (place + 1) next commands more last rest note later
 ]
 
