@@ -13,7 +13,7 @@ use Rattle.pure_graph.specs.Order.{Loaded, file_of, AreTakenBehind}
 use Rattle.pure_graph.specs.SessionNames.{full_name, have_names, full_names, IsGiven, AreNames}
 use Rattle.pure_graph.specs.Session.{Refusal, Session, IsLoadingOf, IsSessionOf, refusal_of, refusal_by}
 use Rattle.pure_graph.specs.First as first
-use Rattle.pure_graph.specs.Laws.{HasNoHaves, IsFirstText, HasFirstText, LoadingIsFirst, SessionIsFirst, NoUnknownVersion}
+use Rattle.pure_graph.specs.Laws.{HasNoHaves, IsFirstText, HasFirstText, LoadingIsFirst, SessionIsFirst, NoUnknownVersion, LoadedTextsAreFirst}
 use Rattle.pure_graph.specs.declared.outcome.Reason.TheVariants.{UnknownVersion, TooLarge, HeaderName}
 
 -- ---- one tree
@@ -288,17 +288,17 @@ module _ (IsText : List ℕ → TheoryText → Type 0) (IsFault : List ℕ → �
     },
   )
 
+  pub texts-first : (answers : List Answer) (theories : List Loaded) (refused : List Refusal) (n : ℕ) → AreReadAlike answers → IsLoadingOf answers theories refused n → Each (λ (l : Loaded). IsFirstText l.text) theories
+  texts-first answers theories refused n r of = taken-first of.judged [] theories (left-first answers theories refused n r of) of.loaded
+
   pub session-alike : (answers : List Answer) (s : Session) → AreReadAlike answers → IsSessionOf answers s ↔ first.IsSessionOf IsText IsFault answers s
   session-alike answers s r =
       let both = loading-alike answers s.theories s.refused s.files r in (
-        λ is. record { loading = both.0 is.loading; named = (names-alike s.theories s.names (texts-of is.loading)).0 is.named },
+        λ is. record { loading = both.0 is.loading; named = (names-alike s.theories s.names (texts-first answers s.theories s.refused s.files r is.loading)).0 is.named },
         λ is.
             (let loading : IsLoadingOf answers s.theories s.refused s.files = both.1 is.loading in
-            record { loading = loading; named = (names-alike s.theories s.names (texts-of loading)).1 is.named }),
+            record { loading = loading; named = (names-alike s.theories s.names (texts-first answers s.theories s.refused s.files r loading)).1 is.named }),
       )
-    where
-      texts-of : IsLoadingOf answers s.theories s.refused s.files → Each (λ (l : Loaded). IsFirstText l.text) s.theories
-      texts-of of = taken-first of.judged [] s.theories (left-first answers s.theories s.refused s.files r of) of.loaded
 
 -- ---- the laws over the grammar as it is
 first-read : (answers : List Answer) → Each HasFirstText answers → AreReadAlike IsTheoryText IsFaultPlace answers
@@ -317,3 +317,6 @@ session_is_first answers session h = session-alike IsTheoryText IsFaultPlace ans
 
 pub no_unknown_version : NoUnknownVersion
 no_unknown_version answers theories refused files h = none-unknown IsTheoryText IsFaultPlace answers theories refused files (first-read answers h)
+
+pub loaded_texts_are_first : LoadedTextsAreFirst
+loaded_texts_are_first answers theories refused files h = texts-first IsTheoryText IsFaultPlace answers theories refused files (first-read answers h)

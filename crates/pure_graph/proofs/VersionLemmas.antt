@@ -2,13 +2,15 @@
 use Rattle.std.proofs.Common.{inl, inr, ℕ, List, [], ◌∷◌, map, refl, subst, Option, Some, None, IfSome}
 use Rattle.pure_text.specs.Lists.{Each}
 use Rattle.pure_text.proofs.ListLaws.{each-append}
+use Rattle.pure_grammar.specs.Theories.TheoryText.{TheoryText}
 use Rattle.pure_grammar.specs.Theories.Phrase.{ItemPhrase, AxiomPhrase}
 use Rattle.pure_grammar.specs.Theories.PhraseTree.{item_command, axiom_command}
 use Rattle.pure_grammar.specs.Theories.First.{CommandPhrase, ClassCommand, TypedeclCommand, AritiesCommand, ConstsCommand, AxiomsCommand, DefinitionCommand, LemmaCommand, FilePhrase, phrase_commands, commands_of, file_tree}
 use Rattle.pure_grammar.proofs.VersionLemmas.{read_as_first, faults_as_first}
+use Rattle.pure_graph.specs.Outcome.{IsTheoryText}
 use Rattle.pure_graph.specs.Reading.{Answer}
 use Rattle.pure_graph.specs.First as first
-use Rattle.pure_graph.specs.Laws.{HasNoHaves, IsFirstText, HasNoVersionWord, LoadingWithoutVersions, SessionWithoutVersions}
+use Rattle.pure_graph.specs.Laws.{HasNoHaves, IsFirstText, IsWithoutVersion, HasNoVersionWord, FirstWithoutVersions, LoadingWithoutVersions, SessionWithoutVersions}
 use Rattle.pure_graph.proofs.FirstLemmas.{IsReadAlike, AreReadAlike, loading-alike, session-alike}
 
 -- ---- the trees
@@ -37,7 +39,7 @@ file-plain : (f : FilePhrase) → IsFirstText (file_tree f)
 file-plain f = record { version = refl; commands = commands-plain f.commands }
 
 -- ---- a source
-without-version : (source : List ℕ) → HasNoVersionWord source → IsReadAlike first.IsTheoryText first.IsFaultPlace source
+without-version : (source : List ℕ) → IsWithoutVersion source → IsReadAlike first.IsTheoryText first.IsFaultPlace source
 without-version source h = record {
   texts = λ text. (
     λ t. (t.0, t.1, (read_as_first source t.0 text (h t.0 t.1)).0 t.2),
@@ -50,13 +52,20 @@ without-version source h = record {
   plain = λ text t. (let was = (read_as_first source t.0 text (h t.0 t.1)).0 t.2 in subst IsFirstText was.means (file-plain was.file));
 }
 
-without-versions : (answers : List Answer) → Each (λ (a : Answer). IfSome a.bytes HasNoVersionWord) answers → AreReadAlike first.IsTheoryText first.IsFaultPlace answers
+without-versions : (answers : List Answer) → Each HasNoVersionWord answers → AreReadAlike first.IsTheoryText first.IsFaultPlace answers
 without-versions [] h = tt
 without-versions (a ∷ answers) h = (by a.bytes h.0, without-versions answers h.1)
   where
-    by : (bytes : Option (List ℕ)) → IfSome bytes HasNoVersionWord → IfSome bytes (IsReadAlike first.IsTheoryText first.IsFaultPlace)
+    by : (bytes : Option (List ℕ)) → IfSome bytes IsWithoutVersion → IfSome bytes (IsReadAlike first.IsTheoryText first.IsFaultPlace)
     by None k = tt
     by (Some source) k = without-version source k
+
+pub first_without_versions : FirstWithoutVersions
+first_without_versions answer h = by answer.bytes h
+  where
+    by : (bytes : Option (List ℕ)) → IfSome bytes IsWithoutVersion → IfSome bytes (λ source. (text : TheoryText) → IsTheoryText source text → IsFirstText text)
+    by None k = tt
+    by (Some source) k = (without-version source k).plain
 
 pub loading_without_versions : LoadingWithoutVersions
 loading_without_versions answers theories refused files h = loading-alike first.IsTheoryText first.IsFaultPlace answers theories refused files (without-versions answers h)

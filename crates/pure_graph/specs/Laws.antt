@@ -47,16 +47,29 @@ abbrev pub NoUnknownVersion : Type 0
 NoUnknownVersion = (answers : List Answer) (theories : List Loaded) (refused : List Refusal) (files : ℕ)
     → Each HasFirstText answers → IsLoadingOf answers theories refused files → Each (λ (r : Refusal). r.reason ≢ UnknownVersion) refused
 
--- If the source has tokens, then none of them is the word `version`.
-abbrev pub HasNoVersionWord : List ℕ → Type 0
-HasNoVersionWord source = (tokens : List Token) → Spells (length source) tokens source → HasNoVersion (lexemes source tokens)
+-- The trees of those that are loaded are as all were.
+abbrev pub LoadedTextsAreFirst : Type 0
+LoadedTextsAreFirst = (answers : List Answer) (theories : List Loaded) (refused : List Refusal) (files : ℕ)
+    → Each HasFirstText answers → IsLoadingOf answers theories refused files → Each (λ (l : Loaded). IsFirstText l.text) theories
 
--- Over files without that word loading is what it was, by the grammar of version 1.
+-- If the source has tokens, then none of them is the word `version`.
+abbrev pub IsWithoutVersion : List ℕ → Type 0
+IsWithoutVersion source = (tokens : List Token) → Spells (length source) tokens source → HasNoVersion (lexemes source tokens)
+
+-- There is no such word in the file of the answer.
+abbrev pub HasNoVersionWord : Answer → Type 0
+HasNoVersionWord answer = IfSome answer.bytes IsWithoutVersion
+
+-- Such a file has a tree as all had.
+abbrev pub FirstWithoutVersions : Type 0
+FirstWithoutVersions = (answer : Answer) → HasNoVersionWord answer → HasFirstText answer
+
+-- Over such files loading is what it was, by the grammar of version 1.
 abbrev pub LoadingWithoutVersions : Type 0
 LoadingWithoutVersions = (answers : List Answer) (theories : List Loaded) (refused : List Refusal) (files : ℕ)
-    → Each (λ (a : Answer). IfSome a.bytes HasNoVersionWord) answers → IsLoadingOf answers theories refused files ↔ first.IsLoadingOf first.IsTheoryText first.IsFaultPlace answers theories refused files
+    → Each HasNoVersionWord answers → IsLoadingOf answers theories refused files ↔ first.IsLoadingOf first.IsTheoryText first.IsFaultPlace answers theories refused files
 
 -- So is the session, with its names.
 abbrev pub SessionWithoutVersions : Type 0
 SessionWithoutVersions = (answers : List Answer) (session : Session)
-    → Each (λ (a : Answer). IfSome a.bytes HasNoVersionWord) answers → IsSessionOf answers session ↔ first.IsSessionOf first.IsTheoryText first.IsFaultPlace answers session
+    → Each HasNoVersionWord answers → IsSessionOf answers session ↔ first.IsSessionOf first.IsTheoryText first.IsFaultPlace answers session
